@@ -1,0 +1,65 @@
+-- The texts of refusals.
+use Rattle.std.specs.Prelude.{ℕ, List, [], ◌++◌, Option, Some, None, codes, decimal}
+use Rattle.gq_model.specs.Amounts.{Ram, Caps}
+use Rattle.gq_model.specs.Program.{Section, Main, Opening, Upgrading, Calling, Closing}
+use Rattle.gq_model.specs.Routes.{Routed, To, No_route, Ambiguous, Provides_differs}
+use Rattle.gq_model.specs.Rules
+use Rattle.gq_model.specs.Rules.{Rule}
+use Rattle.gq_model.specs.Verdict.{Fault}
+use Rattle.gq_model.specs.Resolve.{Unresolved, Quanta_exceed, Caps_exceed, Bad_after, Cycle, Unrouted}
+use Rattle.gq_model.specs.Accept.{Refusal, Bad_program, Not_resolved, Over_own, Over_steps}
+
+abbrev pub rule_word : Rule → List ℕ
+rule_word Rules.MissingOperand = codes "V1 MissingOperand"
+rule_word Rules.StackTooDeep = codes "V2 StackTooDeep"
+rule_word Rules.LeftoverOperand = codes "V3 LeftoverOperand"
+rule_word Rules.WrongKind = codes "V4 WrongKind"
+rule_word Rules.SlotInUse = codes "V5 SlotInUse"
+rule_word Rules.OutOfRange = codes "V6 OutOfRange"
+rule_word Rules.ValueTooLarge = codes "V7 ValueTooLarge"
+rule_word Rules.JoinDiffers = codes "V8 JoinDiffers"
+rule_word Rules.SessionBankChanged = codes "V9 SessionBankChanged"
+rule_word Rules.OwnBankChanged = codes "V10 OwnBankChanged"
+rule_word Rules.HeapInSession = codes "V11 HeapInSession"
+rule_word Rules.ShortDonation = codes "V12 ShortDonation"
+rule_word Rules.OverNeed = codes "V13 OverNeed"
+rule_word Rules.LinkLeftOpen = codes "V14 LinkLeftOpen"
+rule_word Rules.UnknownService = codes "V15 UnknownService"
+rule_word Rules.MissingSection = codes "V16 MissingSection"
+rule_word Rules.BudgetTooLarge = codes "V17 BudgetTooLarge"
+rule_word Rules.OverCaps = codes "V18 OverCaps"
+
+abbrev pub section_word : Section → List ℕ
+section_word Main = codes "main"
+section_word Opening = codes "open"
+section_word (Upgrading l) = codes "up " ++ decimal l
+section_word (Calling l) = codes "call " ++ decimal l
+section_word (Closing l) = codes "close " ++ decimal l
+
+abbrev pub route_word : Routed → List ℕ
+route_word (To name) = []
+route_word No_route = codes "S8 NoRoute "
+route_word Ambiguous = codes "S9 Ambiguous "
+route_word Provides_differs = codes "S12 ProvidesDiffers "
+
+abbrev pub unresolved_text : Unresolved → List ℕ
+unresolved_text (Quanta_exceed name) = codes "S11 QuantaExceed " ++ name
+unresolved_text (Caps_exceed name) = codes "S14 CapsExceed " ++ name
+unresolved_text (Bad_after name) = codes "S13 BadAfter " ++ name
+unresolved_text (Cycle name) = codes "S10 Cycle " ++ name
+unresolved_text (Unrouted why name service) = route_word why ++ name ++ codes " " ++ service
+
+-- a rule with its section and the number of its statement
+abbrev pub program_text : Fault → List ℕ
+program_text fault = rule_word fault.rule ++ codes " in " ++ section_word fault.section ++ codes " at " ++ decimal fault.place
+
+abbrev pub refusal_text : Refusal → List ℕ
+refusal_text (Bad_program leaf fault) = leaf ++ codes ": " ++ program_text fault
+refusal_text (Not_resolved fault) = unresolved_text fault
+refusal_text (Over_own Ram leaf own quantum) = leaf ++ codes ": B1 OverQuantum own " ++ decimal own ++ codes " quantum " ++ decimal quantum
+refusal_text (Over_own Caps leaf own quantum) = leaf ++ codes ": B3 OverCaps own " ++ decimal own ++ codes " caps " ++ decimal quantum
+refusal_text (Over_steps leaf) = leaf ++ codes ": B2 OverSteps"
+
+abbrev pub said_of : Option Refusal → List ℕ
+said_of None = []
+said_of (Some refusal) = refusal_text refusal

@@ -1,0 +1,128 @@
+// The faults of programs, of turns and of steps, by the codes under which they are printed.
+use thiserror::Error;
+
+/// Why a leaf has no next step.
+#[derive(Clone, Copy, Debug, PartialEq, Eq, Error)]
+pub enum Wrong {
+    /// An operand is missing, or has no place.
+    #[error("X1 MissingOperand")]
+    MissingOperand,
+    /// A slot is of another kind than the statement needs.
+    #[error("X2 WrongKind")]
+    WrongKind,
+    /// An index is past the bytes or the entries.
+    #[error("X3 UnmappedByte")]
+    UnmappedByte,
+    /// A leaf would not be paid for after the step.
+    #[error("X4 ExceededQuota")]
+    ExceededQuota,
+    /// The accepted request's section is not in the program.
+    #[error("X5 MissingSection")]
+    MissingSection,
+}
+
+/// The rules of the verifier, by what a program does that breaks one.
+#[derive(Clone, Copy, Debug, PartialEq, Eq, Error)]
+pub enum Rule {
+    #[error("V1 MissingOperand")]
+    MissingOperand,
+    #[error("V2 StackTooDeep")]
+    StackTooDeep,
+    #[error("V3 LeftoverOperand")]
+    LeftoverOperand,
+    #[error("V4 WrongKind")]
+    WrongKind,
+    #[error("V5 SlotInUse")]
+    SlotInUse,
+    #[error("V6 OutOfRange")]
+    OutOfRange,
+    #[error("V7 ValueTooLarge")]
+    ValueTooLarge,
+    #[error("V8 JoinDiffers")]
+    JoinDiffers,
+    #[error("V9 SessionBankChanged")]
+    SessionBankChanged,
+    #[error("V10 OwnBankChanged")]
+    OwnBankChanged,
+    #[error("V11 HeapInSession")]
+    HeapInSession,
+    #[error("V12 ShortDonation")]
+    ShortDonation,
+    #[error("V13 OverNeed")]
+    OverNeed,
+    #[error("V14 LinkLeftOpen")]
+    LinkLeftOpen,
+    #[error("V15 UnknownService")]
+    UnknownService,
+    #[error("V16 MissingSection")]
+    MissingSection,
+    #[error("V17 BudgetTooLarge")]
+    BudgetTooLarge,
+    #[error("V18 OverCaps")]
+    OverCaps,
+}
+
+/// Why a text is no program.
+#[derive(Clone, Copy, Debug, PartialEq, Eq, Error)]
+pub enum TextFault {
+    /// A word that can't stand there, or a word too many.
+    #[error("M1 UnknownWord")]
+    UnknownWord,
+    /// A number is missing, malformed or out of range.
+    #[error("M2 BadNumber")]
+    BadNumber,
+    /// A slot is missing, malformed or not allowed.
+    #[error("M3 BadSlot")]
+    BadSlot,
+    /// The text ends inside a block.
+    #[error("M4 Unclosed")]
+    Unclosed,
+    /// An `end` outside a section, or an `else` without its `if`.
+    #[error("M5 StrayEnd")]
+    StrayEnd,
+    /// A text to say or the name of a service is bad.
+    #[error("M6 BadText")]
+    BadText,
+    /// A section or a local's limit is given twice.
+    #[error("M7 SectionTwice")]
+    SectionTwice,
+    /// The 4097th statement, or a fifth nesting.
+    #[error("M8 TooLong")]
+    TooLong,
+}
+
+/// Why bytes are no program's code.
+#[derive(Clone, Copy, Debug, PartialEq, Eq, Error)]
+pub enum CodeFault {
+    /// The bytes end inside a number before the statements, or a section is longer than what is left.
+    #[error("C1 Truncated")]
+    Truncated,
+    #[error("C2 UnknownOpcode")]
+    UnknownOpcode,
+    /// An operand is out of its range.
+    #[error("C3 BadOperand")]
+    BadOperand,
+    /// A statement, an arm or a body reaches past the end of the one that it stands in, or a fifth nesting.
+    #[error("C4 BadNesting")]
+    BadNesting,
+    /// The 4097th statement.
+    #[error("C5 TooLong")]
+    TooLong,
+    /// Bytes after the last section.
+    #[error("C6 TrailingBytes")]
+    TrailingBytes,
+}
+
+/// Why a line, or a text, is no list of turns.
+#[derive(Clone, Copy, Debug, PartialEq, Eq, Error)]
+pub enum TurnFault {
+    /// A line of another form.
+    #[error("U1 BadLine")]
+    BadLine,
+    /// A name that is no leaf's.
+    #[error("U2 NoSuchComponent")]
+    NoSuchComponent,
+    /// More than 1,000,000 turns, or a text of more than 16 MiB.
+    #[error("U3 TooMany")]
+    TooMany,
+}
