@@ -3,5 +3,6 @@
 #![tactic(auto)]
 
 pub mod fault;
+pub mod letters;
 pub mod phase;
 pub mod program;

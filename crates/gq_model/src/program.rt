@@ -1,4 +1,8 @@
 // The parts of programs that hold no statements.
+ghost use Rattle.std.specs.Prelude.{◌≡◌, if◌then◌else◌, IsTrue};
+ghost use Rattle.gq_model.specs.Letters.{is_name, is_said};
+
+use crate::letters::{is_name, is_said};
 use arrayvec::ArrayVec;
 use std::marker::Model;
 
@@ -58,32 +62,86 @@ pub const GREATEST_TEXT: usize = 64;
 /// The greatest number of bytes of a name.
 pub const GREATEST_NAME: usize = 16;
 
-/// A text to say: at most 64 bytes.
+/// A text to say: at most 64 bytes of 0x20 to 0x7e other than the quotation mark.
 #[derive(Drop)]
 pub struct Text {
     bytes: ArrayVec<u8, GREATEST_TEXT>,
 }
 
 impl Model for Text {
-    ghost use Rattle.std.specs.Prelude.{ℕ, List};
+    ghost use Rattle.std.specs.Prelude.{ℕ, List, IsTrue};
+    ghost use Rattle.gq_model.specs.Letters.{is_said};
 
     ghost Value = { List ℕ };
 
     ghost view = { λ t. t.bytes.items };
+
+    ghost invariant = { λ t. IsTrue (is_said t.bytes.items) };
 }
 
-/// A name of a component or of a service: at most 16 bytes.
+impl Text {
+    /// The text of these bytes, where they are one.
+    pub fn new(bytes: &[u8]) -> Option<Text>
+        ensures { result ≡ (if is_said bytes.now then Some bytes.now else None) }
+    {
+        if !is_said(bytes) {
+            return None;
+        }
+        let mut kept = ArrayVec::new();
+        match kept.try_extend_from_slice(bytes) {
+            Ok(()) => Some(Text { bytes: kept }),
+            Err(_) => unreachable!(),
+        }
+    }
+
+    /// Its bytes.
+    pub fn as_bytes(&self) -> &[u8]
+        ensures bytes { result.now ≡ self.now }
+        ensures said { IsTrue (is_said self.now) }
+    {
+        self.bytes.as_slice()
+    }
+}
+
+/// A name of a component or of a service: 1 to 16 bytes of a to z, A to Z, 0 to 9, the hyphen and the underscore.
 #[derive(Drop)]
 pub struct Name {
     bytes: ArrayVec<u8, GREATEST_NAME>,
 }
 
 impl Model for Name {
-    ghost use Rattle.std.specs.Prelude.{ℕ, List};
+    ghost use Rattle.std.specs.Prelude.{ℕ, List, IsTrue};
+    ghost use Rattle.gq_model.specs.Letters.{is_name};
 
     ghost Value = { List ℕ };
 
     ghost view = { λ t. t.bytes.items };
+
+    ghost invariant = { λ t. IsTrue (is_name t.bytes.items) };
+}
+
+impl Name {
+    /// The name of these bytes, where they are one.
+    pub fn new(bytes: &[u8]) -> Option<Name>
+        ensures { result ≡ (if is_name bytes.now then Some bytes.now else None) }
+    {
+        if !is_name(bytes) {
+            return None;
+        }
+        let mut kept = ArrayVec::new();
+        match kept.try_extend_from_slice(bytes) {
+            Ok(()) => Some(Name { bytes: kept }),
+            Err(_) => unreachable!(),
+        }
+    }
+
+    /// Its bytes.
+    pub fn as_bytes(&self) -> &[u8]
+        ensures bytes { result.now ≡ self.now }
+        ensures name { IsTrue (is_name self.now) }
+    {
+        self.bytes.as_slice()
+    }
 }
 
 /// A statement with no statement in it.

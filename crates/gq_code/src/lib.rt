@@ -1,0 +1,7 @@
+//! Programs: as trees, and as bytes.
+#![tactic(auto)]
+
+pub mod program;
+
+pub use gq_model::program::{Form, Instruction, Name, Operator, Place, Section, Text, Width};
+pub use program::{Body, Program, Statement};

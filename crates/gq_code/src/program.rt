@@ -1,0 +1,113 @@
+// Programs as trees.
+ghost use Rattle.std.specs.Prelude.{◌≡◌, OnOk, IfOk, length, ◌++◌, ◌∷◌, []};
+ghost use Rattle.gq_model.specs.Program.{Done, ◌then◌};
+ghost use Rattle.gq_code.specs.Trees.{tree_of};
+
+use gq_model::program::{Instruction, Section};
+use std::alloc::{AllocError, Global};
+use std::marker::Model;
+
+/// A statement of a program.
+#[cycle(program)]
+#[derive(Drop)]
+pub enum Statement {
+    /// One with no statement in it.
+    Plain(Instruction),
+    /// Takes the top operand: the first arm where it is not 0, else the second.
+    If(Body, Body),
+    /// Its body so many times, 1 to 65535.
+    Loop(u16, Body),
+}
+
+/// A list of statements.
+#[cycle(program)]
+#[derive(Drop)]
+pub struct Body {
+    statements: Vec<Statement>,
+}
+
+impl Model for Body {
+    ghost use Rattle.gq_model.specs.Program.{Statements, size as statement_count};
+    ghost use Rattle.gq_model.specs.Stored.{statements_code};
+    ghost use Rattle.std.specs.Coded.{codes};
+
+    ghost Value = { Statements };
+
+    ghost coded = { statements_code (Prim.hlevel codes) };
+
+    ghost use Rattle.gq_code.specs.Trees.{tree_of};
+
+    ghost view = { λ b. tree_of b.statements.items };
+
+    ghost size = { statement_count };
+
+    ghost use Rattle.std.proofs.Common.{arith};
+    ghost use Rattle.gq_code.specs.Falls.{falls};
+
+    ghost size_decreases = { λ b h. omega (arith, falls b.statements.items) };
+}
+
+impl Body {
+    /// An empty list.
+    pub fn new(alloc: Global) -> Body
+        ensures { result ≡ Done }
+    {
+        Body {
+            statements: Vec::new(alloc),
+        }
+    }
+
+    /// Puts a statement at the end. Refused, the list stays as it was.
+    pub fn push(&mut self, statement: Statement) -> Result<(), AllocError>
+        ensures { OnOk result (self.new ≡ self.old then tree_of (statement ∷ [])) }
+    {
+        self.statements.push(statement)?;
+        Ok(())
+    }
+}
+
+/// The number of locals of a section.
+pub const LOCALS: usize = 8;
+
+/// A program: the sections that are there, in their order, and the greatest values of the eight locals.
+#[derive(Drop)]
+pub struct Program {
+    sections: Vec<(Section, Body)>,
+    locals: [u32; LOCALS],
+}
+
+impl Model for Program {
+    ghost use Rattle.gq_model.specs.Program.{Program};
+    ghost use Rattle.gq_model.specs.Stored.{statements_code};
+    ghost use Rattle.std.specs.Coded.{codes};
+
+    ghost Value = { Program };
+
+    ghost coded = { Prim.hlevel (codes, statements_code (Prim.hlevel codes)) };
+
+    ghost view = { λ p. record { sections = p.sections.items; locals = p.locals } };
+}
+
+impl Program {
+    /// A program of these sections, which stand in their order, with these greatest values of the locals.
+    pub fn new(sections: Vec<(Section, Body)>, locals: [u32; LOCALS]) -> Program
+        ensures sections { result.sections ≡ sections.items }
+        ensures locals { result.locals ≡ locals }
+    {
+        Program { sections, locals }
+    }
+
+    /// The sections that are there, in their order.
+    pub fn sections(&self) -> &[(Section, Body)]
+        ensures { result.now ≡ self.now.sections }
+    {
+        self.sections.as_slice()
+    }
+
+    /// The greatest values of the locals; 4294967295 is no limit.
+    pub fn locals(&self) -> &[u32; LOCALS]
+        ensures { result.now ≡ self.now.locals }
+    {
+        &self.locals
+    }
+}

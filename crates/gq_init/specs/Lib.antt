@@ -1,0 +1,5 @@
+pub mod Keys
+pub mod Tables
+pub mod Document
+pub mod Reading
+pub mod Stage

@@ -1,0 +1,2 @@
+//! Scenarios and turns, as texts say them.
+#![tactic(auto)]

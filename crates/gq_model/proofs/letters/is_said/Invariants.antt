@@ -1,0 +1,7 @@
+use Rattle.std.proofs.Common.{◌≡◌, drop}
+use Rattle.gq_model.specs.Lists.{all_of}
+use Rattle.gq_model.specs.Letters.{is_said_byte}
+use Rattle.gq_model.proofs.letters.is_said.Given as goal
+
+abbrev pub invariant-loop-byte : goal.invariant-loop-byte
+invariant-loop-byte l = all_of is_said_byte (drop l.byte-index l.bytes) ≡ all_of is_said_byte l.bytes
