@@ -1,6 +1,7 @@
 //! Programs: as trees, and as bytes.
 #![tactic(auto)]
 
+pub mod encode;
 pub mod program;
 
 pub use gq_model::program::{Form, Instruction, Name, Operator, Place, Section, Text, Width};

@@ -57,6 +57,13 @@ impl Body {
         }
     }
 
+    /// Its statements, in their order.
+    pub fn statements(&self) -> &[Statement]
+        ensures { tree_of result.now ≡ self.now }
+    {
+        self.statements.as_slice()
+    }
+
     /// Puts a statement at the end. Refused, the list stays as it was.
     pub fn push(&mut self, statement: Statement) -> Result<(), AllocError>
         ensures { OnOk result (self.new ≡ self.old then tree_of (statement ∷ [])) }

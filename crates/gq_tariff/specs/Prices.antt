@@ -37,6 +37,14 @@ size_for = least_of classes
 
 -- THE LIST
 
+-- how much is held: bytes, the entries of a table, or places
+abbrev pub amount_of : Held → ℕ
+amount_of (Space n) = n
+amount_of (Slice n) = n
+amount_of (Block n) = n
+amount_of (Pool m) = m
+amount_of (Places class peak) = peak
+
 -- a slice has 32 bytes of bookkeeping, a block of at most 2048 bytes is a place of the heap, the table of a pool has
 -- four bytes for each of its entries, and places of a class are paid for by the greatest number in use at one time
 abbrev pub price_bytes : Held → ℕ

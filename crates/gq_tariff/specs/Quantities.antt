@@ -1,5 +1,5 @@
 -- Quantities: digits, then perhaps one of K, M and G.
-use Rattle.std.specs.Prelude.{ℕ, ◌+◌, ◌-◌, ◌*◌, ◌^◌, nat_le, ◌==◌, if◌then◌else◌, List, [], ◌∷◌, Result, Ok, Err}
+use Rattle.std.specs.Prelude.{ℕ, ◌+◌, ◌-◌, ◌*◌, ◌^◌, nat_le, ◌==◌, ◌≡◌, false, if◌then◌else◌, List, [], ◌∷◌, Result, Ok, Err}
 use Rattle.gq_tariff.specs.Tests.{is_digit}
 use Rattle.gq_tariff.specs.declared.quantity.QuantityFault.{QuantityFault}
 use Rattle.gq_tariff.specs.declared.quantity.QuantityFault.TheVariants.{Empty, BadCharacter, TooLarge}
@@ -18,6 +18,11 @@ scaled_last c n (d ∷ rest) = Err BadCharacter
 abbrev pub quantity_on : ℕ → List ℕ → Result ℕ QuantityFault
 quantity_on n [] = Ok n
 quantity_on n (c ∷ rest) = if is_digit c then quantity_on (10 * n + (c - 48)) rest else scaled_last c n rest
+
+-- what comes after all of the digits
+abbrev pub StartsWithNoDigit : List ℕ → Type 0
+StartsWithNoDigit [] = Unit {0}
+StartsWithNoDigit (c ∷ rest) = is_digit c ≡ false
 
 -- the greatest quantity
 abbrev pub greatest_quantity : ℕ

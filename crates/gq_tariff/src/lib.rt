@@ -5,3 +5,9 @@
 pub mod class;
 pub mod price;
 pub mod quantity;
+
+pub use class::{Class, class_of};
+pub use price::{
+    Held, price_block, price_caps, price_class, price_pool_table, price_slice, round_up,
+};
+pub use quantity::{QuantityFault, read_quantity};

@@ -1,0 +1,161 @@
+// Programs as bytes.
+ghost use Rattle.std.specs.Prelude.{◌≡◌, ℕ, ◌+◌, ◌<◌, OnOk, IfOk, IsTrue, length, ◌++◌, ◌∷◌, []};
+ghost use Rattle.gq_model.specs.Program.{spelled};
+ghost use Rattle.gq_model.specs.Operands.{opcode, operator_code, slot_code, is_slot, is_slot_or_object, operands, in_range, operands_code, instruction_code};
+ghost use Rattle.gq_model.specs.Lists.{all_of};
+ghost use Rattle.gq_model.specs.Code.{body_code, body_length, is_body};
+
+use crate::program::{Body, Statement};
+use gq_model::program::{Form, Instruction, Operator, Place, Width};
+use std::alloc::{AllocError, Global};
+
+/// Puts a number at the end, in so many bytes, the least first.
+fn write_number(out: &mut Vec<u8>, width: usize, number: u64) -> Result<(), AllocError>
+    ensures { OnOk result (out.new.items ≡ out.old.items ++ spelled width number) }
+{
+    let mut left = number;
+    for i in 0..width {
+        out.push((left % 256) as u8)?;
+        left /= 256;
+    }
+    Ok(())
+}
+
+/// The number by which code names an operator.
+fn operator_code(operator: Operator) -> u8
+    ensures { result ≡ operator_code operator }
+{
+    match operator {
+        Operator::Add => 0x06,
+        Operator::Subtract => 0x07,
+        Operator::Multiply => 0x08,
+        Operator::And => 0x0b,
+        Operator::Equal => 0x0c,
+        Operator::Less => 0x0d,
+    }
+}
+
+/// The number by which code names an instruction.
+pub fn opcode(instruction: &Instruction) -> u8
+    ensures { result ≡ opcode instruction.now }
+{
+    match instruction {
+        Instruction::Say(_) => 0x01,
+        Instruction::Out => 0x02,
+        Instruction::Push(_) => 0x03,
+        Instruction::Drop => 0x04,
+        Instruction::Dup => 0x05,
+        Instruction::Combine(operator) => operator_code(*operator),
+        Instruction::Divide(_) => 0x09,
+        Instruction::Modulo(_) => 0x0a,
+        Instruction::Get(_) => 0x0e,
+        Instruction::Set(_) => 0x0f,
+        Instruction::Index(_) => 0x10,
+        Instruction::Make(Form::Space, _, _) => 0x20,
+        Instruction::Make(Form::Slice, _, _) => 0x21,
+        Instruction::Make(Form::Block, _, _) => 0x22,
+        Instruction::MakePool(_, _, _) => 0x23,
+        Instruction::Free(_) => 0x24,
+        Instruction::Load(Width::Byte, _) => 0x25,
+        Instruction::Store(Width::Byte, _) => 0x26,
+        Instruction::Load(Width::Word, _) => 0x27,
+        Instruction::Store(Width::Word, _) => 0x28,
+        Instruction::Take(_) => 0x29,
+        Instruction::Give(_) => 0x2a,
+        Instruction::Peek(_) => 0x2b,
+        Instruction::Poke(_) => 0x2c,
+        Instruction::Open(_, _, _) => 0x30,
+        Instruction::Upgrade(_, _) => 0x31,
+        Instruction::Call(_) => 0x32,
+        Instruction::Close(_) => 0x33,
+    }
+}
+
+/// Puts a slot at the end: session slots follow the own ones, and the object follows them.
+fn write_place(out: &mut Vec<u8>, place: Place) -> Result<(), AllocError>
+    requires { IsTrue (is_slot_or_object place) }
+    ensures { OnOk result (out.new.items ≡ out.old.items ++ slot_code place ∷ []) }
+{
+    let code = match place {
+        Place::Own(i) => i,
+        Place::Shared(i) => 64 + i,
+        Place::Object => 72,
+    };
+    out.push(code)?;
+    Ok(())
+}
+
+/// Puts a text at the end, after its length in one byte.
+fn write_text(out: &mut Vec<u8>, text: &[u8]) -> Result<(), AllocError>
+    requires { length text.now < 256 }
+    ensures { OnOk result (out.new.items ≡ out.old.items ++ length text.now ∷ text.now) }
+{
+    out.push(text.len() as u8)?;
+    out.extend_from_slice(text)?;
+    Ok(())
+}
+
+/// Puts an instruction at the end: its number, then its operands.
+fn write_instruction(out: &mut Vec<u8>, instruction: &Instruction) -> Result<(), AllocError>
+    requires { IsTrue (all_of in_range (operands instruction.now)) }
+    ensures { OnOk result (out.new.items ≡ out.old.items ++ instruction_code instruction.now) }
+{
+    out.push(opcode(instruction))?;
+    write_operands(out, instruction)
+}
+
+/// Puts an instruction's operands at the end.
+fn write_operands(out: &mut Vec<u8>, instruction: &Instruction) -> Result<(), AllocError>
+    requires { IsTrue (all_of in_range (operands instruction.now)) }
+    ensures { OnOk result (out.new.items ≡ out.old.items ++ operands_code (operands instruction.now)) }
+{
+    match instruction {
+        Instruction::Out | Instruction::Drop | Instruction::Dup | Instruction::Combine(_) => Ok(()),
+        Instruction::Say(text) => write_text(out, text.as_bytes()),
+        Instruction::Push(n) | Instruction::Divide(n) | Instruction::Modulo(n) => {
+            write_number(out, 4, u64::from(*n))
+        }
+        Instruction::Get(i) | Instruction::Set(i) | Instruction::Index(i) => {
+            write_number(out, 1, u64::from(*i))
+        }
+        Instruction::Make(_, place, n) | Instruction::Upgrade(place, n) => {
+            write_place(out, *place)?;
+            write_number(out, 4, u64::from(*n))
+        }
+        Instruction::MakePool(place, n, m) => {
+            write_place(out, *place)?;
+            write_number(out, 2, u64::from(*n))?;
+            write_number(out, 2, u64::from(*m))
+        }
+        Instruction::Open(place, service, n) => {
+            write_place(out, *place)?;
+            write_text(out, service.as_bytes())?;
+            write_number(out, 4, u64::from(*n))
+        }
+        Instruction::Load(_, place)
+        | Instruction::Store(_, place)
+        | Instruction::Free(place)
+        | Instruction::Take(place)
+        | Instruction::Give(place)
+        | Instruction::Peek(place)
+        | Instruction::Poke(place)
+        | Instruction::Call(place)
+        | Instruction::Close(place) => write_place(out, *place),
+    }
+}
+
+/// The code of a list of statements in which no `if` and no `loop` stands and every operand is in its range. Refused only
+/// for want of host memory.
+pub fn encode_plain(alloc: Global, body: &Body) -> Result<Vec<u8>, AllocError>
+    requires { IsTrue (is_body 0 body.now) }
+    ensures { IfOk result (λ code. code.items ≡ body_code body.now) }
+{
+    let mut code = Vec::new(alloc);
+    for statement in body.statements() {
+        match statement {
+            Statement::Plain(instruction) => write_instruction(&mut code, instruction)?,
+            Statement::If(_, _) | Statement::Loop(_, _) => unreachable!(),
+        }
+    }
+    Ok(code)
+}
