@@ -13,4 +13,4 @@ mod Rows_wrong
 mod Rows_rules
 pub mod Code_laws
 pub mod Operand_laws
-mod Instruction_laws
+pub mod Instruction_laws

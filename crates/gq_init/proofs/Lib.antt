@@ -1,0 +1,4 @@
+pub mod Components
+pub mod Pieces
+pub mod Counts
+pub mod Turning

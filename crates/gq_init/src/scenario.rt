@@ -1,0 +1,235 @@
+// Scenarios in memory.
+ghost use Rattle.std.specs.Prelude.{ℕ, ◌≡◌, ◌<◌, ◌≤◌, length, slice_get, IfOk, IfSome};
+ghost use Rattle.gq_model.specs.Scenario.{As_text, components};
+ghost use Rattle.gq_model.specs.Sources.{program_from};
+ghost use Rattle.gq_model.specs.Routes.{numbered};
+ghost use Rattle.gq_init.specs.Leaves.{AreLeaves, text_leaf, leaf_scenario};
+
+use gq_model::program::Name;
+use std::alloc::{AllocError, Global};
+use std::marker::Model;
+
+/// The place of a leaf among a scenario's leaves in preorder, from 0.
+#[derive(Clone, Copy, Debug, PartialEq, Eq, PartialOrd, Ord)]
+pub struct LeafNo {
+    number: u32,
+}
+
+impl Model for LeafNo {
+    ghost use Rattle.std.specs.Prelude.{ℕ};
+
+    ghost Value = { ℕ };
+
+    ghost view = { λ a. a.number };
+
+    ghost inverse = { λ n. record { number = n } };
+}
+
+impl LeafNo {
+    /// The leaf at this place.
+    pub fn new(number: u32) -> LeafNo
+        ensures { result ≡ number }
+    {
+        LeafNo { number }
+    }
+
+    /// Its place.
+    pub fn number(self) -> u32
+        ensures { result ≡ self }
+    {
+        self.number
+    }
+
+    /// Its place, as an index.
+    pub fn index(self) -> usize
+        ensures { result ≡ self }
+    {
+        self.number as usize
+    }
+}
+
+/// The place of a node among a scenario's nodes in preorder, the root's being 0.
+#[derive(Clone, Copy, Debug, PartialEq, Eq, PartialOrd, Ord)]
+pub struct NodeNo {
+    number: u32,
+}
+
+impl Model for NodeNo {
+    ghost use Rattle.std.specs.Prelude.{ℕ};
+
+    ghost Value = { ℕ };
+
+    ghost view = { λ a. a.number };
+
+    ghost inverse = { λ n. record { number = n } };
+}
+
+impl NodeNo {
+    /// The node at this place.
+    pub fn new(number: u32) -> NodeNo
+        ensures { result ≡ number }
+    {
+        NodeNo { number }
+    }
+
+    /// Its place.
+    pub fn number(self) -> u32
+        ensures { result ≡ self }
+    {
+        self.number
+    }
+
+    /// Its place, as an index.
+    pub fn index(self) -> usize
+        ensures { result ≡ self }
+    {
+        self.number as usize
+    }
+}
+
+/// A leaf as a scenario describes it.
+#[derive(Drop)]
+pub(crate) struct Leaf {
+    name: Name,
+    quantum: u64,
+    text: Vec<u8>,
+}
+
+impl Model for Leaf {
+    ghost use Rattle.gq_model.specs.Scenario.{LeafNode};
+    ghost use Rattle.gq_model.specs.Stored.{statements_code};
+    ghost use Rattle.gq_init.specs.Leaves.{text_leaf};
+    ghost use Rattle.std.specs.Coded.{codes};
+
+    ghost Value = { LeafNode };
+
+    ghost coded = { Prim.hlevel (codes, statements_code (Prim.hlevel codes)) };
+
+    ghost view = { λ l. text_leaf l.name l.quantum l.text.items };
+}
+
+impl Leaf {
+    pub(crate) fn new(name: Name, quantum: u64, text: Vec<u8>) -> Leaf
+        ensures { result ≡ text_leaf name quantum text.items }
+    {
+        Leaf {
+            name,
+            quantum,
+            text,
+        }
+    }
+
+    // The same leaf once more.
+    fn copy(&self, alloc: Global) -> Result<Leaf, AllocError>
+        ensures { IfOk result (λ l. l ≡ self.now) }
+    {
+        let text = Vec::from_slice(alloc, self.text.as_slice())?;
+        match Name::new(self.name.as_bytes()) {
+            Some(name) => Ok(Leaf::new(name, self.quantum, text)),
+            None => unreachable!(),
+        }
+    }
+}
+
+/// The greatest number of leaves of a scenario.
+pub const GREATEST_LEAVES: usize = 64;
+
+/// A scenario: the RAM of the whole system, and its leaves.
+#[derive(Drop)]
+pub struct Scenario {
+    ram: u64,
+    leaves: Vec<Leaf>,
+}
+
+impl Model for Scenario {
+    ghost use Rattle.std.specs.Prelude.{◌≤◌, length};
+    ghost use Rattle.gq_model.specs.Scenario.{Scenario};
+    ghost use Rattle.gq_model.specs.Stored.{statements_code, nodes_code};
+    ghost use Rattle.gq_init.specs.Leaves.{leaf_scenario};
+    ghost use Rattle.std.specs.Coded.{codes};
+
+    ghost Value = { Scenario };
+
+    ghost coded = { Prim.hlevel (codes, nodes_code (Prim.hlevel (codes, statements_code (Prim.hlevel codes))) (Prim.hlevel codes)) };
+
+    ghost view = { λ s. leaf_scenario s.ram s.leaves.items };
+
+    ghost invariant = { λ s. length s.leaves.items ≤ 64 };
+}
+
+impl Scenario {
+    /// The scenario of version 1 with so much RAM and these leaves under its root.
+    pub(crate) fn new(ram: u64, leaves: Vec<Leaf>) -> Scenario
+        requires { length leaves.items ≤ 64 }
+        ensures { result ≡ leaf_scenario ram leaves.items }
+    {
+        Scenario { ram, leaves }
+    }
+
+    /// The RAM of the whole system, in bytes.
+    pub fn ram(&self) -> u64
+        ensures { result ≡ self.now.total.ram }
+    {
+        self.ram
+    }
+
+    /// The number of its leaves.
+    pub fn leaf_count(&self) -> usize
+        ensures count { result ≡ length (components self.now) }
+        ensures few { result ≤ GREATEST_LEAVES }
+        ensures leaves { AreLeaves self.now.nodes }
+    {
+        self.leaves.len()
+    }
+
+    /// The name of a leaf.
+    pub fn name(&self, leaf: LeafNo) -> &Name
+        requires { leaf < length (components self.now) }
+        ensures { IfSome (slice_get (components self.now) leaf) (λ c. result.now ≡ c.node.name) }
+    {
+        &self.leaves[leaf.index()].name
+    }
+
+    /// The quantum of a leaf: its RAM quota, in bytes.
+    pub fn quantum(&self, leaf: LeafNo) -> u64
+        requires { leaf < length (components self.now) }
+        ensures { IfSome (slice_get (components self.now) leaf) (λ c. result ≡ c.node.quantum.ram) }
+    {
+        self.leaves[leaf.index()].quantum
+    }
+
+    /// The text of the program of a leaf.
+    pub fn program_text(&self, leaf: LeafNo) -> &[u8]
+        requires { leaf < length (components self.now) }
+        ensures source { IfSome (slice_get (components self.now) leaf) (λ c. c.node.source ≡ As_text result.now) }
+        ensures program { IfSome (slice_get (components self.now) leaf) (λ c. c.node.program ≡ program_from c.node.source) }
+    {
+        self.leaves[leaf.index()].text.as_slice()
+    }
+
+    /// The leaf of this name, where there is one.
+    pub fn leaf_named(&self, name: &[u8]) -> Option<LeafNo>
+        ensures { result ≡ numbered 0 name.now (components self.now) }
+    {
+        for (place, leaf) in self.leaves.iter().enumerate() {
+            if name == leaf.name.as_bytes() {
+                return Some(LeafNo::new(place as u32));
+            }
+        }
+        None
+    }
+
+    /// The same scenario once more. Refused only for want of host memory.
+    pub fn copy(&self, alloc: Global) -> Result<Scenario, AllocError>
+        ensures { IfOk result (λ s. s ≡ self.now) }
+    {
+        let mut leaves = Vec::new(alloc);
+        for leaf in &self.leaves {
+            leaves.push(leaf.copy(alloc)?)?;
+        }
+        Ok(Scenario {
+            ram: self.ram,
+            leaves,
+        })
+    }
+}

@@ -1,0 +1,202 @@
+// The machine: the leaves of a scenario, and the balances of its accounts.
+ghost use Rattle.std.specs.Prelude.{◌≡◌, ◌≢◌, ◌≤◌, ◌<◌, ◌+◌, [], true, map, sum, length, slice_get, IfOk, IfErr, IfSome, IsOk, OnErr, Ok, Err, ◌^◌};
+ghost use Rattle.gq_model.specs.Amounts.{Ram};
+ghost use Rattle.gq_model.specs.Scenario.{components, system};
+ghost use Rattle.gq_model.specs.World.{start};
+ghost use Rattle.gq_model.specs.Sums.{held};
+ghost use Rattle.gq_model.specs.Accounts.{accounts};
+ghost use Rattle.gq_model.specs.Resolve.{handed_out};
+ghost use Rattle.gq_model.specs.Step.{next};
+ghost use Rattle.gq_machine.specs.Events.{event_of};
+ghost use Rattle.gq_machine.specs.Plain.{is_plain_program, are_plain_programs, first_of, programs_of, quanta_of, IsPlain};
+
+use crate::event::Event;
+use crate::leaf::{LINE, Leaf};
+use arrayvec::ArrayVec;
+use gq_code::encode::encode_plain;
+use gq_code::program::Program;
+use gq_init::scenario::{LeafNo, NodeNo, Scenario};
+use gq_model::fault::Wrong;
+use gq_model::phase::Phase;
+use std::alloc::{AllocError, Global};
+use std::marker::Model;
+
+/// The leaves of a scenario between two steps, with what its accounts have.
+#[derive(Drop)]
+pub struct Machine {
+    scenario: Scenario,
+    leaves: Vec<Leaf>,
+    quotas: Vec<u64>,
+    root: u64,
+}
+
+impl Model for Machine {
+    ghost use Rattle.gq_machine.specs.Machines.{Machine};
+    ghost use Rattle.gq_model.specs.Stored.{statements_code, nodes_code};
+    ghost use Rattle.std.specs.Coded.{codes};
+
+    ghost Value = { Machine };
+
+    ghost coded = { Prim.hlevel (codes, statements_code (Prim.hlevel codes), nodes_code (Prim.hlevel (codes, statements_code (Prim.hlevel codes))) (Prim.hlevel codes)) };
+
+    ghost use Rattle.gq_machine.specs.Seen.{machine_seen, Holds};
+
+    ghost view = { machine_seen };
+
+    ghost invariant = { Holds };
+}
+
+impl Machine {
+    /// The machine at the start of a scenario, whose programs these are, in preorder: each leaf has its quantum, and the
+    /// root what is left. Refused only for want of host memory.
+    pub fn new(alloc: Global, scenario: &Scenario, programs: Vec<Program>) -> Result<Machine, AllocError>
+        requires plain { IsPlain scenario.now }
+        requires programs { programs.items ≡ programs_of (components scenario.now) }
+        requires fits { handed_out Ram scenario.now.nodes ≤ scenario.now.total.ram }
+        ensures scenario { IfOk result (λ m. m.scenario ≡ scenario.now) }
+        ensures world { IfOk result (λ m. m.world ≡ start (system scenario.now)) }
+    {
+        let leaves = first_leaves(alloc, programs.as_slice())?;
+        let (root, quotas) = hand_out(alloc, scenario)?;
+        let scenario = scenario.copy(alloc)?;
+        Ok(Machine {
+            scenario,
+            leaves,
+            quotas,
+            root,
+        })
+    }
+
+    /// One turn of a leaf, tested: where the leaf can run it is one step. After it the line has the text that was given,
+    /// without label and line feed, and is empty where none was. Where the step is wrong, nothing is changed.
+    pub fn step_tested(&mut self, leaf: LeafNo, line: &mut ArrayVec<u8, LINE>) -> Result<Event, Wrong>
+        requires { leaf < length (components self.old.scenario) }
+        ensures scenario { self.new.scenario ≡ self.old.scenario }
+        ensures stepped { IfOk result (λ event. next (system self.old.scenario) self.old.world leaf ≡ Ok (self.new.world, event_of event line.new.items)) }
+        ensures no_line { IfOk result (λ event. event ≢ Event.Line → line.new.items ≡ []) }
+        ensures wrong { IfErr result (λ wrong. next (system self.old.scenario) self.old.world leaf ≡ Err wrong) }
+        ensures unchanged { OnErr result (self.new ≡ self.old) }
+    {
+        let place = leaf.index();
+        let state = &mut self.leaves[place];
+        match state.step(line) {
+            Err(wrong) => Err(wrong),
+            Ok(event) => match state.phase() {
+                Phase::Exited => {
+                    self.root += self.quotas[place];
+                    self.quotas[place] = 0;
+                    Ok(event)
+                }
+                _ => Ok(event),
+            },
+        }
+    }
+
+    /// One turn of a leaf whose next step is not wrong, as of `step_tested`.
+    pub fn step(&mut self, leaf: LeafNo, line: &mut ArrayVec<u8, LINE>) -> Event
+        requires leaf { leaf < length (components self.old.scenario) }
+        requires defined { IsOk (next (system self.old.scenario) self.old.world leaf) }
+        ensures scenario { self.new.scenario ≡ self.old.scenario }
+        ensures stepped { next (system self.old.scenario) self.old.world leaf ≡ Ok (self.new.world, event_of result line.new.items) }
+        ensures no_line { result ≢ Event.Line → line.new.items ≡ [] }
+    {
+        match self.step_tested(leaf, line) {
+            Ok(event) => event,
+            Err(_) => unreachable!(),
+        }
+    }
+
+    /// The scenario that runs.
+    pub fn scenario(&self) -> &Scenario
+        ensures { result.now ≡ self.now.scenario }
+    {
+        &self.scenario
+    }
+
+    /// What a leaf does.
+    pub fn phase(&self, leaf: LeafNo) -> Phase
+        requires { leaf < length (components self.now.scenario) }
+        ensures { IfSome (slice_get self.now.world.leaves leaf) (λ l. result ≡ l.phase) }
+    {
+        self.leaves[leaf.index()].phase()
+    }
+
+    /// The steps that a leaf has taken.
+    pub fn steps(&self, leaf: LeafNo) -> u64
+        requires { leaf < length (components self.now.scenario) }
+        ensures { IfSome (slice_get self.now.world.leaves leaf) (λ l. result ≡ l.steps) }
+    {
+        self.leaves[leaf.index()].steps()
+    }
+
+    /// The RAM quota of a node, in bytes.
+    pub fn quota(&self, node: NodeNo) -> u64
+        requires { node ≤ length (components self.now.scenario) }
+        ensures { IfSome (slice_get (accounts self.now.scenario self.now.world []) node) (λ a. result ≡ a.quota.ram) }
+    {
+        let place = node.index();
+        if place == 0 {
+            return self.root;
+        }
+        self.quotas[place - 1]
+    }
+
+    /// The quota of capabilities of a node: none is counted in version 1.
+    pub fn caps(&self, node: NodeNo) -> u64
+        requires { node ≤ length (components self.now.scenario) }
+        ensures { IfSome (slice_get (accounts self.now.scenario self.now.world []) node) (λ a. result ≡ a.quota.caps) }
+    {
+        let _leaves = &self.leaves;
+        let _node = node.index();
+        0
+    }
+
+    /// What a leaf holds, in bytes.
+    pub fn used(&self, leaf: LeafNo) -> u64
+        requires { leaf < length (components self.now.scenario) }
+        ensures { IfSome (slice_get self.now.world.leaves leaf) (λ l. result ≡ held Ram self.now.world leaf l) }
+    {
+        let _leaves = &self.leaves;
+        let _leaf = leaf.index();
+        0
+    }
+}
+
+/// What the root is left with, and what each leaf is handed: its quantum.
+fn hand_out(alloc: Global, scenario: &Scenario) -> Result<(u64, Vec<u64>), AllocError>
+    requires { sum (quanta_of (components scenario.now)) ≤ scenario.now.total.ram }
+    ensures quotas { IfOk result (λ p. p.1.items ≡ quanta_of (components scenario.now)) }
+    ensures root { IfOk result (λ p. p.0 + sum (quanta_of (components scenario.now)) ≡ scenario.now.total.ram) }
+    ensures bounded { IfOk result (λ _. scenario.now.total.ram < 2 ^ 64) }
+{
+    let mut root = scenario.ram();
+    let mut quotas = Vec::new(alloc);
+    for number in 0..scenario.leaf_count() {
+        let quantum = scenario.quantum(LeafNo::new(number as u32));
+        root -= quantum;
+        quotas.push(quantum)?;
+    }
+    Ok((root, quotas))
+}
+
+/// A leaf at the start of a program's `main`.
+fn first_leaf(alloc: Global, program: &Program) -> Result<Leaf, AllocError>
+    requires { is_plain_program program.now ≡ true }
+    ensures { IfOk result (λ leaf. leaf ≡ first_of program.now) }
+{
+    let (_, body) = &program.sections()[0];
+    let code = encode_plain(alloc, body)?;
+    Ok(Leaf::new(code))
+}
+
+/// The leaves at the start of these programs.
+fn first_leaves(alloc: Global, programs: &[Program]) -> Result<Vec<Leaf>, AllocError>
+    requires { are_plain_programs programs.now ≡ true }
+    ensures { IfOk result (λ leaves. leaves.items ≡ map first_of programs.now) }
+{
+    let mut leaves = Vec::new(alloc);
+    for program in programs {
+        leaves.push(first_leaf(alloc, program)?)?;
+    }
+    Ok(leaves)
+}
