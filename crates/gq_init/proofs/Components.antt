@@ -5,7 +5,7 @@ use Rattle.std.proofs.Common.{◌&&◌, ◌<◌, drop, add-one, eqb, ◌≡◌, 
 use Rattle.std.specs.Prelude.{slice_get}
 use Rattle.std.proofs.lemmas.List.{length-map}
 use Rattle.gq_model.specs.Program.{text_eq}
-use Rattle.gq_model.specs.Scenario.{Route, LeafNode, Nodes, End, Leaf_node, Init_node, Scenario, Level, Component, components_of, components}
+use Rattle.gq_model.specs.Scenario.{Route, LeafNode, Nodes, End, Leaf_node, Init_node, Scenario, Level, Component, below, components_of, components}
 use Rattle.gq_model.specs.Routes.{numbered}
 use Rattle.gq_init.specs.Leaves.{AreLeaves, leaves_among, leaf_nodes, leaf_component, leaf_scenario, root_component}
 
@@ -91,3 +91,12 @@ pub place_of-drop : (name : List ℕ) (leaves : List LeafNode) (i : ℕ) (node :
     → place_of i name (drop i leaves) ≡ cond (text_eq name node.name) (Some i) (place_of (i + 1) name (drop (i + 1) leaves))
 place_of-drop name leaves i node h e =
     rw (drop_more leaves i node h, ← e, add-one)
+
+-- the leaf that stands there has the label of its name under the root's
+pub label_at : (s : Scenario) (ram : ℕ) (leaves : List LeafNode) → leaf_scenario ram leaves ≡ s → (i : ℕ) (node : LeafNode) → node ≡ get_or leaves i node → (label : List ℕ) → label ≡ below (codes "init") node.name
+    → IfSome (slice_get (components s) i) (λ c. label ≡ c.label)
+label_at s ram leaves e i node at label h =
+    let got : slice_get (components s) i ≡ option_map (root_component s) (slice_get leaves i) =
+    ap (λ cs. slice_get cs i) (components-leaf_scenario s ram leaves e) ∙ slice_get-map (root_component s) leaves i in
+    let Q : Option Component → Type 0 = λ o. IfSome o (λ c. label ≡ c.label) in
+    subst Q (sym got) (IfSome-map (root_component s) (slice_get leaves i) (λ c. label ≡ c.label) (get-read leaves i node at (λ n. label ≡ below (codes "init") n.name) h))

@@ -1,5 +1,5 @@
 -- Scenarios of which each node is a leaf directly under the root.
-use Rattle.std.specs.Prelude.{ℕ, List, [], ◌∷◌, Option, None, codes}
+use Rattle.std.specs.Prelude.{◌≡◌, ℕ, List, [], ◌∷◌, Option, None, codes}
 use Rattle.gq_model.specs.Amounts.{amount}
 use Rattle.gq_model.specs.Scenario.{Route, Source, As_text, LeafNode, Nodes, End, Leaf_node, Init_node, Scenario, Level, level, below, Component}
 use Rattle.gq_model.specs.Sources.{program_from}
@@ -47,3 +47,17 @@ leaf_component label default_routes siblings above node =
 -- a leaf directly under the root
 abbrev pub root_component : Scenario → LeafNode → Component
 root_component s = leaf_component (codes "init") s.default_routes s.nodes []
+
+-- a leaf that provides nothing, starts at once, has no routes of its own and no capabilities
+pub record IsBareLeaf (node : LeafNode) : Type 0 where
+  pub provides : node.provides ≡ None
+  pub after : node.after ≡ None
+  pub routes : node.routes ≡ None
+  pub caps : node.quantum.caps ≡ 0
+
+-- version 1, without interfaces and routes
+pub record IsOfLeaves (s : Scenario) : Type 0 where
+  pub version : s.version ≡ 1
+  pub caps : s.total.caps ≡ 0
+  pub interfaces : s.interfaces ≡ []
+  pub routes : s.default_routes ≡ None

@@ -1,10 +1,11 @@
 // Scenarios in memory.
-ghost use Rattle.std.specs.Prelude.{ℕ, ◌≡◌, ◌<◌, ◌≤◌, length, slice_get, IfOk, IfSome};
+ghost use Rattle.std.specs.Prelude.{ℕ, ◌≡◌, ◌<◌, ◌≤◌, ◌+◌, ◌++◌, length, slice_get, IfOk, IfSome};
 ghost use Rattle.gq_model.specs.Scenario.{As_text, components};
 ghost use Rattle.gq_model.specs.Sources.{program_from};
 ghost use Rattle.gq_model.specs.Routes.{numbered};
-ghost use Rattle.gq_init.specs.Leaves.{AreLeaves, text_leaf, leaf_scenario};
+ghost use Rattle.gq_init.specs.Leaves.{AreLeaves, IsOfLeaves, IsBareLeaf, text_leaf, leaf_scenario};
 
+use arrayvec::ArrayVec;
 use gq_model::program::Name;
 use std::alloc::{AllocError, Global};
 use std::marker::Model;
@@ -134,6 +135,9 @@ impl Leaf {
 /// The greatest number of leaves of a scenario.
 pub const GREATEST_LEAVES: usize = 64;
 
+/// The greatest number of bytes of a label: five names, and the arrows between them.
+pub const GREATEST_LABEL: usize = 96;
+
 /// A scenario: the RAM of the whole system, and its leaves.
 #[derive(Drop)]
 pub struct Scenario {
@@ -178,6 +182,7 @@ impl Scenario {
         ensures count { result ≡ length (components self.now) }
         ensures few { result ≤ GREATEST_LEAVES }
         ensures leaves { AreLeaves self.now.nodes }
+        ensures plain { IsOfLeaves self.now }
     {
         self.leaves.len()
     }
@@ -203,6 +208,7 @@ impl Scenario {
         requires { leaf < length (components self.now) }
         ensures source { IfSome (slice_get (components self.now) leaf) (λ c. c.node.source ≡ As_text result.now) }
         ensures program { IfSome (slice_get (components self.now) leaf) (λ c. c.node.program ≡ program_from c.node.source) }
+        ensures bare { IfSome (slice_get (components self.now) leaf) (λ c. IsBareLeaf c.node) }
     {
         self.leaves[leaf.index()].text.as_slice()
     }
@@ -231,5 +237,29 @@ impl Scenario {
             ram: self.ram,
             leaves,
         })
+    }
+
+    /// The label of a leaf: the names from the root's down, joined by arrows.
+    pub fn label(&self, leaf: LeafNo) -> ArrayVec<u8, GREATEST_LABEL>
+        requires { leaf < length (components self.now) }
+        ensures label { IfSome (slice_get (components self.now) leaf) (λ c. result.items ≡ c.label) }
+        ensures short { length result.items ≤ GREATEST_LABEL }
+    {
+        let name = &self.leaves[leaf.index()].name;
+        let mut label = ArrayVec::new();
+        extend(&mut label, b"init -> ");
+        extend(&mut label, name.as_bytes());
+        label
+    }
+}
+
+// Puts bytes at the end of a label.
+fn extend(label: &mut ArrayVec<u8, GREATEST_LABEL>, bytes: &[u8])
+    requires { length label.old.items + length bytes.now ≤ GREATEST_LABEL }
+    ensures { label.new.items ≡ label.old.items ++ bytes.now }
+{
+    match label.try_extend_from_slice(bytes) {
+        Ok(()) => (),
+        Err(_) => unreachable!(),
     }
 }

@@ -1,4 +1,5 @@
-use Rattle.std.proofs.Common.{◌≡◌, ◌∙◌, refl, ap, arith, sym}
+use Rattle.std.proofs.Common.{◌≡◌, ◌∙◌, refl, ap, arith, sym, subst}
+use Rattle.gq_init.specs.Leaves.{IsBareLeaf}
 use Rattle.gq_model.specs.Scenario.{LeafNode, As_text}
 use Rattle.gq_model.specs.Sources.{program_from}
 use Rattle.gq_init.proofs.Components.{length-components, component_at}
@@ -17,3 +18,9 @@ pub returns-clause-program : goal.returns-clause-program
 returns-clause-program c =
     rw (← c.index.ensures)
     (component_at c.args.self.now c.self.inside.ram c.self.inside.leaves.items c.self.view_is c.index.result c.index-2.result.now c.index-2.ensures (λ node. node.program ≡ program_from node.source) (rw (← c.behind-self.view_is) refl))
+
+pub returns-clause-bare : goal.returns-clause-bare
+returns-clause-bare c =
+    rw (← c.index.ensures)
+    (component_at c.args.self.now c.self.inside.ram c.self.inside.leaves.items c.self.view_is c.index.result c.index-2.result.now c.index-2.ensures IsBareLeaf
+    (subst IsBareLeaf c.behind-self.view_is (record { provides = refl; after = refl; routes = refl; caps = refl })))

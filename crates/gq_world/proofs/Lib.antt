@@ -1,0 +1,10 @@
+pub mod Known
+pub mod Walks
+pub mod Judged
+pub mod Unused
+pub mod Refusals
+pub mod Runs
+pub mod Steps
+pub mod Told
+pub mod Firsts
+pub mod Turns

@@ -1,0 +1,51 @@
+-- A world between two turns, what it keeps, and what a turn does.
+use Rattle.std.specs.Prelude.{◌≡◌, ℕ, Bool, true, List, length, slice_get, Option, Ok}
+use Rattle.std.specs.Io.KnownBytes.{Appends}
+use Rattle.gq_model.specs.Scenario.{Scenario, components, system}
+use Rattle.gq_model.specs.World as model
+use Rattle.gq_model.specs.Doing as doing
+use Rattle.gq_model.specs.Step.{next}
+use Rattle.gq_model.specs.Run.{label_at, line_of}
+use Rattle.gq_machine.specs.declared.event.Event.{Event}
+use Rattle.gq_machine.specs.declared.event.Event.TheVariants as events
+use Rattle.gq_world.specs.Plain.{IsBareScenario}
+use Rattle.gq_world.specs.Judgements.{AreAccepted}
+use Rattle.gq_world.specs.Kept.{IsKept}
+use Rattle.gq_world.specs.Writes.{IsFront}
+
+-- an accepted scenario, the world of the account machine, and whether a turn has stopped it
+pub record World : Type 0 where
+  pub scenario : Scenario
+  pub world : model.World
+  pub stopped : Bool
+
+-- the scenario is accepted, and the world is one that a run of it reaches
+pub record IsSound (s : Scenario) (w : model.World) : Type 0 where
+  pub bare : IsBareScenario s
+  pub accepted : AreAccepted s.nodes
+  pub kept : IsKept s w
+
+-- what a step shows, without its text
+abbrev pub shown : doing.Event → Event
+shown doing.Idle = events.Idle
+shown doing.Quiet = events.Quiet
+shown doing.Finished = events.Finished
+shown (doing.Line text) = events.Line
+
+-- the line of a step of a leaf, with its label
+abbrev pub line_told : Scenario → ℕ → doing.Event → List ℕ
+line_told s leaf event = line_of (label_at (slice_get (components s) leaf)) event
+
+-- the step of the account machine was taken, its event told, and its line written
+pub record IsTurn (old new : World) (leaf : ℕ) (event : Event) (before after : Option (List ℕ)) : Type 0 where
+  pub step : doing.Event
+  pub next : next (system old.scenario) old.world leaf ≡ Ok (new.world, step)
+  pub told : event ≡ shown step
+  pub written : Appends before after (line_told old.scenario leaf step)
+
+-- the step was taken, and a front of its line was written
+pub record StopsWriting (old new : World) (leaf : ℕ) (before after : Option (List ℕ)) : Type 0 where
+  pub step : doing.Event
+  pub next : next (system old.scenario) old.world leaf ≡ Ok (new.world, step)
+  pub stopped : new.stopped ≡ true
+  pub written : IsFront before after (line_told old.scenario leaf step)

@@ -1,0 +1,115 @@
+// A world: an accepted scenario that runs.
+ghost use Rattle.std.specs.Prelude.{◌≡◌, ◌↔◌, ◌<◌, ◌≤◌, ◌+◌, ◌++◌, ◌∷◌, [], true, false, length, slice_get, codes, Ok, Err, IfOk, IfErr, IfSome, OnOk};
+ghost use Rattle.gq_model.specs.Scenario.{components, system};
+ghost use Rattle.gq_model.specs.Step.{next};
+ghost use Rattle.gq_world.specs.Writes.{IsFront, IsRaised};
+ghost use Rattle.gq_world.specs.Worlds.{IsTurn, StopsWriting};
+
+use crate::counted::{Counted, put};
+use arrayvec::ArrayVec;
+use gq_init::scenario::{GREATEST_LABEL, LeafNo};
+use gq_machine::event::Event;
+use gq_machine::machine::Machine;
+use std::io::Write;
+use std::marker::Model;
+
+/// Why a turn ended a world.
+#[derive(Clone, Copy, Debug, PartialEq, Eq)]
+pub enum Stop {
+    /// A write failed. The step was taken, and a front of its line went out.
+    Write,
+    /// An earlier turn ended the world: nothing was done.
+    Stopped,
+}
+
+/// An accepted scenario between two turns.
+#[derive(Drop)]
+pub struct World {
+    machine: Machine,
+    stopped: bool,
+}
+
+impl Model for World {
+    ghost use Rattle.gq_world.specs.Worlds.{World, IsSound};
+    ghost use Rattle.gq_model.specs.Stored.{statements_code, nodes_code};
+    ghost use Rattle.std.specs.Coded.{codes};
+
+    ghost Value = { World };
+
+    ghost coded = { Prim.hlevel (codes, statements_code (Prim.hlevel codes), nodes_code (Prim.hlevel (codes, statements_code (Prim.hlevel codes))) (Prim.hlevel codes)) };
+
+    ghost view = { λ w. record { scenario = w.machine.scenario; world = w.machine.world; stopped = w.stopped } };
+
+    ghost invariant = { λ w. ∥ IsSound w.machine.scenario w.machine.world ∥₁ };
+}
+
+/// The greatest number of bytes of a line of a leaf.
+const GREATEST_LINE: usize = GREATEST_LABEL + 64 + 4;
+
+/// Puts bytes at the end of a line.
+fn extend(line: &mut ArrayVec<u8, GREATEST_LINE>, bytes: &[u8])
+    requires { length line.old.items + length bytes.now ≤ GREATEST_LINE }
+    ensures { line.new.items ≡ line.old.items ++ bytes.now }
+{
+    match line.try_extend_from_slice(bytes) {
+        Ok(()) => (),
+        Err(_) => unreachable!(),
+    }
+}
+
+/// The line of a leaf with this label.
+fn labelled(label: &[u8], text: &[u8]) -> ArrayVec<u8, GREATEST_LINE>
+    requires label { length label.now ≤ GREATEST_LABEL }
+    requires text { length text.now ≤ 64 }
+    ensures { result.items ≡ codes "[" ++ label.now ++ codes "] " ++ text.now ++ 10 ∷ [] }
+{
+    let mut line = ArrayVec::new();
+    extend(&mut line, b"[");
+    extend(&mut line, label);
+    extend(&mut line, b"] ");
+    extend(&mut line, text);
+    extend(&mut line, b"\n");
+    line
+}
+
+impl World {
+    /// One turn of a leaf: one step where it can run. Its line, if it gives one, is written with the leaf's label. After a
+    /// failed write the world is stopped. A turn takes no host memory.
+    pub fn turn<W: Write>(&mut self, leaf: LeafNo, out: &mut Counted<W>) -> Result<Event, Stop>
+        requires { leaf < length (components self.old.scenario) }
+        ensures scenario { self.new.scenario ≡ self.old.scenario }
+
+        // The step of the account machine is taken, and the line that it gives is written.
+        ensures turned { IfOk result (λ event. IsTurn self.old self.new leaf event (W.contents out.old.writer) (W.contents out.new.writer)) }
+        ensures goes_on { OnOk result (self.new.stopped ≡ false) }
+        ensures counted { OnOk result (out.new.failures ≡ out.old.failures) }
+
+        // A failed write stops the world.
+        ensures stops { result ≡ Err Stop.Write → StopsWriting self.old self.new leaf (W.contents out.old.writer) (W.contents out.new.writer) }
+        ensures raised { result ≡ Err Stop.Write → IsRaised out.old.failures out.new.failures }
+
+        // A stopped world stays as it is, and writes nothing.
+        ensures stopped { (result ≡ Err Stop.Stopped) ↔ (self.old.stopped ≡ true) }
+        ensures stays { result ≡ Err Stop.Stopped → self.new ≡ self.old }
+        ensures silent { result ≡ Err Stop.Stopped → out.new ≡ out.old }
+    {
+        if self.stopped {
+            return Err(Stop::Stopped);
+        }
+        let mut text = ArrayVec::new();
+        match self.machine.step(leaf, &mut text) {
+            Event::Line => {
+                let label = self.machine.scenario().label(leaf);
+                let line = labelled(label.as_slice(), text.as_slice());
+                match put(out, line.as_slice()) {
+                    Ok(()) => Ok(Event::Line),
+                    Err(_) => {
+                        self.stopped = true;
+                        Err(Stop::Write)
+                    }
+                }
+            }
+            event => Ok(event),
+        }
+    }
+}
