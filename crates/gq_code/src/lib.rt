@@ -3,6 +3,7 @@
 
 pub mod encode;
 pub mod program;
+pub mod spelling;
 
 pub use gq_model::program::{Form, Instruction, Name, Operator, Place, Section, Text, Width};
 pub use program::{Body, Program, Statement};

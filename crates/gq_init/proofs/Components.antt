@@ -1,7 +1,7 @@
 -- The leaves of a scenario of which each node is a leaf under the root.
 use Rattle.std.proofs.lemmas.List.{drop_more}
 use Rattle.std.specs.Cmp.Lexicographic.{pointwise}
-use Rattle.std.proofs.Common.{◌&&◌, ◌<◌, drop, add-one, eqb, ◌≡◌, ℕ, zero, suc, ◌+◌, cond, List, [], ◌∷◌, length, map, Option, Some, None, option_map, IfSome, get_or, refl, ap, subst, sym, ◌∙◌, codes, arith}
+use Rattle.std.proofs.Common.{◌&&◌, ◌<◌, drop, add-one, eqb, ◌≡◌, ℕ, zero, suc, ◌+◌, cond, List, [], ◌∷◌, length, map, Option, Some, None, option_map, IfSome, get_or, refl, ap, subst, sym, ◌∙◌, codes}
 use Rattle.std.specs.Prelude.{slice_get}
 use Rattle.std.proofs.lemmas.List.{length-map}
 use Rattle.gq_model.specs.Program.{text_eq}

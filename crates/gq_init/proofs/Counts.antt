@@ -1,7 +1,6 @@
 -- The number of turns on a line.
-use Rattle.std.proofs.Common.{◌≡◌, ◌==◌, ℕ, zero, suc, ◌+◌, ◌-◌, ◌*◌, ◌^◌, ◌<◌, ◌≤◌, ◌≢◌, nat_le, Bool, true, false, not, ◌&&◌, cond, eqb, List, [], ◌∷◌, length, get_or, drop, Option, Some, None, Result, Ok, Err, ◌⊎◌, inl, inr, refl, ap, sym, ◌∙◌, add-one, arith}
+use Rattle.std.proofs.Common.{◌≡◌, ◌==◌, ℕ, ◌^◌, ◌<◌, ◌≤◌, ◌≢◌, Bool, true, false, ◌&&◌, cond, List, [], ◌∷◌, length, get_or, Option, Some, None, Result, Err, ◌⊎◌, inl, inr, refl, ap, sym, ◌∙◌, arith}
 use Rattle.std.proofs.lemmas.Bool.Decides.{nat_tests}
-use Rattle.std.proofs.lemmas.List.{drop_more}
 use Rattle.std.proofs.Math.Nat.{pow-le-pow_right}
 use Rattle.gq_model.specs.Lists.{all_of, between}
 use Rattle.std.proofs.lemmas.Bool.{cases_Bool}
@@ -100,10 +99,10 @@ one_or_more (c ∷ text) =
     elim (cases_Bool (c == 32)) [
       | inl same ↦ inr (record { first = []; second = p.first; rest = p.rest; is = rw (same, p.is); other = rw (no_digit_at c same) })
       | inr other ↦
-        elim (one_or_more text) [
-          | inl e ↦ inl (rw (other, e))
-          | inr s ↦ inr (record { first = c ∷ s.first; second = s.second; rest = s.rest; is = rw (other, s.is); other = rw s.other (and_false (is_digit c)) })
-        ]
+          elim (one_or_more text) [
+            | inl e ↦ inl (rw (other, e))
+            | inr s ↦ inr (record { first = c ∷ s.first; second = s.second; rest = s.rest; is = rw (other, s.is); other = rw s.other (and_false (is_digit c)) })
+          ]
     ]
 
 -- a name, a space and the rest of a line

@@ -2,3 +2,10 @@ pub mod Components
 pub mod Pieces
 pub mod Counts
 pub mod Turning
+pub mod Keyed
+pub mod Faults
+pub mod Passed
+pub mod Described
+pub mod Names
+pub mod Texts
+pub mod Ascii

@@ -1,5 +1,5 @@
 -- Turns of lines, one line after another.
-use Rattle.std.proofs.Common.{◌≡◌, ◌==◌, ℕ, suc, ◌+◌, nat_le, Bool, true, false, cond, List, [], ◌∷◌, ◌++◌, Option, Some, None, Result, Ok, Err, refl, ap, sym, ◌∙◌, add-one, append_assoc}
+use Rattle.std.proofs.Common.{◌≡◌, ◌==◌, ℕ, suc, ◌+◌, nat_le, Bool, true, false, cond, List, [], ◌∷◌, ◌++◌, Option, Some, None, Result, Ok, Err, refl, ap, sym, add-one, append_assoc}
 use Rattle.gq_model.specs.declared.fault.TurnFault.{TurnFault}
 use Rattle.gq_model.specs.declared.fault.TurnFault.TheVariants.{TooMany}
 use Rattle.gq_model.specs.Letters.{pieces}

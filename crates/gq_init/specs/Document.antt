@@ -1,5 +1,5 @@
 -- The scenario that a document describes, and the document's first fault.
-use Rattle.std.specs.Prelude.{ℕ, zero, suc, ◌+◌, nat_lt, if◌then◌else◌, Bool, false, ◌||◌, List, [], ◌∷◌, ◌++◌, length, Option, Some, None, Result, Ok, Err, codes}
+use Rattle.std.specs.Prelude.{ℕ, zero, suc, ◌+◌, nat_lt, if◌then◌else◌, Bool, false, ◌||◌, List, [], ◌∷◌, ◌++◌, length, Option, Some, None, codes}
 use Rattle.toml.specs.Data.{Data, Items, Members, no_members, member, get_member}
 use Rattle.gq_model.specs.Amounts.{Amount, amount, counted_in}
 use Rattle.gq_model.specs.Program.{text_eq}

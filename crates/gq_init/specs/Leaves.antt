@@ -1,7 +1,10 @@
 -- Scenarios of which each node is a leaf directly under the root.
-use Rattle.std.specs.Prelude.{◌≡◌, ℕ, List, [], ◌∷◌, Option, None, codes}
+use Rattle.std.specs.Prelude.{◌≡◌, ℕ, List, [], ◌∷◌, Option, None, codes, map}
+use Rattle.toml.specs.Data.{Data}
+use Rattle.gq_init.specs.Keys.{members_of}
+use Rattle.gq_init.specs.Document.{leaf_of}
 use Rattle.gq_model.specs.Amounts.{amount}
-use Rattle.gq_model.specs.Scenario.{Route, Source, As_text, LeafNode, Nodes, End, Leaf_node, Init_node, Scenario, Level, level, below, Component}
+use Rattle.gq_model.specs.Scenario.{Route, As_text, LeafNode, Nodes, End, Leaf_node, Init_node, Scenario, Level, level, below, Component}
 use Rattle.gq_model.specs.Sources.{program_from}
 
 -- each of these nodes is a leaf
@@ -47,6 +50,13 @@ leaf_component label default_routes siblings above node =
 -- a leaf directly under the root
 abbrev pub root_component : Scenario → LeafNode → Component
 root_component s = leaf_component (codes "init") s.default_routes s.nodes []
+
+abbrev pub leaf_names : List LeafNode → List (List ℕ)
+leaf_names = map (λ node. node.name)
+
+-- the leaves that these tables describe
+abbrev pub leaves_of : List Data → List LeafNode
+leaves_of = map (λ d. leaf_of (members_of d))
 
 -- a leaf that provides nothing, starts at once, has no routes of its own and no capabilities
 pub record IsBareLeaf (node : LeafNode) : Type 0 where

@@ -6,3 +6,5 @@ pub mod Stage
 pub mod Leaves
 pub mod Lines
 pub mod TurnLines
+pub mod Words
+pub mod Rules

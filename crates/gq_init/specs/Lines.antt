@@ -1,5 +1,5 @@
 -- Texts, line by line and piece by piece.
-use Rattle.std.specs.Prelude.{ℕ, ◌==◌, ◌+◌, List, [], ◌∷◌, length, Option, Some, None}
+use Rattle.std.specs.Prelude.{ℕ, ◌==◌, ◌+◌, List, [], length, Option, Some, None}
 use Rattle.gq_model.specs.Letters.{pieces, lines}
 
 -- the pieces of what follows a separator, none where there is no separator

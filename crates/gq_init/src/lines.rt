@@ -1,7 +1,15 @@
 // Lines of a text, and pieces of a line.
 ghost use Rattle.std.specs.Prelude.{◌≡◌, ◌==◌, ◌<◌, ◌∷◌, length, option_map, IfSome};
 ghost use Rattle.gq_model.specs.Letters.{pieces, lines, without_return};
+ghost use Rattle.gq_model.specs.Program.{text_eq};
 ghost use Rattle.gq_init.specs.Lines.{pieces_left, lines_left};
+
+// Whether two texts have the same bytes.
+pub(crate) fn same_bytes(a: &[u8], b: &[u8]) -> bool
+    ensures { result ≡ text_eq a.now b.now }
+{
+    a == b
+}
 
 // What stands before the first separator, and what follows it. With no separator the text is the last piece.
 pub(crate) fn next_piece(text: &[u8], separator: u8) -> (&[u8], Option<&[u8]>)

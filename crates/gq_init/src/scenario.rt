@@ -13,7 +13,7 @@ use std::marker::Model;
 /// The place of a leaf among a scenario's leaves in preorder, from 0.
 #[derive(Clone, Copy, Debug, PartialEq, Eq, PartialOrd, Ord)]
 pub struct LeafNo {
-    number: u32,
+    place: u32,
 }
 
 impl Model for LeafNo {
@@ -21,70 +21,31 @@ impl Model for LeafNo {
 
     ghost Value = { ℕ };
 
-    ghost view = { λ a. a.number };
+    ghost view = { λ a. a.place };
 
-    ghost inverse = { λ n. record { number = n } };
+    ghost inverse = { λ n. record { place = n } };
 }
 
 impl LeafNo {
     /// The leaf at this place.
-    pub fn new(number: u32) -> LeafNo
-        ensures { result ≡ number }
+    pub fn new(place: u32) -> LeafNo
+        ensures { result ≡ place }
     {
-        LeafNo { number }
+        LeafNo { place }
     }
 
     /// Its place.
     pub fn number(self) -> u32
         ensures { result ≡ self }
     {
-        self.number
+        self.place
     }
 
     /// Its place, as an index.
     pub fn index(self) -> usize
         ensures { result ≡ self }
     {
-        self.number as usize
-    }
-}
-
-/// The place of a node among a scenario's nodes in preorder, the root's being 0.
-#[derive(Clone, Copy, Debug, PartialEq, Eq, PartialOrd, Ord)]
-pub struct NodeNo {
-    number: u32,
-}
-
-impl Model for NodeNo {
-    ghost use Rattle.std.specs.Prelude.{ℕ};
-
-    ghost Value = { ℕ };
-
-    ghost view = { λ a. a.number };
-
-    ghost inverse = { λ n. record { number = n } };
-}
-
-impl NodeNo {
-    /// The node at this place.
-    pub fn new(number: u32) -> NodeNo
-        ensures { result ≡ number }
-    {
-        NodeNo { number }
-    }
-
-    /// Its place.
-    pub fn number(self) -> u32
-        ensures { result ≡ self }
-    {
-        self.number
-    }
-
-    /// Its place, as an index.
-    pub fn index(self) -> usize
-        ensures { result ≡ self }
-    {
-        self.number as usize
+        self.number() as usize
     }
 }
 
@@ -129,6 +90,13 @@ impl Leaf {
             Some(name) => Ok(Leaf::new(name, self.quantum, text)),
             None => unreachable!(),
         }
+    }
+
+    // Its name.
+    pub(crate) fn name(&self) -> &Name
+        ensures { result.now ≡ self.now.name }
+    {
+        &self.name
     }
 }
 
@@ -225,6 +193,20 @@ impl Scenario {
         None
     }
 
+    /// The label of a leaf: the names from the root's down, joined by arrows.
+    pub fn label(&self, leaf: LeafNo) -> ArrayVec<u8, GREATEST_LABEL>
+        requires { leaf < length (components self.now) }
+        ensures label { IfSome (slice_get (components self.now) leaf) (λ c. result.items ≡ c.label) }
+        ensures short { length result.items ≤ GREATEST_LABEL }
+    {
+        let found = &self.leaves[leaf.index()];
+        let name = &found.name;
+        let mut label = ArrayVec::new();
+        extend(&mut label, b"init -> ");
+        extend(&mut label, name.as_bytes());
+        label
+    }
+
     /// The same scenario once more. Refused only for want of host memory.
     pub fn copy(&self, alloc: Global) -> Result<Scenario, AllocError>
         ensures { IfOk result (λ s. s ≡ self.now) }
@@ -237,19 +219,6 @@ impl Scenario {
             ram: self.ram,
             leaves,
         })
-    }
-
-    /// The label of a leaf: the names from the root's down, joined by arrows.
-    pub fn label(&self, leaf: LeafNo) -> ArrayVec<u8, GREATEST_LABEL>
-        requires { leaf < length (components self.now) }
-        ensures label { IfSome (slice_get (components self.now) leaf) (λ c. result.items ≡ c.label) }
-        ensures short { length result.items ≤ GREATEST_LABEL }
-    {
-        let name = &self.leaves[leaf.index()].name;
-        let mut label = ArrayVec::new();
-        extend(&mut label, b"init -> ");
-        extend(&mut label, name.as_bytes());
-        label
     }
 }
 

@@ -3,6 +3,7 @@
 
 pub mod counted;
 pub mod judge;
+mod line;
 pub mod world;
 
 pub use counted::Counted;

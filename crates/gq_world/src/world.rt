@@ -6,8 +6,9 @@ ghost use Rattle.gq_world.specs.Writes.{IsFront, IsRaised};
 ghost use Rattle.gq_world.specs.Worlds.{IsTurn, StopsWriting};
 
 use crate::counted::{Counted, put};
+use crate::line::labelled;
 use arrayvec::ArrayVec;
-use gq_init::scenario::{GREATEST_LABEL, LeafNo};
+use gq_init::scenario::LeafNo;
 use gq_machine::event::Event;
 use gq_machine::machine::Machine;
 use std::io::Write;
@@ -41,35 +42,6 @@ impl Model for World {
     ghost view = { λ w. record { scenario = w.machine.scenario; world = w.machine.world; stopped = w.stopped } };
 
     ghost invariant = { λ w. ∥ IsSound w.machine.scenario w.machine.world ∥₁ };
-}
-
-/// The greatest number of bytes of a line of a leaf.
-const GREATEST_LINE: usize = GREATEST_LABEL + 64 + 4;
-
-/// Puts bytes at the end of a line.
-fn extend(line: &mut ArrayVec<u8, GREATEST_LINE>, bytes: &[u8])
-    requires { length line.old.items + length bytes.now ≤ GREATEST_LINE }
-    ensures { line.new.items ≡ line.old.items ++ bytes.now }
-{
-    match line.try_extend_from_slice(bytes) {
-        Ok(()) => (),
-        Err(_) => unreachable!(),
-    }
-}
-
-/// The line of a leaf with this label.
-fn labelled(label: &[u8], text: &[u8]) -> ArrayVec<u8, GREATEST_LINE>
-    requires label { length label.now ≤ GREATEST_LABEL }
-    requires text { length text.now ≤ 64 }
-    ensures { result.items ≡ codes "[" ++ label.now ++ codes "] " ++ text.now ++ 10 ∷ [] }
-{
-    let mut line = ArrayVec::new();
-    extend(&mut line, b"[");
-    extend(&mut line, label);
-    extend(&mut line, b"] ");
-    extend(&mut line, text);
-    extend(&mut line, b"\n");
-    line
 }
 
 impl World {

@@ -1,5 +1,4 @@
-use Rattle.std.proofs.Common.{◌≡◌, ◌∷◌, sym, ap, ◌∙◌, option_map}
-use Rattle.gq_init.specs.Lines.{lines_left}
+use Rattle.std.proofs.Common.{sym, ◌∙◌}
 use Rattle.gq_init.proofs.Pieces.{lines-piece, is_some-map}
 use Rattle.gq_init.proofs.lines.next_line.Goals as goal
 

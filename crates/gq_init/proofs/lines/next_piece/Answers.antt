@@ -1,6 +1,5 @@
-use Rattle.std.proofs.Common.{◌≡◌, ◌==◌, ◌+◌, length, drop, sym, ap, ◌∙◌, arith, take, ◌∷◌}
+use Rattle.std.proofs.Common.{◌+◌, sym, ◌∙◌, arith}
 use Rattle.std.proofs.lemmas.List.{take_rest}
-use Rattle.gq_model.specs.Letters.{pieces}
 use Rattle.gq_init.proofs.Pieces.{pieces_here, pieces_more, pieces_last}
 use Rattle.gq_init.proofs.lines.next_piece.Goals as goal
 

@@ -1,5 +1,4 @@
-use Rattle.std.proofs.Common.{◌≡◌, ◌∷◌, ◌==◌, true, Option, Some, None, refl, sym, ◌∙◌}
-use Rattle.gq_model.specs.Letters.{is_name, pieces}
+use Rattle.std.proofs.Common.{Some, None, refl, sym, ◌∙◌}
 use Rattle.gq_model.specs.Scenario.{components}
 use Rattle.gq_model.specs.Routes.{numbered}
 use Rattle.gq_init.proofs.Counts.{turn_in-named}

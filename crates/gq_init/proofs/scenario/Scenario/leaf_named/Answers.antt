@@ -1,7 +1,6 @@
-use Rattle.std.proofs.Common.{◌≡◌, ℕ, ◌+◌, ◌<◌, ◌≤◌, ap, sym, ◌∙◌, true, false, cond, Option, Some, None, length, get_or, drop, arith, refl}
+use Rattle.std.proofs.Common.{◌≡◌, ◌≤◌, ap, sym, ◌∙◌, true, false, Some, None, length, arith, refl}
 use Rattle.std.proofs.lemmas.List.{drop_all}
-use Rattle.gq_model.specs.Scenario.{LeafNode, components}
-use Rattle.gq_model.specs.Routes.{numbered}
+use Rattle.gq_model.specs.Scenario.{LeafNode}
 use Rattle.gq_model.specs.Program.{text_eq}
 use Rattle.gq_init.proofs.Components.{text_eq-pointwise, place_of, place_of-drop, numbered-leaf_scenario}
 use Rattle.gq_init.proofs.scenario.Scenario.leaf_named.Goals as goal

@@ -1,6 +1,5 @@
-use Rattle.std.proofs.Common.{◌≡◌, ap, arith, sym}
-use Rattle.gq_model.specs.Scenario.{LeafNode, As_text}
-use Rattle.gq_model.specs.Sources.{program_from}
+use Rattle.std.proofs.Common.{◌≡◌, ap, arith}
+use Rattle.gq_model.specs.Scenario.{LeafNode}
 use Rattle.gq_init.proofs.Components.{length-components, component_at}
 use Rattle.gq_init.proofs.scenario.Scenario.name.Goals as goal
 

@@ -1,7 +1,8 @@
-use Rattle.std.proofs.Common.{◌≡◌, ◌∙◌, refl, ap, arith, sym, subst}
-use Rattle.gq_init.specs.Leaves.{IsBareLeaf}
+use Rattle.std.proofs.Common.{◌≡◌, ◌∙◌, refl, ap, arith, sym}
 use Rattle.gq_model.specs.Scenario.{LeafNode, As_text}
 use Rattle.gq_model.specs.Sources.{program_from}
+use Rattle.std.proofs.Common.{subst}
+use Rattle.gq_init.specs.Leaves.{IsBareLeaf}
 use Rattle.gq_init.proofs.Components.{length-components, component_at}
 use Rattle.gq_init.proofs.scenario.Scenario.program_text.Goals as goal
 

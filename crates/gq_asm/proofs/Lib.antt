@@ -1,0 +1,4 @@
+pub mod Fronts
+pub mod Statement_reads
+pub mod Blocks
+pub mod Orders

@@ -1,0 +1,143 @@
+// Lines outside sections.
+ghost use Rattle.std.specs.Prelude.{◌≡◌, is_some};
+ghost use Rattle.gq_model.specs.Program.{same_section, section_in};
+ghost use Rattle.gq_model.specs.Letters.{words};
+ghost use Rattle.gq_model.specs.Text.{numbered, limit_of, heading, local, outside};
+ghost use Rattle.gq_asm.specs.State.{Gives, reading_of};
+
+use crate::faults::LineError;
+use crate::operands::{at_end, next_number};
+use crate::reading::{BlockKind, Reading};
+use gq_code::Body;
+use gq_code::spelling::same_text;
+use gq_model::fault::TextFault;
+use gq_model::program::Section;
+use std::alloc::Global;
+
+/// Whether two sections are the same.
+pub fn same_section(section: Section, other: Section) -> bool
+    ensures { result ≡ same_section section other }
+{
+    match (section, other) {
+        (Section::Main, Section::Main) | (Section::Opening, Section::Opening) => true,
+        (Section::Upgrading(level), Section::Upgrading(other)) => level == other,
+        (Section::Calling(level), Section::Calling(other)) => level == other,
+        (Section::Closing(level), Section::Closing(other)) => level == other,
+        _ => false,
+    }
+}
+
+/// The limit of a local, if it was given.
+pub fn limit_of(limits: &[(u8, u32)], local: u8) -> Option<u32>
+    ensures { result ≡ limit_of local limits.now }
+{
+    for (given, limit) in limits {
+        if *given == local {
+            return Some(*limit);
+        }
+    }
+    None
+}
+
+/// Whether a section was given.
+fn is_given(sections: &[(Section, Body)], section: Section) -> bool
+    ensures { result ≡ is_some (section_in section sections.now) }
+{
+    for (given, _) in sections {
+        if same_section(section, *given) {
+            return true;
+        }
+    }
+    false
+}
+
+impl Reading {
+    /// `local`: the greatest value of a local.
+    fn local(&mut self, after: &[u8]) -> Result<(), LineError>
+        ensures { Gives (λ _. reading_of self.new) result (local (reading_of self.old) (words after.now)) }
+    {
+        let (local, rest) = next_number(after, 0, 7)?;
+        if limit_of(&self.limits, local as u8).is_some() {
+            return Err(LineError::Fault(TextFault::SectionTwice));
+        }
+        let (limit, rest) = next_number(rest, 0, u32::MAX)?;
+        at_end(rest)?;
+        self.limits.insert(0, (local as u8, limit))?;
+        Ok(())
+    }
+
+    /// The heading of a section.
+    fn heading(
+        &mut self,
+        alloc: Global,
+        line: u64,
+        section: Section,
+        after: &[u8],
+    ) -> Result<(), LineError>
+        ensures { Gives (λ _. reading_of self.new) result (heading (reading_of self.old) line section (words after.now)) }
+    {
+        if is_given(&self.sections, section) {
+            return Err(LineError::Fault(TextFault::SectionTwice));
+        }
+        at_end(after)?;
+        self.open(alloc, BlockKind::Section(section), line)
+    }
+
+    /// `up`.
+    fn upgrading(&mut self, alloc: Global, line: u64, after: &[u8]) -> Result<(), LineError>
+        ensures { Gives (λ _. reading_of self.new) result (numbered 1 3 (words after.now) (λ l more. heading (reading_of self.old) line (Section.Upgrading l) more)) }
+    {
+        let (level, rest) = next_number(after, 1, 3)?;
+        self.heading(alloc, line, Section::Upgrading(level as u8), rest)
+    }
+
+    /// `call`.
+    fn calling(&mut self, alloc: Global, line: u64, after: &[u8]) -> Result<(), LineError>
+        ensures { Gives (λ _. reading_of self.new) result (numbered 0 3 (words after.now) (λ l more. heading (reading_of self.old) line (Section.Calling l) more)) }
+    {
+        let (level, rest) = next_number(after, 0, 3)?;
+        self.heading(alloc, line, Section::Calling(level as u8), rest)
+    }
+
+    /// `close`.
+    fn closing(&mut self, alloc: Global, line: u64, after: &[u8]) -> Result<(), LineError>
+        ensures { Gives (λ _. reading_of self.new) result (numbered 0 3 (words after.now) (λ l more. heading (reading_of self.old) line (Section.Closing l) more)) }
+    {
+        let (level, rest) = next_number(after, 0, 3)?;
+        self.heading(alloc, line, Section::Closing(level as u8), rest)
+    }
+
+    /// A line outside sections: its first word, and what follows that.
+    pub fn outside(
+        &mut self,
+        alloc: Global,
+        line: u64,
+        word: &[u8],
+        after: &[u8],
+    ) -> Result<(), LineError>
+        ensures { Gives (λ _. reading_of self.new) result (outside (reading_of self.old) line word.now (words after.now)) }
+    {
+        if same_text(word, b"local") {
+            return self.local(after);
+        }
+        if same_text(word, b"main") {
+            return self.heading(alloc, line, Section::Main, after);
+        }
+        if same_text(word, b"open") {
+            return self.heading(alloc, line, Section::Opening, after);
+        }
+        if same_text(word, b"up") {
+            return self.upgrading(alloc, line, after);
+        }
+        if same_text(word, b"call") {
+            return self.calling(alloc, line, after);
+        }
+        if same_text(word, b"close") {
+            return self.closing(alloc, line, after);
+        }
+        if same_text(word, b"end") || same_text(word, b"else") {
+            return Err(LineError::Fault(TextFault::StrayEnd));
+        }
+        Err(LineError::Fault(TextFault::UnknownWord))
+    }
+}

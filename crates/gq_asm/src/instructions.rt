@@ -1,0 +1,104 @@
+// Statements by the shape of their operands. Each function takes what follows the statement's word on its line.
+ghost use Rattle.std.specs.Prelude.{◌≡◌};
+ghost use Rattle.gq_model.specs.Letters.{words};
+ghost use Rattle.gq_model.specs.Spelling.{instruction_in};
+ghost use Rattle.gq_code.specs.Spelling.{shape_of};
+
+use crate::operands::{at_end, next_name, next_number, next_slot, next_slot_or_object};
+use crate::says::said_in;
+use gq_code::spelling::{Bare, Shape, WithAmount, WithBytes, WithNumber, WithSlot};
+use gq_model::fault::TextFault;
+use gq_model::program::Instruction;
+
+/// Without operands.
+fn plain(statement: Bare, after: &[u8]) -> Result<Instruction, TextFault>
+    ensures { result ≡ instruction_in after.now (shape_of (Shape.Plain statement)) (words after.now) }
+{
+    at_end(after)?;
+    Ok(statement.instruction())
+}
+
+/// With a number.
+fn with_number(statement: WithNumber, after: &[u8]) -> Result<Instruction, TextFault>
+    ensures { result ≡ instruction_in after.now (shape_of (Shape.Number statement)) (words after.now) }
+{
+    let (number, rest) = next_number(after, statement.low(), statement.high())?;
+    at_end(rest)?;
+    Ok(statement.instruction(number))
+}
+
+/// With a slot.
+fn with_slot(statement: WithSlot, after: &[u8]) -> Result<Instruction, TextFault>
+    ensures { result ≡ instruction_in after.now (shape_of (Shape.Slot statement)) (words after.now) }
+{
+    let (place, rest) = next_slot(after)?;
+    at_end(rest)?;
+    Ok(statement.instruction(place))
+}
+
+/// With a slot, or the object, whose bytes are meant.
+fn with_bytes(statement: WithBytes, after: &[u8]) -> Result<Instruction, TextFault>
+    ensures { result ≡ instruction_in after.now (shape_of (Shape.Bytes statement)) (words after.now) }
+{
+    let (place, rest) = next_slot_or_object(after)?;
+    at_end(rest)?;
+    Ok(statement.instruction(place))
+}
+
+/// With a slot and a number.
+fn with_amount(statement: WithAmount, after: &[u8]) -> Result<Instruction, TextFault>
+    ensures { result ≡ instruction_in after.now (shape_of (Shape.Amount statement)) (words after.now) }
+{
+    let (place, rest) = next_slot(after)?;
+    let (number, rest) = next_number(rest, statement.low(), statement.high())?;
+    at_end(rest)?;
+    Ok(statement.instruction(place, number))
+}
+
+/// `pool`: a slot, how many entries, and the bytes of each.
+fn pool(after: &[u8]) -> Result<Instruction, TextFault>
+    ensures { result ≡ instruction_in after.now (shape_of Shape.Pool) (words after.now) }
+{
+    let (place, rest) = next_slot(after)?;
+    let (entries, rest) = next_number(rest, 1, 2048)?;
+    let (bytes, rest) = next_number(rest, 1, 1024)?;
+    at_end(rest)?;
+    Ok(Instruction::MakePool(place, entries as u16, bytes as u16))
+}
+
+/// `open`: a slot, the name of a service, and the donation.
+fn open(after: &[u8]) -> Result<Instruction, TextFault>
+    ensures { result ≡ instruction_in after.now (shape_of Shape.Open) (words after.now) }
+{
+    let (place, rest) = next_slot(after)?;
+    let (service, rest) = next_name(rest)?;
+    let (donation, rest) = next_number(rest, 0, u32::MAX)?;
+    at_end(rest)?;
+    Ok(Instruction::Open(place, service, donation))
+}
+
+/// `say`: a text between quotation marks.
+fn say(after: &[u8]) -> Result<Instruction, TextFault>
+    ensures { result ≡ instruction_in after.now (shape_of Shape.Say) (words after.now) }
+{
+    match said_in(after) {
+        Some(text) => Ok(Instruction::Say(text)),
+        None => Err(TextFault::BadText),
+    }
+}
+
+/// A statement, or the first fault from left to right.
+pub fn instruction(shape: Shape, after: &[u8]) -> Result<Instruction, TextFault>
+    ensures { result ≡ instruction_in after.now (shape_of shape) (words after.now) }
+{
+    match shape {
+        Shape::Say => say(after),
+        Shape::Plain(statement) => plain(statement, after),
+        Shape::Number(statement) => with_number(statement, after),
+        Shape::Slot(statement) => with_slot(statement, after),
+        Shape::Bytes(statement) => with_bytes(statement, after),
+        Shape::Amount(statement) => with_amount(statement, after),
+        Shape::Pool => pool(after),
+        Shape::Open => open(after),
+    }
+}

@@ -1,0 +1,38 @@
+// Slots.
+ghost use Rattle.std.specs.Prelude.{◌≡◌, true};
+ghost use Rattle.gq_model.specs.Spelling.{slot_number, numbered_slot, slot_in};
+
+use crate::numbers::number_in;
+use gq_code::spelling::same_text;
+use gq_model::program::Place;
+
+/// The number of a slot, up to high, without a leading zero.
+fn slot_number(text: &[u8], high: u8) -> Option<u8>
+    ensures { result ≡ slot_number high text.now }
+{
+    if let [b'0', _, ..] = text {
+        return None;
+    }
+    Some(number_in(text, 2, 0, high as u32)? as u8)
+}
+
+/// `o0` to `o63`, or `s0` to `s7`.
+pub fn numbered_slot(word: &[u8]) -> Option<Place>
+    ensures { result ≡ numbered_slot word.now }
+{
+    match word {
+        [b'o', number @ ..] => Some(Place::Own(slot_number(number, 63)?)),
+        [b's', number @ ..] => Some(Place::Shared(slot_number(number, 7)?)),
+        _ => None,
+    }
+}
+
+/// A slot, or `obj`.
+pub fn slot_or_object(word: &[u8]) -> Option<Place>
+    ensures { result ≡ slot_in true word.now }
+{
+    if same_text(word, b"obj") {
+        return Some(Place::Object);
+    }
+    numbered_slot(word)
+}

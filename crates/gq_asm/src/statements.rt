@@ -1,0 +1,76 @@
+// Lines in a section.
+ghost use Rattle.std.specs.Prelude.{Ok};
+ghost use Rattle.gq_model.specs.Letters.{words};
+ghost use Rattle.gq_model.specs.Spelling.{spellings, shape_of_word, found, instruction_in};
+ghost use Rattle.gq_model.specs.declared.fault.TextFault.TheVariants.{UnknownWord};
+ghost use Rattle.gq_model.specs.Text.{First_arm, Loop_body, at_end, numbered, opening, counted, nested, put, statement};
+ghost use Rattle.gq_asm.specs.State.{Gives, reading_of};
+
+use crate::faults::LineError;
+use crate::instructions::instruction;
+use crate::operands::{at_end, next_number};
+use crate::reading::{BlockKind, Reading};
+use gq_code::Statement;
+use gq_code::spelling::{same_text, shape_of_word};
+use gq_model::fault::TextFault;
+use std::alloc::Global;
+
+impl Reading {
+    /// `if`: opens its first arm.
+    fn open_if(&mut self, alloc: Global, line: u64, after: &[u8]) -> Result<(), LineError>
+        ensures { Gives (λ _. reading_of self.new) result (nested (reading_of self.old) (λ s. at_end (words after.now) (Ok (opening s First_arm line)))) }
+    {
+        self.count_statement()?;
+        self.find_room()?;
+        at_end(after)?;
+        self.open(alloc, BlockKind::FirstArm, line)
+    }
+
+    /// `loop`: opens its body.
+    fn open_loop(&mut self, alloc: Global, line: u64, after: &[u8]) -> Result<(), LineError>
+        ensures { Gives (λ _. reading_of self.new) result (nested (reading_of self.old) (λ s. numbered 1 65535 (words after.now) (λ n more. at_end more (Ok (opening s (Loop_body n) line))))) }
+    {
+        self.count_statement()?;
+        self.find_room()?;
+        let (count, rest) = next_number(after, 1, 65535)?;
+        at_end(rest)?;
+        self.open(alloc, BlockKind::Loop(count as u16), line)
+    }
+
+    /// A statement of the table.
+    fn plain(&mut self, word: &[u8], after: &[u8]) -> Result<(), LineError>
+        ensures { Gives (λ _. reading_of self.new) result (found (shape_of_word word.now spellings) UnknownWord (λ shape. counted (reading_of self.old) (λ s. put s (instruction_in after.now shape (words after.now))))) }
+    {
+        let Some(shape) = shape_of_word(word) else {
+            return Err(LineError::Fault(TextFault::UnknownWord));
+        };
+        self.count_statement()?;
+        let statement = instruction(shape, after)?;
+        self.add(Statement::Plain(statement))
+    }
+
+    /// A line in a section: its first word, and what follows that.
+    pub fn statement(
+        &mut self,
+        alloc: Global,
+        line: u64,
+        word: &[u8],
+        after: &[u8],
+    ) -> Result<(), LineError>
+        ensures { Gives (λ _. reading_of self.new) result (statement (reading_of self.old) line word.now (words after.now) after.now) }
+    {
+        if same_text(word, b"end") {
+            return self.end(alloc, after);
+        }
+        if same_text(word, b"else") {
+            return self.other_arm(alloc, after);
+        }
+        if same_text(word, b"if") {
+            return self.open_if(alloc, line, after);
+        }
+        if same_text(word, b"loop") {
+            return self.open_loop(alloc, line, after);
+        }
+        self.plain(word, after)
+    }
+}

@@ -1,0 +1,176 @@
+// A text, line by line.
+ghost use Rattle.std.specs.Prelude.{◌≡◌, ◌∷◌, [], IsTrue, IfOk, MatchOption};
+ghost use Rattle.gq_model.specs.Program.{section_in};
+ghost use Rattle.gq_model.specs.Letters.{words};
+ghost use Rattle.gq_model.specs.Text.{limit_of, limit_or_greatest, limits_from, in_order, finished, line_read, is_comment, assembled};
+ghost use Rattle.gq_asm.specs.State.{Gives, reading_of};
+ghost use Rattle.gq_asm.specs.Faults.{Assembles};
+ghost use Rattle.gq_asm.specs.Order.{without, IsFirstAt, IsAbsent, is_distinct};
+
+use crate::faults::{AssembleError, LineError};
+use crate::headings::{limit_of, same_section};
+use crate::lines::first_line;
+use crate::reading::Reading;
+use crate::words::next_word;
+use gq_code::program::LOCALS;
+use gq_code::{Body, Program};
+use gq_model::fault::TextFault;
+use gq_model::program::Section;
+use std::alloc::{AllocError, Global};
+
+/// The sections in their order.
+const ALL_SECTIONS: [Section; 13] = [
+    Section::Main,
+    Section::Opening,
+    Section::Upgrading(1),
+    Section::Upgrading(2),
+    Section::Upgrading(3),
+    Section::Calling(0),
+    Section::Calling(1),
+    Section::Calling(2),
+    Section::Calling(3),
+    Section::Closing(0),
+    Section::Closing(1),
+    Section::Closing(2),
+    Section::Closing(3),
+];
+
+/// Whether the first word of a line begins a comment.
+fn is_comment(word: &[u8]) -> bool
+    ensures { result ≡ is_comment word.now }
+{
+    match word {
+        [first, ..] => *first == b'#',
+        [] => false,
+    }
+}
+
+/// The greatest value of a local: its limit, or any.
+fn greatest_value(limits: &[(u8, u32)], local: u8) -> u32
+    ensures { result ≡ limit_or_greatest (limit_of local limits.now) }
+{
+    match limit_of(limits, local) {
+        Some(limit) => limit,
+        None => u32::MAX,
+    }
+}
+
+/// The greatest values of the locals.
+fn greatest_values(limits: &[(u8, u32)]) -> [u32; LOCALS]
+    ensures { result ≡ limits_from limits.now (0 ∷ 1 ∷ 2 ∷ 3 ∷ 4 ∷ 5 ∷ 6 ∷ 7 ∷ []) }
+{
+    [
+        greatest_value(limits, 0),
+        greatest_value(limits, 1),
+        greatest_value(limits, 2),
+        greatest_value(limits, 3),
+        greatest_value(limits, 4),
+        greatest_value(limits, 5),
+        greatest_value(limits, 6),
+        greatest_value(limits, 7),
+    ]
+}
+
+/// Where a section stands.
+fn place_of(given: &[(Section, Body)], section: Section) -> Option<usize>
+    ensures { MatchOption result (IsAbsent section given.now) (IsFirstAt section given.now) }
+{
+    for (i, (name, _)) in given.iter().enumerate() {
+        if same_section(section, *name) {
+            return Some(i);
+        }
+    }
+    None
+}
+
+/// Takes a section out.
+fn take_section(given: &mut Vec<(Section, Body)>, section: Section) -> Option<Body>
+    ensures body { result ≡ section_in section given.old.items }
+    ensures rest { given.new.items ≡ without section given.old.items }
+{
+    let place = place_of(given, section)?;
+    let (_, body) = given.remove(place);
+    Some(body)
+}
+
+/// The sections that are there, in this order.
+fn in_order(
+    alloc: Global,
+    given: Vec<(Section, Body)>,
+    order: &[Section],
+) -> Result<Vec<(Section, Body)>, AllocError>
+    requires { IsTrue (is_distinct order.now) }
+    ensures { IfOk result (λ v. v.items ≡ in_order given.items order.now) }
+{
+    let mut given = given;
+    let mut sections = Vec::new(alloc);
+    for section in order {
+        if let Some(body) = take_section(&mut given, *section) {
+            sections.push((*section, body))?;
+        }
+    }
+    Ok(sections)
+}
+
+impl Reading {
+    /// Reads a line by its words. One without words and a comment say nothing.
+    pub fn read_line(&mut self, alloc: Global, number: u64, line: &[u8]) -> Result<(), LineError>
+        ensures { Gives (λ _. reading_of self.new) result (line_read (reading_of self.old) number line.now (words line.now)) }
+    {
+        let Some((word, after)) = next_word(line) else {
+            return Ok(());
+        };
+        if is_comment(word) {
+            return Ok(());
+        }
+        if self.blocks.front().is_none() {
+            return self.outside(alloc, number, word, after);
+        }
+        self.statement(alloc, number, word, after)
+    }
+
+    /// The program at the end of the text, where every block is closed.
+    fn finish(self, alloc: Global) -> Result<Program, AssembleError>
+        ensures { let r = reading_of self in Assembles result (finished r r.blocks) }
+    {
+        let Reading {
+            limits,
+            sections,
+            count: _,
+            mut blocks,
+        } = self;
+        if let Some(block) = blocks.pop_front() {
+            return Err(AssembleError::Fault {
+                fault: TextFault::Unclosed,
+                line: block.line,
+            });
+        }
+        let locals = greatest_values(&limits);
+        let sections = in_order(alloc, sections, &ALL_SECTIONS)?;
+        Ok(Program::new(sections, locals))
+    }
+}
+
+/// The program that a text spells. A text that spells none is refused with its first fault and the number of that
+/// one's line, from 1; so is one where host memory is refused. It takes time in proportion to the text's length, and host
+/// memory of at most a constant for each statement of the text, of which there are at most 4096.
+pub fn assemble(alloc: Global, text: &[u8]) -> Result<Program, AssembleError>
+    ensures { Assembles result (assembled text.now) }
+{
+    let mut reading = Reading::new(alloc);
+    let mut number: u64 = 1;
+    let mut left = Some(text);
+    while let Some(rest) = left {
+        let (line, after) = first_line(rest);
+        if let Err(error) = reading.read_line(alloc, number, line) {
+            return Err(error.on_line(number));
+        }
+        // No text has so many lines.
+        let Some(next) = number.checked_add(1) else {
+            return Err(AssembleError::Memory(AllocError));
+        };
+        number = next;
+        left = after;
+    }
+    reading.finish(alloc)
+}
