@@ -1,13 +1,18 @@
 // What is said of a program before it runs.
-ghost use Rattle.std.specs.Prelude.{◌≡◌, ◌+◌, ◌≤◌, ◌∷◌, [], true, false, Some, None, MatchOption, is_some, IsTrue};
+ghost use Rattle.std.specs.Prelude.{◌≡◌, ◌+◌, ◌≤◌, ◌∷◌, [], true, false, Some, None, MatchOption, IfSome, IfNone, is_some, IsTrue};
 ghost use Rattle.gq_model.specs.Program.{size, all_sections, section_in};
 ghost use Rattle.gq_model.specs.Verdict.{first_unwanted};
+ghost use Rattle.gq_model.specs.Lists.{all_of};
+ghost use Rattle.gq_model.specs.Operands.{in_range, operands};
+ghost use Rattle.gq_model.specs.Code.{is_body};
+ghost use Rattle.gq_machine.specs.Plain as machine;
 ghost use Rattle.gq_world.specs.Plain.{is_plain_instruction, is_plain, is_plain_program, main_of, plain_subject};
 ghost use Rattle.gq_world.specs.Depths.{depth_after, main_fault};
 ghost use Rattle.gq_world.specs.Judgements.{judgement_of, judged_as, first_unaccepted};
 
 use gq_code::{Body, Instruction, Program, Section, Statement};
 use gq_model::fault::Rule;
+use gq_model::letters::is_said;
 
 /// What is said of a program that provides no service.
 #[derive(Clone, Copy, Debug, PartialEq, Eq)]
@@ -74,17 +79,24 @@ fn first_unwanted(program: &Program) -> Option<Section>
 
 /// Whether an instruction says a text, or pushes or prints a number.
 fn is_plain_instruction(instruction: &Instruction) -> bool
-    ensures { result ≡ is_plain_instruction instruction.now }
+    ensures plain { result ≡ is_plain_instruction instruction.now }
+    ensures in_range { result ≡ true → all_of in_range (operands instruction.now) ≡ true }
 {
-    matches!(
-        instruction,
-        Instruction::Say(_) | Instruction::Out | Instruction::Push(_)
-    )
+    match instruction {
+        Instruction::Say(text) => is_said(text.as_bytes()),
+        Instruction::Push(number) => {
+            let _number = *number;
+            true
+        }
+        Instruction::Out => true,
+        _ => false,
+    }
 }
 
 /// Whether all statements are plain.
 fn is_plain(body: &Body) -> bool
-    ensures { result ≡ is_plain body.now }
+    ensures plain { result ≡ is_plain body.now }
+    ensures in_range { result ≡ true → is_body 0 body.now ≡ true }
 {
     for statement in body.statements() {
         match statement {
@@ -97,7 +109,8 @@ fn is_plain(body: &Body) -> bool
 
 /// The statements of a plain program.
 fn plain_main(program: &Program) -> Option<&Body>
-    ensures { MatchOption result (is_plain_program program.now ≡ false) (λ body. (program.now.sections ≡ (Section.Main, body.now) ∷ []) × (is_plain body.now ≡ true)) }
+    ensures plain { MatchOption result (is_plain_program program.now ≡ false) (λ body. (program.now.sections ≡ (Section.Main, body.now) ∷ []) × (is_plain body.now ≡ true)) }
+    ensures in_range { IfSome result (λ body. is_body 0 body.now ≡ true) }
 {
     match program.sections() {
         [(Section::Main, body)] if is_plain(body) => Some(body),
@@ -159,7 +172,8 @@ fn in_main(rule: Rule, place: u64) -> Judgement
 /// What is said of a program that provides no service.
 #[tactic(auto, using(crate::proofs::Walks::judged_plain))]
 pub fn judge(program: &Program) -> Judgement
-    ensures { result ≡ judged_as program.now }
+    ensures judged { result ≡ judged_as program.now }
+    ensures runs { result ≡ Judgement.Accepted → machine.is_plain_program program.now ≡ true }
 {
     if let Some(section) = first_unwanted(program) {
         return Judgement::Refused {
@@ -176,7 +190,8 @@ pub fn judge(program: &Program) -> Judgement
 
 /// The place of the first of these programs that is not accepted, from 0, and what is said of it.
 pub fn first_unaccepted(programs: &[Program]) -> Option<(usize, Judgement)>
-    ensures { result ≡ first_unaccepted 0 programs.now }
+    ensures first { result ≡ first_unaccepted 0 programs.now }
+    ensures run { IfNone result (machine.are_plain_programs programs.now ≡ true) }
 {
     for (place, program) in programs.iter().enumerate() {
         let judgement = judge(program);
