@@ -8,3 +8,6 @@ pub mod Steps
 pub mod Told
 pub mod Firsts
 pub mod Turns
+pub mod Loads
+pub mod Sound
+pub mod Accounts

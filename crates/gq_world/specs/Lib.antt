@@ -6,3 +6,5 @@ pub mod Kept
 pub mod Steps
 pub mod Told
 pub mod Worlds
+pub mod Loading
+pub mod Faults

@@ -1,9 +1,11 @@
 //! Worlds: scenarios loaded, turns taken and texts written.
 #![tactic(auto)]
 
+mod account;
 pub mod counted;
 pub mod judge;
 mod line;
+pub mod load;
 pub mod world;
 
 pub use counted::Counted;

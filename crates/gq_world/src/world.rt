@@ -3,7 +3,7 @@ ghost use Rattle.std.specs.Prelude.{◌≡◌, ◌↔◌, ◌<◌, ◌≤◌, �
 ghost use Rattle.gq_model.specs.Scenario.{components, system};
 ghost use Rattle.gq_model.specs.Step.{next};
 ghost use Rattle.gq_world.specs.Writes.{IsFront, IsRaised};
-ghost use Rattle.gq_world.specs.Worlds.{IsTurn, StopsWriting};
+ghost use Rattle.gq_world.specs.Worlds.{IsSound, IsTurn, StopsWriting};
 
 use crate::counted::{Counted, put};
 use crate::line::labelled;
@@ -45,6 +45,19 @@ impl Model for World {
 }
 
 impl World {
+    // The world at the start of a run.
+    pub(crate) fn start(machine: Machine) -> World
+        requires { IsSound machine.scenario machine.world }
+        ensures scenario { result.scenario ≡ machine.scenario }
+        ensures world { result.world ≡ machine.world }
+        ensures running { result.stopped ≡ false }
+    {
+        World {
+            machine,
+            stopped: false,
+        }
+    }
+
     /// One turn of a leaf: one step where it can run. Its line, if it gives one, is written with the leaf's label. After a
     /// failed write the world is stopped. A turn takes no host memory.
     pub fn turn<W: Write>(&mut self, leaf: LeafNo, out: &mut Counted<W>) -> Result<Event, Stop>
