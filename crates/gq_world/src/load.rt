@@ -42,7 +42,9 @@ pub enum LoadFault {
         place: u64,
     },
     /// The program of a leaf has statements that can't be judged yet.
-    NotYet { leaf: Name },
+    NotYet {
+        leaf: Name,
+    },
     /// The quanta of the leaves sum to more than the root has.
     QuantaExceed,
 }
