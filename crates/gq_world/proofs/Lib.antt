@@ -11,3 +11,5 @@ pub mod Turns
 pub mod Loads
 pub mod Sound
 pub mod Accounts
+pub mod Rows
+pub mod Going

@@ -8,3 +8,5 @@ pub mod Told
 pub mod Worlds
 pub mod Loading
 pub mod Faults
+pub mod Written
+pub mod Going

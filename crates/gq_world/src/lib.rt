@@ -6,6 +6,7 @@ pub mod counted;
 pub mod judge;
 mod line;
 pub mod load;
+mod run;
 pub mod world;
 
 pub use counted::Counted;

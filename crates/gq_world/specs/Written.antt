@@ -1,0 +1,32 @@
+-- What a run writes so far, from the texts of a scenario and of its turns.
+use Rattle.std.specs.Prelude.{ℕ, List, [], ◌∷◌, ◌++◌, Result, Ok, Err, codes, decimal}
+use Rattle.gq_model.specs.Scenario.{Scenario, components}
+use Rattle.gq_model.specs.Accounts.{whole}
+use Rattle.gq_model.specs.Accept.{budgets, step_budgets}
+use Rattle.gq_model.specs.Turns.{Turned, turned}
+use Rattle.gq_model.specs.declared.fault.TurnFault.{TurnFault}
+use Rattle.gq_model.specs.declared.fault.TurnFault.TheVariants.{BadLine, NoSuchComponent, TooMany}
+use Rattle.gq_world.specs.Loading.{Fault, fault_text, stage_loaded}
+
+-- what is written, or the line that says why nothing is
+abbrev pub Written : Type 0
+Written = Result (List ℕ) (List ℕ)
+
+abbrev pub refused_with : List ℕ → List ℕ
+refused_with text = codes "trade: " ++ text ++ 10 ∷ []
+
+abbrev pub turn_word : TurnFault → List ℕ
+turn_word BadLine = codes "U1 BadLine"
+turn_word NoSuchComponent = codes "U2 NoSuchComponent"
+turn_word TooMany = codes "U3 TooMany"
+
+abbrev pub written_turns : Scenario → Turned → Written
+written_turns s (Ok turns) = Ok (whole s (step_budgets (budgets s)) turns)
+written_turns s (Err fault) = Err (refused_with (turn_word fault.0 ++ codes " line " ++ decimal fault.1))
+
+abbrev pub written_from : Result Scenario Fault → List ℕ → Written
+written_from (Ok s) turns = written_turns s (turned (components s) turns)
+written_from (Err fault) turns = Err (refused_with (fault_text fault))
+
+abbrev pub stage_written : List ℕ → List ℕ → Written
+stage_written scenario turns = written_from (stage_loaded scenario) turns
