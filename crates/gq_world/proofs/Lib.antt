@@ -13,3 +13,4 @@ pub mod Sound
 pub mod Accounts
 pub mod Rows
 pub mod Going
+pub mod Below
