@@ -1,10 +1,10 @@
 -- Accounts of leaves that have no session.
-use Rattle.std.proofs.Common.{◌≡◌, ℕ, zero, suc, ◌+◌, ◌-◌, ◌<◌, ◌≤◌, Bool, true, false, List, [], ◌∷◌, ◌++◌, length, map, drop, sum, Option, Some, None, IfSome, refl, ap, sym, ◌∙◌, subst, arith, codes}
+use Rattle.std.proofs.Common.{◌≡◌, ℕ, zero, suc, ◌+◌, ◌-◌, ◌≤◌, true, List, [], ◌∷◌, ◌++◌, length, map, drop, sum, Option, Some, IfSome, refl, ap, sym, ◌∙◌, subst, arith, codes}
 use Rattle.std.specs.Prelude.{slice_get, slice_index, option_map}
 use Rattle.std.proofs.lemmas.List.{length-map}
 use Rattle.std.proofs.lemmas.Option.{slice_get-map}
-use Rattle.gq_model.specs.Amounts.{Resource, Ram, Caps, Amount, part}
-use Rattle.gq_model.specs.Scenario.{Route, LeafNode, Nodes, End, Leaf_node, Init_node, Level, Component, System, Scenario, components_of, components, system}
+use Rattle.gq_model.specs.Amounts.{Resource, Ram, Caps}
+use Rattle.gq_model.specs.Scenario.{Route, Nodes, End, Leaf_node, Init_node, Level, Component, System, Scenario, components_of, components, system}
 use Rattle.gq_model.specs.World.{Leaf, World}
 use Rattle.gq_model.specs.Sums.{handed, held, quota}
 use Rattle.gq_model.specs.Accounts.{amount_in, leaf_count, handed_to, spent, init_quota, Account, init_account, leaf_account, account_at, node_accounts, accounts}

@@ -1,11 +1,11 @@
 -- Plain programs and their leaves.
-use Rattle.std.proofs.Common.{◌≡◌, ℕ, Bool, true, false, ◌&&◌, List, [], ◌∷◌, get_or, refl, ap, sym, ◌∙◌}
-use Rattle.gq_model.specs.Program.{Statements, Program, section_in, body_of}
+use Rattle.std.proofs.Common.{◌≡◌, ℕ, true, List, [], ◌∷◌, get_or, ap, sym, ◌∙◌}
+use Rattle.gq_model.specs.Program.{Statements, section_in, body_of}
 use Rattle.gq_model.specs.declared.program.Section.{Section}
 use Rattle.gq_model.specs.declared.program.Section.TheVariants.{Main, Opening, Upgrading, Calling, Closing}
 use Rattle.gq_model.specs.Code.{body_code, is_body}
 use Rattle.gq_machine.specs.Reading.{spelled_by, all_run}
-use Rattle.gq_machine.specs.Plain.{is_plain_body, are_plain_sections}
+use Rattle.gq_machine.specs.Plain.{are_plain_sections}
 use Rattle.gq_machine.proofs.Codes.{both_true, read_code}
 
 -- the first section of a plain program is its `main`

@@ -1,18 +1,17 @@
 -- The start of a machine.
-use Rattle.std.proofs.Common.{◌≡◌, ℕ, zero, suc, ◌+◌, ◌≤◌, ◌<◌, Bool, true, false, ◌&&◌, List, [], ◌∷◌, ◌++◌, length, map, drop, sum, Option, Some, None, IfSome, refl, ap, sym, ◌∙◌, subst, arith, add-one}
+use Rattle.std.proofs.Common.{◌≡◌, ℕ, zero, suc, ◌+◌, ◌<◌, true, ◌&&◌, List, [], ◌∷◌, length, map, drop, sum, Option, IfSome, refl, ap, sym, ◌∙◌, arith, add-one}
 use Rattle.std.proofs.lemmas.List.Sums.{sum_by-cons}
 use Rattle.std.specs.Prelude.{slice_get, is_none}
-use Rattle.gq_model.specs.Amounts.{Ram, part}
+use Rattle.gq_model.specs.Amounts.{Ram}
 use Rattle.gq_model.specs.Program.{Statements, Program, section_in, body_of}
 use Rattle.gq_model.specs.declared.program.Section.{Section}
 use Rattle.gq_model.specs.declared.program.Section.TheVariants.{Main, Opening, Upgrading, Calling, Closing}
-use Rattle.gq_model.specs.declared.phase.Phase.TheVariants.{Running}
 use Rattle.gq_model.specs.Code.{is_body}
 use Rattle.gq_model.specs.Scenario.{Route, Nodes, End, Leaf_node, Init_node, Level, Component, components_of}
 use Rattle.gq_model.specs.World.{Leaf, first_phase, start_leaf, start_leaves}
 use Rattle.gq_model.specs.Resolve.{first_handed, handed_out}
 use Rattle.gq_machine.specs.Reading.{all_run}
-use Rattle.gq_machine.specs.Alone.{State, leaf_of, first}
+use Rattle.gq_machine.specs.Alone.{leaf_of}
 use Rattle.gq_machine.specs.Plain.{are_plain_sections, is_plain_program, are_plain_programs, first_of, are_leaves, stands_alone, all_alone, programs_of, quanta_of}
 use Rattle.gq_machine.specs.Machines.{all_simple, quotas_of}
 use Rattle.gq_machine.proofs.Codes.{both_true}

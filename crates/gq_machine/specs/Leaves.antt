@@ -1,7 +1,7 @@
 -- What a leaf of the machine stands for.
-use Rattle.std.specs.Prelude.{◌≡◌, ℕ, ◌+◌, ◌≤◌, Bool, true, false, List, [], length, drop, reverse}
+use Rattle.std.specs.Prelude.{◌≡◌, ℕ, ◌+◌, ◌≤◌, true, List, length, drop, reverse}
 use Rattle.gq_model.specs.declared.phase.Phase.{Phase}
-use Rattle.gq_model.specs.declared.phase.Phase.TheVariants.{Pending, Running, Blocked, Serving, Handling, Exited}
+use Rattle.gq_model.specs.declared.phase.Phase.TheVariants.{Exited}
 use Rattle.gq_model.specs.Code.{body_code, is_body}
 use Rattle.gq_machine.specs.Reading.{spelled_by, all_run}
 use Rattle.gq_machine.specs.Alone.{State}

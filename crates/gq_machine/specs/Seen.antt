@@ -1,7 +1,6 @@
 -- The machine by its fields.
-use Rattle.std.specs.Prelude.{◌≡◌, ℕ, ◌+◌, ◌<◌, ◌^◌, true, length, sum}
-use Rattle.gq_model.specs.Scenario.{Scenario, components}
-use Rattle.gq_machine.specs.Alone.{State}
+use Rattle.std.specs.Prelude.{◌≡◌, ◌+◌, ◌<◌, ◌^◌, true, length, sum}
+use Rattle.gq_model.specs.Scenario.{components}
 use Rattle.gq_machine.specs.Plain.{are_leaves, all_alone}
 use Rattle.gq_machine.specs.Machines.{Machine, world_of, all_simple, quotas_of}
 use Rattle.gq_machine.specs.declared.machine.Machine.TheInside.{Inside}

@@ -15,7 +15,9 @@ pub(crate) enum Fetched<'a> {
 }
 
 const SAY: u8 = 0x01;
+
 const OUT: u8 = 0x02;
+
 const PUSH: u8 = 0x03;
 
 /// The statement at the front of the code, and the code after it.

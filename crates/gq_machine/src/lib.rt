@@ -5,6 +5,8 @@ pub mod event;
 mod fetch;
 mod leaf;
 pub mod machine;
+#[cfg(test)]
+mod tests;
 
 pub use event::Event;
 pub use gq_model::fault::Wrong;

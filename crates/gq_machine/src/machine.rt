@@ -50,7 +50,11 @@ impl Model for Machine {
 impl Machine {
     /// The machine at the start of a scenario, whose programs these are, in preorder: each leaf has its quantum, and the
     /// root what is left. Refused only for want of host memory.
-    pub fn new(alloc: Global, scenario: &Scenario, programs: Vec<Program>) -> Result<Machine, AllocError>
+    pub fn new(
+        alloc: Global,
+        scenario: &Scenario,
+        programs: Vec<Program>,
+    ) -> Result<Machine, AllocError>
         requires plain { IsPlain scenario.now }
         requires programs { programs.items ≡ programs_of (components scenario.now) }
         requires fits { handed_out Ram scenario.now.nodes ≤ scenario.now.total.ram }
@@ -70,7 +74,11 @@ impl Machine {
 
     /// One turn of a leaf, tested: where the leaf can run it is one step. After it the line has the text that was given,
     /// without label and line feed, and is empty where none was. Where the step is wrong, nothing is changed.
-    pub fn step_tested(&mut self, leaf: LeafNo, line: &mut ArrayVec<u8, LINE>) -> Result<Event, Wrong>
+    pub fn step_tested(
+        &mut self,
+        leaf: LeafNo,
+        line: &mut ArrayVec<u8, LINE>,
+    ) -> Result<Event, Wrong>
         requires { leaf < length (components self.old.scenario) }
         ensures scenario { self.new.scenario ≡ self.old.scenario }
         ensures stepped { IfOk result (λ event. next (system self.old.scenario) self.old.world leaf ≡ Ok (self.new.world, event_of event line.new.items)) }

@@ -17,7 +17,7 @@ abbrev pub AreBelowIn : ℕ → Turned → Type 0
 AreBelowIn n (Ok turns) = AreBelow n turns
 AreBelowIn n (Err fault) = Unit {0}
 
-abbrev Place : ℕ → Option ℕ → Type 0
+abbrev pub Place : ℕ → Option ℕ → Type 0
 Place n o = IfSome o (λ p. p < n)
 
 place_later : (o : Option ℕ) (x n : ℕ) → Place (suc x + n) o → Place (x + suc n) o
@@ -33,7 +33,8 @@ numbered_below x name [] = tt
 numbered_below x name (c ∷ rest) =
     place_by (text_eq name c.node.name) x (length rest) (numbered (suc x) name rest) (place_later (numbered (suc x) name rest) x (length rest) (numbered_below (suc x) name rest))
 
-all_below : (name : List ℕ) (all : List Component) → Place (length all) (numbered 0 name all)
+-- the leaf of a name is there
+pub all_below : (name : List ℕ) (all : List Component) → Place (length all) (numbered 0 name all)
 all_below name all =
     let e : 0 + length all ≡ length all = omega arith in subst (λ n. Place n (numbered 0 name all)) e (numbered_below 0 name all)
 
@@ -73,3 +74,7 @@ from_below all k n (line ∷ rest) =
 
 pub turned_below : (all : List Component) (text : List ℕ) → AreBelowIn (length all) (turned all text)
 turned_below all text = limit_below (nat_le (length text) (2 ^ 24)) (length all) (turns_from all 1 0 (lines text)) (TooMany, 0) (from_below all 1 0 (lines text))
+
+-- so is one that was found
+pub leaf_there : (all : List Component) (name : List ℕ) (found : Option ℕ) → found ≡ numbered 0 name all → IfSome found (λ p. p < length all)
+leaf_there all name found e = subst (λ o. IfSome o (λ p. p < length all)) (sym e) (all_below name all)

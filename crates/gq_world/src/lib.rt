@@ -7,6 +7,8 @@ pub mod judge;
 mod line;
 pub mod load;
 mod run;
+#[cfg(test)]
+mod tests;
 pub mod world;
 
 pub use counted::Counted;

@@ -11,7 +11,12 @@ use gq_init::scenario::LeafNo;
 use std::io::Write;
 
 /// So many turns of a leaf, up to the first whose line is not written whole. They take no host memory.
-pub(crate) fn take_turns<W: Write>(world: &mut World, leaf: LeafNo, count: u32, out: &mut Counted<W>) -> Result<(), WriteFault>
+pub(crate) fn take_turns<W: Write>(
+    world: &mut World,
+    leaf: LeafNo,
+    count: u32,
+    out: &mut Counted<W>,
+) -> Result<(), WriteFault>
     requires leaf { leaf < length (components world.old.scenario) }
     requires running { world.old.stopped ≡ false }
     ensures scenario { world.new.scenario ≡ world.old.scenario }
@@ -31,7 +36,11 @@ pub(crate) fn take_turns<W: Write>(world: &mut World, leaf: LeafNo, count: u32, 
 }
 
 /// All turns of a list, up to the first whose line is not written whole. They take no host memory.
-pub(crate) fn take_all<W: Write>(world: &mut World, turns: &[(LeafNo, u32)], out: &mut Counted<W>) -> Result<(), WriteFault>
+pub(crate) fn take_all<W: Write>(
+    world: &mut World,
+    turns: &[(LeafNo, u32)],
+    out: &mut Counted<W>,
+) -> Result<(), WriteFault>
     requires leaves { AreBelow (length (components world.old.scenario)) turns.now }
     requires running { world.old.stopped ≡ false }
     ensures scenario { world.new.scenario ≡ world.old.scenario }

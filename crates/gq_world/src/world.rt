@@ -1,6 +1,7 @@
 // A world: an accepted scenario that runs.
 ghost use Rattle.std.specs.Prelude.{◌≡◌, ◌↔◌, ◌<◌, ◌≤◌, ◌+◌, ◌++◌, ◌∷◌, [], true, false, length, slice_get, codes, Ok, Err, IfOk, IfErr, IfSome, OnOk};
 ghost use Rattle.gq_model.specs.Scenario.{components, system};
+ghost use Rattle.gq_model.specs.Routes.{numbered};
 ghost use Rattle.gq_model.specs.Step.{next};
 ghost use Rattle.gq_world.specs.Writes.{IsFront, IsRaised};
 ghost use Rattle.gq_world.specs.Worlds.{IsSound, IsTurn, StopsWriting};
@@ -56,6 +57,14 @@ impl World {
             machine,
             stopped: false,
         }
+    }
+
+    /// The leaf of that name, if there is one.
+    pub fn leaf(&self, name: &[u8]) -> Option<LeafNo>
+        ensures place { result ≡ numbered 0 name.now (components self.now.scenario) }
+        ensures there { IfSome result (λ x. x < length (components self.now.scenario)) }
+    {
+        self.machine.scenario().leaf_named(name)
     }
 
     /// One turn of a leaf: one step where it can run. Its line, if it gives one, is written with the leaf's label. After a

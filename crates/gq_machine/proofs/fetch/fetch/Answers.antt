@@ -1,4 +1,4 @@
-use Rattle.std.proofs.Common.{◌≡◌, ◌≢◌, ◌<◌, ◌≤◌, ℕ, suc, List, [], sym, ◌∙◌, subst, ap, length, length-append, arith}
+use Rattle.std.proofs.Common.{◌<◌, ◌≤◌, ℕ, suc, List, sym, ◌∙◌, subst, ap, length, length-append, arith}
 use Rattle.std.specs.Prelude.{slice_get, IfSome}
 use Rattle.gq_model.specs.Program.{spelled, Do}
 use Rattle.gq_model.specs.declared.program.Instruction.TheVariants.{Say, Push}

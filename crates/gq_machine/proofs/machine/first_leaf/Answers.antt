@@ -1,6 +1,4 @@
-use Rattle.std.proofs.Common.{◌≡◌, ap, sym, ◌∙◌, subst, get_or, List}
-use Rattle.gq_model.specs.Program.{Statements}
-use Rattle.gq_model.specs.declared.program.Section.{Section}
+use Rattle.std.proofs.Common.{ap, sym, ◌∙◌, get_or}
 use Rattle.gq_machine.specs.Alone.{first}
 use Rattle.gq_machine.proofs.Plains.{first_section, spells}
 use Rattle.gq_machine.proofs.machine.first_leaf.Goals as goal

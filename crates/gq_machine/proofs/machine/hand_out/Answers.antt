@@ -1,4 +1,4 @@
-use Rattle.std.proofs.Common.{◌≡◌, ℕ, List, ◌+◌, ◌≤◌, ◌∷◌, ◌++◌, drop, sum, ap, sym, ◌∙◌, subst, ◌<◌, length, arith, append_assoc}
+use Rattle.std.proofs.Common.{◌≡◌, ℕ, List, ◌+◌, ◌++◌, drop, sum, ap, sym, ◌∙◌, subst, arith, append_assoc}
 use Rattle.std.specs.Prelude.{slice_get, IfSome}
 use Rattle.gq_model.specs.Scenario.{Component, components}
 use Rattle.gq_machine.specs.Plain.{quanta_of}

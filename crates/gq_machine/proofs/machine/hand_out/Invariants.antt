@@ -1,4 +1,4 @@
-use Rattle.std.proofs.Common.{◌≡◌, ◌+◌, ◌≤◌, ◌++◌, drop, sum}
+use Rattle.std.proofs.Common.{◌≡◌, ◌+◌, ◌++◌, drop, sum}
 use Rattle.gq_model.specs.Scenario.{components}
 use Rattle.gq_machine.specs.Plain.{quanta_of}
 use Rattle.gq_machine.proofs.machine.hand_out.Given as goal

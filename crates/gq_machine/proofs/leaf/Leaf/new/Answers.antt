@@ -1,4 +1,4 @@
-use Rattle.std.proofs.Common.{◌≡◌, ℕ, List, [], reverse, ap, true, refl, arith}
+use Rattle.std.proofs.Common.{ℕ, List, reverse, ap, refl, arith}
 use Rattle.gq_machine.specs.Reading.{spelled_by}
 use Rattle.gq_machine.specs.Alone.{State, first}
 use Rattle.gq_machine.proofs.leaf.Leaf.new.Goals as goal

@@ -1,13 +1,13 @@
-use Rattle.std.proofs.Common.{◌≡◌, ℕ, ◌+◌, ◌-◌, ◌<◌, List, [], ◌∷◌, ◌++◌, length, take, drop, ap, sym, ◌∙◌, subst, refl, arith}
+use Rattle.std.proofs.Common.{◌≡◌, ℕ, ◌+◌, ◌-◌, ◌<◌, List, length, take, drop, ap, ◌∙◌, subst, refl, arith}
 use Rattle.std.specs.Prelude.{Ok}
 use Rattle.std.proofs.lemmas.List.{take_rest}
-use Rattle.gq_model.specs.Doing.{Event, Line, Quiet}
+use Rattle.gq_model.specs.Doing.{Line, Quiet}
 use Rattle.gq_model.specs.declared.program.Instruction.TheVariants.{Say, Out, Push}
 use Rattle.gq_machine.specs.Alone.{State, performed}
 use Rattle.gq_machine.specs.declared.fetch.Fetched.TheVariants as fetched
 use Rattle.gq_machine.specs.Leaves.{leaf_seen}
 use Rattle.gq_machine.specs.declared.leaf.Leaf.TheInside.{Inside}
-use Rattle.gq_machine.proofs.Steps.{todo_of, done_first, fetched_in, said, told, raised}
+use Rattle.gq_machine.proofs.Steps.{done_first, fetched_in, said, told, raised}
 use Rattle.gq_machine.proofs.leaf.Leaf.run.Goals as goal
 
 -- the part of the code that is fetched from
@@ -110,4 +110,3 @@ returns-in-Ok-clause-runs c =
     let m : Inside = record l { position = c.len.result - length after; operands = c.try_push.new.self; steps = l.steps + 1 } in
     let place : c.len.result ≡ length l.code.items = omega (arith, ap length c.deref.ensures.value, c.deref.ensures.len) in
     (done_first l m (Push c.in-Push.number) h.0 after c.self.invariant h.1 h.2 refl (ap (λ n. n - length after) place) refl refl (ap (λ v. v.phase) c.self.view_is ∙ c.requires.running)).stands.runs
-

@@ -1,4 +1,4 @@
-use Rattle.std.proofs.Common.{◌≡◌, ◌≤◌, [], IfSome, length, subst, sym, ap, arith}
+use Rattle.std.proofs.Common.{◌≡◌, [], IfSome, length, subst, ap, arith}
 use Rattle.std.specs.Prelude.{slice_get}
 use Rattle.gq_model.specs.Scenario.{components}
 use Rattle.gq_model.specs.Accounts.{accounts}

@@ -1,11 +1,9 @@
-use Rattle.std.proofs.Common.{◌≡◌, ℕ, ◌+◌, ◌≤◌, List, [], true, map, length, sum, ap, sym, ◌∙◌, subst, codes, arith}
+use Rattle.std.proofs.Common.{◌≡◌, ◌+◌, List, [], map, length, sum, ap, sym, ◌∙◌, codes, arith}
 use Rattle.std.proofs.lemmas.List.{length-map}
-use Rattle.gq_model.specs.Amounts.{Ram}
-use Rattle.gq_model.specs.Scenario.{Scenario, components}
+use Rattle.gq_model.specs.Scenario.{components}
 use Rattle.gq_model.specs.World.{Leaf, World}
-use Rattle.gq_model.specs.Resolve.{handed_out}
 use Rattle.gq_machine.specs.Alone.{leaf_of}
-use Rattle.gq_machine.specs.Plain.{are_leaves, all_alone, are_plain_programs, first_of, programs_of, quanta_of}
+use Rattle.gq_machine.specs.Plain.{are_leaves, all_alone, first_of, programs_of}
 use Rattle.gq_machine.specs.Machines.{all_simple, quotas_of}
 use Rattle.gq_machine.proofs.Starts.{handed_out-leaves, start-alone, all_simple-first, quotas-first}
 use Rattle.gq_machine.proofs.machine.Machine.new.Goals as goal

@@ -1,9 +1,9 @@
-use Rattle.std.proofs.Common.{◌≡◌, ◌≤◌, ◌<◌, ◌+◌, ◌-◌, ℕ, [], IfSome, Some, length, get_or, sum, subst, sym, ap, ◌∙◌, arith}
+use Rattle.std.proofs.Common.{◌≡◌, ◌≤◌, ◌<◌, ◌+◌, ◌-◌, [], IfSome, Some, length, get_or, sum, subst, sym, ap, ◌∙◌, arith}
 use Rattle.std.specs.Prelude.{slice_get}
 use Rattle.std.proofs.lemmas.Option.{slice_get-get_or}
 use Rattle.gq_model.specs.Scenario.{components}
 use Rattle.gq_model.specs.Accounts.{accounts}
-use Rattle.gq_machine.specs.Machines.{Machine, world_of, quotas_of}
+use Rattle.gq_machine.specs.Machines.{Machine}
 use Rattle.gq_machine.proofs.Nexts.{length-quotas_of}
 use Rattle.gq_machine.proofs.Balances.{quota-root, quota-at}
 use Rattle.gq_machine.proofs.machine.Machine.quota.Goals as goal

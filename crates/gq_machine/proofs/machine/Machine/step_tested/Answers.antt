@@ -1,16 +1,14 @@
-use Rattle.std.proofs.Common.{◌≡◌, refl, ℕ, ◌+◌, ◌≤◌, ◌<◌, List, [], true, map, length, sum, get_or, set, Some, ap, sym, ◌∙◌, subst, arith, length-set}
-use Rattle.std.specs.Prelude.{slice_get, slice_set, Ok, Err}
+use Rattle.std.proofs.Common.{◌≡◌, refl, ℕ, ◌<◌, true, length, get_or, Some, ap, sym, ◌∙◌, subst, arith, length-set}
+use Rattle.std.specs.Prelude.{slice_get, slice_set}
 use Rattle.std.proofs.lemmas.Option.{slice_get-get_or}
 use Rattle.std.proofs.lemmas.List.Sums.{sum_by-set}
-use Rattle.gq_model.specs.Scenario.{Scenario, components, system}
-use Rattle.gq_model.specs.declared.fault.Wrong.{Wrong}
-use Rattle.gq_model.specs.Doing.{Stepped, Event}
+use Rattle.gq_model.specs.Scenario.{components, system}
 use Rattle.gq_model.specs.Step.{next}
 use Rattle.gq_machine.specs.Events.{event_of}
 use Rattle.gq_machine.specs.Alone.{State, alone}
 use Rattle.gq_machine.specs.Phases.{runs_or_exited}
 use Rattle.gq_machine.specs.Reading.{all_run}
-use Rattle.gq_machine.specs.Machines.{Machine, world_of, is_simple, all_simple, quotas_of}
+use Rattle.gq_machine.specs.Machines.{Machine, is_simple}
 use Rattle.gq_machine.specs.Seen.{Holds, machine_seen}
 use Rattle.gq_machine.specs.declared.machine.Machine.TheInside.{Inside}
 use Rattle.gq_machine.proofs.Nexts.{lifted, next-at, ran, runs_on, simple_at, all_simple-set, length-quotas_of, quotas_of-kept, quotas_of-ended}
