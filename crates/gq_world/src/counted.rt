@@ -56,6 +56,7 @@ impl<W: Write> Write for Counted<W> {
 
     fn flush(&mut self) -> io::Result<()>
         ensures bytes { Keeps (W.contents self.old.writer) (W.contents self.new.writer) }
+        ensures failures { self.new.failures ≡ self.old.failures }
     {
         self.writer.flush()
     }
