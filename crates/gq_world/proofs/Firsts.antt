@@ -15,7 +15,7 @@ use Rattle.gq_world.specs.Judgements.{judged_as, AreAccepted, unless_accepted, f
 use Rattle.gq_world.proofs.Judged.{accepted, refused}
 use Rattle.gq_world.proofs.Refusals.{Each, IsAcceptedLeaf, bare_components, subject_is, are_accepted, refused_program}
 
-none_by : (x : ℕ) (j : Judgement) (next : Option (ℕ × Judgement)) → unless_accepted x j next ≡ None → (j ≡ Accepted) × (next ≡ None)
+pub none_by : (x : ℕ) (j : Judgement) (next : Option (ℕ × Judgement)) → unless_accepted x j next ≡ None → (j ≡ Accepted) × (next ≡ None)
 none_by x Accepted next e = (refl, e)
 none_by x (Refused rule section place) next e = cc
 none_by x NotYet next e = cc

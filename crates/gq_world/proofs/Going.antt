@@ -1,10 +1,10 @@
 -- Turns, one after the other.
-use Rattle.std.proofs.Common.{◌≡◌, ℕ, zero, suc, ◌+◌, ◌-◌, ◌<◌, ◌≤◌, List, [], ◌∷◌, ◌++◌, take, drop, Option, Some, None, Ok, Err, length, get_or, refl, ap, sym, ◌∙◌, subst, arith, add-one, append_assoc, append-nil}
+use Rattle.std.proofs.Common.{◌≡◌, ℕ, zero, suc, ◌+◌, ◌-◌, ◌<◌, List, [], ◌∷◌, ◌++◌, take, drop, Option, Some, None, Ok, Err, length, get_or, refl, ap, sym, ◌∙◌, subst, arith, add-one, append_assoc, append-nil}
 use Rattle.std.proofs.lemmas.List.{take-append-drop}
 use Rattle.std.proofs.Math.Seq.{drop-cons}
 use Rattle.std.specs.Prelude.{slice_get, false}
 use Rattle.std.specs.Io.KnownBytes.{Appends}
-use Rattle.gq_model.specs.Scenario.{Scenario, System, components, system}
+use Rattle.gq_model.specs.Scenario.{Scenario, System, system}
 use Rattle.gq_model.specs.World as model
 use Rattle.gq_model.specs.Doing as doing
 use Rattle.gq_model.specs.declared.fault.Wrong.{Wrong}
@@ -12,7 +12,6 @@ use Rattle.gq_model.specs.Doing.{Stepped}
 use Rattle.gq_model.specs.Step.{next}
 use Rattle.gq_model.specs.Run.{Ran, label_at, line_of, after_step, turn_from, turns_of, run_on}
 use Rattle.gq_machine.specs.declared.event.Event.{Event}
-use Rattle.gq_world.specs.Writes.{IsFront}
 use Rattle.gq_world.specs.Worlds.{World, IsTurn, StopsWriting, line_told}
 use Rattle.gq_world.specs.Going.{going, AreBelow, HasRun, HasLeft, IsCut}
 use Rattle.gq_world.proofs.Known.{appends_nothing, appends_both}

@@ -14,3 +14,7 @@ pub mod Accounts
 pub mod Rows
 pub mod Going
 pub mod Below
+pub mod Budgets
+pub mod Fronts
+pub mod Lines
+pub mod Whole

@@ -1,5 +1,5 @@
 -- A scenario of leaves without services, capabilities and routes, whose programs are accepted, is sound at its start.
-use Rattle.std.proofs.Common.{◌≡◌, ℕ, zero, suc, ◌+◌, ◌<◌, ◌≤◌, Bool, true, false, List, [], ◌∷◌, length, sum, Option, Some, None, IfSome, refl, ap, sym, ◌∙◌, subst, arith}
+use Rattle.std.proofs.Common.{◌≡◌, ℕ, suc, ◌+◌, ◌<◌, ◌≤◌, Bool, true, List, [], ◌∷◌, length, sum, Option, Some, None, IfSome, refl, ap, sym, ◌∙◌, subst, arith}
 use Rattle.std.proofs.lemmas.Bool.{le-leb, lt-leb}
 use Rattle.std.specs.Prelude.{slice_get, codes, if◌then◌else◌}
 use Rattle.gq_model.specs.Amounts.{Ram}
@@ -18,7 +18,7 @@ use Rattle.gq_machine.proofs.Starts.{handed_out-leaves}
 use Rattle.gq_world.specs.declared.judge.Judgement.{Judgement}
 use Rattle.gq_world.specs.declared.judge.Judgement.TheVariants.{Accepted, Refused, NotYet}
 use Rattle.gq_world.specs.Plain.{AreBare, IsBareScenario}
-use Rattle.gq_world.specs.Judgements.{judged_as, AreAccepted, unless_accepted, first_unaccepted, programs_of}
+use Rattle.gq_world.specs.Judgements.{judged_as, unless_accepted, first_unaccepted, programs_of}
 use Rattle.gq_world.specs.Loading.{Fault, texts_fault, judgement_fault, programs_fault, quanta_fault, scenario_fault}
 use Rattle.gq_world.specs.declared.load.LoadFault.TheVariants as load
 use Rattle.gq_world.specs.Faults.{AreBareComponents, PrintsFault, load_fault_text}

@@ -1,10 +1,9 @@
 -- What a turn of a sound world leaves.
-use Rattle.std.proofs.Common.{◌≡◌, ◌≢◌, ℕ, ◌<◌, List, [], ◌∷◌, ◌++◌, length, Option, Some, None, IfSome, refl, ap, sym, ◌∙◌, subst, codes, zero, suc, arith}
-use Rattle.std.specs.Prelude.{slice_get, Ok, Err, IsOk, Result, is_ok, true}
+use Rattle.std.proofs.Common.{◌≡◌, ◌≢◌, ℕ, ◌<◌, List, [], ◌∷◌, length, Option, Some, IfSome, refl, ap, sym, ◌∙◌, subst, zero, suc, arith}
+use Rattle.std.specs.Prelude.{slice_get, Ok, IsOk, is_ok}
 use Rattle.std.proofs.Math.Logic.{∥∥₁_elim}
 use Rattle.std.specs.Coded.{Coded-set, coded_bool}
-use Rattle.std.specs.Io.KnownBytes.{Appends}
-use Rattle.gq_model.specs.Scenario.{Scenario, Component, components, system}
+use Rattle.gq_model.specs.Scenario.{Scenario, Component, system}
 use Rattle.gq_model.specs.World as model
 use Rattle.gq_model.specs.Doing as doing
 use Rattle.gq_model.specs.Doing.{Stepped}
@@ -14,7 +13,7 @@ use Rattle.gq_machine.specs.Events.{event_of}
 use Rattle.gq_machine.specs.declared.event.Event.{Event}
 use Rattle.gq_machine.specs.declared.event.Event.TheVariants as events
 use Rattle.gq_world.specs.Worlds.{IsSound, shown}
-use Rattle.gq_world.proofs.Runs.{next_goes, Goes}
+use Rattle.gq_world.proofs.Runs.{next_goes}
 use Rattle.gq_world.proofs.Steps.{next_kept}
 
 -- the next step is never wrong

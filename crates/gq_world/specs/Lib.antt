@@ -10,3 +10,5 @@ pub mod Loading
 pub mod Faults
 pub mod Written
 pub mod Going
+pub mod Outcomes
+pub mod Lines

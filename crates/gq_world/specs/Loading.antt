@@ -1,5 +1,5 @@
 -- How a text is loaded so far, and the first reason to refuse it.
-use Rattle.std.specs.Prelude.{◌≡◌, ℕ, List, [], ◌∷◌, ◌++◌, Option, Some, None, Result, Ok, Err, codes, decimal}
+use Rattle.std.specs.Prelude.{ℕ, List, [], ◌∷◌, ◌++◌, Option, Some, None, Result, Ok, Err, codes, decimal}
 use Rattle.gq_model.specs.Amounts.{Ram}
 use Rattle.gq_model.specs.Program.{Program}
 use Rattle.gq_model.specs.declared.fault.TextFault.{TextFault}

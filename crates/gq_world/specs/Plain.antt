@@ -80,9 +80,12 @@ pub record IsPlainScenario (s : Scenario) : Type 0 where
 
 -- BUDGETS
 
--- a plain leaf holds nothing, and takes a step for each statement and one for its end
+-- a plain program holds nothing, and takes a step for each statement and one for its end
+abbrev pub program_budget : Program → Budget
+program_budget p = record { own = amount 0 0; steps = size (main_of p) + 1 }
+
 abbrev pub plain_budget : Component → Budget
-plain_budget c = record { own = amount 0 0; steps = size (main_of c.node.program) + 1 }
+plain_budget c = program_budget c.node.program
 
 abbrev pub plain_budgets : List Component → List Budget
 plain_budgets [] = []

@@ -1,10 +1,11 @@
 -- A world between two turns, what it keeps, and what a turn does.
-use Rattle.std.specs.Prelude.{◌≡◌, ℕ, Bool, true, List, length, slice_get, Option, Ok}
+use Rattle.std.specs.Prelude.{◌≡◌, ℕ, Bool, true, List, slice_get, Option, Ok}
 use Rattle.std.specs.Io.KnownBytes.{Appends}
 use Rattle.gq_model.specs.Scenario.{Scenario, components, system}
 use Rattle.gq_model.specs.World as model
 use Rattle.gq_model.specs.Doing as doing
 use Rattle.gq_model.specs.Step.{next}
+use Rattle.gq_model.specs.Accept.{Budget, budgets}
 use Rattle.gq_model.specs.Run.{label_at, line_of}
 use Rattle.gq_machine.specs.declared.event.Event.{Event}
 use Rattle.gq_machine.specs.declared.event.Event.TheVariants as events
@@ -24,6 +25,11 @@ pub record IsSound (s : Scenario) (w : model.World) : Type 0 where
   pub bare : IsBareScenario s
   pub accepted : AreAccepted s.nodes
   pub kept : IsKept s w
+
+-- such a world, whose truth is all that is kept, with the budgets of its leaves
+pub record IsBudgeted (s : Scenario) (w : model.World) (all : List Budget) : Type 0 where
+  pub sound : ∥ IsSound s w ∥₁
+  pub budgets : all ≡ budgets s
 
 -- what a step shows, without its text
 abbrev pub shown : doing.Event → Event

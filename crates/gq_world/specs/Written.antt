@@ -20,9 +20,16 @@ turn_word BadLine = codes "U1 BadLine"
 turn_word NoSuchComponent = codes "U2 NoSuchComponent"
 turn_word TooMany = codes "U3 TooMany"
 
+abbrev pub turn_fault_text : TurnFault → ℕ → List ℕ
+turn_fault_text fault line = turn_word fault ++ codes " line " ++ decimal line
+
+-- the text of a run by these turns, with the step budgets of the scenario
+unfoldable pub whole_of : Scenario → List (ℕ × ℕ) → List ℕ
+whole_of s turns = whole s (step_budgets (budgets s)) turns
+
 abbrev pub written_turns : Scenario → Turned → Written
-written_turns s (Ok turns) = Ok (whole s (step_budgets (budgets s)) turns)
-written_turns s (Err fault) = Err (refused_with (turn_word fault.0 ++ codes " line " ++ decimal fault.1))
+written_turns s (Ok turns) = Ok (whole_of s turns)
+written_turns s (Err fault) = Err (refused_with (turn_fault_text fault.0 fault.1))
 
 abbrev pub written_from : Result Scenario Fault → List ℕ → Written
 written_from (Ok s) turns = written_turns s (turned (components s) turns)

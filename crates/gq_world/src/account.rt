@@ -1,15 +1,41 @@
 // The lines of the accounts of a scenario whose nodes are leaves under the root.
-ghost use Rattle.std.specs.Prelude.{◌≡◌, ◌≤◌, ◌<◌, ◌+◌, ◌++◌, ◌∷◌, ℕ, List, [], suc, length, slice_get, slice_index, IfSome, codes, decimal};
+ghost use Rattle.std.specs.Prelude.{◌≡◌, ◌≤◌, ◌<◌, ◌+◌, ◌++◌, ◌∷◌, ℕ, List, [], suc, length, slice_get, slice_index, IfSome, OnOk, OnErr, codes, decimal};
 ghost use Rattle.gq_model.specs.Scenario.{components};
 ghost use Rattle.gq_model.specs.Accounts.{phase_word, entry, accounts, account_line};
 ghost use Rattle.gq_world.specs.Worlds.{IsSound};
+ghost use Rattle.gq_world.specs.Lines.{accounts_text};
+ghost use Rattle.gq_world.specs.Writes.{IsFront, IsRaised};
+ghost use Rattle.std.specs.Io.KnownBytes.{Appends};
 
+use crate::counted::{Counted, WriteFault, put};
 use crate::line::{Line, extend, extend_entry, extend_number, phase_word};
+use crate::world::World;
 use arrayvec::ArrayVec;
 use gq_init::node::NodeNo;
 use gq_init::scenario::{GREATEST_LABEL, LeafNo};
 use gq_machine::machine::Machine;
 use gq_model::phase::Phase;
+use std::io::Write;
+
+/// Writes the lines of the accounts of all nodes, up to the first that is not written whole: the root's, then those of the
+/// leaves in preorder. They take no host memory.
+pub(crate) fn write_accounts<W: Write>(
+    world: &World,
+    out: &mut Counted<W>,
+) -> Result<(), WriteFault>
+    ensures written { OnOk result (Appends (W.contents out.old.writer) (W.contents out.new.writer) (accounts_text world.now)) }
+    ensures counted { OnOk result (out.new.failures ≡ out.old.failures) }
+    ensures front { OnErr result (IsFront (W.contents out.old.writer) (W.contents out.new.writer) (accounts_text world.now)) }
+    ensures raised { OnErr result (IsRaised out.old.failures out.new.failures) }
+{
+    let leaves = world.leaf_count();
+    put(out, world.root_line().as_slice())?;
+    for number in 0..leaves {
+        let line = world.leaf_line(LeafNo::new(number as u32));
+        put(out, line.as_slice())?;
+    }
+    Ok(())
+}
 
 /// The line of the root's account: its quota in bytes.
 pub(crate) fn root_line(machine: &Machine) -> Line

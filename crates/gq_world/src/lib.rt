@@ -2,11 +2,12 @@
 #![tactic(auto)]
 
 mod account;
+pub mod budget;
 pub mod counted;
 pub mod judge;
 mod line;
 pub mod load;
-mod run;
+pub mod run;
 #[cfg(test)]
 mod tests;
 pub mod world;

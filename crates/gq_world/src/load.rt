@@ -10,6 +10,7 @@ ghost use Rattle.gq_world.specs.Judgements as judgements;
 ghost use Rattle.gq_world.specs.Loading.{texts_fault, source_fault, programs_fault, scenario_fault, stage_loaded};
 ghost use Rattle.gq_world.specs.Faults.{PrintsFault, GivesFault, Refuses, IsReadFrom, AreBareComponents};
 
+use crate::budget::budgets_of;
 use crate::judge::{Judgement, first_unaccepted};
 use crate::world::World;
 use gq_asm::{AssembleError, assemble};
@@ -182,8 +183,9 @@ fn load_scenario(alloc: Global, scenario: &Scenario) -> Result<World, LoadError>
     if !quanta_fit(scenario) {
         return Err(LoadError::Fault(LoadFault::QuantaExceed));
     }
+    let budgets = budgets_of(alloc, programs.as_slice())?;
     match Machine::new(alloc, scenario, programs) {
-        Ok(machine) => Ok(World::start(machine)),
+        Ok(machine) => Ok(World::start(machine, budgets)),
         Err(_) => Err(LoadError::Memory),
     }
 }

@@ -1,14 +1,36 @@
 // Turns, one after the other.
-ghost use Rattle.std.specs.Prelude.{◌≡◌, ◌<◌, false, length, OnOk, OnErr};
+ghost use Rattle.std.specs.Prelude.{◌≡◌, ◌<◌, false, length, Err, OnOk, OnErr, IfErr};
 ghost use Rattle.gq_model.specs.Scenario.{components, system};
 ghost use Rattle.gq_model.specs.Run.{turns_of, run_on};
-ghost use Rattle.gq_world.specs.Writes.{IsRaised};
+ghost use Rattle.std.specs.Io.KnownBytes.{Appends};
+ghost use Rattle.gq_model.specs.World.{start};
+ghost use Rattle.gq_world.specs.Writes.{IsFront, IsRaised};
 ghost use Rattle.gq_world.specs.Going.{AreBelow, HasRun, IsCut};
+ghost use Rattle.gq_world.specs.Written.{whole_of, stage_written};
+ghost use Rattle.gq_world.specs.Outcomes.{IsWhole, IsCutShort, IsFaultOf, IsBefore};
 
+use crate::account::write_accounts;
 use crate::counted::{Counted, WriteFault};
+use crate::load::{LoadError, LoadFault};
 use crate::world::{Stop, World};
 use gq_init::scenario::LeafNo;
+use gq_init::turns::{TurnsError, read_turns};
+use gq_model::fault::TurnFault;
+use std::alloc::Global;
 use std::io::Write;
+
+/// Why a run did not come to its end.
+#[derive(Drop)]
+pub enum RunFault {
+    /// The scenario is refused.
+    Load(LoadFault),
+    /// The text of the turns is refused, at this line from 1; a text that is too long at line 0.
+    Turns { fault: TurnFault, line: u64 },
+    /// Host memory was refused.
+    Memory,
+    /// A write failed. A front of the text went out.
+    Write,
+}
 
 /// So many turns of a leaf, up to the first whose line is not written whole. They take no host memory.
 pub(crate) fn take_turns<W: Write>(
@@ -53,4 +75,60 @@ pub(crate) fn take_all<W: Write>(
         take_turns(world, *leaf, *count, out)?;
     }
     Ok(())
+}
+
+/// All turns of a list from the start of a scenario, and then the lines of its accounts, up to the first line that is not
+/// written whole. They take no host memory.
+fn run_world<W: Write>(
+    world: &mut World,
+    turns: &[(LeafNo, u32)],
+    out: &mut Counted<W>,
+) -> Result<(), WriteFault>
+    requires start { world.old.world ≡ start (system world.old.scenario) }
+    requires leaves { AreBelow (length (components world.old.scenario)) turns.now }
+    requires running { world.old.stopped ≡ false }
+    ensures written { OnOk result (Appends (W.contents out.old.writer) (W.contents out.new.writer) (whole_of world.old.scenario turns.now)) }
+    ensures counted { OnOk result (out.new.failures ≡ out.old.failures) }
+    ensures front { OnErr result (IsFront (W.contents out.old.writer) (W.contents out.new.writer) (whole_of world.old.scenario turns.now)) }
+    ensures raised { OnErr result (IsRaised out.old.failures out.new.failures) }
+{
+    take_all(world, turns, out)?;
+    write_accounts(world, out)
+}
+
+/// Runs a scenario, a text in TOML, by the turns of a second text: loads it, takes all its turns, and writes the lines that
+/// they give and then the accounts of all nodes. Nothing is written where the scenario or the turns are refused, or where host
+/// memory is, which only loading and reading the turns take.
+pub fn run<W: Write>(
+    alloc: Global,
+    scenario: &[u8],
+    turns: &[u8],
+    out: &mut Counted<W>,
+) -> Result<(), RunFault>
+    // The whole text of the definition was written, and nothing else.
+    ensures written { OnOk result (IsWhole (stage_written scenario.now turns.now) (W.contents out.old.writer) (W.contents out.new.writer)) }
+    ensures counted { OnOk result (out.new.failures ≡ out.old.failures) }
+
+    // The fault is that of the definition.
+    ensures refused { IfErr result (λ fault. IsFaultOf fault (stage_written scenario.now turns.now)) }
+    ensures silent { IfErr result (λ fault. IsBefore fault → out.new ≡ out.old) }
+
+    // A write failed: a front of the text was written.
+    ensures cut { result ≡ Err RunFault.Write → IsCutShort (stage_written scenario.now turns.now) (W.contents out.old.writer) (W.contents out.new.writer) }
+    ensures raised { result ≡ Err RunFault.Write → IsRaised out.old.failures out.new.failures }
+{
+    let mut world = match World::load(alloc, scenario) {
+        Ok(world) => world,
+        Err(LoadError::Memory) => return Err(RunFault::Memory),
+        Err(LoadError::Fault(fault)) => return Err(RunFault::Load(fault)),
+    };
+    let turns = match read_turns(alloc, turns, world.scenario()) {
+        Ok(turns) => turns,
+        Err(TurnsError::Memory(_)) => return Err(RunFault::Memory),
+        Err(TurnsError::Fault { fault, line }) => return Err(RunFault::Turns { fault, line }),
+    };
+    match run_world(&mut world, turns.as_slice(), out) {
+        Ok(()) => Ok(()),
+        Err(_) => Err(RunFault::Write),
+    }
 }

@@ -1,9 +1,10 @@
 //! What the contracts leave open: that a scenario loads, and what is told of one that does not.
 use crate::Counted;
 use crate::load::{LoadError, LoadFault};
+use crate::run::{RunFault, run};
 use crate::world::{Stop, World};
 use gq_machine::event::Event;
-use gq_model::fault::TextFault;
+use gq_model::fault::{TextFault, TurnFault};
 use std::io::Cursor;
 use std::test::Fail;
 
@@ -71,4 +72,68 @@ fn tells_the_first_fault(rt: HostRuntime) {
     assert!(rt; matches!(rounds, Err(LoadError::Fault(LoadFault::NotYet { .. }))));
     let quanta = World::load(rt.alloc(), TOO_LARGE);
     assert!(rt; matches!(quanta, Err(LoadError::Fault(LoadFault::QuantaExceed))));
+}
+
+const HELLO_TEXT: &[u8] =
+    b"[init -> hello] hello\naccount init quota 65536\naccount init -> hello quota 0 used 0 steps 2/2 exited\n";
+
+#[test]
+fn runs_hello_whole(rt: HostRuntime) {
+    let mut text = Vec::new(rt.alloc());
+    let mut out = Counted::new(Cursor::new(&mut text));
+    assert!(rt; run(rt.alloc(), HELLO, b"hello 2", &mut out).is_ok());
+    assert!(rt; out.failures() == 0);
+    assert!(rt; text.as_slice() == HELLO_TEXT);
+}
+
+#[test]
+fn runs_without_turns(rt: HostRuntime) {
+    let mut text = Vec::new(rt.alloc());
+    let mut out = Counted::new(Cursor::new(&mut text));
+    assert!(rt; run(rt.alloc(), HELLO, b"", &mut out).is_ok());
+    assert!(rt;
+        text.as_slice()
+            == b"account init quota 61440\naccount init -> hello quota 4096 used 0 steps 0/2 running\n".as_slice()
+    );
+}
+
+#[test]
+fn writes_nothing_where_a_text_is_refused(rt: HostRuntime) {
+    let mut text = Vec::new(rt.alloc());
+    let mut out = Counted::new(Cursor::new(&mut text));
+    let scenario = run(rt.alloc(), UNKNOWN_WORD, b"hello 2", &mut out);
+    assert!(rt; matches!(scenario, Err(RunFault::Load(LoadFault::Text { .. }))));
+    let turns = run(rt.alloc(), HELLO, b"init 1", &mut out);
+    assert!(rt;
+        matches!(
+            turns,
+            Err(RunFault::Turns {
+                fault: TurnFault::NoSuchComponent,
+                line: 1
+            })
+        )
+    );
+    assert!(rt; text.is_empty());
+}
+
+#[test]
+fn ends_at_a_failed_write(rt: HostRuntime) {
+    let mut page = [0; 10];
+    let mut out = Counted::new(page.as_mut_slice());
+    let cut = run(rt.alloc(), HELLO, b"hello 2", &mut out);
+    assert!(rt; matches!(cut, Err(RunFault::Write)));
+    assert!(rt; out.failures() == 1);
+    assert!(rt; page == *b"[init -> h");
+}
+
+#[test]
+fn knows_budgets_before_the_run(rt: HostRuntime) -> Result<(), Fail> {
+    let Ok(world) = World::load(rt.alloc(), HELLO) else {
+        return Err(Fail::from("a world"));
+    };
+    let [budget] = world.budgets() else {
+        return Err(Fail::from("one budget"));
+    };
+    assert!(rt; budget.own() == 0 && budget.own_caps() == 0 && budget.steps() == 2);
+    Ok(())
 }

@@ -1,15 +1,19 @@
 // A world: an accepted scenario that runs.
-ghost use Rattle.std.specs.Prelude.{◌≡◌, ◌↔◌, ◌<◌, ◌≤◌, ◌+◌, ◌++◌, ◌∷◌, [], true, false, length, slice_get, codes, Ok, Err, IfOk, IfErr, IfSome, OnOk};
+ghost use Rattle.std.specs.Prelude.{◌≡◌, ◌↔◌, ◌<◌, ◌≤◌, ◌+◌, ◌++◌, ◌∷◌, [], true, false, suc, length, slice_get, codes, Ok, Err, IfOk, IfErr, IfSome, OnOk};
 ghost use Rattle.gq_model.specs.Scenario.{components, system};
 ghost use Rattle.gq_model.specs.Routes.{numbered};
 ghost use Rattle.gq_model.specs.Step.{next};
+ghost use Rattle.gq_model.specs.Accept as accept;
 ghost use Rattle.gq_world.specs.Writes.{IsFront, IsRaised};
 ghost use Rattle.gq_world.specs.Worlds.{IsSound, IsTurn, StopsWriting};
+ghost use Rattle.gq_world.specs.Lines.{all_accounts, IsAccountLine};
 
+use crate::account::{leaf_line, root_line};
+use crate::budget::Budget;
 use crate::counted::{Counted, put};
-use crate::line::labelled;
+use crate::line::{Line, labelled};
 use arrayvec::ArrayVec;
-use gq_init::scenario::LeafNo;
+use gq_init::scenario::{LeafNo, Scenario};
 use gq_machine::event::Event;
 use gq_machine::machine::Machine;
 use std::io::Write;
@@ -28,11 +32,12 @@ pub enum Stop {
 #[derive(Drop)]
 pub struct World {
     machine: Machine,
+    budgets: Vec<Budget>,
     stopped: bool,
 }
 
 impl Model for World {
-    ghost use Rattle.gq_world.specs.Worlds.{World, IsSound};
+    ghost use Rattle.gq_world.specs.Worlds.{World, IsBudgeted};
     ghost use Rattle.gq_model.specs.Stored.{statements_code, nodes_code};
     ghost use Rattle.std.specs.Coded.{codes};
 
@@ -42,21 +47,63 @@ impl Model for World {
 
     ghost view = { λ w. record { scenario = w.machine.scenario; world = w.machine.world; stopped = w.stopped } };
 
-    ghost invariant = { λ w. ∥ IsSound w.machine.scenario w.machine.world ∥₁ };
+    ghost invariant = { λ w. IsBudgeted w.machine.scenario w.machine.world w.budgets.items };
 }
 
 impl World {
     // The world at the start of a run.
-    pub(crate) fn start(machine: Machine) -> World
-        requires { IsSound machine.scenario machine.world }
+    pub(crate) fn start(machine: Machine, budgets: Vec<Budget>) -> World
+        requires sound { IsSound machine.scenario machine.world }
+        requires budgets { budgets.items ≡ accept.budgets machine.scenario }
         ensures scenario { result.scenario ≡ machine.scenario }
         ensures world { result.world ≡ machine.world }
         ensures running { result.stopped ≡ false }
     {
         World {
             machine,
+            budgets,
             stopped: false,
         }
+    }
+
+    /// What each leaf uses at most, in preorder.
+    pub fn budgets(&self) -> &[Budget]
+        ensures { result.now ≡ accept.budgets self.now.scenario }
+    {
+        self.budgets.as_slice()
+    }
+
+    // The scenario that runs.
+    pub(crate) fn scenario(&self) -> &Scenario
+        ensures { result.now ≡ self.now.scenario }
+    {
+        self.machine.scenario()
+    }
+
+    // The number of its leaves: each has an account, and so has the root.
+    pub(crate) fn leaf_count(&self) -> usize
+        ensures leaves { result ≡ length (components self.now.scenario) }
+        ensures few { result ≤ 64 }
+        ensures accounts { length (all_accounts self.now) ≡ suc result }
+    {
+        self.machine.scenario().leaf_count()
+    }
+
+    // The line of the root's account.
+    pub(crate) fn root_line(&self) -> Line
+        ensures { IsAccountLine self.now 0 result.items }
+    {
+        root_line(&self.machine)
+    }
+
+    // The line of a leaf's account.
+    pub(crate) fn leaf_line(&self, leaf: LeafNo) -> Line
+        requires { leaf < length (components self.now.scenario) }
+        ensures { IsAccountLine self.now (suc leaf) result.items }
+    {
+        let place = leaf.index();
+        let budget = self.budgets()[place].steps();
+        leaf_line(&self.machine, leaf, budget)
     }
 
     /// The leaf of that name, if there is one.

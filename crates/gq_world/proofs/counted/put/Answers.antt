@@ -1,4 +1,4 @@
-use Rattle.std.proofs.Common.{◌≡◌, ◌+◌, ◌-◌, ◌≤◌, length, take, drop, length-drop, ap, sym, ◌∙◌, subst, List, ℕ, arith, refl}
+use Rattle.std.proofs.Common.{◌-◌, ◌≤◌, length, take, drop, length-drop, ap, sym, subst, List, ℕ, arith}
 use Rattle.std.proofs.Math.Seq.{take-add}
 use Rattle.std.proofs.lemmas.List.{take_rest}
 use Rattle.std.proofs.lemmas.Bool.Decides.{nat_tests}

@@ -1,7 +1,7 @@
-use Rattle.std.proofs.Common.{◌≡◌, ◌∙◌, ap, arith}
+use Rattle.std.proofs.Common.{◌∙◌, ap, arith}
 use Rattle.gq_model.specs.Scenario.{components}
 use Rattle.gq_world.specs.Loading.{judgement_fault, programs_fault}
-use Rattle.gq_world.proofs.Sound.{Unaccepted, unaccepted, name_at, prints_rule, prints_not_yet}
+use Rattle.gq_world.proofs.Sound.{unaccepted, name_at, prints_rule, prints_not_yet}
 use Rattle.gq_world.proofs.load.program_fault.Goals as goal
 
 pub overflow_cast-number : goal.overflow_cast-number

@@ -1,4 +1,4 @@
-use Rattle.std.proofs.Common.{◌≡◌, ℕ, List, ◌+◌, ◌≤◌, ◌∷◌, drop, sum, ap, ◌∙◌, subst, ◌<◌, length, arith, IsTrue}
+use Rattle.std.proofs.Common.{◌≡◌, ℕ, List, ◌+◌, drop, sum, ap, ◌∙◌, subst, arith}
 use Rattle.std.specs.Prelude.{slice_get, IfSome}
 use Rattle.gq_model.specs.Scenario.{Component, components}
 use Rattle.gq_machine.specs.Plain.{quanta_of}

@@ -1,8 +1,8 @@
-use Rattle.std.proofs.Common.{◌≡◌, ℕ, List, ◌+◌, ◌≤◌, ◌∷◌, drop, ap, sym, ◌∙◌, subst, ◌<◌, length, arith, IfErr, None}
+use Rattle.std.proofs.Common.{ℕ, List, subst, arith}
 use Rattle.std.specs.Prelude.{slice_get, IfSome}
 use Rattle.gq_model.specs.Program.{Program}
 use Rattle.gq_model.specs.Scenario.{Component, components}
-use Rattle.gq_world.specs.Loading.{texts_fault, source_fault}
+use Rattle.gq_world.specs.Loading.{source_fault}
 use Rattle.gq_world.specs.Faults.{GivesFault, IsReadFrom}
 use Rattle.gq_world.proofs.Loads.{taken, refused}
 use Rattle.gq_world.specs.declared.load.LoadError.{LoadError}

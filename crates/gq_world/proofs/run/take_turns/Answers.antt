@@ -1,4 +1,4 @@
-use Rattle.std.proofs.Common.{◌≡◌, ◌∙◌, ap}
+use Rattle.std.proofs.Common.{◌∙◌, ap}
 use Rattle.std.specs.Prelude.{Err}
 use Rattle.gq_world.proofs.Going.{goes_on, is_cut}
 use Rattle.gq_world.proofs.run.take_turns.Goals as goal

@@ -1,4 +1,4 @@
-use Rattle.std.proofs.Common.{◌≡◌, ◌-◌, ◌≤◌}
+use Rattle.std.proofs.Common.{◌≡◌, ◌-◌}
 use Rattle.gq_model.specs.Scenario.{system}
 use Rattle.gq_model.specs.Run.{turns_of}
 use Rattle.gq_world.specs.Going.{HasLeft}

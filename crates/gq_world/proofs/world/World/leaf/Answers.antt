@@ -1,4 +1,4 @@
-use Rattle.std.proofs.Common.{◌≡◌, ◌∙◌, ap}
+use Rattle.std.proofs.Common.{◌∙◌, ap}
 use Rattle.gq_model.specs.Scenario.{components}
 use Rattle.gq_model.specs.Routes.{numbered}
 use Rattle.gq_world.proofs.Below.{leaf_there}

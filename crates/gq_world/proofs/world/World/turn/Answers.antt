@@ -1,14 +1,15 @@
 use Rattle.std.proofs.Common.{◌≡◌, ◌<◌, ℕ, List, [], ◌∷◌, ◌++◌, IfSome, codes, length, take, refl, ap, sym, ◌∙◌, subst}
 use Rattle.std.specs.Prelude.{Ok, slice_get}
 use Rattle.std.specs.Io.KnownBytes.{Appends}
-use Rattle.gq_model.specs.Scenario.{Scenario, Component, components, system}
+use Rattle.gq_model.specs.Scenario.{Scenario, components, system}
 use Rattle.gq_model.specs.World as model
 use Rattle.gq_model.specs.Doing as doing
 use Rattle.gq_model.specs.Step.{next}
+use Rattle.gq_model.specs.Accept.{Budget, budgets}
 use Rattle.gq_model.specs.Run.{label_at, line_of}
 use Rattle.gq_machine.specs.Events.{event_of}
 use Rattle.gq_machine.specs.declared.event.Event.TheVariants as events
-use Rattle.gq_world.specs.Worlds.{World, IsSound, line_told}
+use Rattle.gq_world.specs.Worlds.{World, IsSound, IsBudgeted, line_told}
 use Rattle.gq_world.proofs.Known.{appends_nothing}
 use Rattle.gq_world.proofs.Turns.{defined, sound_after, label_told, silent, shown-event_of}
 use Rattle.gq_world.proofs.world.World.turn.Goals as goal
@@ -17,6 +18,10 @@ use Rattle.gq_world.proofs.world.World.turn.Goals as goal
 after : (s t : Scenario) (w v : model.World) (x : ℕ) (e : doing.Event) → t ≡ s → next (system s) w x ≡ Ok (v, e) → ∥ IsSound s w ∥₁ → ∥ IsSound t v ∥₁
 after s t w v x e same n h = let P : Scenario → Type 0 = λ r. ∥ IsSound r v ∥₁ in subst P (sym same) (sound_after s w v x e n h)
 
+-- and the budgets stay
+kept : (s t : Scenario) (w v : model.World) (all : List Budget) (x : ℕ) (e : doing.Event) → t ≡ s → next (system s) w x ≡ Ok (v, e) → IsBudgeted s w all → IsBudgeted t v all
+kept s t w v all x e same n h = record { sound = after s t w v x e same n h.sound; budgets = h.budgets ∙ ap budgets (sym same) }
+
 -- the step, as of the world that contracts see
 stepped : (s : Scenario) (w v : model.World) (old : World) (x : ℕ) (e : doing.Event) → s ≡ old.scenario → w ≡ old.world → next (system s) w x ≡ Ok (v, e) → next (system old.scenario) old.world x ≡ Ok (v, e)
 stepped s w v old x e a b n =
@@ -24,22 +29,22 @@ stepped s w v old x e a b n =
     let Q : model.World → Type 0 = λ u. next (system s) u x ≡ Ok (v, e) in subst P a (subst Q b n)
 
 pub step-requires-clause-defined : goal.step-requires-clause-defined
-step-requires-clause-defined g c = defined c.self.inside.machine.scenario c.self.inside.machine.world c.args.leaf c.self.invariant
+step-requires-clause-defined g c = defined c.self.inside.machine.scenario c.self.inside.machine.world c.args.leaf c.self.invariant.sound
 
 pub invariant_of-self : goal.invariant_of-self
 invariant_of-self g c =
     let m = c.self.inside.machine in
-    after m.scenario c.step.new.self.scenario m.world c.step.new.self.world c.args.leaf (event_of events.Line c.step.new.line.items) c.in-Line.ensures.scenario c.in-Line.ensures.stepped c.self.invariant
+    kept m.scenario c.step.new.self.scenario m.world c.step.new.self.world c.self.inside.budgets.items c.args.leaf (event_of events.Line c.step.new.line.items) c.in-Line.ensures.scenario c.in-Line.ensures.stepped c.self.invariant
 
 pub invariant_of-self-in-Err : goal.invariant_of-self-in-Err
 invariant_of-self-in-Err g c =
     let m = c.self.inside.machine in
-    after m.scenario c.step.new.self.scenario m.world c.step.new.self.world c.args.leaf (event_of events.Line c.step.new.line.items) c.in-Line.ensures.scenario c.in-Line.ensures.stepped c.self.invariant
+    kept m.scenario c.step.new.self.scenario m.world c.step.new.self.world c.self.inside.budgets.items c.args.leaf (event_of events.Line c.step.new.line.items) c.in-Line.ensures.scenario c.in-Line.ensures.stepped c.self.invariant
 
 pub invariant_of-self-in_default : goal.invariant_of-self-in_default
 invariant_of-self-in_default g c =
     let m = c.self.inside.machine in
-    after m.scenario c.step.new.self.scenario m.world c.step.new.self.world c.args.leaf (event_of c.step.result c.step.new.line.items) c.step.ensures.scenario c.step.ensures.stepped c.self.invariant
+    kept m.scenario c.step.new.self.scenario m.world c.step.new.self.world c.self.inside.budgets.items c.args.leaf (event_of c.step.result c.step.new.line.items) c.step.ensures.scenario c.step.ensures.stepped c.self.invariant
 
 -- the line that is written
 abbrev in_brackets : List ℕ → List ℕ → List ℕ

@@ -1,0 +1,79 @@
+-- The text of a run: its turns, then its accounts.
+use Rattle.std.proofs.Common.{◌≡◌, ℕ, List, [], ◌++◌, length, Option, Some, None, Result, Ok, Err, refl, ap, sym, ◌∙◌, subst, append_assoc, append-nil}
+use Rattle.std.specs.Io.KnownBytes.{Appends}
+use Rattle.gq_model.specs.Scenario.{Scenario, components, system}
+use Rattle.gq_model.specs.World as model
+use Rattle.gq_model.specs.World.{start}
+use Rattle.gq_model.specs.declared.fault.Wrong.{Wrong}
+use Rattle.gq_model.specs.Run.{Ran, run, run_on}
+use Rattle.gq_model.specs.Accept.{budgets, step_budgets}
+use Rattle.gq_model.specs.Accounts.{accounts, account_lines, text_of}
+use Rattle.gq_world.specs.Writes.{IsFront}
+use Rattle.gq_world.specs.Worlds.{World}
+use Rattle.gq_world.specs.Going.{going, HasRun, IsCut}
+use Rattle.gq_world.specs.Lines.{all_accounts, accounts_text}
+use Rattle.gq_world.specs.Written.{whole_of, refused_with, written_from, written_turns, stage_written}
+use Rattle.gq_model.specs.Turns.{turned}
+use Rattle.gq_world.specs.Loading.{Fault, stage_loaded}
+use Rattle.gq_world.specs.declared.load.LoadFault.{LoadFault}
+use Rattle.gq_world.specs.declared.load.LoadError.TheVariants as error
+use Rattle.gq_world.specs.Faults.{load_fault_text, Refuses}
+use Rattle.gq_world.specs.Going.{AreBelow}
+use Rattle.gq_world.proofs.Below.{AreBelowIn, turned_below}
+use Rattle.gq_world.proofs.Known.{appends_both}
+use Rattle.gq_world.proofs.Fronts.{front_by, front_after}
+
+-- the text of what ran, and the rest of the whole
+rest_of : (s : Scenario) (steps : List ℕ) (ran : Ran) (wrong : Option (ℕ × Wrong)) → (rest : List ℕ) × (text_of s steps ran wrong ≡ ran.text ++ rest)
+rest_of s steps ran None = (account_lines s.version (accounts s ran.world steps), refl)
+rest_of s steps ran (Some p) = ([], sym (append-nil ran.text))
+
+module _ (s : Scenario) (turns : List (ℕ × ℕ)) (old : World) (starts : old.world ≡ start (system s)) (before between after : Option (List ℕ)) where
+  abbrev taken : Ran → Ran
+  taken = run_on (system s) turns
+
+  abbrev lines_of : Scenario → model.World → List ℕ
+  lines_of t w = account_lines t.version (accounts t w (step_budgets (budgets t)))
+
+  from_start : run (system s) turns ≡ taken (going old.world [])
+  from_start = ap (λ w. taken (going w [])) (sym starts)
+
+  -- the whole is what the turns gave and the accounts after them
+  whole_is : (new : World) → new.scenario ≡ s → (ran : HasRun taken old new before between) → whole_of s turns ≡ ran.text ++ accounts_text new
+  unfolding whole_of all_accounts
+  whole_is new same ran =
+      ap (λ r. text_of s (step_budgets (budgets s)) r r.wrong) (from_start ∙ ran.ran []) ∙ ap (λ t. ran.text ++ lines_of t new.world) (sym same)
+
+  pub complete : (new : World) → new.scenario ≡ s → HasRun taken old new before between → Appends between after (accounts_text new) → Appends before after (whole_of s turns)
+  complete new same ran lines =
+      subst (Appends before after) (sym (whole_is new same ran)) (appends_both before between after ran.text (accounts_text new) ran.written lines)
+
+  pub cut_lines : (new : World) → new.scenario ≡ s → HasRun taken old new before between → IsFront between after (accounts_text new) → IsFront before after (whole_of s turns)
+  cut_lines new same ran front =
+      front_after before between after ran.text (accounts_text new) [] (whole_of s turns) ran.written front
+      (whole_is new same ran ∙ ap (λ l. ran.text ++ l) (sym (append-nil (accounts_text new))))
+
+  pub cut_turns : IsCut taken old before between → IsFront before between (whole_of s turns)
+  unfolding whole_of
+  cut_turns cut =
+      let r = run (system s) turns in
+      let rest = rest_of s (step_budgets (budgets s)) r r.wrong in
+      let text : r.text ≡ cut.text ++ cut.more [] = ap (λ q. q.text) from_start ∙ cut.front [] in
+      front_by before between cut.text (cut.more [] ++ rest.0) (whole_of s turns) cut.written
+      (rest.1 ∙ (ap (λ l. l ++ rest.0) text ∙ append_assoc cut.text (cut.more []) rest.0))
+
+-- REFUSED TEXTS
+
+-- a text that is not loaded is refused with its fault's line
+pub refused_load : (loaded : Result Scenario Fault) (turns : List ℕ) (fault : LoadFault) → Refuses (error.Fault fault) loaded → written_from loaded turns ≡ Err (refused_with (load_fault_text fault))
+refused_load (Ok s) turns fault h = absurd h
+refused_load (Err f) turns fault h = ap (λ t. Err (refused_with t)) (sym h)
+
+-- turns that were read are of leaves that are there
+pub below_of : (s t : Scenario) (text : List ℕ) (turns : List (ℕ × ℕ)) → t ≡ s → turned (components t) text ≡ Ok turns → AreBelow (length (components s)) turns
+below_of s t text turns same e = subst (λ r. AreBelow (length (components r)) turns) same (subst (AreBelowIn (length (components t))) e (turned_below (components t) text))
+
+-- what is written of texts that are loaded and read
+pub written_is : (scenario text : List ℕ) (s t : Scenario) (turns : List (ℕ × ℕ)) → stage_loaded scenario ≡ Ok s → t ≡ s → turned (components t) text ≡ Ok turns → stage_written scenario text ≡ Ok (whole_of s turns)
+written_is scenario text s t turns loaded same e =
+    ap (λ l. written_from l text) loaded ∙ (ap (λ r. written_turns s (turned (components r) text)) (sym same) ∙ ap (written_turns s) e)

@@ -1,0 +1,28 @@
+use Rattle.std.proofs.Common.{◌≡◌, sym, subst, length, ℕ, List, Err}
+use Rattle.gq_model.specs.Scenario.{components}
+use Rattle.gq_world.specs.declared.load.LoadError.{LoadError}
+use Rattle.gq_world.specs.declared.load.LoadFault.{LoadFault}
+use Rattle.gq_world.specs.Faults.{Refuses, load_fault_text}
+use Rattle.gq_world.specs.Loading.{stage_loaded}
+use Rattle.gq_world.specs.Going.{AreBelow}
+use Rattle.gq_world.specs.Written.{whole_of, refused_with, stage_written}
+use Rattle.gq_world.proofs.Whole.{refused_load, below_of, written_is}
+use Rattle.gq_world.proofs.run.run.Goals as goal
+
+pub returns-in-Err-Fault-clause-refused : goal.returns-in-Err-Fault-clause-refused
+returns-in-Err-Fault-clause-refused g c =
+    let e = c.in-Err-Fault in
+    let loaded = stage_loaded c.args.scenario.now in
+    subst (λ (f : LoadFault). stage_written c.args.scenario.now c.args.turns.now ≡ Err (refused_with (load_fault_text f))) (sym e.fault-is)
+    (refused_load loaded c.args.turns.now e.fault (subst (λ (f : LoadError). Refuses f loaded) e.field-0-is e.ensures.refused))
+
+pub run_world-requires-clause-leaves : goal.run_world-requires-clause-leaves
+run_world-requires-clause-leaves g c =
+    let s = c.in-Ok.world.scenario in
+    subst (λ (t : List (ℕ × ℕ)). AreBelow (length (components s)) t) (sym c.as_slice.ensures.value) (below_of s c.scenario.result.now c.args.turns.now c.in-Ok-read_turns.turns.items c.scenario.ensures c.in-Ok-read_turns.ensures)
+
+pub returns-clause-refused : goal.returns-clause-refused
+returns-clause-refused g c =
+    let s = c.in-Ok.world.scenario in
+    let turns = c.in-Ok-read_turns.turns.items in
+    (whole_of s turns, written_is c.args.scenario.now c.args.turns.now s c.scenario.result.now turns c.in-Ok.ensures.loaded c.scenario.ensures c.in-Ok-read_turns.ensures)

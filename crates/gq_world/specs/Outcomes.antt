@@ -1,0 +1,41 @@
+-- How a run ends, by what the definition says of its texts.
+use Rattle.std.specs.Prelude.{◌≡◌, ℕ, List, Option, Ok, Err, codes}
+use Rattle.std.specs.Io.KnownBytes.{Appends}
+use Rattle.gq_world.specs.declared.run.RunFault.{RunFault}
+use Rattle.gq_world.specs.declared.run.RunFault.TheVariants.{Load, Turns, Memory, Write}
+use Rattle.gq_world.specs.Faults.{load_fault_text}
+use Rattle.gq_world.specs.Writes.{IsFront}
+use Rattle.gq_world.specs.Written.{Written, refused_with, turn_fault_text}
+
+-- the line that a fault prints
+abbrev pub run_fault_text : RunFault → List ℕ
+run_fault_text (Load fault) = load_fault_text fault
+run_fault_text (Turns fault line) = turn_fault_text fault line
+run_fault_text Memory = codes "host memory refused"
+run_fault_text Write = codes "file fault"
+
+-- the definition gives a text, and just this was written
+pub record IsWhole (w : Written) (before after : Option (List ℕ)) : Type 0 where
+  pub text : List ℕ
+  pub given : w ≡ Ok text
+  pub written : Appends before after text
+
+-- the definition gives a text, and a front of it was written
+pub record IsCutShort (w : Written) (before after : Option (List ℕ)) : Type 0 where
+  pub text : List ℕ
+  pub given : w ≡ Ok text
+  pub written : IsFront before after text
+
+-- a fault of the texts is the definition's, by its line; a failed write comes where there is a text
+abbrev pub IsFaultOf : RunFault → Written → Type 0
+IsFaultOf (Load fault) w = w ≡ Err (refused_with (load_fault_text fault))
+IsFaultOf (Turns fault line) w = w ≡ Err (refused_with (turn_fault_text fault line))
+IsFaultOf Memory w = Unit {0}
+IsFaultOf Write w = (text : List ℕ) × (w ≡ Ok text)
+
+-- nothing was to be written: the fault is no failed write
+abbrev pub IsBefore : RunFault → Type 0
+IsBefore (Load fault) = Unit {0}
+IsBefore (Turns fault line) = Unit {0}
+IsBefore Memory = Unit {0}
+IsBefore Write = ⊥
