@@ -7,3 +7,6 @@ pub mod spelling;
 
 pub use gq_model::program::{Form, Instruction, Name, Operator, Place, Section, Text, Width};
 pub use program::{Body, Program, Statement};
+
+#[cfg(test)]
+mod tests;

@@ -1,5 +1,5 @@
 // Programs as trees.
-ghost use Rattle.std.specs.Prelude.{◌≡◌, OnOk, IfOk, length, ◌++◌, ◌∷◌, []};
+ghost use Rattle.std.specs.Prelude.{◌≡◌, OnOk, OnErr, IfOk, length, ◌++◌, ◌∷◌, []};
 ghost use Rattle.gq_model.specs.Program.{Done, ◌then◌};
 ghost use Rattle.gq_code.specs.Trees.{tree_of};
 
@@ -66,7 +66,8 @@ impl Body {
 
     /// Puts a statement at the end. Refused, the list stays as it was.
     pub fn push(&mut self, statement: Statement) -> Result<(), AllocError>
-        ensures { OnOk result (self.new ≡ self.old then tree_of (statement ∷ [])) }
+        ensures pushed { OnOk result (self.new ≡ self.old then tree_of (statement ∷ [])) }
+        ensures stays { OnErr result (self.new ≡ self.old) }
     {
         self.statements.push(statement)?;
         Ok(())

@@ -1,5 +1,5 @@
 -- What a document without faults describes.
-use Rattle.std.proofs.Common.{◌≡◌, ◌==◌, ◌||◌, ℕ, suc, arith, Bool, true, false, cond, nat_lt, List, [], ◌∷◌, length, ◌<◌, ◌≤◌, Option, Some, None, Ok, Err, refl, ap, sym, ◌∙◌}
+use Rattle.std.proofs.Common.{◌≡◌, ◌==◌, ◌&&◌, ◌||◌, ◌%◌, ℕ, suc, arith, Bool, true, false, cond, nat_lt, List, [], ◌∷◌, length, ◌<◌, ◌≤◌, Option, Some, None, Ok, Err, refl, ap, sym, ◌∙◌}
 use Rattle.std.specs.Prelude.{codes}
 use Rattle.std.proofs.lemmas.List.{length-map}
 use Rattle.std.proofs.lemmas.Bool.Decides.{nat_tests}
@@ -9,9 +9,9 @@ use Rattle.gq_model.specs.Amounts.{amount}
 use Rattle.gq_model.specs.Scenario.{Interfaces, Route, Source, As_text, LeafNode, Nodes, Leaf_node, Scenario}
 use Rattle.gq_model.specs.Sources.{program_from}
 use Rattle.gq_model.specs.Lists.{between, or_first}
-use Rattle.gq_init.specs.Keys.{DocumentFault, TooMany, passes, is_number, is_quantity, is_text, is_name_text, is_table, is_list, number_of, members_of, listed, table_fault}
+use Rattle.gq_init.specs.Keys.{DocumentFault, TooMany, passes, quantity, is_number, is_quantity, is_text, is_name_text, is_table, is_list, number_of, members_of, listed, table_fault}
 use Rattle.gq_init.specs.Tables.{is_total, is_two, two_of, version_of}
-use Rattle.gq_init.specs.Document.{init_count, is_long, has_long_routes, has_too_many, counts_fault, names_of, name_twice, interfaces_of, table_of, text_at, name_at, quantity_at, number_at, routes_at, source_from, source_in, code_in, leaf_of, first_of, is_init, nodes_by, node_onto, described, list_at}
+use Rattle.gq_init.specs.Document.{init_count, is_long, has_long_routes, has_too_many, counts_fault, names_of, name_twice, interfaces_of, table_of, text_at, name_at, quantity_at, number_at, or_zero, routes_at, source_from, source_in, code_in, leaf_of, first_of, is_init, nodes_by, node_onto, described, list_at}
 use Rattle.gq_init.specs.Leaves.{text_leaf, leaf_nodes, leaf_names, leaves_of, leaf_scenario}
 use Rattle.gq_init.specs.Stage.{stage_top_keys, stage_leaf_keys, stage_walk_fault, stage_fault}
 use Rattle.toml.specs.View.{items_view}
@@ -156,6 +156,21 @@ version_by b = cond b 2 1
 version_one : (o : Option Data) (d : Data) → o ≡ Some d → is_number 1 1 d ≡ true → version_by (two_of o) ≡ 1
 version_one o d e f = rw (e, not_two (number_of d) f) refl
 
+-- a total is whole pages
+whole_bytes : (n : ℕ) → (between 4096 67108864 n && n % 4096 == 0) ≡ true → n % 4096 ≡ 0
+whole_bytes n e = grind (arith, nat_tests)
+
+whole_total : (o : Option ℕ) → passes (λ n. between 4096 67108864 n && n % 4096 == 0) o ≡ true → or_zero o % 4096 ≡ 0
+whole_total None e = absurd cc
+whole_total (Some n) e = whole_bytes n e
+
+whole_ram : (top : Members) → stage_walk_fault top ≡ None → quantity_at (codes "ram") top % 4096 ≡ 0
+whole_ram top e =
+    let (here, more) = or_first-none (table_fault stage_top_keys top) (first_of (table_fault stage_leaf_keys) (list_at (codes "start") top)) e in
+    let t = top_table top here in
+    let (d, there, fits) = t.second in
+    rw there (whole_total (quantity d) fits)
+
 -- the documents without faults in their tables
 pub described-leaves : (top : Members) → stage_walk_fault top ≡ None → described top ≡ leaf_scenario (quantity_at (codes "ram") top) (leaves_of (list_at (codes "start") top))
 described-leaves top e =
@@ -262,3 +277,6 @@ module _ (top : Members) (walked : stage_walk_fault top ≡ None) (vs : List Val
 
   pub few_leaves : (leaves : List LeafNode) → length vs ≤ 64 → leaves ≡ leaves_of (listed (items_view vs)) → length leaves ≤ 64
   few_leaves leaves h e = omega (arith, ap length e, length-map (listed (items_view vs)) (λ d. leaf_of (members_of d)), length-listed vs)
+
+  pub whole_pages : (ram : ℕ) → ram ≡ quantity_at (codes "ram") top → ram % 4096 ≡ 0
+  whole_pages ram e = rw e (whole_ram top walked)

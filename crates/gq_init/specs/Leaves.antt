@@ -1,5 +1,5 @@
 -- Scenarios of which each node is a leaf directly under the root.
-use Rattle.std.specs.Prelude.{◌≡◌, ℕ, List, [], ◌∷◌, Option, None, codes, map}
+use Rattle.std.specs.Prelude.{◌≡◌, ◌≤◌, ◌%◌, ℕ, List, [], ◌∷◌, Option, None, codes, map}
 use Rattle.toml.specs.Data.{Data}
 use Rattle.gq_init.specs.Keys.{members_of}
 use Rattle.gq_init.specs.Document.{leaf_of}
@@ -71,3 +71,8 @@ pub record IsOfLeaves (s : Scenario) : Type 0 where
   pub caps : s.total.caps ≡ 0
   pub interfaces : s.interfaces ≡ []
   pub routes : s.default_routes ≡ None
+
+-- so many leaves can stand, and the RAM is whole pages
+pub record IsWithinLimits (ram leaves : ℕ) : Type 0 where
+  pub few : leaves ≤ 64
+  pub whole : ram % 4096 ≡ 0

@@ -31,7 +31,7 @@ pub enum ScenarioFault {
 #[derive(Debug, Drop, Error)]
 pub enum ScenarioError {
     /// The host has no memory left.
-    #[error("out of memory")]
+    #[error("host memory refused")]
     Memory(AllocError),
     /// The text has a fault.
     #[error("{0}")]

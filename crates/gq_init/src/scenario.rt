@@ -1,5 +1,5 @@
 // Scenarios in memory.
-ghost use Rattle.std.specs.Prelude.{ℕ, ◌≡◌, ◌<◌, ◌≤◌, ◌+◌, ◌++◌, length, slice_get, IfOk, IfSome};
+ghost use Rattle.std.specs.Prelude.{ℕ, ◌≡◌, ◌<◌, ◌≤◌, ◌+◌, ◌%◌, ◌++◌, length, slice_get, IfOk, IfSome};
 ghost use Rattle.gq_model.specs.Scenario.{As_text, components};
 ghost use Rattle.gq_model.specs.Sources.{program_from};
 ghost use Rattle.gq_model.specs.Routes.{numbered};
@@ -114,10 +114,10 @@ pub struct Scenario {
 }
 
 impl Model for Scenario {
-    ghost use Rattle.std.specs.Prelude.{◌≤◌, length};
+    ghost use Rattle.std.specs.Prelude.{length};
     ghost use Rattle.gq_model.specs.Scenario.{Scenario};
     ghost use Rattle.gq_model.specs.Stored.{statements_code, nodes_code};
-    ghost use Rattle.gq_init.specs.Leaves.{leaf_scenario};
+    ghost use Rattle.gq_init.specs.Leaves.{leaf_scenario, IsWithinLimits};
     ghost use Rattle.std.specs.Coded.{codes};
 
     ghost Value = { Scenario };
@@ -126,21 +126,23 @@ impl Model for Scenario {
 
     ghost view = { λ s. leaf_scenario s.ram s.leaves.items };
 
-    ghost invariant = { λ s. length s.leaves.items ≤ 64 };
+    ghost invariant = { λ s. IsWithinLimits s.ram (length s.leaves.items) };
 }
 
 impl Scenario {
-    /// The scenario of version 1 with so much RAM and these leaves under its root.
+    /// The scenario of version 1 with so much RAM, in whole pages, and these leaves under its root.
     pub(crate) fn new(ram: u64, leaves: Vec<Leaf>) -> Scenario
-        requires { length leaves.items ≤ 64 }
+        requires few { length leaves.items ≤ 64 }
+        requires whole { ram % 4096 ≡ 0 }
         ensures { result ≡ leaf_scenario ram leaves.items }
     {
         Scenario { ram, leaves }
     }
 
-    /// The RAM of the whole system, in bytes.
+    /// The RAM of the whole system, in bytes: whole pages of 4096 bytes.
     pub fn ram(&self) -> u64
-        ensures { result ≡ self.now.total.ram }
+        ensures total { result ≡ self.now.total.ram }
+        ensures whole { result % 4096 ≡ 0 }
     {
         self.ram
     }

@@ -17,7 +17,7 @@ use thiserror::Error;
 #[derive(Debug, Drop, Error)]
 pub enum TurnsError {
     /// The host has no memory left.
-    #[error("out of memory")]
+    #[error("host memory refused")]
     Memory(AllocError),
     /// The first fault of the text, and its line from 1; a text that is too long has it at line 0.
     #[error("{fault} line {line}")]

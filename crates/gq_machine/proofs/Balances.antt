@@ -1,5 +1,5 @@
 -- Accounts of leaves that have no session.
-use Rattle.std.proofs.Common.{◌≡◌, ℕ, zero, suc, ◌+◌, ◌-◌, ◌≤◌, true, List, [], ◌∷◌, ◌++◌, length, map, drop, sum, Option, Some, IfSome, refl, ap, sym, ◌∙◌, subst, arith, codes}
+use Rattle.std.proofs.Common.{◌≡◌, ℕ, zero, suc, ◌+◌, ◌-◌, ◌*◌, ◌/◌, ◌%◌, ◌≤◌, true, List, [], ◌∷◌, ◌++◌, length, map, drop, sum, Option, Some, IfSome, refl, ap, sym, ◌∙◌, subst, arith, codes}
 use Rattle.std.specs.Prelude.{slice_get, slice_index, option_map}
 use Rattle.std.proofs.lemmas.List.{length-map}
 use Rattle.std.proofs.lemmas.Option.{slice_get-map}
@@ -10,6 +10,7 @@ use Rattle.gq_model.specs.Sums.{handed, held, quota}
 use Rattle.gq_model.specs.Accounts.{amount_in, leaf_count, handed_to, spent, init_quota, Account, init_account, leaf_account, account_at, node_accounts, accounts}
 use Rattle.gq_machine.specs.Alone.{State, leaf_of}
 use Rattle.gq_machine.specs.Plain.{are_leaves}
+use Rattle.gq_machine.specs.Held.{held_from, held_by_all}
 use Rattle.gq_machine.specs.Machines.{world_of, quotas_of}
 use Rattle.gq_machine.proofs.Starts.{sum-cons}
 use Rattle.gq_machine.proofs.Nexts.{there_is, quotas_of-at}
@@ -116,10 +117,18 @@ root-alone s states root h k e =
 
 -- READERS
 
-pub held-at : (states all : List State) (x y : ℕ) → IfSome (slice_get (map leaf_of states) x) (λ l. 0 ≡ held Ram (world_of all) y l)
-held-at [] all x y = tt
-held-at (s ∷ states) all zero y = sym (held-alone Ram all y s)
-held-at (s ∷ states) all (suc x) y = held-at states all x y
+pub held-at : (r : Resource) (states all : List State) (x y : ℕ) → IfSome (slice_get (map leaf_of states) x) (λ l. 0 ≡ held r (world_of all) y l)
+held-at r [] all x y = tt
+held-at r (s ∷ states) all zero y = sym (held-alone r all y s)
+held-at r (s ∷ states) all (suc x) y = held-at r states all x y
+
+pub held-from-alone : (r : Resource) (states all : List State) (x : ℕ) → held_from r (world_of all) x (map leaf_of states) ≡ 0
+held-from-alone r [] all x = refl
+held-from-alone r (s ∷ states) all x = omega (arith, held-alone r all x s, held-from-alone r states all (suc x))
+
+-- no leaf holds memory, and the RAM is whole pages
+pub free_pages-alone : (states : List State) (ram read : ℕ) → read ≡ ram → read % 4096 ≡ 0 → read / 4096 * 4096 + held_by_all Ram (world_of states) ≡ ram
+free_pages-alone states ram read is whole = omega (arith, held-from-alone Ram states states 0, whole, is)
 
 one_not_two : (version ram caps : ℕ) → version ≡ 1 → (amount_in version ram caps).caps ≡ 0
 one_not_two version ram caps e = ap (λ v. (amount_in v ram caps).caps) e

@@ -6,4 +6,5 @@ pub mod Phases
 pub mod Leaves
 pub mod Plain
 pub mod Machines
+pub mod Held
 pub mod Seen

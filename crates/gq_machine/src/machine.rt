@@ -1,6 +1,6 @@
 // The machine: the leaves of a scenario, and the balances of its accounts.
-ghost use Rattle.std.specs.Prelude.{◌≡◌, ◌≢◌, ◌≤◌, ◌<◌, ◌+◌, [], true, map, sum, length, slice_get, IfOk, IfErr, IfSome, IsOk, OnErr, Ok, Err, ◌^◌};
-ghost use Rattle.gq_model.specs.Amounts.{Ram};
+ghost use Rattle.std.specs.Prelude.{◌≡◌, ◌≢◌, ◌≤◌, ◌<◌, ◌+◌, ◌*◌, [], true, map, sum, length, slice_get, IfOk, IfErr, IfSome, IsOk, OnErr, Ok, Err, ◌^◌};
+ghost use Rattle.gq_model.specs.Amounts.{Ram, Caps};
 ghost use Rattle.gq_model.specs.Scenario.{components, system};
 ghost use Rattle.gq_model.specs.World.{start};
 ghost use Rattle.gq_model.specs.Sums.{held};
@@ -8,6 +8,7 @@ ghost use Rattle.gq_model.specs.Accounts.{accounts};
 ghost use Rattle.gq_model.specs.Resolve.{handed_out};
 ghost use Rattle.gq_model.specs.Step.{next};
 ghost use Rattle.gq_machine.specs.Events.{event_of};
+ghost use Rattle.gq_machine.specs.Held.{held_by_all};
 ghost use Rattle.gq_machine.specs.Plain.{is_plain_program, are_plain_programs, first_of, programs_of, quanta_of, IsPlain};
 
 use crate::event::Event;
@@ -155,7 +156,9 @@ impl Machine {
         requires { node ≤ length (components self.now.scenario) }
         ensures { IfSome (slice_get (accounts self.now.scenario self.now.world []) node) (λ a. result ≡ a.quota.caps) }
     {
+        // Opens the facts of the model.
         let _leaves = &self.leaves;
+        // The same for each node: version 1 counts none.
         let _node = node.index();
         0
     }
@@ -165,9 +168,30 @@ impl Machine {
         requires { leaf < length (components self.now.scenario) }
         ensures { IfSome (slice_get self.now.world.leaves leaf) (λ l. result ≡ held Ram self.now.world leaf l) }
     {
+        // Opens the facts of the model.
         let _leaves = &self.leaves;
+        // The same for each leaf: none holds memory yet.
         let _leaf = leaf.index();
         0
+    }
+
+    /// The capabilities that a leaf holds.
+    pub fn caps_used(&self, leaf: LeafNo) -> u64
+        requires { leaf < length (components self.now.scenario) }
+        ensures { IfSome (slice_get self.now.world.leaves leaf) (λ l. result ≡ held Caps self.now.world leaf l) }
+    {
+        // Opens the facts of the model.
+        let _leaves = &self.leaves;
+        // The same for each leaf: none holds a capability yet.
+        let _leaf = leaf.index();
+        0
+    }
+
+    /// The pages, of 4096 bytes, that no leaf holds.
+    pub fn free_pages(&self) -> u64
+        ensures { result * 4096 + held_by_all Ram self.now.world ≡ self.now.scenario.total.ram }
+    {
+        self.scenario.ram() / 4096
     }
 }
 

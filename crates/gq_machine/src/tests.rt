@@ -61,6 +61,8 @@ fn starts_a_leaf(rt: HostRuntime) -> Result<(), Fail> {
     assert_eq!(rt; machine.quota(NodeNo::new(1)), 4096);
     assert_eq!(rt; machine.caps(NodeNo::new(1)), 0);
     assert_eq!(rt; machine.used(leaf), 0);
+    assert_eq!(rt; machine.caps_used(leaf), 0);
+    assert_eq!(rt; machine.free_pages(), 16);
     Ok(())
 }
 
@@ -80,6 +82,7 @@ fn runs_a_leaf_to_its_end(rt: HostRuntime) -> Result<(), Fail> {
     assert_eq!(rt; machine.phase(leaf), Phase::Exited);
     assert_eq!(rt; machine.quota(NodeNo::new(0)), 65536);
     assert_eq!(rt; machine.quota(NodeNo::new(1)), 0);
+    assert_eq!(rt; machine.free_pages(), 16);
     assert_eq!(rt; machine.step_tested(leaf, &mut line)?, Event::Idle);
     assert_eq!(rt; machine.steps(leaf), 2);
     Ok(())

@@ -6,3 +6,5 @@ pub mod fault;
 pub mod letters;
 pub mod phase;
 pub mod program;
+#[cfg(test)]
+mod tests;

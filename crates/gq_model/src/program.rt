@@ -106,7 +106,7 @@ impl Text {
 /// A name of a component or of a service: 1 to 16 bytes of a to z, A to Z, 0 to 9, the hyphen and the underscore.
 #[derive(Drop)]
 pub struct Name {
-    bytes: ArrayVec<u8, GREATEST_NAME>,
+    letters: ArrayVec<u8, GREATEST_NAME>,
 }
 
 impl Model for Name {
@@ -115,9 +115,9 @@ impl Model for Name {
 
     ghost Value = { List ℕ };
 
-    ghost view = { λ t. t.bytes.items };
+    ghost view = { λ t. t.letters.items };
 
-    ghost invariant = { λ t. IsTrue (is_name t.bytes.items) };
+    ghost invariant = { λ t. IsTrue (is_name t.letters.items) };
 }
 
 impl Name {
@@ -130,7 +130,7 @@ impl Name {
         }
         let mut kept = ArrayVec::new();
         match kept.try_extend_from_slice(bytes) {
-            Ok(()) => Some(Name { bytes: kept }),
+            Ok(()) => Some(Name { letters: kept }),
             Err(_) => unreachable!(),
         }
     }
@@ -140,7 +140,7 @@ impl Name {
         ensures bytes { result.now ≡ self.now }
         ensures name { IsTrue (is_name self.now) }
     {
-        self.bytes.as_slice()
+        self.letters.as_slice()
     }
 }
 

@@ -1,19 +1,22 @@
--- The lines of the accounts of a sound world.
+-- The accounts of a sound world, and their lines.
 use Rattle.std.proofs.Common.{◌≡◌, ◌<◌, ℕ, zero, suc, List, [], ◌∷◌, ◌++◌, drop, length, Option, Some, None, IfSome, refl, take, append_assoc, ap, sym, ◌∙◌, subst, arith}
-use Rattle.std.specs.Prelude.{slice_get, slice_index, codes, decimal}
+use Rattle.std.specs.Prelude.{slice_get, slice_index}
 use Rattle.std.proofs.lemmas.List.{append-nil}
 use Rattle.std.proofs.Math.Logic.{∥∥₁_elim}
-use Rattle.std.specs.Coded.{Coded-set, coded_list, coded_ℕ}
-use Rattle.gq_model.specs.Amounts.{Ram, amount}
+use Rattle.std.specs.Coded.{Coded, Coded-set, coded_list, coded_ℕ, codes}
+use Rattle.gq_model.specs.Amounts.{Ram, Caps, Amount, amount}
 use Rattle.gq_model.specs.Scenario.{Scenario, Component, components}
 use Rattle.gq_model.specs.declared.phase.Phase.{Phase}
 use Rattle.gq_model.specs.World.{Leaf, World}
-use Rattle.gq_model.specs.Sums.{held, handed}
-use Rattle.gq_model.specs.Accounts.{Account, accounts, account_line, account_lines, entry, phase_word}
+use Rattle.gq_model.specs.Sums.{held}
+use Rattle.gq_model.specs.Accounts.{LeafAccount, Account, accounts, account_line, account_lines}
 use Rattle.gq_world.specs.Kept.{HoldsNothing, AreKept}
 use Rattle.gq_world.specs.Told.{plain_account, plain_accounts}
 use Rattle.gq_world.specs.Worlds.{IsSound}
 use Rattle.gq_world.proofs.Told.{accounts_are, held_none}
+
+leaf_accounts : Coded (Option LeafAccount)
+leaf_accounts = Prim.hlevel codes
 
 -- PLAIN ACCOUNTS
 
@@ -51,76 +54,81 @@ pair_at (c ∷ cs) (leaf ∷ leaves) (suc x) h less =
 -- READ ACCOUNTS
 
 -- what was read of a leaf
-pub record IsRead (s : Scenario) (w : World) (x : ℕ) (label : List ℕ) (quota used steps : ℕ) (phase : Phase) : Type 0 where
+pub record IsRead (s : Scenario) (w : World) (x : ℕ) (used caps_used steps : ℕ) (phase : Phase) : Type 0 where
   pub within : x < length (components s)
-  pub is_label : IfSome (slice_get (components s) x) (λ c. label ≡ c.label)
-  pub is_quota : IfSome (slice_get (accounts s w []) (suc x)) (λ a. quota ≡ a.quota.ram)
   pub is_used : IfSome (slice_get w.leaves x) (λ l. used ≡ held Ram w x l)
+  pub is_caps_used : IfSome (slice_get w.leaves x) (λ l. caps_used ≡ held Caps w x l)
   pub is_steps : IfSome (slice_get w.leaves x) (λ l. steps ≡ l.steps)
   pub is_phase : IfSome (slice_get w.leaves x) (λ l. phase ≡ l.phase)
 
--- the account with what was read
-abbrev pub read_account : List ℕ → ℕ → ℕ → ℕ → ℕ → Phase → Account
-read_account label quota used steps budget phase =
-    record { label = label; quota = amount quota 0; leaf = Some (record { used = amount used 0; steps = steps; budget = budget; phase = phase }) }
+-- what is told of it
+abbrev pub told_leaf : ℕ → ℕ → ℕ → ℕ → Phase → LeafAccount
+told_leaf used caps_used steps budget phase = record { used = amount used caps_used; steps = steps; budget = budget; phase = phase }
 
--- what is read is the account
-read_is : (s : Scenario) (w : World) → IsSound s w → (x : ℕ) (label : List ℕ) (quota used steps : ℕ) (phase : Phase) → IsRead s w x label quota used steps phase → (budgets : List ℕ)
-    → slice_get (accounts s w budgets) (suc x) ≡ Some (read_account label quota used steps (slice_index budgets x) phase)
-read_is s w h x label quota used steps phase r budgets =
-    let p = pair_at (components s) w.leaves x h.kept.leaves r.within in
-    let c = p.component in
-    let leaf = p.leaf in
-    let at : (b : List ℕ) → slice_get (accounts s w b) (suc x) ≡ Some (plain_account c leaf (slice_index b x)) =
-    λ b. ap (λ all. slice_get all (suc x)) (accounts_are s h.bare w h.kept b) ∙ plain_at (components s) w.leaves b x c leaf p.has_component p.has_leaf in
-    let P : Option Component → Type 0 = λ o. IfSome o (λ d. label ≡ d.label) in
-    let Q : Option Account → Type 0 = λ o. IfSome o (λ a. quota ≡ a.quota.ram) in
-    let R : Option Leaf → Type 0 = λ o. IfSome o (λ l. used ≡ held Ram w x l) in
-    let S : Option Leaf → Type 0 = λ o. IfSome o (λ l. steps ≡ l.steps) in
-    let T : Option Leaf → Type 0 = λ o. IfSome o (λ l. phase ≡ l.phase) in
-    let is_label : label ≡ c.label = subst P p.has_component r.is_label in
-    let is_quota : quota ≡ handed leaf.phase c.node.quantum.ram = subst Q (at []) r.is_quota in
-    let is_used : used ≡ 0 = subst R p.has_leaf r.is_used ∙ held_none s w h.kept Ram x leaf p.empty in
-    let is_steps : steps ≡ leaf.steps = subst S p.has_leaf r.is_steps in
-    let is_phase : phase ≡ leaf.phase = subst T p.has_leaf r.is_phase in
-    let same : read_account label quota used steps (slice_index budgets x) phase ≡ plain_account c leaf (slice_index budgets x) =
-    λ i. read_account (is_label i) (is_quota i) (is_used i) (is_steps i) (slice_index budgets x) (is_phase i) in
-    at budgets ∙ ap Some (sym same)
+module _ (s : Scenario) (w : World) (x : ℕ) (budgets : List ℕ) where
+  abbrev account_here : Option Account
+  account_here = slice_get (accounts s w budgets) (suc x)
 
--- LINES
+  -- the account of a leaf in a sound world
+  account_is : (h : IsSound s w) (p : Pair (components s) w.leaves x) → account_here ≡ Some (plain_account p.component p.leaf (slice_index budgets x))
+  account_is h p = ap (λ all. slice_get all (suc x)) (accounts_are s h.bare w h.kept budgets) ∙ plain_at (components s) w.leaves budgets x p.component p.leaf p.has_component p.has_leaf
 
--- a line is that of an account in one way
-only_once : (o : Option Account) (line : List ℕ) (p q : IfSome o (λ a. line ≡ account_line 1 a)) → p ≡ q
-only_once None line p q = refl
-only_once (Some a) line p q = Coded-set (coded_list coded_ℕ) line (account_line 1 a) p q
+  -- what is read is told of it
+  told_is : IsSound s w → (used caps_used steps : ℕ) (phase : Phase) → IsRead s w x used caps_used steps phase → IfSome account_here (λ a. a.leaf ≡ Some (told_leaf used caps_used steps (slice_index budgets x) phase))
+  told_is h used caps_used steps phase r =
+      let p = pair_at (components s) w.leaves x h.kept.leaves r.within in
+      let c = p.component in
+      let leaf = p.leaf in
+      let Q : Option Leaf → Type 0 = λ o. IfSome o (λ l. used ≡ held Ram w x l) in
+      let R : Option Leaf → Type 0 = λ o. IfSome o (λ l. caps_used ≡ held Caps w x l) in
+      let S : Option Leaf → Type 0 = λ o. IfSome o (λ l. steps ≡ l.steps) in
+      let T : Option Leaf → Type 0 = λ o. IfSome o (λ l. phase ≡ l.phase) in
+      let is_used : used ≡ 0 = subst Q p.has_leaf r.is_used ∙ held_none s w h.kept Ram x leaf p.empty in
+      let is_caps_used : caps_used ≡ 0 = subst R p.has_leaf r.is_caps_used ∙ held_none s w h.kept Caps x leaf p.empty in
+      let is_steps : steps ≡ leaf.steps = subst S p.has_leaf r.is_steps in
+      let is_phase : phase ≡ leaf.phase = subst T p.has_leaf r.is_phase in
+      let same : told_leaf 0 0 leaf.steps (slice_index budgets x) leaf.phase ≡ told_leaf used caps_used steps (slice_index budgets x) phase =
+      λ i. told_leaf (sym is_used i) (sym is_caps_used i) (sym is_steps i) (slice_index budgets x) (sym is_phase i) in
+      subst (λ (o : Option Account). IfSome o (λ a. a.leaf ≡ Some (told_leaf used caps_used steps (slice_index budgets x) phase))) (sym (account_is h p)) (ap Some same)
 
--- the line with what was read is that of the leaf's account
-read_line : (s : Scenario) (w : World) → ∥ IsSound s w ∥₁ → (x : ℕ) (label : List ℕ) (quota used steps : ℕ) (phase : Phase) → IsRead s w x label quota used steps phase → (budgets : List ℕ) (line : List ℕ)
-    → line ≡ account_line 1 (read_account label quota used steps (slice_index budgets x) phase) → IfSome (slice_get (accounts s w budgets) (suc x)) (λ a. line ≡ account_line 1 a)
-read_line s w sound x label quota used steps phase r budgets line e =
-    ∥∥₁_elim sound (only_once (slice_get (accounts s w budgets) (suc x)) line) (λ h.
-    let P : Option Account → Type 0 = λ o. IfSome o (λ a. line ≡ account_line 1 a) in
-    subst P (sym (read_is s w h x label quota used steps phase r budgets)) e)
+  -- its label is the leaf's
+  label_is : IsSound s w → x < length (components s) → (label : List ℕ) → IfSome (slice_get (components s) x) (λ c. label ≡ c.label) → IfSome account_here (λ a. label ≡ a.label)
+  label_is h less label l =
+      let p = pair_at (components s) w.leaves x h.kept.leaves less in
+      subst (λ (o : Option Account). IfSome o (λ a. label ≡ a.label)) (sym (account_is h p)) (subst (λ (o : Option Component). IfSome o (λ c. label ≡ c.label)) p.has_component l)
 
--- the steps of a leaf, its step budget and what it does
-abbrev pub progress : ℕ → ℕ → Phase → List ℕ
-progress steps budget phase = entry (codes "steps") steps ++ codes "/" ++ decimal budget ++ codes " " ++ phase_word phase
+  -- so it is where no more is known than that the world is sound
+  told_once : (o : Option Account) (told : LeafAccount) (p q : IfSome o (λ a. a.leaf ≡ Some told)) → p ≡ q
+  told_once None told p q = refl
+  told_once (Some a) told p q = Coded-set leaf_accounts a.leaf (Some told) p q
 
--- the line in its parts
-abbrev pub parts : List ℕ → ℕ → ℕ → ℕ → ℕ → Phase → List ℕ
-parts label quota used steps budget phase =
-    codes "account " ++ label ++ entry (codes "quota") quota ++ entry (codes "used") used ++ progress steps budget phase ++ 10 ∷ []
+  label_once : (o : Option Account) (label : List ℕ) (p q : IfSome o (λ a. label ≡ a.label)) → p ≡ q
+  label_once None label p q = refl
+  label_once (Some a) label p q = Coded-set (coded_list coded_ℕ) label a.label p q
 
-parts_are : (label : List ℕ) (quota used steps budget : ℕ) (phase : Phase) → parts label quota used steps budget phase ≡ account_line 1 (read_account label quota used steps budget phase)
-parts_are label quota used steps budget phase =
-    ap (λ (t : List ℕ). t ++ progress steps budget phase ++ 10 ∷ [])
-    (sym (append-nil (codes "account " ++ label ++ entry (codes "quota") quota ++ entry (codes "used") used)))
+  pub told_here : ∥ IsSound s w ∥₁ → (used caps_used steps : ℕ) (phase : Phase) → IsRead s w x used caps_used steps phase → IfSome account_here (λ a. a.leaf ≡ Some (told_leaf used caps_used steps (slice_index budgets x) phase))
+  told_here sound used caps_used steps phase r =
+      ∥∥₁_elim sound (told_once account_here (told_leaf used caps_used steps (slice_index budgets x) phase)) (λ h. told_is h used caps_used steps phase r)
 
--- these parts are the line of the leaf's account
-pub parts_line : (s : Scenario) (w : World) → ∥ IsSound s w ∥₁ → (x : ℕ) (label : List ℕ) (quota used steps budget : ℕ) (phase : Phase) → IsRead s w x label quota used steps phase → (line : List ℕ) → line ≡ parts label quota used steps budget phase
-    → (budgets : List ℕ) → slice_index budgets x ≡ budget → IfSome (slice_get (accounts s w budgets) (suc x)) (λ a. line ≡ account_line 1 a)
-parts_line s w sound x label quota used steps budget phase r line e budgets b =
-    read_line s w sound x label quota used steps phase r budgets line (e ∙ (parts_are label quota used steps budget phase ∙ ap (λ n. account_line 1 (read_account label quota used steps n phase)) (sym b)))
+  pub label_here : ∥ IsSound s w ∥₁ → x < length (components s) → (label : List ℕ) → IfSome (slice_get (components s) x) (λ c. label ≡ c.label) → IfSome account_here (λ a. label ≡ a.label)
+  label_here sound less label l = ∥∥₁_elim sound (label_once account_here label) (λ h. label_is h less label l)
+
+module _ (s : Scenario) (w : World) (x : ℕ) (budgets : List ℕ) (less : x < length (components s)) (part : Amount → ℕ) (n : ℕ) where
+  abbrev HasPart : Option Account → Type 0
+  HasPart o = IfSome o (λ a. n ≡ part a.quota)
+
+  part_once : (o : Option Account) (p q : HasPart o) → p ≡ q
+  part_once None p q = refl
+  part_once (Some a) p q = Coded-set coded_ℕ n (part a.quota) p q
+
+  part_is : IsSound s w → HasPart (slice_get (accounts s w []) (suc x)) → HasPart (slice_get (accounts s w budgets) (suc x))
+  part_is h t =
+      let p = pair_at (components s) w.leaves x h.kept.leaves less in
+      subst HasPart (sym (account_is s w x budgets h p)) (subst HasPart (account_is s w x [] h p) t)
+
+  -- a quota does not hang on the budgets
+  pub part_here : ∥ IsSound s w ∥₁ → HasPart (slice_get (accounts s w []) (suc x)) → HasPart (slice_get (accounts s w budgets) (suc x))
+  part_here sound t = ∥∥₁_elim sound (part_once (slice_get (accounts s w budgets) (suc x))) (λ h. part_is h t)
 
 -- ALL LINES
 

@@ -1,7 +1,8 @@
 //! Worlds: scenarios loaded, turns taken and texts written.
 #![tactic(auto)]
 
-mod account;
+pub mod account;
+mod account_line;
 pub mod budget;
 pub mod counted;
 pub mod judge;

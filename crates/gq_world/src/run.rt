@@ -9,7 +9,7 @@ ghost use Rattle.gq_world.specs.Going.{AreBelow, HasRun, IsCut};
 ghost use Rattle.gq_world.specs.Written.{whole_of, stage_written};
 ghost use Rattle.gq_world.specs.Outcomes.{IsWhole, IsCutShort, IsFaultOf, IsBefore};
 
-use crate::account::write_accounts;
+use crate::account_line::write_accounts;
 use crate::counted::{Counted, WriteFault};
 use crate::load::{LoadError, LoadFault};
 use crate::world::{Stop, World};

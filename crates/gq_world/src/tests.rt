@@ -3,8 +3,10 @@ use crate::Counted;
 use crate::load::{LoadError, LoadFault};
 use crate::run::{RunFault, run};
 use crate::world::{Stop, World};
+use gq_init::node::NodeNo;
 use gq_machine::event::Event;
 use gq_model::fault::{TextFault, TurnFault};
+use gq_model::phase::Phase;
 use std::io::Cursor;
 use std::test::Fail;
 
@@ -135,5 +137,32 @@ fn knows_budgets_before_the_run(rt: HostRuntime) -> Result<(), Fail> {
         return Err(Fail::from("one budget"));
     };
     assert!(rt; budget.own() == 0 && budget.own_caps() == 0 && budget.steps() == 2);
+    Ok(())
+}
+
+#[test]
+fn tells_accounts_before_and_after(rt: HostRuntime) -> Result<(), Fail> {
+    let Ok(mut world) = World::load(rt.alloc(), HELLO) else {
+        return Err(Fail::from("a world"));
+    };
+    let Some(hello) = world.leaf(b"hello") else {
+        return Err(Fail::from("a leaf"));
+    };
+    let node = world.node(hello);
+    assert!(rt; world.nodes() == 2 && node == NodeNo::new(1) && world.free_pages() == 16);
+    assert!(rt; world.account(NodeNo::new(0)).quota() == 61440);
+    assert!(rt; world.account(NodeNo::new(0)).leaf().is_none());
+    assert!(rt; world.account(node).quota() == 4096 && world.account(node).caps() == 0);
+    let mut text = Vec::new(rt.alloc());
+    let mut out = Counted::new(Cursor::new(&mut text));
+    assert!(rt; world.turn(hello, &mut out) == Ok(Event::Line));
+    assert!(rt; world.turn(hello, &mut out) == Ok(Event::Finished));
+    assert!(rt; world.account(NodeNo::new(0)).quota() == 65536);
+    assert!(rt; world.account(node).quota() == 0);
+    let Some(leaf) = world.account(node).leaf() else {
+        return Err(Fail::from("a leaf's account"));
+    };
+    assert!(rt; leaf.used() == 0 && leaf.caps_used() == 0);
+    assert!(rt; leaf.steps() == 2 && leaf.budget() == 2 && leaf.phase() == Phase::Exited);
     Ok(())
 }

@@ -1,18 +1,22 @@
 // A world: an accepted scenario that runs.
-ghost use Rattle.std.specs.Prelude.{◌≡◌, ◌↔◌, ◌<◌, ◌≤◌, ◌+◌, ◌++◌, ◌∷◌, [], true, false, suc, length, slice_get, codes, Ok, Err, IfOk, IfErr, IfSome, OnOk};
+ghost use Rattle.std.specs.Prelude.{ℕ, ◌≡◌, ◌↔◌, ◌<◌, ◌≤◌, ◌+◌, ◌*◌, ◌++◌, ◌∷◌, [], true, false, suc, length, slice_get, codes, Some, Ok, Err, IfOk, IfErr, IfSome, OnOk};
 ghost use Rattle.gq_model.specs.Scenario.{components, system};
 ghost use Rattle.gq_model.specs.Routes.{numbered};
 ghost use Rattle.gq_model.specs.Step.{next};
 ghost use Rattle.gq_model.specs.Accept as accept;
 ghost use Rattle.gq_world.specs.Writes.{IsFront, IsRaised};
 ghost use Rattle.gq_world.specs.Worlds.{IsSound, IsTurn, StopsWriting};
-ghost use Rattle.gq_world.specs.Lines.{all_accounts, IsAccountLine};
+ghost use Rattle.gq_world.specs.Lines.{all_accounts, node_count, leaf_place, told_of, IsAccountLine};
+ghost use Rattle.gq_model.specs.Amounts.{Ram};
+ghost use Rattle.gq_machine.specs.Held.{held_by_all};
 
-use crate::account::{leaf_line, root_line};
+use crate::account::{Account, LeafAccount};
+use crate::account_line::account_line;
 use crate::budget::Budget;
 use crate::counted::{Counted, put};
 use crate::line::{Line, labelled};
 use arrayvec::ArrayVec;
+use gq_init::node::NodeNo;
 use gq_init::scenario::{LeafNo, Scenario};
 use gq_machine::event::Event;
 use gq_machine::machine::Machine;
@@ -80,30 +84,88 @@ impl World {
         self.machine.scenario()
     }
 
-    // The number of its leaves: each has an account, and so has the root.
-    pub(crate) fn leaf_count(&self) -> usize
+    // The number of its leaves.
+    fn leaf_count(&self) -> usize
         ensures leaves { result ≡ length (components self.now.scenario) }
         ensures few { result ≤ 64 }
         ensures accounts { length (all_accounts self.now) ≡ suc result }
+        ensures nodes { node_count self.now.scenario.nodes ≡ result }
+        ensures places { (x : ℕ) → x < result → leaf_place self.now.scenario.nodes x ≡ x }
     {
         self.machine.scenario().leaf_count()
     }
 
-    // The line of the root's account.
-    pub(crate) fn root_line(&self) -> Line
-        ensures { IsAccountLine self.now 0 result.items }
+    /// The number of nodes, the root among them.
+    pub fn nodes(&self) -> usize
+        ensures nodes { result ≡ suc (node_count self.now.scenario.nodes) }
+        ensures accounts { result ≡ length (all_accounts self.now) }
+        ensures few { result ≤ 65 }
     {
-        root_line(&self.machine)
+        self.leaf_count() + 1
     }
 
-    // The line of a leaf's account.
-    pub(crate) fn leaf_line(&self, leaf: LeafNo) -> Line
+    /// The node that a leaf is.
+    pub fn node(&self, leaf: LeafNo) -> NodeNo
         requires { leaf < length (components self.now.scenario) }
-        ensures { IsAccountLine self.now (suc leaf) result.items }
+        ensures place { result ≡ suc (leaf_place self.now.scenario.nodes leaf) }
+        ensures there { result < length (all_accounts self.now) }
+    {
+        let _leaves = self.leaf_count();
+        NodeNo::new(leaf.number() + 1)
+    }
+
+    /// The pages, of 4096 bytes, that no leaf holds.
+    pub fn free_pages(&self) -> u64
+        ensures { result * 4096 + held_by_all Ram self.now.world ≡ self.now.scenario.total.ram }
+    {
+        self.machine.free_pages()
+    }
+
+    /// The account of a node.
+    pub fn account(&self, node: NodeNo) -> Account
+        requires { node < length (all_accounts self.now) }
+        ensures { IfSome (slice_get (all_accounts self.now) node) (λ a. result ≡ told_of a) }
+    {
+        let _leaves = self.leaf_count();
+        let quota = self.machine.quota(node);
+        let caps = self.machine.caps(node);
+        if node.index() == 0 {
+            return Account::new(quota, caps, None);
+        }
+        let leaf = self.leaf_account(LeafNo::new(node.number() - 1));
+        Account::new(quota, caps, Some(leaf))
+    }
+
+    // What is told of a leaf beside its quota.
+    fn leaf_account(&self, leaf: LeafNo) -> LeafAccount
+        requires { leaf < length (components self.now.scenario) }
+        ensures { IfSome (slice_get (all_accounts self.now) (suc leaf)) (λ a. a.leaf ≡ Some result) }
     {
         let place = leaf.index();
         let budget = self.budgets()[place].steps();
-        leaf_line(&self.machine, leaf, budget)
+        let machine = &self.machine;
+        LeafAccount::new(
+            machine.used(leaf),
+            machine.caps_used(leaf),
+            machine.steps(leaf),
+            budget,
+            machine.phase(leaf),
+        )
+    }
+
+    // The line of the account of a node.
+    pub(crate) fn account_line(&self, node: NodeNo) -> Line
+        requires { node < length (all_accounts self.now) }
+        ensures { IsAccountLine self.now node result.items }
+    {
+        let _leaves = self.leaf_count();
+        let scenario = self.machine.scenario();
+        let account = self.account(node);
+        if node.index() == 0 {
+            return account_line(b"init", &account);
+        }
+        let label = scenario.label(LeafNo::new(node.number() - 1));
+        account_line(label.as_slice(), &account)
     }
 
     /// The leaf of that name, if there is one.

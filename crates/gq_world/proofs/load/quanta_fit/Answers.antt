@@ -15,7 +15,7 @@ returns-then-quantum-left c =
     let q = c.quantum-quantum.result in
     let next = quanta-drop cs l.number q (omega (arith, c.leaf_count-number-end.ensures.count)) (subst (HasQuantum cs q) c.new.ensures c.quantum-quantum.ensures) in
     let total = ap sum next ∙ sum-cons q (quanta_of (drop (l.number + 1) cs)) in
-    ((λ t. cc), λ h. absurd (omega (arith, total, l.invariant, c.if-quantum-left.true, c.ram-left.ensures, h)))
+    ((λ t. cc), λ h. absurd (omega (arith, total, l.invariant, c.if-quantum-left.true, c.ram-left.ensures.total, h)))
 
 pub loop-number-preserved : goal.loop-number-preserved
 loop-number-preserved c =
@@ -24,4 +24,4 @@ loop-number-preserved c =
     let q = c.quantum-quantum.result in
     let next = quanta-drop cs l.number q (omega (arith, c.leaf_count-number-end.ensures.count)) (subst (HasQuantum cs q) c.new.ensures c.quantum-quantum.ensures) in
     let total = ap sum next ∙ sum-cons q (quanta_of (drop (l.number + 1) cs)) in
-    omega (arith, total, l.invariant, c.if-quantum-left.false, c.ram-left.ensures)
+    omega (arith, total, l.invariant, c.if-quantum-left.false, c.ram-left.ensures.total)

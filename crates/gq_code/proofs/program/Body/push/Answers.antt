@@ -4,7 +4,7 @@ use Rattle.gq_code.specs.Trees.{tree_of}
 use Rattle.gq_code.proofs.Lists.{tree_of-append}
 use Rattle.gq_code.proofs.program.Body.push.Goals as goal
 
-pub returns : goal.returns
-returns c =
+pub returns-clause-pushed : goal.returns-clause-pushed
+returns-clause-pushed c =
     ap tree_of c.in_ok-push.ensures.items
     ∙ (tree_of-append c.self.inside.statements.items (c.args.statement ∷ []) ∙ ap (λ t. t then tree_of (c.args.statement ∷ [])) c.self.view_is)

@@ -9,4 +9,4 @@ use Rattle.gq_machine.proofs.machine.Machine.used.Goals as goal
 pub returns : goal.returns
 returns c =
     let P : Machine → Type 0 = λ v. IfSome (slice_get v.world.leaves c.args.leaf) (λ l. 0 ≡ held Ram v.world c.args.leaf l) in
-    subst P c.self.view_is (held-at c.self.inside.leaves.items c.self.inside.leaves.items c.args.leaf c.args.leaf)
+    subst P c.self.view_is (held-at Ram c.self.inside.leaves.items c.self.inside.leaves.items c.args.leaf c.args.leaf)

@@ -1,0 +1,12 @@
+use Rattle.std.proofs.Common.{◌≡◌, IfSome, subst}
+use Rattle.std.specs.Prelude.{slice_get}
+use Rattle.gq_model.specs.Amounts.{Caps}
+use Rattle.gq_model.specs.Sums.{held}
+use Rattle.gq_machine.specs.Machines.{Machine}
+use Rattle.gq_machine.proofs.Balances.{held-at}
+use Rattle.gq_machine.proofs.machine.Machine.caps_used.Goals as goal
+
+pub returns : goal.returns
+returns c =
+    let P : Machine → Type 0 = λ v. IfSome (slice_get v.world.leaves c.args.leaf) (λ l. 0 ≡ held Caps v.world c.args.leaf l) in
+    subst P c.self.view_is (held-at Caps c.self.inside.leaves.items c.self.inside.leaves.items c.args.leaf c.args.leaf)
