@@ -146,7 +146,7 @@ TopTable = Three (codes "version") (codes "ram") (codes "start") (is_number 1 1)
 pub top_table : (top : Members) → table_fault stage_top_keys top ≡ None → TopTable top
 top_table top e = three (codes "version") (codes "ram") (codes "start") (is_number 1 1) is_total (is_list is_table) top e
 
-not_two : (o : Option ℕ) → passes (between 1 1) o ≡ true → is_two o ≡ false
+pub not_two : (o : Option ℕ) → passes (between 1 1) o ≡ true → is_two o ≡ false
 not_two None e = absurd cc
 not_two (Some n) e = one_is n e
 

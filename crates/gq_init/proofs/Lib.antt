@@ -9,3 +9,4 @@ pub mod Described
 pub mod Names
 pub mod Texts
 pub mod Ascii
+pub mod Stages

@@ -8,3 +8,4 @@ pub mod Lines
 pub mod TurnLines
 pub mod Words
 pub mod Rules
+pub mod Later

@@ -18,3 +18,8 @@ pub mod Budgets
 pub mod Fronts
 pub mod Lines
 pub mod Whole
+pub mod Stage_laws
+pub mod Stage_refusals
+pub mod Headline
+pub mod Rows_whole
+pub mod Rows_headline

@@ -12,3 +12,7 @@ pub mod Written
 pub mod Going
 pub mod Outcomes
 pub mod Lines
+pub mod Load
+pub mod Whole
+pub mod Covered
+pub mod Headline

@@ -1,5 +1,5 @@
 // Loading: from a text to a world at its start.
-ghost use Rattle.std.specs.Prelude.{◌≡◌, ◌<◌, ◌≤◌, true, false, length, slice_get, Ok, Err, Some, None, IfOk, IfErr, IfSome, IfNone, IsTrue, ◌↔◌, sum};
+ghost use Rattle.std.specs.Prelude.{ℕ, List, ◌≡◌, ◌<◌, ◌≤◌, true, false, length, slice_get, Ok, Err, Some, None, IfOk, IfErr, IfSome, IfNone, IsTrue, ◌↔◌, sum};
 ghost use Rattle.gq_model.specs.Scenario.{components, system};
 ghost use Rattle.gq_model.specs.World.{start};
 ghost use Rattle.gq_model.specs.Accept.{refusal};
@@ -8,6 +8,7 @@ ghost use Rattle.gq_machine.specs.Plain.{are_plain_programs, quanta_of};
 ghost use Rattle.gq_world.specs.Judgements.{programs_of};
 ghost use Rattle.gq_world.specs.Judgements as judgements;
 ghost use Rattle.gq_world.specs.Loading.{texts_fault, source_fault, programs_fault, scenario_fault, stage_loaded};
+ghost use Rattle.gq_world.specs.Headline.{Upholds};
 ghost use Rattle.gq_world.specs.Faults.{PrintsFault, GivesFault, Refuses, IsReadFrom, AreBareComponents};
 
 use crate::budget::budgets_of;
@@ -201,6 +202,9 @@ impl World {
 
         // The verifier accepts the scenario.
         ensures accepted { IfOk result (λ w. refusal w.scenario ≡ None) }
+
+        // Whatever the turns, a run of it upholds what is promised.
+        ensures upheld { IfOk result (λ w. (turns : List (ℕ × ℕ)) → Upholds w.scenario turns) }
     {
         match read_scenario(alloc, text) {
             Ok(scenario) => load_scenario(alloc, &scenario),

@@ -7,6 +7,8 @@ ghost use Rattle.gq_model.specs.World.{start};
 ghost use Rattle.gq_world.specs.Writes.{IsFront, IsRaised};
 ghost use Rattle.gq_world.specs.Going.{AreBelow, HasRun, IsCut};
 ghost use Rattle.gq_world.specs.Written.{whole_of, stage_written};
+ghost use Rattle.gq_world.specs.Whole.{run_written};
+ghost use Rattle.gq_world.specs.Headline.{WritesPromised};
 ghost use Rattle.gq_world.specs.Outcomes.{IsWhole, IsCutShort, IsFaultOf, IsBefore};
 
 use crate::account_line::write_accounts;
@@ -106,15 +108,18 @@ pub fn run<W: Write>(
     out: &mut Counted<W>,
 ) -> Result<(), RunFault>
     // The whole text of the definition was written, and nothing else.
-    ensures written { OnOk result (IsWhole (stage_written scenario.now turns.now) (W.contents out.old.writer) (W.contents out.new.writer)) }
+    ensures written { OnOk result (IsWhole (run_written scenario.now turns.now) (W.contents out.old.writer) (W.contents out.new.writer)) }
+
+    // It is the text of a run that never came to a wrong step and kept every budget, and whose quotas sum to the total.
+    ensures promised { OnOk result (WritesPromised scenario.now turns.now (W.contents out.old.writer) (W.contents out.new.writer)) }
     ensures counted { OnOk result (out.new.failures ≡ out.old.failures) }
 
-    // The fault is that of the definition.
+    // The fault is that of the definition of what is brought so far, and of the whole language where this covers the scenario.
     ensures refused { IfErr result (λ fault. IsFaultOf fault (stage_written scenario.now turns.now)) }
     ensures silent { IfErr result (λ fault. IsBefore fault → out.new ≡ out.old) }
 
     // A write failed: a front of the text was written.
-    ensures cut { result ≡ Err RunFault.Write → IsCutShort (stage_written scenario.now turns.now) (W.contents out.old.writer) (W.contents out.new.writer) }
+    ensures cut { result ≡ Err RunFault.Write → IsCutShort (run_written scenario.now turns.now) (W.contents out.old.writer) (W.contents out.new.writer) }
     ensures raised { result ≡ Err RunFault.Write → IsRaised out.old.failures out.new.failures }
 {
     let mut world = match World::load(alloc, scenario) {

@@ -157,6 +157,7 @@ fn tells_accounts_before_and_after(rt: HostRuntime) -> Result<(), Fail> {
     let mut out = Counted::new(Cursor::new(&mut text));
     assert!(rt; world.turn(hello, &mut out) == Ok(Event::Line));
     assert!(rt; world.turn(hello, &mut out) == Ok(Event::Finished));
+    assert!(rt; world.nodes() == 2 && world.free_pages() == 16);
     assert!(rt; world.account(NodeNo::new(0)).quota() == 65536);
     assert!(rt; world.account(node).quota() == 0);
     let Some(leaf) = world.account(node).leaf() else {

@@ -1,0 +1,79 @@
+-- The scenario of a text, or the first reason to refuse it.
+use Rattle.std.specs.Prelude.{ℕ, List, [], ◌∷◌, ◌++◌, Option, Some, None, Result, Ok, Err, codes, decimal}
+use Rattle.gq_model.specs.Program.{Program}
+use Rattle.gq_model.specs.Lists.{or_first}
+use Rattle.gq_model.specs.declared.fault.TextFault.{TextFault}
+use Rattle.gq_model.specs.declared.fault.CodeFault.{CodeFault}
+use Rattle.gq_model.specs.declared.fault.CodeFault.TheVariants.{Truncated, UnknownOpcode, BadOperand, BadNesting, TooLong, TrailingBytes}
+use Rattle.gq_model.specs.Scenario.{Source, As_text, As_code, Component, Scenario, components}
+use Rattle.gq_model.specs.Text.{assembled}
+use Rattle.gq_model.specs.Decode.{decoded}
+use Rattle.gq_model.specs.Accept.{Refusal, refusal}
+use Rattle.gq_model.specs.Fault_texts.{refusal_text}
+use Rattle.gq_init.specs.Reading.{ReadFault, read_text, scenario_in}
+use Rattle.gq_world.specs.Loading.{text_fault_word}
+
+-- why a text is refused: it is no scenario, a leaf's text or a leaf's code is no program, or the scenario is refused
+pub data Fault : Type 0 where
+  Unread : (fault : ReadFault) → Fault
+  Bad_text_of : (leaf : List ℕ) (fault : TextFault) (line : ℕ) → Fault
+  Bad_code_of : (leaf : List ℕ) (fault : CodeFault) → Fault
+  Refused_for : (why : Refusal) → Fault
+
+-- PROGRAMS
+
+abbrev pub text_fault : List ℕ → Result Program (TextFault × ℕ) → Option Fault
+text_fault leaf (Ok p) = None
+text_fault leaf (Err fault) = Some (Bad_text_of leaf fault.0 fault.1)
+
+abbrev pub code_fault : List ℕ → Result Program CodeFault → Option Fault
+code_fault leaf (Ok p) = None
+code_fault leaf (Err fault) = Some (Bad_code_of leaf fault)
+
+-- what is wrong with a leaf's program as it is given
+abbrev pub source_fault : List ℕ → Source → Option Fault
+source_fault leaf (As_text text) = text_fault leaf (assembled text)
+source_fault leaf (As_code code) = code_fault leaf (decoded code)
+
+-- the first leaf whose text or code is no program
+abbrev pub sources_fault : List Component → Option Fault
+sources_fault [] = None
+sources_fault (c ∷ rest) = or_first (source_fault c.node.name c.node.source) (sources_fault rest)
+
+-- LOADING
+
+abbrev pub refused : Option Refusal → Option Fault
+refused None = None
+refused (Some why) = Some (Refused_for why)
+
+-- the first fault of a scenario that was read: texts and codes, then what the verifier says
+abbrev pub scenario_fault : Scenario → Option Fault
+scenario_fault s = or_first (sources_fault (components s)) (refused (refusal s))
+
+abbrev pub loaded_or : Scenario → Option Fault → Result Scenario Fault
+loaded_or s None = Ok s
+loaded_or s (Some fault) = Err fault
+
+abbrev pub loaded_from : Result Scenario ReadFault → Result Scenario Fault
+loaded_from (Ok s) = loaded_or s (scenario_fault s)
+loaded_from (Err fault) = Err (Unread fault)
+
+-- the accepted scenario of a text, or the first fault
+abbrev pub loaded : List ℕ → Result Scenario Fault
+loaded text = loaded_from (scenario_in text)
+
+-- TEXTS
+
+abbrev pub code_fault_word : CodeFault → List ℕ
+code_fault_word Truncated = codes "C1 Truncated"
+code_fault_word UnknownOpcode = codes "C2 UnknownOpcode"
+code_fault_word BadOperand = codes "C3 BadOperand"
+code_fault_word BadNesting = codes "C4 BadNesting"
+code_fault_word TooLong = codes "C5 TooLong"
+code_fault_word TrailingBytes = codes "C6 TrailingBytes"
+
+abbrev pub fault_text : Fault → List ℕ
+fault_text (Unread fault) = read_text fault
+fault_text (Bad_text_of leaf fault line) = leaf ++ codes ": " ++ text_fault_word fault ++ codes " line " ++ decimal line
+fault_text (Bad_code_of leaf fault) = leaf ++ codes ": " ++ code_fault_word fault
+fault_text (Refused_for why) = refusal_text why
