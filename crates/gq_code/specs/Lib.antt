@@ -1,3 +1,4 @@
 pub mod Trees
 pub mod Falls
 pub mod Spelling
+pub mod Codes

@@ -4,13 +4,15 @@ ghost use Rattle.gq_model.specs.Program.{spelled};
 ghost use Rattle.gq_model.specs.Operands.{opcode, operator_code, slot_code, is_slot, is_slot_or_object, operands, in_range, operands_code, instruction_code};
 ghost use Rattle.gq_model.specs.Lists.{all_of};
 ghost use Rattle.gq_model.specs.Code.{body_code, body_length, is_body};
+ghost use Rattle.gq_code.specs.Trees.{tree_of};
+ghost use Rattle.gq_code.specs.Codes.{has_code};
 
 use crate::program::{Body, Statement};
 use gq_model::program::{Form, Instruction, Operator, Place, Width};
 use std::alloc::{AllocError, Global};
 
 /// Puts a number at the end, in so many bytes, the least first.
-fn write_number(out: &mut Vec<u8>, width: usize, number: u64) -> Result<(), AllocError>
+pub(crate) fn write_number(out: &mut Vec<u8>, width: usize, number: u64) -> Result<(), AllocError>
     ensures { OnOk result (out.new.items ≡ out.old.items ++ spelled width number) }
 {
     let mut left = number;
@@ -156,6 +158,53 @@ pub fn encode_plain(alloc: Global, body: &Body) -> Result<Vec<u8>, AllocError>
             Statement::Plain(instruction) => write_instruction(&mut code, instruction)?,
             Statement::If(_, _) | Statement::Loop(_, _) => unreachable!(),
         }
+    }
+    Ok(code)
+}
+
+/// Puts the code of a statement at the end: an `if` has the lengths of both arms before them, a loop its count and the length
+/// of its body.
+#[cycle(bodies)]
+fn write_statement(
+    alloc: Global,
+    out: &mut Vec<u8>,
+    statement: &Statement,
+) -> Result<(), AllocError>
+    requires { IsTrue (has_code (tree_of (statement.now ∷ []))) }
+    ensures { OnOk result (out.new.items ≡ out.old.items ++ body_code (tree_of (statement.now ∷ []))) }
+{
+    match statement {
+        Statement::Plain(instruction) => write_instruction(out, instruction),
+        Statement::If(arm, other) => {
+            let arm = encode_body(alloc, arm)?;
+            let other = encode_body(alloc, other)?;
+            out.push(0x40)?;
+            write_number(out, 4, arm.len() as u64)?;
+            write_number(out, 4, other.len() as u64)?;
+            out.extend_from_slice(arm.as_slice())?;
+            out.extend_from_slice(other.as_slice())?;
+            Ok(())
+        }
+        Statement::Loop(count, body) => {
+            let body = encode_body(alloc, body)?;
+            out.push(0x41)?;
+            write_number(out, 2, u64::from(*count))?;
+            write_number(out, 4, body.len() as u64)?;
+            out.extend_from_slice(body.as_slice())?;
+            Ok(())
+        }
+    }
+}
+
+/// The code of a list of statements.
+#[cycle(bodies)]
+pub(crate) fn encode_body(alloc: Global, body: &Body) -> Result<Vec<u8>, AllocError>
+    requires { IsTrue (has_code body.now) }
+    ensures { IfOk result (λ code. code.items ≡ body_code body.now) }
+{
+    let mut code = Vec::new(alloc);
+    for statement in body.statements() {
+        write_statement(alloc, &mut code, statement)?;
     }
     Ok(code)
 }

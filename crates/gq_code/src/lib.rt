@@ -1,8 +1,10 @@
 //! Programs: as trees, and as bytes.
 #![tactic(auto)]
 
+pub mod check;
 pub mod encode;
 pub mod program;
+pub mod program_code;
 pub mod spelling;
 
 pub use gq_model::program::{Form, Instruction, Name, Operator, Place, Section, Text, Width};

@@ -1,11 +1,12 @@
 // Scenarios and turns of the specification's rows, and the lines of their faults.
+use crate::fault::ScenarioError;
 use crate::key::Key;
 use crate::node::NodeNo;
 use crate::reader::read_scenario;
 use crate::scenario::{LeafNo, Scenario};
 use crate::turns::{TurnsError, read_turns};
 use gq_model::fault::TurnFault;
-use std::alloc::Global;
+use std::alloc::{AllocError, Global};
 use std::test::Fail;
 
 const HELLO: &str =
@@ -179,5 +180,14 @@ fn prints_a_turn_fault(rt: HostRuntime) -> Result<(), Fail> {
     };
     let line = format!(in rt.alloc(); "{error}")?;
     assert_eq!(rt; line.as_str(), "U2 NoSuchComponent line 1");
+    Ok(())
+}
+
+#[test]
+fn prints_refused_memory(rt: HostRuntime) -> Result<(), Fail> {
+    let line = format!(in rt.alloc(); "{}", ScenarioError::Memory(AllocError))?;
+    assert_eq!(rt; line.as_str(), "host memory refused");
+    let line = format!(in rt.alloc(); "{}", TurnsError::Memory(AllocError))?;
+    assert_eq!(rt; line.as_str(), "host memory refused");
     Ok(())
 }

@@ -3,7 +3,7 @@ use Rattle.std.proofs.Common.{ℕ, List, [], ◌∷◌, Option, Some, None}
 use Rattle.std.specs.Prelude.{codes, replicate}
 use Rattle.gq_model.specs.Amounts.{Ram, Caps, amount}
 use Rattle.gq_model.specs.Program.{Own, Shared, Block, Slice, Space, Byte, Subtract, Multiply, Instruction, Say, Out, Drop, Push, Modulo, Index, Combine, Make, MakePool, Load, Store, Free, Take, Give, Open, Upgrade, Call, Close, Statements, Done, Do, Loop, Section, Main, Opening, Upgrading, Calling, Closing, Program}
-use Rattle.gq_model.specs.Scenario.{Scenario, Interface, Interfaces, Route, Target, Any_child, Parent, Source, As_text, LeafNode, InitNode, Nodes, End, Leaf_node, Init_node}
+use Rattle.gq_model.specs.Scenario.{Scenario, Interface, Interfaces, Route, Target, Any_child, Parent, As_text, LeafNode, InitNode, Nodes, End, Leaf_node, Init_node}
 
 -- PROGRAMS
 

@@ -1,5 +1,5 @@
 -- The program that a leaf is given, as text or as code.
-use Rattle.std.specs.Prelude.{ℕ, List, [], Result, Ok, Err}
+use Rattle.std.specs.Prelude.{[], Result, Ok, Err}
 use Rattle.gq_model.specs.Program.{Program}
 use Rattle.gq_model.specs.Scenario.{Source, As_text, As_code}
 use Rattle.gq_model.specs.Text.{assembled}

@@ -1,4 +1,4 @@
-use Rattle.std.proofs.Common.{◌≡◌, ℕ, ◌+◌, ◌-◌, ◌<◌, ◌/◌, ◌%◌, suc, List, [], ◌∷◌, ◌++◌, ap, sym, ◌∙◌, arith, append_assoc}
+use Rattle.std.proofs.Common.{◌≡◌, ℕ, ◌+◌, ◌-◌, ◌<◌, ◌/◌, ◌%◌, suc, ◌∷◌, ◌++◌, ap, sym, ◌∙◌, arith, append_assoc}
 use Rattle.gq_model.specs.Program.{spelled}
 use Rattle.gq_code.proofs.encode.write_number.Goals as goal
 

@@ -1,4 +1,4 @@
-use Rattle.std.proofs.Common.{◌≡◌, ◌∙◌, ◌++◌, ap, arith, sym, codes}
+use Rattle.std.proofs.Common.{ap, arith, codes}
 use Rattle.gq_model.specs.Scenario.{LeafNode, below}
 use Rattle.gq_init.proofs.Components.{length-components, label_at}
 use Rattle.gq_init.proofs.scenario.Scenario.label.Goals as goal

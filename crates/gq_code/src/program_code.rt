@@ -1,0 +1,171 @@
+// Whole programs as bytes.
+ghost use Rattle.std.specs.Prelude.{◌≡◌, ◌≤◌, ◌<◌, ◌^◌, ◌++◌, OnOk, IfOk, IsTrue, length};
+ghost use Rattle.gq_model.specs.Code.{IsProgram, is_section, are_sections, section_number, section_bits, local_bits, limits_code, sections_code, code_of};
+ghost use Rattle.gq_code.specs.Codes.{have_codes};
+
+use crate::encode::{encode_body, write_number};
+use crate::program::{Body, Program};
+use gq_model::program::Section;
+use std::alloc::{AllocError, Global};
+
+/// The number of a local without a limit.
+const NO_LIMIT: u32 = u32::MAX;
+
+/// The locals that have a limit, the first in the lowest bit.
+fn local_bits(locals: &[u32]) -> u16
+    requires { length locals.now ≤ 8 }
+    ensures bits { result ≡ local_bits locals.now }
+    ensures few { result < 2 ^ length locals.now }
+{
+    match locals {
+        [] => 0,
+        [first, rest @ ..] => u16::from(*first < NO_LIMIT) + 2 * local_bits(rest),
+    }
+}
+
+/// Puts the limits of the locals that have one at the end.
+fn write_limits(out: &mut Vec<u8>, locals: &[u32]) -> Result<(), AllocError>
+    ensures { OnOk result (out.new.items ≡ out.old.items ++ limits_code locals.now) }
+{
+    for local in locals {
+        if *local < NO_LIMIT {
+            write_number(out, 4, u64::from(*local))?;
+        }
+    }
+    Ok(())
+}
+
+/// The bit that says that a section is there.
+fn section_bit(section: Section) -> u16
+    requires { IsTrue (is_section section) }
+    ensures { result ≡ 2 ^ section_number section }
+{
+    match section {
+        Section::Main => 1,
+        Section::Opening => 2,
+        Section::Upgrading(1) => 4,
+        Section::Upgrading(2) => 8,
+        Section::Upgrading(3) => 16,
+        Section::Calling(0) => 32,
+        Section::Calling(1) => 64,
+        Section::Calling(2) => 128,
+        Section::Calling(3) => 256,
+        Section::Closing(0) => 512,
+        Section::Closing(1) => 1024,
+        Section::Closing(2) => 2048,
+        Section::Closing(3) => 4096,
+        _ => unreachable!(),
+    }
+}
+
+/// The bits of the sections that are there.
+fn section_bits(sections: &[(Section, Body)]) -> u16
+    requires { IsTrue (are_sections 0 sections.now) }
+    ensures { result ≡ section_bits sections.now }
+{
+    let mut bits = 0;
+    for (section, _) in sections {
+        bits += section_bit(*section);
+    }
+    bits
+}
+
+/// Puts sections at the end, each after its length.
+fn write_sections(
+    alloc: Global,
+    out: &mut Vec<u8>,
+    sections: &[(Section, Body)],
+) -> Result<(), AllocError>
+    requires { IsTrue (have_codes sections.now) }
+    ensures { OnOk result (out.new.items ≡ out.old.items ++ sections_code sections.now) }
+{
+    for (_, body) in sections {
+        let code = encode_body(alloc, body)?;
+        write_number(out, 4, code.len() as u64)?;
+        out.extend_from_slice(code.as_slice())?;
+    }
+    Ok(())
+}
+
+/// The code of a program: the limits of its locals, which sections are there, and each section's statements. Refused only for
+/// want of host memory.
+pub fn encode(alloc: Global, program: &Program) -> Result<Vec<u8>, AllocError>
+    requires { IsProgram program.now }
+    ensures { IfOk result (λ code. code.items ≡ code_of program.now) }
+{
+    let mut code = Vec::new(alloc);
+    let locals = program.locals();
+    let sections = program.sections();
+    code.push(local_bits(locals) as u8)?;
+    write_limits(&mut code, locals)?;
+    write_number(&mut code, 2, u64::from(section_bits(sections)))?;
+    write_sections(alloc, &mut code, sections)?;
+    Ok(code)
+}
+
+#[cfg(test)]
+mod tests {
+    use super::*;
+    use crate::check::is_program;
+    use crate::program::Statement;
+    use gq_model::program::{Instruction, Text};
+    use std::alloc::Global;
+    use std::test::Fail;
+
+    /// A text to say.
+    fn said(text: &[u8]) -> Result<Statement, Fail> {
+        match Text::new(text) {
+            Some(text) => Ok(Statement::Plain(Instruction::Say(text))),
+            None => Err(Fail::from("a text")),
+        }
+    }
+
+    /// These statements in a list.
+    fn listed(alloc: Global, statements: Vec<Statement>) -> Result<Body, AllocError> {
+        let mut body = Body::new(alloc);
+        for statement in statements {
+            body.push(statement)?;
+        }
+        Ok(body)
+    }
+
+    /// The code of a program.
+    fn code_of(alloc: Global, main: Body, locals: [u32; 8]) -> Result<Vec<u8>, Fail> {
+        let program = Program::new(vec![in alloc; (Section::Main, main)]?, locals);
+        if !is_program(&program) {
+            return Err(Fail::from("a program"));
+        }
+        Ok(encode(alloc, &program)?)
+    }
+
+    #[test]
+    fn spells_a_text(rt: HostRuntime) -> Result<(), Fail> {
+        let alloc = rt.alloc();
+        let main = listed(alloc, vec![in alloc; said(b"hello")?]?)?;
+        let code = code_of(alloc, main, [NO_LIMIT; 8])?;
+        assert!(rt; code.as_slice() == b"\x00\x01\x00\x07\x00\x00\x00\x01\x05hello".as_slice());
+        Ok(())
+    }
+
+    #[test]
+    fn spells_blocks_and_limits(rt: HostRuntime) -> Result<(), Fail> {
+        let alloc = rt.alloc();
+        let round = listed(alloc, vec![in alloc; said(b"x")?]?)?;
+        let push = Statement::Plain(Instruction::Push(1));
+        let out = Statement::Plain(Instruction::Out);
+        let arm = listed(alloc, vec![in alloc; push, out]?)?;
+        let choice = Statement::If(arm, Body::new(alloc));
+        let main = listed(alloc, vec![in alloc; Statement::Loop(2, round), choice]?)?;
+        let mut locals = [NO_LIMIT; 8];
+        locals[1] = 1000;
+        let code = code_of(alloc, main, locals)?;
+        let head = b"\x02\xe8\x03\x00\x00\x01\x00\x19\x00\x00\x00".as_slice();
+        let looped = b"\x41\x02\x00\x03\x00\x00\x00\x01\x01x".as_slice();
+        let chosen = b"\x40\x06\x00\x00\x00\x00\x00\x00\x00\x03\x01\x00\x00\x00\x02".as_slice();
+        assert!(rt; code.len() == 36);
+        assert!(rt; &code[..11] == head);
+        assert!(rt; &code[11..21] == looped);
+        assert!(rt; &code[21..] == chosen);
+        Ok(())
+    }
+}
