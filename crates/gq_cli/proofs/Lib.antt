@@ -1,3 +1,4 @@
 pub mod Asked
+pub mod Inputs
 pub mod Rows
 pub mod Stored_laws

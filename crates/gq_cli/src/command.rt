@@ -19,7 +19,7 @@ pub enum Command {
 #[derive(Debug, Drop, Error)]
 pub enum CommandError {
     /// The host has no memory left.
-    #[error("out of memory")]
+    #[error("host memory refused")]
     Memory(AllocError),
     /// The program has no such command, or it is used with other arguments.
     #[error("bad command line")]

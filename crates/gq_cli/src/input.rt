@@ -18,7 +18,7 @@ const CHUNK: usize = 4096;
 #[derive(Debug, Drop, Error)]
 pub enum InputError {
     /// The host has no memory left.
-    #[error("out of memory")]
+    #[error("host memory refused")]
     Memory(AllocError),
     /// A read failed, or there are more than 18 MiB.
     #[error("file fault")]

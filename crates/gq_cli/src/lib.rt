@@ -4,6 +4,9 @@
 
 pub mod command;
 pub mod command_line;
+pub mod execute;
+#[cfg(test)]
+mod execute_tests;
 pub mod input;
 pub mod status;
 pub mod stored;

@@ -14,3 +14,4 @@ mod Rows_rules
 pub mod Code_laws
 pub mod Operand_laws
 pub mod Instruction_laws
+pub mod Ascii

@@ -1,4 +1,8 @@
 // The faults of programs, of turns and of steps, by the codes under which they are printed.
+ghost use Rattle.std.specs.Prelude.{◌≡◌, Some};
+ghost use Rattle.gq_model.specs.Fault_texts.{rule_word};
+
+use std::fmt::{self, Display, Formatter, Write};
 use thiserror::Error;
 
 /// Why a leaf has no next step.
@@ -22,45 +26,65 @@ pub enum Wrong {
 }
 
 /// The rules of the verifier, by what a program does that breaks one.
-#[derive(Clone, Copy, Debug, PartialEq, Eq, Error)]
+#[derive(Clone, Copy, Debug, PartialEq, Eq)]
 pub enum Rule {
-    #[error("V1 MissingOperand")]
     MissingOperand,
-    #[error("V2 StackTooDeep")]
     StackTooDeep,
-    #[error("V3 LeftoverOperand")]
     LeftoverOperand,
-    #[error("V4 WrongKind")]
     WrongKind,
-    #[error("V5 SlotInUse")]
     SlotInUse,
-    #[error("V6 OutOfRange")]
     OutOfRange,
-    #[error("V7 ValueTooLarge")]
     ValueTooLarge,
-    #[error("V8 JoinDiffers")]
     JoinDiffers,
-    #[error("V9 SessionBankChanged")]
     SessionBankChanged,
-    #[error("V10 OwnBankChanged")]
     OwnBankChanged,
-    #[error("V11 HeapInSession")]
     HeapInSession,
-    #[error("V12 ShortDonation")]
     ShortDonation,
-    #[error("V13 OverNeed")]
     OverNeed,
-    #[error("V14 LinkLeftOpen")]
     LinkLeftOpen,
-    #[error("V15 UnknownService")]
     UnknownService,
-    #[error("V16 MissingSection")]
     MissingSection,
-    #[error("V17 BudgetTooLarge")]
     BudgetTooLarge,
-    #[error("V18 OverCaps")]
     OverCaps,
 }
+
+impl Rule {
+    /// Its code and its name, as a refusal prints them.
+    pub fn word(self) -> &'static str
+        ensures { result.now ≡ rule_word self }
+    {
+        match self {
+            Rule::MissingOperand => "V1 MissingOperand",
+            Rule::StackTooDeep => "V2 StackTooDeep",
+            Rule::LeftoverOperand => "V3 LeftoverOperand",
+            Rule::WrongKind => "V4 WrongKind",
+            Rule::SlotInUse => "V5 SlotInUse",
+            Rule::OutOfRange => "V6 OutOfRange",
+            Rule::ValueTooLarge => "V7 ValueTooLarge",
+            Rule::JoinDiffers => "V8 JoinDiffers",
+            Rule::SessionBankChanged => "V9 SessionBankChanged",
+            Rule::OwnBankChanged => "V10 OwnBankChanged",
+            Rule::HeapInSession => "V11 HeapInSession",
+            Rule::ShortDonation => "V12 ShortDonation",
+            Rule::OverNeed => "V13 OverNeed",
+            Rule::LinkLeftOpen => "V14 LinkLeftOpen",
+            Rule::UnknownService => "V15 UnknownService",
+            Rule::MissingSection => "V16 MissingSection",
+            Rule::BudgetTooLarge => "V17 BudgetTooLarge",
+            Rule::OverCaps => "V18 OverCaps",
+        }
+    }
+}
+
+impl Display for Rule {
+    ghost output = { λ rule. Some (rule_word rule) };
+
+    fn fmt<W: Write>(&self, f: &mut Formatter<W>) -> fmt::Result {
+        f.write_str(self.word())
+    }
+}
+
+impl std::error::Error for Rule {}
 
 /// Why a text is no program.
 #[derive(Clone, Copy, Debug, PartialEq, Eq, Error)]

@@ -1,9 +1,11 @@
 // The parts of programs that hold no statements.
-ghost use Rattle.std.specs.Prelude.{◌≡◌, if◌then◌else◌, IsTrue};
+ghost use Rattle.std.specs.Prelude.{◌≡◌, if◌then◌else◌, IsTrue, Some};
+ghost use Rattle.gq_model.specs.Fault_texts.{section_word};
 ghost use Rattle.gq_model.specs.Letters.{is_name, is_said};
 
 use crate::letters::{is_name, is_said};
 use arrayvec::ArrayVec;
+use std::fmt::{self, Display, Formatter, Write};
 use std::marker::Model;
 
 /// A slot of the component's own, one of the session at hand, or that session's object.
@@ -54,6 +56,20 @@ pub enum Section {
     Upgrading(u8),
     Calling(u8),
     Closing(u8),
+}
+
+impl Display for Section {
+    ghost output = { λ section. Some (section_word section) };
+
+    fn fmt<W: Write>(&self, f: &mut Formatter<W>) -> fmt::Result {
+        match self {
+            Section::Main => f.write_str("main"),
+            Section::Opening => f.write_str("open"),
+            Section::Upgrading(level) => write!(f, "up {level}"),
+            Section::Calling(level) => write!(f, "call {level}"),
+            Section::Closing(level) => write!(f, "close {level}"),
+        }
+    }
 }
 
 /// The greatest number of bytes of a text to say.
@@ -141,6 +157,16 @@ impl Name {
         ensures name { IsTrue (is_name self.now) }
     {
         self.letters.as_slice()
+    }
+
+    /// The name as text.
+    pub fn as_str(&self) -> &str
+        ensures { result.now ≡ self.now }
+    {
+        match str::from_utf8(self.as_bytes()) {
+            Ok(text) => text,
+            Err(_) => unreachable!(),
+        }
     }
 }
 

@@ -16,3 +16,4 @@ pub mod Load
 pub mod Whole
 pub mod Covered
 pub mod Headline
+pub mod Counts

@@ -64,10 +64,10 @@ impl<W: Write> Write for Counted<W> {
 
 /// A write failed, or took 0 of some bytes.
 #[derive(Clone, Copy, Debug, PartialEq, Eq)]
-pub(crate) struct WriteFault;
+pub struct WriteFault;
 
 /// Writes these bytes, in as many writes as it takes, up to the first that fails. Then a front of them went out.
-pub(crate) fn put<W: Write>(out: &mut Counted<W>, bytes: &[u8]) -> Result<(), WriteFault>
+pub fn put<W: Write>(out: &mut Counted<W>, bytes: &[u8]) -> Result<(), WriteFault>
     ensures written { OnOk result (Appends (W.contents out.old.writer) (W.contents out.new.writer) bytes.now) }
     ensures counted { OnOk result (out.new.failures ≡ out.old.failures) }
     ensures front { OnErr result (IsFront (W.contents out.old.writer) (W.contents out.new.writer) bytes.now) }

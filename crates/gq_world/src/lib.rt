@@ -11,6 +11,7 @@ pub mod load;
 pub mod run;
 #[cfg(test)]
 mod tests;
+mod text;
 pub mod world;
 
 pub use counted::Counted;

@@ -1,0 +1,239 @@
+//! Doing what a command line asks for.
+ghost use Rattle.std.specs.Prelude.{◌≡◌, ◌≢◌, ◌⊎◌, true, false, string_bytes, Ok, Err, IfErr, OnOk};
+ghost use Rattle.gq_world.specs.Counts.{bytes_of, failures_of};
+ghost use Rattle.gq_world.specs.Writes.{IsRaised};
+ghost use Rattle.gq_world.specs.Outcomes.{IsCutShort, IsWhole};
+ghost use Rattle.gq_world.specs.Headline.{WritesPromised};
+ghost use Rattle.gq_cli.specs.Input.{GivesAtMost};
+ghost use Rattle.gq_cli.specs.Ends.{Ended, IsKnown, IsSilent};
+ghost use Rattle.gq_cli.specs.Executed.{Executes, IsRefusal, IsTold, IsUpheldBy, RunsFiles, RunsStored, Run_of, Text_of, reads_scenario, reads_turns, stage_of, status_line, written_of};
+ghost use Rattle.gq_cli.specs.declared.execute.Fault.TheVariants as fault;
+
+use crate::command::Command;
+use crate::input::{InputError, read_input};
+use crate::status::Status;
+use crate::stored::parted;
+use gq_world::counted::{Counted, put};
+use gq_world::run::{RunFault, run};
+use std::alloc::{AllocError, Global};
+use std::io::{Read, Write};
+
+// Why a command was not done.
+#[derive(Drop)]
+enum Fault {
+    // The scenario or the turns are refused, by this line.
+    Refused(String),
+    // Host memory was refused.
+    Memory,
+    // A read failed, or there were more than 18 MiB.
+    Read,
+    // A write failed.
+    Write,
+}
+
+impl From<AllocError> for Fault {
+    ghost use Rattle.gq_cli.specs.declared.execute.Fault.TheVariants.{Memory};
+
+    ghost from_gives = { λ _ fault. fault ≡ Memory };
+
+    fn from(_refused: AllocError) -> Fault {
+        Fault::Memory
+    }
+}
+
+impl From<InputError> for Fault {
+    ghost use Rattle.gq_cli.specs.Ends.{IsUnread};
+
+    ghost from_gives = { λ _ fault. IsUnread fault };
+
+    fn from(unread: InputError) -> Fault {
+        match unread {
+            InputError::Memory(_) => Fault::Memory,
+            InputError::Fault => Fault::Read,
+        }
+    }
+}
+
+/// Does what a command asks for, and tells on `err`, in one line, why it was not done.
+///
+/// `Run` reads the scenario and then the turns, each whole; `Stored` reads both from `scenario`, parted by a line `%%`. The run's
+/// lines and accounts go to `out`. `Help` reads nothing and writes its text to `out`. Each reader is asked for 18 MiB and one byte
+/// at most; more, or a read that fails, is a file fault. Nothing goes to `out` where the scenario or the turns are refused, where
+/// host memory is, or where a read failed; after a failed write a front of the text went out. A failed write on `err` changes
+/// nothing.
+pub fn execute<R: Read, T: Read, W: Write, E: Write>(
+    alloc: Global,
+    command: &Command,
+    scenario: &mut R,
+    turns: &mut T,
+    out: &mut Counted<W>,
+    err: &mut Counted<E>,
+) -> Status
+    // The whole text was written, that of a run which upholds what is promised, and nothing was told.
+    ensures done { result ≡ Status.Done → Executes command.now (R.remaining scenario.old) (R.remaining scenario.new) (T.remaining turns.old) (T.remaining turns.new) (λ asked. IsWhole (written_of asked) (bytes_of W.contents out.old) (bytes_of W.contents out.new)) }
+    ensures upheld { result ≡ Status.Done → Executes command.now (R.remaining scenario.old) (R.remaining scenario.new) (T.remaining turns.old) (T.remaining turns.new) (λ asked. IsUpheldBy asked (bytes_of W.contents out.old) (bytes_of W.contents out.new)) }
+    ensures counted { result ≡ Status.Done → failures_of out.new ≡ failures_of out.old }
+    ensures quiet { result ≡ Status.Done → err.new ≡ err.old }
+
+    // The texts are refused by the line that was told.
+    ensures refused { result ≡ Status.Refused → Executes command.now (R.remaining scenario.old) (R.remaining scenario.new) (T.remaining turns.old) (T.remaining turns.new) (λ asked. IsRefusal E.contents (stage_of asked) err.old err.new) }
+    ensures unwritten { result ≡ Status.Refused → out.new ≡ out.old }
+
+    // Host memory was refused, and nothing was written.
+    ensures silent { result ≡ Status.HostMemory → out.new ≡ out.old }
+
+    // A read failed and nothing was written, or a write failed and a front of the text was written.
+    ensures cut { result ≡ Status.FileFault → ((reads_scenario command.now ≡ true) × (out.new ≡ out.old)) ⊎ (Executes command.now (R.remaining scenario.old) (R.remaining scenario.new) (T.remaining turns.old) (T.remaining turns.new) (λ asked. IsCutShort (written_of asked) (bytes_of W.contents out.old) (bytes_of W.contents out.new)) × IsRaised (failures_of out.old) (failures_of out.new)) }
+
+    // Other refusals have the line of their status.
+    ensures told { result ≢ Status.Refused → IsTold E.contents err.old err.new (status_line result) }
+    ensures named { result ≢ Status.BadCommandLine }
+    ensures help { reads_scenario command.now ≡ false → (result ≡ Status.Done) ⊎ (result ≡ Status.FileFault) }
+
+    // Nothing is read that is not to be read, and no more than the limit and one byte.
+    ensures scenario_unread { reads_scenario command.now ≡ false → scenario.new ≡ scenario.old }
+    ensures turns_unread { reads_turns command.now ≡ false → turns.new ≡ turns.old }
+    ensures scenario_most { GivesAtMost 18874369 (R.remaining scenario.old) (R.remaining scenario.new) }
+    ensures turns_most { GivesAtMost 18874369 (T.remaining turns.old) (T.remaining turns.new) }
+{
+    match perform(alloc, command, scenario, turns, out) {
+        Ok(()) => Status::Done,
+        Err(Fault::Refused(line)) => {
+            tell_line(err, line.as_bytes());
+            Status::Refused
+        }
+        Err(Fault::Memory) => tell(err, Status::HostMemory),
+        Err(Fault::Read) => tell(err, Status::FileFault),
+        Err(Fault::Write) => tell(err, Status::FileFault),
+    }
+}
+
+/// Writes the line of a status, as `trade: file fault`, as far as writes succeed, and gives the status back. `Done` has no line,
+/// and that of `Refused` is the fault's: for these nothing is written.
+pub fn tell<E: Write>(err: &mut Counted<E>, status: Status) -> Status
+    ensures status { result ≡ status }
+    ensures told { IsTold E.contents err.old err.new (status_line status) }
+{
+    tell_line(err, line_of(status));
+    status
+}
+
+// The line of a status.
+fn line_of(status: Status) -> &'static [u8]
+    ensures { result.now ≡ status_line status }
+{
+    match status {
+        Status::Done | Status::Refused => b"",
+        Status::BadCommandLine => b"trade: bad command line\n",
+        Status::HostMemory => b"trade: host memory refused\n",
+        Status::FileFault => b"trade: file fault\n",
+    }
+}
+
+// Writes a line, as far as writes succeed.
+fn tell_line<E: Write>(err: &mut Counted<E>, line: &[u8])
+    ensures { IsTold E.contents err.old err.new line.now }
+{
+    match put(err, line) {
+        Ok(()) => (),
+        Err(_) => (),
+    }
+}
+
+// Does what a command asks for.
+fn perform<R: Read, T: Read, W: Write>(
+    alloc: Global,
+    command: &Command,
+    scenario: &mut R,
+    turns: &mut T,
+    out: &mut Counted<W>,
+) -> Result<(), Fault>
+    ensures ended { IsKnown result → Executes command.now (R.remaining scenario.old) (R.remaining scenario.new) (T.remaining turns.old) (T.remaining turns.new) (Ended result (bytes_of W.contents out.old) (bytes_of W.contents out.new)) }
+    ensures upheld { OnOk result (Executes command.now (R.remaining scenario.old) (R.remaining scenario.new) (T.remaining turns.old) (T.remaining turns.new) (λ asked. IsUpheldBy asked (bytes_of W.contents out.old) (bytes_of W.contents out.new))) }
+    ensures counted { OnOk result (failures_of out.new ≡ failures_of out.old) }
+    ensures silent { IfErr result (λ f. IsSilent f → out.new ≡ out.old) }
+    ensures raised { result ≡ Err fault.Write → IsRaised (failures_of out.old) (failures_of out.new) }
+    ensures help { reads_scenario command.now ≡ false → IfErr result (λ f. f ≡ fault.Write) }
+    ensures scenario_unread { reads_scenario command.now ≡ false → scenario.new ≡ scenario.old }
+    ensures turns_unread { reads_turns command.now ≡ false → turns.new ≡ turns.old }
+    ensures scenario_most { GivesAtMost 18874369 (R.remaining scenario.old) (R.remaining scenario.new) }
+    ensures turns_most { GivesAtMost 18874369 (T.remaining turns.old) (T.remaining turns.new) }
+{
+    match command {
+        Command::Run(_, _) => run_files(alloc, scenario, turns, out),
+        Command::Stored => run_stored(alloc, scenario, out),
+        Command::Help(text) => show(text.as_str(), out),
+    }
+}
+
+// Runs the scenario that one reader has over the turns that another has.
+fn run_files<R: Read, T: Read, W: Write>(
+    alloc: Global,
+    scenario: &mut R,
+    turns: &mut T,
+    out: &mut Counted<W>,
+) -> Result<(), Fault>
+    ensures ended { IsKnown result → RunsFiles (R.remaining scenario.old) (R.remaining scenario.new) (T.remaining turns.old) (T.remaining turns.new) (Ended result (bytes_of W.contents out.old) (bytes_of W.contents out.new)) }
+    ensures upheld { OnOk result (RunsFiles (R.remaining scenario.old) (R.remaining scenario.new) (T.remaining turns.old) (T.remaining turns.new) (λ asked. IsUpheldBy asked (bytes_of W.contents out.old) (bytes_of W.contents out.new))) }
+    ensures counted { OnOk result (failures_of out.new ≡ failures_of out.old) }
+    ensures silent { IfErr result (λ f. IsSilent f → out.new ≡ out.old) }
+    ensures raised { result ≡ Err fault.Write → IsRaised (failures_of out.old) (failures_of out.new) }
+    ensures scenario_most { GivesAtMost 18874369 (R.remaining scenario.old) (R.remaining scenario.new) }
+    ensures turns_most { GivesAtMost 18874369 (T.remaining turns.old) (T.remaining turns.new) }
+{
+    let scenario = read_input(alloc, scenario)?;
+    let turns = read_input(alloc, turns)?;
+    run_texts(alloc, scenario.as_slice(), turns.as_slice(), out)
+}
+
+// Runs what a reader has in the stored form.
+fn run_stored<R: Read, W: Write>(
+    alloc: Global,
+    stored: &mut R,
+    out: &mut Counted<W>,
+) -> Result<(), Fault>
+    ensures ended { IsKnown result → RunsStored (R.remaining stored.old) (R.remaining stored.new) (Ended result (bytes_of W.contents out.old) (bytes_of W.contents out.new)) }
+    ensures upheld { OnOk result (RunsStored (R.remaining stored.old) (R.remaining stored.new) (λ asked. IsUpheldBy asked (bytes_of W.contents out.old) (bytes_of W.contents out.new))) }
+    ensures counted { OnOk result (failures_of out.new ≡ failures_of out.old) }
+    ensures silent { IfErr result (λ f. IsSilent f → out.new ≡ out.old) }
+    ensures raised { result ≡ Err fault.Write → IsRaised (failures_of out.old) (failures_of out.new) }
+    ensures most { GivesAtMost 18874369 (R.remaining stored.old) (R.remaining stored.new) }
+{
+    let input = read_input(alloc, stored)?;
+    let (scenario, turns) = parted(input.as_slice());
+    run_texts(alloc, scenario, turns, out)
+}
+
+// Runs a scenario over turns. Where they are refused, the line that says why is made.
+fn run_texts<W: Write>(
+    alloc: Global,
+    scenario: &[u8],
+    turns: &[u8],
+    out: &mut Counted<W>,
+) -> Result<(), Fault>
+    ensures ended { IsKnown result → Ended result (bytes_of W.contents out.old) (bytes_of W.contents out.new) (Run_of scenario.now turns.now) }
+    ensures upheld { OnOk result (WritesPromised scenario.now turns.now (bytes_of W.contents out.old) (bytes_of W.contents out.new)) }
+    ensures counted { OnOk result (failures_of out.new ≡ failures_of out.old) }
+    ensures silent { IfErr result (λ f. IsSilent f → out.new ≡ out.old) }
+    ensures raised { result ≡ Err fault.Write → IsRaised (failures_of out.old) (failures_of out.new) }
+{
+    match run(alloc, scenario, turns, out) {
+        Ok(()) => Ok(()),
+        Err(RunFault::Memory) => Err(Fault::Memory),
+        Err(RunFault::Write) => Err(Fault::Write),
+        Err(refused) => Err(Fault::Refused(format!(in alloc; "trade: {refused}\n")?)),
+    }
+}
+
+// Writes a text whole.
+fn show<W: Write>(text: &str, out: &mut Counted<W>) -> Result<(), Fault>
+    ensures ended { Ended result (bytes_of W.contents out.old) (bytes_of W.contents out.new) (Text_of text.now) }
+    ensures counted { OnOk result (failures_of out.new ≡ failures_of out.old) }
+    ensures fault { IfErr result (λ f. f ≡ fault.Write) }
+    ensures raised { result ≡ Err fault.Write → IsRaised (failures_of out.old) (failures_of out.new) }
+{
+    match put(out, text.as_bytes()) {
+        Ok(()) => Ok(()),
+        Err(_) => Err(Fault::Write),
+    }
+}

@@ -1,0 +1,90 @@
+//! The program `trade`: the words of the command line, the files that they name, and the standard streams.
+#![tactic(auto)]
+
+use gq_cli::command::{Command, CommandError};
+use gq_cli::command_line::command;
+use gq_cli::execute::{execute, tell};
+use gq_cli::status::Status;
+use gq_world::Counted;
+use std::env;
+use std::fs::File;
+use std::io::{self, ErrorKind, Stderr, Write};
+use std::process::ExitCode;
+
+fn main(rt: HostRuntime) -> ExitCode {
+    let mut err = Counted::new(rt.stderr());
+    let status = match asked(&rt) {
+        Ok(command) => perform(&rt, &command, &mut err),
+        Err(status) => tell(&mut err, status),
+    };
+    ExitCode::from(status.code())
+}
+
+// The command that the words after the program's name ask for.
+fn asked(rt: &HostRuntime) -> Result<Command, Status> {
+    let given = given(rt)?;
+    let mut words = Vec::new(rt.alloc());
+    for word in given.iter() {
+        if words.push(word.as_str()).is_err() {
+            return Err(Status::HostMemory);
+        }
+    }
+    match command(rt.alloc(), words.as_slice()) {
+        Ok(command) => Ok(command),
+        Err(CommandError::Memory(_)) => Err(Status::HostMemory),
+        Err(CommandError::Usage) => Err(Status::BadCommandLine),
+    }
+}
+
+// The words after the program's name. Each has to be UTF-8.
+fn given(rt: &HostRuntime) -> Result<Vec<String>, Status> {
+    let args = match env::args(rt) {
+        Ok(args) => args,
+        Err(error) if error.kind() == ErrorKind::OutOfMemory => return Err(Status::HostMemory),
+        Err(_) => return Err(Status::BadCommandLine),
+    };
+    let mut words = Vec::new(rt.alloc());
+    for word in args.skip(1) {
+        if words.push(word).is_err() {
+            return Err(Status::HostMemory);
+        }
+    }
+    Ok(words)
+}
+
+// Does what a command asks for, on its files or standard input. What it writes has to leave the process, too.
+fn perform(rt: &HostRuntime, command: &Command, err: &mut Counted<Stderr>) -> Status {
+    let mut out = Counted::new(rt.stdout());
+    let status = match command {
+        Command::Run(scenario, turns) => match open(rt, scenario.as_str(), turns.as_str()) {
+            Ok((mut scenario, mut turns)) => execute(
+                rt.alloc(),
+                command,
+                &mut scenario,
+                &mut turns,
+                &mut out,
+                err,
+            ),
+            Err(_) => tell(err, Status::FileFault),
+        },
+        Command::Stored | Command::Help(_) => execute(
+            rt.alloc(),
+            command,
+            &mut rt.stdin(),
+            &mut io::empty(),
+            &mut out,
+            err,
+        ),
+    };
+    match out.flush() {
+        Err(_) if status == Status::Done => tell(err, Status::FileFault),
+        _ => status,
+    }
+}
+
+// The files of a scenario and of its turns, opened in this order.
+fn open(rt: &HostRuntime, scenario: &str, turns: &str) -> io::Result<(File, File)> {
+    let scenario = File::open(rt, scenario)?;
+    let turns = File::open(rt, turns)?;
+    Ok((scenario, turns))
+}

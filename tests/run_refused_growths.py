@@ -1,0 +1,77 @@
+#!/usr/bin/env python3
+"""Refuses each growth of host memory of a run in turn: run_refused_growths.py PROGRAM
+
+The run is that of each example, with paths and in the stored form. For each growth that the run asks for, one after the
+other, the program is run with that growth refused. It then has to write nothing to standard output, to tell
+`trade: host memory refused`, and to end with status 3. With none refused it has to write the example's text.
+
+A program that the C compiler `cc` builds (tests/refuse_growth.c) refuses the growths. The last line is 'N passed, M failed',
+and the exit status is 1 where a run failed.
+"""
+import os
+import pathlib
+import subprocess
+import sys
+import tempfile
+
+TOP = pathlib.Path(__file__).resolve().parent.parent
+EXAMPLES = TOP / "examples"
+SOURCE = TOP / "tests" / "refuse_growth.c"
+SECONDS = 120
+REFUSED = b"", b"trade: host memory refused\n", 3
+
+
+def built(room):
+    """The shared object that refuses growths."""
+    shared = room / "refuse_growth.so"
+    compiler = os.environ.get("CC", "cc")
+    subprocess.run([compiler, "-O1", "-shared", "-fPIC", "-o", shared, SOURCE, "-ldl"], check=True)
+    return shared
+
+
+def result_of(program, shared, room, words, given, refused):
+    """What a run writes to both streams, its exit status, and how many growths it asked for."""
+    count = room / "count"
+    count.write_text("")
+    settings = dict(os.environ, LD_PRELOAD=str(shared), GROWTH_REFUSED=str(refused), GROWTH_COUNT=str(count))
+    ran = subprocess.run([program, *words], input=given, capture_output=True, timeout=SECONDS, env=settings)
+    return (ran.stdout, ran.stderr, ran.returncode), int(count.read_text() or 0)
+
+
+def runs():
+    """The name, the words, the standard input and the text of each run."""
+    for scenario in sorted(EXAMPLES.glob("*.toml")):
+        turns = scenario.with_suffix(".turns")
+        text = scenario.with_suffix(".out").read_bytes()
+        yield f"{scenario.name} by paths", ["run", str(scenario), str(turns)], b"", text
+        yield f"{scenario.name} stored", [], scenario.read_bytes() + b"%%\n" + turns.read_bytes(), text
+
+
+def main(words):
+    if len(words) != 1 or words[0].startswith("-"):
+        sys.exit(__doc__)
+    program = str(pathlib.Path(words[0]).resolve())
+    passed = failed = 0
+    with tempfile.TemporaryDirectory() as folder:
+        room = pathlib.Path(folder)
+        shared = built(room)
+        for name, arguments, given, text in runs():
+            whole, growths = result_of(program, shared, room, arguments, given, 0)
+            outcomes = [("none", (text, b"", 0), whole)]
+            for number in range(1, growths + 1):
+                got, _ = result_of(program, shared, room, arguments, given, number)
+                outcomes.append((f"growth {number} of {growths}", REFUSED, got))
+            if not growths:
+                outcomes.append(("any", "a growth", "no growth"))
+            for what, wanted, got in outcomes:
+                if wanted == got:
+                    passed += 1
+                    continue
+                failed += 1
+                print(f"FAILED {name}, refused: {what}\n  wanted {wanted}\n  got    {got}")
+    print(f"{passed} passed, {failed} failed")
+    return 1 if failed or not passed else 0
+
+
+if __name__ == "__main__":
+    sys.exit(main(sys.argv[1:]))
