@@ -23,3 +23,4 @@ pub mod Stage_refusals
 pub mod Headline
 pub mod Rows_whole
 pub mod Rows_headline
+pub mod Rows_written

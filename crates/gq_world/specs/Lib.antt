@@ -17,3 +17,4 @@ pub mod Whole
 pub mod Covered
 pub mod Headline
 pub mod Counts
+pub mod Tested
