@@ -8,5 +8,4 @@ pub mod Passed
 pub mod Described
 pub mod Names
 pub mod Texts
-pub mod Ascii
 pub mod Stages

@@ -58,16 +58,6 @@ impl<T: Drop> From<AllocFailed<T>> for ScenarioError {
     }
 }
 
-// A name as text.
-fn name_text(name: &Name) -> &str
-    ensures { result.now ≡ name.now }
-{
-    match str::from_utf8(name.as_bytes()) {
-        Ok(text) => text,
-        Err(_) => unreachable!(),
-    }
-}
-
 impl Display for ScenarioFault {
     ghost output = { λ fault. Some (scenario_fault_text fault) };
 
@@ -78,9 +68,9 @@ impl Display for ScenarioFault {
             ScenarioFault::BadValue(key) => write!(f, "S3 BadValue {key}"),
             ScenarioFault::UnknownKey(Some(key)) => write!(f, "S4 UnknownKey {key}"),
             ScenarioFault::UnknownKey(None) => f.write_str("S4 UnknownKey ?"),
-            ScenarioFault::NameTwice(name) => write!(f, "S5 NameTwice {}", name_text(name)),
+            ScenarioFault::NameTwice(name) => write!(f, "S5 NameTwice {}", name.as_str()),
             ScenarioFault::TooMany => f.write_str("S6 TooMany"),
-            ScenarioFault::TooDeep(Some(name)) => write!(f, "S7 TooDeep {}", name_text(name)),
+            ScenarioFault::TooDeep(Some(name)) => write!(f, "S7 TooDeep {}", name.as_str()),
             ScenarioFault::TooDeep(None) => f.write_str("S7 TooDeep ?"),
         }
     }

@@ -1,7 +1,0 @@
-use Rattle.std.proofs.lemmas.Str.{IsUtf8-from_ascii}
-use Rattle.gq_init.proofs.Ascii.{ascii_name}
-use Rattle.gq_init.proofs.fault.name_text.Goals as goal
-
-pub unreachable-requires : goal.unreachable-requires
-unreachable-requires c =
-    c.in-Err.ensures.cases.0 (rw c.as_bytes.ensures.bytes (IsUtf8-from_ascii c.args.name.now (ascii_name c.args.name.now c.as_bytes.ensures.name)))
