@@ -2,7 +2,7 @@
 use Rattle.std.specs.Prelude.{◌≡◌, ◌⊎◌, ℕ, ◌≤◌, Bool, true, false, List, [], length, Option, Ok, Err, codes, string_bytes}
 use Rattle.std.specs.Io.KnownBytes.{Appends, Consumes, IsAtEnd}
 use Rattle.gq_world.specs.declared.counted.Counted.{Counted}
-use Rattle.gq_world.specs.Counts.{bytes_of, failures_of}
+use Rattle.gq_world.specs.Counts.{written_to, failures_of}
 use Rattle.gq_world.specs.Writes.{IsFront, IsRaised}
 use Rattle.gq_world.specs.Written.{Written, refused_with, stage_written}
 use Rattle.gq_world.specs.Whole.{run_written}
@@ -87,8 +87,8 @@ status_line FileFault = refused_with (codes "file fault")
 -- a line was written whole, without a failure; or a write failed, and a front of it was written
 abbrev pub IsTold : {E : Type 0} → (E → Option (List ℕ)) → (old new : Counted E) → List ℕ → Type 0
 IsTold contents old new line =
-    (Appends (bytes_of contents old) (bytes_of contents new) line × (failures_of new ≡ failures_of old))
-    ⊎ (IsFront (bytes_of contents old) (bytes_of contents new) line × IsRaised (failures_of old) (failures_of new))
+    (Appends (written_to contents old) (written_to contents new) line × (failures_of new ≡ failures_of old))
+    ⊎ (IsFront (written_to contents old) (written_to contents new) line × IsRaised (failures_of old) (failures_of new))
 
 -- the texts are refused, and the line that says why was told
 pub record IsRefusal {E : Type 0} (contents : E → Option (List ℕ)) (w : Written) (old new : Counted E) : Type 0 where

@@ -1,6 +1,6 @@
 //! Doing what a command line asks for.
 ghost use Rattle.std.specs.Prelude.{◌≡◌, ◌≢◌, ◌⊎◌, true, false, string_bytes, Ok, Err, IfErr, OnOk};
-ghost use Rattle.gq_world.specs.Counts.{bytes_of, failures_of};
+ghost use Rattle.gq_world.specs.Counts.{written_to, failures_of};
 ghost use Rattle.gq_world.specs.Writes.{IsRaised};
 ghost use Rattle.gq_world.specs.Outcomes.{IsCutShort, IsWhole};
 ghost use Rattle.gq_world.specs.Headline.{WritesPromised};
@@ -70,8 +70,8 @@ pub fn execute<R: Read, T: Read, W: Write, E: Write>(
     err: &mut Counted<E>,
 ) -> Status
     // The whole text was written, that of a run which upholds what is promised, and nothing was told.
-    ensures done { result ≡ Status.Done → Executes command.now (R.remaining scenario.old) (R.remaining scenario.new) (T.remaining turns.old) (T.remaining turns.new) (λ asked. IsWhole (written_of asked) (bytes_of W.contents out.old) (bytes_of W.contents out.new)) }
-    ensures upheld { result ≡ Status.Done → Executes command.now (R.remaining scenario.old) (R.remaining scenario.new) (T.remaining turns.old) (T.remaining turns.new) (λ asked. IsUpheldBy asked (bytes_of W.contents out.old) (bytes_of W.contents out.new)) }
+    ensures done { result ≡ Status.Done → Executes command.now (R.remaining scenario.old) (R.remaining scenario.new) (T.remaining turns.old) (T.remaining turns.new) (λ asked. IsWhole (written_of asked) (written_to W.contents out.old) (written_to W.contents out.new)) }
+    ensures upheld { result ≡ Status.Done → Executes command.now (R.remaining scenario.old) (R.remaining scenario.new) (T.remaining turns.old) (T.remaining turns.new) (λ asked. IsUpheldBy asked (written_to W.contents out.old) (written_to W.contents out.new)) }
     ensures counted { result ≡ Status.Done → failures_of out.new ≡ failures_of out.old }
     ensures quiet { result ≡ Status.Done → err.new ≡ err.old }
 
@@ -83,7 +83,7 @@ pub fn execute<R: Read, T: Read, W: Write, E: Write>(
     ensures silent { result ≡ Status.HostMemory → out.new ≡ out.old }
 
     // A read failed and nothing was written, or a write failed and a front of the text was written.
-    ensures cut { result ≡ Status.FileFault → ((reads_scenario command.now ≡ true) × (out.new ≡ out.old)) ⊎ (Executes command.now (R.remaining scenario.old) (R.remaining scenario.new) (T.remaining turns.old) (T.remaining turns.new) (λ asked. IsCutShort (written_of asked) (bytes_of W.contents out.old) (bytes_of W.contents out.new)) × IsRaised (failures_of out.old) (failures_of out.new)) }
+    ensures cut { result ≡ Status.FileFault → ((reads_scenario command.now ≡ true) × (out.new ≡ out.old)) ⊎ (Executes command.now (R.remaining scenario.old) (R.remaining scenario.new) (T.remaining turns.old) (T.remaining turns.new) (λ asked. IsCutShort (written_of asked) (written_to W.contents out.old) (written_to W.contents out.new)) × IsRaised (failures_of out.old) (failures_of out.new)) }
 
     // Other refusals have the line of their status.
     ensures told { result ≢ Status.Refused → IsTold E.contents err.old err.new (status_line result) }
@@ -148,8 +148,8 @@ fn perform<R: Read, T: Read, W: Write>(
     turns: &mut T,
     out: &mut Counted<W>,
 ) -> Result<(), Fault>
-    ensures ended { IsKnown result → Executes command.now (R.remaining scenario.old) (R.remaining scenario.new) (T.remaining turns.old) (T.remaining turns.new) (Ended result (bytes_of W.contents out.old) (bytes_of W.contents out.new)) }
-    ensures upheld { OnOk result (Executes command.now (R.remaining scenario.old) (R.remaining scenario.new) (T.remaining turns.old) (T.remaining turns.new) (λ asked. IsUpheldBy asked (bytes_of W.contents out.old) (bytes_of W.contents out.new))) }
+    ensures ended { IsKnown result → Executes command.now (R.remaining scenario.old) (R.remaining scenario.new) (T.remaining turns.old) (T.remaining turns.new) (Ended result (written_to W.contents out.old) (written_to W.contents out.new)) }
+    ensures upheld { OnOk result (Executes command.now (R.remaining scenario.old) (R.remaining scenario.new) (T.remaining turns.old) (T.remaining turns.new) (λ asked. IsUpheldBy asked (written_to W.contents out.old) (written_to W.contents out.new))) }
     ensures counted { OnOk result (failures_of out.new ≡ failures_of out.old) }
     ensures silent { IfErr result (λ f. IsSilent f → out.new ≡ out.old) }
     ensures raised { result ≡ Err fault.Write → IsRaised (failures_of out.old) (failures_of out.new) }
@@ -173,8 +173,8 @@ fn run_files<R: Read, T: Read, W: Write>(
     turns: &mut T,
     out: &mut Counted<W>,
 ) -> Result<(), Fault>
-    ensures ended { IsKnown result → RunsFiles (R.remaining scenario.old) (R.remaining scenario.new) (T.remaining turns.old) (T.remaining turns.new) (Ended result (bytes_of W.contents out.old) (bytes_of W.contents out.new)) }
-    ensures upheld { OnOk result (RunsFiles (R.remaining scenario.old) (R.remaining scenario.new) (T.remaining turns.old) (T.remaining turns.new) (λ asked. IsUpheldBy asked (bytes_of W.contents out.old) (bytes_of W.contents out.new))) }
+    ensures ended { IsKnown result → RunsFiles (R.remaining scenario.old) (R.remaining scenario.new) (T.remaining turns.old) (T.remaining turns.new) (Ended result (written_to W.contents out.old) (written_to W.contents out.new)) }
+    ensures upheld { OnOk result (RunsFiles (R.remaining scenario.old) (R.remaining scenario.new) (T.remaining turns.old) (T.remaining turns.new) (λ asked. IsUpheldBy asked (written_to W.contents out.old) (written_to W.contents out.new))) }
     ensures counted { OnOk result (failures_of out.new ≡ failures_of out.old) }
     ensures silent { IfErr result (λ f. IsSilent f → out.new ≡ out.old) }
     ensures raised { result ≡ Err fault.Write → IsRaised (failures_of out.old) (failures_of out.new) }
@@ -192,8 +192,8 @@ fn run_stored<R: Read, W: Write>(
     stored: &mut R,
     out: &mut Counted<W>,
 ) -> Result<(), Fault>
-    ensures ended { IsKnown result → RunsStored (R.remaining stored.old) (R.remaining stored.new) (Ended result (bytes_of W.contents out.old) (bytes_of W.contents out.new)) }
-    ensures upheld { OnOk result (RunsStored (R.remaining stored.old) (R.remaining stored.new) (λ asked. IsUpheldBy asked (bytes_of W.contents out.old) (bytes_of W.contents out.new))) }
+    ensures ended { IsKnown result → RunsStored (R.remaining stored.old) (R.remaining stored.new) (Ended result (written_to W.contents out.old) (written_to W.contents out.new)) }
+    ensures upheld { OnOk result (RunsStored (R.remaining stored.old) (R.remaining stored.new) (λ asked. IsUpheldBy asked (written_to W.contents out.old) (written_to W.contents out.new))) }
     ensures counted { OnOk result (failures_of out.new ≡ failures_of out.old) }
     ensures silent { IfErr result (λ f. IsSilent f → out.new ≡ out.old) }
     ensures raised { result ≡ Err fault.Write → IsRaised (failures_of out.old) (failures_of out.new) }
@@ -211,8 +211,8 @@ fn run_texts<W: Write>(
     turns: &[u8],
     out: &mut Counted<W>,
 ) -> Result<(), Fault>
-    ensures ended { IsKnown result → Ended result (bytes_of W.contents out.old) (bytes_of W.contents out.new) (Run_of scenario.now turns.now) }
-    ensures upheld { OnOk result (WritesPromised scenario.now turns.now (bytes_of W.contents out.old) (bytes_of W.contents out.new)) }
+    ensures ended { IsKnown result → Ended result (written_to W.contents out.old) (written_to W.contents out.new) (Run_of scenario.now turns.now) }
+    ensures upheld { OnOk result (WritesPromised scenario.now turns.now (written_to W.contents out.old) (written_to W.contents out.new)) }
     ensures counted { OnOk result (failures_of out.new ≡ failures_of out.old) }
     ensures silent { IfErr result (λ f. IsSilent f → out.new ≡ out.old) }
     ensures raised { result ≡ Err fault.Write → IsRaised (failures_of out.old) (failures_of out.new) }
@@ -227,7 +227,7 @@ fn run_texts<W: Write>(
 
 // Writes a text whole.
 fn show<W: Write>(text: &str, out: &mut Counted<W>) -> Result<(), Fault>
-    ensures ended { Ended result (bytes_of W.contents out.old) (bytes_of W.contents out.new) (Text_of text.now) }
+    ensures ended { Ended result (written_to W.contents out.old) (written_to W.contents out.new) (Text_of text.now) }
     ensures counted { OnOk result (failures_of out.new ≡ failures_of out.old) }
     ensures fault { IfErr result (λ f. f ≡ fault.Write) }
     ensures raised { result ≡ Err fault.Write → IsRaised (failures_of out.old) (failures_of out.new) }

@@ -37,14 +37,14 @@ plain_at (d ∷ cs) (other ∷ leaves) budgets (suc x) c leaf e f =
     plain_at cs leaves (drop 1 budgets) x c leaf e f ∙ ap (λ b. Some (plain_account c leaf b)) (index_next budgets x)
 
 -- a component and a kept leaf at the same place
-record Pair (cs : List Component) (leaves : List Leaf) (x : ℕ) : Type 0 where
-  component : Component
-  leaf : Leaf
-  has_component : slice_get cs x ≡ Some component
-  has_leaf : slice_get leaves x ≡ Some leaf
-  empty : HoldsNothing leaf
+pub record Pair (cs : List Component) (leaves : List Leaf) (x : ℕ) : Type 0 where
+  pub component : Component
+  pub leaf : Leaf
+  pub has_component : slice_get cs x ≡ Some component
+  pub has_leaf : slice_get leaves x ≡ Some leaf
+  pub empty : HoldsNothing leaf
 
-pair_at : (cs : List Component) (leaves : List Leaf) (x : ℕ) → AreKept cs leaves → x < length cs → Pair cs leaves x
+pub pair_at : (cs : List Component) (leaves : List Leaf) (x : ℕ) → AreKept cs leaves → x < length cs → Pair cs leaves x
 pair_at [] leaves x h less = absurd (omega (arith, less))
 pair_at (c ∷ cs) [] x h less = absurd h
 pair_at (c ∷ cs) (leaf ∷ leaves) zero h less = record { component = c; leaf = leaf; has_component = refl; has_leaf = refl; empty = h.0.empty }
@@ -66,11 +66,11 @@ abbrev pub told_leaf : ℕ → ℕ → ℕ → ℕ → Phase → LeafAccount
 told_leaf used caps_used steps budget phase = record { used = amount used caps_used; steps = steps; budget = budget; phase = phase }
 
 module _ (s : Scenario) (w : World) (x : ℕ) (budgets : List ℕ) where
-  abbrev account_here : Option Account
+  abbrev pub account_here : Option Account
   account_here = slice_get (accounts s w budgets) (suc x)
 
   -- the account of a leaf in a sound world
-  account_is : (h : IsSound s w) (p : Pair (components s) w.leaves x) → account_here ≡ Some (plain_account p.component p.leaf (slice_index budgets x))
+  pub account_is : (h : IsSound s w) (p : Pair (components s) w.leaves x) → account_here ≡ Some (plain_account p.component p.leaf (slice_index budgets x))
   account_is h p = ap (λ all. slice_get all (suc x)) (accounts_are s h.bare w h.kept budgets) ∙ plain_at (components s) w.leaves budgets x p.component p.leaf p.has_component p.has_leaf
 
   -- what is read is told of it

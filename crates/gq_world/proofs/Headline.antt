@@ -116,7 +116,7 @@ fitting false why e = cc
 root_and_rest : (total spent rest sum : ℕ) → spent ≤ total → rest ≡ spent → sum ≡ total - spent + rest → sum ≡ total
 root_and_rest total spent rest sum le e f = omega (arith, le, e, f)
 
-ram_sums : (s : Scenario) → IsBareScenario s → exceeds Ram (codes "init") s.total s.nodes ≡ None → (w : World) → IsKept s w → SumsToTotal s w Ram
+pub ram_sums : (s : Scenario) → IsBareScenario s → exceeds Ram (codes "init") s.total s.nodes ≡ None → (w : World) → IsKept s w → SumsToTotal s w Ram
 ram_sums s h fits w k told =
     let cs = components s in
     let spent = spent_within (codes "init") s.default_routes s.nodes [] s.nodes w.leaves h.nodes in

@@ -21,6 +21,7 @@ pub mod Whole
 pub mod Stage_laws
 pub mod Stage_refusals
 pub mod Headline
+pub mod Upheld
 pub mod Rows_whole
 pub mod Rows_headline
 pub mod Rows_written

@@ -157,10 +157,10 @@ module _ (s : Scenario) (leaves : AreLeaves s.nodes) (plain : IsOfLeaves s) (bar
   pub runs : are_plain_programs (programs_of (components s)) ≡ true → machine.IsPlain s
   runs programs = record { version = plain.version; leaves = leaves_from s.nodes leaves; alone = alone_from (components s) bare; programs = programs }
 
-  pub sound : first_unaccepted 0 (programs_of (components s)) ≡ None → IsSound s (start (system s))
-  sound first =
+  pub sound : first_unaccepted 0 (programs_of (components s)) ≡ None → sum (quanta_of (components s)) ≤ s.total.ram → IsSound s (start (system s))
+  sound first fits =
       let accepted = all_accepted s bare_scenario first in
-      record { bare = bare_scenario; accepted = accepted; kept = starts_kept s bare_scenario accepted }
+      record { bare = bare_scenario; accepted = accepted; fits = none_exceeds fits; kept = starts_kept s bare_scenario accepted }
 
   pub no_refusal : first_unaccepted 0 (programs_of (components s)) ≡ None → sum (quanta_of (components s)) ≤ s.total.ram → refusal s ≡ None
   no_refusal first fits = accepted_scenario s bare_scenario (all_accepted s bare_scenario first) (none_exceeds fits)

@@ -24,6 +24,9 @@ use Rattle.gq_world.specs.Load.{sources_fault, loaded}
 use Rattle.gq_world.specs.Written.{refused_with, written_from, written_turns, stage_written}
 use Rattle.gq_world.specs.Whole.{with_scenario, run_written}
 use Rattle.gq_world.specs.declared.run.RunFault.{RunFault}
+use Rattle.gq_world.specs.declared.load.LoadError.{LoadError}
+use Rattle.gq_world.specs.declared.load.LoadError.TheVariants as error
+use Rattle.gq_world.specs.Faults.{Refuses, RefusesWhole}
 use Rattle.gq_world.specs.Outcomes.{IsFaultOf}
 use Rattle.gq_world.specs.Covered.{is_not_yet, ends_not_yet, is_covered}
 use Rattle.gq_world.proofs.Judged.{accepted, refused}
@@ -120,6 +123,25 @@ read_same text turns (Ok s) e n =
     let told = scenario_tell s r (yet_by s (stage.scenario_fault s) n) in written_same s turns (stage.scenario_fault s) (load.scenario_fault s) told
 read_same text turns (Err fault) e n = refl
 
+-- both load the same scenario, or both print the same fault
+abbrev pub LoadSame : Result Scenario stage.Fault → Result Scenario load.Fault → Type 0
+LoadSame (Ok s) (Ok t) = s ≡ t
+LoadSame (Err f) (Err g) = stage.fault_text f ≡ load.fault_text g
+LoadSame (Ok s) (Err g) = ⊥
+LoadSame (Err f) (Ok t) = ⊥
+
+scenario_loads : (s : Scenario) (o : Option stage.Fault) (p : Option load.Fault) → TellSame o p → LoadSame (stage.loaded_or s o) (load.loaded_or s p)
+scenario_loads s None None h = refl
+scenario_loads s (Some f) (Some g) h = h
+scenario_loads s None (Some g) h = absurd h
+scenario_loads s (Some f) None h = absurd h
+
+loads_by : (text : List ℕ) (read : Result Scenario ReadFault) → stage_scenario text ≡ read → ends_not_yet (stage.loaded_from read) ≡ false → LoadSame (stage.loaded_from read) (load.loaded_from read)
+loads_by text (Ok s) e n =
+    let r = has_texts s (stage_texts text s e) in
+    scenario_loads s (stage.scenario_fault s) (load.scenario_fault s) (scenario_tell s r (yet_by s (stage.scenario_fault s) n))
+loads_by text (Err fault) e n = refl
+
 not_true : (b : Bool) → not b ≡ true → b ≡ false
 not_true true e = cc
 not_true false e = refl
@@ -132,6 +154,20 @@ covered_is_whole scenario turns covered =
     let judged = not_true (ends_not_yet (stage_loaded scenario)) both.1 in
     read_same scenario turns (stage_scenario scenario) refl judged
     ∙ ap (λ r. with_scenario (load.loaded_from r) (λ t. written_turns t (turned (components t) turns))) (sym (scenario_same scenario now))
+
+-- what is loaded so far of such a scenario, or the fault that refuses it, is that of the whole language
+pub covered_loads : (scenario : List ℕ) → is_covered scenario ≡ true → LoadSame (stage_loaded scenario) (load.loaded scenario)
+covered_loads scenario covered =
+    let both = both_true (not (is_later_text scenario)) (not (ends_not_yet (stage_loaded scenario))) covered in
+    let now = not_true (is_later_text scenario) both.0 in
+    let judged = not_true (ends_not_yet (stage_loaded scenario)) both.1 in
+    subst (λ (r : Result Scenario ReadFault). LoadSame (stage_loaded scenario) (load.loaded_from r)) (sym (scenario_same scenario now)) (loads_by scenario (stage_scenario scenario) refl judged)
+
+pub refuses_whole : (e : LoadError) (a : Result Scenario stage.Fault) (b : Result Scenario load.Fault) → LoadSame a b → Refuses e a → RefusesWhole e b
+refuses_whole error.Memory a b same h = tt
+refuses_whole (error.Fault f) (Ok s) b same h = absurd h
+refuses_whole (error.Fault f) (Err g) (Ok s) same h = absurd same
+refuses_whole (error.Fault f) (Err g) (Err fault) same h = h ∙ same
 
 loaded_now : (scenario : List ℕ) (s : Scenario) → stage_loaded scenario ≡ Ok s → is_covered scenario ≡ true
 loaded_now scenario s e =

@@ -25,7 +25,7 @@ defined s w x h = ∥∥₁_elim h (Coded-set coded_bool _ _) (λ i. let g = nex
 
 pub sound_after : (s : Scenario) (w after : model.World) (x : ℕ) (e : doing.Event) → next (system s) w x ≡ Ok (after, e) → ∥ IsSound s w ∥₁ → ∥ IsSound s after ∥₁
 sound_after s w after x e n h =
-    ∥∥₁_elim h (hlevel) (λ i. ∣ record { bare = i.bare; accepted = i.accepted; kept = next_kept s i.bare w i.kept x after e n } ∣₁)
+    ∥∥₁_elim h (hlevel) (λ i. ∣ record { bare = i.bare; accepted = i.accepted; fits = i.fits; kept = next_kept s i.bare w i.kept x after e n } ∣₁)
 
 -- LINES
 

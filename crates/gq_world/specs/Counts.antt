@@ -1,10 +1,14 @@
--- What a counted writer shows.
+-- What a clause reads of a writer that counts its failures.
 use Rattle.std.specs.Prelude.{ℕ, List, Option}
 use Rattle.gq_world.specs.declared.counted.Counted.{Counted}
 
--- the bytes that its writer holds, where they are known
-abbrev pub bytes_of : {W : Type 0} → (W → Option (List ℕ)) → Counted W → Option (List ℕ)
-bytes_of contents c = contents c.writer
+-- the writer that it hands its writes to
+abbrev pub writer_of : {W : Type 0} → Counted W → W
+writer_of c = c.writer
+
+-- the bytes of that writer, where they are known
+abbrev pub written_to : {W : Type 0} → (W → Option (List ℕ)) → Counted W → Option (List ℕ)
+written_to contents c = contents c.writer
 
 -- how often a write failed
 abbrev pub failures_of : {W : Type 0} → Counted W → ℕ

@@ -9,6 +9,7 @@ use Rattle.gq_world.specs.declared.load.LoadFault.{LoadFault}
 use Rattle.gq_world.specs.declared.load.LoadFault.TheVariants as load
 use Rattle.gq_world.specs.declared.load.LoadError.{LoadError}
 use Rattle.gq_world.specs.declared.load.LoadError.TheVariants as error
+use Rattle.gq_world.specs.Load as whole
 use Rattle.gq_world.specs.Loading as loading
 use Rattle.gq_world.specs.Loading.{text_fault_word, fault_text}
 
@@ -35,6 +36,12 @@ abbrev pub Refuses : LoadError → Result Scenario loading.Fault → Type 0
 Refuses error.Memory loaded = Unit {0}
 Refuses (error.Fault f) (Ok s) = ⊥
 Refuses (error.Fault f) (Err fault) = load_fault_text f ≡ fault_text fault
+
+-- the text is refused with this error in the whole language
+abbrev pub RefusesWhole : LoadError → Result Scenario whole.Fault → Type 0
+RefusesWhole error.Memory loaded = Unit {0}
+RefusesWhole (error.Fault f) (Ok s) = ⊥
+RefusesWhole (error.Fault f) (Err fault) = load_fault_text f ≡ whole.fault_text fault
 
 -- a leaf's program was read from its text
 pub record IsReadFrom (c : Component) (p : Program) : Type 0 where

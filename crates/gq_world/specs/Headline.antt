@@ -14,6 +14,7 @@ use Rattle.gq_model.specs.Verdict.{greatest_cost}
 use Rattle.gq_model.specs.Accept.{Budget, budget, budgets, step_budgets, IsAccepted}
 use Rattle.gq_model.specs.Turns.{turned}
 use Rattle.gq_world.specs.Load.{loaded}
+use Rattle.gq_world.specs.Worlds as worlds
 
 -- so it is for each of these resources
 abbrev pub EachOf : List Resource → (Resource → Type 0) → Type 0
@@ -81,6 +82,10 @@ pub record IsUpheld (s : Scenario) (w : World) : Type 0 where
   pub keeps_budgets : (x : ℕ) (c : Component) → slice_get (components s) x ≡ Some c → KeepsBudget s w x c
   pub quotas_sum : EachOf (system s).counted (SumsToTotal s w)
   pub closes : ClosesWhole s w
+
+-- the same of a world of the code, where only that it holds is said
+abbrev pub Upheld : worlds.World → Type 0
+Upheld w = ∥ IsUpheld w.scenario w.world ∥₁
 
 -- these turns came to no wrong step, the world after them is such a one, and the text is whole: all lines, then the accounts
 pub record Upholds (s : Scenario) (turns : List (ℕ × ℕ)) : Type 0 where

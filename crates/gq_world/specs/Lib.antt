@@ -1,4 +1,5 @@
 pub mod Writes
+pub mod Counts
 pub mod Plain
 pub mod Depths
 pub mod Judgements
@@ -16,5 +17,4 @@ pub mod Load
 pub mod Whole
 pub mod Covered
 pub mod Headline
-pub mod Counts
 pub mod Tested

@@ -1,7 +1,9 @@
 -- A world between two turns, what it keeps, and what a turn does.
-use Rattle.std.specs.Prelude.{◌≡◌, ℕ, Bool, true, List, slice_get, Option, Ok}
+use Rattle.std.specs.Prelude.{◌≡◌, ℕ, Bool, true, List, slice_get, Option, None, Ok, codes}
 use Rattle.std.specs.Io.KnownBytes.{Appends}
+use Rattle.gq_model.specs.Amounts.{Ram}
 use Rattle.gq_model.specs.Scenario.{Scenario, components, system}
+use Rattle.gq_model.specs.Resolve.{exceeds}
 use Rattle.gq_model.specs.World as model
 use Rattle.gq_model.specs.Doing as doing
 use Rattle.gq_model.specs.Step.{next}
@@ -20,10 +22,11 @@ pub record World : Type 0 where
   pub world : model.World
   pub stopped : Bool
 
--- the scenario is accepted, and the world is one that a run of it reaches
+-- the scenario's programs are accepted and its quanta fit, and the world is one that a run of it reaches
 pub record IsSound (s : Scenario) (w : model.World) : Type 0 where
   pub bare : IsBareScenario s
   pub accepted : AreAccepted s.nodes
+  pub fits : exceeds Ram (codes "init") s.total s.nodes ≡ None
   pub kept : IsKept s w
 
 -- such a world, whose truth is all that is kept, with the budgets of its leaves

@@ -3,6 +3,7 @@ ghost use Rattle.std.specs.Prelude.{◌≡◌, ◌≤◌, ◌+◌, ◌++◌, len
 ghost use Rattle.std.specs.Io.KnownBytes.{Appends};
 ghost use Rattle.gq_model.specs.Accounts.{entry, leaf_entries, account_line};
 ghost use Rattle.gq_world.specs.Lines.{accounts_text, with_label};
+ghost use Rattle.gq_world.specs.Counts.{written_to, failures_of};
 ghost use Rattle.gq_world.specs.Writes.{IsFront, IsRaised};
 
 use crate::account::{Account, LeafAccount};
@@ -20,10 +21,10 @@ pub(crate) fn write_accounts<W: Write>(
     world: &World,
     out: &mut Counted<W>,
 ) -> Result<(), WriteFault>
-    ensures written { OnOk result (Appends (W.contents out.old.writer) (W.contents out.new.writer) (accounts_text world.now)) }
-    ensures counted { OnOk result (out.new.failures ≡ out.old.failures) }
-    ensures front { OnErr result (IsFront (W.contents out.old.writer) (W.contents out.new.writer) (accounts_text world.now)) }
-    ensures raised { OnErr result (IsRaised out.old.failures out.new.failures) }
+    ensures written { OnOk result (Appends (written_to W.contents out.old) (written_to W.contents out.new) (accounts_text world.now)) }
+    ensures counted { OnOk result (failures_of out.new ≡ failures_of out.old) }
+    ensures front { OnErr result (IsFront (written_to W.contents out.old) (written_to W.contents out.new) (accounts_text world.now)) }
+    ensures raised { OnErr result (IsRaised (failures_of out.old) (failures_of out.new)) }
 {
     for number in 0..world.nodes() {
         let line = world.account_line(NodeNo::new(number as u32));

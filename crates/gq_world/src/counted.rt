@@ -2,6 +2,7 @@
 ghost use Rattle.std.specs.Prelude.{◌≡◌, ◌+◌, ◌-◌, ◌^◌, ◌<◌, ◌≤◌, ℕ, length, min, IfOk, IfErr, OnOk, OnErr, MatchResult};
 ghost use Rattle.std.specs.Io.{WritesAtMost};
 ghost use Rattle.std.specs.Io.KnownBytes.{WriteAppends, Keeps, Appends};
+ghost use Rattle.gq_world.specs.Counts.{writer_of, written_to, failures_of};
 ghost use Rattle.gq_world.specs.Writes.{failures_after, IsFront, IsRaised};
 
 use std::io;
@@ -18,8 +19,8 @@ pub struct Counted<W> {
 impl<W: Write> Counted<W> {
     /// A writer without failures so far.
     pub fn new(writer: W) -> Counted<W>
-        ensures writer { result.writer ≡ writer }
-        ensures failures { result.failures ≡ 0 }
+        ensures writer { writer_of result ≡ writer }
+        ensures failures { failures_of result ≡ 0 }
     {
         Counted {
             writer,
@@ -29,19 +30,19 @@ impl<W: Write> Counted<W> {
 
     /// How often a write failed.
     pub fn failures(&self) -> u64
-        ensures { result ≡ self.now.failures }
+        ensures { result ≡ failures_of self.now }
     {
         self.failures
     }
 }
 
 impl<W: Write> Write for Counted<W> {
-    ghost contents = { λ c. W.contents c.writer };
+    ghost contents = { written_to W.contents };
 
     fn write(&mut self, buf: &[u8]) -> io::Result<usize>
         ensures bound { WritesAtMost result buf.now }
-        ensures bytes { WriteAppends (W.contents self.old.writer) (W.contents self.new.writer) result buf.now }
-        ensures failures { self.new.failures ≡ failures_after self.old.failures result (length buf.now) }
+        ensures bytes { WriteAppends (written_to W.contents self.old) (written_to W.contents self.new) result buf.now }
+        ensures failures { failures_of self.new ≡ failures_after (failures_of self.old) result (length buf.now) }
     {
         let outcome = self.writer.write(buf);
         let failed = match &outcome {
@@ -55,8 +56,8 @@ impl<W: Write> Write for Counted<W> {
     }
 
     fn flush(&mut self) -> io::Result<()>
-        ensures bytes { Keeps (W.contents self.old.writer) (W.contents self.new.writer) }
-        ensures failures { self.new.failures ≡ self.old.failures }
+        ensures bytes { Keeps (written_to W.contents self.old) (written_to W.contents self.new) }
+        ensures failures { failures_of self.new ≡ failures_of self.old }
     {
         self.writer.flush()
     }
@@ -68,10 +69,10 @@ pub struct WriteFault;
 
 /// Writes these bytes, in as many writes as it takes, up to the first that fails. Then a front of them went out.
 pub fn put<W: Write>(out: &mut Counted<W>, bytes: &[u8]) -> Result<(), WriteFault>
-    ensures written { OnOk result (Appends (W.contents out.old.writer) (W.contents out.new.writer) bytes.now) }
-    ensures counted { OnOk result (out.new.failures ≡ out.old.failures) }
-    ensures front { OnErr result (IsFront (W.contents out.old.writer) (W.contents out.new.writer) bytes.now) }
-    ensures raised { OnErr result (IsRaised out.old.failures out.new.failures) }
+    ensures written { OnOk result (Appends (written_to W.contents out.old) (written_to W.contents out.new) bytes.now) }
+    ensures counted { OnOk result (failures_of out.new ≡ failures_of out.old) }
+    ensures front { OnErr result (IsFront (written_to W.contents out.old) (written_to W.contents out.new) bytes.now) }
+    ensures raised { OnErr result (IsRaised (failures_of out.old) (failures_of out.new)) }
 {
     let mut done = 0;
     while done < bytes.len() {

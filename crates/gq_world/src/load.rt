@@ -8,8 +8,10 @@ ghost use Rattle.gq_machine.specs.Plain.{are_plain_programs, quanta_of};
 ghost use Rattle.gq_world.specs.Judgements.{programs_of};
 ghost use Rattle.gq_world.specs.Judgements as judgements;
 ghost use Rattle.gq_world.specs.Loading.{texts_fault, source_fault, programs_fault, scenario_fault, stage_loaded};
+ghost use Rattle.gq_world.specs.Load as whole;
 ghost use Rattle.gq_world.specs.Headline.{Upholds};
-ghost use Rattle.gq_world.specs.Faults.{PrintsFault, GivesFault, Refuses, IsReadFrom, AreBareComponents};
+ghost use Rattle.gq_world.specs.Covered.{is_covered};
+ghost use Rattle.gq_world.specs.Faults.{PrintsFault, GivesFault, Refuses, RefusesWhole, IsReadFrom, AreBareComponents};
 
 use crate::budget::budgets_of;
 use crate::judge::{Judgement, first_unaccepted};
@@ -23,7 +25,6 @@ use gq_machine::machine::Machine;
 use gq_model::fault::{Rule, TextFault};
 use gq_model::program::{Name, Section};
 use std::alloc::{AllocError, AllocFailed, Global};
-use thiserror::Error;
 
 /// Why a text is not loaded.
 #[derive(Drop)]
@@ -196,11 +197,15 @@ impl World {
     /// leaf's program is no program text or is not accepted, or the quanta exceed what the root has.
     pub fn load(alloc: Global, text: &[u8]) -> Result<World, LoadError>
         ensures loaded { IfOk result (λ w. stage_loaded text.now ≡ Ok w.scenario) }
-        ensures refused { IfErr result (λ e. Refuses e (stage_loaded text.now)) }
         ensures world { IfOk result (λ w. w.world ≡ start (system w.scenario)) }
         ensures running { IfOk result (λ w. w.stopped ≡ false) }
 
-        // The verifier accepts the scenario.
+        // The fault is that of the definition of what is brought so far, and of the whole language where this covers the scenario.
+        ensures refused { IfErr result (λ e. Refuses e (stage_loaded text.now)) }
+        ensures covered { is_covered text.now ≡ true → IfErr result (λ e. RefusesWhole e (whole.loaded text.now)) }
+
+        // The scenario is that of the text in the whole language, and the verifier accepts it.
+        ensures whole { IfOk result (λ w. whole.loaded text.now ≡ Ok w.scenario) }
         ensures accepted { IfOk result (λ w. refusal w.scenario ≡ None) }
 
         // Whatever the turns, a run of it upholds what is promised.

@@ -1,13 +1,15 @@
 // Turns, one after the other.
-ghost use Rattle.std.specs.Prelude.{◌≡◌, ◌<◌, false, length, Err, OnOk, OnErr, IfErr};
+ghost use Rattle.std.specs.Prelude.{◌≡◌, ◌<◌, true, false, length, Err, OnOk, OnErr, IfErr};
 ghost use Rattle.gq_model.specs.Scenario.{components, system};
 ghost use Rattle.gq_model.specs.Run.{turns_of, run_on};
 ghost use Rattle.std.specs.Io.KnownBytes.{Appends};
 ghost use Rattle.gq_model.specs.World.{start};
+ghost use Rattle.gq_world.specs.Counts.{written_to, failures_of};
 ghost use Rattle.gq_world.specs.Writes.{IsFront, IsRaised};
 ghost use Rattle.gq_world.specs.Going.{AreBelow, HasRun, IsCut};
 ghost use Rattle.gq_world.specs.Written.{whole_of, stage_written};
 ghost use Rattle.gq_world.specs.Whole.{run_written};
+ghost use Rattle.gq_world.specs.Covered.{is_covered};
 ghost use Rattle.gq_world.specs.Headline.{WritesPromised};
 ghost use Rattle.gq_world.specs.Outcomes.{IsWhole, IsCutShort, IsFaultOf, IsBefore};
 
@@ -44,10 +46,10 @@ pub(crate) fn take_turns<W: Write>(
     requires leaf { leaf < length (components world.old.scenario) }
     requires running { world.old.stopped ≡ false }
     ensures scenario { world.new.scenario ≡ world.old.scenario }
-    ensures ran { OnOk result (HasRun (turns_of (system world.old.scenario) leaf count) world.old world.new (W.contents out.old.writer) (W.contents out.new.writer)) }
-    ensures counted { OnOk result (out.new.failures ≡ out.old.failures) }
-    ensures cut { OnErr result (IsCut (turns_of (system world.old.scenario) leaf count) world.old (W.contents out.old.writer) (W.contents out.new.writer)) }
-    ensures raised { OnErr result (IsRaised out.old.failures out.new.failures) }
+    ensures ran { OnOk result (HasRun (turns_of (system world.old.scenario) leaf count) world.old world.new (written_to W.contents out.old) (written_to W.contents out.new)) }
+    ensures counted { OnOk result (failures_of out.new ≡ failures_of out.old) }
+    ensures cut { OnErr result (IsCut (turns_of (system world.old.scenario) leaf count) world.old (written_to W.contents out.old) (written_to W.contents out.new)) }
+    ensures raised { OnErr result (IsRaised (failures_of out.old) (failures_of out.new)) }
 {
     for turn in 0..count {
         match world.turn(leaf, out) {
@@ -68,10 +70,10 @@ pub(crate) fn take_all<W: Write>(
     requires leaves { AreBelow (length (components world.old.scenario)) turns.now }
     requires running { world.old.stopped ≡ false }
     ensures scenario { world.new.scenario ≡ world.old.scenario }
-    ensures ran { OnOk result (HasRun (run_on (system world.old.scenario) turns.now) world.old world.new (W.contents out.old.writer) (W.contents out.new.writer)) }
-    ensures counted { OnOk result (out.new.failures ≡ out.old.failures) }
-    ensures cut { OnErr result (IsCut (run_on (system world.old.scenario) turns.now) world.old (W.contents out.old.writer) (W.contents out.new.writer)) }
-    ensures raised { OnErr result (IsRaised out.old.failures out.new.failures) }
+    ensures ran { OnOk result (HasRun (run_on (system world.old.scenario) turns.now) world.old world.new (written_to W.contents out.old) (written_to W.contents out.new)) }
+    ensures counted { OnOk result (failures_of out.new ≡ failures_of out.old) }
+    ensures cut { OnErr result (IsCut (run_on (system world.old.scenario) turns.now) world.old (written_to W.contents out.old) (written_to W.contents out.new)) }
+    ensures raised { OnErr result (IsRaised (failures_of out.old) (failures_of out.new)) }
 {
     for (leaf, count) in turns {
         take_turns(world, *leaf, *count, out)?;
@@ -89,10 +91,10 @@ fn run_world<W: Write>(
     requires start { world.old.world ≡ start (system world.old.scenario) }
     requires leaves { AreBelow (length (components world.old.scenario)) turns.now }
     requires running { world.old.stopped ≡ false }
-    ensures written { OnOk result (Appends (W.contents out.old.writer) (W.contents out.new.writer) (whole_of world.old.scenario turns.now)) }
-    ensures counted { OnOk result (out.new.failures ≡ out.old.failures) }
-    ensures front { OnErr result (IsFront (W.contents out.old.writer) (W.contents out.new.writer) (whole_of world.old.scenario turns.now)) }
-    ensures raised { OnErr result (IsRaised out.old.failures out.new.failures) }
+    ensures written { OnOk result (Appends (written_to W.contents out.old) (written_to W.contents out.new) (whole_of world.old.scenario turns.now)) }
+    ensures counted { OnOk result (failures_of out.new ≡ failures_of out.old) }
+    ensures front { OnErr result (IsFront (written_to W.contents out.old) (written_to W.contents out.new) (whole_of world.old.scenario turns.now)) }
+    ensures raised { OnErr result (IsRaised (failures_of out.old) (failures_of out.new)) }
 {
     take_all(world, turns, out)?;
     write_accounts(world, out)
@@ -108,19 +110,20 @@ pub fn run<W: Write>(
     out: &mut Counted<W>,
 ) -> Result<(), RunFault>
     // The whole text of the definition was written, and nothing else.
-    ensures written { OnOk result (IsWhole (run_written scenario.now turns.now) (W.contents out.old.writer) (W.contents out.new.writer)) }
+    ensures written { OnOk result (IsWhole (run_written scenario.now turns.now) (written_to W.contents out.old) (written_to W.contents out.new)) }
 
     // It is the text of a run that never came to a wrong step and kept every budget, and whose quotas sum to the total.
-    ensures promised { OnOk result (WritesPromised scenario.now turns.now (W.contents out.old.writer) (W.contents out.new.writer)) }
-    ensures counted { OnOk result (out.new.failures ≡ out.old.failures) }
+    ensures promised { OnOk result (WritesPromised scenario.now turns.now (written_to W.contents out.old) (written_to W.contents out.new)) }
+    ensures counted { OnOk result (failures_of out.new ≡ failures_of out.old) }
 
     // The fault is that of the definition of what is brought so far, and of the whole language where this covers the scenario.
     ensures refused { IfErr result (λ fault. IsFaultOf fault (stage_written scenario.now turns.now)) }
+    ensures covered { is_covered scenario.now ≡ true → IfErr result (λ fault. IsFaultOf fault (run_written scenario.now turns.now)) }
     ensures silent { IfErr result (λ fault. IsBefore fault → out.new ≡ out.old) }
 
     // A write failed: a front of the text was written.
-    ensures cut { result ≡ Err RunFault.Write → IsCutShort (run_written scenario.now turns.now) (W.contents out.old.writer) (W.contents out.new.writer) }
-    ensures raised { result ≡ Err RunFault.Write → IsRaised out.old.failures out.new.failures }
+    ensures cut { result ≡ Err RunFault.Write → IsCutShort (run_written scenario.now turns.now) (written_to W.contents out.old) (written_to W.contents out.new) }
+    ensures raised { result ≡ Err RunFault.Write → IsRaised (failures_of out.old) (failures_of out.new) }
 {
     let mut world = match World::load(alloc, scenario) {
         Ok(world) => world,

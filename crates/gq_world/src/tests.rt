@@ -7,7 +7,8 @@ use gq_init::node::NodeNo;
 use gq_machine::event::Event;
 use gq_model::fault::{TextFault, TurnFault};
 use gq_model::phase::Phase;
-use std::io::Cursor;
+use std::io;
+use std::io::{Cursor, ErrorKind, Write};
 use std::test::Fail;
 
 const HELLO: &[u8] =
@@ -74,6 +75,43 @@ fn tells_the_first_fault(rt: HostRuntime) {
     assert!(rt; matches!(rounds, Err(LoadError::Fault(LoadFault::NotYet { .. }))));
     let quanta = World::load(rt.alloc(), TOO_LARGE);
     assert!(rt; matches!(quanta, Err(LoadError::Fault(LoadFault::QuantaExceed))));
+}
+
+/// A writer that first fails, then takes nothing, and then takes all; it counts its writes.
+#[derive(Drop)]
+struct Unsteady {
+    writes: u32,
+}
+
+impl Write for Unsteady {
+    fn write(&mut self, buf: &[u8]) -> io::Result<usize> {
+        self.writes = self.writes.saturating_add(1);
+        match self.writes {
+            1 => Err(io::Error::from(ErrorKind::Other)),
+            2 => Ok(0),
+            _ => Ok(buf.len()),
+        }
+    }
+
+    fn flush(&mut self) -> io::Result<()> {
+        Ok(())
+    }
+}
+
+#[test]
+fn hands_each_write_on_once(rt: HostRuntime) {
+    let mut writer = Unsteady { writes: 0 };
+    {
+        let mut out = Counted::new(&mut writer);
+        assert!(rt; out.write(b"a").is_err());
+        assert!(rt; out.failures() == 1);
+        assert!(rt; matches!(out.write(b"a"), Ok(0)));
+        assert!(rt; out.failures() == 2);
+        assert!(rt; matches!(out.write(b"a"), Ok(1)));
+        assert!(rt; matches!(out.write(b""), Ok(0)));
+        assert!(rt; out.failures() == 2);
+    }
+    assert!(rt; writer.writes == 4);
 }
 
 const HELLO_TEXT: &[u8] =

@@ -1,11 +1,13 @@
 // A world: an accepted scenario that runs.
-ghost use Rattle.std.specs.Prelude.{ℕ, ◌≡◌, ◌↔◌, ◌<◌, ◌≤◌, ◌+◌, ◌*◌, ◌++◌, ◌∷◌, [], true, false, suc, length, slice_get, codes, Some, Ok, Err, IfOk, IfErr, IfSome, OnOk};
+ghost use Rattle.std.specs.Prelude.{ℕ, ◌≡◌, ◌↔◌, ◌<◌, ◌≤◌, ◌+◌, ◌*◌, ◌++◌, ◌∷◌, [], true, false, suc, length, slice_get, codes, Some, Ok, Err, IfOk, IfErr, IfSome, IsOk, OnOk, sum_by};
 ghost use Rattle.gq_model.specs.Scenario.{components, system};
 ghost use Rattle.gq_model.specs.Routes.{numbered};
 ghost use Rattle.gq_model.specs.Step.{next};
 ghost use Rattle.gq_model.specs.Accept as accept;
+ghost use Rattle.gq_world.specs.Counts.{written_to, failures_of};
 ghost use Rattle.gq_world.specs.Writes.{IsFront, IsRaised};
 ghost use Rattle.gq_world.specs.Worlds.{IsSound, IsTurn, StopsWriting};
+ghost use Rattle.gq_world.specs.Headline.{Upheld};
 ghost use Rattle.gq_world.specs.Lines.{all_accounts, node_count, leaf_place, told_of, IsAccountLine};
 ghost use Rattle.gq_model.specs.Amounts.{Ram};
 ghost use Rattle.gq_machine.specs.Held.{held_by_all};
@@ -121,10 +123,12 @@ impl World {
         self.machine.free_pages()
     }
 
-    /// The account of a node.
+    /// The account of a node. A leaf holds no more than its quota, and has taken no more steps than its budget.
     pub fn account(&self, node: NodeNo) -> Account
         requires { node < length (all_accounts self.now) }
-        ensures { IfSome (slice_get (all_accounts self.now) node) (λ a. result ≡ told_of a) }
+        ensures told { IfSome (slice_get (all_accounts self.now) node) (λ a. result ≡ told_of a) }
+        ensures paid { IfSome result.leaf (λ l. l.used.ram ≤ result.quota.ram) }
+        ensures within_budget { IfSome result.leaf (λ l. l.steps ≤ l.budget) }
     {
         let _leaves = self.leaf_count();
         let quota = self.machine.quota(node);
@@ -132,7 +136,8 @@ impl World {
         if node.index() == 0 {
             return Account::new(quota, caps, None);
         }
-        let leaf = self.leaf_account(LeafNo::new(node.number() - 1));
+        let place = LeafNo::new(node.number() - 1);
+        let leaf = self.leaf_account(place);
         Account::new(quota, caps, Some(leaf))
     }
 
@@ -176,6 +181,17 @@ impl World {
         self.machine.scenario().leaf_named(name)
     }
 
+    /// What holds in every world, whatever turns it took. It does nothing.
+    pub fn laws(&self)
+        // Any leaf can take its turn, all is paid for, each leaf has kept its budget of steps and of each resource, the quotas
+        // sum to the total, and a session that ends gives back its donation.
+        ensures upheld { Upheld self.now }
+        ensures goes_on { (x : ℕ) → IsOk (next (system self.now.scenario) self.now.world x) }
+        ensures quotas_sum { sum_by (λ a. a.quota.ram) (all_accounts self.now) ≡ self.now.scenario.total.ram }
+    {
+        let _stopped = self.stopped;
+    }
+
     /// One turn of a leaf: one step where it can run. Its line, if it gives one, is written with the leaf's label. After a
     /// failed write the world is stopped. A turn takes no host memory.
     pub fn turn<W: Write>(&mut self, leaf: LeafNo, out: &mut Counted<W>) -> Result<Event, Stop>
@@ -183,13 +199,13 @@ impl World {
         ensures scenario { self.new.scenario ≡ self.old.scenario }
 
         // The step of the account machine is taken, and the line that it gives is written.
-        ensures turned { IfOk result (λ event. IsTurn self.old self.new leaf event (W.contents out.old.writer) (W.contents out.new.writer)) }
+        ensures turned { IfOk result (λ event. IsTurn self.old self.new leaf event (written_to W.contents out.old) (written_to W.contents out.new)) }
         ensures goes_on { OnOk result (self.new.stopped ≡ false) }
-        ensures counted { OnOk result (out.new.failures ≡ out.old.failures) }
+        ensures counted { OnOk result (failures_of out.new ≡ failures_of out.old) }
 
         // A failed write stops the world.
-        ensures stops { result ≡ Err Stop.Write → StopsWriting self.old self.new leaf (W.contents out.old.writer) (W.contents out.new.writer) }
-        ensures raised { result ≡ Err Stop.Write → IsRaised out.old.failures out.new.failures }
+        ensures stops { result ≡ Err Stop.Write → StopsWriting self.old self.new leaf (written_to W.contents out.old) (written_to W.contents out.new) }
+        ensures raised { result ≡ Err Stop.Write → IsRaised (failures_of out.old) (failures_of out.new) }
 
         // A stopped world stays as it is, and writes nothing.
         ensures stopped { (result ≡ Err Stop.Stopped) ↔ (self.old.stopped ≡ true) }

@@ -46,7 +46,7 @@ start-requires-clause-sound c =
     let s = c.args.scenario.now in
     let l = c.leaf_count-leaves.ensures in
     sound_at s c.in-Ok.machine.scenario c.in-Ok.machine.world c.in-Ok.ensures.scenario c.in-Ok.ensures.world
-    (sound s l.leaves l.plain c.in_ok-programs.ensures.bare c.in_default.ensures.accepted)
+    (sound s l.leaves l.plain c.in_ok-programs.ensures.bare c.in_default.ensures.accepted (c.if-not-quanta_fit.ensures.0 refl))
 
 pub returns-in-Ok-clause-accepted : goal.returns-in-Ok-clause-accepted
 returns-in-Ok-clause-accepted c =

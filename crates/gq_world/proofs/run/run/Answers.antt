@@ -1,4 +1,4 @@
-use Rattle.std.proofs.Common.{◌≡◌, sym, subst, length, ℕ, List, Err}
+use Rattle.std.proofs.Common.{◌≡◌, ◌∙◌, sym, subst, length, ℕ, List, Err}
 use Rattle.gq_model.specs.Scenario.{components}
 use Rattle.gq_world.specs.declared.load.LoadError.{LoadError}
 use Rattle.gq_world.specs.declared.load.LoadFault.{LoadFault}
@@ -10,6 +10,7 @@ use Rattle.std.specs.Io.KnownBytes.{Appends}
 use Rattle.gq_world.specs.Writes.{IsFront}
 use Rattle.gq_world.specs.Outcomes.{IsWhole}
 use Rattle.gq_world.proofs.Stage_laws.{stage_is_whole}
+use Rattle.gq_world.proofs.Stage_refusals.{covered_is_whole}
 use Rattle.gq_world.proofs.Headline.{writes_promised}
 use Rattle.gq_world.proofs.Whole.{refused_load, below_of, written_is}
 use Rattle.gq_world.proofs.run.run.Goals as goal
@@ -71,3 +72,10 @@ returns-clause-refused g c =
     let s = c.in-Ok.world.scenario in
     let turns = c.in-Ok-read_turns.turns.items in
     (whole_of s turns, written_is c.args.scenario.now c.args.turns.now s c.scenario.result.now turns c.in-Ok.ensures.loaded c.scenario.ensures c.in-Ok-read_turns.ensures)
+
+-- where the scenario is covered, what is written so far is what the whole language has
+pub returns-in-Err-Fault-clause-covered : goal.returns-in-Err-Fault-clause-covered
+returns-in-Err-Fault-clause-covered g c = λ h. sym (covered_is_whole c.args.scenario.now c.args.turns.now h) ∙ returns-in-Err-Fault-clause-refused g c
+
+pub returns-clause-covered : goal.returns-clause-covered
+returns-clause-covered g c = λ h. let w = returns-clause-refused g c in (w.0, sym (covered_is_whole c.args.scenario.now c.args.turns.now h) ∙ w.1)
