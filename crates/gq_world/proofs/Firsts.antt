@@ -10,7 +10,8 @@ use Rattle.gq_model.specs.Accept.{Bad_program, bad_program, program_refusal, ref
 use Rattle.gq_model.specs.Use.{subject}
 use Rattle.gq_world.specs.declared.judge.Judgement.{Judgement}
 use Rattle.gq_world.specs.declared.judge.Judgement.TheVariants.{Accepted, Refused, NotYet}
-use Rattle.gq_world.specs.Plain.{plain_subject, IsBareLeaf, IsBareScenario}
+use Rattle.gq_init.specs.Leaves.{IsBareLeaf}
+use Rattle.gq_world.specs.Plain.{plain_subject, IsBareScenario}
 use Rattle.gq_world.specs.Judgements.{judged_as, AreAccepted, unless_accepted, first_unaccepted, programs_of}
 use Rattle.gq_world.proofs.Judged.{accepted, refused}
 use Rattle.gq_world.proofs.Refusals.{Each, IsAcceptedLeaf, bare_components, subject_is, are_accepted, refused_program}

@@ -15,7 +15,8 @@ use Rattle.gq_model.specs.Use.{subject, services, uses, used_from, used_at, reac
 use Rattle.gq_model.specs.Resolve.{Unresolved, exceeds, exceeded, handed_out, first_handed, first_exceeding, quanta_fault, is_bad_after, with_name, after_fault, services_fault, routes_fault, cycle_fault, unresolved}
 use Rattle.gq_model.specs.Accept.{Refusal, Bad_program, Not_resolved, Budget, budget, budgets_from, budgets, bad_program, program_refusal, not_resolved, own_refusal, steps_refusal, refusal}
 use Rattle.gq_world.specs.declared.judge.Judgement.TheVariants.{Accepted, Refused}
-use Rattle.gq_world.specs.Plain.{is_plain_program, main_of, plain_subject, IsBareLeaf, AreBare, HavePlain, IsBareScenario, IsPlainScenario, plain_budget, plain_budgets}
+use Rattle.gq_init.specs.Leaves.{IsBareLeaf}
+use Rattle.gq_world.specs.Plain.{is_plain_program, main_of, plain_subject, AreBare, HavePlain, IsBareScenario, IsPlainScenario, plain_budget, plain_budgets}
 use Rattle.gq_world.specs.Judgements.{judged_as, AreAccepted}
 use Rattle.gq_world.proofs.Walks.{or_first_none}
 use Rattle.gq_world.proofs.Judged.{main_alone, accepted, refused, passes}

@@ -13,7 +13,8 @@ use Rattle.gq_model.specs.Doing.{Event, Idle, Quiet, Finished, Line, Stepped, Do
 use Rattle.gq_model.specs.Step.{no_link, exited, exit_of, released, all_released, body_ended, section_ended, main_ended, perform, step_in, step_of, next}
 use Rattle.gq_model.specs.Run.{Ran, after_step, turn_from, turns_of, run_on, run}
 use Rattle.gq_model.specs.Verdict.{greatest_cost}
-use Rattle.gq_world.specs.Plain.{is_plain, main_of, IsBareLeaf, IsBareScenario}
+use Rattle.gq_init.specs.Leaves.{IsBareLeaf}
+use Rattle.gq_world.specs.Plain.{is_plain, main_of, IsBareScenario}
 use Rattle.gq_world.specs.Depths.{Depths, depths, counted_on, depths_then}
 use Rattle.gq_world.specs.Judgements.{AreAccepted}
 use Rattle.gq_world.specs.Kept.{HoldsNothing, IsRunning, HasExited, GoesOn, IsKeptLeaf, AreKept, IsKept, RunsWell}

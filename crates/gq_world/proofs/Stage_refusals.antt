@@ -15,7 +15,8 @@ use Rattle.gq_init.specs.Stage.{stage_scenario}
 use Rattle.gq_init.proofs.Stages.{scenario_same, stage_texts, read_is_not_later}
 use Rattle.gq_world.specs.declared.judge.Judgement.{Judgement}
 use Rattle.gq_world.specs.declared.judge.Judgement.TheVariants.{Accepted, Refused, NotYet}
-use Rattle.gq_world.specs.Plain.{plain_subject, IsBareLeaf}
+use Rattle.gq_init.specs.Leaves.{IsBareLeaf}
+use Rattle.gq_world.specs.Plain.{plain_subject}
 use Rattle.gq_world.specs.Judgements.{judged_as, AreAccepted}
 use Rattle.gq_world.specs.Loading as stage
 use Rattle.gq_world.specs.Loading.{texts_fault, judgement_fault, programs_fault, quanta_fault, stage_loaded}

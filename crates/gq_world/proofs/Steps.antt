@@ -11,7 +11,8 @@ use Rattle.gq_model.specs.Scenario.{Scenario, Component, components, system}
 use Rattle.gq_model.specs.World.{Leaf, World, with_leaf}
 use Rattle.gq_model.specs.Doing.{Event, Idle, Quiet, Finished, Line, Stepped, Doing, when, pop, standing}
 use Rattle.gq_model.specs.Step.{no_link, exited, exit_of, body_ended, section_ended, main_ended, perform, step_in, step_of, next}
-use Rattle.gq_world.specs.Plain.{is_plain, main_of, IsBareLeaf, IsBareScenario}
+use Rattle.gq_init.specs.Leaves.{IsBareLeaf}
+use Rattle.gq_world.specs.Plain.{is_plain, main_of, IsBareScenario}
 use Rattle.gq_world.specs.Depths.{depths, depths_then}
 use Rattle.gq_world.specs.Kept.{HoldsNothing, IsRunning, GoesOn, IsKept}
 use Rattle.gq_world.specs.Steps.{done, stepped}

@@ -5,7 +5,8 @@ use Rattle.gq_model.specs.declared.program.Instruction.{Instruction}
 use Rattle.gq_model.specs.declared.program.Instruction.TheVariants.{Say, Out, Push}
 use Rattle.gq_model.specs.declared.program.Section.{Section}
 use Rattle.gq_model.specs.declared.program.Section.TheVariants.{Main}
-use Rattle.gq_model.specs.Scenario.{LeafNode, Nodes, End, Leaf_node, Init_node, Scenario, Component}
+use Rattle.gq_model.specs.Scenario.{Nodes, End, Leaf_node, Init_node, Scenario, Component}
+use Rattle.gq_init.specs.Leaves.{IsBareLeaf}
 use Rattle.gq_model.specs.Kinds.{Subject}
 use Rattle.gq_model.specs.Amounts.{amount}
 use Rattle.gq_model.specs.Accept.{Budget}
@@ -45,13 +46,6 @@ abbrev pub plain_subject : Program → Subject
 plain_subject p = record { program = p; provided = None; interfaces = [] }
 
 -- SCENARIOS
-
--- a leaf that provides nothing, starts at once, has no routes of its own and no capabilities
-pub record IsBareLeaf (node : LeafNode) : Type 0 where
-  pub provides : node.provides ≡ None
-  pub after : node.after ≡ None
-  pub routes : node.routes ≡ None
-  pub caps : node.quantum.caps ≡ 0
 
 -- all of these nodes are such leaves
 abbrev pub AreBare : Nodes → Type 0

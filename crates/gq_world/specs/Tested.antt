@@ -1,5 +1,5 @@
 -- A run with tests, of a scenario that need not be accepted: what it writes, and its first wrong step.
-use Rattle.std.specs.Prelude.{ℕ, List, [], Option, Some, None, Result, Ok, Err}
+use Rattle.std.specs.Prelude.{ℕ, List, [], Option, Result, Ok, Err}
 use Rattle.gq_model.specs.Lists.{or_first}
 use Rattle.gq_model.specs.Scenario.{Scenario, system, components}
 use Rattle.gq_model.specs.declared.fault.Wrong.{Wrong}
