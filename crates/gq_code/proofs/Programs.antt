@@ -1,5 +1,5 @@
 -- Sections in their order, and their bits.
-use Rattle.std.proofs.Common.{◌≡◌, ◌<◌, ◌≤◌, ℕ, zero, suc, arith, ◌+◌, ◌*◌, ◌^◌, Bool, true, false, ◌&&◌, List, [], ◌∷◌, drop, length, get_or, refl, ap, sym, subst, ◌∙◌, add-one, IsTrue, Fits, w16}
+use Rattle.std.proofs.Common.{◌≡◌, ◌<◌, ◌≤◌, ℕ, suc, arith, ◌+◌, ◌*◌, ◌^◌, ◌&&◌, List, [], ◌∷◌, drop, length, get_or, refl, ap, sym, ◌∙◌, add-one, IsTrue, Fits, w16}
 use Rattle.std.proofs.Math.Seq.{drop-cons}
 use Rattle.std.proofs.Math.Pow.{pow_mono}
 use Rattle.std.proofs.Math.Nat.{pow-succ'}

@@ -15,10 +15,10 @@ use gq_model::program::{Instruction, Place, Section};
 const GREATEST_SIZE: u32 = 1 << 26;
 
 /// The greatest number of blocks in one another.
-const GREATEST_DEPTH: u8 = 4;
+pub(crate) const GREATEST_DEPTH: u8 = 4;
 
 /// The greatest number of statements of a program.
-const GREATEST_STATEMENTS: u32 = 4096;
+pub(crate) const GREATEST_STATEMENTS: u32 = 4096;
 
 /// Whether a slot is one of the 64 own ones, or of the 8 of a session.
 fn is_slot(place: Place) -> bool

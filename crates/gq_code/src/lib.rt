@@ -2,7 +2,9 @@
 #![tactic(auto)]
 
 pub mod check;
+pub mod decode;
 pub mod encode;
+mod operands;
 pub mod program;
 pub mod program_code;
 pub mod spelling;

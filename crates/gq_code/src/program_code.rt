@@ -9,7 +9,7 @@ use gq_model::program::Section;
 use std::alloc::{AllocError, Global};
 
 /// The number of a local without a limit.
-const NO_LIMIT: u32 = u32::MAX;
+pub(crate) const NO_LIMIT: u32 = u32::MAX;
 
 /// The locals that have a limit, the first in the lowest bit.
 fn local_bits(locals: &[u32]) -> u16

@@ -2,7 +2,7 @@
 ghost use Rattle.std.specs.Prelude.{◌≡◌, ◌≤◌, option_map};
 ghost use Rattle.gq_model.specs.Program.{text_eq};
 ghost use Rattle.gq_model.specs.Spelling.{spellings, shape_of_word, shape_of_opcode};
-ghost use Rattle.gq_code.specs.Spelling.{operator_word, operator_opcode, bare_instruction, bare_word, bare_opcode, number_instruction, number_word, number_opcode, number_low, number_high, slot_instruction, slot_word, slot_opcode, bytes_instruction, bytes_word, bytes_opcode, amount_instruction, amount_word, amount_opcode, amount_low, amount_high, shape_of, word_of, opcode_of, spellings_of};
+ghost use Rattle.gq_code.specs.Spelling.{operator_word, operator_opcode, bare_instruction, bare_word, bare_opcode, number_instruction, number_word, number_opcode, number_width, number_low, number_high, slot_instruction, slot_word, slot_opcode, bytes_instruction, bytes_word, bytes_opcode, amount_instruction, amount_word, amount_opcode, amount_low, amount_high, shape_of, word_of, opcode_of, spellings_of};
 
 use gq_model::program::{Form, Instruction, Operator, Place, Width};
 
@@ -217,6 +217,16 @@ impl WithNumber {
             WithNumber::Get => 0x0e,
             WithNumber::Set => 0x0f,
             WithNumber::Index => 0x10,
+        }
+    }
+
+    /// How many bytes of code the number takes.
+    pub fn width(self) -> usize
+        ensures { result ≡ number_width self }
+    {
+        match self {
+            WithNumber::Push | WithNumber::Divide | WithNumber::Modulo => 4,
+            WithNumber::Get | WithNumber::Set | WithNumber::Index => 1,
         }
     }
 

@@ -1,4 +1,4 @@
-use Rattle.std.proofs.Common.{◌≡◌, ap, arith}
+use Rattle.std.proofs.Common.{ap, arith}
 use Rattle.gq_model.specs.Program.{size}
 use Rattle.gq_code.proofs.Codes.{size_here}
 use Rattle.gq_code.proofs.check.+counts.Goals as goal

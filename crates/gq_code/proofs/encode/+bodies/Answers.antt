@@ -1,4 +1,4 @@
-use Rattle.std.proofs.Common.{◌≡◌, ap, arith}
+use Rattle.std.proofs.Common.{ap, arith}
 use Rattle.gq_model.specs.Program.{size}
 use Rattle.gq_code.proofs.Codes.{has_here, size_here}
 use Rattle.gq_code.proofs.encode.+bodies.Goals as goal

@@ -1,4 +1,4 @@
-use Rattle.std.proofs.Common.{◌≡◌, sym, subst, List, IsTrue}
+use Rattle.std.proofs.Common.{sym, subst, IsTrue}
 use Rattle.gq_code.specs.Codes.{have_codes}
 use Rattle.gq_code.proofs.Programs.{sections_have, sections_of}
 use Rattle.gq_code.proofs.program_code.encode.Goals as goal

@@ -1,0 +1,377 @@
+// The program that bytes spell.
+ghost use Rattle.std.specs.Prelude.{◌≡◌, ◌≤◌, ◌∷◌, [], IfOk, Ok, alloc_error, length};
+ghost use Rattle.gq_model.specs.Decode.{one_more, limits_at, sections_at, decoded};
+ghost use Rattle.gq_model.specs.Spelling.{spellings, shape_of_opcode};
+ghost use Rattle.gq_code.specs.Trees.{tree_of};
+ghost use Rattle.gq_code.specs.Decoding.{Answers, limit_at};
+ghost use Rattle.gq_code.specs.Bodies.{Reads, body_in, opened_at, arms_at, round_at, plain_at, choice_with, round_with, statement_with, section_at, IsDecoded};
+ghost use Rattle.gq_code.specs.declared.decode.DecodeError.TheVariants.{Memory, Fault};
+
+use crate::check::{GREATEST_DEPTH, GREATEST_STATEMENTS};
+use crate::operands::{cut, number, operands};
+use crate::program::{Body, LOCALS, Program, Statement};
+use crate::program_code::NO_LIMIT;
+use crate::spelling::shape_of_opcode;
+use gq_model::fault::CodeFault;
+use gq_model::program::{Instruction, Section};
+use std::alloc::{AllocError, AllocFailed, Global};
+use thiserror::Error;
+
+/// Why bytes gave no program.
+#[derive(Debug, Drop, Error)]
+pub enum DecodeError {
+    /// The host has no memory left.
+    #[error("host memory refused")]
+    Memory(AllocError),
+    /// The first fault of the bytes.
+    #[error("{0}")]
+    Fault(CodeFault),
+}
+
+impl From<AllocError> for DecodeError {
+    ghost from_gives = { λ e r. r ≡ Memory e };
+
+    fn from(error: AllocError) -> DecodeError {
+        DecodeError::Memory(error)
+    }
+}
+
+impl<T: Drop> From<AllocFailed<T>> for DecodeError {
+    ghost from_gives = { λ _ r. r ≡ Memory alloc_error };
+
+    fn from(_failed: AllocFailed<T>) -> DecodeError {
+        DecodeError::Memory(AllocError)
+    }
+}
+
+impl From<CodeFault> for DecodeError {
+    ghost from_gives = { λ f r. r ≡ Fault f };
+
+    fn from(fault: CodeFault) -> DecodeError {
+        DecodeError::Fault(fault)
+    }
+}
+
+/// The sections in the order of their bits.
+const SECTIONS: [Section; 13] = [
+    Section::Main,
+    Section::Opening,
+    Section::Upgrading(1),
+    Section::Upgrading(2),
+    Section::Upgrading(3),
+    Section::Calling(0),
+    Section::Calling(1),
+    Section::Calling(2),
+    Section::Calling(3),
+    Section::Closing(0),
+    Section::Closing(1),
+    Section::Closing(2),
+    Section::Closing(3),
+];
+
+/// How many statements there are with one more.
+fn one_more(before: u32) -> Result<u32, CodeFault>
+    ensures { Answers (λ m. m) result (one_more before (λ m. Ok m)) }
+{
+    if before < GREATEST_STATEMENTS {
+        Ok(before + 1)
+    } else {
+        Err(CodeFault::TooLong)
+    }
+}
+
+/// How many blocks are left in one more, where this many are left, and how many statements there are with it.
+fn opened(depth: u8, before: u32) -> Result<(u8, u32), CodeFault>
+    ensures { Answers (λ p. (p.0, p.1)) result (opened_at depth before) }
+{
+    if depth == 0 {
+        return Err(CodeFault::BadNesting);
+    }
+    Ok((depth - 1, one_more(before)?))
+}
+
+/// The bytes of both arms of an `if`, and what follows them.
+fn arms(bytes: &[u8]) -> Result<(&[u8], &[u8], &[u8]), CodeFault>
+    ensures arms { Answers (λ p. (p.0.now, (p.1.now, p.2.now))) result (arms_at bytes.now) }
+    ensures first { IfOk result (λ p. length p.0.now ≤ length bytes.now) }
+    ensures second { IfOk result (λ p. length p.1.now ≤ length bytes.now) }
+    ensures rest { IfOk result (λ p. length p.2.now ≤ length bytes.now) }
+{
+    let (first, rest) = number(bytes, 4, CodeFault::BadNesting)?;
+    let (second, rest) = number(rest, 4, CodeFault::BadNesting)?;
+    let (arm, rest) = cut(rest, first as usize, CodeFault::BadNesting)?;
+    let (other, rest) = cut(rest, second as usize, CodeFault::BadNesting)?;
+    Ok((arm, other, rest))
+}
+
+/// A loop's count, the bytes of its body, and what follows them.
+fn round(bytes: &[u8]) -> Result<(u16, &[u8], &[u8]), CodeFault>
+    ensures round { Answers (λ p. (p.0, (p.1.now, p.2.now))) result (round_at bytes.now) }
+    ensures body { IfOk result (λ p. length p.1.now ≤ length bytes.now) }
+    ensures rest { IfOk result (λ p. length p.2.now ≤ length bytes.now) }
+{
+    let (count, rest) = number(bytes, 2, CodeFault::BadNesting)?;
+    if count == 0 {
+        return Err(CodeFault::BadOperand);
+    }
+    let (length, rest) = number(rest, 4, CodeFault::BadNesting)?;
+    let (body, rest) = cut(rest, length as usize, CodeFault::BadNesting)?;
+    Ok((count as u16, body, rest))
+}
+
+/// A statement of this number with no statement in it, how many there are with it, and what follows it.
+fn plain(op: u8, bytes: &[u8], before: u32) -> Result<(Instruction, u32, &[u8]), CodeFault>
+    ensures plain { Answers (λ p. (p.0, (p.1, p.2.now))) result (plain_at (shape_of_opcode op spellings) before bytes.now) }
+    ensures rest { IfOk result (λ p. length p.2.now ≤ length bytes.now) }
+{
+    let Some(shape) = shape_of_opcode(op) else {
+        return Err(CodeFault::UnknownOpcode);
+    };
+    let count = one_more(before)?;
+    let (instruction, rest) = operands(shape, bytes)?;
+    Ok((instruction, count, rest))
+}
+
+/// An `if`, how many statements there are with it and those in it, and what follows it.
+#[cycle(blocks)]
+fn choice(
+    alloc: Global,
+    bytes: &[u8],
+    depth: u8,
+    before: u32,
+) -> Result<(Statement, u32, &[u8]), DecodeError>
+    ensures read { Reads (λ p. (tree_of (p.0 ∷ []), (p.1, p.2.now))) result (choice_with body_in depth before bytes.now) }
+    ensures rest { IfOk result (λ p. length p.2.now ≤ length bytes.now) }
+{
+    let (inner, count) = opened(depth, before)?;
+    let (arm, other, rest) = arms(bytes)?;
+    let (arm, count) = read_body(alloc, arm, inner, count)?;
+    let (other, count) = read_body(alloc, other, inner, count)?;
+    Ok((Statement::If(arm, other), count, rest))
+}
+
+/// A loop, how many statements there are with it and those in it, and what follows it.
+#[cycle(blocks)]
+fn repeated(
+    alloc: Global,
+    bytes: &[u8],
+    depth: u8,
+    before: u32,
+) -> Result<(Statement, u32, &[u8]), DecodeError>
+    ensures read { Reads (λ p. (tree_of (p.0 ∷ []), (p.1, p.2.now))) result (round_with body_in depth before bytes.now) }
+    ensures rest { IfOk result (λ p. length p.2.now ≤ length bytes.now) }
+{
+    let (inner, before) = opened(depth, before)?;
+    let (count, body, rest) = round(bytes)?;
+    let (body, before) = read_body(alloc, body, inner, before)?;
+    Ok((Statement::Loop(count, body), before, rest))
+}
+
+/// A statement of this number, how many there are with it and those in it, and what follows it.
+#[cycle(blocks)]
+fn statement(
+    alloc: Global,
+    op: u8,
+    bytes: &[u8],
+    depth: u8,
+    before: u32,
+) -> Result<(Statement, u32, &[u8]), DecodeError>
+    ensures read { Reads (λ p. (tree_of (p.0 ∷ []), (p.1, p.2.now))) result (statement_with body_in op depth before bytes.now) }
+    ensures rest { IfOk result (λ p. length p.2.now ≤ length bytes.now) }
+{
+    match op {
+        0x40 => choice(alloc, bytes, depth, before),
+        0x41 => repeated(alloc, bytes, depth, before),
+        _ => {
+            let (instruction, count, rest) = plain(op, bytes, before)?;
+            Ok((Statement::Plain(instruction), count, rest))
+        }
+    }
+}
+
+/// The statements of a body, of these bytes, and how many there are with those before.
+#[cycle(blocks)]
+fn read_body(
+    alloc: Global,
+    bytes: &[u8],
+    depth: u8,
+    before: u32,
+) -> Result<(Body, u32), DecodeError>
+    ensures { Reads (λ p. (p.0, p.1)) result (body_in depth before bytes.now) }
+{
+    let mut body = Body::new(alloc);
+    let mut count = before;
+    let mut left = bytes;
+    while let [op, rest @ ..] = left {
+        let (statement, with, after) = statement(alloc, *op, rest, depth, count)?;
+        body.push(statement)?;
+        count = with;
+        left = after;
+    }
+    Ok((body, count))
+}
+
+/// The greatest value of a local, which stands there where one is given, and what follows it.
+fn limit(given: bool, bytes: &[u8]) -> Result<(u32, &[u8]), CodeFault>
+    ensures { Answers (λ p. (p.0, p.1.now)) result (limit_at given bytes.now) }
+{
+    if !given {
+        return Ok((NO_LIMIT, bytes));
+    }
+    let (limit, rest) = number(bytes, 4, CodeFault::Truncated)?;
+    if limit == NO_LIMIT {
+        return Err(CodeFault::BadOperand);
+    }
+    Ok((limit, rest))
+}
+
+/// The greatest values of the locals, of which these bits say which are given, and what follows them.
+fn limits(given: u32, bytes: &[u8]) -> Result<([u32; LOCALS], &[u8]), CodeFault>
+    ensures { Answers (λ p. (p.0, p.1.now)) result (limits_at 8 given bytes.now) }
+{
+    let mut limits = [NO_LIMIT; LOCALS];
+    let mut bits = given;
+    let mut left = bytes;
+    for i in 0..LOCALS {
+        let (limit, rest) = limit(bits % 2 == 1, left)?;
+        limits[i] = limit;
+        left = rest;
+        bits /= 2;
+    }
+    Ok((limits, left))
+}
+
+/// The statements of a section after their length, how many there are with those before, and what follows them.
+fn section(alloc: Global, bytes: &[u8], before: u32) -> Result<(Body, u32, &[u8]), DecodeError>
+    ensures { Reads (λ p. (p.0, (p.1, p.2.now))) result (section_at before bytes.now) }
+{
+    let (length, rest) = number(bytes, 4, CodeFault::Truncated)?;
+    let (body, rest) = cut(rest, length as usize, CodeFault::Truncated)?;
+    let (body, count) = read_body(alloc, body, GREATEST_DEPTH, before)?;
+    Ok((body, count, rest))
+}
+
+/// The sections up to the end of the bytes, of which these bits say which of `order` are there.
+fn sections(
+    alloc: Global,
+    order: &[Section],
+    present: u32,
+    bytes: &[u8],
+) -> Result<Vec<(Section, Body)>, DecodeError>
+    ensures { Reads (λ sections. sections.items) result (sections_at order.now present 0 bytes.now) }
+{
+    let mut sections = Vec::new(alloc);
+    let mut count = 0;
+    let mut bits = present;
+    let mut left = bytes;
+    for name in order {
+        if bits % 2 == 1 {
+            let (body, with, rest) = section(alloc, left, count)?;
+            sections.push((*name, body))?;
+            count = with;
+            left = rest;
+        }
+        bits /= 2;
+    }
+    if !left.is_empty() {
+        return Err(DecodeError::Fault(CodeFault::TrailingBytes));
+    }
+    Ok(sections)
+}
+
+/// The program that these bytes spell, or their first fault: the limits of the locals, which sections are there, and each
+/// section's statements. Else refused only for want of host memory.
+pub fn decode(alloc: Global, bytes: &[u8]) -> Result<Program, DecodeError>
+    ensures { IsDecoded result (decoded bytes.now) }
+{
+    let (bits, rest) = number(bytes, 1, CodeFault::Truncated)?;
+    let (limits, rest) = limits(bits, rest)?;
+    let (present, rest) = number(rest, 2, CodeFault::Truncated)?;
+    if present >= 1 << SECTIONS.len() {
+        return Err(DecodeError::Fault(CodeFault::BadOperand));
+    }
+    let sections = sections(alloc, &SECTIONS, present, rest)?;
+    Ok(Program::new(sections, limits))
+}
+
+#[cfg(test)]
+mod tests {
+    use super::*;
+    use crate::check::is_program;
+    use crate::program_code::encode;
+    use std::test::Fail;
+
+    /// `main` says "hello".
+    const HELLO: &[u8] = b"\x00\x01\x00\x07\x00\x00\x00\x01\x05hello";
+
+    /// Whether these bytes are refused with this fault.
+    fn is_refused(alloc: Global, bytes: &[u8], fault: CodeFault) -> bool {
+        match decode(alloc, bytes) {
+            Err(DecodeError::Fault(found)) => found == fault,
+            Ok(_) | Err(DecodeError::Memory(_)) => false,
+        }
+    }
+
+    /// The code of the program that these bytes spell.
+    fn again(alloc: Global, bytes: &[u8]) -> Result<Vec<u8>, Fail> {
+        match decode(alloc, bytes) {
+            Ok(program) if is_program(&program) => Ok(encode(alloc, &program)?),
+            _ => Err(Fail::from("a program")),
+        }
+    }
+
+    #[test]
+    fn reads_a_text(rt: HostRuntime) -> Result<(), Fail> {
+        let code = again(rt.alloc(), HELLO)?;
+        assert!(rt; code.as_slice() == HELLO);
+        Ok(())
+    }
+
+    #[test]
+    fn reads_blocks_and_limits(rt: HostRuntime) -> Result<(), Fail> {
+        let code =
+            b"\x02\xe8\x03\x00\x00\x01\x00\x19\x00\x00\x00\x41\x02\x00\x03\x00\x00\x00\x01\x01x\x40\x06\x00\x00\x00\x00\x00\x00\x00\x03\x01\x00\x00\x00\x02".as_slice();
+        assert!(rt; again(rt.alloc(), code)?.as_slice() == code);
+        Ok(())
+    }
+
+    #[test]
+    fn reads_operands(rt: HostRuntime) -> Result<(), Fail> {
+        let code =
+            b"\x00\x00\x10\x15\x00\x00\x00\x23\x43\x10\x00\x00\x04\x10\x03\x25\x48\x30\x05\x04echo\x00\x20\x00\x00".as_slice();
+        assert!(rt; again(rt.alloc(), code)?.as_slice() == code);
+        Ok(())
+    }
+
+    #[test]
+    fn refuses_what_is_cut_off(rt: HostRuntime) {
+        for end in 0..HELLO.len() {
+            assert!(rt; is_refused(rt.alloc(), &HELLO[..end], CodeFault::Truncated));
+        }
+    }
+
+    #[test]
+    fn refuses_bytes_after_the_last_section(rt: HostRuntime) -> Result<(), Fail> {
+        let mut longer = Vec::new(rt.alloc());
+        longer.extend_from_slice(HELLO)?;
+        longer.push(0)?;
+        assert!(rt; is_refused(rt.alloc(), longer.as_slice(), CodeFault::TrailingBytes));
+        Ok(())
+    }
+
+    #[test]
+    fn refuses_an_arm_past_its_section(rt: HostRuntime) {
+        let code =
+            b"\x00\x01\x00\x0e\x00\x00\x00\x03\x01\x00\x00\x00\x40\xff\x00\x00\x00\x00\x00\x00\x00".as_slice();
+        assert!(rt; is_refused(rt.alloc(), code, CodeFault::BadNesting));
+    }
+
+    #[test]
+    fn tells_why(rt: HostRuntime) -> Result<(), Fail> {
+        let memory = format!(in rt.alloc(); "{}", DecodeError::Memory(AllocError))?;
+        assert_eq!(rt; memory.as_str(), "host memory refused");
+        let fault = format!(in rt.alloc(); "{}", DecodeError::Fault(CodeFault::TrailingBytes))?;
+        assert_eq!(rt; fault.as_str(), "C6 TrailingBytes");
+        Ok(())
+    }
+}

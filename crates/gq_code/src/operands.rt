@@ -1,0 +1,217 @@
+// Operands, as bytes spell them. Each function gives what bytes begin with, and what follows it.
+ghost use Rattle.std.specs.Prelude.{◌≡◌, ◌≤◌, ◌<◌, ◌+◌, ◌^◌, IfOk, length};
+ghost use Rattle.gq_model.specs.Letters.{is_name_byte, is_said_byte};
+ghost use Rattle.gq_model.specs.Program.{little};
+ghost use Rattle.gq_model.specs.Decode.{cut, number_at, place_of, text_at, operands_at};
+ghost use Rattle.gq_code.specs.Spelling.{shape_of};
+ghost use Rattle.gq_code.specs.Decoding.{Answers, ranged_at, place_at, counted_at};
+
+use crate::spelling::{Shape, WithAmount, WithBytes, WithNumber, WithSlot};
+use gq_model::fault::CodeFault;
+use gq_model::program::{Instruction, Name, Place, Text};
+
+/// The first `count` bytes; if there are fewer, this fault.
+pub(crate) fn cut(bytes: &[u8], count: usize, fault: CodeFault) -> Result<(&[u8], &[u8]), CodeFault>
+    ensures parts { Answers (λ p. (p.0.now, p.1.now)) result (cut count fault bytes.now) }
+    ensures first { IfOk result (λ p. length p.0.now ≡ count) }
+    ensures rest { IfOk result (λ p. length p.1.now + count ≡ length bytes.now) }
+{
+    if count > bytes.len() {
+        return Err(fault);
+    }
+    Ok((&bytes[..count], &bytes[count..]))
+}
+
+/// The number that these bytes spell, the least first.
+fn little(bytes: &[u8]) -> u64
+    requires { length bytes.now ≤ 4 }
+    ensures number { result ≡ little bytes.now }
+    ensures small { result < 256 ^ length bytes.now }
+{
+    match bytes {
+        [] => 0,
+        [first, rest @ ..] => {
+            let above = little(rest);
+            u64::from(*first) + 256 * above
+        }
+    }
+}
+
+/// A number of so many bytes, the least first; if there are fewer, this fault.
+pub(crate) fn number(
+    bytes: &[u8],
+    width: usize,
+    fault: CodeFault,
+) -> Result<(u32, &[u8]), CodeFault>
+    requires { width ≤ 4 }
+    ensures number { Answers (λ p. (p.0, p.1.now)) result (number_at width fault bytes.now) }
+    ensures small { IfOk result (λ p. p.0 < 256 ^ width) }
+    ensures rest { IfOk result (λ p. length p.1.now ≤ length bytes.now) }
+{
+    let (spelled, rest) = cut(bytes, width, fault)?;
+    Ok((little(spelled) as u32, rest))
+}
+
+/// A number of so many bytes in a range.
+fn ranged(bytes: &[u8], width: usize, low: u32, high: u32) -> Result<(u32, &[u8]), CodeFault>
+    requires { width ≤ 4 }
+    ensures number { Answers (λ p. (p.0, p.1.now)) result (ranged_at width low high bytes.now) }
+    ensures high { IfOk result (λ p. p.0 ≤ high) }
+    ensures rest { IfOk result (λ p. length p.1.now ≤ length bytes.now) }
+{
+    let (number, rest) = number(bytes, width, CodeFault::BadNesting)?;
+    if number < low || number > high {
+        return Err(CodeFault::BadOperand);
+    }
+    Ok((number, rest))
+}
+
+/// The slot of this number: the own ones, then those of the session, then the object where bytes are meant.
+fn place_of(object: bool, number: u32) -> Option<Place>
+    ensures { result ≡ place_of object number }
+{
+    if number < 64 {
+        Some(Place::Own(number as u8))
+    } else if number < 72 {
+        Some(Place::Shared((number - 64) as u8))
+    } else if object && number == 72 {
+        Some(Place::Object)
+    } else {
+        None
+    }
+}
+
+/// A slot, or the object where bytes are meant.
+fn place(object: bool, bytes: &[u8]) -> Result<(Place, &[u8]), CodeFault>
+    ensures place { Answers (λ p. (p.0, p.1.now)) result (place_at object bytes.now) }
+    ensures rest { IfOk result (λ p. length p.1.now ≤ length bytes.now) }
+{
+    let (number, rest) = number(bytes, 1, CodeFault::BadNesting)?;
+    match place_of(object, number) {
+        Some(place) => Ok((place, rest)),
+        None => Err(CodeFault::BadOperand),
+    }
+}
+
+/// The bytes of a text after their number, which is in a range.
+fn counted(bytes: &[u8], low: u32, high: u32) -> Result<(&[u8], &[u8]), CodeFault>
+    ensures text { Answers (λ p. (p.0.now, p.1.now)) result (counted_at low high bytes.now) }
+    ensures low { IfOk result (λ p. low ≤ length p.0.now) }
+    ensures high { IfOk result (λ p. length p.0.now ≤ high) }
+    ensures rest { IfOk result (λ p. length p.1.now ≤ length bytes.now) }
+{
+    let (count, rest) = ranged(bytes, 1, low, high)?;
+    cut(rest, count as usize, CodeFault::BadNesting)
+}
+
+/// The name of a service.
+fn service(bytes: &[u8]) -> Result<(Name, &[u8]), CodeFault>
+    ensures name { Answers (λ p. (p.0, p.1.now)) result (text_at 1 16 is_name_byte bytes.now) }
+    ensures rest { IfOk result (λ p. length p.1.now ≤ length bytes.now) }
+{
+    let (name, rest) = counted(bytes, 1, 16)?;
+    match Name::new(name) {
+        Some(name) => Ok((name, rest)),
+        None => Err(CodeFault::BadOperand),
+    }
+}
+
+/// A text to say.
+fn said(bytes: &[u8]) -> Result<(Text, &[u8]), CodeFault>
+    ensures text { Answers (λ p. (p.0, p.1.now)) result (text_at 0 64 is_said_byte bytes.now) }
+    ensures rest { IfOk result (λ p. length p.1.now ≤ length bytes.now) }
+{
+    let (text, rest) = counted(bytes, 0, 64)?;
+    match Text::new(text) {
+        Some(text) => Ok((text, rest)),
+        None => Err(CodeFault::BadOperand),
+    }
+}
+
+/// A statement with a number.
+fn with_number(statement: WithNumber, bytes: &[u8]) -> Result<(Instruction, &[u8]), CodeFault>
+    ensures read { Answers (λ p. (p.0, p.1.now)) result (operands_at (shape_of (Shape.Number statement)) bytes.now) }
+    ensures rest { IfOk result (λ p. length p.1.now ≤ length bytes.now) }
+{
+    let (number, rest) = ranged(bytes, statement.width(), statement.low(), statement.high())?;
+    Ok((statement.instruction(number), rest))
+}
+
+/// A statement with a slot.
+fn with_slot(statement: WithSlot, bytes: &[u8]) -> Result<(Instruction, &[u8]), CodeFault>
+    ensures read { Answers (λ p. (p.0, p.1.now)) result (operands_at (shape_of (Shape.Slot statement)) bytes.now) }
+    ensures rest { IfOk result (λ p. length p.1.now ≤ length bytes.now) }
+{
+    let (place, rest) = place(false, bytes)?;
+    Ok((statement.instruction(place), rest))
+}
+
+/// A statement with a slot, or the object, whose bytes are meant.
+fn with_bytes(statement: WithBytes, bytes: &[u8]) -> Result<(Instruction, &[u8]), CodeFault>
+    ensures read { Answers (λ p. (p.0, p.1.now)) result (operands_at (shape_of (Shape.Bytes statement)) bytes.now) }
+    ensures rest { IfOk result (λ p. length p.1.now ≤ length bytes.now) }
+{
+    let (place, rest) = place(true, bytes)?;
+    Ok((statement.instruction(place), rest))
+}
+
+/// A statement with a slot and a number.
+fn with_amount(statement: WithAmount, bytes: &[u8]) -> Result<(Instruction, &[u8]), CodeFault>
+    ensures read { Answers (λ p. (p.0, p.1.now)) result (operands_at (shape_of (Shape.Amount statement)) bytes.now) }
+    ensures rest { IfOk result (λ p. length p.1.now ≤ length bytes.now) }
+{
+    let (place, rest) = place(false, bytes)?;
+    let (number, rest) = ranged(rest, 4, statement.low(), statement.high())?;
+    Ok((statement.instruction(place, number), rest))
+}
+
+/// `pool`: a slot, how many entries, and the bytes of each.
+fn pool(bytes: &[u8]) -> Result<(Instruction, &[u8]), CodeFault>
+    ensures read { Answers (λ p. (p.0, p.1.now)) result (operands_at (shape_of Shape.Pool) bytes.now) }
+    ensures rest { IfOk result (λ p. length p.1.now ≤ length bytes.now) }
+{
+    let (place, rest) = place(false, bytes)?;
+    let (entries, rest) = ranged(rest, 2, 1, 2048)?;
+    let (size, rest) = ranged(rest, 2, 1, 1024)?;
+    Ok((
+        Instruction::MakePool(place, entries as u16, size as u16),
+        rest,
+    ))
+}
+
+/// `open`: a slot, the name of a service, and the donation.
+fn open(bytes: &[u8]) -> Result<(Instruction, &[u8]), CodeFault>
+    ensures read { Answers (λ p. (p.0, p.1.now)) result (operands_at (shape_of Shape.Open) bytes.now) }
+    ensures rest { IfOk result (λ p. length p.1.now ≤ length bytes.now) }
+{
+    let (place, rest) = place(false, bytes)?;
+    let (service, rest) = service(rest)?;
+    let (donation, rest) = ranged(rest, 4, 0, u32::MAX)?;
+    Ok((Instruction::Open(place, service, donation), rest))
+}
+
+/// `say`: a text.
+fn say(bytes: &[u8]) -> Result<(Instruction, &[u8]), CodeFault>
+    ensures read { Answers (λ p. (p.0, p.1.now)) result (operands_at (shape_of Shape.Say) bytes.now) }
+    ensures rest { IfOk result (λ p. length p.1.now ≤ length bytes.now) }
+{
+    let (text, rest) = said(bytes)?;
+    Ok((Instruction::Say(text), rest))
+}
+
+/// A statement, whose operands stand in front.
+pub(crate) fn operands(shape: Shape, bytes: &[u8]) -> Result<(Instruction, &[u8]), CodeFault>
+    ensures read { Answers (λ p. (p.0, p.1.now)) result (operands_at (shape_of shape) bytes.now) }
+    ensures rest { IfOk result (λ p. length p.1.now ≤ length bytes.now) }
+{
+    match shape {
+        Shape::Say => say(bytes),
+        Shape::Plain(statement) => Ok((statement.instruction(), bytes)),
+        Shape::Number(statement) => with_number(statement, bytes),
+        Shape::Slot(statement) => with_slot(statement, bytes),
+        Shape::Bytes(statement) => with_bytes(statement, bytes),
+        Shape::Amount(statement) => with_amount(statement, bytes),
+        Shape::Pool => pool(bytes),
+        Shape::Open => open(bytes),
+    }
+}
