@@ -16,7 +16,7 @@ use gq_model::letters::is_said;
 
 /// What is said of a program that provides no service.
 #[derive(Clone, Copy, Debug, PartialEq, Eq)]
-pub enum Judgement {
+pub(crate) enum Judgement {
     /// It is plain and breaks no rule.
     Accepted,
     /// The rule that it breaks first, the section, and the number of the statement there, from 1; 0 is the section's start.
@@ -171,7 +171,7 @@ fn in_main(rule: Rule, place: u64) -> Judgement
 
 /// What is said of a program that provides no service.
 #[tactic(auto, using(crate::proofs::Walks::judged_plain))]
-pub fn judge(program: &Program) -> Judgement
+pub(crate) fn judge(program: &Program) -> Judgement
     ensures judged { result ≡ judged_as program.now }
     ensures runs { result ≡ Judgement.Accepted → machine.is_plain_program program.now ≡ true }
 {
@@ -189,7 +189,7 @@ pub fn judge(program: &Program) -> Judgement
 }
 
 /// The place of the first of these programs that is not accepted, from 0, and what is said of it.
-pub fn first_unaccepted(programs: &[Program]) -> Option<(usize, Judgement)>
+pub(crate) fn first_unaccepted(programs: &[Program]) -> Option<(usize, Judgement)>
     ensures first { result ≡ first_unaccepted 0 programs.now }
     ensures run { IfNone result (machine.are_plain_programs programs.now ≡ true) }
 {
@@ -203,7 +203,7 @@ pub fn first_unaccepted(programs: &[Program]) -> Option<(usize, Judgement)>
 }
 
 /// The greatest number of steps of a plain program: one for each statement of `main`, and one for its end.
-pub fn steps_of(program: &Program) -> u64
+pub(crate) fn steps_of(program: &Program) -> u64
     requires { IsTrue (is_plain_program program.now) }
     ensures { result ≡ size (main_of program.now) + 1 }
 {

@@ -5,7 +5,7 @@ pub mod account;
 mod account_line;
 pub mod budget;
 pub mod counted;
-pub mod judge;
+mod judge;
 mod line;
 pub mod load;
 pub mod run;
