@@ -1,18 +1,18 @@
 -- What a document without faults describes.
-use Rattle.std.proofs.Common.{◌≡◌, ◌==◌, ◌&&◌, ◌||◌, ◌%◌, ℕ, suc, arith, Bool, true, false, cond, nat_lt, List, [], ◌∷◌, length, ◌<◌, ◌≤◌, Option, Some, None, Ok, Err, refl, ap, sym, ◌∙◌}
+use Rattle.std.proofs.Common.{◌≡◌, ◌==◌, ◌&&◌, ◌||◌, ◌%◌, ℕ, suc, arith, Bool, true, false, cond, nat_lt, List, [], ◌∷◌, length, ◌<◌, ◌≤◌, Option, Some, None, is_some, Ok, Err, inl, inr, refl, ap, sym, ◌∙◌}
 use Rattle.std.specs.Prelude.{codes}
 use Rattle.std.proofs.lemmas.List.{length-map}
 use Rattle.std.proofs.lemmas.Bool.Decides.{nat_tests}
 use Rattle.gq_model.specs.Accounts.{leaf_count}
 use Rattle.toml.specs.Data.{Data, Members, get_member}
 use Rattle.gq_model.specs.Amounts.{amount}
-use Rattle.gq_model.specs.Scenario.{Interfaces, Route, Source, As_text, LeafNode, Nodes, Leaf_node, Scenario}
+use Rattle.gq_model.specs.Scenario.{Interfaces, Route, Source, As_text, As_code, LeafNode, Nodes, Leaf_node, Scenario}
 use Rattle.gq_model.specs.Sources.{program_from}
 use Rattle.gq_model.specs.Lists.{between, or_first}
-use Rattle.gq_init.specs.Keys.{DocumentFault, TooMany, passes, quantity, is_number, is_quantity, is_text, is_name_text, is_table, is_list, number_of, members_of, listed, table_fault}
+use Rattle.gq_init.specs.Keys.{DocumentFault, TooMany, passes, quantity, text_of, unhex, unhex_of, is_number, is_text, is_table, is_list, number_of, members_of, listed, table_fault}
 use Rattle.gq_init.specs.Tables.{is_total, is_two, two_of, version_of}
-use Rattle.gq_init.specs.Document.{init_count, is_long, has_long_routes, has_too_many, counts_fault, names_of, name_twice, interfaces_of, table_of, text_at, name_at, quantity_at, number_at, or_zero, routes_at, source_from, source_in, code_in, leaf_of, first_of, is_init, nodes_by, node_onto, described, list_at}
-use Rattle.gq_init.specs.Leaves.{text_leaf, leaf_nodes, leaf_names, leaves_of, leaf_scenario}
+use Rattle.gq_init.specs.Document.{init_count, is_long, has_long_routes, has_too_many, counts_fault, names_of, name_twice, interfaces_of, table_of, text_at, name_at, quantity_at, number_at, or_zero, routes_at, value_of, source_from, source_in, code_in, leaf_of, first_of, is_init, nodes_by, node_onto, described, list_at}
+use Rattle.gq_init.specs.Leaves.{bare_leaf, leaf_nodes, leaf_names, leaves_of, leaf_scenario}
 use Rattle.gq_init.specs.Stage.{stage_top_keys, stage_leaf_keys, stage_walk_fault, stage_fault}
 use Rattle.toml.specs.View.{items_view}
 use Rattle.toml.specs.declared.value.Value.{Value}
@@ -24,6 +24,7 @@ use Rattle.gq_init.specs.declared.fault.ScenarioError.TheVariants as errors
 use Rattle.gq_init.proofs.Faults.{tells_none}
 use Rattle.std.proofs.lemmas.Bool.{lt-ltb, le-ltb}
 use Rattle.gq_init.proofs.Passed.{Three, three, or_first-none}
+use Rattle.gq_init.proofs.Leaf_tables.{IsGiven, leaf_table}
 
 -- LEAVES
 
@@ -44,45 +45,102 @@ leaf_of-made : (entries : Members)
 unfolding leaf_made
 leaf_of-made entries = refl
 
-text_leaf-made : (name : List ℕ) (quantum : ℕ) (text : List ℕ) → leaf_made name quantum 0 (As_text text) None None None ≡ text_leaf name quantum text
+bare_leaf-made : (name : List ℕ) (quantum : ℕ) (source : Source) → leaf_made name quantum 0 source None None None ≡ bare_leaf name quantum source
 unfolding leaf_made
-text_leaf-made name quantum text = refl
+bare_leaf-made name quantum source = refl
 
-made_same : (name name' : List ℕ) (quantum caps : ℕ) (source source' : Source) (provides after : Option (List ℕ)) (routes : Option (List Route)) → name ≡ name' → caps ≡ 0 → source ≡ source' → provides ≡ None → after ≡ None → routes ≡ None
-    → leaf_made name quantum caps source provides after routes ≡ leaf_made name' quantum 0 source' None None None
-made_same name name' quantum caps source source' provides after routes a b d e f g = cc
+made_same : (name name' : List ℕ) (quantum caps : ℕ) (source : Source) (provides after : Option (List ℕ)) (routes : Option (List Route)) → name ≡ name' → caps ≡ 0 → provides ≡ None → after ≡ None → routes ≡ None
+    → leaf_made name quantum caps source provides after routes ≡ leaf_made name' quantum 0 source None None None
+made_same name name' quantum caps source provides after routes a b d e f = cc
+
+pub leaf_is : (entries : Members) (name : List ℕ) → table_fault stage_leaf_keys entries ≡ None → text_at (codes "name") entries ≡ Some name
+    → leaf_of entries ≡ bare_leaf name (quantity_at (codes "quantum") entries) (source_in entries)
+leaf_is entries name e named =
+    let t = leaf_table entries e in
+    let is_name : name_at entries ≡ name = rw named refl in
+    let caps : number_at (codes "caps") entries ≡ 0 = rw (t.others (codes "caps") refl) refl in
+    let provides : text_at (codes "provides") entries ≡ None = rw (t.others (codes "provides") refl) refl in
+    let after : text_at (codes "after") entries ≡ None = rw (t.others (codes "after") refl) refl in
+    let routes : routes_at (codes "route") entries ≡ None = rw (t.others (codes "route") refl) refl in
+    leaf_of-made entries
+    ∙ (made_same _ _ (quantity_at (codes "quantum") entries) _ (source_in entries) _ _ _ is_name caps provides after routes ∙ bare_leaf-made name (quantity_at (codes "quantum") entries) (source_in entries))
+
+-- PROGRAMS AS THEY ARE GIVEN
+
+abbrev some_of : {A : Type 0} → A → Option A
+some_of x = Some x
+
+some_is : {A : Type 0} (x y : A) → some_of x ≡ some_of y → x ≡ y
+some_is x y e = cc
 
 source_told : (o code : Option (List ℕ)) (text : List ℕ) → o ≡ Some text → source_from o code ≡ As_text text
 source_told None code text e = absurd cc
 source_told (Some t) code text e = cc
 
-abbrev pub LeafTable : Members → Type 0
-LeafTable = Three (codes "name") (codes "quantum") (codes "program") is_name_text (is_quantity 0 1099511627776) is_text
+source_spelled : (o code : Option (List ℕ)) (bytes : List ℕ) → o ≡ None → code ≡ Some bytes → source_from o code ≡ As_code bytes
+source_spelled None None bytes e f = absurd cc
+source_spelled None (Some code) bytes e f = cc
+source_spelled (Some t) code bytes e f = absurd cc
 
-pub leaf_table : (entries : Members) → table_fault stage_leaf_keys entries ≡ None → LeafTable entries
-leaf_table entries e = three (codes "name") (codes "quantum") (codes "program") is_name_text (is_quantity 0 1099511627776) is_text entries e
+pub text_given : (entries : Members) (text : List ℕ) → text_at (codes "program") entries ≡ Some text → source_in entries ≡ As_text text
+text_given entries text told = source_told (text_at (codes "program") entries) (code_in entries) text told
 
-pub leaf_is : (entries : Members) (name text : List ℕ) → table_fault stage_leaf_keys entries ≡ None → text_at (codes "name") entries ≡ Some name → text_at (codes "program") entries ≡ Some text
-    → leaf_of entries ≡ text_leaf name (quantity_at (codes "quantum") entries) text
-leaf_is entries name text e named told =
-    let t = leaf_table entries e in
-    let is_name : name_at entries ≡ name = rw named refl in
-    let caps : number_at (codes "caps") entries ≡ 0 = rw (t.others (codes "caps") refl) refl in
-    let source = source_told (text_at (codes "program") entries) (code_in entries) text told in
-    let provides : text_at (codes "provides") entries ≡ None = rw (t.others (codes "provides") refl) refl in
-    let after : text_at (codes "after") entries ≡ None = rw (t.others (codes "after") refl) refl in
-    let routes : routes_at (codes "route") entries ≡ None = rw (t.others (codes "route") refl) refl in
-    leaf_of-made entries ∙ (made_same _ _ (quantity_at (codes "quantum") entries) _ _ _ _ _ _ is_name caps source provides after routes ∙ text_leaf-made name (quantity_at (codes "quantum") entries) text)
+pub code_given : (entries : Members) (text bytes : List ℕ) → text_at (codes "program") entries ≡ None → text_at (codes "code") entries ≡ Some text → unhex text ≡ Some bytes → source_in entries ≡ As_code bytes
+code_given entries text bytes none told spelled =
+    source_spelled (text_at (codes "program") entries) (code_in entries) bytes none (rw told spelled)
+
+-- a table without faults that has no text has a text of digits
+pub record IsCode (entries : Members) : Type 0 where
+  pub text : List ℕ
+  pub told : text_at (codes "code") entries ≡ Some text
+  pub spells : is_some (unhex text) ≡ true
+
+record Spelled (o : Option (List ℕ)) : Type 0 where
+  text : List ℕ
+  told : o ≡ Some text
+  spells : is_some (unhex text) ≡ true
+
+spelled_by : (o : Option (List ℕ)) → is_some (unhex_of o) ≡ true → Spelled o
+spelled_by None e = absurd cc
+spelled_by (Some text) e = record { text = text; told = refl; spells = e }
+
+text_there : (d : Data) (o : Option Data) → o ≡ Some d → is_text d ≡ true → value_of text_of o ≡ None → ⊥
+text_there d o there fits none = let text : text_of d ≡ None = ap (value_of text_of) (sym there) ∙ none in no_text (text_of d) fits text
+  where
+    no_text : (o : Option (List ℕ)) → is_some o ≡ true → o ≡ None → ⊥
+    no_text None e f = cc
+    no_text (Some text) e f = cc
+
+spelled_at : (program code : Option Data) → IsGiven program code → value_of text_of program ≡ None → Spelled (value_of text_of code)
+spelled_at program code (inl ((d, there, fits), none)) e = absurd (text_there d program there fits e)
+spelled_at program code (inr (none, (d, there, fits))) e = rw there (spelled_by (text_of d) fits)
+
+pub is_code : (entries : Members) → table_fault stage_leaf_keys entries ≡ None → text_at (codes "program") entries ≡ None → IsCode entries
+is_code entries e none =
+    let s = spelled_at (get_member (codes "program") entries) (get_member (codes "code") entries) (leaf_table entries e).given none in
+    record { text = s.text; told = s.told; spells = s.spells }
+
+pub no_other_code : (entries : Members) → IsCode entries → text_at (codes "code") entries ≡ None → ⊥
+no_other_code entries code none = some_none (sym code.told ∙ none)
+  where
+    some_none : {x : List ℕ} → Some x ≡ None → ⊥
+    some_none e = cc
+
+pub same_code : (entries : Members) → IsCode entries → (text word : List ℕ) → text_at (codes "code") entries ≡ Some text → word ≡ text → is_some (unhex word) ≡ true
+same_code entries code text word told same = by_text code.text text word code.spells (some_is code.text text (sym code.told ∙ told)) same
+  where
+    by_text : (a b word : List ℕ) → is_some (unhex a) ≡ true → a ≡ b → word ≡ b → is_some (unhex word) ≡ true
+    by_text a b word e f g = rw g (rw f at e)
 
 pub name_kept : (o : Option (List ℕ)) (b : Bool) (name kept : List ℕ) → o ≡ cond b (Some name) None → o ≡ Some kept → kept ≡ name
 name_kept o true name kept e f = cc
 name_kept o false name kept e f = absurd cc
 
-joined : {A : Type 0} (make : List ℕ → ℕ → List ℕ → A) (name name' : List ℕ) (quantum quantum' : ℕ) (text text' : List ℕ) (leaf other : A) → leaf ≡ make name quantum text → name ≡ name' → quantum ≡ quantum' → text ≡ text' → other ≡ make name' quantum' text' → leaf ≡ other
-joined make name name' quantum quantum' text text' leaf other a b d e f = cc
+joined : {A : Type 0} (make : List ℕ → ℕ → Source → A) (name name' : List ℕ) (quantum quantum' : ℕ) (source source' : Source) (leaf other : A) → leaf ≡ make name quantum source → name ≡ name' → quantum ≡ quantum' → source ≡ source' → other ≡ make name' quantum' source' → leaf ≡ other
+joined make name name' quantum quantum' source source' leaf other a b d e f = cc
 
-pub leaf_joined : (name name' : List ℕ) (quantum quantum' : ℕ) (text text' : List ℕ) (leaf other : LeafNode) → leaf ≡ text_leaf name quantum text → name ≡ name' → quantum ≡ quantum' → text ≡ text' → other ≡ text_leaf name' quantum' text' → leaf ≡ other
-leaf_joined = joined text_leaf
+pub leaf_joined : (name name' : List ℕ) (quantum quantum' : ℕ) (source source' : Source) (leaf other : LeafNode) → leaf ≡ bare_leaf name quantum source → name ≡ name' → quantum ≡ quantum' → source ≡ source' → other ≡ bare_leaf name' quantum' source' → leaf ≡ other
+leaf_joined = joined bare_leaf
 
 first_none : {A : Type 0} (a b : Option A) → a ≡ None → or_first a b ≡ b
 first_none None b e = refl
@@ -97,9 +155,6 @@ one_is n e = grind (arith, nat_tests)
 faults_same : (many many' : Bool) (names names' : List (List ℕ)) → many ≡ many' → names ≡ names'
     → or_first (cond many (Some TooMany) None) (name_twice (codes "init" ∷ []) names) ≡ or_first (cond many' (Some TooMany) None) (name_twice (codes "init" ∷ []) names')
 faults_same many many' names names' e f = cc
-
-abbrev some_of : {A : Type 0} → A → Option A
-some_of x = Some x
 
 scenario_joined : (ram ram' : ℕ) (leaves leaves' : List LeafNode) → ram ≡ ram' → leaves ≡ leaves' → leaf_scenario ram leaves ≡ leaf_scenario ram' leaves'
 scenario_joined ram ram' leaves leaves' e f = cc
@@ -229,9 +284,6 @@ later_faults top e =
     ∙ faults_same _ _ _ _ (too_many ram ds more) (names_of-leaves (leaves_of ds)))
 
 -- ANSWERS
-
-some_is : {A : Type 0} (x y : A) → some_of x ≡ some_of y → x ≡ y
-some_is x y e = cc
 
 pub fault_read : (top : Members) (f : ScenarioFault) (o : Option DocumentFault) → Tells (Some f) o → IsRead (Err (errors.Fault f)) (described_or top o)
 fault_read top f None h = absurd cc

@@ -1,5 +1,6 @@
 -- Faults that are told, one after another.
-use Rattle.std.proofs.Common.{◌≡◌, ℕ, ◌+◌, ◌<◌, List, length, get_or, drop, Option, Some, None, refl, sym, ◌∙◌}
+use Rattle.std.proofs.Common.{◌≡◌, ℕ, ◌+◌, ◌<◌, List, [], ◌∷◌, ◌++◌, length, get_or, drop, Option, Some, None, append_assoc, refl, sym, ap, ◌∙◌}
+use Rattle.gq_model.specs.Scenario.{LeafNode}
 use Rattle.toml.specs.Data.{Data, string, integer, float, boolean, datetime, array, table, Members, as_table}
 use Rattle.toml.specs.View.{view, items_view}
 use Rattle.toml.specs.declared.value.Value.{Value}
@@ -9,6 +10,9 @@ use Rattle.gq_init.specs.declared.fault.ScenarioFault.{ScenarioFault}
 use Rattle.gq_init.specs.Keys.{DocumentFault, listed, members_of}
 use Rattle.gq_init.specs.Document.{first_of}
 use Rattle.gq_init.specs.Words.{Tells}
+use Rattle.gq_init.specs.Leaves.{leaves_of}
+use Rattle.gq_init.specs.Document.{leaf_of}
+use Rattle.gq_init.proofs.Passed.{or_first-none}
 
 pub tells_first : (f : ScenarioFault) (a b : Option DocumentFault) → Tells (Some f) a → Tells (Some f) (or_first a b)
 tells_first f None b h = absurd cc
@@ -31,10 +35,23 @@ members_at_table (datetime x) t e = absurd cc
 members_at_table (array ds) t e = absurd cc
 members_at_table (table ms) t e = cc
 
+-- the leaf of the first of the rest
+pub leaf_read : (done : List LeafNode) (vs : List Value) (i : ℕ) (v : Value) (t : Members) → i < length vs → v ≡ get_or vs i v → as_table (view v) ≡ Some t
+    → (done ++ leaf_of t ∷ []) ++ leaves_of (listed (items_view (drop (i + 1) vs))) ≡ done ++ leaves_of (listed (items_view (drop i vs)))
+leaf_read done vs i v t h e is =
+    let one : leaves_of (listed (items_view (drop i vs))) ≡ leaf_of t ∷ leaves_of (listed (items_view (drop (i + 1) vs))) = rw (items_view-drop vs i v h, ← e, ← members_at_table (view v) t is) refl in
+    append_assoc done (leaf_of t ∷ []) (leaves_of (listed (items_view (drop (i + 1) vs)))) ∙ ap (λ rest. done ++ rest) (sym one)
+
 module _ (fault : Members → Option DocumentFault) where
   first_of-drop : (vs : List Value) (i : ℕ) (v : Value) → i < length vs → v ≡ get_or vs i v
       → first_of fault (listed (items_view (drop i vs))) ≡ or_first (fault (members_of (view v))) (first_of fault (listed (items_view (drop (i + 1) vs))))
   first_of-drop vs i v h e = rw (items_view-drop vs i v h, ← e) refl
+
+  -- none of the rest has a fault
+  pub leaf_none : (vs : List Value) (i : ℕ) (v : Value) (t : Members) → i < length vs → v ≡ get_or vs i v → as_table (view v) ≡ Some t → first_of fault (listed (items_view (drop i vs))) ≡ None
+      → (fault t ≡ None) × (first_of fault (listed (items_view (drop (i + 1) vs))) ≡ None)
+  leaf_none vs i v t h e is none =
+      or_first-none (fault t) (first_of fault (listed (items_view (drop (i + 1) vs)))) (rw (members_at_table (view v) t is) at (sym (first_of-drop vs i v h e) ∙ none))
 
   -- the first of the rest has a fault
   pub leaf_first : (f : ScenarioFault) (vs : List Value) (i : ℕ) (v : Value) (t : Members) → i < length vs → v ≡ get_or vs i v → as_table (view v) ≡ Some t → Tells (Some f) (fault t)

@@ -1,3 +1,4 @@
+pub mod Hex_digits
 pub mod Components
 pub mod Pieces
 pub mod Counts
@@ -5,6 +6,7 @@ pub mod Turning
 pub mod Keyed
 pub mod Faults
 pub mod Passed
+pub mod Leaf_tables
 pub mod Described
 pub mod Names
 pub mod Texts

@@ -13,7 +13,7 @@ or_first-none None b e = (refl, e)
 or_first-none (Some x) b e = absurd cc
 
 -- a test that told no fault
-none_at_false : {A : Type 0} (b : Bool) (x : A) (rest : Option A) → cond b (Some x) rest ≡ None → (b ≡ false) × (rest ≡ None)
+pub none_at_false : {A : Type 0} (b : Bool) (x : A) (rest : Option A) → cond b (Some x) rest ≡ None → (b ≡ false) × (rest ≡ None)
 none_at_false true x rest e = absurd cc
 none_at_false false x rest e = (refl, e)
 
@@ -41,7 +41,7 @@ or_false : (b : Bool) → (b || false) ≡ b
 or_false true = refl
 or_false false = refl
 
-not_false : (b : Bool) → not b ≡ false → b ≡ true
+pub not_false : (b : Bool) → not b ≡ false → b ≡ true
 not_false true e = refl
 not_false false e = cc
 

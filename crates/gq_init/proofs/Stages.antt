@@ -10,17 +10,18 @@ use Rattle.toml.specs.Data.{Data, Members, no_members, member, get_member}
 use Rattle.gq_model.specs.Lists.{any_of, between, or_first}
 use Rattle.gq_model.specs.Program.{text_eq}
 use Rattle.gq_model.specs.Letters.{is_name}
-use Rattle.gq_model.specs.Scenario.{As_text, LeafNode, Scenario}
-use Rattle.gq_init.specs.Leaves.{IsBareLeaf, text_leaf, leaf_scenario, leaves_of}
+use Rattle.gq_model.specs.Scenario.{Source, LeafNode, Scenario}
+use Rattle.gq_init.specs.Leaves.{IsBareLeaf, bare_leaf, leaf_scenario, leaves_of}
 use Rattle.gq_init.specs.Keys.{DocumentFault, UnknownKey, KeyRule, required, has, passes, is_number, number_of, members_of, text_of, is_bad, unknown_key, missing_key, bad_value, table_fault}
 use Rattle.gq_init.specs.Tables.{is_two, two_of, version_of, top_keys, leaf_keys, init_keys}
-use Rattle.gq_init.specs.Document.{text_at, quantity_at, leaf_of, value_of, first_of, list_at, table_of, keys_of, routes_fault, interfaces_fault, node_fault, walk_fault, counts_fault, name_twice, names_of, described, document_fault}
+use Rattle.gq_init.specs.Document.{text_at, quantity_at, source_in, leaf_of, value_of, first_of, list_at, table_of, keys_of, routes_fault, interfaces_fault, node_fault, walk_fault, counts_fault, name_twice, names_of, described, document_fault}
 use Rattle.gq_init.specs.Stage.{stage_top_keys, stage_leaf_keys, stage_walk_fault, stage_fault, stage_scenario}
 use Rattle.gq_init.specs.Reading.{ReadFault, described_or, read_from, document_in, scenario_in}
 use Rattle.gq_init.specs.Later.{later_top_keys, later_node_keys, has_any, is_later, later_in, is_later_text}
 use Rattle.gq_init.proofs.Keyed.{same_text}
 use Rattle.gq_init.proofs.Passed.{or_first-none, absent}
-use Rattle.gq_init.proofs.Described.{top_table, leaf_table, not_two, described-leaves, leaf_is}
+use Rattle.gq_init.proofs.Described.{top_table, not_two, described-leaves, leaf_is}
+use Rattle.gq_init.proofs.Leaf_tables.{leaf_table}
 
 -- TESTS
 
@@ -104,17 +105,14 @@ leaf_same services entries later =
     let (start, more) = neither (has entries (codes "start")) _ later in
     let (route, more) = neither (has entries (codes "route")) _ more in
     let (provides, more) = neither (has entries (codes "provides")) _ more in
-    let (after, more) = neither (has entries (codes "after")) _ more in
-    let (code, nothing) = neither (has entries (codes "code")) _ more in
+    let (after, nothing) = neither (has entries (codes "after")) _ more in
     let others = leaf_keys 1 services in
-    let unknown = unknown_same stage_leaf_keys others entries (λ key h. rw (differs entries key (codes "route") h route, differs entries key (codes "provides") h provides, differs entries key (codes "after") h after, differs entries key (codes "code") h code) refl) in
+    let unknown = unknown_same stage_leaf_keys others entries (λ key h. rw (differs entries key (codes "route") h route, differs entries key (codes "provides") h provides, differs entries key (codes "after") h after) refl) in
     let no_route = none_there (get_member (codes "route") entries) route in
     let no_provides = none_there (get_member (codes "provides") entries) provides in
     let no_after = none_there (get_member (codes "after") entries) after in
-    let no_code = none_there (get_member (codes "code") entries) code in
-    let missing : missing_key others entries ≡ missing_key stage_leaf_keys entries = rw no_code refl in
-    let bad : bad_value others entries ≡ bad_value stage_leaf_keys entries = rw (no_route, no_provides, no_after, no_code) refl in
-    λ i. table_by (unknown i) (missing i) (bad i)
+    let bad : bad_value others entries ≡ bad_value stage_leaf_keys entries = rw (no_route, no_provides, no_after) refl in
+    λ i. table_by (unknown i) (missing_key stage_leaf_keys entries) (bad i)
 
 -- NODES
 
@@ -200,7 +198,7 @@ scenario_same text later = by_document (document_in text) later
 no_node_keys : (entries : Members) → table_fault stage_leaf_keys entries ≡ None → has_any later_node_keys entries ≡ false
 no_node_keys entries e =
     let t = leaf_table entries e in
-    rw (t.others (codes "start") refl, t.others (codes "route") refl, t.others (codes "provides") refl, t.others (codes "after") refl, t.others (codes "code") refl) refl
+    rw (t.others (codes "start") refl, t.others (codes "route") refl, t.others (codes "provides") refl, t.others (codes "after") refl) refl
 
 no_later_nodes : (ds : List Data) → first_of (table_fault stage_leaf_keys) ds ≡ None → any_of (λ d. has_any later_node_keys (members_of d)) ds ≡ false
 no_later_nodes [] e = refl
@@ -238,71 +236,57 @@ whole_scenario text s e = scenario_same text (read_is_not_later text s e) ∙ e
 
 -- LEAVES
 
--- a leaf that is bare and has its program as text
-pub record IsTextLeaf (node : LeafNode) : Type 0 where
-  pub bare : IsBareLeaf node
-  pub text : List ℕ
-  pub source : node.source ≡ As_text text
-
-abbrev pub AreTextLeaves : List LeafNode → Type 0
-AreTextLeaves [] = Unit {0}
-AreTextLeaves (node ∷ rest) = IsTextLeaf node × AreTextLeaves rest
+abbrev pub AreBareLeaves : List LeafNode → Type 0
+AreBareLeaves [] = Unit {0}
+AreBareLeaves (node ∷ rest) = IsBareLeaf node × AreBareLeaves rest
 
 -- a scenario of such leaves under the root
-pub record IsOfTexts (s : Scenario) : Type 0 where
+pub record IsOfBareLeaves (s : Scenario) : Type 0 where
   pub ram : ℕ
   pub leaves : List LeafNode
   pub is : leaf_scenario ram leaves ≡ s
-  pub texts : AreTextLeaves leaves
-
-some_there : (o : Option (List ℕ)) → is_some o ≡ true → (text : List ℕ) × (o ≡ Some text)
-some_there None e = absurd cc
-some_there (Some text) e = (text, refl)
+  pub bare : AreBareLeaves leaves
 
 passes_there : (o : Option (List ℕ)) (test : List ℕ → Bool) → passes test o ≡ true → (text : List ℕ) × (o ≡ Some text)
 passes_there None test e = absurd cc
 passes_there (Some text) test e = (text, refl)
 
-text_leaf_bare : (name : List ℕ) (quantum : ℕ) (text : List ℕ) → IsTextLeaf (text_leaf name quantum text)
-text_leaf_bare name quantum text = record { bare = record { provides = refl; after = refl; routes = refl; caps = refl }; text = text; source = refl }
+is_bare : (name : List ℕ) (quantum : ℕ) (source : Source) → IsBareLeaf (bare_leaf name quantum source)
+is_bare name quantum source = record { provides = refl; after = refl; routes = refl; caps = refl }
 
-leaf_texts : (entries : Members) → table_fault stage_leaf_keys entries ≡ None → IsTextLeaf (leaf_of entries)
-leaf_texts entries e =
-    let t = leaf_table entries e in
-    let (n, there1, fits1) = t.first in
-    let (p, there3, fits3) = t.third in
-    let name = passes_there (text_of n) is_name fits1 in
-    let text = some_there (text_of p) fits3 in
-    let is_name : text_at (codes "name") entries ≡ Some name.0 = ap (value_of text_of) there1 ∙ name.1 in
-    let is_text : text_at (codes "program") entries ≡ Some text.0 = ap (value_of text_of) there3 ∙ text.1 in
-    subst IsTextLeaf (sym (leaf_is entries name.0 text.0 e is_name is_text)) (text_leaf_bare name.0 (quantity_at (codes "quantum") entries) text.0)
+leaf_bare : (entries : Members) → table_fault stage_leaf_keys entries ≡ None → IsBareLeaf (leaf_of entries)
+leaf_bare entries e =
+    let (d, there, fits) = (leaf_table entries e).name in
+    let name = passes_there (text_of d) is_name fits in
+    let named : text_at (codes "name") entries ≡ Some name.0 = ap (value_of text_of) there ∙ name.1 in
+    subst IsBareLeaf (sym (leaf_is entries name.0 e named)) (is_bare name.0 (quantity_at (codes "quantum") entries) (source_in entries))
 
-leaves_texts : (ds : List Data) → first_of (table_fault stage_leaf_keys) ds ≡ None → AreTextLeaves (leaves_of ds)
-leaves_texts [] e = tt
-leaves_texts (d ∷ rest) e =
+leaves_bare : (ds : List Data) → first_of (table_fault stage_leaf_keys) ds ≡ None → AreBareLeaves (leaves_of ds)
+leaves_bare [] e = tt
+leaves_bare (d ∷ rest) e =
     let (here, more) = or_first-none (table_fault stage_leaf_keys (members_of d)) (first_of (table_fault stage_leaf_keys) rest) e in
-    (leaf_texts (members_of d) here, leaves_texts rest more)
+    (leaf_bare (members_of d) here, leaves_bare rest more)
 
-document_texts : (top : Members) → stage_fault top ≡ None → IsOfTexts (described top)
+document_bare : (top : Members) → stage_fault top ≡ None → IsOfBareLeaves (described top)
 unfolding later_faults
-document_texts top e =
+document_bare top e =
     let (walk, later) = or_first-none (stage_walk_fault top) (later_faults top) e in
     let ds = list_at (codes "start") top in
     let (here, more) = or_first-none (table_fault stage_top_keys top) (first_of (table_fault stage_leaf_keys) ds) walk in
-    record { ram = quantity_at (codes "ram") top; leaves = leaves_of ds; is = sym (described-leaves top walk); texts = leaves_texts ds more }
+    record { ram = quantity_at (codes "ram") top; leaves = leaves_of ds; is = sym (described-leaves top walk); bare = leaves_bare ds more }
 
 abbrev same_scenario : Scenario → Result Scenario ReadFault → Scenario
 same_scenario s (Ok t) = t
 same_scenario s (Err fault) = s
 
-texts_by : (top : Members) (s : Scenario) (o : Option DocumentFault) → (o ≡ None → IsOfTexts (described top)) → described_or top o ≡ Ok s → IsOfTexts s
-texts_by top s None h e = subst IsOfTexts (ap (same_scenario s) e) (h refl)
-texts_by top s (Some fault) h e = absurd cc
+bare_by : (top : Members) (s : Scenario) (o : Option DocumentFault) → (o ≡ None → IsOfBareLeaves (described top)) → described_or top o ≡ Ok s → IsOfBareLeaves s
+bare_by top s None h e = subst IsOfBareLeaves (ap (same_scenario s) e) (h refl)
+bare_by top s (Some fault) h e = absurd cc
 
-texts_from : (s : Scenario) (document : Result Members ReadFault) → read_from stage_fault document ≡ Ok s → IsOfTexts s
-texts_from s (Ok top) e = texts_by top s (stage_fault top) (document_texts top) e
-texts_from s (Err why) e = absurd cc
+bare_from : (s : Scenario) (document : Result Members ReadFault) → read_from stage_fault document ≡ Ok s → IsOfBareLeaves s
+bare_from s (Ok top) e = bare_by top s (stage_fault top) (document_bare top) e
+bare_from s (Err why) e = absurd cc
 
--- what is read so far is a scenario of leaves with texts
-pub stage_texts : (text : List ℕ) (s : Scenario) → stage_scenario text ≡ Ok s → IsOfTexts s
-stage_texts text s e = texts_from s (document_in text) e
+-- what is read so far is a scenario of bare leaves
+pub stage_bare : (text : List ℕ) (s : Scenario) → stage_scenario text ≡ Ok s → IsOfBareLeaves s
+stage_bare text s e = bare_from s (document_in text) e

@@ -13,7 +13,7 @@ later_top_keys = codes "default-route" ∷ codes "interface" ∷ []
 
 -- and no node's table
 abbrev pub later_node_keys : List (List ℕ)
-later_node_keys = codes "start" ∷ codes "route" ∷ codes "provides" ∷ codes "after" ∷ codes "code" ∷ []
+later_node_keys = codes "start" ∷ codes "route" ∷ codes "provides" ∷ codes "after" ∷ []
 
 abbrev pub has_any : List (List ℕ) → Members → Bool
 has_any keys entries = any_of (has entries) keys

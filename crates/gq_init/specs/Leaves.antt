@@ -4,7 +4,7 @@ use Rattle.toml.specs.Data.{Data}
 use Rattle.gq_init.specs.Keys.{members_of}
 use Rattle.gq_init.specs.Document.{leaf_of}
 use Rattle.gq_model.specs.Amounts.{amount}
-use Rattle.gq_model.specs.Scenario.{Route, As_text, LeafNode, Nodes, End, Leaf_node, Init_node, Scenario, Level, level, below, Component}
+use Rattle.gq_model.specs.Scenario.{Route, Source, LeafNode, Nodes, End, Leaf_node, Init_node, Scenario, Level, level, below, Component}
 use Rattle.gq_model.specs.Sources.{program_from}
 
 -- each of these nodes is a leaf
@@ -24,14 +24,14 @@ abbrev pub leaf_nodes : List LeafNode → Nodes
 leaf_nodes [] = End
 leaf_nodes (node ∷ rest) = Leaf_node node (leaf_nodes rest)
 
--- a leaf with a name, a quantum of bytes and a program given as text
-abbrev pub text_leaf : List ℕ → ℕ → List ℕ → LeafNode
-text_leaf name quantum text =
+-- a leaf with a name, a quantum of bytes and a program as it is given
+abbrev pub bare_leaf : List ℕ → ℕ → Source → LeafNode
+bare_leaf name quantum source =
     record {
       name = name;
       quantum = amount quantum 0;
-      source = As_text text;
-      program = program_from (As_text text);
+      source = source;
+      program = program_from source;
       provides = None;
       after = None;
       routes = None;

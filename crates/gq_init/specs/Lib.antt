@@ -3,6 +3,7 @@ pub mod Tables
 pub mod Document
 pub mod Reading
 pub mod Stage
+pub mod Given
 pub mod Leaves
 pub mod Lines
 pub mod TurnLines

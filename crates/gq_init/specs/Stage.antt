@@ -1,10 +1,10 @@
--- The scenarios that are read so far: of version 1, with leaves directly under the root whose programs are given as text.
+-- The scenarios that are read so far: of version 1, with leaves directly under the root.
 -- Every other key is an unknown one.
 use Rattle.std.specs.Prelude.{ℕ, List, [], ◌∷◌, Option, Result, codes}
 use Rattle.toml.specs.Data.{Members}
 use Rattle.gq_model.specs.Lists.{or_first}
 use Rattle.gq_model.specs.Scenario.{Scenario}
-use Rattle.gq_init.specs.Keys.{DocumentFault, KeyRule, required, is_number, is_quantity, is_text, is_name_text, is_table, is_list, table_fault}
+use Rattle.gq_init.specs.Keys.{DocumentFault, KeyRule, required, either, other, is_number, is_quantity, is_text, is_hex, is_name_text, is_table, is_list, table_fault}
 use Rattle.gq_init.specs.Tables.{is_total}
 use Rattle.gq_init.specs.Document.{described, list_at, first_of, counts_fault, name_twice, names_of}
 use Rattle.gq_init.specs.Reading.{ReadFault, document_in, read_from}
@@ -14,7 +14,8 @@ stage_top_keys = required (codes "version") (is_number 1 1) ∷ required (codes 
 
 abbrev pub stage_leaf_keys : List KeyRule
 stage_leaf_keys =
-    required (codes "name") is_name_text ∷ required (codes "quantum") (is_quantity 0 1099511627776) ∷ required (codes "program") is_text ∷ []
+    required (codes "name") is_name_text ∷ required (codes "quantum") (is_quantity 0 1099511627776)
+    ∷ either (codes "program") (codes "code" ∷ []) is_text ∷ other (codes "code") (codes "program" ∷ []) is_hex ∷ []
 
 -- the top table, then the leaves in their order
 abbrev pub stage_walk_fault : Members → Option DocumentFault

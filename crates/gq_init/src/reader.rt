@@ -4,8 +4,9 @@ ghost use Rattle.toml.specs.Data.{Members};
 ghost use Rattle.toml.specs.View.{table_view, items_view};
 ghost use Rattle.gq_model.specs.Lists.{any_of};
 ghost use Rattle.gq_model.specs.Program.{text_eq};
-ghost use Rattle.gq_init.specs.Keys.{listed, members_of, required, table_fault};
-ghost use Rattle.gq_init.specs.Document.{leaf_of, first_of, name_twice};
+ghost use Rattle.gq_init.specs.Given.{source_of};
+ghost use Rattle.gq_init.specs.Keys.{listed, members_of, required, either, other, table_fault};
+ghost use Rattle.gq_init.specs.Document.{leaf_of, source_in, first_of, name_twice};
 ghost use Rattle.gq_init.specs.Reading.{described_or};
 ghost use Rattle.gq_init.specs.Stage.{stage_top_keys, stage_leaf_keys, stage_walk_fault, stage_fault, stage_scenario};
 ghost use Rattle.gq_init.specs.Words.{key_text, Tells, IsRead};
@@ -13,10 +14,12 @@ ghost use Rattle.gq_init.specs.Rules.{rule_of, fits_of};
 ghost use Rattle.gq_init.specs.Leaves.{leaf_names, leaves_of};
 
 use crate::fault::{ScenarioError, ScenarioFault};
+use crate::hexadecimal::unhex;
 use crate::key::Key;
 use crate::lines::same_bytes;
 use crate::rules::{KeyRule, ValueRule, table_fault};
 use crate::scenario::{GREATEST_LEAVES, Leaf, Scenario};
+use crate::source::Source;
 use crate::value::{list_at, quantity_at, text_at};
 use gq_model::program::Name;
 use std::alloc::{AllocError, Global};
@@ -34,6 +37,32 @@ fn required(key: Key, value: ValueRule) -> KeyRule
         required: true,
         instead: &[],
         beside: &[],
+        value,
+    }
+}
+
+// The first of two keys of which just one is there.
+fn either(key: Key, instead: &'static [Key], value: ValueRule) -> KeyRule
+    ensures { rule_of result ≡ either (key_text key) (map key_text instead.now) (fits_of value) }
+{
+    KeyRule {
+        key,
+        required: true,
+        instead,
+        beside: &[],
+        value,
+    }
+}
+
+// The second of them.
+fn other(key: Key, beside: &'static [Key], value: ValueRule) -> KeyRule
+    ensures { rule_of result ≡ other (key_text key) (map key_text beside.now) (fits_of value) }
+{
+    KeyRule {
+        key,
+        required: false,
+        instead: &[],
+        beside,
         value,
     }
 }
@@ -57,7 +86,8 @@ fn leaf_fault(table: &Table) -> Option<ScenarioFault>
     let rules = [
         required(Key::Name, ValueRule::NameText),
         required(Key::Quantum, ValueRule::Quantity(0, 1 << 40)),
-        required(Key::Program, ValueRule::Text),
+        either(Key::Program, &[Key::Code], ValueRule::Text),
+        other(Key::Code, &[Key::Program], ValueRule::Hex),
     ];
     table_fault(&rules, table)
 }
@@ -87,6 +117,20 @@ fn walk_fault(table: &Table) -> Option<ScenarioFault>
     leaves_fault(list_at(table, Key::Start))
 }
 
+// How the table of a leaf, which has no faults, gives the leaf's program.
+fn read_source(alloc: Global, table: &Table) -> Result<Source, AllocError>
+    requires { table_fault stage_leaf_keys (table_view table.now) ≡ None }
+    ensures { IfOk result (λ s. source_of s ≡ source_in (table_view table.now)) }
+{
+    if let Some(text) = text_at(table, Key::Program) {
+        return Ok(Source::Text(Vec::from_slice(alloc, text.as_bytes())?));
+    }
+    let Some(code) = text_at(table, Key::Code) else {
+        unreachable!();
+    };
+    Ok(Source::Code(unhex(alloc, code.as_bytes())?))
+}
+
 // The leaf of a table without faults.
 fn read_leaf(alloc: Global, table: &Table) -> Result<Leaf, AllocError>
     requires { table_fault stage_leaf_keys (table_view table.now) ≡ None }
@@ -98,11 +142,8 @@ fn read_leaf(alloc: Global, table: &Table) -> Result<Leaf, AllocError>
     let Some(name) = Name::new(name.as_bytes()) else {
         unreachable!();
     };
-    let Some(text) = text_at(table, Key::Program) else {
-        unreachable!();
-    };
-    let text = Vec::from_slice(alloc, text.as_bytes())?;
-    Ok(Leaf::new(name, quantity_at(table, Key::Quantum), text))
+    let source = read_source(alloc, table)?;
+    Ok(Leaf::new(name, quantity_at(table, Key::Quantum), source))
 }
 
 // The leaves of tables without faults.
@@ -173,8 +214,8 @@ fn document_scenario(alloc: Global, table: &Table) -> Result<Scenario, ScenarioE
     Ok(Scenario::new(quantity_at(table, Key::Ram), leaves))
 }
 
-/// The scenario that a text describes, a TOML document of version 1 with leaves directly under the root whose programs
-/// are given as text.
+/// The scenario that a text describes, a TOML document of version 1 with leaves directly under the root. Each has its
+/// program as text or as code.
 ///
 /// Refused where memory runs out, and by the first fault of the text: one of more than 1 MiB is `TooMany`, one that is no
 /// UTF-8 or no TOML `NotToml`. Then come the faults of the tables in their order, each its least unknown key, its first

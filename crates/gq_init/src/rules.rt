@@ -9,6 +9,7 @@ ghost use Rattle.gq_init.specs.Words.{key_text, Tells};
 ghost use Rattle.gq_init.specs.Rules.{fits_of, rule_of};
 
 use crate::fault::ScenarioFault;
+use crate::hexadecimal::is_hex;
 use crate::key::{Key, key_of};
 use crate::value::{has, number_of, quantity, value_at};
 use gq_model::letters::is_name;
@@ -24,6 +25,8 @@ pub(crate) enum ValueRule {
     // The RAM of a system: 4096 to 67108864 bytes, in whole pages.
     Total,
     Text,
+    // Hexadecimal digits of either case, two for each byte.
+    Hex,
     NameText,
     // A list of tables.
     Tables,
@@ -70,6 +73,10 @@ pub(crate) fn fits(rule: ValueRule, value: &Value) -> bool
             None => false,
         },
         ValueRule::Text => value.is_str(),
+        ValueRule::Hex => match value.as_str() {
+            Some(text) => is_hex(text.as_bytes()),
+            None => false,
+        },
         ValueRule::NameText => match value.as_str() {
             Some(text) => is_name(text.as_bytes()),
             None => false,

@@ -1,10 +1,12 @@
 // Scenarios in memory.
 ghost use Rattle.std.specs.Prelude.{ℕ, ◌≡◌, ◌<◌, ◌≤◌, ◌+◌, ◌%◌, ◌++◌, length, slice_get, IfOk, IfSome};
-ghost use Rattle.gq_model.specs.Scenario.{As_text, components};
+ghost use Rattle.gq_model.specs.Scenario.{components};
 ghost use Rattle.gq_model.specs.Sources.{program_from};
 ghost use Rattle.gq_model.specs.Routes.{numbered};
-ghost use Rattle.gq_init.specs.Leaves.{AreLeaves, IsOfLeaves, IsBareLeaf, text_leaf, leaf_scenario};
+ghost use Rattle.gq_init.specs.Given.{source_of};
+ghost use Rattle.gq_init.specs.Leaves.{AreLeaves, IsOfLeaves, IsBareLeaf, bare_leaf, leaf_scenario};
 
+use crate::source::Source;
 use arrayvec::ArrayVec;
 use gq_model::program::Name;
 use std::alloc::{AllocError, Global};
@@ -54,30 +56,31 @@ impl LeafNo {
 pub(crate) struct Leaf {
     name: Name,
     quantum: u64,
-    text: Vec<u8>,
+    source: Source,
 }
 
 impl Model for Leaf {
     ghost use Rattle.gq_model.specs.Scenario.{LeafNode};
     ghost use Rattle.gq_model.specs.Stored.{statements_code};
-    ghost use Rattle.gq_init.specs.Leaves.{text_leaf};
+    ghost use Rattle.gq_init.specs.Given.{source_of};
+    ghost use Rattle.gq_init.specs.Leaves.{bare_leaf};
     ghost use Rattle.std.specs.Coded.{codes};
 
     ghost Value = { LeafNode };
 
     ghost coded = { Prim.hlevel (codes, statements_code (Prim.hlevel codes)) };
 
-    ghost view = { λ l. text_leaf l.name l.quantum l.text.items };
+    ghost view = { λ l. bare_leaf l.name l.quantum (source_of l.source) };
 }
 
 impl Leaf {
-    pub(crate) fn new(name: Name, quantum: u64, text: Vec<u8>) -> Leaf
-        ensures { result ≡ text_leaf name quantum text.items }
+    pub(crate) fn new(name: Name, quantum: u64, source: Source) -> Leaf
+        ensures { result ≡ bare_leaf name quantum (source_of source) }
     {
         Leaf {
             name,
             quantum,
-            text,
+            source,
         }
     }
 
@@ -85,9 +88,9 @@ impl Leaf {
     fn copy(&self, alloc: Global) -> Result<Leaf, AllocError>
         ensures { IfOk result (λ l. l ≡ self.now) }
     {
-        let text = Vec::from_slice(alloc, self.text.as_slice())?;
+        let source = self.source.copy(alloc)?;
         match Name::new(self.name.as_bytes()) {
-            Some(name) => Ok(Leaf::new(name, self.quantum, text)),
+            Some(name) => Ok(Leaf::new(name, self.quantum, source)),
             None => unreachable!(),
         }
     }
@@ -173,14 +176,14 @@ impl Scenario {
         self.leaves[leaf.index()].quantum
     }
 
-    /// The text of the program of a leaf.
-    pub fn program_text(&self, leaf: LeafNo) -> &[u8]
+    /// How the program of a leaf is given.
+    pub fn source(&self, leaf: LeafNo) -> &Source
         requires { leaf < length (components self.now) }
-        ensures source { IfSome (slice_get (components self.now) leaf) (λ c. c.node.source ≡ As_text result.now) }
+        ensures source { IfSome (slice_get (components self.now) leaf) (λ c. source_of result.now ≡ c.node.source) }
         ensures program { IfSome (slice_get (components self.now) leaf) (λ c. c.node.program ≡ program_from c.node.source) }
         ensures bare { IfSome (slice_get (components self.now) leaf) (λ c. IsBareLeaf c.node) }
     {
-        self.leaves[leaf.index()].text.as_slice()
+        &self.leaves[leaf.index()].source
     }
 
     /// The leaf of this name, where there is one.

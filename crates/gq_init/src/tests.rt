@@ -4,6 +4,7 @@ use crate::key::Key;
 use crate::node::NodeNo;
 use crate::reader::read_scenario;
 use crate::scenario::{LeafNo, Scenario};
+use crate::source::Source;
 use crate::turns::{TurnsError, read_turns};
 use gq_model::fault::TurnFault;
 use std::alloc::{AllocError, Global};
@@ -44,12 +45,71 @@ fn reads_a_leaf(rt: HostRuntime) -> Result<(), Fail> {
     let leaf = LeafNo::new(0);
     assert_eq!(rt; scenario.name(leaf).as_bytes(), b"hello".as_slice());
     assert_eq!(rt; scenario.quantum(leaf), 4096);
-    assert_eq!(rt;
-        scenario.program_text(leaf),
-        b"main\nsay \"hello\"\nend\n".as_slice()
-    );
+    assert!(rt; matches!(scenario.source(leaf), Source::Text(text) if text.as_slice() == b"main\nsay \"hello\"\nend\n".as_slice()));
     assert_eq!(rt; scenario.leaf_named(b"hello"), Some(leaf));
     assert_eq!(rt; scenario.leaf_named(b"init"), None);
+    Ok(())
+}
+
+// A scenario with one leaf of these further keys.
+fn leaf_with(alloc: Global, keys: &str) -> Result<String, Fail> {
+    let mut text = String::from_str(
+        alloc,
+        "version = 1\nram = \"64K\"\n[[start]]\nname = \"hello\"\nquantum = \"4K\"\n",
+    )?;
+    text.push_str(keys)?;
+    Ok(text)
+}
+
+// The bytes of the code of the one leaf of such a scenario, none where it is given as text.
+fn code_with(alloc: Global, keys: &str) -> Result<Option<Vec<u8>>, Fail> {
+    let scenario = read_scenario(alloc, leaf_with(alloc, keys)?.as_bytes())?;
+    if scenario.leaf_count() != 1 {
+        return Err(Fail::from("one leaf"));
+    }
+    match scenario.source(LeafNo::new(0)) {
+        Source::Text(_) => Ok(None),
+        Source::Code(code) => Ok(Some(Vec::from_slice(alloc, code.as_slice())?)),
+    }
+}
+
+#[test]
+fn reads_code(rt: HostRuntime) -> Result<(), Fail> {
+    let alloc = rt.alloc();
+    let hello = code_with(alloc, "code = \"00010007000000010568656C6c6f\"\n")?;
+    let bytes = b"\x00\x01\x00\x07\x00\x00\x00\x01\x05hello".as_slice();
+    assert!(rt; matches!(&hello, Some(code) if code.as_slice() == bytes));
+    let nothing = code_with(alloc, "code = \"\"\n")?;
+    assert!(rt; matches!(&nothing, Some(code) if code.as_slice().is_empty()));
+    let text = code_with(alloc, "program = \"\"\n")?;
+    assert!(rt; text.is_none());
+    Ok(())
+}
+
+#[test]
+fn tells_a_fault_of_code(rt: HostRuntime) -> Result<(), Fail> {
+    let alloc = rt.alloc();
+    let both = leaf_with(alloc, "program = \"\"\ncode = \"00\"\n")?;
+    assert_eq!(rt; line_of(alloc, both.as_bytes())?.as_str(), "S3 BadValue code");
+    let half = leaf_with(alloc, "code = \"0\"\n")?;
+    assert_eq!(rt; line_of(alloc, half.as_bytes())?.as_str(), "S3 BadValue code");
+    let letter = leaf_with(alloc, "code = \"0g\"\n")?;
+    assert_eq!(rt; line_of(alloc, letter.as_bytes())?.as_str(), "S3 BadValue code");
+    let number = leaf_with(alloc, "code = 10\n")?;
+    assert_eq!(rt; line_of(alloc, number.as_bytes())?.as_str(), "S3 BadValue code");
+    let neither = leaf_with(alloc, "")?;
+    assert_eq!(rt; line_of(alloc, neither.as_bytes())?.as_str(), "S2 MissingKey program");
+    Ok(())
+}
+
+#[test]
+fn copies_a_scenario(rt: HostRuntime) -> Result<(), Fail> {
+    let alloc = rt.alloc();
+    let text = leaf_with(alloc, "code = \"0001\"\n")?;
+    let scenario = read_scenario(alloc, text.as_bytes())?.copy(alloc)?;
+    assert_eq!(rt; scenario.leaf_count(), 1);
+    let source = scenario.source(LeafNo::new(0));
+    assert!(rt; matches!(source, Source::Code(code) if code.as_slice() == b"\x00\x01".as_slice()));
     Ok(())
 }
 

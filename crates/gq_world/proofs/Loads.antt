@@ -5,7 +5,7 @@ use Rattle.gq_model.specs.Program.{Program}
 use Rattle.gq_model.specs.Lists.{or_first}
 use Rattle.gq_model.specs.Scenario.{Component}
 use Rattle.gq_world.specs.Judgements.{programs_of}
-use Rattle.gq_world.specs.Loading.{Fault, source_fault, texts_fault}
+use Rattle.gq_world.specs.Loading.{Fault, source_fault, sources_fault}
 use Rattle.gq_world.specs.Faults.{IsReadFrom, AreBareComponents, GivesFault}
 use Rattle.gq_world.specs.declared.load.LoadError.{LoadError}
 use Rattle.gq_world.specs.declared.load.LoadError.TheVariants as told
@@ -27,12 +27,12 @@ next cs i P less h =
 
 pub record Taken (cs : List Component) (i : ℕ) (programs more : List Program) : Type 0 where
   pub made : more ++ programs_of (drop (i + 1) cs) ≡ programs_of cs
-  pub texts : texts_fault (drop (i + 1) cs) ≡ texts_fault cs
+  pub sources : sources_fault (drop (i + 1) cs) ≡ sources_fault cs
   pub bare : AreBareComponents (drop (i + 1) cs) → AreBareComponents cs
 
 -- one program more
 pub taken : (cs : List Component) (i : ℕ) (programs more : List Program) (p : Program) → i < length cs → IfSome (slice_get cs i) (λ c. IsReadFrom c p) → more ≡ programs ++ p ∷ []
-    → programs ++ programs_of (drop i cs) ≡ programs_of cs → texts_fault (drop i cs) ≡ texts_fault cs → (AreBareComponents (drop i cs) → AreBareComponents cs) → Taken cs i programs more
+    → programs ++ programs_of (drop i cs) ≡ programs_of cs → sources_fault (drop i cs) ≡ sources_fault cs → (AreBareComponents (drop i cs) → AreBareComponents cs) → Taken cs i programs more
 taken cs i programs more p less h e made texts bare =
     let n = next cs i (λ c. IsReadFrom c p) less h in
     let rest = drop (i + 1) cs in
@@ -41,7 +41,7 @@ taken cs i programs more p less h e made texts bare =
           ap (λ l. l ++ programs_of rest) e
           ∙ (append_assoc programs (p ∷ []) (programs_of rest)
           ∙ (ap (λ q. programs ++ q ∷ programs_of rest) n.holds.program ∙ (ap (λ l. programs ++ programs_of l) (sym n.left) ∙ made)));
-      texts = ap (λ o. or_first o (texts_fault rest)) (sym n.holds.fault) ∙ (ap texts_fault (sym n.left) ∙ texts);
+      sources = ap (λ o. or_first o (sources_fault rest)) (sym n.holds.fault) ∙ (ap sources_fault (sym n.left) ∙ texts);
       bare = λ b. bare (subst AreBareComponents (sym n.left) (n.holds.bare, b));
     }
 
@@ -51,9 +51,9 @@ gives_first (told.Fault f) None p h = absurd h
 gives_first (told.Fault f) (Some fault) p h = h
 
 -- the first leaf whose text is no program gives the fault
-pub refused : (cs : List Component) (i : ℕ) (e : LoadError) → i < length cs → IfSome (slice_get cs i) (λ c. GivesFault e (source_fault c.node.name c.node.source)) → texts_fault (drop i cs) ≡ texts_fault cs
-    → GivesFault e (texts_fault cs)
+pub refused : (cs : List Component) (i : ℕ) (e : LoadError) → i < length cs → IfSome (slice_get cs i) (λ c. GivesFault e (source_fault c.node.name c.node.source)) → sources_fault (drop i cs) ≡ sources_fault cs
+    → GivesFault e (sources_fault cs)
 refused cs i e less h texts =
     let n = next cs i (λ c. GivesFault e (source_fault c.node.name c.node.source)) less h in
-    let rest = texts_fault (drop (i + 1) cs) in
-    subst (GivesFault e) texts (subst (λ l. GivesFault e (texts_fault l)) (sym n.left) (gives_first e (source_fault n.component.node.name n.component.node.source) rest n.holds))
+    let rest = sources_fault (drop (i + 1) cs) in
+    subst (GivesFault e) texts (subst (λ l. GivesFault e (sources_fault l)) (sym n.left) (gives_first e (source_fault n.component.node.name n.component.node.source) rest n.holds))

@@ -19,7 +19,7 @@ use Rattle.gq_world.specs.declared.judge.Judgement.{Judgement}
 use Rattle.gq_world.specs.declared.judge.Judgement.TheVariants.{Accepted, Refused, NotYet}
 use Rattle.gq_world.specs.Plain.{AreBare, IsBareScenario}
 use Rattle.gq_world.specs.Judgements.{judged_as, unless_accepted, first_unaccepted, programs_of}
-use Rattle.gq_world.specs.Loading.{Fault, texts_fault, judgement_fault, programs_fault, quanta_fault, scenario_fault}
+use Rattle.gq_world.specs.Loading.{Fault, sources_fault, judgement_fault, programs_fault, quanta_fault, scenario_fault}
 use Rattle.gq_world.specs.declared.load.LoadFault.TheVariants as load
 use Rattle.gq_world.specs.Faults.{AreBareComponents, PrintsFault, load_fault_text}
 use Rattle.gq_world.specs.Worlds.{IsSound}
@@ -166,13 +166,13 @@ module _ (s : Scenario) (leaves : AreLeaves s.nodes) (plain : IsOfLeaves s) (bar
   no_refusal first fits = accepted_scenario s bare_scenario (all_accepted s bare_scenario first) (none_exceeds fits)
 
   -- no fault is left
-  pub no_fault : texts_fault (components s) ≡ None → first_unaccepted 0 (programs_of (components s)) ≡ None → sum (quanta_of (components s)) ≤ s.total.ram → scenario_fault s ≡ None
+  pub no_fault : sources_fault (components s) ≡ None → first_unaccepted 0 (programs_of (components s)) ≡ None → sum (quanta_of (components s)) ≤ s.total.ram → scenario_fault s ≡ None
   no_fault texts first fits = rw (texts, none_unaccepted_from 0 (components s) first, none_exceeds fits) refl
 
   -- the quanta are the fault
-  pub quanta_refused : texts_fault (components s) ≡ None → first_unaccepted 0 (programs_of (components s)) ≡ None → (sum (quanta_of (components s)) ≤ s.total.ram → ⊥) → scenario_fault s ≡ quanta_fault (Some (Quanta_exceed (codes "init")))
+  pub quanta_refused : sources_fault (components s) ≡ None → first_unaccepted 0 (programs_of (components s)) ≡ None → (sum (quanta_of (components s)) ≤ s.total.ram → ⊥) → scenario_fault s ≡ quanta_fault (Some (Quanta_exceed (codes "init")))
   quanta_refused texts first not = rw (texts, none_unaccepted_from 0 (components s) first, exceeding not) refl
 
 -- a program is the fault
-pub program_refused : (s : Scenario) (fault : Fault) → texts_fault (components s) ≡ None → programs_fault (components s) ≡ Some fault → scenario_fault s ≡ Some fault
+pub program_refused : (s : Scenario) (fault : Fault) → sources_fault (components s) ≡ None → programs_fault (components s) ≡ Some fault → scenario_fault s ≡ Some fault
 program_refused s fault texts programs = rw (texts, programs) refl

@@ -5,8 +5,10 @@ use Rattle.gq_model.specs.Amounts.{Ram}
 use Rattle.gq_model.specs.Lists.{or_first}
 use Rattle.gq_model.specs.Program.{Program}
 use Rattle.gq_model.specs.declared.fault.TextFault.{TextFault}
-use Rattle.gq_model.specs.Scenario.{As_text, Source, LeafNode, Component, Scenario, components}
+use Rattle.gq_model.specs.Scenario.{As_text, As_code, Source, LeafNode, Component, Scenario, components}
+use Rattle.gq_model.specs.declared.fault.CodeFault.{CodeFault}
 use Rattle.gq_model.specs.Text.{assembled}
+use Rattle.gq_model.specs.Decode.{decoded}
 use Rattle.gq_model.specs.Resolve.{Unresolved, exceeds}
 use Rattle.gq_model.specs.Accept.{refusal}
 use Rattle.gq_model.specs.Turns.{turned}
@@ -15,16 +17,16 @@ use Rattle.gq_init.specs.Reading.{ReadFault}
 use Rattle.gq_init.specs.Stage.{stage_scenario}
 use Rattle.gq_init.proofs.Components.{AreLeaves-leaf_scenario, components-leaf_scenario}
 use Rattle.gq_init.proofs.Passed.{or_first-none}
-use Rattle.gq_init.proofs.Stages.{IsTextLeaf, AreTextLeaves, IsOfTexts, stage_texts, whole_scenario}
+use Rattle.gq_init.proofs.Stages.{AreBareLeaves, IsOfBareLeaves, stage_bare, whole_scenario}
 use Rattle.gq_world.specs.declared.judge.Judgement.{Judgement}
 use Rattle.gq_world.specs.declared.judge.Judgement.TheVariants.{Accepted, Refused, NotYet}
 use Rattle.gq_world.specs.Plain.{IsBareScenario}
 use Rattle.gq_world.specs.Judgements.{judged_as, AreAccepted}
 use Rattle.gq_world.specs.Faults.{AreBareComponents}
 use Rattle.gq_world.specs.Loading as stage
-use Rattle.gq_world.specs.Loading.{texts_fault, judgement_fault, programs_fault, quanta_fault, stage_loaded}
+use Rattle.gq_world.specs.Loading.{judgement_fault, programs_fault, quanta_fault, stage_loaded}
 use Rattle.gq_world.specs.Load as load
-use Rattle.gq_world.specs.Load.{sources_fault, loaded}
+use Rattle.gq_world.specs.Load.{loaded}
 use Rattle.gq_world.specs.Written.{written_from, written_turns, stage_written}
 use Rattle.gq_world.specs.Whole.{with_scenario, run_written}
 use Rattle.gq_world.proofs.Refusals.{Each, IsAcceptedLeaf, are_accepted, accepted_scenario}
@@ -32,26 +34,18 @@ use Rattle.gq_world.proofs.Sound.{bare_scenario}
 
 -- LEAVES
 
-each_text : (s : Scenario) (leaves : List LeafNode) → AreTextLeaves leaves → Each IsTextLeaf (map (root_component s) leaves)
-each_text s [] h = tt
-each_text s (node ∷ rest) h = (h.0, each_text s rest h.1)
-
-bare_each : (cs : List Component) → Each IsTextLeaf cs → AreBareComponents cs
-bare_each [] h = tt
-bare_each (c ∷ cs) h = (h.0.bare, bare_each cs h.1)
+bare_leaves : (s : Scenario) (leaves : List LeafNode) → AreBareLeaves leaves → AreBareComponents (map (root_component s) leaves)
+bare_leaves s [] h = tt
+bare_leaves s (node ∷ rest) h = (h.0, bare_leaves s rest h.1)
 
 of_leaves : (s : Scenario) (ram : ℕ) (leaves : List LeafNode) → leaf_scenario ram leaves ≡ s → IsOfLeaves s
 of_leaves s ram leaves e = subst IsOfLeaves e (record { version = refl; caps = refl; interfaces = refl; routes = refl })
 
--- a scenario of bare leaves with texts, as it is read so far
-pub record HasTexts (s : Scenario) : Type 0 where
-  pub texts : Each IsTextLeaf (components s)
-  pub bare : IsBareScenario s
-
-pub has_texts : (s : Scenario) → IsOfTexts s → HasTexts s
-has_texts s t =
-    let texts = subst (Each IsTextLeaf) (sym (components-leaf_scenario s t.ram t.leaves t.is)) (each_text s t.leaves t.texts) in
-    record { texts = texts; bare = bare_scenario s (AreLeaves-leaf_scenario s t.ram t.leaves t.is) (of_leaves s t.ram t.leaves t.is) (bare_each (components s) texts) }
+-- a scenario as it is read so far has bare leaves alone
+pub bare_read : (s : Scenario) → IsOfBareLeaves s → IsBareScenario s
+bare_read s b =
+    let bare = subst AreBareComponents (sym (components-leaf_scenario s b.ram b.leaves b.is)) (bare_leaves s b.leaves b.bare) in
+    bare_scenario s (AreLeaves-leaf_scenario s b.ram b.leaves b.is) (of_leaves s b.ram b.leaves b.is) bare
 
 -- PROGRAMS
 
@@ -77,14 +71,19 @@ text_same : (leaf : List ℕ) (read : Result Program (TextFault × ℕ)) → Tel
 text_same leaf (Ok p) = tt
 text_same leaf (Err fault) = refl
 
--- a text is no program in the one language where it is none in the other
-source_same : (leaf : List ℕ) (source : Source) (text : List ℕ) → source ≡ As_text text → TellSame (stage.source_fault leaf source) (load.source_fault leaf source)
-source_same leaf source text e = subst (λ o. TellSame (stage.source_fault leaf o) (load.source_fault leaf o)) (sym e) (text_same leaf (assembled text))
+code_same : (leaf : List ℕ) (read : Result Program CodeFault) → TellSame (stage.code_fault leaf read) (load.code_fault leaf read)
+code_same leaf (Ok p) = tt
+code_same leaf (Err fault) = refl
 
-pub sources_same : (cs : List Component) → Each IsTextLeaf cs → TellSame (texts_fault cs) (sources_fault cs)
-sources_same [] h = tt
-sources_same (c ∷ cs) h =
-    tell_first (stage.source_fault c.node.name c.node.source) (texts_fault cs) (load.source_fault c.node.name c.node.source) (sources_fault cs) (source_same c.node.name c.node.source h.0.text h.0.source) (sources_same cs h.1)
+-- what a leaf is given is no program in the one language where it is none in the other
+pub source_same : (leaf : List ℕ) (source : Source) → TellSame (stage.source_fault leaf source) (load.source_fault leaf source)
+source_same leaf (As_text text) = text_same leaf (assembled text)
+source_same leaf (As_code code) = code_same leaf (decoded code)
+
+pub sources_same : (cs : List Component) → TellSame (stage.sources_fault cs) (load.sources_fault cs)
+sources_same [] = tt
+sources_same (c ∷ cs) =
+    tell_first (stage.source_fault c.node.name c.node.source) (stage.sources_fault cs) (load.source_fault c.node.name c.node.source) (load.sources_fault cs) (source_same c.node.name c.node.source) (sources_same cs)
 
 no_judgement : (leaf : List ℕ) (j : Judgement) → judgement_fault leaf j ≡ None → j ≡ Accepted
 no_judgement leaf Accepted e = refl
@@ -109,20 +108,20 @@ pub record IsLoaded (text : List ℕ) (s : Scenario) : Type 0 where
   pub bare : IsBareScenario s
   pub accepted : AreAccepted s.nodes
   pub fits : exceeds Ram (codes "init") s.total s.nodes ≡ None
-  pub sources : sources_fault (components s) ≡ None
+  pub sources : load.sources_fault (components s) ≡ None
 
 loaded_by : (text : List ℕ) (s : Scenario) → stage_scenario text ≡ Ok s → stage.scenario_fault s ≡ None → IsLoaded text s
 loaded_by text s e none =
-    let r = has_texts s (stage_texts text s e) in
+    let bare = bare_read s (stage_bare text s e) in
     let cs = components s in
-    let (texts, more) = or_first-none (texts_fault cs) (or_first (programs_fault cs) (quanta_fault (exceeds Ram (codes "init") s.total s.nodes))) none in
+    let (sources, more) = or_first-none (stage.sources_fault cs) (or_first (programs_fault cs) (quanta_fault (exceeds Ram (codes "init") s.total s.nodes))) none in
     let (programs, quanta) = or_first-none (programs_fault cs) (quanta_fault (exceeds Ram (codes "init") s.total s.nodes)) more in
     record {
       read = e;
-      bare = r.bare;
-      accepted = are_accepted (codes "init") s.default_routes s.nodes [] s.nodes r.bare.nodes (each_passes cs programs);
+      bare = bare;
+      accepted = are_accepted (codes "init") s.default_routes s.nodes [] s.nodes bare.nodes (each_passes cs programs);
       fits = no_quanta (exceeds Ram (codes "init") s.total s.nodes) quanta;
-      sources = tell_none (texts_fault cs) (sources_fault cs) (sources_same cs r.texts) texts;
+      sources = tell_none (stage.sources_fault cs) (load.sources_fault cs) (sources_same cs) sources;
     }
 
 abbrev scenario_of : Scenario → Result Scenario stage.Fault → Scenario

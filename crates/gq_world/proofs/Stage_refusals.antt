@@ -12,16 +12,16 @@ use Rattle.gq_model.specs.Verdict.{program_fault}
 use Rattle.gq_init.specs.Later.{is_later_text}
 use Rattle.gq_init.specs.Reading.{ReadFault}
 use Rattle.gq_init.specs.Stage.{stage_scenario}
-use Rattle.gq_init.proofs.Stages.{scenario_same, stage_texts, read_is_not_later}
+use Rattle.gq_init.proofs.Stages.{scenario_same, stage_bare, read_is_not_later}
 use Rattle.gq_world.specs.declared.judge.Judgement.{Judgement}
 use Rattle.gq_world.specs.declared.judge.Judgement.TheVariants.{Accepted, Refused, NotYet}
 use Rattle.gq_init.specs.Leaves.{IsBareLeaf}
-use Rattle.gq_world.specs.Plain.{plain_subject}
+use Rattle.gq_world.specs.Plain.{plain_subject, IsBareScenario}
 use Rattle.gq_world.specs.Judgements.{judged_as, AreAccepted}
 use Rattle.gq_world.specs.Loading as stage
-use Rattle.gq_world.specs.Loading.{texts_fault, judgement_fault, programs_fault, quanta_fault, stage_loaded}
+use Rattle.gq_world.specs.Loading.{judgement_fault, programs_fault, quanta_fault, stage_loaded}
 use Rattle.gq_world.specs.Load as load
-use Rattle.gq_world.specs.Load.{sources_fault, loaded}
+use Rattle.gq_world.specs.Load.{loaded}
 use Rattle.gq_world.specs.Written.{refused_with, written_from, written_turns, stage_written}
 use Rattle.gq_world.specs.Whole.{with_scenario, run_written}
 use Rattle.gq_world.specs.declared.run.RunFault.{RunFault}
@@ -33,7 +33,7 @@ use Rattle.gq_world.specs.Covered.{is_not_yet, ends_not_yet, is_covered}
 use Rattle.gq_world.proofs.Judged.{accepted, refused}
 use Rattle.gq_world.proofs.Walks.{both_true}
 use Rattle.gq_world.proofs.Refusals.{Each, bare_components, subject_is, are_accepted, accepted_scenario, unresolved_scenario, refused_program}
-use Rattle.gq_world.proofs.Stage_laws.{is_loaded, HasTexts, has_texts, TellSame, sources_same, each_passes}
+use Rattle.gq_world.proofs.Stage_laws.{is_loaded, bare_read, TellSame, sources_same, each_passes}
 
 -- PROGRAMS
 
@@ -75,7 +75,7 @@ abbrev none_yet : Option stage.Fault → Bool
 none_yet None = false
 none_yet (Some fault) = is_not_yet fault
 
-module _ (s : Scenario) (r : HasTexts s) where
+module _ (s : Scenario) (bare : IsBareScenario s) where
   abbrev cs : List Component
   cs = components s
 
@@ -83,17 +83,17 @@ module _ (s : Scenario) (r : HasTexts s) where
   quanta = exceeds Ram (codes "init") s.total s.nodes
 
   quanta_tell : AreAccepted s.nodes → (o : Option Unresolved) → quanta ≡ o → TellSame (quanta_fault o) (load.refused (refusal s))
-  quanta_tell a None e = subst (λ p. TellSame None (load.refused p)) (sym (accepted_scenario s r.bare a e)) tt
-  quanta_tell a (Some why) e = subst (λ p. TellSame (quanta_fault (Some why)) (load.refused p)) (sym (unresolved_scenario s r.bare a why e)) refl
+  quanta_tell a None e = subst (λ p. TellSame None (load.refused p)) (sym (accepted_scenario s bare a e)) tt
+  quanta_tell a (Some why) e = subst (λ p. TellSame (quanta_fault (Some why)) (load.refused p)) (sym (unresolved_scenario s bare a why e)) refl
 
   later_tell : (o : Option stage.Fault) → programs_fault cs ≡ o → none_yet (or_first o (quanta_fault quanta)) ≡ false → TellSame (or_first o (quanta_fault quanta)) (load.refused (refusal s))
-  later_tell None e n = quanta_tell (are_accepted (codes "init") s.default_routes s.nodes [] s.nodes r.bare.nodes (each_passes cs e)) quanta refl
+  later_tell None e n = quanta_tell (are_accepted (codes "init") s.default_routes s.nodes [] s.nodes bare.nodes (each_passes cs e)) quanta refl
   later_tell (Some fault) e n =
-      let p = programs_same s (subject_is s r.bare) cs (bare_components s r.bare) fault e n in
+      let p = programs_same s (subject_is s bare) cs (bare_components s bare) fault e n in
       subst (λ f. TellSame (Some f) (load.refused (refusal s))) (sym p.is)
       (subst (λ o. TellSame (Some (stage.Refused_for p.why)) (load.refused o)) (sym (refused_program s p.why p.refuses)) refl)
 
-  first_tell : (o : Option stage.Fault) (p : Option load.Fault) → texts_fault cs ≡ o → TellSame o p → none_yet (or_first o (or_first (programs_fault cs) (quanta_fault quanta))) ≡ false
+  first_tell : (o : Option stage.Fault) (p : Option load.Fault) → stage.sources_fault cs ≡ o → TellSame o p → none_yet (or_first o (or_first (programs_fault cs) (quanta_fault quanta))) ≡ false
       → TellSame (or_first o (or_first (programs_fault cs) (quanta_fault quanta))) (or_first p (load.refused (refusal s)))
   first_tell None None e h n = later_tell (programs_fault cs) refl n
   first_tell (Some f) (Some g) e h n = h
@@ -102,7 +102,7 @@ module _ (s : Scenario) (r : HasTexts s) where
 
   -- a scenario that was read has the same fault, or none
   scenario_tell : none_yet (stage.scenario_fault s) ≡ false → TellSame (stage.scenario_fault s) (load.scenario_fault s)
-  scenario_tell n = first_tell (texts_fault cs) (sources_fault cs) refl (sources_same cs r.texts) n
+  scenario_tell n = first_tell (stage.sources_fault cs) (load.sources_fault cs) refl (sources_same cs) n
 
 -- WHOLE RUNS
 
@@ -120,8 +120,8 @@ yet_by s (Some fault) e = e
 read_same : (text : List ℕ) (turns : List ℕ) (read : Result Scenario ReadFault) → stage_scenario text ≡ read → ends_not_yet (stage.loaded_from read) ≡ false
     → written_from (stage.loaded_from read) turns ≡ with_scenario (load.loaded_from read) (λ t. written_turns t (turned (components t) turns))
 read_same text turns (Ok s) e n =
-    let r = has_texts s (stage_texts text s e) in
-    let told = scenario_tell s r (yet_by s (stage.scenario_fault s) n) in written_same s turns (stage.scenario_fault s) (load.scenario_fault s) told
+    let bare = bare_read s (stage_bare text s e) in
+    let told = scenario_tell s bare (yet_by s (stage.scenario_fault s) n) in written_same s turns (stage.scenario_fault s) (load.scenario_fault s) told
 read_same text turns (Err fault) e n = refl
 
 -- both load the same scenario, or both print the same fault
@@ -139,8 +139,8 @@ scenario_loads s (Some f) None h = absurd h
 
 loads_by : (text : List ℕ) (read : Result Scenario ReadFault) → stage_scenario text ≡ read → ends_not_yet (stage.loaded_from read) ≡ false → LoadSame (stage.loaded_from read) (load.loaded_from read)
 loads_by text (Ok s) e n =
-    let r = has_texts s (stage_texts text s e) in
-    scenario_loads s (stage.scenario_fault s) (load.scenario_fault s) (scenario_tell s r (yet_by s (stage.scenario_fault s) n))
+    let bare = bare_read s (stage_bare text s e) in
+    scenario_loads s (stage.scenario_fault s) (load.scenario_fault s) (scenario_tell s bare (yet_by s (stage.scenario_fault s) n))
 loads_by text (Err fault) e n = refl
 
 not_true : (b : Bool) → not b ≡ true → b ≡ false
@@ -204,6 +204,7 @@ not_yet_by scenario (Ok s) e n = cc
 not_yet_by scenario (Err (stage.Not_yet leaf)) e n = (leaf, e)
 not_yet_by scenario (Err (stage.Unread fault)) e n = cc
 not_yet_by scenario (Err (stage.Bad_text_of leaf fault line)) e n = cc
+not_yet_by scenario (Err (stage.Bad_code_of leaf fault)) e n = cc
 not_yet_by scenario (Err (stage.Refused_for why)) e n = cc
 
 uncovered_by : (scenario : List ℕ) (later : Bool) → is_later_text scenario ≡ later → (not later && not (ends_not_yet (stage_loaded scenario))) ≡ false → IsUncovered scenario

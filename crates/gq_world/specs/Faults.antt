@@ -11,12 +11,13 @@ use Rattle.gq_world.specs.declared.load.LoadError.{LoadError}
 use Rattle.gq_world.specs.declared.load.LoadError.TheVariants as error
 use Rattle.gq_world.specs.Load as whole
 use Rattle.gq_world.specs.Loading as loading
-use Rattle.gq_world.specs.Loading.{text_fault_word, fault_text}
+use Rattle.gq_world.specs.Loading.{text_fault_word, code_fault_word, fault_text}
 
 -- the line that a refusal prints
 abbrev pub load_fault_text : LoadFault → List ℕ
 load_fault_text (load.Scenario fault) = scenario_fault_text fault
 load_fault_text (load.Text leaf fault line) = leaf ++ codes ": " ++ text_fault_word fault ++ codes " line " ++ decimal line
+load_fault_text (load.Code leaf fault) = leaf ++ codes ": " ++ code_fault_word fault
 load_fault_text (load.Rule leaf rule section place) = leaf ++ codes ": " ++ program_text (record { rule = rule; section = section; place = place })
 load_fault_text (load.NotYet leaf) = leaf ++ codes ": N1 NotYet"
 load_fault_text load.QuantaExceed = codes "S11 QuantaExceed init"
@@ -43,7 +44,7 @@ RefusesWhole error.Memory loaded = Unit {0}
 RefusesWhole (error.Fault f) (Ok s) = ⊥
 RefusesWhole (error.Fault f) (Err fault) = load_fault_text f ≡ whole.fault_text fault
 
--- a leaf's program was read from its text
+-- a leaf's program was read from its text or its code
 pub record IsReadFrom (c : Component) (p : Program) : Type 0 where
   pub program : p ≡ c.node.program
   pub fault : loading.source_fault c.node.name c.node.source ≡ None

@@ -4,14 +4,13 @@ use Rattle.gq_model.specs.Program.{Program}
 use Rattle.gq_model.specs.Lists.{or_first}
 use Rattle.gq_model.specs.declared.fault.TextFault.{TextFault}
 use Rattle.gq_model.specs.declared.fault.CodeFault.{CodeFault}
-use Rattle.gq_model.specs.declared.fault.CodeFault.TheVariants.{Truncated, UnknownOpcode, BadOperand, BadNesting, TooLong, TrailingBytes}
 use Rattle.gq_model.specs.Scenario.{Source, As_text, As_code, Component, Scenario, components}
 use Rattle.gq_model.specs.Text.{assembled}
 use Rattle.gq_model.specs.Decode.{decoded}
 use Rattle.gq_model.specs.Accept.{Refusal, refusal}
 use Rattle.gq_model.specs.Fault_texts.{refusal_text}
 use Rattle.gq_init.specs.Reading.{ReadFault, read_text, scenario_in}
-use Rattle.gq_world.specs.Loading.{text_fault_word}
+use Rattle.gq_world.specs.Loading.{text_fault_word, code_fault_word}
 
 -- why a text is refused: it is no scenario, a leaf's text or a leaf's code is no program, or the scenario is refused
 pub data Fault : Type 0 where
@@ -63,14 +62,6 @@ abbrev pub loaded : List ℕ → Result Scenario Fault
 loaded text = loaded_from (scenario_in text)
 
 -- TEXTS
-
-abbrev pub code_fault_word : CodeFault → List ℕ
-code_fault_word Truncated = codes "C1 Truncated"
-code_fault_word UnknownOpcode = codes "C2 UnknownOpcode"
-code_fault_word BadOperand = codes "C3 BadOperand"
-code_fault_word BadNesting = codes "C4 BadNesting"
-code_fault_word TooLong = codes "C5 TooLong"
-code_fault_word TrailingBytes = codes "C6 TrailingBytes"
 
 abbrev pub fault_text : Fault → List ℕ
 fault_text (Unread fault) = read_text fault

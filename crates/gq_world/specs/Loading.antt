@@ -4,9 +4,12 @@ use Rattle.gq_model.specs.Amounts.{Ram}
 use Rattle.gq_model.specs.Program.{Program}
 use Rattle.gq_model.specs.declared.fault.TextFault.{TextFault}
 use Rattle.gq_model.specs.declared.fault.TextFault.TheVariants.{UnknownWord, BadNumber, BadSlot, Unclosed, StrayEnd, BadText, SectionTwice, TooLong}
+use Rattle.gq_model.specs.declared.fault.CodeFault.{CodeFault}
+use Rattle.gq_model.specs.declared.fault.CodeFault.TheVariants as codes_fault
 use Rattle.gq_model.specs.Lists.{or_first}
 use Rattle.gq_model.specs.Scenario.{Source, As_text, As_code, Component, Scenario, components}
 use Rattle.gq_model.specs.Text.{assembled}
+use Rattle.gq_model.specs.Decode.{decoded}
 use Rattle.gq_model.specs.Resolve.{exceeds}
 use Rattle.gq_model.specs.Accept.{Refusal, Bad_program, Not_resolved}
 use Rattle.gq_model.specs.Resolve.{Unresolved}
@@ -17,11 +20,12 @@ use Rattle.gq_world.specs.declared.judge.Judgement.{Judgement}
 use Rattle.gq_world.specs.declared.judge.Judgement.TheVariants.{Accepted, Refused, NotYet}
 use Rattle.gq_world.specs.Judgements.{judged_as}
 
--- why a text is refused: it is no scenario, a leaf's text is no program, a leaf's program can not be judged yet, or the
--- scenario is refused
+-- why a text is refused: it is no scenario, a leaf's text or a leaf's code is no program, a leaf's program can not be judged
+-- yet, or the scenario is refused
 pub data Fault : Type 0 where
   Unread : (fault : ReadFault) → Fault
   Bad_text_of : (leaf : List ℕ) (fault : TextFault) (line : ℕ) → Fault
+  Bad_code_of : (leaf : List ℕ) (fault : CodeFault) → Fault
   Not_yet : (leaf : List ℕ) → Fault
   Refused_for : (why : Refusal) → Fault
 
@@ -31,14 +35,19 @@ abbrev pub text_fault : List ℕ → Result Program (TextFault × ℕ) → Optio
 text_fault leaf (Ok p) = None
 text_fault leaf (Err fault) = Some (Bad_text_of leaf fault.0 fault.1)
 
+abbrev pub code_fault : List ℕ → Result Program CodeFault → Option Fault
+code_fault leaf (Ok p) = None
+code_fault leaf (Err fault) = Some (Bad_code_of leaf fault)
+
+-- what is wrong with a leaf's program as it is given
 abbrev pub source_fault : List ℕ → Source → Option Fault
 source_fault leaf (As_text text) = text_fault leaf (assembled text)
-source_fault leaf (As_code code) = None
+source_fault leaf (As_code code) = code_fault leaf (decoded code)
 
--- the first leaf whose text is no program
-abbrev pub texts_fault : List Component → Option Fault
-texts_fault [] = None
-texts_fault (c ∷ rest) = or_first (source_fault c.node.name c.node.source) (texts_fault rest)
+-- the first leaf whose text or code is no program
+abbrev pub sources_fault : List Component → Option Fault
+sources_fault [] = None
+sources_fault (c ∷ rest) = or_first (source_fault c.node.name c.node.source) (sources_fault rest)
 
 abbrev pub judgement_fault : List ℕ → Judgement → Option Fault
 judgement_fault leaf Accepted = None
@@ -56,10 +65,10 @@ quanta_fault (Some why) = Some (Refused_for (Not_resolved why))
 
 -- LOADING
 
--- the first fault of a scenario that was read: texts, then programs, then the sum of the quanta
+-- the first fault of a scenario that was read: texts and codes, then programs, then the sum of the quanta
 abbrev pub scenario_fault : Scenario → Option Fault
 scenario_fault s =
-    or_first (texts_fault (components s)) (or_first (programs_fault (components s)) (quanta_fault (exceeds Ram (codes "init") s.total s.nodes)))
+    or_first (sources_fault (components s)) (or_first (programs_fault (components s)) (quanta_fault (exceeds Ram (codes "init") s.total s.nodes)))
 
 abbrev pub loaded_or : Scenario → Option Fault → Result Scenario Fault
 loaded_or s None = Ok s
@@ -85,8 +94,17 @@ text_fault_word BadText = codes "M6 BadText"
 text_fault_word SectionTwice = codes "M7 SectionTwice"
 text_fault_word TooLong = codes "M8 TooLong"
 
+abbrev pub code_fault_word : CodeFault → List ℕ
+code_fault_word codes_fault.Truncated = codes "C1 Truncated"
+code_fault_word codes_fault.UnknownOpcode = codes "C2 UnknownOpcode"
+code_fault_word codes_fault.BadOperand = codes "C3 BadOperand"
+code_fault_word codes_fault.BadNesting = codes "C4 BadNesting"
+code_fault_word codes_fault.TooLong = codes "C5 TooLong"
+code_fault_word codes_fault.TrailingBytes = codes "C6 TrailingBytes"
+
 abbrev pub fault_text : Fault → List ℕ
 fault_text (Unread fault) = read_text fault
 fault_text (Bad_text_of leaf fault line) = leaf ++ codes ": " ++ text_fault_word fault ++ codes " line " ++ decimal line
+fault_text (Bad_code_of leaf fault) = leaf ++ codes ": " ++ code_fault_word fault
 fault_text (Not_yet leaf) = leaf ++ codes ": N1 NotYet"
 fault_text (Refused_for why) = refusal_text why

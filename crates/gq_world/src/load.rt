@@ -7,7 +7,7 @@ ghost use Rattle.gq_init.specs.Leaves.{AreLeaves, IsOfLeaves};
 ghost use Rattle.gq_machine.specs.Plain.{are_plain_programs, quanta_of};
 ghost use Rattle.gq_world.specs.Judgements.{programs_of};
 ghost use Rattle.gq_world.specs.Judgements as judgements;
-ghost use Rattle.gq_world.specs.Loading.{texts_fault, source_fault, programs_fault, scenario_fault, stage_loaded};
+ghost use Rattle.gq_world.specs.Loading.{sources_fault, source_fault, programs_fault, scenario_fault, stage_loaded};
 ghost use Rattle.gq_world.specs.Load as whole;
 ghost use Rattle.gq_world.specs.Headline.{Upholds};
 ghost use Rattle.gq_world.specs.Covered.{is_covered};
@@ -17,12 +17,14 @@ use crate::budget::budgets_of;
 use crate::judge::{Judgement, first_unaccepted};
 use crate::world::World;
 use gq_asm::{AssembleError, assemble};
+use gq_code::decode::{DecodeError, decode};
 use gq_code::program::Program;
 use gq_init::fault::{ScenarioError, ScenarioFault};
 use gq_init::reader::read_scenario;
 use gq_init::scenario::{LeafNo, Scenario};
+use gq_init::source::Source;
 use gq_machine::machine::Machine;
-use gq_model::fault::{Rule, TextFault};
+use gq_model::fault::{CodeFault, Rule, TextFault};
 use gq_model::program::{Name, Section};
 use std::alloc::{AllocError, AllocFailed, Global};
 
@@ -36,6 +38,11 @@ pub enum LoadFault {
         leaf: Name,
         fault: TextFault,
         line: u64,
+    },
+    /// The bytes of a leaf's code are no program.
+    Code {
+        leaf: Name,
+        fault: CodeFault,
     },
     /// The program of a leaf breaks a rule, at a statement of a section.
     Rule {
@@ -92,29 +99,43 @@ fn name_of(scenario: &Scenario, leaf: LeafNo) -> Name
     }
 }
 
-/// The program of a leaf.
-fn read_program(alloc: Global, scenario: &Scenario, leaf: LeafNo) -> Result<Program, LoadError>
+/// The program of a leaf, from its text or its code.
+pub(crate) fn read_program(
+    alloc: Global,
+    scenario: &Scenario,
+    leaf: LeafNo,
+) -> Result<Program, LoadError>
     requires { leaf < length (components scenario.now) }
     ensures read { IfOk result (λ p. IfSome (slice_get (components scenario.now) leaf) (λ c. IsReadFrom c p)) }
     ensures refused { IfErr result (λ e. IfSome (slice_get (components scenario.now) leaf) (λ c. GivesFault e (source_fault c.node.name c.node.source))) }
 {
-    match assemble(alloc, scenario.program_text(leaf)) {
-        Ok(program) => Ok(program),
-        Err(AssembleError::Memory(_)) => Err(LoadError::Memory),
-        Err(AssembleError::Fault { fault, line }) => Err(LoadError::Fault(LoadFault::Text {
-            leaf: name_of(scenario, leaf),
-            fault,
-            line,
-        })),
+    match scenario.source(leaf) {
+        Source::Text(text) => match assemble(alloc, text.as_slice()) {
+            Ok(program) => Ok(program),
+            Err(AssembleError::Memory(_)) => Err(LoadError::Memory),
+            Err(AssembleError::Fault { fault, line }) => Err(LoadError::Fault(LoadFault::Text {
+                leaf: name_of(scenario, leaf),
+                fault,
+                line,
+            })),
+        },
+        Source::Code(code) => match decode(alloc, code.as_slice()) {
+            Ok(program) => Ok(program),
+            Err(DecodeError::Memory(_)) => Err(LoadError::Memory),
+            Err(DecodeError::Fault(fault)) => Err(LoadError::Fault(LoadFault::Code {
+                leaf: name_of(scenario, leaf),
+                fault,
+            })),
+        },
     }
 }
 
 /// The programs of all leaves, in preorder.
 pub(crate) fn read_programs(alloc: Global, scenario: &Scenario) -> Result<Vec<Program>, LoadError>
     ensures programs { IfOk result (λ v. v.items ≡ programs_of (components scenario.now)) }
-    ensures texts { IfOk result (λ v. texts_fault (components scenario.now) ≡ None) }
+    ensures sources { IfOk result (λ v. sources_fault (components scenario.now) ≡ None) }
     ensures bare { IfOk result (λ v. AreBareComponents (components scenario.now)) }
-    ensures refused { IfErr result (λ e. GivesFault e (texts_fault (components scenario.now))) }
+    ensures refused { IfErr result (λ e. GivesFault e (sources_fault (components scenario.now))) }
 {
     let mut programs = Vec::new(alloc);
     for number in 0..scenario.leaf_count() {
@@ -194,7 +215,7 @@ fn load_scenario(alloc: Global, scenario: &Scenario) -> Result<World, LoadError>
 
 impl World {
     /// The world at the start of the scenario of a text in TOML. Refused with the first fault: the text is no scenario, a
-    /// leaf's program is no program text or is not accepted, or the quanta exceed what the root has.
+    /// leaf's text or code is no program, a leaf's program is not accepted, or the quanta exceed what the root has.
     pub fn load(alloc: Global, text: &[u8]) -> Result<World, LoadError>
         ensures loaded { IfOk result (λ w. stage_loaded text.now ≡ Ok w.scenario) }
         ensures world { IfOk result (λ w. w.world ≡ start (system w.scenario)) }

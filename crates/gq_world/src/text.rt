@@ -1,13 +1,13 @@
 // The texts of faults, as a refusal prints them.
 ghost use Rattle.std.specs.Prelude.{◌≡◌, Some};
-ghost use Rattle.gq_world.specs.Loading.{text_fault_word};
+ghost use Rattle.gq_world.specs.Loading.{text_fault_word, code_fault_word};
 ghost use Rattle.gq_world.specs.Written.{turn_word};
 ghost use Rattle.gq_world.specs.Faults.{load_fault_text};
 ghost use Rattle.gq_world.specs.Outcomes.{run_fault_text};
 
 use crate::load::LoadFault;
 use crate::run::RunFault;
-use gq_model::fault::{TextFault, TurnFault};
+use gq_model::fault::{CodeFault, TextFault, TurnFault};
 use std::error::Error;
 use std::fmt::{self, Debug, Display, Formatter, Write};
 
@@ -24,6 +24,20 @@ fn text_fault_word(fault: TextFault) -> &'static str
         TextFault::BadText => "M6 BadText",
         TextFault::SectionTwice => "M7 SectionTwice",
         TextFault::TooLong => "M8 TooLong",
+    }
+}
+
+// The code and the name of a fault of code.
+fn code_fault_word(fault: CodeFault) -> &'static str
+    ensures { result.now ≡ code_fault_word fault }
+{
+    match fault {
+        CodeFault::Truncated => "C1 Truncated",
+        CodeFault::UnknownOpcode => "C2 UnknownOpcode",
+        CodeFault::BadOperand => "C3 BadOperand",
+        CodeFault::BadNesting => "C4 BadNesting",
+        CodeFault::TooLong => "C5 TooLong",
+        CodeFault::TrailingBytes => "C6 TrailingBytes",
     }
 }
 
@@ -48,6 +62,11 @@ impl Display for LoadFault {
                 let leaf = leaf.as_str();
                 let fault = text_fault_word(*fault);
                 write!(f, "{leaf}: {fault} line {line}")
+            }
+            LoadFault::Code { leaf, fault } => {
+                let leaf = leaf.as_str();
+                let fault = code_fault_word(*fault);
+                write!(f, "{leaf}: {fault}")
             }
             LoadFault::Rule {
                 leaf,

@@ -8,6 +8,6 @@ use Rattle.gq_init.proofs.reader.leaf_fault.Goals as goal
 
 pub returns : goal.returns
 returns c =
-    let same : map rule_of (c.required.result ∷ c.required-2.result ∷ c.required-3.result ∷ []) ≡ stage_leaf_keys = rw (c.required.ensures, c.required-2.ensures, c.required-3.ensures) refl in
+    let same : map rule_of (c.required.result ∷ c.required-2.result ∷ c.either.result ∷ c.other.result ∷ []) ≡ stage_leaf_keys = rw (c.required.ensures, c.required-2.ensures, c.either.ensures, c.other.ensures) refl in
     let P : List KeyRule → Type 0 = λ rules. Tells c.table_fault.result (table_fault rules (table_view c.args.table.now)) in
     subst P same c.table_fault.ensures

@@ -6,8 +6,6 @@ use Rattle.gq_init.proofs.reader.read_leaf.Goals as goal
 pub returns : goal.returns
 returns c =
     let named = rw c.in-Some.is at c.text_at.ensures in
-    let told = rw c.in-Some-text_at.is at c.text_at-2.ensures in
-    let is = leaf_is (table_view c.args.table.now) c.in-Some.name.now c.in-Some-text_at.text.now c.requires (sym named) (sym told) in
+    let is = leaf_is (table_view c.args.table.now) c.in-Some.name.now c.requires (sym named) in
     let name = name_kept c.new.result _ c.as_bytes.result.now c.in-Some-new.name c.new.ensures c.in-Some-new.is ∙ c.as_bytes.ensures.value in
-    let text = c.in_ok-text.ensures.items ∙ c.as_bytes-2.ensures.value in
-    leaf_joined _ _ _ _ _ _ _ _ c.new-2.ensures name c.quantity_at.ensures text is
+    leaf_joined _ _ _ _ _ _ _ _ c.new-2.ensures name c.quantity_at.ensures c.in_ok-source.ensures is

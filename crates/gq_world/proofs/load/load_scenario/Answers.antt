@@ -28,7 +28,7 @@ returns-then-not-quanta_fit-clause-refused c =
     let p = c.in_ok-programs.ensures in
     let d = c.in_default.ensures in
     let not = c.if-not-quanta_fit.ensures.1 in
-    subst (PrintsFault load.QuantaExceed) (sym (quanta_refused s l.leaves l.plain p.bare p.texts d.accepted (λ h. false_true (not h)))) refl
+    subst (PrintsFault load.QuantaExceed) (sym (quanta_refused s l.leaves l.plain p.bare p.sources d.accepted (λ h. false_true (not h)))) refl
 
 pub new-requires-clause-plain : goal.new-requires-clause-plain
 new-requires-clause-plain c =
@@ -52,7 +52,7 @@ pub returns-in-Ok-clause-accepted : goal.returns-in-Ok-clause-accepted
 returns-in-Ok-clause-accepted c =
     let l = c.leaf_count-leaves.ensures in
     let p = c.in_ok-programs.ensures in
-    no_fault c.args.scenario.now l.leaves l.plain p.bare p.texts c.in_default.ensures.accepted (c.if-not-quanta_fit.ensures.0 refl)
+    no_fault c.args.scenario.now l.leaves l.plain p.bare p.sources c.in_default.ensures.accepted (c.if-not-quanta_fit.ensures.0 refl)
 
 pub returns-in-Ok-clause-has_no_refusal : goal.returns-in-Ok-clause-has_no_refusal
 returns-in-Ok-clause-has_no_refusal c =

@@ -22,12 +22,12 @@ returns-in_err-read_program-clause-refused c =
     let e = c.in_err-read_program.field-0.0 in
     let p = err_from_is_err_and c.from_residual.result c.from_residual.ensures.1 in
     let given = c.in_err-read_program.ensures.refused in
-    rw (p.1, p.2) (refused cs l.number e (omega (arith, c.leaf_count-number-end.ensures.count)) (subst (Gives cs e) c.new.ensures given) l.invariant.texts)
+    rw (p.1, p.2) (refused cs l.number e (omega (arith, c.leaf_count-number-end.ensures.count)) (subst (Gives cs e) c.new.ensures given) l.invariant.sources)
 
 pub loop-number-preserved : goal.loop-number-preserved
 loop-number-preserved c =
     let cs = components c.args.scenario.now in
     let l = c.loop-number in
     let p = c.in_ok-read_program.field-0 in
-    let t = taken cs l.number l.programs.items c.push.new.self.items p (omega (arith, c.leaf_count-number-end.ensures.count)) (subst (Read cs p) c.new.ensures c.in_ok-read_program.ensures.read) c.in_ok-push.ensures.items l.invariant.made l.invariant.texts l.invariant.bare in
-    record { made = t.made; texts = t.texts; bare = t.bare }
+    let t = taken cs l.number l.programs.items c.push.new.self.items p (omega (arith, c.leaf_count-number-end.ensures.count)) (subst (Read cs p) c.new.ensures c.in_ok-read_program.ensures.read) c.in_ok-push.ensures.items l.invariant.made l.invariant.sources l.invariant.bare in
+    record { made = t.made; sources = t.sources; bare = t.bare }

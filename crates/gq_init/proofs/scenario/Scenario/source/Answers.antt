@@ -1,10 +1,10 @@
-use Rattle.std.proofs.Common.{◌≡◌, ◌∙◌, refl, ap, arith, sym}
-use Rattle.gq_model.specs.Scenario.{LeafNode, As_text}
+use Rattle.std.proofs.Common.{◌≡◌, refl, ap, arith, subst}
+use Rattle.gq_model.specs.Scenario.{LeafNode}
 use Rattle.gq_model.specs.Sources.{program_from}
-use Rattle.std.proofs.Common.{subst}
+use Rattle.gq_init.specs.Given.{source_of}
 use Rattle.gq_init.specs.Leaves.{IsBareLeaf}
 use Rattle.gq_init.proofs.Components.{length-components, component_at}
-use Rattle.gq_init.proofs.scenario.Scenario.program_text.Goals as goal
+use Rattle.gq_init.proofs.scenario.Scenario.source.Goals as goal
 
 pub index-requires-2 : goal.index-requires-2
 index-requires-2 c =
@@ -13,7 +13,7 @@ index-requires-2 c =
 pub returns-clause-source : goal.returns-clause-source
 returns-clause-source c =
     rw (← c.index.ensures)
-    (component_at c.args.self.now c.self.inside.ram c.self.inside.leaves.items c.self.view_is c.index.result c.index-2.result.now c.index-2.ensures (λ node. node.source ≡ As_text c.as_slice.result.now) (sym (ap As_text c.as_slice.ensures.value ∙ ap (λ (n : LeafNode). n.source) c.behind-self.view_is)))
+    (component_at c.args.self.now c.self.inside.ram c.self.inside.leaves.items c.self.view_is c.index.result c.index-2.result.now c.index-2.ensures (λ node. source_of c.behind-self.inside.source ≡ node.source) (ap (λ (n : LeafNode). n.source) c.behind-self.view_is))
 
 pub returns-clause-program : goal.returns-clause-program
 returns-clause-program c =
