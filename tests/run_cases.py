@@ -4,7 +4,7 @@
 A case is a folder, named by what it shows. It has
   scenario.toml   the scenario,
   turns           the turns; without the file there are none,
-  command         `run`, or `stored` for the scenario and the turns in one text on standard input,
+  command         `run`, or `asm LEAF`, or `stored` for the scenario and the turns in one text on standard input,
   stdout, stderr, status   what the program has to write, and the exit status that it has to end with,
   length          where it is there: the number of bytes to which the scenario is filled up with number signs, which
                   a comment in its last line is made of.
@@ -41,7 +41,9 @@ def result_of(program, command, scenario, turns):
         paths = [pathlib.Path(room, name) for name in ("scenario.toml", "turns")]
         for path, text in zip(paths, (scenario, turns)):
             path.write_bytes(text)
-        words, given = [command, *map(str, paths)], b""
+        name, *more = command.split(" ")
+        files = paths if name == "run" else paths[:1]
+        words, given = [name, *map(str, files), *more], b""
         if command == "stored":
             words, given = [], scenario + (b"%%\n" + turns if turns else b"")
         ran = subprocess.run([program, *words], input=given, capture_output=True, timeout=SECONDS)

@@ -7,9 +7,9 @@ use Rattle.clap.specs.declared.error.Error.{Error}
 use Rattle.clap.specs.declared.error.kind.ErrorKind.{ErrorKind}
 use Rattle.clap.specs.declared.error.kind.ErrorKind.TheVariants.{DisplayHelp, OutOfMemory}
 use Rattle.clap.proofs.OnLiterals.{clap_on_literals}
-use Rattle.gq_cli.specs.CommandLine.{IsAsked, IsHelp, IsMisused, IsRunAsked, asked_run, run_paths, trade}
+use Rattle.gq_cli.specs.CommandLine.{IsAsked, IsHelp, IsMisused, IsWanted, Wanted, Run_wanted, Asm_wanted, wanted, wanted_in, trade}
 use Rattle.gq_cli.specs.declared.command.Command.{Command}
-use Rattle.gq_cli.specs.declared.command.Command.TheVariants.{Run, Stored, Help}
+use Rattle.gq_cli.specs.declared.command.Command.TheVariants.{Run, Asm, Stored, Help}
 use Rattle.gq_cli.specs.declared.command.CommandError.{CommandError}
 use Rattle.gq_cli.specs.declared.command.CommandError.TheVariants.{Memory, Usage}
 
@@ -25,13 +25,14 @@ pub some_words : (words : List (Bor (List ℕ))) (is_empty : Bool) → is_empty 
 some_words [] is_empty is empty_not = absurd (true≢false (sym is ∙ empty_not))
 some_words (word ∷ rest) is_empty is empty_not = λ e. absurd (omega (arith, ap length e))
 
--- the paths of a run, in what the parser made of the words
-abbrev chosen : Kinds → Option (Text × List Row) → Option (Text × Text)
-chosen faults found = cond (is_empty faults) (run_paths found) None
+-- what is wanted, in what the parser made of the words
+abbrev chosen : Kinds → Option (Text × List Row) → Option Wanted
+chosen faults found = cond (is_empty faults) (wanted_in found) None
 
 pub asked-ok : (words : List Text) (found : Option (Text × List Row)) (command : Command) → words ≢ [] → fault_of trade words ≡ [] → found ≡ subcommand_of trade words
-    → IsRunAsked found command → IsAsked words command
+    → IsWanted (wanted_in found) command → IsAsked words command
 asked-ok words found (Run scenario turns) ne passes is h = (ne, ap₂ chosen passes (sym is) ∙ h)
+asked-ok words found (Asm scenario leaf) ne passes is h = (ne, ap₂ chosen passes (sym is) ∙ h)
 asked-ok words found Stored ne passes is h = absurd h
 asked-ok words found (Help text) ne passes is h = absurd h
 
@@ -39,7 +40,7 @@ one_kind : {k : ErrorKind} → ◌≢◌ {A = Kinds} [] (k ∷ [])
 one_kind e = absurd (omega (arith, ap length e))
 
 pub misused-ok : (words : List Text) (found : Option (Text × List Row)) (e : CommandError) → words ≢ [] → fault_of trade words ≡ [] → found ≡ subcommand_of trade words
-    → (e ≡ Usage → run_paths found ≡ None) → IsMisused words e
+    → (e ≡ Usage → wanted_in found ≡ None) → IsMisused words e
 misused-ok words found (Memory refused) ne passes is h = ne
 misused-ok words found Usage ne passes is h = (ne, ap₂ chosen passes (sym is) ∙ h refl, λ d. one_kind (sym passes ∙ d))
 
@@ -61,6 +62,7 @@ help_not_memory e = cc
 pub asked-err : (words : List Text) (error : Error) (command : Command) → words ≢ [] → HasKind (fault_of trade words) error
     → (kind_of error ≡ DisplayHelp) × IsHelp command → IsAsked words command
 asked-err words error (Run scenario turns) ne kinds h = absurd h.1
+asked-err words error (Asm scenario leaf) ne kinds h = absurd h.1
 asked-err words error Stored ne kinds h = absurd h.1
 asked-err words error (Help text) ne kinds h =
     (ne, subst (λ k. IsAmong k (fault_of trade words)) h.0 (among (fault_of trade words) error (λ e. help_not_memory (sym h.0 ∙ e)) kinds))
@@ -71,17 +73,26 @@ misused-err words error (Memory refused) ne kinds h = ne
 misused-err words error Usage ne kinds h =
     let is : IsAmong (kind_of error) (fault_of trade words) = among (fault_of trade words) error (h refl).1 kinds in (
       ne,
-      ap (λ b. cond b (run_paths (subcommand_of trade words)) None) (not_empty (kind_of error) (fault_of trade words) is),
+      ap (λ b. cond b (wanted_in (subcommand_of trade words)) None) (not_empty (kind_of error) (fault_of trade words) is),
       λ d. (h refl).0 (not_alone (kind_of error) DisplayHelp (subst (IsAmong (kind_of error)) d is)),
     )
 
 -- SAMPLES
 
-run_is_asked : asked_run (codes "run" ∷ codes "hello.toml" ∷ codes "hello.turns" ∷ []) ≡ Some (codes "hello.toml", codes "hello.turns")
+run_is_wanted : wanted (codes "run" ∷ codes "hello.toml" ∷ codes "hello.turns" ∷ []) ≡ Some (Run_wanted (codes "hello.toml") (codes "hello.turns"))
 unfolding clap_on_literals
-run_is_asked = refl
+run_is_wanted = refl
 
-one_path_is_misused : asked_run (codes "run" ∷ codes "hello.toml" ∷ []) ≡ None
+asm_is_wanted : wanted (codes "asm" ∷ codes "hello.toml" ∷ codes "hello" ∷ []) ≡ Some (Asm_wanted (codes "hello.toml") (codes "hello"))
+unfolding clap_on_literals
+asm_is_wanted = refl
+
+-- a name that begins with a hyphen stands after two of them
+hyphen_is_wanted : wanted (codes "asm" ∷ codes "hello.toml" ∷ codes "--" ∷ codes "-x" ∷ []) ≡ Some (Asm_wanted (codes "hello.toml") (codes "-x"))
+unfolding clap_on_literals
+hyphen_is_wanted = refl
+
+one_path_is_misused : wanted (codes "run" ∷ codes "hello.toml" ∷ []) ≡ None
 unfolding clap_on_literals
 one_path_is_misused = refl
 
@@ -89,6 +100,6 @@ flag_is_help : fault_of trade (codes "--help" ∷ []) ≡ DisplayHelp ∷ []
 unfolding clap_on_literals
 flag_is_help = refl
 
-no_command_is_misused : asked_run (codes "--" ∷ []) ≡ None
+no_command_is_misused : wanted (codes "--" ∷ []) ≡ None
 unfolding clap_on_literals
 no_command_is_misused = refl

@@ -9,6 +9,8 @@ use thiserror::Error;
 pub enum Command {
     /// Run the scenario at the first path over the turns at the second.
     Run(String, String),
+    /// Write the code of a leaf of the scenario at this path; the leaf's name is second.
+    Asm(String, String),
     /// Run the stored form on standard input.
     Stored,
     /// Show this text on standard output.

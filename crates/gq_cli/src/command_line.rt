@@ -1,8 +1,9 @@
 //! From the words of a command line to the command that they name.
-ghost use Rattle.std.specs.Prelude.{◌≡◌, ◌≢◌, IfOk, IfErr, None, false, map, option_map};
+ghost use Rattle.std.specs.Prelude.{◌≡◌, ◌≢◌, IfOk, IfErr, None, false, map, option_map, codes};
+ghost use Rattle.clap.specs.declared.builder.command.Command.TheViews.{out-Command};
 ghost use Rattle.clap.specs.Words.{app_of, first_of, found_of, kind_of, rows_of, rule_of, subcommand_rows_of};
 ghost use Rattle.gq_cli.specs.declared.command.CommandError.TheVariants.{Usage};
-ghost use Rattle.gq_cli.specs.CommandLine.{IsAsked, IsHelp, IsMisused, IsRunAsked, path_rule, paths_of, run_paths, trade};
+ghost use Rattle.gq_cli.specs.CommandLine.{IsAsked, IsHelp, IsMisused, IsWanted, both_of, wanted_in, wanted_of, two_words, word_rule, trade};
 
 use crate::command::{Command, CommandError};
 use clap::error::ErrorKind;
@@ -11,9 +12,13 @@ use std::alloc::{AllocError, Global};
 
 const ABOUT: &str = "Runs components that trade memory and capabilities under quotas";
 
-const USAGE: &str = "trade run <SCENARIO> <TURNS>\n       trade < STORED";
+const USAGE: &str =
+    "trade run <SCENARIO> <TURNS>\n       trade asm <SCENARIO> <LEAF>\n       trade < STORED";
 
 const RUN_ABOUT: &str = "Run the scenario in the file SCENARIO over the turns in the file TURNS";
+
+const ASM_ABOUT: &str =
+    "Print the code of the leaf LEAF of the scenario in the file SCENARIO, in hexadecimal";
 
 const AFTER: &str = "\
 A run prints what the components write, and after the last turn a line on the account of each.
@@ -21,16 +26,17 @@ Without a command, standard input has both: the scenario, a line that is %%, and
 
 Exit status:
   0  done, also when help was asked for
-  1  the scenario or the turns were refused
+  1  the scenario or the turns were refused, or no leaf has the name
   2  bad command line
   3  the host has no memory left
   4  a file could not be opened or read, is longer than 18 MiB, or output could not be written
 
-Example:
-  trade run hello.toml hello.turns";
+Examples:
+  trade run hello.toml hello.turns
+  trade asm hello.toml hello";
 
 /// The command that the words after the program's name ask for: none of them is `Stored`, `run` with
-/// two paths is `Run`, and `help`, `--help` or `-h` is `Help` with the text to show.
+/// two paths is `Run`, `asm` with a path and a name is `Asm`, and `help`, `--help` or `-h` is `Help` with the text to show.
 ///
 /// Other words are `Usage`; `Memory` is the host's refusal, which can meet any words but none.
 pub fn command<'a>(alloc: Global, words: &'a [&'a str]) -> Result<Command, CommandError>
@@ -42,7 +48,7 @@ pub fn command<'a>(alloc: Global, words: &'a [&'a str]) -> Result<Command, Comma
     }
     let line = command_line(alloc)?;
     match line.try_get_matches_from(words) {
-        Ok(matches) => run_asked(alloc, &matches),
+        Ok(matches) => matched(alloc, &matches),
         Err(error) => help_asked(alloc, &error),
     }
 }
@@ -51,68 +57,98 @@ pub fn command<'a>(alloc: Global, words: &'a [&'a str]) -> Result<Command, Comma
 fn command_line<'a>(alloc: Global) -> Result<clap::Command<'a>, AllocError>
     ensures { IfOk result (λ line. app_of line ≡ trade) }
 {
-    let scenario = path_argument(alloc, "SCENARIO", "The file of the scenario");
-    let turns = path_argument(alloc, "TURNS", "The file of the turns");
-    let run = clap::Command::new(alloc, "run")
-        .about(RUN_ABOUT)
-        .arg(scenario)?
-        .arg(turns)?;
+    let run = scenario_command(alloc, "run", RUN_ABOUT, "TURNS", "The file of the turns")?;
+    let asm = scenario_command(alloc, "asm", ASM_ABOUT, "LEAF", "The name of the leaf")?;
     clap::Command::new(alloc, "trade")
         .about(ABOUT)
         .override_usage(USAGE)
         .after_help(AFTER)
         .no_binary_name(true)
         .subcommand_required(true)
-        .subcommand(run)
+        .subcommand(run)?
+        .subcommand(asm)
 }
 
-// An argument that is a path and must be there.
-fn path_argument<'a>(alloc: Global, name: &'a str, help: &'a str) -> Arg<'a>
-    ensures rule { rule_of result ≡ path_rule name.entry.now }
+// A command on the file of a scenario, with a second word.
+fn scenario_command<'a>(
+    alloc: Global,
+    name: &'a str,
+    about: &'a str,
+    second: &'a str,
+    help: &'a str,
+) -> Result<clap::Command<'a>, AllocError>
+    ensures line { IfOk result (λ line. app_of line ≡ two_words name.entry.now (codes "SCENARIO") second.entry.now) }
+    ensures local { IfOk result (λ line. (out-Command line).has_globals ≡ false) }
+{
+    let scenario = word_argument(alloc, "SCENARIO", "The file of the scenario");
+    let second = word_argument(alloc, second, help);
+    clap::Command::new(alloc, name)
+        .about(about)
+        .arg(scenario)?
+        .arg(second)
+}
+
+// An argument that is a word and must be there.
+fn word_argument<'a>(alloc: Global, name: &'a str, help: &'a str) -> Arg<'a>
+    ensures rule { rule_of result ≡ word_rule name.entry.now }
     ensures local { result.global ≡ false }
 {
     Arg::new(alloc, name).help(help).required(true)
 }
 
 // The command that a parse found.
-fn run_asked(alloc: Global, matches: &ArgMatches<'_>) -> Result<Command, CommandError>
-    ensures asked { IfOk result (IsRunAsked (subcommand_rows_of matches.now)) }
-    ensures misused { IfErr result (λ e. e ≡ Usage → run_paths (subcommand_rows_of matches.now) ≡ None) }
+fn matched(alloc: Global, matches: &ArgMatches<'_>) -> Result<Command, CommandError>
+    ensures asked { IfOk result (IsWanted (wanted_in (subcommand_rows_of matches.now))) }
+    ensures misused { IfErr result (λ e. e ≡ Usage → wanted_in (subcommand_rows_of matches.now) ≡ None) }
 {
-    match run_named(matches) {
-        Some((scenario, turns)) => {
-            let scenario = String::from_str(alloc, scenario)?;
-            let turns = String::from_str(alloc, turns)?;
-            Ok(Command::Run(scenario, turns))
-        }
+    match matches.subcommand() {
+        Some((name, found)) => named(alloc, name, found),
         None => Err(CommandError::Usage),
     }
 }
 
-// The two paths of a run that a parse found.
-fn run_named<'a>(matches: &ArgMatches<'a>) -> Option<(&'a str, &'a str)>
-    ensures { option_map (λ p. (p.0.now, p.1.now)) result ≡ run_paths (subcommand_rows_of matches.now) }
+// The command of this name, with what a parse found of it.
+fn named(alloc: Global, name: &str, found: &ArgMatches<'_>) -> Result<Command, CommandError>
+    ensures asked { IfOk result (IsWanted (wanted_of name.now (rows_of (found_of found.now)))) }
+    ensures misused { IfErr result (λ e. e ≡ Usage → wanted_of name.now (rows_of (found_of found.now)) ≡ None) }
 {
-    match matches.subcommand() {
-        Some((_, run)) => paths_named(run),
-        None => None,
+    if name == "run" {
+        return match both_named(found, "SCENARIO", "TURNS") {
+            Some((scenario, turns)) => {
+                let scenario = String::from_str(alloc, scenario)?;
+                let turns = String::from_str(alloc, turns)?;
+                Ok(Command::Run(scenario, turns))
+            }
+            None => Err(CommandError::Usage),
+        };
     }
+    if name == "asm" {
+        return match both_named(found, "SCENARIO", "LEAF") {
+            Some((scenario, leaf)) => {
+                let scenario = String::from_str(alloc, scenario)?;
+                let leaf = String::from_str(alloc, leaf)?;
+                Ok(Command::Asm(scenario, leaf))
+            }
+            None => Err(CommandError::Usage),
+        };
+    }
+    Err(CommandError::Usage)
 }
 
-// The two paths among the arguments of `run`.
-fn paths_named<'a>(run: &ArgMatches<'a>) -> Option<(&'a str, &'a str)>
-    ensures { option_map (λ p. (p.0.now, p.1.now)) result ≡ paths_of (rows_of (found_of run.now)) }
+// The first values of two arguments.
+fn both_named<'a>(found: &ArgMatches<'a>, first: &str, second: &str) -> Option<(&'a str, &'a str)>
+    ensures { option_map (λ p. (p.0.now, p.1.now)) result ≡ both_of (first_of first.now (rows_of (found_of found.now))) (first_of second.now (rows_of (found_of found.now))) }
 {
-    let scenario = first_named(run, "SCENARIO")?;
-    let turns = first_named(run, "TURNS")?;
-    Some((scenario, turns))
+    let first = first_named(found, first)?;
+    let second = first_named(found, second)?;
+    Some((first, second))
 }
 
 // The first value of an argument.
-fn first_named<'a>(run: &ArgMatches<'a>, name: &str) -> Option<&'a str>
-    ensures { option_map (λ s. s.now) result ≡ first_of name.now (rows_of (found_of run.now)) }
+fn first_named<'a>(found: &ArgMatches<'a>, name: &str) -> Option<&'a str>
+    ensures { option_map (λ s. s.now) result ≡ first_of name.now (rows_of (found_of found.now)) }
 {
-    run.get_str(name)
+    found.get_str(name)
 }
 
 // What the parser's refusal means: help is one of its kinds.

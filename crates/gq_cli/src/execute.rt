@@ -6,13 +6,14 @@ ghost use Rattle.gq_world.specs.Outcomes.{IsCutShort, IsWhole};
 ghost use Rattle.gq_world.specs.Headline.{WritesPromised};
 ghost use Rattle.gq_cli.specs.Input.{GivesAtMost};
 ghost use Rattle.gq_cli.specs.Ends.{Ended, IsKnown, IsSilent};
-ghost use Rattle.gq_cli.specs.Executed.{Executes, IsRefusal, IsTold, IsUpheldBy, RunsFiles, RunsStored, Run_of, Text_of, reads_scenario, reads_turns, stage_of, status_line, written_of};
+ghost use Rattle.gq_cli.specs.Executed.{Executes, IsRefusal, IsTold, IsUpheldBy, ReadsScenario, RunsFiles, RunsStored, Run_of, Asm_of, Text_of, reads_scenario, reads_turns, stage_of, status_line, written_of};
 ghost use Rattle.gq_cli.specs.declared.execute.Fault.TheVariants as fault;
 
 use crate::command::Command;
 use crate::input::{InputError, read_input};
 use crate::status::Status;
 use crate::stored::parted;
+use gq_world::asm::{AsmFault, asm};
 use gq_world::counted::{Counted, put};
 use gq_world::run::{RunFault, run};
 use std::alloc::{AllocError, Global};
@@ -21,7 +22,7 @@ use std::io::{Read, Write};
 // Why a command was not done.
 #[derive(Drop)]
 enum Fault {
-    // The scenario or the turns are refused, by this line.
+    // The texts are refused, by this line.
     Refused(String),
     // Host memory was refused.
     Memory,
@@ -56,7 +57,7 @@ impl From<InputError> for Fault {
 
 /// Does what a command asks for, and tells on `err`, in one line, why it was not done.
 ///
-/// `Run` reads the scenario and then the turns, each whole; `Stored` reads both from `scenario`, parted by a line `%%`. The run's
+/// `Run` reads the scenario and then the turns, each whole; `Asm` reads the scenario and writes the code of a leaf; `Stored` reads both from `scenario`, parted by a line `%%`. The run's
 /// lines and accounts go to `out`. `Help` reads nothing and writes its text to `out`. Each reader is asked for 18 MiB and one byte
 /// at most; more, or a read that fails, is a file fault. Nothing goes to `out` where the scenario or the turns are refused, where
 /// host memory is, or where a read failed; after a failed write a front of the text went out. A failed write on `err` changes
@@ -161,6 +162,7 @@ fn perform<R: Read, T: Read, W: Write>(
 {
     match command {
         Command::Run(_, _) => run_files(alloc, scenario, turns, out),
+        Command::Asm(_, leaf) => write_code(alloc, scenario, leaf.as_str(), out),
         Command::Stored => run_stored(alloc, scenario, out),
         Command::Help(text) => show(text.as_str(), out),
     }
@@ -221,6 +223,43 @@ fn run_texts<W: Write>(
         Ok(()) => Ok(()),
         Err(RunFault::Memory) => Err(Fault::Memory),
         Err(RunFault::Write) => Err(Fault::Write),
+        Err(refused) => Err(Fault::Refused(format!(in alloc; "trade: {refused}\n")?)),
+    }
+}
+
+// Writes the code of a leaf of the scenario that a reader has.
+fn write_code<R: Read, W: Write>(
+    alloc: Global,
+    scenario: &mut R,
+    leaf: &str,
+    out: &mut Counted<W>,
+) -> Result<(), Fault>
+    ensures ended { IsKnown result → ReadsScenario (R.remaining scenario.old) (R.remaining scenario.new) leaf.now (Ended result (written_to W.contents out.old) (written_to W.contents out.new)) }
+    ensures counted { OnOk result (failures_of out.new ≡ failures_of out.old) }
+    ensures silent { IfErr result (λ f. IsSilent f → out.new ≡ out.old) }
+    ensures raised { result ≡ Err fault.Write → IsRaised (failures_of out.old) (failures_of out.new) }
+    ensures most { GivesAtMost 18874369 (R.remaining scenario.old) (R.remaining scenario.new) }
+{
+    let input = read_input(alloc, scenario)?;
+    write_code_of(alloc, input.as_slice(), leaf, out)
+}
+
+// Writes the code of a leaf. Where it is refused, the line that says why is made.
+fn write_code_of<W: Write>(
+    alloc: Global,
+    scenario: &[u8],
+    leaf: &str,
+    out: &mut Counted<W>,
+) -> Result<(), Fault>
+    ensures ended { IsKnown result → Ended result (written_to W.contents out.old) (written_to W.contents out.new) (Asm_of scenario.now leaf.now) }
+    ensures counted { OnOk result (failures_of out.new ≡ failures_of out.old) }
+    ensures silent { IfErr result (λ f. IsSilent f → out.new ≡ out.old) }
+    ensures raised { result ≡ Err fault.Write → IsRaised (failures_of out.old) (failures_of out.new) }
+{
+    match asm(alloc, scenario, leaf, out) {
+        Ok(()) => Ok(()),
+        Err(AsmFault::Memory) => Err(Fault::Memory),
+        Err(AsmFault::Write) => Err(Fault::Write),
         Err(refused) => Err(Fault::Refused(format!(in alloc; "trade: {refused}\n")?)),
     }
 }

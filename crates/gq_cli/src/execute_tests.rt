@@ -132,6 +132,77 @@ fn runs_a_scenario_over_its_turns(rt: HostRuntime) -> Result<(), Fail> {
     Ok(())
 }
 
+const HELLO_CODE: &str = "00010007000000010568656c6c6f\n";
+
+// The scenario of one leaf whose program is this code.
+fn coded(alloc: Global, code: &str) -> Result<String, Fail> {
+    let mut text = String::from_str(
+        alloc,
+        "version = 1\nram = \"64K\"\n[[start]]\nname = \"hello\"\nquantum = \"4K\"\ncode = \"",
+    )?;
+    text.push_str(code)?;
+    text.push_str("\"\n")?;
+    Ok(text)
+}
+
+// The code of a leaf, as it is written.
+fn code_of(alloc: Global, scenario: &[u8], leaf: &str) -> Result<Outcome, Fail> {
+    let path = String::from_str(alloc, "a.toml")?;
+    let command = Command::Asm(path, String::from_str(alloc, leaf)?);
+    let mut scenario = scenario;
+    let mut turns = Endless {
+        given: 0,
+        fails: true,
+    };
+    Ok(ended(alloc, &command, &mut scenario, &mut turns))
+}
+
+#[test]
+fn writes_the_code_of_a_leaf(rt: HostRuntime) -> Result<(), Fail> {
+    let alloc = rt.alloc();
+    assert!(rt; code_of(alloc, HELLO, "hello")?.is(Status::Done, HELLO_CODE, ""));
+    let capitals = coded(alloc, "00010007000000010568656C6C6F")?;
+    assert!(rt; code_of(alloc, capitals.as_bytes(), "hello")?.is(Status::Done, HELLO_CODE, ""));
+    for leaf in ["init", "nobody", "", "a\nb"] {
+        let line = format!(in alloc; "trade: no component {leaf}\n")?;
+        assert!(rt; code_of(alloc, HELLO, leaf)?.is(Status::Refused, "", line.as_str()));
+    }
+    let twice = code_of(alloc, TWICE, "a")?;
+    assert!(rt; twice.is(Status::Refused, "", "trade: S5 NameTwice a\n"));
+    Ok(())
+}
+
+#[test]
+fn runs_a_program_by_its_code(rt: HostRuntime) -> Result<(), Fail> {
+    let alloc = rt.alloc();
+    let hello = coded(alloc, "00010007000000010568656c6c6f")?;
+    let run = run_of(alloc, hello.as_bytes(), b"hello 2\n")?;
+    assert!(rt; run.is(Status::Done, HELLO_RUN, ""));
+    let cases = [
+        ("", "trade: hello: C1 Truncated\n"),
+        ("00", "trade: hello: C1 Truncated\n"),
+        ("0001000700000001056865", "trade: hello: C1 Truncated\n"),
+        (
+            "00010007000000010568656c6c6f00",
+            "trade: hello: C6 TrailingBytes\n",
+        ),
+        (
+            "0001000e000000030100000040ff00000000000000",
+            "trade: hello: C4 BadNesting\n",
+        ),
+        ("000100010000003f", "trade: hello: C2 UnknownOpcode\n"),
+        ("0", "trade: S3 BadValue code\n"),
+    ];
+    for (code, line) in cases {
+        let scenario = coded(alloc, code)?;
+        let run = run_of(alloc, scenario.as_bytes(), b"hello 2\n")?;
+        assert!(rt; run.is(Status::Refused, "", line));
+        let asm = code_of(alloc, scenario.as_bytes(), "hello")?;
+        assert!(rt; asm.is(Status::Refused, "", line));
+    }
+    Ok(())
+}
+
 #[test]
 fn runs_the_stored_form(rt: HostRuntime) {
     let alloc = rt.alloc();

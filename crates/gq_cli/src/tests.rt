@@ -83,6 +83,22 @@ fn names_a_run(rt: HostRuntime) -> Result<(), Fail> {
 }
 
 #[test]
+fn names_the_code_of_a_leaf(rt: HostRuntime) -> Result<(), Fail> {
+    let alloc = rt.alloc();
+    let named = command(alloc, &["asm", "a.toml", "hello"])?;
+    let Command::Asm(scenario, leaf) = named else {
+        return Err(Fail::from("the code of a leaf"));
+    };
+    assert!(rt; scenario.as_str() == "a.toml" && leaf.as_str() == "hello");
+    let named = command(alloc, &["asm", "a.toml", "--", "-x"])?;
+    let Command::Asm(_, leaf) = named else {
+        return Err(Fail::from("the code of a leaf"));
+    };
+    assert!(rt; leaf.as_str() == "-x");
+    Ok(())
+}
+
+#[test]
 fn refuses_other_words(rt: HostRuntime) {
     let alloc = rt.alloc();
     assert!(rt; matches!(command(alloc, &["walk"]), Err(CommandError::Usage)));
@@ -99,6 +115,19 @@ fn refuses_other_words(rt: HostRuntime) {
             Err(CommandError::Usage)
         )
     );
+    assert!(rt; matches!(command(alloc, &["asm", "a.toml"]), Err(CommandError::Usage)));
+    assert!(rt;
+        matches!(
+            command(alloc, &["asm", "a", "b", "c"]),
+            Err(CommandError::Usage)
+        )
+    );
+    assert!(rt;
+        matches!(
+            command(alloc, &["asm", "a", "-x"]),
+            Err(CommandError::Usage)
+        )
+    );
     assert!(rt; matches!(command(alloc, &["--"]), Err(CommandError::Usage)));
 }
 
@@ -106,10 +135,12 @@ const HELP: &str = "\
 Runs components that trade memory and capabilities under quotas
 
 Usage: trade run <SCENARIO> <TURNS>
+       trade asm <SCENARIO> <LEAF>
        trade < STORED
 
 Commands:
   run   Run the scenario in the file SCENARIO over the turns in the file TURNS
+  asm   Print the code of the leaf LEAF of the scenario in the file SCENARIO, in hexadecimal
   help  Print this message or the help of the given subcommand(s)
 
 Options:
@@ -120,13 +151,14 @@ Without a command, standard input has both: the scenario, a line that is %%, and
 
 Exit status:
   0  done, also when help was asked for
-  1  the scenario or the turns were refused
+  1  the scenario or the turns were refused, or no leaf has the name
   2  bad command line
   3  the host has no memory left
   4  a file could not be opened or read, is longer than 18 MiB, or output could not be written
 
-Example:
+Examples:
   trade run hello.toml hello.turns
+  trade asm hello.toml hello
 ";
 
 #[test]

@@ -2,8 +2,8 @@
 #![tactic(auto)]
 
 pub mod fault;
-pub mod key;
 mod hexadecimal;
+pub mod key;
 mod lines;
 pub mod node;
 pub mod reader;

@@ -45,7 +45,9 @@ fn reads_a_leaf(rt: HostRuntime) -> Result<(), Fail> {
     let leaf = LeafNo::new(0);
     assert_eq!(rt; scenario.name(leaf).as_bytes(), b"hello".as_slice());
     assert_eq!(rt; scenario.quantum(leaf), 4096);
-    assert!(rt; matches!(scenario.source(leaf), Source::Text(text) if text.as_slice() == b"main\nsay \"hello\"\nend\n".as_slice()));
+    assert!(rt;
+        matches!(scenario.source(leaf), Source::Text(text) if text.as_slice() == b"main\nsay \"hello\"\nend\n".as_slice())
+    );
     assert_eq!(rt; scenario.leaf_named(b"hello"), Some(leaf));
     assert_eq!(rt; scenario.leaf_named(b"init"), None);
     Ok(())
@@ -90,15 +92,30 @@ fn reads_code(rt: HostRuntime) -> Result<(), Fail> {
 fn tells_a_fault_of_code(rt: HostRuntime) -> Result<(), Fail> {
     let alloc = rt.alloc();
     let both = leaf_with(alloc, "program = \"\"\ncode = \"00\"\n")?;
-    assert_eq!(rt; line_of(alloc, both.as_bytes())?.as_str(), "S3 BadValue code");
+    assert_eq!(rt;
+        line_of(alloc, both.as_bytes())?.as_str(),
+        "S3 BadValue code"
+    );
     let half = leaf_with(alloc, "code = \"0\"\n")?;
-    assert_eq!(rt; line_of(alloc, half.as_bytes())?.as_str(), "S3 BadValue code");
+    assert_eq!(rt;
+        line_of(alloc, half.as_bytes())?.as_str(),
+        "S3 BadValue code"
+    );
     let letter = leaf_with(alloc, "code = \"0g\"\n")?;
-    assert_eq!(rt; line_of(alloc, letter.as_bytes())?.as_str(), "S3 BadValue code");
+    assert_eq!(rt;
+        line_of(alloc, letter.as_bytes())?.as_str(),
+        "S3 BadValue code"
+    );
     let number = leaf_with(alloc, "code = 10\n")?;
-    assert_eq!(rt; line_of(alloc, number.as_bytes())?.as_str(), "S3 BadValue code");
+    assert_eq!(rt;
+        line_of(alloc, number.as_bytes())?.as_str(),
+        "S3 BadValue code"
+    );
     let neither = leaf_with(alloc, "")?;
-    assert_eq!(rt; line_of(alloc, neither.as_bytes())?.as_str(), "S2 MissingKey program");
+    assert_eq!(rt;
+        line_of(alloc, neither.as_bytes())?.as_str(),
+        "S2 MissingKey program"
+    );
     Ok(())
 }
 

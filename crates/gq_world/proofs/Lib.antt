@@ -20,6 +20,7 @@ pub mod Lines
 pub mod Whole
 pub mod Stage_laws
 pub mod Stage_refusals
+pub mod Leaf_code
 pub mod Headline
 pub mod Upheld
 pub mod Rows_whole

@@ -15,6 +15,7 @@ pub mod Outcomes
 pub mod Lines
 pub mod Load
 pub mod Whole
+pub mod Asm
 pub mod Covered
 pub mod Headline
 pub mod Tested

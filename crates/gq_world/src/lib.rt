@@ -3,6 +3,7 @@
 
 pub mod account;
 mod account_line;
+pub mod asm;
 pub mod budget;
 pub mod counted;
 mod judge;

@@ -1,11 +1,12 @@
 //! What the contracts leave open: that a scenario loads, and what is told of one that does not.
 use crate::Counted;
+use crate::asm::{AsmFault, asm};
 use crate::load::{LoadError, LoadFault};
 use crate::run::{RunFault, run};
 use crate::world::{Stop, World};
 use gq_init::node::NodeNo;
 use gq_machine::event::Event;
-use gq_model::fault::{TextFault, TurnFault};
+use gq_model::fault::{CodeFault, TextFault, TurnFault};
 use gq_model::phase::Phase;
 use std::io;
 use std::io::{Cursor, ErrorKind, Write};
@@ -19,6 +20,9 @@ const UNKNOWN_WORD: &[u8] =
 
 const ROUNDS: &[u8] =
     b"version = 1\nram = \"64K\"\n[[start]]\nname = \"hello\"\nquantum = \"4K\"\nprogram = '''\nmain\nloop 2\nsay \"hello\"\nend\nend\n'''\n";
+
+const CODED: &[u8] =
+    b"version = 1\nram = \"64K\"\n[[start]]\nname = \"hello\"\nquantum = \"4K\"\ncode = \"00010007000000010568656c6c6f\"\n[[start]]\nname = \"cut\"\nquantum = 0\ncode = \"0001\"\n";
 
 const TOO_LARGE: &[u8] =
     b"version = 1\nram = 4096\n[[start]]\nname = \"hello\"\nquantum = \"8K\"\nprogram = '''\nmain\nsay \"hello\"\nend\n'''\n";
@@ -75,6 +79,59 @@ fn tells_the_first_fault(rt: HostRuntime) {
     assert!(rt; matches!(rounds, Err(LoadError::Fault(LoadFault::NotYet { .. }))));
     let quanta = World::load(rt.alloc(), TOO_LARGE);
     assert!(rt; matches!(quanta, Err(LoadError::Fault(LoadFault::QuantaExceed))));
+}
+
+#[test]
+fn reads_the_code_of_one_leaf(rt: HostRuntime) {
+    let cut = World::load(rt.alloc(), CODED);
+    assert!(rt;
+        matches!(
+            cut,
+            Err(LoadError::Fault(LoadFault::Code {
+                fault: CodeFault::Truncated,
+                ..
+            }))
+        )
+    );
+    let mut text = Vec::new(rt.alloc());
+    let mut out = Counted::new(Cursor::new(&mut text));
+    assert!(rt; asm(rt.alloc(), CODED, "hello", &mut out).is_ok());
+    let cut = asm(rt.alloc(), CODED, "cut", &mut out);
+    assert!(rt; matches!(cut, Err(AsmFault::Load(LoadFault::Code { .. }))));
+    let nobody = asm(rt.alloc(), CODED, "init", &mut out);
+    assert!(rt; matches!(nobody, Err(AsmFault::NoComponent("init"))));
+    assert!(rt; out.failures() == 0);
+    assert!(rt; text.as_slice() == b"00010007000000010568656c6c6f\n".as_slice());
+}
+
+#[test]
+fn a_failed_write_leaves_a_front_of_the_code(rt: HostRuntime) {
+    let mut page = [0; 4];
+    let mut out = Counted::new(page.as_mut_slice());
+    let cut = asm(rt.alloc(), HELLO, "hello", &mut out);
+    assert!(rt; matches!(cut, Err(AsmFault::Write)));
+    assert!(rt; out.failures() == 1);
+    assert!(rt; page == *b"0001");
+}
+
+#[test]
+fn prints_faults_of_code(rt: HostRuntime) -> Result<(), Fail> {
+    let cases = [
+        (AsmFault::NoComponent("-x"), "no component -x"),
+        (
+            AsmFault::Load(LoadFault::QuantaExceed),
+            "S11 QuantaExceed init",
+        ),
+        (AsmFault::Memory, "host memory refused"),
+        (AsmFault::Write, "file fault"),
+    ];
+    for (fault, text) in cases {
+        let shown = format!(in rt.alloc(); "{fault}")?;
+        assert_eq!(rt; shown.as_str(), text);
+        let debugged = format!(in rt.alloc(); "{fault:?}")?;
+        assert_eq!(rt; debugged.as_str(), text);
+    }
+    Ok(())
 }
 
 /// A writer that first fails, then takes nothing, and then takes all; it counts its writes.

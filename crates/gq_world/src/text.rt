@@ -3,8 +3,10 @@ ghost use Rattle.std.specs.Prelude.{◌≡◌, Some};
 ghost use Rattle.gq_world.specs.Loading.{text_fault_word, code_fault_word};
 ghost use Rattle.gq_world.specs.Written.{turn_word};
 ghost use Rattle.gq_world.specs.Faults.{load_fault_text};
+ghost use Rattle.gq_world.specs.Asm.{asm_fault_text};
 ghost use Rattle.gq_world.specs.Outcomes.{run_fault_text};
 
+use crate::asm::AsmFault;
 use crate::load::LoadFault;
 use crate::run::RunFault;
 use gq_model::fault::{CodeFault, TextFault, TurnFault};
@@ -90,6 +92,27 @@ impl Debug for LoadFault {
 }
 
 impl Error for LoadFault {}
+
+impl<'a> Display for AsmFault<'a> {
+    ghost output = { λ fault. Some (asm_fault_text fault) };
+
+    fn fmt<W: Write>(&self, f: &mut Formatter<W>) -> fmt::Result {
+        match self {
+            AsmFault::Load(fault) => write!(f, "{fault}"),
+            AsmFault::NoComponent(name) => write!(f, "no component {name}"),
+            AsmFault::Memory => f.write_str("host memory refused"),
+            AsmFault::Write => f.write_str("file fault"),
+        }
+    }
+}
+
+impl<'a> Debug for AsmFault<'a> {
+    fn fmt<W: Write>(&self, f: &mut Formatter<W>) -> fmt::Result {
+        Display::fmt(self, f)
+    }
+}
+
+impl<'a> Error for AsmFault<'a> {}
 
 impl Display for RunFault {
     ghost output = { λ fault. Some (run_fault_text fault) };

@@ -67,6 +67,17 @@ fn perform(rt: &HostRuntime, command: &Command, err: &mut Counted<Stderr>) -> St
             ),
             Err(_) => tell(err, Status::FileFault),
         },
+        Command::Asm(scenario, _) => match File::open(rt, scenario.as_str()) {
+            Ok(mut scenario) => execute(
+                rt.alloc(),
+                command,
+                &mut scenario,
+                &mut io::empty(),
+                &mut out,
+                err,
+            ),
+            Err(_) => tell(err, Status::FileFault),
+        },
         Command::Stored | Command::Help(_) => execute(
             rt.alloc(),
             command,

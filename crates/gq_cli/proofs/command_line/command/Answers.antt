@@ -12,7 +12,7 @@ returns-in-Ok-clause-asked c =
     let ne : words ≢ [] = some_words c.args.words.now c.is_empty.result c.is_empty.ensures c.if-is_empty.false in
     let passes : fault_of trade words ≡ [] = ap (λ a. fault_of a words) (sym line) ∙ c.in-Ok.ensures.kinds (ap is_simple_and_free line ∙ trade_free) in
     let found : subcommand_rows_of c.in-Ok.matches ≡ subcommand_of trade words = (c.in-Ok.ensures.matches (ap is_simple line ∙ trade_simple)).1 ∙ ap (λ a. subcommand_of a words) line in
-    IfOk-weaker c.run_asked.result _ _ (λ command h. asked-ok words _ command ne passes found h) c.run_asked.ensures.asked
+    IfOk-weaker c.matched.result _ _ (λ command h. asked-ok words _ command ne passes found h) c.matched.ensures.asked
 
 pub returns-in-Ok-clause-misused : goal.returns-in-Ok-clause-misused
 returns-in-Ok-clause-misused c =
@@ -21,7 +21,7 @@ returns-in-Ok-clause-misused c =
     let ne : words ≢ [] = some_words c.args.words.now c.is_empty.result c.is_empty.ensures c.if-is_empty.false in
     let passes : fault_of trade words ≡ [] = ap (λ a. fault_of a words) (sym line) ∙ c.in-Ok.ensures.kinds (ap is_simple_and_free line ∙ trade_free) in
     let found : subcommand_rows_of c.in-Ok.matches ≡ subcommand_of trade words = (c.in-Ok.ensures.matches (ap is_simple line ∙ trade_simple)).1 ∙ ap (λ a. subcommand_of a words) line in
-    IfErr-weaker c.run_asked.result _ _ (λ e h. misused-ok words _ e ne passes found h) c.run_asked.ensures.misused
+    IfErr-weaker c.matched.result _ _ (λ e h. misused-ok words _ e ne passes found h) c.matched.ensures.misused
 
 pub returns-in-Err-clause-asked : goal.returns-in-Err-clause-asked
 returns-in-Err-clause-asked c =

@@ -4,4 +4,4 @@ use Rattle.gq_cli.proofs.Rows.{first-row}
 use Rattle.gq_cli.proofs.command_line.first_named.Goals as goal
 
 pub returns : goal.returns
-returns c = c.get_str.ensures ∙ first-row c.args.name.now (found_of c.args.run.now).entries.items
+returns c = c.get_str.ensures ∙ first-row c.args.name.now (found_of c.args.found.now).entries.items
