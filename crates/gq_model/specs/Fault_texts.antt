@@ -6,6 +6,12 @@ use Rattle.gq_model.specs.Routes.{Routed, To, No_route, Ambiguous, Provides_diff
 use Rattle.gq_model.specs.Rules
 use Rattle.gq_model.specs.Rules.{Rule}
 use Rattle.gq_model.specs.Verdict.{Fault}
+use Rattle.gq_model.specs.declared.fault.TextFault.{TextFault}
+use Rattle.gq_model.specs.declared.fault.TextFault.TheVariants as text
+use Rattle.gq_model.specs.declared.fault.CodeFault.{CodeFault}
+use Rattle.gq_model.specs.declared.fault.CodeFault.TheVariants as code
+use Rattle.gq_model.specs.declared.fault.TurnFault.{TurnFault}
+use Rattle.gq_model.specs.declared.fault.TurnFault.TheVariants as turn
 use Rattle.gq_model.specs.Resolve.{Unresolved, Quanta_exceed, Caps_exceed, Bad_after, Cycle, Unrouted}
 use Rattle.gq_model.specs.Accept.{Refusal, Bad_program, Not_resolved, Over_own, Over_steps}
 
@@ -28,6 +34,29 @@ rule_word Rules.UnknownService = codes "V15 UnknownService"
 rule_word Rules.MissingSection = codes "V16 MissingSection"
 rule_word Rules.BudgetTooLarge = codes "V17 BudgetTooLarge"
 rule_word Rules.OverCaps = codes "V18 OverCaps"
+
+abbrev pub text_fault_word : TextFault → List ℕ
+text_fault_word text.UnknownWord = codes "M1 UnknownWord"
+text_fault_word text.BadNumber = codes "M2 BadNumber"
+text_fault_word text.BadSlot = codes "M3 BadSlot"
+text_fault_word text.Unclosed = codes "M4 Unclosed"
+text_fault_word text.StrayEnd = codes "M5 StrayEnd"
+text_fault_word text.BadText = codes "M6 BadText"
+text_fault_word text.SectionTwice = codes "M7 SectionTwice"
+text_fault_word text.TooLong = codes "M8 TooLong"
+
+abbrev pub code_fault_word : CodeFault → List ℕ
+code_fault_word code.Truncated = codes "C1 Truncated"
+code_fault_word code.UnknownOpcode = codes "C2 UnknownOpcode"
+code_fault_word code.BadOperand = codes "C3 BadOperand"
+code_fault_word code.BadNesting = codes "C4 BadNesting"
+code_fault_word code.TooLong = codes "C5 TooLong"
+code_fault_word code.TrailingBytes = codes "C6 TrailingBytes"
+
+abbrev pub turn_fault_word : TurnFault → List ℕ
+turn_fault_word turn.BadLine = codes "U1 BadLine"
+turn_fault_word turn.NoSuchComponent = codes "U2 NoSuchComponent"
+turn_fault_word turn.TooMany = codes "U3 TooMany"
 
 abbrev pub section_word : Section → List ℕ
 section_word Main = codes "main"

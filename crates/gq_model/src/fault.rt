@@ -1,6 +1,6 @@
 // The faults of programs, of turns and of steps, by the codes under which they are printed.
 ghost use Rattle.std.specs.Prelude.{◌≡◌, Some};
-ghost use Rattle.gq_model.specs.Fault_texts.{rule_word};
+ghost use Rattle.gq_model.specs.Fault_texts.{rule_word, text_fault_word, code_fault_word, turn_fault_word};
 
 use std::fmt::{self, Display, Formatter, Write};
 use thiserror::Error;
@@ -87,66 +87,127 @@ impl Display for Rule {
 impl std::error::Error for Rule {}
 
 /// Why a text is no program.
-#[derive(Clone, Copy, Debug, PartialEq, Eq, Error)]
+#[derive(Clone, Copy, Debug, PartialEq, Eq)]
 pub enum TextFault {
     /// A word that can't stand there, or a word too many.
-    #[error("M1 UnknownWord")]
     UnknownWord,
     /// A number is missing, malformed or out of range.
-    #[error("M2 BadNumber")]
     BadNumber,
     /// A slot is missing, malformed or not allowed.
-    #[error("M3 BadSlot")]
     BadSlot,
     /// The text ends inside a block.
-    #[error("M4 Unclosed")]
     Unclosed,
     /// An `end` outside a section, or an `else` without its `if`.
-    #[error("M5 StrayEnd")]
     StrayEnd,
     /// A text to say or the name of a service is bad.
-    #[error("M6 BadText")]
     BadText,
     /// A section or a local's limit is given twice.
-    #[error("M7 SectionTwice")]
     SectionTwice,
     /// The 4097th statement, or a fifth nesting.
-    #[error("M8 TooLong")]
     TooLong,
 }
 
+impl TextFault {
+    /// Its code and its name, as a refusal prints them.
+    pub fn word(self) -> &'static str
+        ensures { result.now ≡ text_fault_word self }
+    {
+        match self {
+            TextFault::UnknownWord => "M1 UnknownWord",
+            TextFault::BadNumber => "M2 BadNumber",
+            TextFault::BadSlot => "M3 BadSlot",
+            TextFault::Unclosed => "M4 Unclosed",
+            TextFault::StrayEnd => "M5 StrayEnd",
+            TextFault::BadText => "M6 BadText",
+            TextFault::SectionTwice => "M7 SectionTwice",
+            TextFault::TooLong => "M8 TooLong",
+        }
+    }
+}
+
+impl Display for TextFault {
+    ghost output = { λ fault. Some (text_fault_word fault) };
+
+    fn fmt<W: Write>(&self, f: &mut Formatter<W>) -> fmt::Result {
+        f.write_str(self.word())
+    }
+}
+
+impl std::error::Error for TextFault {}
+
 /// Why bytes are no program's code.
-#[derive(Clone, Copy, Debug, PartialEq, Eq, Error)]
+#[derive(Clone, Copy, Debug, PartialEq, Eq)]
 pub enum CodeFault {
     /// The bytes end inside a number before the statements, or a section is longer than what is left.
-    #[error("C1 Truncated")]
     Truncated,
-    #[error("C2 UnknownOpcode")]
+    /// No statement has this number.
     UnknownOpcode,
     /// An operand is out of its range.
-    #[error("C3 BadOperand")]
     BadOperand,
     /// A statement, an arm or a body reaches past the end of the one that it stands in, or a fifth nesting.
-    #[error("C4 BadNesting")]
     BadNesting,
     /// The 4097th statement.
-    #[error("C5 TooLong")]
     TooLong,
     /// Bytes after the last section.
-    #[error("C6 TrailingBytes")]
     TrailingBytes,
 }
 
+impl CodeFault {
+    /// Its code and its name, as a refusal prints them.
+    pub fn word(self) -> &'static str
+        ensures { result.now ≡ code_fault_word self }
+    {
+        match self {
+            CodeFault::Truncated => "C1 Truncated",
+            CodeFault::UnknownOpcode => "C2 UnknownOpcode",
+            CodeFault::BadOperand => "C3 BadOperand",
+            CodeFault::BadNesting => "C4 BadNesting",
+            CodeFault::TooLong => "C5 TooLong",
+            CodeFault::TrailingBytes => "C6 TrailingBytes",
+        }
+    }
+}
+
+impl Display for CodeFault {
+    ghost output = { λ fault. Some (code_fault_word fault) };
+
+    fn fmt<W: Write>(&self, f: &mut Formatter<W>) -> fmt::Result {
+        f.write_str(self.word())
+    }
+}
+
+impl std::error::Error for CodeFault {}
+
 /// Why a line, or a text, is no list of turns.
-#[derive(Clone, Copy, Debug, PartialEq, Eq, Error)]
+#[derive(Clone, Copy, Debug, PartialEq, Eq)]
 pub enum TurnFault {
     /// A line of another form.
-    #[error("U1 BadLine")]
     BadLine,
     /// A name that is no leaf's.
-    #[error("U2 NoSuchComponent")]
     NoSuchComponent,
     /// More than 1,000,000 turns, or a text of more than 16 MiB.
-    #[error("U3 TooMany")]
     TooMany,
 }
+
+impl TurnFault {
+    /// Its code and its name, as a refusal prints them.
+    pub fn word(self) -> &'static str
+        ensures { result.now ≡ turn_fault_word self }
+    {
+        match self {
+            TurnFault::BadLine => "U1 BadLine",
+            TurnFault::NoSuchComponent => "U2 NoSuchComponent",
+            TurnFault::TooMany => "U3 TooMany",
+        }
+    }
+}
+
+impl Display for TurnFault {
+    ghost output = { λ fault. Some (turn_fault_word fault) };
+
+    fn fmt<W: Write>(&self, f: &mut Formatter<W>) -> fmt::Result {
+        f.write_str(self.word())
+    }
+}
+
+impl std::error::Error for TurnFault {}

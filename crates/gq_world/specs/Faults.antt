@@ -2,7 +2,7 @@
 use Rattle.std.specs.Prelude.{◌≡◌, ℕ, List, [], ◌∷◌, ◌++◌, Option, Some, None, Result, Ok, Err, codes, decimal}
 use Rattle.gq_model.specs.Program.{Program}
 use Rattle.gq_model.specs.Scenario.{Component, Scenario}
-use Rattle.gq_model.specs.Fault_texts.{program_text}
+use Rattle.gq_model.specs.Fault_texts.{text_fault_word, code_fault_word, program_text}
 use Rattle.gq_init.specs.Words.{scenario_fault_text}
 use Rattle.gq_init.specs.Leaves.{IsBareLeaf}
 use Rattle.gq_world.specs.declared.load.LoadFault.{LoadFault}
@@ -11,7 +11,7 @@ use Rattle.gq_world.specs.declared.load.LoadError.{LoadError}
 use Rattle.gq_world.specs.declared.load.LoadError.TheVariants as error
 use Rattle.gq_world.specs.Load as whole
 use Rattle.gq_world.specs.Loading as loading
-use Rattle.gq_world.specs.Loading.{text_fault_word, code_fault_word, fault_text}
+use Rattle.gq_world.specs.Loading.{fault_text}
 
 -- the line that a refusal prints
 abbrev pub load_fault_text : LoadFault → List ℕ

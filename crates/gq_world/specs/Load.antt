@@ -8,9 +8,8 @@ use Rattle.gq_model.specs.Scenario.{Source, As_text, As_code, Component, Scenari
 use Rattle.gq_model.specs.Text.{assembled}
 use Rattle.gq_model.specs.Decode.{decoded}
 use Rattle.gq_model.specs.Accept.{Refusal, refusal}
-use Rattle.gq_model.specs.Fault_texts.{refusal_text}
+use Rattle.gq_model.specs.Fault_texts.{text_fault_word, code_fault_word, refusal_text}
 use Rattle.gq_init.specs.Reading.{ReadFault, read_text, scenario_in}
-use Rattle.gq_world.specs.Loading.{text_fault_word, code_fault_word}
 
 -- why a text is refused: it is no scenario, a leaf's text or a leaf's code is no program, or the scenario is refused
 pub data Fault : Type 0 where

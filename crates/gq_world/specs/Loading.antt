@@ -3,9 +3,7 @@ use Rattle.std.specs.Prelude.{ℕ, List, [], ◌∷◌, ◌++◌, Option, Some, 
 use Rattle.gq_model.specs.Amounts.{Ram}
 use Rattle.gq_model.specs.Program.{Program}
 use Rattle.gq_model.specs.declared.fault.TextFault.{TextFault}
-use Rattle.gq_model.specs.declared.fault.TextFault.TheVariants.{UnknownWord, BadNumber, BadSlot, Unclosed, StrayEnd, BadText, SectionTwice, TooLong}
 use Rattle.gq_model.specs.declared.fault.CodeFault.{CodeFault}
-use Rattle.gq_model.specs.declared.fault.CodeFault.TheVariants as codes_fault
 use Rattle.gq_model.specs.Lists.{or_first}
 use Rattle.gq_model.specs.Scenario.{Source, As_text, As_code, Component, Scenario, components}
 use Rattle.gq_model.specs.Text.{assembled}
@@ -13,7 +11,7 @@ use Rattle.gq_model.specs.Decode.{decoded}
 use Rattle.gq_model.specs.Resolve.{exceeds}
 use Rattle.gq_model.specs.Accept.{Refusal, Bad_program, Not_resolved}
 use Rattle.gq_model.specs.Resolve.{Unresolved}
-use Rattle.gq_model.specs.Fault_texts.{refusal_text}
+use Rattle.gq_model.specs.Fault_texts.{text_fault_word, code_fault_word, refusal_text}
 use Rattle.gq_init.specs.Reading.{ReadFault, read_text}
 use Rattle.gq_init.specs.Stage.{stage_scenario}
 use Rattle.gq_world.specs.declared.judge.Judgement.{Judgement}
@@ -83,24 +81,6 @@ abbrev pub stage_loaded : List ℕ → Result Scenario Fault
 stage_loaded text = loaded_from (stage_scenario text)
 
 -- TEXTS
-
-abbrev pub text_fault_word : TextFault → List ℕ
-text_fault_word UnknownWord = codes "M1 UnknownWord"
-text_fault_word BadNumber = codes "M2 BadNumber"
-text_fault_word BadSlot = codes "M3 BadSlot"
-text_fault_word Unclosed = codes "M4 Unclosed"
-text_fault_word StrayEnd = codes "M5 StrayEnd"
-text_fault_word BadText = codes "M6 BadText"
-text_fault_word SectionTwice = codes "M7 SectionTwice"
-text_fault_word TooLong = codes "M8 TooLong"
-
-abbrev pub code_fault_word : CodeFault → List ℕ
-code_fault_word codes_fault.Truncated = codes "C1 Truncated"
-code_fault_word codes_fault.UnknownOpcode = codes "C2 UnknownOpcode"
-code_fault_word codes_fault.BadOperand = codes "C3 BadOperand"
-code_fault_word codes_fault.BadNesting = codes "C4 BadNesting"
-code_fault_word codes_fault.TooLong = codes "C5 TooLong"
-code_fault_word codes_fault.TrailingBytes = codes "C6 TrailingBytes"
 
 abbrev pub fault_text : Fault → List ℕ
 fault_text (Unread fault) = read_text fault

@@ -5,7 +5,7 @@ use Rattle.gq_model.specs.Accounts.{whole}
 use Rattle.gq_model.specs.Accept.{budgets, step_budgets}
 use Rattle.gq_model.specs.Turns.{Turned, turned}
 use Rattle.gq_model.specs.declared.fault.TurnFault.{TurnFault}
-use Rattle.gq_model.specs.declared.fault.TurnFault.TheVariants.{BadLine, NoSuchComponent, TooMany}
+use Rattle.gq_model.specs.Fault_texts.{turn_fault_word}
 use Rattle.gq_world.specs.Loading.{Fault, fault_text, stage_loaded}
 
 -- what is written, or the line that says why nothing is
@@ -15,13 +15,8 @@ Written = Result (List ℕ) (List ℕ)
 abbrev pub refused_with : List ℕ → List ℕ
 refused_with text = codes "trade: " ++ text ++ 10 ∷ []
 
-abbrev pub turn_word : TurnFault → List ℕ
-turn_word BadLine = codes "U1 BadLine"
-turn_word NoSuchComponent = codes "U2 NoSuchComponent"
-turn_word TooMany = codes "U3 TooMany"
-
 abbrev pub turn_fault_text : TurnFault → ℕ → List ℕ
-turn_fault_text fault line = turn_word fault ++ codes " line " ++ decimal line
+turn_fault_text fault line = turn_fault_word fault ++ codes " line " ++ decimal line
 
 -- the text of a run by these turns, with the step budgets of the scenario
 unfoldable pub whole_of : Scenario → List (ℕ × ℕ) → List ℕ

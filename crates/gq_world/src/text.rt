@@ -1,7 +1,5 @@
 // The texts of faults, as a refusal prints them.
-ghost use Rattle.std.specs.Prelude.{◌≡◌, Some};
-ghost use Rattle.gq_world.specs.Loading.{text_fault_word, code_fault_word};
-ghost use Rattle.gq_world.specs.Written.{turn_word};
+ghost use Rattle.std.specs.Prelude.{Some};
 ghost use Rattle.gq_world.specs.Faults.{load_fault_text};
 ghost use Rattle.gq_world.specs.Asm.{asm_fault_text};
 ghost use Rattle.gq_world.specs.Outcomes.{run_fault_text};
@@ -9,50 +7,8 @@ ghost use Rattle.gq_world.specs.Outcomes.{run_fault_text};
 use crate::asm::AsmFault;
 use crate::load::LoadFault;
 use crate::run::RunFault;
-use gq_model::fault::{CodeFault, TextFault, TurnFault};
 use std::error::Error;
 use std::fmt::{self, Debug, Display, Formatter, Write};
-
-// The code and the name of a fault of program text.
-fn text_fault_word(fault: TextFault) -> &'static str
-    ensures { result.now ≡ text_fault_word fault }
-{
-    match fault {
-        TextFault::UnknownWord => "M1 UnknownWord",
-        TextFault::BadNumber => "M2 BadNumber",
-        TextFault::BadSlot => "M3 BadSlot",
-        TextFault::Unclosed => "M4 Unclosed",
-        TextFault::StrayEnd => "M5 StrayEnd",
-        TextFault::BadText => "M6 BadText",
-        TextFault::SectionTwice => "M7 SectionTwice",
-        TextFault::TooLong => "M8 TooLong",
-    }
-}
-
-// The code and the name of a fault of code.
-fn code_fault_word(fault: CodeFault) -> &'static str
-    ensures { result.now ≡ code_fault_word fault }
-{
-    match fault {
-        CodeFault::Truncated => "C1 Truncated",
-        CodeFault::UnknownOpcode => "C2 UnknownOpcode",
-        CodeFault::BadOperand => "C3 BadOperand",
-        CodeFault::BadNesting => "C4 BadNesting",
-        CodeFault::TooLong => "C5 TooLong",
-        CodeFault::TrailingBytes => "C6 TrailingBytes",
-    }
-}
-
-// The code and the name of a fault of turns.
-fn turn_word(fault: TurnFault) -> &'static str
-    ensures { result.now ≡ turn_word fault }
-{
-    match fault {
-        TurnFault::BadLine => "U1 BadLine",
-        TurnFault::NoSuchComponent => "U2 NoSuchComponent",
-        TurnFault::TooMany => "U3 TooMany",
-    }
-}
 
 impl Display for LoadFault {
     ghost output = { λ fault. Some (load_fault_text fault) };
@@ -62,14 +18,9 @@ impl Display for LoadFault {
             LoadFault::Scenario(fault) => write!(f, "{fault}"),
             LoadFault::Text { leaf, fault, line } => {
                 let leaf = leaf.as_str();
-                let fault = text_fault_word(*fault);
                 write!(f, "{leaf}: {fault} line {line}")
             }
-            LoadFault::Code { leaf, fault } => {
-                let leaf = leaf.as_str();
-                let fault = code_fault_word(*fault);
-                write!(f, "{leaf}: {fault}")
-            }
+            LoadFault::Code { leaf, fault } => write!(f, "{}: {fault}", leaf.as_str()),
             LoadFault::Rule {
                 leaf,
                 rule,
@@ -120,7 +71,7 @@ impl Display for RunFault {
     fn fmt<W: Write>(&self, f: &mut Formatter<W>) -> fmt::Result {
         match self {
             RunFault::Load(fault) => write!(f, "{fault}"),
-            RunFault::Turns { fault, line } => write!(f, "{} line {line}", turn_word(*fault)),
+            RunFault::Turns { fault, line } => write!(f, "{fault} line {line}"),
             RunFault::Memory => f.write_str("host memory refused"),
             RunFault::Write => f.write_str("file fault"),
         }
@@ -138,7 +89,7 @@ impl Error for RunFault {}
 #[cfg(test)]
 mod tests {
     use super::*;
-    use gq_model::fault::Rule;
+    use gq_model::fault::{Rule, TurnFault};
     use gq_model::program::{Name, Section};
     use std::test::Fail;
 

@@ -101,7 +101,7 @@ impl World {
     pub fn nodes(&self) -> usize
         ensures nodes { result ≡ suc (node_count self.now.scenario.nodes) }
         ensures accounts { result ≡ length (all_accounts self.now) }
-        ensures few { result ≤ 65 }
+        ensures few { result ≤ 129 }
     {
         self.leaf_count() + 1
     }
