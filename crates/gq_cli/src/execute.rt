@@ -260,7 +260,7 @@ fn write_code_of<W: Write>(
         Ok(()) => Ok(()),
         Err(AsmFault::Memory) => Err(Fault::Memory),
         Err(AsmFault::Write) => Err(Fault::Write),
-        Err(refused) => Err(Fault::Refused(format!(in alloc; "trade: {refused}\n")?)),
+        Err(fault) => Err(Fault::Refused(format!(in alloc; "trade: {fault}\n")?)),
     }
 }
 

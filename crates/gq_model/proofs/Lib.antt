@@ -8,7 +8,6 @@ mod Rows_text
 mod Rows_turns
 mod Loops
 mod Sums_laws
-mod Frame
 mod Rows_wrong
 mod Rows_rules
 pub mod Code_laws

@@ -1,0 +1,7 @@
+mod Apart
+mod Bytes
+mod Changes
+mod Edits
+mod Links
+mod Others
+mod Tables

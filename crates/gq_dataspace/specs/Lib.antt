@@ -1,0 +1,5 @@
+pub mod Dataspaces
+pub mod Holding
+pub mod Links
+pub mod Lists
+pub mod Trees

@@ -1,0 +1,3 @@
+pub mod Endings
+pub mod Steps
+mod Rows_turns

@@ -1,0 +1,4 @@
+//! Laws of the account machine: theorems over its definitions alone, each the contract of a call that does nothing.
+#![tactic(auto)]
+
+pub mod turns;

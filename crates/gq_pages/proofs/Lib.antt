@@ -1,0 +1,9 @@
+mod Bytes
+mod Free
+mod Frames
+mod Moves
+mod Pairs
+mod Parts
+mod Values
+mod Walks
+mod Zeros

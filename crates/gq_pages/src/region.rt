@@ -1,0 +1,132 @@
+// The block as one list of bytes, which grows up to the size of the block. Nothing here follows a pointer.
+ghost use Rattle.std.specs.Prelude.{◌≡◌, [], ◌+◌, ◌^◌, ◌<◌, ◌≤◌, ◌++◌, length, slice_index, slice_set, IfSome};
+ghost use Rattle.std.specs.Int.{w32, to_le_bytes};
+ghost use Rattle.gq_pages.specs.Bytes.{zeros, zeroed, word_at, with_bytes};
+
+use crate::memory::{Cells, Lease, allocate, free};
+use std::alloc::Global;
+use std::marker::Model;
+
+// A block of `size` bytes. Those at its front were written so far; the rest has never been touched.
+pub(crate) struct Region {
+    at: *mut u8,
+    size: usize,
+    cells: Cells,
+    lease: Lease<Global>,
+    alloc: Global,
+}
+
+impl Model for Region {
+    ghost use Rattle.gq_pages.specs.Bytes.{Contents};
+
+    ghost Value = { Contents };
+
+    ghost use Rattle.gq_pages.specs.Region.{contents, IsRegion};
+
+    ghost view = { contents };
+
+    ghost invariant = { IsRegion };
+}
+
+impl Drop for Region {
+    fn drop(self) {
+        let Region {
+            at,
+            size,
+            cells,
+            lease,
+            alloc,
+        } = self;
+        free(&alloc, at, size, cells, lease);
+    }
+}
+
+impl Region {
+    // A block of `size` bytes, none of them written.
+    pub(crate) fn new(alloc: Global, size: usize) -> Option<Region>
+        requires { size < 2 ^ 63 }
+        ensures empty { IfSome result (λ r. r.bytes ≡ []) }
+        ensures size { IfSome result (λ r. r.size ≡ size) }
+    {
+        let (at, (cells, lease)) = allocate(&alloc, size)?;
+        Some(Region {
+            at,
+            size,
+            cells,
+            lease,
+            alloc,
+        })
+    }
+
+    // Writes 0 to the `count` bytes after the first `len`, which are all that were written so far.
+    #[tactic(auto, using(crate::proofs::Zeros::zeros_steps))]
+    pub(crate) fn extend(&mut self, len: usize, count: usize)
+        requires at_end { length self.old.bytes ≡ len }
+        requires room { len + count ≤ self.old.size }
+        ensures bytes { self.new.bytes ≡ self.old.bytes ++ zeros count }
+        ensures size { self.new.size ≡ self.old.size }
+    {
+        let _size = self.size;
+        let end = len + count;
+        for k in len..end {
+            self.cells.push(self.at, k, 0);
+        }
+    }
+
+    pub(crate) fn byte(&self, index: usize) -> u8
+        requires { index < length self.now.bytes }
+        ensures { result ≡ slice_index self.now.bytes index }
+    {
+        self.cells.byte(self.at, index)
+    }
+
+    pub(crate) fn set_byte(&mut self, index: usize, byte: u8)
+        requires { index < length self.old.bytes }
+        ensures bytes { self.new.bytes ≡ slice_set self.old.bytes index byte }
+        ensures size { self.new.size ≡ self.old.size }
+    {
+        self.cells.set_byte(self.at, index, byte);
+    }
+
+    // The four bytes from `index` on, the lowest first. They are read at one go: the compiler makes one load of the four.
+    pub(crate) fn word(&self, index: usize) -> u32
+        requires { index + 4 ≤ length self.now.bytes }
+        ensures { result ≡ word_at self.now.bytes index }
+    {
+        let _size = self.size;
+        u32::from_le_bytes([
+            self.byte(index),
+            self.byte(index + 1),
+            self.byte(index + 2),
+            self.byte(index + 3),
+        ])
+    }
+
+    // Writes the four bytes from `index` on, the lowest first; one store, as in `word`.
+    pub(crate) fn set_word(&mut self, index: usize, word: u32)
+        requires { index + 4 ≤ length self.old.bytes }
+        ensures bytes { self.new.bytes ≡ with_bytes self.old.bytes index (to_le_bytes w32 word) }
+        ensures size { self.new.size ≡ self.old.size }
+    {
+        let _size = self.size;
+        let [a, b, c, d] = word.to_le_bytes();
+        self.set_byte(index, a);
+        self.set_byte(index + 1, b);
+        self.set_byte(index + 2, c);
+        self.set_byte(index + 3, d);
+    }
+
+    // The `count` bytes from `start` on become 0.
+    #[tactic(auto, using(crate::proofs::Zeros::zeroed_steps))]
+    pub(crate) fn zero(&mut self, start: usize, count: usize)
+        requires { start + count ≤ length self.old.bytes }
+        ensures bytes { self.new.bytes ≡ zeroed self.old.bytes start count }
+        ensures size { self.new.size ≡ self.old.size }
+    {
+        let _size = self.size;
+        let end = start + count;
+        for k in start..end {
+            self.set_byte(k, 0);
+        }
+    }
+}
