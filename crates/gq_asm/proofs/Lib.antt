@@ -2,3 +2,4 @@ pub mod Fronts
 pub mod Statement_reads
 pub mod Blocks
 pub mod Orders
+pub mod Finishing

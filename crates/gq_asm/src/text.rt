@@ -1,6 +1,8 @@
 // A text, line by line.
-ghost use Rattle.std.specs.Prelude.{◌≡◌, ◌∷◌, [], IsTrue, IfOk, MatchOption};
+ghost use Rattle.std.specs.Prelude.{◌≡◌, ◌∷◌, [], IsTrue, Ok, IfOk, MatchOption};
+ghost use Rattle.gq_model.specs.Program as model;
 ghost use Rattle.gq_model.specs.Program.{section_in};
+ghost use Rattle.gq_model.specs.Code.{IsProgram};
 ghost use Rattle.gq_model.specs.Letters.{words};
 ghost use Rattle.gq_model.specs.Text.{limit_of, limit_or_greatest, limits_from, in_order, finished, line_read, is_comment, assembled};
 ghost use Rattle.gq_asm.specs.State.{Gives, reading_of};
@@ -131,6 +133,7 @@ impl Reading {
 
     /// The program at the end of the text, where every block is closed.
     fn finish(self, alloc: Global) -> Result<Program, AssembleError>
+        requires { let r = reading_of self in (p : model.Program) → finished r r.blocks ≡ Ok p → IsProgram p }
         ensures { let r = reading_of self in Assembles result (finished r r.blocks) }
     {
         let Reading {
@@ -147,7 +150,7 @@ impl Reading {
         }
         let locals = greatest_values(&limits);
         let sections = in_order(alloc, sections, &ALL_SECTIONS)?;
-        Ok(Program::new(sections, locals))
+        Ok(Program::from_parts(sections, locals))
     }
 }
 

@@ -4,3 +4,11 @@ pub mod Programs
 pub mod Decoding
 pub mod Bodies
 pub mod Sections
+pub mod Ranges
+pub mod Lengths
+pub mod Bodies_back
+pub mod Limits_back
+pub mod Sections_back
+pub mod Programs_back
+pub mod Code_bytes
+pub mod Program_laws

@@ -15,16 +15,16 @@ use Rattle.gq_model.specs.Code.{IsProgram, greatest_statements, is_body, is_sect
 use Rattle.gq_code.specs.Codes.{has_code, have_codes}
 use Rattle.gq_code.proofs.Codes.{parts, both, body_has}
 
-abbrev Sections : Type 0
+abbrev pub Sections : Type 0
 Sections = List (Section × Statements)
 
-record First (n : ℕ) (p : Section × Statements) (others : Sections) : Type 0 where
-  section : IsTrue (is_section p.0)
-  after : IsTrue (nat_le n (section_number p.0))
-  body : IsTrue (is_body 4 p.1)
-  rest : IsTrue (are_sections (1 + section_number p.0) others)
+pub record First (n : ℕ) (p : Section × Statements) (others : Sections) : Type 0 where
+  pub section : IsTrue (is_section p.0)
+  pub after : IsTrue (nat_le n (section_number p.0))
+  pub body : IsTrue (is_body 4 p.1)
+  pub rest : IsTrue (are_sections (1 + section_number p.0) others)
 
-first_of : (n : ℕ) (p : Section × Statements) (rest : Sections) → IsTrue (are_sections n (p ∷ rest)) → First n p rest
+pub first_of : (n : ℕ) (p : Section × Statements) (rest : Sections) → IsTrue (are_sections n (p ∷ rest)) → First n p rest
 first_of n p rest h =
     let k = section_number p.0 in
     let a = parts (is_section p.0 && nat_le n k && is_body 4 p.1) (are_sections (1 + k) rest) h in
@@ -39,7 +39,7 @@ sections_have n (p ∷ rest) h =
     let f = first_of n p rest h in both (has_code p.1) (have_codes rest) (body_has 4 p.1 f.body) (sections_have (1 + section_number p.0) rest f.rest)
 
 -- there are 13
-number_below : (s : Section) → IsTrue (is_section s) → section_number s ≤ 12
+pub number_below : (s : Section) → IsTrue (is_section s) → section_number s ≤ 12
 number_below Main h = omega arith
 number_below Opening h = omega arith
 number_below (Upgrading l) h = let k = leb-true l 3 (parts (nat_le 1 l) (nat_le l 3) h).1 in omega (arith, k)
@@ -50,7 +50,7 @@ twice : (k : ℕ) → 2 ^ (1 + k) ≡ 2 * 2 ^ k
 twice k = ap (λ n. 2 ^ n) {x = 1 + k} {y = suc k} (omega arith) ∙ pow-succ' 2 k
 
 -- their bits are below the 13th
-bits_below : (n : ℕ) (sections : Sections) → n ≤ 13 → IsTrue (are_sections n sections) → section_bits sections + 2 ^ n ≤ 8192
+pub bits_below : (n : ℕ) (sections : Sections) → n ≤ 13 → IsTrue (are_sections n sections) → section_bits sections + 2 ^ n ≤ 8192
 bits_below n [] less h = let e = pow_mono less in omega (arith, e)
 bits_below n (p ∷ rest) less h =
     let f = first_of n p rest h in

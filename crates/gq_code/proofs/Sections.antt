@@ -29,7 +29,7 @@ limits_if : (b : Bool) (n bits : ℕ) (bytes : List ℕ) → (if b then decoded_
 limits_if true n bits bytes = through (number_at 4 Truncated bytes) _ _ _ (λ p. refl)
 limits_if false n bits bytes = refl
 
-limits_step : (n bits : ℕ) (bytes : List ℕ) → limits_at (suc n) bits bytes ≡ decoded_then (limit_at (bits % 2 == 1) bytes) (λ p. after_limits (p.0 ∷ []) (limits_at n (bits / 2) p.1))
+pub limits_step : (n bits : ℕ) (bytes : List ℕ) → limits_at (suc n) bits bytes ≡ decoded_then (limit_at (bits % 2 == 1) bytes) (λ p. after_limits (p.0 ∷ []) (limits_at n (bits / 2) p.1))
 limits_step n bits bytes = limits_if (bits % 2 == 1) n bits bytes
 
 -- the next value comes first
@@ -68,11 +68,11 @@ limits_end limits i bits left all h l eight inv =
 abbrev Sections : Type 0
 Sections = List (Section × Statements)
 
-section_given : (b : Bool) (s : Section) (order : List Section) (bits k : ℕ) (bytes : List ℕ) → b ≡ true → (if b then decoded_then (number_at 4 Truncated bytes) (λ p. decoded_then (cut p.0 Truncated p.1) (λ body. decoded_then (body_in 4 k body.0) (λ x. decoded_then (sections_at order (bits / 2) x.1 body.1) (λ sections. Ok ((s, x.0) ∷ sections))))) else sections_at order (bits / 2) k bytes) ≡ decoded_then (section_at k bytes) (λ x. after_sections ((s, x.0) ∷ []) (sections_at order (bits / 2) x.1.0 x.1.1))
+pub section_given : (b : Bool) (s : Section) (order : List Section) (bits k : ℕ) (bytes : List ℕ) → b ≡ true → (if b then decoded_then (number_at 4 Truncated bytes) (λ p. decoded_then (cut p.0 Truncated p.1) (λ body. decoded_then (body_in 4 k body.0) (λ x. decoded_then (sections_at order (bits / 2) x.1 body.1) (λ sections. Ok ((s, x.0) ∷ sections))))) else sections_at order (bits / 2) k bytes) ≡ decoded_then (section_at k bytes) (λ x. after_sections ((s, x.0) ∷ []) (sections_at order (bits / 2) x.1.0 x.1.1))
 section_given true s order bits k bytes e = through (number_at 4 Truncated bytes) _ _ _ (λ p. through (cut p.0 Truncated p.1) _ _ _ (λ body. through (body_in 4 k body.0) _ _ _ (λ x. refl)))
 section_given false s order bits k bytes e = cc
 
-section_absent : (b : Bool) (s : Section) (order : List Section) (bits k : ℕ) (bytes : List ℕ) → b ≡ false → (if b then decoded_then (number_at 4 Truncated bytes) (λ p. decoded_then (cut p.0 Truncated p.1) (λ body. decoded_then (body_in 4 k body.0) (λ x. decoded_then (sections_at order (bits / 2) x.1 body.1) (λ sections. Ok ((s, x.0) ∷ sections))))) else sections_at order (bits / 2) k bytes) ≡ sections_at order (bits / 2) k bytes
+pub section_absent : (b : Bool) (s : Section) (order : List Section) (bits k : ℕ) (bytes : List ℕ) → b ≡ false → (if b then decoded_then (number_at 4 Truncated bytes) (λ p. decoded_then (cut p.0 Truncated p.1) (λ body. decoded_then (body_in 4 k body.0) (λ x. decoded_then (sections_at order (bits / 2) x.1 body.1) (λ sections. Ok ((s, x.0) ∷ sections))))) else sections_at order (bits / 2) k bytes) ≡ sections_at order (bits / 2) k bytes
 section_absent true s order bits k bytes e = cc
 section_absent false s order bits k bytes e = refl
 
@@ -107,21 +107,19 @@ sections_stop (Fault fault) made order i bits k left all h b inv e =
 
 -- WHOLE PROGRAMS
 
-abbrev program : List ℕ → Sections → Program
+abbrev pub program : List ℕ → Sections → Program
 program limits sections = record { sections = sections; locals = limits }
 
 few : (n : ℕ) → n < 8192 → nat_lt n 8192 ≡ true
 few n h = lt-ltb n 8192 h
 
 -- what stands before the sections is read
-decoded_sections : (bytes first second third limits : List ℕ) (bits present : ℕ) → number_at 1 Truncated bytes ≡ Ok (bits, first) → limits_at 8 bits first ≡ Ok (limits, second) → number_at 2 Truncated second ≡ Ok (present, third) → present < 8192 → decoded bytes ≡ decoded_then (sections_at all_sections present 0 third) (λ sections. Ok (program limits sections))
+pub decoded_sections : (bytes first second third limits : List ℕ) (bits present : ℕ) → number_at 1 Truncated bytes ≡ Ok (bits, first) → limits_at 8 bits first ≡ Ok (limits, second) → number_at 2 Truncated second ≡ Ok (present, third) → present < 8192 → decoded bytes ≡ decoded_then (sections_at all_sections present 0 third) (λ sections. Ok (program limits sections))
 decoded_sections bytes first second third limits bits present a b c h =
     then_along _ a ∙ (then_along _ b ∙ (then_along _ c ∙ then_along _ (ap (λ t. checked t BadOperand (present, third)) (few present h))))
 
-pub decoded_ok : (bytes first second third limits : List ℕ) (bits present : ℕ) (sections : Sections) (p : Program) → number_at 1 Truncated bytes ≡ Ok (bits, first) → limits_at 8 bits first ≡ Ok (limits, second) → number_at 2 Truncated second ≡ Ok (present, third) → present < 8192 → sections_at all_sections present 0 third ≡ Ok sections → p.sections ≡ sections → p.locals ≡ limits → decoded bytes ≡ Ok p
-decoded_ok bytes first second third limits bits present sections p a b c h e s l =
-    decoded_sections bytes first second third limits bits present a b c h
-    ∙ (then_along _ e ∙ (ap (λ s. Ok (program limits s)) (sym s) ∙ ap (λ l. Ok (program l p.sections)) (sym l)))
+pub decoded_ok : (bytes first second third limits : List ℕ) (bits present : ℕ) (sections : Sections) → number_at 1 Truncated bytes ≡ Ok (bits, first) → limits_at 8 bits first ≡ Ok (limits, second) → number_at 2 Truncated second ≡ Ok (present, third) → present < 8192 → sections_at all_sections present 0 third ≡ Ok sections → decoded bytes ≡ Ok (program limits sections)
+decoded_ok bytes first second third limits bits present sections a b c h e = decoded_sections bytes first second third limits bits present a b c h ∙ then_along _ e
 
 pub decoded_err : (bytes first second third limits : List ℕ) (bits present : ℕ) (error : DecodeError) → number_at 1 Truncated bytes ≡ Ok (bits, first) → limits_at 8 bits first ≡ Ok (limits, second) → number_at 2 Truncated second ≡ Ok (present, third) → present < 8192 → Fails error (sections_at all_sections present 0 third) → IsDecoded (Err error) (decoded bytes)
 decoded_err bytes first second third limits bits present (Memory error) a b c h e = tt

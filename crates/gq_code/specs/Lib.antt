@@ -4,3 +4,5 @@ pub mod Spelling
 pub mod Codes
 pub mod Decoding
 pub mod Bodies
+pub mod Laws
+pub mod Interfaces

@@ -1,13 +1,13 @@
-// Whether a tree is a program.
-ghost use Rattle.std.specs.Prelude.{◌≡◌, ◌==◌, length, true, sum_by, nat_le, ◌&&◌, ◌∷◌, []};
+// What a program's sections have to be.
+ghost use Rattle.std.specs.Prelude.{◌≡◌, ◌==◌, length, sum_by, nat_le, ◌&&◌, ◌∷◌, []};
 ghost use Rattle.gq_code.specs.Trees.{tree_of};
 ghost use Rattle.gq_model.specs.Program.{size};
 ghost use Rattle.gq_model.specs.Lists.{all_of, between};
 ghost use Rattle.gq_model.specs.Operands.{greatest_number, is_slot, is_slot_or_object, in_range, operands};
-ghost use Rattle.gq_model.specs.Code.{is_program, is_section, is_body, section_number, are_sections, greatest_statements};
+ghost use Rattle.gq_model.specs.Code.{is_section, is_body, section_number, are_sections, greatest_statements};
 ghost use Rattle.gq_code.specs.Codes.{less};
 
-use crate::program::{Body, LOCALS, Program, Statement};
+use crate::program::{Body, LOCALS, Statement};
 use gq_model::letters::{is_name, is_said};
 use gq_model::program::{Instruction, Place, Section};
 
@@ -160,7 +160,7 @@ fn section_number(section: Section) -> u32
 }
 
 /// Whether the sections stand in their order, each once, with at most four blocks in one another.
-fn are_sections(sections: &[(Section, Body)]) -> bool
+pub(crate) fn are_sections(sections: &[(Section, Body)]) -> bool
     ensures { result ≡ are_sections 0 sections.now }
 {
     let mut next = 0;
@@ -177,7 +177,7 @@ fn are_sections(sections: &[(Section, Body)]) -> bool
 }
 
 /// Whether the sections have at most 4096 statements.
-fn are_few(sections: &[(Section, Body)]) -> bool
+pub(crate) fn are_few(sections: &[(Section, Body)]) -> bool
     ensures { result ≡ nat_le (sum_by (λ s. size s.1) sections.now) greatest_statements }
 {
     let mut left = GREATEST_STATEMENTS;
@@ -190,48 +190,46 @@ fn are_few(sections: &[(Section, Body)]) -> bool
     true
 }
 
-/// Whether each of these, of which there are eight, is a limit of a local: any number of 32 bits is.
-fn are_limits(limits: &[u32]) -> bool
+/// Whether these are the greatest values of eight locals: any numbers of 32 bits are.
+pub(crate) fn are_limits(limits: &[u32]) -> bool
     ensures { result ≡ (length limits.now == 8 && all_of (between 0 greatest_number) limits.now) }
 {
     for limit in limits {
-        if *limit > u32::MAX {
-            return false;
-        }
+        let _limit = *limit;
     }
     limits.len() == LOCALS
-}
-
-/// Whether a tree is a program, and so has a code: its sections stand in their order, each once, its statements are at most 4096
-/// and at most four deep, and each operand is in its range.
-pub fn is_program(program: &Program) -> bool
-    ensures { result ≡ is_program program.now }
-{
-    let sections = program.sections();
-    are_limits(program.locals()) && are_sections(sections) && are_few(sections)
 }
 
 #[cfg(test)]
 mod tests {
     use super::*;
+    use crate::program::Program;
     use std::alloc::{AllocError, Global};
     use std::test::Fail;
 
-    /// A program with this statement in `main`.
-    fn with(alloc: Global, statement: Statement) -> Result<Program, AllocError> {
+    /// No local has a limit.
+    const NO_LIMITS: [u32; 8] = [u32::MAX; 8];
+
+    /// Whether these sections are a program's.
+    fn is_program(sections: Vec<(Section, Body)>) -> bool {
+        Program::new(sections, NO_LIMITS).is_some()
+    }
+
+    /// Whether there is a program with this statement in `main`.
+    fn is_with(alloc: Global, statement: Statement) -> Result<bool, AllocError> {
         let mut main = Body::new(alloc);
         main.push(statement)?;
-        Ok(Program::new(vec![in alloc; (Section::Main, main)]?, [u32::MAX; 8]))
+        Ok(is_program(vec![in alloc; (Section::Main, main)]?))
     }
 
     #[test]
     fn tests_operands(rt: HostRuntime) -> Result<(), Fail> {
         let alloc = rt.alloc();
         let free = |slot| Statement::Plain(Instruction::Free(Place::Own(slot)));
-        assert!(rt; is_program(&with(alloc, free(63))?));
-        assert!(rt; !is_program(&with(alloc, free(64))?));
+        assert!(rt; is_with(alloc, free(63))?);
+        assert!(rt; !is_with(alloc, free(64))?);
         let space = Instruction::Make(gq_model::program::Form::Space, Place::Own(0), 0);
-        assert!(rt; !is_program(&with(alloc, Statement::Plain(space))?));
+        assert!(rt; !is_with(alloc, Statement::Plain(space))?);
         Ok(())
     }
 
@@ -248,23 +246,21 @@ mod tests {
         body.push(inner)?;
         let mut outer = Body::new(alloc);
         outer.push(Statement::Loop(1, body))?;
-        let deep = Program::new(vec![in alloc; (Section::Main, outer)]?, [u32::MAX; 8]);
-        assert!(rt; !is_program(&deep));
-        assert!(rt; is_program(&with(alloc, Statement::Loop(1, Body::new(alloc)))?));
-        assert!(rt; !is_program(&with(alloc, Statement::Loop(0, Body::new(alloc)))?));
+        assert!(rt; !is_program(vec![in alloc; (Section::Main, outer)]?));
+        assert!(rt; is_with(alloc, Statement::Loop(1, Body::new(alloc)))?);
+        assert!(rt; !is_with(alloc, Statement::Loop(0, Body::new(alloc)))?);
         Ok(())
     }
 
     #[test]
     fn tests_the_order_of_sections(rt: HostRuntime) -> Result<(), Fail> {
         let alloc = rt.alloc();
-        let none = [u32::MAX; 8];
         let first = (Section::Main, Body::new(alloc));
         let second = (Section::Opening, Body::new(alloc));
-        assert!(rt; is_program(&Program::new(vec![in alloc; first, second]?, none)));
+        assert!(rt; is_program(vec![in alloc; first, second]?));
         let first = (Section::Main, Body::new(alloc));
         let second = (Section::Opening, Body::new(alloc));
-        assert!(rt; !is_program(&Program::new(vec![in alloc; second, first]?, none)));
+        assert!(rt; !is_program(vec![in alloc; second, first]?));
         Ok(())
     }
 }

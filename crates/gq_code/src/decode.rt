@@ -291,13 +291,12 @@ pub fn decode(alloc: Global, bytes: &[u8]) -> Result<Program, DecodeError>
         return Err(DecodeError::Fault(CodeFault::BadOperand));
     }
     let sections = sections(alloc, &SECTIONS, present, rest)?;
-    Ok(Program::new(sections, limits))
+    Ok(Program::from_parts(sections, limits))
 }
 
 #[cfg(test)]
 mod tests {
     use super::*;
-    use crate::check::is_program;
     use crate::program_code::encode;
     use std::test::Fail;
 
@@ -315,8 +314,8 @@ mod tests {
     /// The code of the program that these bytes spell.
     fn again(alloc: Global, bytes: &[u8]) -> Result<Vec<u8>, Fail> {
         match decode(alloc, bytes) {
-            Ok(program) if is_program(&program) => Ok(encode(alloc, &program)?),
-            _ => Err(Fail::from("a program")),
+            Ok(program) => Ok(encode(alloc, &program)?),
+            Err(_) => Err(Fail::from("a program")),
         }
     }
 

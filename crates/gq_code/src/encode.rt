@@ -3,7 +3,7 @@ ghost use Rattle.std.specs.Prelude.{◌≡◌, ℕ, ◌+◌, ◌<◌, OnOk, IfOk
 ghost use Rattle.gq_model.specs.Program.{spelled};
 ghost use Rattle.gq_model.specs.Operands.{opcode, operator_code, slot_code, is_slot, is_slot_or_object, operands, in_range, operands_code, instruction_code};
 ghost use Rattle.gq_model.specs.Lists.{all_of};
-ghost use Rattle.gq_model.specs.Code.{body_code, body_length, is_body};
+ghost use Rattle.gq_model.specs.Code.{body_code, body_length};
 ghost use Rattle.gq_code.specs.Trees.{tree_of};
 ghost use Rattle.gq_code.specs.Codes.{has_code};
 
@@ -146,22 +146,6 @@ fn write_operands(out: &mut Vec<u8>, instruction: &Instruction) -> Result<(), Al
     }
 }
 
-/// The code of a list of statements in which no `if` and no `loop` stands and every operand is in its range. Refused only
-/// for want of host memory.
-pub fn encode_plain(alloc: Global, body: &Body) -> Result<Vec<u8>, AllocError>
-    requires { IsTrue (is_body 0 body.now) }
-    ensures { IfOk result (λ code. code.items ≡ body_code body.now) }
-{
-    let mut code = Vec::new(alloc);
-    for statement in body.statements() {
-        match statement {
-            Statement::Plain(instruction) => write_instruction(&mut code, instruction)?,
-            Statement::If(_, _) | Statement::Loop(_, _) => unreachable!(),
-        }
-    }
-    Ok(code)
-}
-
 /// Puts the code of a statement at the end: an `if` has the lengths of both arms before them, a loop its count and the length
 /// of its body.
 #[cycle(bodies)]
@@ -196,9 +180,9 @@ fn write_statement(
     }
 }
 
-/// The code of a list of statements.
+/// The code of a list of statements, in which every operand is in its range. Refused only for want of host memory.
 #[cycle(bodies)]
-pub(crate) fn encode_body(alloc: Global, body: &Body) -> Result<Vec<u8>, AllocError>
+pub fn encode_body(alloc: Global, body: &Body) -> Result<Vec<u8>, AllocError>
     requires { IsTrue (has_code body.now) }
     ensures { IfOk result (λ code. code.items ≡ body_code body.now) }
 {

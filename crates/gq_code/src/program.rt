@@ -1,8 +1,10 @@
 // Programs as trees.
-ghost use Rattle.std.specs.Prelude.{◌≡◌, OnOk, OnErr, IfOk, length, ◌++◌, ◌∷◌, []};
+ghost use Rattle.std.specs.Prelude.{◌≡◌, OnOk, OnErr, IfSome, is_some, ◌∷◌, []};
 ghost use Rattle.gq_model.specs.Program.{Done, ◌then◌};
+ghost use Rattle.gq_model.specs.Code.{is_program, IsProgram};
 ghost use Rattle.gq_code.specs.Trees.{tree_of};
 
+use crate::check::{are_few, are_limits, are_sections};
 use gq_model::program::{Instruction, Section};
 use std::alloc::{AllocError, Global};
 use std::marker::Model;
@@ -77,7 +79,8 @@ impl Body {
 /// The number of locals of a section.
 pub const LOCALS: usize = 8;
 
-/// A program: the sections that are there, in their order, and the greatest values of the eight locals.
+/// A program: the sections that are there, in their order, and the greatest values of the eight locals. Its statements are at
+/// most 4096 and at most four deep, and each operand is in its range; so each program has a code.
 #[derive(Drop)]
 pub struct Program {
     sections: Vec<(Section, Body)>,
@@ -86,6 +89,7 @@ pub struct Program {
 
 impl Model for Program {
     ghost use Rattle.gq_model.specs.Program.{Program};
+    ghost use Rattle.gq_model.specs.Code.{IsProgram};
     ghost use Rattle.gq_model.specs.Stored.{statements_code};
     ghost use Rattle.std.specs.Coded.{codes};
 
@@ -94,15 +98,39 @@ impl Model for Program {
     ghost coded = { Prim.hlevel (codes, statements_code (Prim.hlevel codes)) };
 
     ghost view = { λ p. record { sections = p.sections.items; locals = p.locals } };
+
+    ghost invariant = { λ p. IsProgram (record { sections = p.sections.items; locals = p.locals }) };
 }
 
 impl Program {
-    /// A program of these sections, which stand in their order, with these greatest values of the locals.
-    pub fn new(sections: Vec<(Section, Body)>, locals: [u32; LOCALS]) -> Program
-        ensures sections { result.sections ≡ sections.items }
-        ensures locals { result.locals ≡ locals }
+    /// The program of these sections, with these greatest values of the locals, if it is one: where the sections stand in their
+    /// order, each once, the statements are at most 4096 and at most four deep, and each operand is in its range. It goes over
+    /// the statements once.
+    pub fn new(sections: Vec<(Section, Body)>, locals: [u32; LOCALS]) -> Option<Program>
+        ensures made { IfSome result (λ p. p ≡ record { sections = sections.items; locals = locals }) }
+        ensures when { is_some result ≡ is_program (record { sections = sections.items; locals = locals }) }
+    {
+        if are_limits(&locals) && are_sections(&sections) && are_few(&sections) {
+            Some(Program::from_parts(sections, locals))
+        } else {
+            None
+        }
+    }
+
+    /// The program of these sections, with these greatest values of the locals, which is known to be one.
+    pub fn from_parts(sections: Vec<(Section, Body)>, locals: [u32; LOCALS]) -> Program
+        requires { IsProgram (record { sections = sections.items; locals = locals }) }
+        ensures { result ≡ record { sections = sections.items; locals = locals } }
     {
         Program { sections, locals }
+    }
+
+    /// What every program is: its sections stand in their order, each once, its statements are at most 4096 and at most four deep,
+    /// and each operand is in its range. It does nothing.
+    pub fn laws(&self)
+        ensures { IsProgram self.now }
+    {
+        let _locals = self.locals;
     }
 
     /// The sections that are there, in their order.

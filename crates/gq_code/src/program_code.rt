@@ -1,6 +1,6 @@
 // Whole programs as bytes.
 ghost use Rattle.std.specs.Prelude.{◌≡◌, ◌≤◌, ◌<◌, ◌^◌, ◌++◌, OnOk, IfOk, IsTrue, length};
-ghost use Rattle.gq_model.specs.Code.{IsProgram, is_section, are_sections, section_number, section_bits, local_bits, limits_code, sections_code, code_of};
+ghost use Rattle.gq_model.specs.Code.{is_section, are_sections, section_number, section_bits, local_bits, limits_code, sections_code, code_of};
 ghost use Rattle.gq_code.specs.Codes.{have_codes};
 
 use crate::encode::{encode_body, write_number};
@@ -90,9 +90,9 @@ fn write_sections(
 /// The code of a program: the limits of its locals, which sections are there, and each section's statements. Refused only for
 /// want of host memory.
 pub fn encode(alloc: Global, program: &Program) -> Result<Vec<u8>, AllocError>
-    requires { IsProgram program.now }
     ensures { IfOk result (λ code. code.items ≡ code_of program.now) }
 {
+    program.laws();
     let mut code = Vec::new(alloc);
     let locals = program.locals();
     let sections = program.sections();
@@ -106,7 +106,6 @@ pub fn encode(alloc: Global, program: &Program) -> Result<Vec<u8>, AllocError>
 #[cfg(test)]
 mod tests {
     use super::*;
-    use crate::check::is_program;
     use crate::program::Statement;
     use gq_model::program::{Instruction, Text};
     use std::alloc::Global;
@@ -131,10 +130,8 @@ mod tests {
 
     /// The code of a program.
     fn code_of(alloc: Global, main: Body, locals: [u32; 8]) -> Result<Vec<u8>, Fail> {
-        let program = Program::new(vec![in alloc; (Section::Main, main)]?, locals);
-        if !is_program(&program) {
-            return Err(Fail::from("a program"));
-        }
+        let sections = vec![in alloc; (Section::Main, main)]?;
+        let program = Program::new(sections, locals).ok_or("a program")?;
         Ok(encode(alloc, &program)?)
     }
 

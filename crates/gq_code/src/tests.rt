@@ -1,8 +1,8 @@
 // Bodies, programs, their code, and the table of statements.
 ghost use Rattle.std.specs.Prelude.{IsTrue, IfOk};
-ghost use Rattle.gq_model.specs.Code.{is_body};
+ghost use Rattle.gq_code.specs.Codes.{has_code};
 
-use crate::encode::encode_plain;
+use crate::encode::encode_body;
 use crate::program::{Body, Program, Statement};
 use crate::spelling::{
     SHAPES, Shape, WithAmount, WithBytes, WithNumber, shape_of_opcode, shape_of_word,
@@ -13,7 +13,7 @@ use std::test::Fail;
 
 // `say "hello"`.
 fn hello(alloc: Global) -> Result<Body, Fail>
-    ensures { IfOk result (λ body. IsTrue (is_body 0 body)) }
+    ensures { IfOk result (λ body. IsTrue (has_code body)) }
 {
     let mut body = Body::new(alloc);
     let hello = Text::new(b"hello").ok_or("a text")?;
@@ -23,7 +23,7 @@ fn hello(alloc: Global) -> Result<Body, Fail>
 
 // `pool s3 16 1024`, `index 3`, `load obj`, `open o5 echo 8192`.
 fn operands(alloc: Global) -> Result<Body, Fail>
-    ensures { IfOk result (λ body. IsTrue (is_body 0 body)) }
+    ensures { IfOk result (λ body. IsTrue (has_code body)) }
 {
     let mut body = Body::new(alloc);
     body.push(Statement::Plain(Instruction::MakePool(Place::Shared(3), 16, 1024)))?;
@@ -36,14 +36,14 @@ fn operands(alloc: Global) -> Result<Body, Fail>
 
 #[test]
 fn encodes_a_text(rt: HostRuntime) -> Result<(), Fail> {
-    let code = encode_plain(rt.alloc(), &hello(rt.alloc())?)?;
+    let code = encode_body(rt.alloc(), &hello(rt.alloc())?)?;
     assert_eq!(rt; code.as_slice(), b"\x01\x05hello".as_slice());
     Ok(())
 }
 
 #[test]
 fn encodes_operands(rt: HostRuntime) -> Result<(), Fail> {
-    let code = encode_plain(rt.alloc(), &operands(rt.alloc())?)?;
+    let code = encode_body(rt.alloc(), &operands(rt.alloc())?)?;
     assert_eq!(rt;
         code.as_slice(),
         b"\x23\x43\x10\x00\x00\x04\x10\x03\x25\x48\x30\x05\x04echo\x00\x20\x00\x00".as_slice()
@@ -76,7 +76,7 @@ fn keeps_sections_and_locals(rt: HostRuntime) -> Result<(), Fail> {
         (Section::Calling(1), operands(rt.alloc())?),
     ]?;
     let locals = [0, 1, 2, 3, 4, 5, 6, u32::MAX];
-    let program = Program::new(sections, locals);
+    let program = Program::new(sections, locals).ok_or("a program")?;
     assert_eq!(rt; program.sections().len(), 2);
     assert_eq!(rt; program.sections()[0].0, Section::Main);
     assert_eq!(rt; program.sections()[1].0, Section::Calling(1));

@@ -14,7 +14,7 @@ ghost use Rattle.gq_machine.specs.Plain.{is_plain_program, are_plain_programs, f
 use crate::event::Event;
 use crate::leaf::{LINE, Leaf};
 use arrayvec::ArrayVec;
-use gq_code::encode::encode_plain;
+use gq_code::encode::encode_body;
 use gq_code::program::Program;
 use gq_init::node::NodeNo;
 use gq_init::scenario::{LeafNo, Scenario};
@@ -218,7 +218,7 @@ fn first_leaf(alloc: Global, program: &Program) -> Result<Leaf, AllocError>
     ensures { IfOk result (λ leaf. leaf ≡ first_of program.now) }
 {
     let (_, body) = &program.sections()[0];
-    let code = encode_plain(alloc, body)?;
+    let code = encode_body(alloc, body)?;
     Ok(Leaf::new(code))
 }
 

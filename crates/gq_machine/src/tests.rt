@@ -26,7 +26,8 @@ fn greeting(alloc: Global) -> Result<Program, Fail>
     let hi = Text::new(b"hi").ok_or("a text")?;
     let mut body = Body::new(alloc);
     body.push(Statement::Plain(Instruction::Say(hi)))?;
-    Ok(Program::new(vec![in alloc; (Section::Main, body)]?, [u32::MAX; 8]))
+    let sections = vec![in alloc; (Section::Main, body)]?;
+    Ok(Program::new(sections, [u32::MAX; 8]).ok_or("a program")?)
 }
 
 // The machine at the start of the scenario, where its one leaf has that program.

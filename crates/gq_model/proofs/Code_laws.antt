@@ -6,7 +6,7 @@ use Rattle.gq_model.specs.Lists.{between, all_of}
 use Rattle.gq_model.specs.Decode.{CodeFault, BadNesting, BadOperand, Decoded, decoded_then, first_onto, cut, number_at, checked, text_at}
 
 -- as many bytes as there are before others
-cut-append : (fault : CodeFault) (xs rest : List ℕ) → cut (length xs) fault (xs ++ rest) ≡ Ok (xs, rest)
+pub cut-append : (fault : CodeFault) (xs rest : List ℕ) → cut (length xs) fault (xs ++ rest) ≡ Ok (xs, rest)
 cut-append fault [] rest = refl
 cut-append fault (x ∷ xs) rest = ap (first_onto x) (cut-append fault xs rest)
 

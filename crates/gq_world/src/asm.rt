@@ -74,9 +74,6 @@ fn leaf_line<'a>(alloc: Global, scenario: &Scenario, name: &'a str) -> Result<St
         return Err(AsmFault::NoComponent(name));
     };
     let program = read_program(alloc, scenario, leaf)?;
-    if !gq_code::check::is_program(&program) {
-        return Err(AsmFault::Memory);
-    }
     let code = encode(alloc, &program)?;
     Ok(hexadecimal_line(alloc, code.as_slice())?)
 }

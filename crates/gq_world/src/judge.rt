@@ -217,7 +217,7 @@ pub(crate) fn steps_of(program: &Program) -> u64
 mod tests {
     use super::*;
     use gq_code::Text;
-    use std::alloc::{AllocError, Global};
+    use std::alloc::Global;
     use std::test::Fail;
 
     /// A program with these statements in one section.
@@ -225,16 +225,17 @@ mod tests {
         alloc: Global,
         section: Section,
         statements: Vec<Statement>,
-    ) -> Result<Program, AllocError> {
+    ) -> Result<Program, Fail> {
         let mut body = Body::new(alloc);
         for statement in statements {
             body.push(statement)?;
         }
-        Ok(Program::new(vec![in alloc; (section, body)]?, [u32::MAX; 8]))
+        let sections = vec![in alloc; (section, body)]?;
+        Ok(Program::new(sections, [u32::MAX; 8]).ok_or("a program")?)
     }
 
     /// A program with these instructions in `main`.
-    fn in_main_alone(alloc: Global, instructions: Vec<Instruction>) -> Result<Program, AllocError> {
+    fn in_main_alone(alloc: Global, instructions: Vec<Instruction>) -> Result<Program, Fail> {
         let mut statements = Vec::new(alloc);
         for instruction in instructions {
             statements.push(Statement::Plain(instruction))?;

@@ -1,6 +1,14 @@
+use Rattle.std.proofs.Common.{arith}
 use Rattle.std.proofs.lemmas.Result.{err_from_is_err_and}
-use Rattle.gq_code.proofs.Sections.{decoded_ok, decoded_err}
+use Rattle.gq_model.proofs.Decoded_programs.{decoded_is}
+use Rattle.gq_code.proofs.Ranges.{all_between}
+use Rattle.gq_code.proofs.Sections.{program, decoded_ok, decoded_err}
 use Rattle.gq_code.proofs.decode.decode.Goals as goal
+
+pub from_parts-requires : goal.from_parts-requires
+from_parts-requires c =
+    (decoded_is c.args.bytes.now (program c.in_ok-limits.limits c.in_ok-sections.sections.items) (all_between 255 c.args.bytes.now (λ k. let h = c.type_inv.bytes k in omega (arith, h)))
+    (decoded_ok c.args.bytes.now c.in_ok-bits.rest.now c.in_ok-limits.rest.now c.in_ok-present.rest.now c.in_ok-limits.limits c.in_ok-bits.bits c.in_ok-present.present c.in_ok-sections.sections.items c.in_ok-bits.ensures.number c.in_ok-limits.ensures c.in_ok-present.ensures.number c.if-present.false c.in_ok-sections.ensures)).program
 
 pub returns-in_err-sections : goal.returns-in_err-sections
 returns-in_err-sections c =
@@ -9,4 +17,4 @@ returns-in_err-sections c =
 
 pub returns : goal.returns
 returns c =
-    decoded_ok c.args.bytes.now c.in_ok-bits.rest.now c.in_ok-limits.rest.now c.in_ok-present.rest.now c.in_ok-limits.limits c.in_ok-bits.bits c.in_ok-present.present c.in_ok-sections.sections.items c.new.result c.in_ok-bits.ensures.number c.in_ok-limits.ensures c.in_ok-present.ensures.number c.if-present.false c.in_ok-sections.ensures c.new.ensures.sections c.new.ensures.locals
+    rw c.from_parts.ensures (decoded_ok c.args.bytes.now c.in_ok-bits.rest.now c.in_ok-limits.rest.now c.in_ok-present.rest.now c.in_ok-limits.limits c.in_ok-bits.bits c.in_ok-present.present c.in_ok-sections.sections.items c.in_ok-bits.ensures.number c.in_ok-limits.ensures c.in_ok-present.ensures.number c.if-present.false c.in_ok-sections.ensures)
