@@ -1,9 +1,10 @@
 #!/usr/bin/env python3
 """Refuses each growth of host memory of a run in turn: run_refused_growths.py PROGRAM
 
-The run is that of each example, with paths and in the stored form. For each growth that the run asks for, one after the
+The runs are that of each example, with paths and in the stored form, and those of a few cases: a program given as code, and the
+code of a leaf. For each growth that the run asks for, one after the
 other, the program is run with that growth refused. It then has to write nothing to standard output, to tell
-`trade: host memory refused`, and to end with status 3. With none refused it has to write the example's text.
+`trade: host memory refused`, and to end with status 3. With none refused it has to write the text of the example or the case.
 
 A program that the C compiler `cc` builds (tests/refuse_growth.c) refuses the growths. The last line is 'N passed, M failed',
 and the exit status is 1 where a run failed.
@@ -16,6 +17,8 @@ import tempfile
 
 TOP = pathlib.Path(__file__).resolve().parent.parent
 EXAMPLES = TOP / "examples"
+CASES = TOP / "tests" / "cases"
+SOME_CASES = "code-run", "asm-hello", "asm-code-in-capitals"
 SOURCE = TOP / "tests" / "refuse_growth.c"
 SECONDS = 120
 REFUSED = b"", b"trade: host memory refused\n", 3
@@ -45,6 +48,11 @@ def runs():
         text = scenario.with_suffix(".out").read_bytes()
         yield f"{scenario.name} by paths", ["run", str(scenario), str(turns)], b"", text
         yield f"{scenario.name} stored", [], scenario.read_bytes() + b"%%\n" + turns.read_bytes(), text
+    for name in SOME_CASES:
+        case = CASES / name
+        command, *more = (case / "command").read_text().split()
+        files = [str(case / "scenario.toml")] + ([str(case / "turns")] if command == "run" else [])
+        yield name, [command, *files, *more], b"", (case / "stdout").read_bytes()
 
 
 def main(words):

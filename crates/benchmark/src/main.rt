@@ -11,11 +11,10 @@ use gq_code::program_code::encode;
 use gq_init::fault::ScenarioError;
 use gq_init::reader::read_scenario;
 use std::alloc::{AllocError, Global};
-use std::env;
-use std::io;
 use std::io::{Read, Write};
 use std::process::ExitCode;
 use std::time::Instant;
+use std::{env, io};
 use thiserror::Error;
 
 /// Why nothing was measured.

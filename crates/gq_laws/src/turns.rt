@@ -10,5 +10,4 @@ pub fn turn_laws()
     ensures idle { (system : System) (w : World) (x : ℕ) → StandsStill system w x }
     ensures leaves { (system : System) (w : World) (x : ℕ) → KeepsLeaves system w x }
     ensures counted { (system : System) (w : World) (x : ℕ) → CountsSteps system w x }
-{
-}
+{}

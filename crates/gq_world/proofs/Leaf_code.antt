@@ -5,26 +5,24 @@ use Rattle.std.proofs.lemmas.Bool.{and_parts, cases_lt, eqb-true}
 use Rattle.std.proofs.Math.Facts.{Fits-lt-pow}
 use Rattle.hex.specs.Hex.{lower_digits, encode_with, encode_lower}
 use Rattle.gq_model.specs.Program.{Program, text_eq}
-use Rattle.gq_model.specs.Scenario.{LeafNode, Component, Scenario, components}
+use Rattle.gq_model.specs.Scenario.{Component, Scenario, components}
 use Rattle.gq_model.specs.Routes.{numbered}
 use Rattle.gq_model.specs.Code.{code_of, hex_digit, hex_of}
 use Rattle.gq_init.specs.Later.{is_later_text}
-use Rattle.gq_init.specs.Reading.{ReadFault, read_text, scenario_in}
+use Rattle.gq_init.specs.Reading.{ReadFault}
 use Rattle.gq_init.specs.Stage.{stage_scenario}
 use Rattle.gq_init.specs.Words.{scenario_fault_text, IsRead}
 use Rattle.gq_init.specs.declared.fault.ScenarioFault.{ScenarioFault}
 use Rattle.gq_init.specs.declared.fault.ScenarioError.TheVariants as scenario_error
 use Rattle.gq_init.proofs.Stages.{scenario_same, whole_scenario}
-use Rattle.gq_world.specs.declared.load.LoadFault.{LoadFault}
-use Rattle.gq_world.specs.declared.load.LoadFault.TheVariants as load_fault
 use Rattle.gq_world.specs.declared.load.LoadError.{LoadError}
 use Rattle.gq_world.specs.declared.load.LoadError.TheVariants as error
 use Rattle.gq_world.specs.Asm.{stage_asm_written, IsAsmFaultOf, asm_fault_of}
 use Rattle.gq_world.specs.Faults.{load_fault_text, GivesFault, IsReadFrom}
 use Rattle.gq_world.specs.Load as load
 use Rattle.gq_world.specs.Loading as stage
-use Rattle.gq_world.specs.Whole.{leaf_named, code_line, code_of_leaf, asm_from, asm_written}
-use Rattle.gq_world.specs.Written.{Written, refused_with}
+use Rattle.gq_world.specs.Whole.{leaf_named, code_line, asm_from, asm_written}
+use Rattle.gq_world.specs.Written.{refused_with}
 use Rattle.gq_world.proofs.Stage_laws.{TellSame, tell_none, source_same}
 
 -- THE LEAF

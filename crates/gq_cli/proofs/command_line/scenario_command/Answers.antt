@@ -1,8 +1,7 @@
-use Rattle.std.proofs.Common.{ap, ap₂, ◌≡◌, ◌∙◌, codes, Bool, false, ◌||◌, refl}
+use Rattle.std.proofs.Common.{ap, ap₂, ◌≡◌, ◌∙◌, Bool, false, ◌||◌, refl}
 use Rattle.std.proofs.lemmas.Result.{IfOk-weaker}
 use Rattle.clap.specs.Words.{app_of, new_app, with_rule}
 use Rattle.clap.specs.Simple.{app_of_fields}
-use Rattle.gq_cli.specs.CommandLine.{two_words}
 use Rattle.gq_cli.proofs.command_line.scenario_command.Goals as goal
 
 pub returns-clause-line : goal.returns-clause-line

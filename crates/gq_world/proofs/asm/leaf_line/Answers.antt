@@ -1,12 +1,10 @@
 use Rattle.std.proofs.Common.{◌≡◌, [], ◌∷◌, ◌++◌, Some, None, sym, ◌∙◌, ap, subst}
-use Rattle.std.specs.Prelude.{slice_get, IfSome}
 use Rattle.std.proofs.lemmas.Result.{err_from_is_err_and}
 use Rattle.gq_model.specs.Code.{hex_of}
 use Rattle.gq_model.specs.Routes.{numbered}
-use Rattle.gq_model.specs.Scenario.{Component, components}
+use Rattle.gq_model.specs.Scenario.{components}
 use Rattle.gq_world.specs.Faults.{GivesFault, IsReadFrom}
 use Rattle.gq_world.specs.Loading.{source_fault}
-use Rattle.gq_world.specs.declared.load.LoadError.{LoadError}
 use Rattle.gq_world.proofs.Leaf_code.{named_below, named, no_leaf, refused_leaf, read_leaf}
 use Rattle.gq_world.proofs.asm.leaf_line.Goals as goal
 
