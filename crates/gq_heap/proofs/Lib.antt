@@ -1,0 +1,14 @@
+pub mod Sizes
+pub mod Chains
+pub mod Bins
+pub mod Frames
+pub mod ClassLaws
+pub mod Lists
+pub mod Parts
+pub mod Charges
+pub mod Rises
+pub mod Heaps
+pub mod Larges
+pub mod Laws
+pub mod Calls
+pub mod Callers

@@ -1,0 +1,26 @@
+use Rattle.std.proofs.Common.{◌≡◌, List, length, length-set, set, refl, ap, ◌∙◌, rules}
+use Rattle.gq_heap.specs.Classes.{index_of}
+use Rattle.gq_heap.proofs.ClassLaws.{sizes, index_below}
+use Rattle.gq_heap.proofs.Heaps.{has_small, frees_small}
+use Rattle.gq_heap.proofs.Calls.{frees}
+use Rattle.gq_heap.proofs.heap.Heap.free_small.Goals as goal
+
+pub give-requires-clause-size : goal.give-requires-clause-size
+give-requires-clause-size g c = rw (c.place_size.ensures, c.places_per_chunk.ensures) (sizes (index_of c.args.class) (index_below c.args.class))
+
+pub give-requires-clause-kept : goal.give-requires-clause-kept
+give-requires-clause-kept g c =
+    has_small c.args.self.now (g.S.ByteStore.state c.args.store.now) c.args.class c.args.number _ _ _ c.place_size.ensures c.places_per_chunk.ensures
+    c.class_index.ensures.index c.requires
+
+eight : {A : Type 0} (xs : List A) → length xs ≡ 8 → length xs ≡ 8
+eight xs h = h
+
+pub returns-clause-frees : goal.returns-clause-frees
+returns-clause-frees g c =
+    let t = rw (c.place_size.ensures, c.places_per_chunk.ensures, c.class_index.ensures.index) at c.give.ensures.gives in
+    let bins : length c.args.self.now.bins ≡ 8 = eight _ (search rules) in
+    frees c.args.self.now _ (g.S.ByteStore.state c.args.store.now) (g.S.ByteStore.state c.give.new.store) _
+    (frees_small c.args.self.now _ (g.S.ByteStore.state c.args.store.now) (g.S.ByteStore.state c.give.new.store) c.args.class c.give.new.bin c.args.number
+    bins (ap (λ i. set c.args.self.now.bins i c.give.new.bin) c.class_index-2.ensures.index) refl refl t)
+    bins (length-set c.args.self.now.bins c.class_index-2.result c.give.new.bin ∙ bins)

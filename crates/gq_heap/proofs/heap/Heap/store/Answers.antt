@@ -1,0 +1,29 @@
+use Rattle.std.proofs.Common.{arith}
+use Rattle.gq_heap.proofs.Heaps.{block_inside, written}
+use Rattle.gq_heap.proofs.Calls.{sets}
+use Rattle.gq_heap.proofs.Callers.{in_use_still}
+use Rattle.gq_heap.proofs.heap.Heap.store.Goals as goal
+
+pub overflow_add-offset : goal.overflow_add-offset
+overflow_add-offset g c =
+    let i = block_inside c.args.self.now (g.S.ByteStore.state c.args.store.now) c.args.place c.requires.kept in
+    omega (arith, i.0, i.1, c.offset.ensures, c.requires.inside)
+
+pub store-requires : goal.store-requires
+store-requires g c =
+    let i = block_inside c.args.self.now (g.S.ByteStore.state c.args.store.now) c.args.place c.requires.kept in
+    rw (c.chunk.ensures, c.offset.ensures) (omega (arith, i.0, c.requires.inside))
+
+pub returns-clause-sets : goal.returns-clause-sets
+returns-clause-sets g c =
+    let a = rw (c.chunk.ensures, c.offset.ensures) at c.store.ensures.stored in
+    let b = rw (c.chunk.ensures, c.offset.ensures) at c.store.ensures.alone in
+    sets c.args.self.now (g.S.ByteStore.state c.args.store.now) (g.S.ByteStore.state c.store.new.self) c.args.place c.args.index c.args.value c.requires.inside
+    (written c.args.self.now (g.S.ByteStore.state c.args.store.now) (g.S.ByteStore.state c.store.new.self) c.args.place c.args.index c.args.value
+    c.requires.inside a b)
+
+pub returns-clause-in_use : goal.returns-clause-in_use
+returns-clause-in_use g c =
+    in_use_still c.args.self.now (g.S.ByteStore.state c.args.store.now) (g.S.ByteStore.state c.store.new.self) c.args.place c.args.index c.args.value
+    c.requires.kept
+    (returns-clause-sets g c)

@@ -1,0 +1,4 @@
+pub mod Chain
+pub mod Classes
+pub mod Heap
+pub mod Bin

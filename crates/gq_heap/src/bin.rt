@@ -1,0 +1,74 @@
+// The places of one class.
+ghost use Rattle.std.specs.Prelude.{◌≡◌, ℕ, ◌+◌, ◌-◌, ◌*◌, ◌/◌, ◌%◌, ◌<◌, ◌≤◌, ◌↔◌, Ok, Some, IfOk, OnErr, IsErrOf};
+ghost use Rattle.gq_store.specs.Store.{Store};
+ghost use Rattle.gq_heap.specs.Chain.{IsSize};
+ghost use Rattle.gq_heap.specs.Bin.{IsBin, HasPlace, Takes, Gives, Chains, bin_price, next_peak};
+
+use crate::chain::{chain_all, pop, push};
+use gq_store::{ByteStore, GrowFault};
+
+/// The head of the chain of free places, how many places are in use, and how many were at most.
+#[derive(Clone, Copy, Debug, PartialEq, Eq)]
+pub struct Bin {
+    pub head: u32,
+    pub count: u32,
+    pub peak: u32,
+}
+
+/// The head of the chain, which gets a new chunk's places where it has none.
+fn first_free<S: ByteStore>(
+    store: &mut S,
+    size: u32,
+    places: u32,
+    head: u32,
+) -> Result<u32, GrowFault>
+    requires size { IsSize size places }
+    ensures same { 0 < head → (result ≡ Ok head) × (S.state store.new ≡ S.state store.old) }
+    ensures chained { head ≡ 0 → IfOk result (λ first. Chains size places first (S.state store.old) (S.state store.new)) }
+    ensures exceeded { IsErrOf result GrowFault.Exceeded ↔ ((head ≡ 0) × ((S.state store.old).left < 4096)) }
+    ensures caps { IsErrOf result GrowFault.CapsExceeded ↔ ((head ≡ 0) × (4096 ≤ (S.state store.old).left) × ((S.state store.old).caps ≡ Some 0)) }
+    ensures err { OnErr result (S.state store.new ≡ S.state store.old) }
+    ensures rest { S.same_rest store.old store.new }
+{
+    if head > 0 {
+        return Ok(head);
+    }
+    let chunk = store.grow(1)?;
+    Ok(chain_all(store, chunk, size, places))
+}
+
+/// Takes a free place, which reads 0.
+pub fn take<S: ByteStore>(
+    store: &mut S,
+    bin: &mut Bin,
+    size: u32,
+    places: u32,
+) -> Result<u32, GrowFault>
+    requires size { IsSize size places }
+    requires kept { IsBin size places bin.old (S.state store.old) }
+    ensures ok { IfOk result (λ q. Takes size places bin.old bin.new (S.state store.old) (S.state store.new) q) }
+    ensures exceeded { IsErrOf result GrowFault.Exceeded ↔ ((S.state store.old).left + bin_price size bin.old.peak < bin_price size (next_peak bin.old)) }
+    ensures caps { IsErrOf result GrowFault.CapsExceeded ↔ ((bin_price size bin.old.peak < bin_price size (next_peak bin.old))
+        × (bin_price size (next_peak bin.old) ≤ (S.state store.old).left + bin_price size bin.old.peak)
+        × ((S.state store.old).caps ≡ Some 0)) }
+    ensures err { OnErr result ((bin.new ≡ bin.old) × (S.state store.new ≡ S.state store.old)) }
+    ensures rest { S.same_rest store.old store.new }
+{
+    let head = first_free(store, size, places, bin.head)?;
+    let place = head - 1;
+    bin.head = pop(store, size, places, place);
+    bin.count += 1;
+    bin.peak = bin.peak.max(bin.count);
+    Ok(place)
+}
+
+/// Makes a place free.
+pub fn give<S: ByteStore>(store: &mut S, bin: &mut Bin, size: u32, places: u32, place: u32)
+    requires size { IsSize size places }
+    requires kept { HasPlace size places bin.old (S.state store.old) place }
+    ensures gives { Gives size places bin.old bin.new (S.state store.old) (S.state store.new) place }
+    ensures rest { S.same_rest store.old store.new }
+{
+    bin.head = push(store, size, places, bin.head, place);
+    bin.count -= 1;
+}

@@ -1,0 +1,12 @@
+//! A heap over any store of chunks. Blocks of at most 2048 bytes are places of eight classes, whose free places are chained through their own
+//! first bytes; a greater block is a chunk of its own. The heap keeps a head and two counts for each class and no list.
+#![tactic(auto)]
+
+mod bin;
+mod chain;
+mod class;
+mod heap;
+
+pub use gq_store::{ByteStore, ChunkNo, GrowFault};
+pub use gq_tariff::Class;
+pub use heap::{Heap, Place};

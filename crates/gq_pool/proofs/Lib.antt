@@ -1,0 +1,5 @@
+pub mod Held
+pub mod Steps
+pub mod Entries
+pub mod Ending
+pub mod Callers

@@ -1,0 +1,10 @@
+use Rattle.gq_pool.proofs.Ending.{Cleared}
+use Rattle.gq_pool.proofs.pool.Pool.end.Given as goal
+
+abbrev pub invariant-loop-index : goal.invariant-loop-index
+invariant-loop-index g l =
+    let st = g.S.ByteStore.state in
+    record {
+      cleared : Cleared l.self l.fn.heap l.heap (st l.fn.store) (st l.store) l.index;
+      rest : g.S.ByteStore.same_rest l.fn.store l.store;
+    }

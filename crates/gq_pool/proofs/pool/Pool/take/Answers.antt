@@ -1,0 +1,37 @@
+use Rattle.std.proofs.Common.{◌++◌, refl, subst, arith}
+use Rattle.gq_heap.specs.Heap.{Allocates}
+use Rattle.gq_pool.specs.Pools.{places_of}
+use Rattle.gq_pool.proofs.Entries.{adds, place_few, room_made}
+use Rattle.gq_pool.proofs.Callers.{after_adds}
+use Rattle.gq_pool.proofs.pool.Pool.take.Goals as goal
+
+pub overflow_add-number : goal.overflow_add-number
+overflow_add-number g c =
+    let p = c.requires.kept in
+    let a = subst (λ r. Allocates c.args.heap.now c.alloc.new.self (g.S.ByteStore.state c.args.store.now) (g.S.ByteStore.state c.alloc.new.store)
+    c.args.self.now.size r)
+    c.in-Small.is c.in_ok-place.ensures.ok in
+    let few = place_few _ _ _ _ c.args.self.now.size c.in-Small.number _ (places_of c.args.self.now.class p.held ++ p.others) p.keeps.blocks a in
+    omega (arith, few)
+
+pub store4-requires-clause-inside : goal.store4-requires-clause-inside
+store4-requires-clause-inside g c =
+    rw c.new.ensures (room_made c.args.self.now c.args.heap.now _ _ _ c.args.index c.args.self.now.size _ c.requires.kept c.requires.inside
+    c.in_ok-place.ensures.ok)
+
+pub returns-clause-ok : goal.returns-clause-ok
+returns-clause-ok g c =
+    let a = subst (λ r. Allocates c.args.heap.now c.alloc.new.self (g.S.ByteStore.state c.args.store.now) (g.S.ByteStore.state c.alloc.new.store)
+    c.args.self.now.size r)
+    c.in-Small.is c.in_ok-place.ensures.ok in
+    let w = rw c.new.ensures at c.store4.ensures.alone in
+    let s = rw c.new.ensures at c.store4.ensures.stored in
+    record {
+      there = λ h. absurd (h (omega (arith, c.word.ensures)));
+      absent = λ h. (refl, adds c.args.self.now c.args.heap.now _ _ _ _ c.args.index c.in-Small.number _ c.requires.inside c.requires.kept h a w s);
+    }
+
+pub returns-clause-kept : goal.returns-clause-kept
+returns-clause-kept g c =
+    let t = returns-clause-ok g c in
+    after_adds c.args.self.now c.args.heap.now _ _ _ c.args.index c.requires.kept (t.absent (omega (arith, c.word.ensures))).1

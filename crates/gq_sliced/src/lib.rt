@@ -1,0 +1,133 @@
+//! A sliced heap over any store of chunks: each slice is a chunk of its own, with its size at the front, and is gone whole when it is freed.
+#![tactic(auto)]
+
+ghost use Rattle.std.specs.Prelude.{◌≡◌, ◌+◌, ◌-◌, ◌*◌, ◌^◌, ◌<◌, ◌≤◌, ◌↔◌, Some, IfOk, OnErr, IsErrOf};
+ghost use Rattle.gq_tariff.specs.Prices.{up, price_bytes};
+ghost use Rattle.gq_sliced.specs.Slices.{slice_byte, IsInUse, HasSize, HasByte, Makes, Frees, Sets};
+
+use gq_store::{ByteStore, ChunkNo, GrowFault};
+use gq_tariff::{Held, price_slice};
+use std::marker::Model;
+
+/// The bytes of a page.
+const PAGE: u32 = 4096;
+
+/// The bytes of bookkeeping at the front of a slice.
+const FRONT: u32 = 32;
+
+/// The number of a slice: that of its chunk.
+#[derive(Clone, Copy, Debug, PartialEq, Eq)]
+pub struct SliceNo {
+    number: u32,
+}
+
+impl Model for SliceNo {
+    ghost use Rattle.std.specs.Prelude.{ℕ};
+
+    ghost Value = { ℕ };
+
+    ghost view = { λ s. s.number };
+
+    ghost inverse = { λ n. record { number = n } };
+}
+
+impl SliceNo {
+    /// The slice of this number.
+    pub fn new(number: u32) -> SliceNo
+        ensures { result ≡ number }
+    {
+        SliceNo { number }
+    }
+
+    /// Its number.
+    pub fn number(self) -> u32
+        ensures { result ≡ self }
+    {
+        self.number
+    }
+
+    /// Its chunk.
+    fn chunk(self) -> ChunkNo
+        ensures { result ≡ self }
+    {
+        ChunkNo::new(self.number())
+    }
+}
+
+/// A sliced heap. It keeps no table and takes no host memory; each call is given the store.
+#[derive(Clone, Copy, Debug)]
+pub struct Sliced;
+
+impl Sliced {
+    /// A sliced heap, over any store.
+    pub fn new() -> Sliced {
+        Sliced
+    }
+
+    /// A slice of `size` bytes, which read 0. It takes whole pages for its bytes and 32 bytes of bookkeeping, and one capability.
+    ///
+    /// Refused as `Exceeded` where the bytes can't be paid, else as `CapsExceeded` where there is no capability left; then nothing has changed.
+    pub fn alloc<S: ByteStore>(&self, store: &mut S, size: u32) -> Result<SliceNo, GrowFault>
+        requires { size ≤ 67108864 }
+        ensures ok { IfOk result (λ slice. Makes (S.state store.old) (S.state store.new) size slice) }
+        ensures exceeded { IsErrOf result GrowFault.Exceeded ↔ ((S.state store.old).left < up (size + 32)) }
+        ensures caps { IsErrOf result GrowFault.CapsExceeded ↔ ((up (size + 32) ≤ (S.state store.old).left) × ((S.state store.old).caps ≡ Some 0)) }
+        ensures err { OnErr result (S.state store.new ≡ S.state store.old) }
+        ensures rest { S.same_rest store.old store.new }
+    {
+        let chunk = store.grow(pages_of(size))?;
+        store.store4(chunk, 0, size);
+        Ok(SliceNo::new(chunk.number()))
+    }
+
+    /// Gives a slice back to the store, whole.
+    pub fn free<S: ByteStore>(&self, store: &mut S, slice: SliceNo)
+        requires { IsInUse (S.state store.old) slice }
+        ensures frees { Frees (S.state store.old) (S.state store.new) slice }
+        ensures rest { S.same_rest store.old store.new }
+    {
+        store.shrink(slice.chunk());
+    }
+
+    /// The size of a slice, in bytes, as it was made.
+    pub fn size<S: ByteStore>(&self, store: &S, slice: SliceNo) -> u32
+        requires { IsInUse (S.state store.now) slice }
+        ensures { HasSize (S.state store.now) slice result }
+    {
+        store.load4(slice.chunk(), 0)
+    }
+
+    /// The byte of a slice at an index.
+    pub fn load<S: ByteStore>(&self, store: &S, slice: SliceNo, index: u32) -> u8
+        requires { HasByte (S.state store.now) slice index }
+        ensures { result ≡ slice_byte (S.state store.now) slice index }
+    {
+        store.load(slice.chunk(), FRONT + index)
+    }
+
+    /// Sets the byte of a slice at an index.
+    pub fn store<S: ByteStore>(&self, store: &mut S, slice: SliceNo, index: u32, value: u8)
+        requires { HasByte (S.state store.old) slice index }
+        ensures sets { Sets (S.state store.old) (S.state store.new) slice index value }
+        ensures rest { S.same_rest store.old store.new }
+    {
+        store.store(slice.chunk(), FRONT + index, value);
+    }
+
+    /// What a slice of `n` bytes costs more than its bytes, in bytes.
+    pub fn overhead(n: u64) -> u64
+        requires { n ≤ 2 ^ 40 }
+        ensures { result ≡ price_bytes (Held.Slice n) - n }
+    {
+        price_slice(n) - n
+    }
+}
+
+/// How many pages a slice takes.
+fn pages_of(size: u32) -> u32
+    requires { size ≤ 67108864 }
+    ensures price { result * 4096 ≡ up (size + 32) }
+    ensures few { (0 < result) × (result ≤ 16385) }
+{
+    (size + FRONT).div_ceil(PAGE)
+}

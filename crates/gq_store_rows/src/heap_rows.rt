@@ -1,0 +1,106 @@
+// The heap: a page of places, places that are used again, large blocks, capabilities.
+ghost use Rattle.std.specs.Prelude.{[], ◌∷◌, IfOk};
+ghost use Rattle.gq_heap.specs.Heap.{IsHeap, AreInUse};
+
+use gq_heap::{Class, Heap, Place};
+use gq_list_store::ListStore;
+use gq_store::{ByteStore, GrowFault};
+use std::test::Fail;
+
+fn make_three<S: ByteStore>(
+    heap: &mut Heap,
+    store: &mut S,
+) -> Result<(Place, Place, Place), GrowFault>
+    requires { IsHeap heap.old (S.state store.old) }
+    ensures { IfOk result (λ p. AreInUse heap.new (S.state store.new) (p.0 ∷ p.1 ∷ p.2 ∷ [])) }
+{
+    let a = heap.alloc(store, 16)?;
+    let b = heap.alloc(store, 16)?;
+    let c = heap.alloc(store, 16)?;
+    Ok((c, b, a))
+}
+
+// Writes a byte to each of the blocks, and gives what they read then.
+fn write_three<S: ByteStore>(
+    heap: &Heap,
+    store: &mut S,
+    a: Place,
+    b: Place,
+    c: Place,
+) -> (u8, u8, u8)
+    requires { AreInUse heap.now (S.state store.old) (a ∷ b ∷ c ∷ []) }
+    ensures { AreInUse heap.now (S.state store.new) (a ∷ b ∷ c ∷ []) }
+{
+    heap.store(store, a, 0, 7);
+    heap.store(store, b, 0, 8);
+    heap.store(store, c, 0, 9);
+    read_three(heap, store, a, b, c)
+}
+
+fn read_three<S: ByteStore>(heap: &Heap, store: &S, a: Place, b: Place, c: Place) -> (u8, u8, u8)
+    requires { AreInUse heap.now (S.state store.now) (a ∷ b ∷ c ∷ []) }
+{
+    (
+        heap.load(store, a, 0),
+        heap.load(store, b, 0),
+        heap.load(store, c, 0),
+    )
+}
+
+fn free_three<S: ByteStore>(heap: &mut Heap, store: &mut S, a: Place, b: Place, c: Place)
+    requires { AreInUse heap.old (S.state store.old) (a ∷ b ∷ c ∷ []) }
+    ensures { IsHeap heap.new (S.state store.new) }
+{
+    heap.free(store, a);
+    heap.free(store, b);
+    heap.free(store, c);
+}
+
+#[test]
+fn uses_freed_places_again(rt: HostRuntime) -> Result<(), Fail> {
+    let mut store = ListStore::new(rt.alloc(), 1, None)?;
+    let mut heap = Heap::new();
+    for _ in 0..253 {
+        assert!(rt; heap.alloc(&mut store, 16).is_ok());
+    }
+    let (a, b, c) = make_three(&mut heap, &mut store).ok().ok_or("three")?;
+    assert_eq!(rt; write_three(&heap, &mut store, a, b, c), (7, 8, 9));
+    free_three(&mut heap, &mut store, a, b, c);
+    let (d, e, f) = make_three(&mut heap, &mut store).ok().ok_or("again")?;
+    assert!(rt; d != e && d != f && e != f);
+    assert_eq!(rt; read_three(&heap, &store, d, e, f), (0, 0, 0));
+    assert_eq!(rt; heap.charge(), 4096);
+    assert_eq!(rt; heap.peak(Class::Bytes16), 256);
+    Ok(())
+}
+
+#[test]
+fn fills_a_page(rt: HostRuntime) -> Result<(), Fail> {
+    let mut store = ListStore::new(rt.alloc(), 1, None)?;
+    let mut heap = Heap::new();
+    for _ in 0..256 {
+        assert!(rt; heap.alloc(&mut store, 16).is_ok());
+    }
+    assert_eq!(rt; heap.alloc(&mut store, 16), Err(GrowFault::Exceeded));
+    assert_eq!(rt; heap.alloc(&mut store, 17), Err(GrowFault::Exceeded));
+    Ok(())
+}
+
+#[test]
+fn gives_large_blocks_back(rt: HostRuntime) -> Result<(), Fail> {
+    let mut store = ListStore::new(rt.alloc(), 2, Some(1))?;
+    let mut heap = Heap::new();
+    let large = heap.alloc(&mut store, 2049).ok().ok_or("large")?;
+    assert_eq!(rt; heap.charge(), 4096);
+    assert_eq!(rt; heap.charge_caps(), 1);
+    heap.free(&mut store, large);
+    assert_eq!(rt; heap.charge(), 0);
+    assert_eq!(rt; heap.charge_caps(), 0);
+    let small = heap.alloc(&mut store, 2048).ok().ok_or("small")?;
+    heap.free(&mut store, small);
+    assert_eq!(rt; heap.charge(), 4096);
+    assert_eq!(rt; heap.charge_caps(), 1);
+    assert_eq!(rt; heap.alloc(&mut store, 32), Err(GrowFault::CapsExceeded));
+    assert_eq!(rt; heap.alloc(&mut store, 8193), Err(GrowFault::Exceeded));
+    Ok(())
+}
