@@ -1,7 +1,7 @@
 -- What holds of the world after a step, by the shape of the step's definition.
 use Rattle.std.proofs.Common.{◌≡◌, ℕ, Bool, true, false, List, [], ◌∷◌, Option, Some, None, refl, ap, subst}
 use Rattle.std.specs.Prelude.{Ok, Err}
-use Rattle.gq_model.specs.World.{Slot, Empty, Bytes, Pool, Link, Spot, Session, World, with_slot}
+use Rattle.gq_model.specs.World.{Slot, Empty, Bytes, Pool, Link, Spot, Session, World, with_slot, session_at}
 use Rattle.gq_model.specs.Doing.{Event, Stepped, need, when, pop, push, fill}
 use Rattle.gq_model.specs.declared.fault.Wrong.{Wrong}
 use Rattle.gq_model.specs.Memory.{bytes_in, pool_in, if_absent}
@@ -48,6 +48,11 @@ module _ (P : World → Type 0) where
   pub link_in_ends : (w : World) (o : Option Slot) (go : ℕ → Session → Stepped) → ((k : ℕ) (s : Session) → Ends P (go k s)) → Ends P (link_in w o go)
   link_in_ends w (Some (Link k)) go h = need_ends _ _ _ (h k)
   link_in_ends w _ go h = fails _
+
+  -- the same, where the session is known to be there
+  pub link_in_found : (w : World) (o : Option Slot) (go : ℕ → Session → Stepped) → ((k : ℕ) (s : Session) → session_at w k ≡ Some s → Ends P (go k s)) → Ends P (link_in w o go)
+  link_in_found w (Some (Link k)) go h = need_found _ _ _ (h k)
+  link_in_found w _ go h = fails _
 
   pub absent_ends : (entry : Option (List ℕ)) (a b : Stepped) → Ends P a → Ends P b → Ends P (if_absent entry a b)
   absent_ends None a b h k = h

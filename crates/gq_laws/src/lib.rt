@@ -1,4 +1,5 @@
 //! Laws of the account machine: theorems over its definitions alone, each the contract of a call that does nothing.
 #![tactic(auto)]
 
+pub mod reached;
 pub mod turns;

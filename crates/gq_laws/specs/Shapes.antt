@@ -1,0 +1,24 @@
+-- How many of each thing a world has.
+use Rattle.std.specs.Prelude.{◌≡◌, ℕ, ◌<◌, List, [], ◌∷◌, length, Option, Some, None}
+use Rattle.gq_model.specs.Scenario.{System}
+use Rattle.gq_model.specs.World.{Session, Leaf, World}
+
+-- so it is for each of these
+abbrev pub Each : {A : Type 0} → (A → Type 0) → List A → Type 0
+Each P [] = Unit {0}
+Each P (a ∷ rest) = P a × Each P rest
+
+-- a leaf has 64 slots, 8 locals, and a peak for each of the 8 classes
+abbrev pub IsWholeLeaf : Leaf → Type 0
+IsWholeLeaf leaf = (length leaf.slots ≡ 64) × (length leaf.locals ≡ 8) × (length leaf.peaks ≡ 8)
+
+-- a session has 8 slots, and its client and its server are among the n leaves
+abbrev pub IsWholeSession : ℕ → Option Session → Type 0
+IsWholeSession n None = Unit {0}
+IsWholeSession n (Some s) = (length s.slots ≡ 8) × (s.client < n) × (s.server < n)
+
+-- there is a leaf for each component; leaves and sessions are whole
+pub record IsWholeWorld (system : System) (w : World) : Type 0 where
+  pub count : length w.leaves ≡ length system.components
+  pub leaves : Each IsWholeLeaf w.leaves
+  pub sessions : Each (IsWholeSession (length system.components)) w.sessions
