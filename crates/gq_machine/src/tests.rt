@@ -1,8 +1,9 @@
 // A leaf's steps, from the text of its scenario to its end.
-ghost use Rattle.std.specs.Prelude.{◌≡◌, IfOk, length, codes};
+ghost use Rattle.std.specs.Prelude.{◌≡◌, ◌<◌, IfOk, IfSome, length, slice_get, codes};
 ghost use Rattle.gq_model.specs.Scenario.{As_text, components, system};
 ghost use Rattle.gq_model.specs.Sources.{program_from};
 ghost use Rattle.gq_model.specs.World.{start};
+ghost use Rattle.gq_init.specs.Leaves.{IsBareLeaf};
 
 use crate::event::Event;
 use crate::leaf::LINE;
@@ -12,6 +13,7 @@ use gq_code::{Body, Instruction, Program, Section, Statement, Text};
 use gq_init::node::NodeNo;
 use gq_init::reader::read_scenario;
 use gq_init::scenario::{LeafNo, Scenario};
+use gq_init::source::Source;
 use gq_model::phase::Phase;
 use std::alloc::Global;
 use std::test::Fail;
@@ -30,6 +32,19 @@ fn greeting(alloc: Global) -> Result<Program, Fail>
     Ok(Program::new(sections, [u32::MAX; 8]).ok_or("a program")?)
 }
 
+// The text of the program of a leaf, where it is given as text.
+fn text_of(scenario: &Scenario, leaf: LeafNo) -> Result<&[u8], Fail>
+    requires { leaf < length (components scenario.now) }
+    ensures source { IfOk result (λ text. IfSome (slice_get (components scenario.now) leaf) (λ c. c.node.source ≡ As_text text.now)) }
+    ensures program { IfOk result (λ text. IfSome (slice_get (components scenario.now) leaf) (λ c. c.node.program ≡ program_from c.node.source)) }
+    ensures bare { IfOk result (λ text. IfSome (slice_get (components scenario.now) leaf) (λ c. IsBareLeaf c.node)) }
+{
+    match scenario.source(leaf) {
+        Source::Text(text) => Ok(text.as_slice()),
+        Source::Code(_) => Err(Fail::new("a text")),
+    }
+}
+
 // The machine at the start of the scenario, where its one leaf has that program.
 fn greeter(alloc: Global, scenario: &Scenario) -> Result<Machine, Fail>
     ensures count { IfOk result (λ m. length (components m.scenario) ≡ 1) }
@@ -40,7 +55,8 @@ fn greeter(alloc: Global, scenario: &Scenario) -> Result<Machine, Fail>
         return Err(Fail::new("one leaf"));
     }
     let leaf = LeafNo::new(0);
-    if scenario.program_text(leaf) != b"main\nsay \"hi\"\nend\n".as_slice() {
+    let text = text_of(scenario, leaf)?;
+    if text != b"main\nsay \"hi\"\nend\n".as_slice() {
         return Err(Fail::new("its text"));
     }
     if scenario.quantum(leaf) > scenario.ram() {

@@ -80,21 +80,21 @@ all_known s q x text l v n z e source program bare quantum less =
 
 pub new-requires-2-clause-plain : goal.new-requires-2-clause-plain
 new-requires-2-clause-plain c =
-    let t = c.program_text.ensures in
+    let t = c.in_ok-text.ensures in
     let l = c.leaf_count.ensures in
-    let f = all_known c.args.scenario.now c.quantum.result c.new-leaf.result c.program_text.result.now l.leaves l.plain (omega (arith, c.if-leaf_count-ne1.false, l.count)) c.new-leaf.ensures (same_text c.program_text.result.now c.as_slice.result.now c.ne.result c.ne.ensures c.if-ne.false ∙ c.as_slice.ensures) t.source t.program t.bare c.quantum.ensures (omega (arith, c.if-quantum-ram.false, c.ram.ensures.total)) in
+    let f = all_known c.args.scenario.now c.quantum.result c.new-leaf.result c.in_ok-text.text.now l.leaves l.plain (omega (arith, c.if-leaf_count-ne1.false, l.count)) c.new-leaf.ensures (same_text c.in_ok-text.text.now c.as_slice.result.now c.ne.result c.ne.ensures c.if-ne.false ∙ c.as_slice.ensures) t.source t.program t.bare c.quantum.ensures (omega (arith, c.if-quantum-ram.false, c.ram.ensures.total)) in
     f.plain
 
 pub new-requires-2-clause-programs : goal.new-requires-2-clause-programs
 new-requires-2-clause-programs c =
-    let t = c.program_text.ensures in
+    let t = c.in_ok-text.ensures in
     let l = c.leaf_count.ensures in
-    let f = all_known c.args.scenario.now c.quantum.result c.new-leaf.result c.program_text.result.now l.leaves l.plain (omega (arith, c.if-leaf_count-ne1.false, l.count)) c.new-leaf.ensures (same_text c.program_text.result.now c.as_slice.result.now c.ne.result c.ne.ensures c.if-ne.false ∙ c.as_slice.ensures) t.source t.program t.bare c.quantum.ensures (omega (arith, c.if-quantum-ram.false, c.ram.ensures.total)) in
+    let f = all_known c.args.scenario.now c.quantum.result c.new-leaf.result c.in_ok-text.text.now l.leaves l.plain (omega (arith, c.if-leaf_count-ne1.false, l.count)) c.new-leaf.ensures (same_text c.in_ok-text.text.now c.as_slice.result.now c.ne.result c.ne.ensures c.if-ne.false ∙ c.as_slice.ensures) t.source t.program t.bare c.quantum.ensures (omega (arith, c.if-quantum-ram.false, c.ram.ensures.total)) in
     c.in_ok-programs.ensures.items ∙ (ap (λ r. r ∷ []) c.in_ok-greeting.ensures ∙ sym f.programs)
 
 pub new-requires-2-clause-fits : goal.new-requires-2-clause-fits
 new-requires-2-clause-fits c =
-    let t = c.program_text.ensures in
+    let t = c.in_ok-text.ensures in
     let l = c.leaf_count.ensures in
-    let f = all_known c.args.scenario.now c.quantum.result c.new-leaf.result c.program_text.result.now l.leaves l.plain (omega (arith, c.if-leaf_count-ne1.false, l.count)) c.new-leaf.ensures (same_text c.program_text.result.now c.as_slice.result.now c.ne.result c.ne.ensures c.if-ne.false ∙ c.as_slice.ensures) t.source t.program t.bare c.quantum.ensures (omega (arith, c.if-quantum-ram.false, c.ram.ensures.total)) in
+    let f = all_known c.args.scenario.now c.quantum.result c.new-leaf.result c.in_ok-text.text.now l.leaves l.plain (omega (arith, c.if-leaf_count-ne1.false, l.count)) c.new-leaf.ensures (same_text c.in_ok-text.text.now c.as_slice.result.now c.ne.result c.ne.ensures c.if-ne.false ∙ c.as_slice.ensures) t.source t.program t.bare c.quantum.ensures (omega (arith, c.if-quantum-ram.false, c.ram.ensures.total)) in
     f.fits
