@@ -1,0 +1,7 @@
+mod Sums
+mod Balances
+mod Spending
+mod Freeing
+mod Opening
+mod First
+mod Closing

@@ -1,0 +1,115 @@
+-- The table of accounts.
+use Rattle.std.specs.Prelude.{ℕ, ◌+◌, ◌-◌, List, [], ◌∷◌, Option, Some, None, Bool, true, false}
+use Rattle.std.specs.Prelude.{nat_eq, nat_lt, if◌then◌else◌, get_or, slice_set, is_some, IsTrue}
+use Rattle.gq_tariff.specs.Prices.{up}
+use Rattle.gq_ram.specs.declared.account.Account.{Account}
+use Rattle.gq_ram.specs.declared.account.AccountNo.{AccountNo}
+use Rattle.gq_ram.specs.declared.account.AccountFault.{AccountFault}
+use Rattle.gq_ram.specs.declared.account.AccountFault.TheVariants.{NotRelated, Exceeded, ZeroSize, HasMembers, IsRoot, CapsExceeded}
+
+-- an account for each number, or None where there is none
+abbrev pub Entries : Type 0
+Entries = List (Option Account)
+
+abbrev pub no_account : Account
+no_account = record { quota = 0; used = 0; caps = 0; caps_used = 0; reference = None }
+
+abbrev pub its_account : Option Account → Account
+its_account None = no_account
+its_account (Some a) = a
+
+-- an account as it is opened
+abbrev pub first_account : AccountNo → Account
+first_account r = record { quota = 0; used = 0; caps = 0; caps_used = 0; reference = Some r }
+
+-- the account of that number
+abbrev pub account_at : Entries → ℕ → Account
+account_at es k = its_account (get_or es k None)
+
+-- there is an account of that number
+abbrev pub IsOpen : Entries → ℕ → Type 0
+IsOpen es k = IsTrue (is_some (get_or es k None))
+
+-- an amount of each account, summed
+abbrev pub sum_over : (Account → ℕ) → Entries → ℕ
+sum_over f [] = 0
+sum_over f (None ∷ es) = sum_over f es
+sum_over f (Some a ∷ es) = f a + sum_over f es
+
+abbrev pub with_quota : Account → ℕ → Account
+with_quota a n = record { quota = n; used = a.used; caps = a.caps; caps_used = a.caps_used; reference = a.reference }
+
+abbrev pub with_caps : Account → ℕ → Account
+with_caps a n = record { quota = a.quota; used = a.used; caps = n; caps_used = a.caps_used; reference = a.reference }
+
+abbrev pub with_use : Account → ℕ → ℕ → Account
+with_use a n c = record { quota = a.quota; used = n; caps = a.caps; caps_used = c; reference = a.reference }
+
+-- an account uses n bytes and c capabilities more
+abbrev pub charged : Entries → ℕ → ℕ → ℕ → Entries
+charged es a n c = slice_set es a (Some (with_use (account_at es a) ((account_at es a).used + n) ((account_at es a).caps_used + c)))
+
+-- an account uses n bytes and c capabilities less
+abbrev pub relieved : Entries → ℕ → ℕ → ℕ → Entries
+relieved es a n c = slice_set es a (Some (with_use (account_at es a) ((account_at es a).used - n) ((account_at es a).caps_used - c)))
+
+-- n bytes of quota go from one account to another
+abbrev pub quota_moved : Entries → ℕ → ℕ → ℕ → Entries
+quota_moved es from to n =
+    let less : Entries = slice_set es from (Some (with_quota (account_at es from) ((account_at es from).quota - n))) in
+    slice_set less to (Some (with_quota (account_at es to) ((account_at es to).quota + n)))
+
+-- n capabilities of quota go from one account to another
+abbrev pub caps_moved : Entries → ℕ → ℕ → ℕ → Entries
+caps_moved es from to n =
+    let less : Entries = slice_set es from (Some (with_caps (account_at es from) ((account_at es from).caps - n))) in
+    slice_set less to (Some (with_caps (account_at es to) ((account_at es to).caps + n)))
+
+-- what an account can still pay
+abbrev pub available : Account → ℕ
+available a = a.quota - a.used
+
+abbrev pub available_caps : Account → ℕ
+available_caps a = a.caps - a.caps_used
+
+-- WHEN CALLS ARE REFUSED
+
+-- there is that account, and it is b
+abbrev pub is_it : Option AccountNo → AccountNo → Bool
+is_it None b = false
+is_it (Some r) b = nat_eq r.0 b.0
+
+-- one of the two is the other's reference account
+abbrev pub are_related : Entries → AccountNo → AccountNo → Bool
+are_related es a b = if is_it (account_at es a.0).reference b then true else is_it (account_at es b.0).reference a
+
+-- the account a is the reference account of another one
+abbrev pub has_members : Entries → AccountNo → Bool
+has_members [] a = false
+has_members (x ∷ es) a = if is_it (its_account x).reference a then true else has_members es a
+
+abbrev pub transfer_refusal : Entries → AccountNo → AccountNo → ℕ → Option AccountFault
+transfer_refusal es from to n =
+    if are_related es from to then (if nat_lt (available (account_at es from.0)) n then Some Exceeded else None) else Some NotRelated
+
+-- where the price of a dataspace is 0, capabilities are not counted
+abbrev pub transfer_caps_refusal : Entries → ℕ → AccountNo → AccountNo → ℕ → Option AccountFault
+transfer_caps_refusal es price from to n =
+    if are_related es from to
+    then (if nat_lt (available_caps (account_at es from.0)) n then (if nat_lt 0 price then Some CapsExceeded else None) else None)
+    else Some NotRelated
+
+abbrev pub alloc_refusal : Account → ℕ → ℕ → Option AccountFault
+alloc_refusal a price n =
+    if nat_lt 0 n
+    then (if nat_lt (available a) (up n) then Some Exceeded else if nat_lt (available_caps a) price then Some CapsExceeded else None)
+    else Some ZeroSize
+
+abbrev pub close_refusal : Entries → AccountNo → Option AccountFault
+close_refusal es a = if is_some (account_at es a.0).reference then (if has_members es a then Some HasMembers else None) else Some IsRoot
+
+-- an account whose quota goes to its reference account
+abbrev pub left_to : Entries → ℕ → ℕ → Entries
+left_to es a r =
+    let more : Account = with_quota (account_at es r) ((account_at es r).quota + (account_at es a).quota) in
+    slice_set (slice_set es a None) r (Some (with_caps more ((account_at es r).caps + (account_at es a).caps)))

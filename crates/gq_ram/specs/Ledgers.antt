@@ -1,0 +1,78 @@
+-- What a contract sees of an `Accounts`, and what holds in each.
+use Rattle.std.specs.Prelude.{◌≡◌, ℕ, ◌+◌, ◌*◌, ◌/◌, ◌≤◌, List, [], ◌∷◌, Option, Some, None, replicate, length, get_or, slice_set, is_some}
+use Rattle.gq_pages.specs.Frames.{has_bytes, all_free}
+use Rattle.gq_dataspace.specs.Dataspaces.{Dataspaces}
+use Rattle.gq_ram.specs.declared.accounts.Accounts.TheInside.{Inside}
+use Rattle.gq_ram.specs.declared.account.AccountNo.{AccountNo}
+use Rattle.gq_ram.specs.Entries.{Entries, account_at, sum_over, IsOpen}
+use Rattle.gq_ram.specs.Owning.{Owners, owned}
+
+pub record Ledger : Type 0 where
+  pub accounts : Entries
+  pub spaces : Dataspaces
+  pub owners : Owners
+  -- the capabilities that a dataspace costs: 1, or 0 where capabilities are not counted
+  pub price : ℕ
+  pub total : ℕ
+  pub total_caps : ℕ
+
+abbrev pub with_accounts : Ledger → Entries → Ledger
+with_accounts l es = record { accounts = es; spaces = l.spaces; owners = l.owners; price = l.price; total = l.total; total_caps = l.total_caps }
+
+abbrev pub with_spaces : Ledger → Dataspaces → Ledger
+with_spaces l ss = record { accounts = l.accounts; spaces = ss; owners = l.owners; price = l.price; total = l.total; total_caps = l.total_caps }
+
+-- the dataspace k has these bytes
+abbrev pub with_content : Ledger → ℕ → List ℕ → Ledger
+with_content l k bs = with_spaces l (record { spaces = slice_set l.spaces.spaces k (Some bs); free = l.spaces.free })
+
+-- whether capabilities are counted
+abbrev pub price_where : Option ℕ → ℕ
+price_where None = 0
+price_where (Some n) = 1
+
+abbrev pub caps_where : Option ℕ → ℕ
+caps_where None = 0
+caps_where (Some n) = n
+
+abbrev pub first_ledger : ℕ → Option ℕ → Ledger
+first_ledger total caps = record {
+  accounts = Some (record { quota = total; used = 0; caps = caps_where caps; caps_used = 0; reference = None }) ∷ [];
+  spaces = record { spaces = all_free (total / 4096); free = total / 4096 };
+  owners = replicate (total / 4096) None;
+  price = price_where caps;
+  total = total;
+  total_caps = caps_where caps;
+}
+
+-- the price and the totals are the same
+abbrev pub IsSameWhole : Ledger → Ledger → Type 0
+IsSameWhole l m = (l.price ≡ m.price) × (l.total ≡ m.total) × (l.total_caps ≡ m.total_caps)
+
+-- what holds in each
+pub record IsBalanced (l : Ledger) : Type 0 where
+  pub quotas : sum_over (λ a. a.quota) l.accounts ≡ l.total
+  pub caps : sum_over (λ a. a.caps) l.accounts ≡ l.total_caps
+  pub pages : l.spaces.free * 4096 + sum_over (λ a. a.used) l.accounts ≡ l.total
+  -- what an account uses is what its dataspaces cost
+  pub used : (a : ℕ) → (account_at l.accounts a).used ≡ owned length a l.spaces.spaces l.owners
+  pub caps_used : (a : ℕ) → (account_at l.accounts a).caps_used ≡ owned (λ _. l.price) a l.spaces.spaces l.owners
+  pub within : (a : ℕ) → (account_at l.accounts a).used ≤ (account_at l.accounts a).quota
+  pub caps_within : (a : ℕ) → (account_at l.accounts a).caps_used ≤ (account_at l.accounts a).caps
+  pub small : l.total ≤ 67108864
+  pub small_caps : l.total_caps ≤ 65536
+  pub priced : l.price ≤ 1
+  -- the reference account of an account is another one, and open
+  pub references : (a : ℕ) (r : AccountNo) → (account_at l.accounts a).reference ≡ Some r → IsOpen l.accounts r.0 × (r.0 ≡ a → ⊥)
+  -- the account 0 is the root account
+  pub root : IsOpen l.accounts 0 × ((account_at l.accounts 0).reference ≡ None)
+  -- each dataspace is of an account
+  pub tables : length l.owners ≡ length l.spaces.spaces
+  pub few : length l.owners ≤ 16384
+  pub live : (k : ℕ) → is_some (get_or l.owners k None) ≡ has_bytes (get_or l.spaces.spaces k None)
+
+abbrev pub ledger_view : Inside → Ledger
+ledger_view s = record { accounts = s.accounts.items; spaces = s.spaces; owners = s.owners.items; price = s.price; total = s.total; total_caps = s.total_caps }
+
+abbrev pub IsAccounts : Inside → Type 0
+IsAccounts s = IsBalanced (ledger_view s)

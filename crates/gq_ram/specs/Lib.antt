@@ -1,0 +1,3 @@
+pub mod Entries
+pub mod Ledgers
+pub mod Owning

@@ -1,0 +1,478 @@
+// Accounts over dataspaces: who pays for what.
+ghost use Rattle.std.specs.Prelude.{◌≡◌, [], ◌∷◌, ◌+◌, ◌-◌, ◌%◌, ◌<◌, ◌≤◌, ℕ, length, replicate, slice_index, slice_set, get_or};
+ghost use Rattle.std.specs.Prelude.{Some, None, Ok, Err, IfOk, IfErr, IfSome, OnOk, OnErr};
+ghost use Rattle.std.specs.Int.{w32, to_le_bytes};
+ghost use Rattle.gq_tariff.specs.Prices.{up};
+ghost use Rattle.gq_pages.specs.Bytes.{zeros, word_at, with_bytes};
+ghost use Rattle.gq_dataspace.specs.Dataspaces.{IsVacant, content_of};
+ghost use Rattle.gq_ram.specs.Entries.{account_at, with_use, first_account, charged, relieved, quota_moved, caps_moved, left_to};
+ghost use Rattle.gq_ram.specs.Entries.{are_related, has_members, is_it, IsOpen};
+ghost use Rattle.gq_ram.specs.Entries.{transfer_refusal, transfer_caps_refusal, alloc_refusal, close_refusal};
+ghost use Rattle.gq_ram.specs.Owning.{IsOf};
+ghost use Rattle.gq_ram.specs.Ledgers.{IsBalanced, IsSameWhole, with_accounts, with_content, first_ledger};
+
+use crate::account::{Account, AccountFault, AccountNo};
+use gq_dataspace::{DsId, Spaces};
+use gq_pages::Pages;
+use gq_tariff::round_up;
+use std::alloc::{AllocError, Global};
+use std::marker::Model;
+
+// The bytes of a frame.
+const FRAME_SIZE: u64 = 4096;
+
+/// Accounts, each with a quota of bytes and one of capabilities, and the dataspaces that they pay for. A contract sees the table of accounts, the
+/// dataspaces, and which account each is of. The quotas of each kind always sum to their totals, and the bytes of the free frames and all that is
+/// used to the total. No call but `new` and `add` takes host memory.
+#[derive(Drop)]
+pub struct Accounts {
+    accounts: Vec<Option<Account>>,
+    spaces: Spaces,
+    owners: Vec<Option<AccountNo>>,
+    price: u64,
+    total: u64,
+    total_caps: u64,
+}
+
+impl Model for Accounts {
+    ghost use Rattle.gq_ram.specs.Ledgers.{Ledger};
+
+    ghost Value = { Ledger };
+
+    ghost use Rattle.gq_ram.specs.Ledgers.{ledger_view, IsAccounts};
+
+    ghost view = { ledger_view };
+
+    ghost invariant = { IsAccounts };
+}
+
+impl Accounts {
+    /// Frames for `total` bytes, and the root account, which has all quota of both kinds. `caps` is how many capabilities there are; where it is
+    /// `None` nothing of capabilities is counted or refused. It makes a table of owners with an entry for each frame. `Err` where the host refuses
+    /// memory.
+    pub fn new(alloc: Global, total: u64, caps: Option<u64>) -> Result<Accounts, AllocError>
+        requires total { (4096 ≤ total) × (total ≤ 67108864) }
+        requires whole { total % 4096 ≡ 0 }
+        requires caps { IfSome caps (λ n. (1 ≤ n) × (n ≤ 65536)) }
+        ensures { IfOk result (λ l. l ≡ first_ledger total caps) }
+    {
+        let frames = (total / FRAME_SIZE) as u32;
+        let pages = Pages::new(alloc, frames)?;
+        let spaces = Spaces::new(alloc, pages)?;
+        let owners = no_owners(alloc, frames)?;
+        let (price, total_caps) = match caps {
+            Some(caps) => (1, caps),
+            None => (0, 0),
+        };
+        let root = Account {
+            quota: total,
+            used: 0,
+            caps: total_caps,
+            caps_used: 0,
+            reference: None,
+        };
+        let accounts = root_alone(alloc, root)?;
+        Ok(Accounts {
+            accounts,
+            spaces,
+            owners,
+            price,
+            total,
+            total_caps,
+        })
+    }
+
+    /// Opens an account with that reference account, and with quota 0 of both kinds. `Err` where the host refuses memory; then all stays as it was.
+    pub fn add(&mut self, reference: AccountNo) -> Result<AccountNo, AllocError>
+        requires { IsOpen self.old.accounts reference.0 }
+        ensures was_closed { IfOk result (λ account. get_or self.old.accounts account.0 None ≡ None) }
+        ensures opened { IfOk result (λ account. get_or self.new.accounts account.0 None ≡ Some (first_account reference)) }
+        ensures others { IfOk result (λ account. (k : ℕ) → (k ≡ account.0 → ⊥) → get_or self.new.accounts k None ≡ get_or self.old.accounts k None) }
+        ensures same { self.new ≡ with_accounts self.old self.new.accounts }
+        ensures unchanged { OnErr result (self.new ≡ self.old) }
+    {
+        let place = self.reserve()?;
+        self.accounts[place] = Some(Account {
+            quota: 0,
+            used: 0,
+            caps: 0,
+            caps_used: 0,
+            reference: Some(reference),
+        });
+        Ok(AccountNo(place))
+    }
+
+    /// The quota of an account in bytes.
+    pub fn quota(&self, account: AccountNo) -> u64
+        requires { IsOpen self.now.accounts account.0 }
+        ensures { result ≡ (account_at self.now.accounts account.0).quota }
+    {
+        self.account(account).quota
+    }
+
+    /// The bytes that its dataspaces cost.
+    pub fn used(&self, account: AccountNo) -> u64
+        requires { IsOpen self.now.accounts account.0 }
+        ensures { result ≡ (account_at self.now.accounts account.0).used }
+    {
+        self.account(account).used
+    }
+
+    /// The quota of an account in bytes, less what is used of it.
+    pub fn avail(&self, account: AccountNo) -> u64
+        requires { IsOpen self.now.accounts account.0 }
+        ensures { result ≡ (account_at self.now.accounts account.0).quota - (account_at self.now.accounts account.0).used }
+    {
+        let _total = self.total;
+        let account = self.account(account);
+        account.quota - account.used
+    }
+
+    /// The quota of an account in capabilities.
+    pub fn caps(&self, account: AccountNo) -> u64
+        requires { IsOpen self.now.accounts account.0 }
+        ensures { result ≡ (account_at self.now.accounts account.0).caps }
+    {
+        self.account(account).caps
+    }
+
+    /// The capabilities that its dataspaces cost, one for each; 0 where capabilities are not counted.
+    pub fn caps_used(&self, account: AccountNo) -> u64
+        requires { IsOpen self.now.accounts account.0 }
+        ensures { result ≡ (account_at self.now.accounts account.0).caps_used }
+    {
+        self.account(account).caps_used
+    }
+
+    /// The account that its quota comes from; the root account has none.
+    pub fn reference(&self, account: AccountNo) -> Option<AccountNo>
+        requires { IsOpen self.now.accounts account.0 }
+        ensures { result ≡ (account_at self.now.accounts account.0).reference }
+    {
+        self.account(account).reference
+    }
+
+    /// How many frames are free.
+    pub fn free_pages(&self) -> u32
+        ensures { result ≡ self.now.spaces.free }
+    {
+        self.spaces.free_frames()
+    }
+
+    /// The byte at `offset` of a dataspace.
+    pub fn load(&self, ds: DsId, offset: u32) -> u8
+        requires { offset < length (content_of self.now.spaces.spaces ds.0) }
+        ensures { result ≡ slice_index (content_of self.now.spaces.spaces ds.0) offset }
+    {
+        self.spaces.load(ds, offset)
+    }
+
+    /// The number in the four bytes from `offset` on, the lowest first.
+    pub fn load4(&self, ds: DsId, offset: u32) -> u32
+        requires { offset + 4 ≤ length (content_of self.now.spaces.spaces ds.0) }
+        ensures { result ≡ word_at (content_of self.now.spaces.spaces ds.0) offset }
+    {
+        self.spaces.load4(ds, offset)
+    }
+
+    /// Writes the byte at `offset` of a dataspace.
+    pub fn store(&mut self, ds: DsId, offset: u32, byte: u8)
+        requires { offset < length (content_of self.old.spaces.spaces ds.0) }
+        ensures { self.new ≡ with_content self.old ds.0 (slice_set (content_of self.old.spaces.spaces ds.0) offset byte) }
+    {
+        self.spaces.store(ds, offset, byte);
+    }
+
+    /// Writes a number to the four bytes from `offset` on, the lowest first.
+    pub fn store4(&mut self, ds: DsId, offset: u32, word: u32)
+        requires { offset + 4 ≤ length (content_of self.old.spaces.spaces ds.0) }
+        ensures { self.new ≡ with_content self.old ds.0 (with_bytes (content_of self.old.spaces.spaces ds.0) offset (to_le_bytes w32 word)) }
+    {
+        self.spaces.store4(ds, offset, word);
+    }
+
+    /// Moves `amount` bytes of quota from an account to its reference account, or the other way. `NotRelated` where neither is the other's
+    /// reference account, then `Exceeded` where `from` has less that is not used.
+    pub fn transfer(
+        &mut self,
+        from: AccountNo,
+        to: AccountNo,
+        amount: u64,
+    ) -> Result<(), AccountFault>
+        requires from_open { IsOpen self.old.accounts from.0 }
+        requires to_open { IsOpen self.old.accounts to.0 }
+        ensures moved { OnOk result (self.new ≡ with_accounts self.old (quota_moved self.old.accounts from.0 to.0 amount)) }
+        ensures unchanged { OnErr result (self.new ≡ self.old) }
+        ensures refused { IfErr result (λ fault. transfer_refusal self.old.accounts from to amount ≡ Some fault) }
+        ensures allowed { OnOk result (transfer_refusal self.old.accounts from to amount ≡ None) }
+    {
+        if !self.are_related(from, to) {
+            return Err(AccountFault::NotRelated);
+        }
+        let giver = self.account(from);
+        if giver.quota - giver.used < amount {
+            return Err(AccountFault::Exceeded);
+        }
+        let taker = self.account(to);
+        self.accounts[from.0] = Some(Account {
+            quota: giver.quota - amount,
+            ..giver
+        });
+        self.accounts[to.0] = Some(Account {
+            quota: taker.quota + amount,
+            ..taker
+        });
+        Ok(())
+    }
+
+    /// Moves `amount` capabilities of quota from an account to its reference account, or the other way. `NotRelated` where neither is the other's
+    /// reference account, then `CapsExceeded` where `from` has fewer that are not used. Where capabilities are not counted nothing moves.
+    pub fn transfer_caps(
+        &mut self,
+        from: AccountNo,
+        to: AccountNo,
+        amount: u64,
+    ) -> Result<(), AccountFault>
+        requires from_open { IsOpen self.old.accounts from.0 }
+        requires to_open { IsOpen self.old.accounts to.0 }
+        ensures moved { OnOk result (1 ≤ self.old.price → self.new ≡ with_accounts self.old (caps_moved self.old.accounts from.0 to.0 amount)) }
+        ensures uncounted { OnOk result (self.old.price ≡ 0 → self.new ≡ self.old) }
+        ensures unchanged { OnErr result (self.new ≡ self.old) }
+        ensures refused { IfErr result (λ fault. transfer_caps_refusal self.old.accounts self.old.price from to amount ≡ Some fault) }
+        ensures allowed { OnOk result (transfer_caps_refusal self.old.accounts self.old.price from to amount ≡ None) }
+    {
+        if !self.are_related(from, to) {
+            return Err(AccountFault::NotRelated);
+        }
+        if self.price == 0 {
+            return Ok(());
+        }
+        let giver = self.account(from);
+        if giver.caps - giver.caps_used < amount {
+            return Err(AccountFault::CapsExceeded);
+        }
+        let taker = self.account(to);
+        self.accounts[from.0] = Some(Account {
+            caps: giver.caps - amount,
+            ..giver
+        });
+        self.accounts[to.0] = Some(Account {
+            caps: taker.caps + amount,
+            ..taker
+        });
+        Ok(())
+    }
+
+    /// Makes a dataspace of `size` bytes in whole pages, each byte 0, which the account pays for. `ZeroSize` for 0 bytes, then `Exceeded` where
+    /// its pages cost more than the account has that is not used, then `CapsExceeded` where it has no capability left. Frames never run short.
+    pub fn alloc(&mut self, account: AccountNo, size: u64) -> Result<DsId, AccountFault>
+        requires { IsOpen self.old.accounts account.0 }
+        ensures paid { IfOk result (λ ds. self.new.accounts ≡ charged self.old.accounts account.0 (up size) self.old.price) }
+        ensures was_vacant { IfOk result (λ ds. IsVacant self.old.spaces.spaces ds.0) }
+        ensures made { IfOk result (λ ds. self.new.spaces.spaces ≡ slice_set self.old.spaces.spaces ds.0 (Some (zeros (up size)))) }
+        ensures of_it { IfOk result (λ ds. self.new.owners ≡ slice_set self.old.owners ds.0 (Some account)) }
+        ensures same_whole { IsSameWhole self.new self.old }
+        ensures unchanged { OnErr result (self.new ≡ self.old) }
+        ensures refused { IfErr result (λ fault. alloc_refusal (account_at self.old.accounts account.0) self.old.price size ≡ Some fault) }
+        ensures allowed { OnOk result (alloc_refusal (account_at self.old.accounts account.0) self.old.price size ≡ None) }
+    {
+        if size == 0 {
+            return Err(AccountFault::ZeroSize);
+        }
+        let payer = self.account(account);
+        let avail = payer.quota - payer.used;
+        if size > avail {
+            return Err(AccountFault::Exceeded);
+        }
+        let cost = round_up(size);
+        if cost > avail {
+            return Err(AccountFault::Exceeded);
+        }
+        if payer.caps - payer.caps_used < self.price {
+            return Err(AccountFault::CapsExceeded);
+        }
+        let Ok(ds) = self.spaces.create(size) else {
+            unreachable!();
+        };
+        self.owners[ds.0 as usize] = Some(account);
+        self.accounts[account.0] = Some(Account {
+            used: payer.used + cost,
+            caps_used: payer.caps_used + self.price,
+            ..payer
+        });
+        Ok(ds)
+    }
+
+    /// Removes a dataspace of the account, which no longer pays for it.
+    pub fn free(&mut self, account: AccountNo, ds: DsId)
+        requires open { IsOpen self.old.accounts account.0 }
+        requires its_own { IsOf self.old.owners ds.0 account }
+        ensures paid { self.new.accounts ≡ relieved self.old.accounts account.0 (length (content_of self.old.spaces.spaces ds.0)) self.old.price }
+        ensures gone { self.new.spaces.spaces ≡ slice_set self.old.spaces.spaces ds.0 None }
+        ensures of_none { self.new.owners ≡ slice_set self.old.owners ds.0 None }
+        ensures same_whole { IsSameWhole self.new self.old }
+    {
+        let payer = self.account(account);
+        let size = self.spaces.size(ds);
+        self.spaces.destroy(ds);
+        self.owners[ds.0 as usize] = None;
+        self.accounts[account.0] = Some(Account {
+            used: payer.used - size,
+            caps_used: payer.caps_used - self.price,
+            ..payer
+        });
+    }
+
+    /// Closes an account: its dataspaces are removed, and its quota of both kinds goes to its reference account. `IsRoot` for the root account,
+    /// then `HasMembers` where it is the reference account of another one.
+    pub fn close(&mut self, account: AccountNo) -> Result<(), AccountFault>
+        requires { IsOpen self.old.accounts account.0 }
+        ensures left { OnOk result (IfSome (account_at self.old.accounts account.0).reference (λ r. self.new.accounts ≡ left_to self.old.accounts account.0 r.0)) }
+        ensures gone { OnOk result ((k : ℕ) → IsOf self.old.owners k account → get_or self.new.spaces.spaces k None ≡ None) }
+        ensures others { OnOk result ((k : ℕ) → (IsOf self.old.owners k account → ⊥) → get_or self.new.spaces.spaces k None ≡ get_or self.old.spaces.spaces k None) }
+        ensures other_owners { OnOk result ((k : ℕ) → (IsOf self.old.owners k account → ⊥) → get_or self.new.owners k None ≡ get_or self.old.owners k None) }
+        ensures same_whole { IsSameWhole self.new self.old }
+        ensures unchanged { OnErr result (self.new ≡ self.old) }
+        ensures refused { IfErr result (λ fault. close_refusal self.old.accounts account ≡ Some fault) }
+        ensures allowed { OnOk result (close_refusal self.old.accounts account ≡ None) }
+    {
+        let closing = self.account(account);
+        let Some(reference) = closing.reference else {
+            return Err(AccountFault::IsRoot);
+        };
+        if self.has_members(account) {
+            return Err(AccountFault::HasMembers);
+        }
+        self.free_all(account);
+        let heir = self.account(reference);
+        self.accounts[account.0] = None;
+        self.accounts[reference.0] = Some(Account {
+            quota: heir.quota + closing.quota,
+            caps: heir.caps + closing.caps,
+            ..heir
+        });
+        Ok(())
+    }
+
+    /// The account that has all quota at first. It has no reference account and is never closed.
+    pub fn root(&self) -> AccountNo
+        ensures first { result.0 ≡ 0 }
+        ensures open { IsOpen self.now.accounts result.0 }
+        ensures alone { (account_at self.now.accounts result.0).reference ≡ None }
+    {
+        let _total = self.total;
+        AccountNo(0)
+    }
+
+    // Removes the dataspaces of the account.
+    fn free_all(&mut self, account: AccountNo)
+        requires { IsOpen self.old.accounts account.0 }
+        ensures paid { self.new.accounts ≡ slice_set self.old.accounts account.0 (Some (with_use (account_at self.old.accounts account.0) 0 0)) }
+        ensures gone { (k : ℕ) → IsOf self.old.owners k account → get_or self.new.spaces.spaces k None ≡ None }
+        ensures none { (k : ℕ) → IsOf self.new.owners k account → ⊥ }
+        ensures others { (k : ℕ) → (IsOf self.old.owners k account → ⊥) → get_or self.new.spaces.spaces k None ≡ get_or self.old.spaces.spaces k None }
+        ensures other_owners { (k : ℕ) → (IsOf self.old.owners k account → ⊥) → get_or self.new.owners k None ≡ get_or self.old.owners k None }
+        ensures same_whole { IsSameWhole self.new self.old }
+    {
+        let count = self.owners.len() as u32;
+        for k in 0..count {
+            if is_it(self.owners[k as usize], account) {
+                self.free(account, DsId(k));
+            }
+        }
+        let _total = self.total;
+    }
+
+    // Whether one of the two is the other's reference account.
+    fn are_related(&self, a: AccountNo, b: AccountNo) -> bool
+        requires a_open { IsOpen self.now.accounts a.0 }
+        requires b_open { IsOpen self.now.accounts b.0 }
+        ensures { result ≡ are_related self.now.accounts a b }
+    {
+        is_it(self.account(a).reference, b) || is_it(self.account(b).reference, a)
+    }
+
+    // Whether the account is the reference account of another one.
+    fn has_members(&self, account: AccountNo) -> bool
+        ensures { result ≡ has_members self.now.accounts account }
+    {
+        for k in 0..self.accounts.len() {
+            if let Some(member) = self.accounts[k] {
+                if is_it(member.reference, account) {
+                    return true;
+                }
+            }
+        }
+        false
+    }
+
+    /// What holds in every `Accounts`. It does nothing.
+    pub fn laws(&self)
+        ensures { IsBalanced self.now }
+    {
+        let _total = self.total;
+    }
+
+    // Finds a number without an account.
+    fn reserve(&mut self) -> Result<usize, AllocError>
+        ensures there { IfOk result (λ place. place < length self.new.accounts) }
+        ensures closed { IfOk result (λ place. get_or self.new.accounts place None ≡ None) }
+        ensures others { (k : ℕ) → get_or self.new.accounts k None ≡ get_or self.old.accounts k None }
+        ensures same { self.new ≡ with_accounts self.old self.new.accounts }
+        ensures unchanged { OnErr result (self.new ≡ self.old) }
+    {
+        let place = first_closed(&self.accounts);
+        if place == self.accounts.len() {
+            self.accounts.push(None)?;
+        }
+        Ok(place)
+    }
+
+    // The account of that number.
+    fn account(&self, account: AccountNo) -> Account
+        requires { IsOpen self.now.accounts account.0 }
+        ensures { result ≡ account_at self.now.accounts account.0 }
+    {
+        let Some(account) = self.accounts[account.0] else {
+            unreachable!();
+        };
+        account
+    }
+}
+
+// No account owns any of so many dataspaces.
+fn no_owners(alloc: Global, count: u32) -> Result<Vec<Option<AccountNo>>, AllocError>
+    ensures { IfOk result (λ owners. owners.items ≡ replicate count None) }
+{
+    Vec::from_elem(alloc, None, count as usize)
+}
+
+// The root account and no other.
+fn root_alone(alloc: Global, root: Account) -> Result<Vec<Option<Account>>, AllocError>
+    ensures { IfOk result (λ accounts. accounts.items ≡ Some root ∷ []) }
+{
+    Vec::from_elem(alloc, Some(root), 1)
+}
+
+// Whether there is that account, and it is `account`.
+fn is_it(there: Option<AccountNo>, account: AccountNo) -> bool
+    ensures { result ≡ is_it there account }
+{
+    match there {
+        Some(there) => there.0 == account.0,
+        None => false,
+    }
+}
+
+// The first number without an account, or how many numbers there are.
+fn first_closed(accounts: &Vec<Option<Account>>) -> usize
+    ensures within { result ≤ length accounts.now.items }
+    ensures closed { get_or accounts.now.items result None ≡ None }
+{
+    for k in 0..accounts.len() {
+        if accounts[k].is_none() {
+            return k;
+        }
+    }
+    accounts.len()
+}
