@@ -1,14 +1,19 @@
 #!/usr/bin/env python3
-"""Takes the times of docs/BENCHMARKS.md: run.py PROGRAM, where PROGRAM is crates/benchmark/out/benchmark.
+"""Takes the times of docs/BENCHMARKS.md: run.py BENCHMARK TRADE, the programs crates/benchmark/out/benchmark and crates/trade/out/trade.
 
-Each line has a piece of work, the bytes that go in, the time of doing it once, and bytes per second. The program does it so often
-that it takes about a second, five times over; the least of the five times counts, since whatever else the machine does only adds.
+Each program is run several times, and the median of the times counts. The C compiler `cc` makes malloc.c, whose blocks stand beside those of the heap.
 """
+import os
+import re
+import statistics
 import subprocess
 import sys
+import tempfile
+import time
 
-SECONDS = 1.0
-ROUNDS = 5
+SECONDS = 0.5
+ROUNDS = 7
+CLASSES = [16, 32, 64, 128, 256, 512, 1024, 2048]
 
 
 def program(statements):
@@ -33,6 +38,27 @@ def nested():
     return program(block * (4096 // statements))
 
 
+def balanced():
+    """Blocks four deep that take each operand they put, 4096 statements in all."""
+    block = ["loop 2", "push 1", "if", "loop 2", "push 0", "if", "else", "end", "end", "else", "end", "end"]
+    statements = sum(1 for line in block if line not in ("else", "end"))
+    return program(block * (4096 // statements))
+
+
+def spaces():
+    """4096 statements that make a space and free it."""
+    return program(["space o0 4096", "free o0"] * 2048)
+
+
+def sessions():
+    """4096 statements, of sessions to each of 64 services with a call."""
+    statements = []
+    for number in range(819):
+        service = f"s{number // 8 % 8}{number % 8}"
+        statements += [f"open o0 {service} 8192", "push 1", "call o0", "out", "close o0"]
+    return program(statements + ['say "done"'])
+
+
 def scenario(leaves, text):
     """A scenario with so many leaves of this program."""
     head = 'version = 1\nram = "64M"\n'
@@ -46,23 +72,27 @@ def greatest():
     return text + b"#" * (2**20 - len(text))
 
 
-def once(benchmark, work, times, given):
-    """The nanoseconds that the work takes once, and what it gives."""
-    ran = subprocess.run([benchmark, work, str(times)], input=given, capture_output=True, check=True)
-    return int(ran.stderr.split()[0]), ran.stdout.decode().strip()
+def once(command, given=b""):
+    """The nanoseconds of each thing that a program measures, done once."""
+    ran = subprocess.run([str(word) for word in command], input=given, capture_output=True, check=True)
+    lines = re.findall(r"^(.*): (\d+) in (\d+) ns$", ran.stderr.decode(), re.M)
+    return {name: int(nanoseconds) / max(1, int(times)) for name, times, nanoseconds in lines}
+
+
+def medians(command, given=b""):
+    """The median of several runs, of each thing that a program measures."""
+    runs = [once(command, given) for _ in range(ROUNDS)]
+    return {name: statistics.median(run[name] for run in runs) for name in runs[0]}
 
 
 def measured(benchmark, work, given):
-    """The least time of several rounds, in nanoseconds."""
-    first, _ = once(benchmark, work, 1, given)
-    times = max(1, int(SECONDS * 1e9 / max(first, 1)))
-    return min(once(benchmark, work, times, given)[0] for _ in range(ROUNDS))
+    """The nanoseconds of a piece of work, done so often that it takes a while."""
+    first = once([benchmark, work, 1], given)[work]
+    return medians([benchmark, work, max(1, int(SECONDS * 1e9 / max(first, 1)))], given)[work]
 
 
 def code_of(text, trade):
     """The code of a program text, by `trade asm`."""
-    import tempfile
-
     with tempfile.NamedTemporaryFile(suffix=".toml") as file:
         file.write(scenario(1, text))
         file.flush()
@@ -70,22 +100,144 @@ def code_of(text, trade):
     return bytes.fromhex(ran.stdout.decode())
 
 
-def main():
-    benchmark, trade = sys.argv[1], sys.argv[2]
+def table(*heads):
+    """The head of a table."""
+    print("\n| " + " | ".join(heads) + " |")
+    print("|" + "---|" * len(heads))
+
+
+def row(*cells):
+    """A row of a table."""
+    print("| " + " | ".join(str(cell) for cell in cells) + " |", flush=True)
+
+
+def programs(benchmark, trade):
+    """Programs and scenarios."""
     texts = {"4096 short statements": short(), "4096 texts of 64 bytes": long(), "blocks four deep": nested()}
     rows = []
     for name, text in texts.items():
         code = code_of(text, trade)
-        rows.append(("assemble", name, text))
-        rows.append(("encode", name, text))
-        rows.append(("decode", name, code))
-    rows.append(("read", "a scenario of 64 leaves and 1 MiB", greatest()))
-    print("| Work | Of | Bytes in | Time | MB/s |")
-    print("|---|---|---|---|---|")
-    for work, name, given in rows:
-        size = len(code_of(given, trade)) if work == "encode" else len(given)
+        rows += [("assemble", name, text, len(text)), ("encode", name, text, len(code)), ("decode", name, code, len(code))]
+    text = greatest()
+    rows.append(("read", "a scenario of 64 leaves and 1 MiB", text, len(text)))
+    table("Work", "Of", "Bytes in", "Time", "MB/s")
+    for work, name, given, size in rows:
         nanoseconds = measured(benchmark, work, given)
-        print(f"| {work} | {name} | {size} | {nanoseconds / 1e6:.3f} ms | {size * 1e3 / nanoseconds:.0f} |")
+        row(work, name, size, f"{nanoseconds / 1e6:.3f} ms", f"{size * 1e3 / nanoseconds:.0f}")
+
+
+def verifier(benchmark):
+    """The verifier, with 64 interfaces."""
+    texts = {"4096 short statements": short(), "blocks four deep": balanced(), "spaces": spaces(), "sessions": sessions()}
+    table("Verified", "Statements", "Time", "Each statement")
+    for name, text in texts.items():
+        count = sum(1 for line in text.decode().split("\n") if line not in ("", "main", "else", "end"))
+        nanoseconds = measured(benchmark, "verify", text)
+        row(name, count, f"{nanoseconds / 1e6:.3f} ms", f"{nanoseconds / count:.0f} ns")
+
+
+def server(number, opens):
+    """A leaf that provides a service of its number, and opens these in `main` and calls each of them for each of its own calls."""
+    own = [f"open o{place} s{other} 8192" for place, other in enumerate(opens)]
+    calls = [line for place, _ in enumerate(opens) for line in (f"call o{place}",)]
+    text = ["main", *own, "end", "open", "end", "call 0", *calls, "end", "close 0", "end"]
+    return f'[[start]]\nname = "l{number}"\nquantum = "1M"\nprovides = "s{number}"\nprogram = \'\'\'\n' + "\n".join(text) + "\n\'\'\'\n"
+
+
+def client(number, opens):
+    """A leaf that opens these services, calls each once and closes them."""
+    lines = [line for other in opens for line in (f"open o0 s{other} 8192", "push 1", "call o0", "out", "close o0")]
+    text = ["main", *lines, "end"]
+    return f'[[start]]\nname = "l{number}"\nquantum = "1M"\nprogram = \'\'\'\n' + "\n".join(text) + "\n\'\'\'\n"
+
+
+def users(leaves):
+    """A scenario of 64 leaves with 64 services."""
+    head = 'version = 1\nram = "64M"\ndefault-route = [{ any-service = true, any-child = true }]\n'
+    interfaces = "".join(f'[interface.s{number}]\narg = 9\nreply = 9\nneed = "8K"\n' for number in range(64))
+    return (head + interfaces + "".join(leaves)).encode()
+
+
+def budgets(trade):
+    """`trade check` of 64 leaves, the whole run of the program."""
+    texts = {
+        "without sessions": scenario(64, program(["push 1", "out"])),
+        "in a chain, each the client of the next": users([client(0, [1])] + [server(n, [n + 1] if n < 63 else []) for n in range(1, 64)]),
+        "in a star, one the client of 63": users([client(0, range(1, 64))] + [server(n, []) for n in range(1, 64)]),
+        "in a star, 63 the clients of one": users([server(0, [])] + [client(n, [0]) for n in range(1, 64)]),
+        "each the client of the eight next": users([client(0, range(1, 9))] + [server(n, range(n + 1, min(n + 9, 64))) for n in range(1, 64)]),
+        "each the client of all later ones": users([client(0, range(1, 64))] + [server(n, range(n + 1, 64)) for n in range(1, 64)]),
+    }
+    table("64 leaves", "Time of `trade check`", "Greatest budget")
+    for name, text in texts.items():
+        with tempfile.NamedTemporaryFile(suffix=".toml") as file:
+            file.write(text)
+            file.flush()
+            took = []
+            for _ in range(ROUNDS):
+                start = time.perf_counter()
+                ran = subprocess.run([trade, "check", file.name], capture_output=True)
+                took.append(time.perf_counter() - start)
+        lines = ran.stdout.decode().split("\n")[:-1]
+        told = max((int(line.split()[-1]) for line in lines), default=None)
+        row(name, f"{statistics.median(took) * 1e3:.1f} ms", told if told is not None else ran.stderr.decode().strip())
+
+
+def words(benchmark):
+    """Numbers in a dataspace and in a `Vec`."""
+    took = medians([benchmark, "words", 20])
+    table("Four bytes of 1 MiB", "Dataspace", "`Vec<u8>`")
+    for name in ["store4 in sequence", "load4 in sequence", "store4 at random", "load4 at random"]:
+        row(name, f"{took['dataspace ' + name]:.1f} ns", f"{took['Vec ' + name]:.1f} ns")
+
+
+def frames(benchmark):
+    """Frames, and what is made for 64 MiB."""
+    took = medians([benchmark, "frames", 5])
+    table("Work", "Time")
+    for name in ["frame first take", "frame take and give", "Vec of a frame"]:
+        row(name, f"{took[name]:.0f} ns")
+    for name in ["Pages::new of 64 MiB", "Accounts::new of 64 MiB", "Vec of 64 MiB"]:
+        row(name, f"{took[name] / 1e6:.3f} ms")
+
+
+def blocks(benchmark):
+    """Blocks of each class, beside those of other heaps."""
+    with tempfile.TemporaryDirectory() as folder:
+        malloc = os.path.join(folder, "malloc")
+        source = os.path.join(os.path.dirname(os.path.abspath(__file__)), "malloc.c")
+        subprocess.run(["cc", "-O2", "-fno-builtin", "-o", malloc, source], check=True)
+        took = {size: {} for size in CLASSES}
+        for size in CLASSES:
+            for command in ([benchmark, "heap", 10, size], [malloc, 10, size], [benchmark, "list", 10, size]):
+                took[size].update(medians(command))
+    phases = ["first alloc", "free", "alloc again", "alloc and free, no other block", "alloc and free, all others in use"]
+    for phase in phases:
+        names = [name for name in ["heap", "malloc", "calloc", "list"] if f"{name} {phase}" in took[16]]
+        table(phase, *names)
+        for size in CLASSES:
+            row(f"{size} bytes", *(f"{took[size][f'{name} {phase}']:.0f} ns" for name in names))
+
+
+def others(benchmark):
+    """Slices and pools."""
+    table("Work", "Time")
+    for size in [4064, 65504]:
+        row(f"slice of {size} bytes, alloc and free", f"{medians([benchmark, 'slices', 5, size])['slice alloc and free']:.0f} ns")
+    took = medians([benchmark, "pool", 20])
+    for name in ["pool first take", "pool give", "pool take again"]:
+        row(f"{name}, entries of 16 bytes", f"{took[name]:.0f} ns")
+
+
+def main():
+    benchmark, trade = sys.argv[1], sys.argv[2]
+    programs(benchmark, trade)
+    verifier(benchmark)
+    budgets(trade)
+    words(benchmark)
+    frames(benchmark)
+    blocks(benchmark)
+    others(benchmark)
 
 
 if __name__ == "__main__":

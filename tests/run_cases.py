@@ -4,7 +4,7 @@
 A case is a folder, named by what it shows. It has
   scenario.toml   the scenario,
   turns           the turns; without the file there are none,
-  command         `run`, or `asm LEAF`, or `stored` for the scenario and the turns in one text on standard input,
+  command         `run`, `check`, or `asm LEAF`, or `stored` for the scenario and the turns in one text on standard input,
   stdout, stderr, status   what the program has to write, and the exit status that it has to end with,
   length          where it is there: the number of bytes to which the scenario is filled up with number signs, which
                   a comment in its last line is made of.

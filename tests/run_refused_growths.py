@@ -1,10 +1,13 @@
 #!/usr/bin/env python3
-"""Refuses each growth of host memory of a run in turn: run_refused_growths.py PROGRAM
+"""Refuses each growth of host memory of a run in turn: run_refused_growths.py PROGRAM BENCHMARK
 
-The runs are that of each example, with paths and in the stored form, and those of a few cases: a program given as code, and the
-code of a leaf. For each growth that the run asks for, one after the
+The runs are that of each example, with paths and in the stored form, and those of a few cases: a program given as code, the budgets
+of a scenario, and the code of a leaf. For each growth that the run asks for, one after the
 other, the program is run with that growth refused. It then has to write nothing to standard output, to tell
 `trade: host memory refused`, and to end with status 3. With none refused it has to write the text of the example or the case.
+
+The crates of component memory are run so by the program `benchmark`: with a growth refused it has to write nothing to standard
+output, to end standard error with a line after `benchmark: `, and to end with status 1.
 
 A program that the C compiler `cc` builds (tests/refuse_growth.c) refuses the growths. The last line is 'N passed, M failed',
 and the exit status is 1 where a run failed.
@@ -18,10 +21,11 @@ import tempfile
 TOP = pathlib.Path(__file__).resolve().parent.parent
 EXAMPLES = TOP / "examples"
 CASES = TOP / "tests" / "cases"
-SOME_CASES = "code-run", "asm-hello", "asm-code-in-capitals"
+SOME_CASES = "code-run", "check-two-leaves", "check-client-and-server", "check-two-inits-deep", "asm-hello", "asm-code-in-capitals"
 SOURCE = TOP / "tests" / "refuse_growth.c"
 SECONDS = 120
 REFUSED = b"", b"trade: host memory refused\n", 3
+SOME_WORKS = "words 1", "heap 1 64", "slices 1 64", "pool 1 64"
 
 
 def built(room):
@@ -55,10 +59,22 @@ def runs():
         yield name, [command, *files, *more], b"", (case / "stdout").read_bytes()
 
 
+def works(benchmark, shared, room):
+    """What was wanted and what came of each refused growth of the works in component memory."""
+    for work in SOME_WORKS:
+        whole, growths = result_of(benchmark, shared, room, work.split(), b"", 0)
+        yield f"{work}, refused: none", 0, whole[2]
+        yield f"{work}, refused: any", True, growths > 0
+        for number in range(1, growths + 1):
+            (out, err, status), _ = result_of(benchmark, shared, room, work.split(), b"", number)
+            told = err.endswith(b"\n") and err.splitlines()[-1].startswith(b"benchmark: ")
+            yield f"{work}, refused: growth {number} of {growths}", (b"", True, 1), (out, told, status)
+
+
 def main(words):
-    if len(words) != 1 or words[0].startswith("-"):
+    if len(words) != 2 or words[0].startswith("-"):
         sys.exit(__doc__)
-    program = str(pathlib.Path(words[0]).resolve())
+    program, benchmark = (str(pathlib.Path(word).resolve()) for word in words)
     passed = failed = 0
     with tempfile.TemporaryDirectory() as folder:
         room = pathlib.Path(folder)
@@ -77,6 +93,12 @@ def main(words):
                     continue
                 failed += 1
                 print(f"FAILED {name}, refused: {what}\n  wanted {wanted}\n  got    {got}")
+        for what, wanted, got in works(benchmark, shared, room):
+            if wanted == got:
+                passed += 1
+            else:
+                failed += 1
+                print(f"FAILED {what}\n  wanted {wanted}\n  got    {got}")
     print(f"{passed} passed, {failed} failed")
     return 1 if failed or not passed else 0
 

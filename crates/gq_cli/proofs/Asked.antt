@@ -7,9 +7,9 @@ use Rattle.clap.specs.declared.error.Error.{Error}
 use Rattle.clap.specs.declared.error.kind.ErrorKind.{ErrorKind}
 use Rattle.clap.specs.declared.error.kind.ErrorKind.TheVariants.{DisplayHelp, OutOfMemory}
 use Rattle.clap.proofs.OnLiterals.{clap_on_literals}
-use Rattle.gq_cli.specs.CommandLine.{IsAsked, IsHelp, IsMisused, IsWanted, Wanted, Run_wanted, Asm_wanted, wanted, wanted_in, trade}
+use Rattle.gq_cli.specs.CommandLine.{IsAsked, IsHelp, IsMisused, IsWanted, Wanted, Check_wanted, Run_wanted, Asm_wanted, wanted, wanted_in, trade}
 use Rattle.gq_cli.specs.declared.command.Command.{Command}
-use Rattle.gq_cli.specs.declared.command.Command.TheVariants.{Run, Asm, Stored, Help}
+use Rattle.gq_cli.specs.declared.command.Command.TheVariants.{Check, Run, Asm, Stored, Help}
 use Rattle.gq_cli.specs.declared.command.CommandError.{CommandError}
 use Rattle.gq_cli.specs.declared.command.CommandError.TheVariants.{Memory, Usage}
 
@@ -31,6 +31,7 @@ chosen faults found = cond (is_empty faults) (wanted_in found) None
 
 pub asked-ok : (words : List Text) (found : Option (Text × List Row)) (command : Command) → words ≢ [] → fault_of trade words ≡ [] → found ≡ subcommand_of trade words
     → IsWanted (wanted_in found) command → IsAsked words command
+asked-ok words found (Check scenario) ne passes is h = (ne, ap₂ chosen passes (sym is) ∙ h)
 asked-ok words found (Run scenario turns) ne passes is h = (ne, ap₂ chosen passes (sym is) ∙ h)
 asked-ok words found (Asm scenario leaf) ne passes is h = (ne, ap₂ chosen passes (sym is) ∙ h)
 asked-ok words found Stored ne passes is h = absurd h
@@ -61,6 +62,7 @@ help_not_memory e = cc
 
 pub asked-err : (words : List Text) (error : Error) (command : Command) → words ≢ [] → HasKind (fault_of trade words) error
     → (kind_of error ≡ DisplayHelp) × IsHelp command → IsAsked words command
+asked-err words error (Check scenario) ne kinds h = absurd h.1
 asked-err words error (Run scenario turns) ne kinds h = absurd h.1
 asked-err words error (Asm scenario leaf) ne kinds h = absurd h.1
 asked-err words error Stored ne kinds h = absurd h.1
@@ -78,6 +80,10 @@ misused-err words error Usage ne kinds h =
     )
 
 -- SAMPLES
+
+check_is_wanted : wanted (codes "check" ∷ codes "hello.toml" ∷ []) ≡ Some (Check_wanted (codes "hello.toml"))
+unfolding clap_on_literals
+check_is_wanted = refl
 
 run_is_wanted : wanted (codes "run" ∷ codes "hello.toml" ∷ codes "hello.turns" ∷ []) ≡ Some (Run_wanted (codes "hello.toml") (codes "hello.turns"))
 unfolding clap_on_literals

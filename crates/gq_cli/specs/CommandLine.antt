@@ -7,7 +7,7 @@ use Rattle.clap.specs.Simple.{on_top}
 use Rattle.gq_model.specs.Program.{text_eq}
 use Rattle.clap.specs.declared.error.kind.ErrorKind.TheVariants.{DisplayHelp}
 use Rattle.gq_cli.specs.declared.command.Command.{Command}
-use Rattle.gq_cli.specs.declared.command.Command.TheVariants.{Run, Asm, Stored, Help}
+use Rattle.gq_cli.specs.declared.command.Command.TheVariants.{Check, Run, Asm, Stored, Help}
 use Rattle.gq_cli.specs.declared.command.CommandError.{CommandError}
 use Rattle.gq_cli.specs.declared.command.CommandError.TheVariants.{Memory, Usage}
 
@@ -18,6 +18,10 @@ word_rule name = record (new_rule name) { required = true }
 -- a command of two words
 abbrev pub two_words : Text → Text → Text → App
 two_words name first second = with_rule (with_rule (new_app name) (word_rule first)) (word_rule second)
+
+-- `check SCENARIO`
+abbrev pub check_app : App
+check_app = with_rule (new_app (codes "check")) (word_rule (codes "SCENARIO"))
 
 -- `run SCENARIO TURNS`
 abbrev pub run_app : App
@@ -30,10 +34,11 @@ asm_app = two_words (codes "asm") (codes "SCENARIO") (codes "LEAF")
 -- the program's command line, without the program's name: one of its commands
 abbrev pub trade : App
 trade =
-    with_subcommand (with_subcommand (on_top (λ s. record s { no_binary_name = true; subcommand_required = true }) (new_app (codes "trade"))) run_app.top) asm_app.top
+    with_subcommand (with_subcommand (with_subcommand (on_top (λ s. record s { no_binary_name = true; subcommand_required = true }) (new_app (codes "trade"))) check_app.top) run_app.top) asm_app.top
 
--- what is wanted of the file of a scenario: its run over the turns in a second file, or the code of a leaf
+-- what is wanted of the file of a scenario: its budgets, its run over the turns in a second file, or the code of a leaf
 pub data Wanted : Type 0 where
+  Check_wanted : (scenario : Text) → Wanted
   Run_wanted : (scenario turns : Text) → Wanted
   Asm_wanted : (scenario leaf : Text) → Wanted
 
@@ -47,7 +52,8 @@ with_both make first second = option_map (λ p. make p.0 p.1) (both_of first sec
 
 abbrev pub wanted_of : Text → List Row → Option Wanted
 wanted_of name rows =
-    if text_eq name (codes "run") then with_both Run_wanted (first_of (codes "SCENARIO") rows) (first_of (codes "TURNS") rows)
+    if text_eq name (codes "check") then option_map Check_wanted (first_of (codes "SCENARIO") rows)
+    else if text_eq name (codes "run") then with_both Run_wanted (first_of (codes "SCENARIO") rows) (first_of (codes "TURNS") rows)
     else if text_eq name (codes "asm") then with_both Asm_wanted (first_of (codes "SCENARIO") rows) (first_of (codes "LEAF") rows)
     else None
 
@@ -60,6 +66,7 @@ wanted words = if is_empty (fault_of trade words) then wanted_in (subcommand_of 
 
 -- a command is what is wanted
 abbrev pub IsWanted : Option Wanted → Command → Type 0
+IsWanted found (Check scenario) = found ≡ Some (Check_wanted (string_bytes scenario))
 IsWanted found (Run scenario turns) = found ≡ Some (Run_wanted (string_bytes scenario) (string_bytes turns))
 IsWanted found (Asm scenario leaf) = found ≡ Some (Asm_wanted (string_bytes scenario) (string_bytes leaf))
 IsWanted found Stored = ⊥
@@ -71,6 +78,7 @@ IsHelp _ = ⊥
 
 -- words ask for this command: help where the parser may answer with help
 abbrev pub IsAsked : List Text → Command → Type 0
+IsAsked words (Check scenario) = (words ≢ []) × IsWanted (wanted words) (Check scenario)
 IsAsked words (Run scenario turns) = (words ≢ []) × IsWanted (wanted words) (Run scenario turns)
 IsAsked words (Asm scenario leaf) = (words ≢ []) × IsWanted (wanted words) (Asm scenario leaf)
 IsAsked words Stored = words ≡ []

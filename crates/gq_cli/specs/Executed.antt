@@ -4,13 +4,12 @@ use Rattle.std.specs.Io.KnownBytes.{Appends, Consumes, IsAtEnd}
 use Rattle.gq_world.specs.declared.counted.Counted.{Counted}
 use Rattle.gq_world.specs.Counts.{written_to, failures_of}
 use Rattle.gq_world.specs.Writes.{IsFront, IsRaised}
-use Rattle.gq_world.specs.Written.{Written, refused_with, stage_written}
-use Rattle.gq_world.specs.Asm.{stage_asm_written}
-use Rattle.gq_world.specs.Whole.{run_written, asm_written}
+use Rattle.gq_world.specs.Written.{Written, refused_with}
+use Rattle.gq_world.specs.Whole.{run_written, run_told, check_written, asm_written}
 use Rattle.gq_world.specs.Headline.{WritesPromised}
 use Rattle.gq_cli.specs.Stored.{parted}
 use Rattle.gq_cli.specs.declared.command.Command.{Command}
-use Rattle.gq_cli.specs.declared.command.Command.TheVariants.{Run, Asm, Stored, Help}
+use Rattle.gq_cli.specs.declared.command.Command.TheVariants.{Check, Run, Asm, Stored, Help}
 use Rattle.gq_cli.specs.declared.status.Status.{Status}
 use Rattle.gq_cli.specs.declared.status.Status.TheVariants.{Done, Refused, BadCommandLine, HostMemory, FileFault}
 
@@ -18,12 +17,14 @@ use Rattle.gq_cli.specs.declared.status.Status.TheVariants.{Done, Refused, BadCo
 
 -- help is shown without reading, and the turns are read apart from the scenario only where they have a file of their own
 abbrev pub reads_scenario : Command → Bool
+reads_scenario (Check scenario) = true
 reads_scenario (Run scenario turns) = true
 reads_scenario (Asm scenario leaf) = true
 reads_scenario Stored = true
 reads_scenario (Help text) = false
 
 abbrev pub reads_turns : Command → Bool
+reads_turns (Check scenario) = false
 reads_turns (Run scenario turns) = true
 reads_turns (Asm scenario leaf) = false
 reads_turns Stored = false
@@ -37,26 +38,30 @@ pub record IsInput (old new : Option (List ℕ)) (text : List ℕ) : Type 0 wher
 
 -- WRITING
 
--- what a command is to write: the text of a run, the code of a leaf, or a text that is there
+-- what a command is to write: the budgets of a scenario, the text of a run, the code of a leaf, or a text that is there
 pub data Asked : Type 0 where
+  Check_of : (scenario : List ℕ) → Asked
   Run_of : (scenario turns : List ℕ) → Asked
   Asm_of : (scenario leaf : List ℕ) → Asked
   Text_of : (text : List ℕ) → Asked
 
 -- its text by the definition of the whole language, or the line that refuses it
 abbrev pub written_of : Asked → Written
+written_of (Check_of scenario) = check_written scenario
 written_of (Run_of scenario turns) = run_written scenario turns
 written_of (Asm_of scenario leaf) = asm_written scenario leaf
 written_of (Text_of text) = Ok text
 
--- the same by the definition of what is brought so far
+-- the same, a run by the definition of what the machine runs so far
 abbrev pub stage_of : Asked → Written
-stage_of (Run_of scenario turns) = stage_written scenario turns
-stage_of (Asm_of scenario leaf) = stage_asm_written scenario leaf
+stage_of (Check_of scenario) = check_written scenario
+stage_of (Run_of scenario turns) = run_told scenario turns
+stage_of (Asm_of scenario leaf) = asm_written scenario leaf
 stage_of (Text_of text) = Ok text
 
 -- where it is a run, what was written is the text of one that upholds what is promised
 abbrev pub IsUpheldBy : Asked → (before after : Option (List ℕ)) → Type 0
+IsUpheldBy (Check_of scenario) before after = Unit {0}
 IsUpheldBy (Run_of scenario turns) before after = WritesPromised scenario turns before after
 IsUpheldBy (Asm_of scenario leaf) before after = Unit {0}
 IsUpheldBy (Text_of text) before after = Unit {0}
@@ -69,11 +74,11 @@ pub record RunsFiles (scenario scenario_left turns turns_left : Option (List ℕ
   pub turns_read : IsInput turns turns_left turns_text
   pub so : holds (Run_of scenario_text turns_text)
 
--- a scenario was read, and this holds of the code of a leaf of it
-pub record ReadsScenario (scenario scenario_left : Option (List ℕ)) (leaf : List ℕ) (holds : Asked → Type 0) : Type 0 where
+-- a scenario was read, and this holds of what is asked of it
+pub record ReadsScenario (scenario scenario_left : Option (List ℕ)) (asked : List ℕ → Asked) (holds : Asked → Type 0) : Type 0 where
   pub text : List ℕ
   pub read : IsInput scenario scenario_left text
-  pub so : holds (Asm_of text leaf)
+  pub so : holds (asked text)
 
 -- a scenario and turns were read in the stored form, and this holds of their run
 pub record RunsStored (stored stored_left : Option (List ℕ)) (holds : Asked → Type 0) : Type 0 where
@@ -83,8 +88,9 @@ pub record RunsStored (stored stored_left : Option (List ℕ)) (holds : Asked �
 
 -- a command has read what it reads, and this holds of what it is then to write
 abbrev pub Executes : Command → (scenario scenario_left turns turns_left : Option (List ℕ)) → (Asked → Type 0) → Type 0
+Executes (Check a) scenario scenario_left turns turns_left holds = ReadsScenario scenario scenario_left Check_of holds
 Executes (Run a b) scenario scenario_left turns turns_left holds = RunsFiles scenario scenario_left turns turns_left holds
-Executes (Asm a leaf) scenario scenario_left turns turns_left holds = ReadsScenario scenario scenario_left (string_bytes leaf) holds
+Executes (Asm a leaf) scenario scenario_left turns turns_left holds = ReadsScenario scenario scenario_left (λ text. Asm_of text (string_bytes leaf)) holds
 Executes Stored scenario scenario_left turns turns_left holds = RunsStored scenario scenario_left holds
 Executes (Help text) scenario scenario_left turns turns_left holds = holds (Text_of (string_bytes text))
 

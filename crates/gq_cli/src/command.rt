@@ -7,6 +7,8 @@ use thiserror::Error;
 /// What the words of a command line ask for.
 #[derive(Debug, Drop)]
 pub enum Command {
+    /// Write the verified budget of each leaf of the scenario at this path.
+    Check(String),
     /// Run the scenario at the first path over the turns at the second.
     Run(String, String),
     /// Write the code of a leaf of the scenario at this path; the leaf's name is second.

@@ -3,7 +3,7 @@ ghost use Rattle.std.specs.Prelude.{◌≡◌, ◌≢◌, IfOk, IfErr, None, fal
 ghost use Rattle.clap.specs.declared.builder.command.Command.TheViews.{out-Command};
 ghost use Rattle.clap.specs.Words.{app_of, first_of, found_of, kind_of, rows_of, rule_of, subcommand_rows_of};
 ghost use Rattle.gq_cli.specs.declared.command.CommandError.TheVariants.{Usage};
-ghost use Rattle.gq_cli.specs.CommandLine.{IsAsked, IsHelp, IsMisused, IsWanted, both_of, wanted_in, wanted_of, two_words, word_rule, trade};
+ghost use Rattle.gq_cli.specs.CommandLine.{IsAsked, IsHelp, IsMisused, IsWanted, both_of, wanted_in, wanted_of, two_words, check_app, word_rule, trade};
 
 use crate::command::{Command, CommandError};
 use clap::error::ErrorKind;
@@ -13,7 +13,10 @@ use std::alloc::{AllocError, Global};
 const ABOUT: &str = "Runs components that trade memory and capabilities under quotas";
 
 const USAGE: &str =
-    "trade run <SCENARIO> <TURNS>\n       trade asm <SCENARIO> <LEAF>\n       trade < STORED";
+    "trade check <SCENARIO>\n       trade run <SCENARIO> <TURNS>\n       trade asm <SCENARIO> <LEAF>\n       trade < STORED";
+
+const CHECK_ABOUT: &str =
+    "Print what each leaf of the scenario in the file SCENARIO uses at most, whatever the turns";
 
 const RUN_ABOUT: &str = "Run the scenario in the file SCENARIO over the turns in the file TURNS";
 
@@ -21,6 +24,7 @@ const ASM_ABOUT: &str =
     "Print the code of the leaf LEAF of the scenario in the file SCENARIO, in hexadecimal";
 
 const AFTER: &str = "\
+A check prints a line for each leaf: the bytes of its own quantum and the steps that it uses at most.
 A run prints what the components write, and after the last turn a line on the account of each.
 Without a command, standard input has both: the scenario, a line that is %%, and the turns.
 
@@ -32,10 +36,11 @@ Exit status:
   4  a file could not be opened or read, is longer than 18 MiB, or output could not be written
 
 Examples:
+  trade check hello.toml
   trade run hello.toml hello.turns
   trade asm hello.toml hello";
 
-/// The command that the words after the program's name ask for: none of them is `Stored`, `run` with
+/// The command that the words after the program's name ask for: none of them is `Stored`, `check` with a path is `Check`, `run` with
 /// two paths is `Run`, `asm` with a path and a name is `Asm`, and `help`, `--help` or `-h` is `Help` with the text to show.
 ///
 /// Other words are `Usage`; `Memory` is the host's refusal, which can meet any words but none.
@@ -57,6 +62,7 @@ pub fn command<'a>(alloc: Global, words: &'a [&'a str]) -> Result<Command, Comma
 fn command_line<'a>(alloc: Global) -> Result<clap::Command<'a>, AllocError>
     ensures { IfOk result (λ line. app_of line ≡ trade) }
 {
+    let check = check_command(alloc)?;
     let run = scenario_command(alloc, "run", RUN_ABOUT, "TURNS", "The file of the turns")?;
     let asm = scenario_command(alloc, "asm", ASM_ABOUT, "LEAF", "The name of the leaf")?;
     clap::Command::new(alloc, "trade")
@@ -65,8 +71,20 @@ fn command_line<'a>(alloc: Global) -> Result<clap::Command<'a>, AllocError>
         .after_help(AFTER)
         .no_binary_name(true)
         .subcommand_required(true)
+        .subcommand(check)?
         .subcommand(run)?
         .subcommand(asm)
+}
+
+// The command that checks the file of a scenario.
+fn check_command<'a>(alloc: Global) -> Result<clap::Command<'a>, AllocError>
+    ensures line { IfOk result (λ line. app_of line ≡ check_app) }
+    ensures local { IfOk result (λ line. (out-Command line).has_globals ≡ false) }
+{
+    let scenario = word_argument(alloc, "SCENARIO", "The file of the scenario");
+    clap::Command::new(alloc, "check")
+        .about(CHECK_ABOUT)
+        .arg(scenario)
 }
 
 // A command on the file of a scenario, with a second word.
@@ -112,6 +130,12 @@ fn named(alloc: Global, name: &str, found: &ArgMatches<'_>) -> Result<Command, C
     ensures asked { IfOk result (IsWanted (wanted_of name.now (rows_of (found_of found.now)))) }
     ensures misused { IfErr result (λ e. e ≡ Usage → wanted_of name.now (rows_of (found_of found.now)) ≡ None) }
 {
+    if name == "check" {
+        return match first_named(found, "SCENARIO") {
+            Some(scenario) => Ok(Command::Check(String::from_str(alloc, scenario)?)),
+            None => Err(CommandError::Usage),
+        };
+    }
     if name == "run" {
         return match both_named(found, "SCENARIO", "TURNS") {
             Some((scenario, turns)) => {

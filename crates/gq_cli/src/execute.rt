@@ -6,7 +6,7 @@ ghost use Rattle.gq_world.specs.Outcomes.{IsCutShort, IsWhole};
 ghost use Rattle.gq_world.specs.Headline.{WritesPromised};
 ghost use Rattle.gq_cli.specs.Input.{GivesAtMost};
 ghost use Rattle.gq_cli.specs.Ends.{Ended, IsKnown, IsSilent};
-ghost use Rattle.gq_cli.specs.Executed.{Executes, IsRefusal, IsTold, IsUpheldBy, ReadsScenario, RunsFiles, RunsStored, Run_of, Asm_of, Text_of, reads_scenario, reads_turns, stage_of, status_line, written_of};
+ghost use Rattle.gq_cli.specs.Executed.{Executes, IsRefusal, IsTold, IsUpheldBy, ReadsScenario, RunsFiles, RunsStored, Check_of, Run_of, Asm_of, Text_of, reads_scenario, reads_turns, stage_of, status_line, written_of};
 ghost use Rattle.gq_cli.specs.declared.execute.Fault.TheVariants as fault;
 
 use crate::command::Command;
@@ -14,6 +14,7 @@ use crate::input::{InputError, read_input};
 use crate::status::Status;
 use crate::stored::parted;
 use gq_world::asm::{AsmFault, asm};
+use gq_world::check::{CheckFault, check};
 use gq_world::counted::{Counted, put};
 use gq_world::run::{RunFault, run};
 use std::alloc::{AllocError, Global};
@@ -57,7 +58,7 @@ impl From<InputError> for Fault {
 
 /// Does what a command asks for, and tells on `err`, in one line, why it was not done.
 ///
-/// `Run` reads the scenario and then the turns, each whole; `Asm` reads the scenario and writes the code of a leaf; `Stored` reads both from `scenario`, parted by a line `%%`. The run's
+/// `Check` reads the scenario and writes the budget of each leaf; `Run` reads the scenario and then the turns, each whole; `Asm` reads the scenario and writes the code of a leaf; `Stored` reads both from `scenario`, parted by a line `%%`. The run's
 /// lines and accounts go to `out`. `Help` reads nothing and writes its text to `out`. Each reader is asked for 18 MiB and one byte
 /// at most; more, or a read that fails, is a file fault. Nothing goes to `out` where the scenario or the turns are refused, where
 /// host memory is, or where a read failed; after a failed write a front of the text went out. A failed write on `err` changes
@@ -161,6 +162,7 @@ fn perform<R: Read, T: Read, W: Write>(
     ensures turns_most { GivesAtMost 18874369 (T.remaining turns.old) (T.remaining turns.new) }
 {
     match command {
+        Command::Check(_) => write_budgets(alloc, scenario, out),
         Command::Run(_, _) => run_files(alloc, scenario, turns, out),
         Command::Asm(_, leaf) => write_code(alloc, scenario, leaf.as_str(), out),
         Command::Stored => run_stored(alloc, scenario, out),
@@ -234,7 +236,7 @@ fn write_code<R: Read, W: Write>(
     leaf: &str,
     out: &mut Counted<W>,
 ) -> Result<(), Fault>
-    ensures ended { IsKnown result → ReadsScenario (R.remaining scenario.old) (R.remaining scenario.new) leaf.now (Ended result (written_to W.contents out.old) (written_to W.contents out.new)) }
+    ensures ended { IsKnown result → ReadsScenario (R.remaining scenario.old) (R.remaining scenario.new) (λ text. Asm_of text leaf.now) (Ended result (written_to W.contents out.old) (written_to W.contents out.new)) }
     ensures counted { OnOk result (failures_of out.new ≡ failures_of out.old) }
     ensures silent { IfErr result (λ f. IsSilent f → out.new ≡ out.old) }
     ensures raised { result ≡ Err fault.Write → IsRaised (failures_of out.old) (failures_of out.new) }
@@ -260,6 +262,41 @@ fn write_code_of<W: Write>(
         Ok(()) => Ok(()),
         Err(AsmFault::Memory) => Err(Fault::Memory),
         Err(AsmFault::Write) => Err(Fault::Write),
+        Err(fault) => Err(Fault::Refused(format!(in alloc; "trade: {fault}\n")?)),
+    }
+}
+
+// Writes the budgets of the scenario that a reader has.
+fn write_budgets<R: Read, W: Write>(
+    alloc: Global,
+    scenario: &mut R,
+    out: &mut Counted<W>,
+) -> Result<(), Fault>
+    ensures ended { IsKnown result → ReadsScenario (R.remaining scenario.old) (R.remaining scenario.new) Check_of (Ended result (written_to W.contents out.old) (written_to W.contents out.new)) }
+    ensures counted { OnOk result (failures_of out.new ≡ failures_of out.old) }
+    ensures silent { IfErr result (λ f. IsSilent f → out.new ≡ out.old) }
+    ensures raised { result ≡ Err fault.Write → IsRaised (failures_of out.old) (failures_of out.new) }
+    ensures most { GivesAtMost 18874369 (R.remaining scenario.old) (R.remaining scenario.new) }
+{
+    let input = read_input(alloc, scenario)?;
+    write_budgets_of(alloc, input.as_slice(), out)
+}
+
+// Writes the budgets of a scenario. Where it is refused, the line that says why is made.
+fn write_budgets_of<W: Write>(
+    alloc: Global,
+    scenario: &[u8],
+    out: &mut Counted<W>,
+) -> Result<(), Fault>
+    ensures ended { IsKnown result → Ended result (written_to W.contents out.old) (written_to W.contents out.new) (Check_of scenario.now) }
+    ensures counted { OnOk result (failures_of out.new ≡ failures_of out.old) }
+    ensures silent { IfErr result (λ f. IsSilent f → out.new ≡ out.old) }
+    ensures raised { result ≡ Err fault.Write → IsRaised (failures_of out.old) (failures_of out.new) }
+{
+    match check(alloc, scenario, out) {
+        Ok(()) => Ok(()),
+        Err(CheckFault::Memory) => Err(Fault::Memory),
+        Err(CheckFault::Write) => Err(Fault::Write),
         Err(fault) => Err(Fault::Refused(format!(in alloc; "trade: {fault}\n")?)),
     }
 }

@@ -157,6 +157,29 @@ fn code_of(alloc: Global, scenario: &[u8], leaf: &str) -> Result<Outcome, Fail> 
     Ok(ended(alloc, &command, &mut scenario, &mut turns))
 }
 
+// The budgets of a scenario, as they are written.
+fn check_of(alloc: Global, scenario: &[u8]) -> Result<Outcome, Fail> {
+    let command = Command::Check(String::from_str(alloc, "a.toml")?);
+    let mut scenario = scenario;
+    let mut turns = Endless {
+        given: 0,
+        fails: true,
+    };
+    Ok(ended(alloc, &command, &mut scenario, &mut turns))
+}
+
+#[test]
+fn writes_budgets(rt: HostRuntime) -> Result<(), Fail> {
+    let alloc = rt.alloc();
+    let budget = "budget init -> hello own 0 steps 2\n";
+    assert!(rt; check_of(alloc, HELLO)?.is(Status::Done, budget, ""));
+    let bare = check_of(alloc, b"version = 1\nram = \"64K\"\nstart = []\n")?;
+    assert!(rt; bare.is(Status::Done, "", ""));
+    let twice = check_of(alloc, TWICE)?;
+    assert!(rt; twice.is(Status::Refused, "", "trade: S5 NameTwice a\n"));
+    Ok(())
+}
+
 #[test]
 fn writes_the_code_of_a_leaf(rt: HostRuntime) -> Result<(), Fail> {
     let alloc = rt.alloc();

@@ -83,6 +83,17 @@ fn names_a_run(rt: HostRuntime) -> Result<(), Fail> {
 }
 
 #[test]
+fn names_a_check(rt: HostRuntime) -> Result<(), Fail> {
+    let named = command(rt.alloc(), &["check", "a.toml"])?;
+    let Command::Check(scenario) = named else {
+        return Err(Fail::from("a check"));
+    };
+    assert!(rt; scenario.as_str() == "a.toml");
+    assert!(rt; matches!(command(rt.alloc(), &["check"]), Err(CommandError::Usage)));
+    Ok(())
+}
+
+#[test]
 fn names_the_code_of_a_leaf(rt: HostRuntime) -> Result<(), Fail> {
     let alloc = rt.alloc();
     let named = command(alloc, &["asm", "a.toml", "hello"])?;
@@ -134,18 +145,21 @@ fn refuses_other_words(rt: HostRuntime) {
 const HELP: &str = "\
 Runs components that trade memory and capabilities under quotas
 
-Usage: trade run <SCENARIO> <TURNS>
+Usage: trade check <SCENARIO>
+       trade run <SCENARIO> <TURNS>
        trade asm <SCENARIO> <LEAF>
        trade < STORED
 
 Commands:
-  run   Run the scenario in the file SCENARIO over the turns in the file TURNS
-  asm   Print the code of the leaf LEAF of the scenario in the file SCENARIO, in hexadecimal
-  help  Print this message or the help of the given subcommand(s)
+  check  Print what each leaf of the scenario in the file SCENARIO uses at most, whatever the turns
+  run    Run the scenario in the file SCENARIO over the turns in the file TURNS
+  asm    Print the code of the leaf LEAF of the scenario in the file SCENARIO, in hexadecimal
+  help   Print this message or the help of the given subcommand(s)
 
 Options:
   -h, --help  Print help
 
+A check prints a line for each leaf: the bytes of its own quantum and the steps that it uses at most.
 A run prints what the components write, and after the last turn a line on the account of each.
 Without a command, standard input has both: the scenario, a line that is %%, and the turns.
 
@@ -157,6 +171,7 @@ Exit status:
   4  a file could not be opened or read, is longer than 18 MiB, or output could not be written
 
 Examples:
+  trade check hello.toml
   trade run hello.toml hello.turns
   trade asm hello.toml hello
 ";

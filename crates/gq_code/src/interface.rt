@@ -1,6 +1,6 @@
 // What services ask of their clients, and give them.
 ghost use Rattle.std.specs.Prelude.{◌≡◌, ◌≤◌, ◌<◌, ◌++◌, ◌∷◌, [], length, if◌then◌else◌, IsTrue, Some, None, option_copied};
-ghost use Rattle.gq_model.specs.Amounts.{amount};
+ghost use Rattle.gq_model.specs.Amounts.{Ram, Caps, amount};
 ghost use Rattle.gq_model.specs.Scenario.{interface_in};
 ghost use Rattle.gq_code.specs.Interfaces.{interface_of, or_none, need_caps, is_before, is_rising, are_interfaces};
 
@@ -154,6 +154,21 @@ impl Interface {
         ensures small { or_none result ≤ 65536 }
     {
         self.need_caps
+    }
+
+    /// The capabilities that are given with a request to open, at most 65536; 0 in version 1.
+    pub fn given_caps(&self) -> u32
+        ensures caps { result ≡ self.now.need.caps }
+        ensures small { result ≤ 65536 }
+    {
+        self.need_caps.unwrap_or(0)
+    }
+
+    /// Whether capabilities are counted, as version 2 alone does.
+    pub fn counts_caps(&self) -> bool
+        ensures { self.now.counted ≡ Ram ∷ (if result then Caps ∷ [] else []) }
+    {
+        self.need_caps.is_some()
     }
 
     /// The bytes of the object of a session, at most 65536.

@@ -3,5 +3,5 @@ mod Bytes
 mod Changes
 mod Edits
 mod Links
-mod Others
+pub mod Callers
 mod Tables

@@ -72,6 +72,7 @@ impl Spaces {
         requires { (1 ≤ n) × (n ≤ 2 ^ 40) }
         ensures was_vacant { IfOk result (λ ds. IsVacant self.old.spaces ds.0) }
         ensures made { IfOk result (λ ds. self.new.spaces ≡ slice_set self.old.spaces ds.0 (Some (zeros (up n)))) }
+        ensures size { IfOk result (λ ds. length (content_of self.new.spaces ds.0) ≡ up n) }
         ensures paid { OnOk result (self.old.free * 4096 ≡ self.new.free * 4096 + up n) }
         ensures enough { IsOk result ↔ (up n ≤ self.old.free * 4096) }
         ensures unchanged { OnErr result (self.new ≡ self.old) }
@@ -121,6 +122,7 @@ impl Spaces {
     pub fn store(&mut self, ds: DsId, offset: u32, byte: u8)
         requires { offset < length (content_of self.old.spaces ds.0) }
         ensures written { self.new.spaces ≡ slice_set self.old.spaces ds.0 (Some (slice_set (content_of self.old.spaces ds.0) offset byte)) }
+        ensures same_size { length (content_of self.new.spaces ds.0) ≡ length (content_of self.old.spaces ds.0) }
         ensures as_many { self.new.free ≡ self.old.free }
     {
         let frame = self.table.frame(ds.0, offset / FRAME_SIZE);
@@ -137,18 +139,14 @@ impl Spaces {
             let frame = self.table.frame(ds.0, offset / FRAME_SIZE);
             return self.pages.word(FrameNo(frame), offset % FRAME_SIZE);
         }
-        u32::from_le_bytes([
-            self.load(ds, offset),
-            self.load(ds, offset + 1),
-            self.load(ds, offset + 2),
-            self.load(ds, offset + 3),
-        ])
+        self.load_across(ds, offset)
     }
 
     /// Writes a number to the four bytes from `offset` on, the lowest first.
     pub fn store4(&mut self, ds: DsId, offset: u32, word: u32)
         requires { offset + 4 ≤ length (content_of self.old.spaces ds.0) }
         ensures written { self.new.spaces ≡ slice_set self.old.spaces ds.0 (Some (with_bytes (content_of self.old.spaces ds.0) offset (to_le_bytes w32 word))) }
+        ensures same_size { length (content_of self.new.spaces ds.0) ≡ length (content_of self.old.spaces ds.0) }
         ensures as_many { self.new.free ≡ self.old.free }
     {
         if offset % FRAME_SIZE <= FRAME_SIZE - 4 {
@@ -157,6 +155,35 @@ impl Spaces {
                 .set_word(FrameNo(frame), offset % FRAME_SIZE, word);
             return;
         }
+        self.store_across(ds, offset, word);
+    }
+
+    // The number in four bytes of two frames, which is rare.
+    #[cold]
+    #[inline(never)]
+    fn load_across(&self, ds: DsId, offset: u32) -> u32
+        requires inside { offset + 4 ≤ length (content_of self.now.spaces ds.0) }
+        requires fits { offset + 4 ≤ 2 ^ 26 }
+        ensures { result ≡ word_at (content_of self.now.spaces ds.0) offset }
+    {
+        u32::from_le_bytes([
+            self.load(ds, offset),
+            self.load(ds, offset + 1),
+            self.load(ds, offset + 2),
+            self.load(ds, offset + 3),
+        ])
+    }
+
+    // Writes a number to four bytes of two frames.
+    #[cold]
+    #[inline(never)]
+    fn store_across(&mut self, ds: DsId, offset: u32, word: u32)
+        requires inside { offset + 4 ≤ length (content_of self.old.spaces ds.0) }
+        requires fits { offset + 4 ≤ 2 ^ 26 }
+        ensures written { self.new.spaces ≡ slice_set self.old.spaces ds.0 (Some (with_bytes (content_of self.old.spaces ds.0) offset (to_le_bytes w32 word))) }
+        ensures same_size { length (content_of self.new.spaces ds.0) ≡ length (content_of self.old.spaces ds.0) }
+        ensures as_many { self.new.free ≡ self.old.free }
+    {
         let [a, b, c, d] = word.to_le_bytes();
         self.store(ds, offset, a);
         self.store(ds, offset + 1, b);

@@ -6,12 +6,13 @@ use Rattle.std.proofs.lemmas.Bool.Decides.{nat_tests}
 use Rattle.gq_model.specs.Accounts.{leaf_count}
 use Rattle.toml.specs.Data.{Data, Members, get_member}
 use Rattle.gq_model.specs.Amounts.{amount}
-use Rattle.gq_model.specs.Scenario.{Interfaces, Route, Source, As_text, As_code, LeafNode, Nodes, Leaf_node, Scenario}
+use Rattle.gq_model.specs.Scenario.{Interfaces, Route, Source, LeafNode, Nodes, Leaf_node, Scenario}
 use Rattle.gq_model.specs.Sources.{program_from}
 use Rattle.gq_model.specs.Lists.{between, or_first}
-use Rattle.gq_init.specs.Keys.{DocumentFault, TooMany, passes, quantity, text_of, unhex, unhex_of, is_number, is_text, is_table, is_list, number_of, members_of, listed, table_fault}
+use Rattle.gq_init.specs.Keys.{DocumentFault, TooMany, passes, quantity, text_of, unhex_of, is_number, is_table, is_list, number_of, members_of, listed, table_fault}
 use Rattle.gq_init.specs.Tables.{is_total, is_two, two_of, version_of}
-use Rattle.gq_init.specs.Document.{init_count, is_long, has_long_routes, has_too_many, counts_fault, names_of, name_twice, interfaces_of, table_of, text_at, name_at, quantity_at, number_at, or_zero, routes_at, value_of, source_from, source_in, code_in, leaf_of, first_of, is_init, nodes_by, node_onto, described, list_at}
+use Rattle.gq_init.specs.Document.{init_count, is_long, has_long_routes, has_too_many, counts_fault, names_of, name_twice, interfaces_of, table_of, text_at, name_at, quantity_at, number_at, or_zero, routes_at, value_of, source_in, leaf_of, first_of, is_init, nodes_by, node_onto, described, list_at}
+use Rattle.gq_init.specs.Sound.{has_source}
 use Rattle.gq_init.specs.Leaves.{bare_leaf, leaf_nodes, leaf_names, leaves_of, leaf_scenario}
 use Rattle.gq_init.specs.Stage.{stage_top_keys, stage_leaf_keys, stage_walk_fault, stage_fault}
 use Rattle.toml.specs.View.{items_view}
@@ -73,64 +74,13 @@ some_of x = Some x
 some_is : {A : Type 0} (x y : A) → some_of x ≡ some_of y → x ≡ y
 some_is x y e = cc
 
-source_told : (o code : Option (List ℕ)) (text : List ℕ) → o ≡ Some text → source_from o code ≡ As_text text
-source_told None code text e = absurd cc
-source_told (Some t) code text e = cc
+given_by : (program code : Option Data) → IsGiven program code → (is_some (value_of text_of program) || is_some (unhex_of (value_of text_of code))) ≡ true
+given_by program code (inl ((d, there, fits), none)) = rw (there, fits) refl
+given_by program code (inr (none, (d, there, fits))) = rw (none, there) fits
 
-source_spelled : (o code : Option (List ℕ)) (bytes : List ℕ) → o ≡ None → code ≡ Some bytes → source_from o code ≡ As_code bytes
-source_spelled None None bytes e f = absurd cc
-source_spelled None (Some code) bytes e f = cc
-source_spelled (Some t) code bytes e f = absurd cc
-
-pub text_given : (entries : Members) (text : List ℕ) → text_at (codes "program") entries ≡ Some text → source_in entries ≡ As_text text
-text_given entries text told = source_told (text_at (codes "program") entries) (code_in entries) text told
-
-pub code_given : (entries : Members) (text bytes : List ℕ) → text_at (codes "program") entries ≡ None → text_at (codes "code") entries ≡ Some text → unhex text ≡ Some bytes → source_in entries ≡ As_code bytes
-code_given entries text bytes none told spelled =
-    source_spelled (text_at (codes "program") entries) (code_in entries) bytes none (rw told spelled)
-
--- a table without faults that has no text has a text of digits
-pub record IsCode (entries : Members) : Type 0 where
-  pub text : List ℕ
-  pub told : text_at (codes "code") entries ≡ Some text
-  pub spells : is_some (unhex text) ≡ true
-
-record Spelled (o : Option (List ℕ)) : Type 0 where
-  text : List ℕ
-  told : o ≡ Some text
-  spells : is_some (unhex text) ≡ true
-
-spelled_by : (o : Option (List ℕ)) → is_some (unhex_of o) ≡ true → Spelled o
-spelled_by None e = absurd cc
-spelled_by (Some text) e = record { text = text; told = refl; spells = e }
-
-text_there : (d : Data) (o : Option Data) → o ≡ Some d → is_text d ≡ true → value_of text_of o ≡ None → ⊥
-text_there d o there fits none = let text : text_of d ≡ None = ap (value_of text_of) (sym there) ∙ none in no_text (text_of d) fits text
-  where
-    no_text : (o : Option (List ℕ)) → is_some o ≡ true → o ≡ None → ⊥
-    no_text None e f = cc
-    no_text (Some text) e f = cc
-
-spelled_at : (program code : Option Data) → IsGiven program code → value_of text_of program ≡ None → Spelled (value_of text_of code)
-spelled_at program code (inl ((d, there, fits), none)) e = absurd (text_there d program there fits e)
-spelled_at program code (inr (none, (d, there, fits))) e = rw there (spelled_by (text_of d) fits)
-
-pub is_code : (entries : Members) → table_fault stage_leaf_keys entries ≡ None → text_at (codes "program") entries ≡ None → IsCode entries
-is_code entries e none =
-    let s = spelled_at (get_member (codes "program") entries) (get_member (codes "code") entries) (leaf_table entries e).given none in
-    record { text = s.text; told = s.told; spells = s.spells }
-
-pub no_other_code : (entries : Members) → IsCode entries → text_at (codes "code") entries ≡ None → ⊥
-no_other_code entries code none = some_none (sym code.told ∙ none)
-  where
-    some_none : {x : List ℕ} → Some x ≡ None → ⊥
-    some_none e = cc
-
-pub same_code : (entries : Members) → IsCode entries → (text word : List ℕ) → text_at (codes "code") entries ≡ Some text → word ≡ text → is_some (unhex word) ≡ true
-same_code entries code text word told same = by_text code.text text word code.spells (some_is code.text text (sym code.told ∙ told)) same
-  where
-    by_text : (a b word : List ℕ) → is_some (unhex a) ≡ true → a ≡ b → word ≡ b → is_some (unhex word) ≡ true
-    by_text a b word e f g = rw g (rw f at e)
+-- a table without faults gives a program
+pub source_given : (entries : Members) → table_fault stage_leaf_keys entries ≡ None → has_source entries ≡ true
+source_given entries e = given_by (get_member (codes "program") entries) (get_member (codes "code") entries) (leaf_table entries e).given
 
 pub name_kept : (o : Option (List ℕ)) (b : Bool) (name kept : List ℕ) → o ≡ cond b (Some name) None → o ≡ Some kept → kept ≡ name
 name_kept o true name kept e f = cc

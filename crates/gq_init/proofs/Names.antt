@@ -17,7 +17,7 @@ abbrev pub seen_after : List (List ℕ) → List (List ℕ) → List (List ℕ)
 seen_after seen [] = seen
 seen_after seen (name ∷ rest) = seen_after (name ∷ seen) rest
 
-seen_after-append : (seen names : List (List ℕ)) (name : List ℕ) → seen_after seen (names ++ name ∷ []) ≡ name ∷ seen_after seen names
+pub seen_after-append : (seen names : List (List ℕ)) (name : List ℕ) → seen_after seen (names ++ name ∷ []) ≡ name ∷ seen_after seen names
 seen_after-append seen [] name = refl
 seen_after-append seen (first ∷ names) name = seen_after-append (first ∷ seen) names name
 
@@ -27,7 +27,7 @@ swapped true false c = refl
 swapped false true c = refl
 swapped false false c = refl
 
-any_of-seen : (test : List ℕ → Bool) (seen names : List (List ℕ)) → any_of test (seen_after seen names) ≡ (any_of test names || any_of test seen)
+pub any_of-seen : (test : List ℕ → Bool) (seen names : List (List ℕ)) → any_of test (seen_after seen names) ≡ (any_of test names || any_of test seen)
 any_of-seen test seen [] = refl
 any_of-seen test seen (name ∷ names) = any_of-seen test (name ∷ seen) names ∙ swapped (any_of test names) (test name) (any_of test seen)
 

@@ -10,3 +10,16 @@ pub mod TurnLines
 pub mod Words
 pub mod Rules
 pub mod Later
+pub mod Sizes
+pub mod Targets
+pub mod Trees
+pub mod Falls
+pub mod Walk
+pub mod Made
+pub mod Parts
+pub mod Sound
+pub mod Resolved
+pub mod Routing
+pub mod Afters
+pub mod Reaching
+pub mod Served

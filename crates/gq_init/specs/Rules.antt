@@ -1,13 +1,24 @@
 -- The rules of a table's keys, as code has them.
-use Rattle.std.specs.Prelude.{Bool, map}
-use Rattle.toml.specs.Data.{Data}
+use Rattle.std.specs.Prelude.{ℕ, ◌==◌, Bool, ◌&&◌, Option, Some, None, option_map, map}
+use Rattle.toml.specs.Data.{Data, Members, no_members}
+use Rattle.toml.specs.View.{table_view}
 use Rattle.gq_init.specs.Keys as keys
-use Rattle.gq_init.specs.Keys.{is_number, is_quantity, is_text, is_hex, is_name_text, is_table, is_list}
-use Rattle.gq_init.specs.Tables.{is_total}
+use Rattle.gq_init.specs.Keys.{is_number, is_quantity, is_text, is_hex, is_name_text, is_true, is_table, is_list, list_length, items_of}
+use Rattle.gq_init.specs.Tables.{is_total, is_named_tables, is_upgrades, is_declared, greatest_caps}
+use Rattle.gq_init.specs.Document.{keys_of}
 use Rattle.gq_init.specs.Words.{key_text}
 use Rattle.gq_init.specs.declared.rules.ValueRule.{ValueRule}
-use Rattle.gq_init.specs.declared.rules.ValueRule.TheVariants.{Number, Quantity, Total, Text, Hex, NameText, Tables}
+use Rattle.gq_init.specs.declared.rules.ValueRule.TheVariants.{Number, Quantity, Total, Text, Hex, NameText, True, Tables, NamedTables, Upgrades, Counts, Declared}
 use Rattle.gq_init.specs.declared.rules.KeyRule.{KeyRule}
+
+-- the entries of a table that may be missing
+abbrev pub entries_or_none : Option Members → Members
+entries_or_none None = no_members
+entries_or_none (Some entries) = entries
+
+-- so many numbers of capabilities
+abbrev pub are_counts : ℕ → Data → Bool
+are_counts count d = is_list (is_number 0 greatest_caps) d && list_length (items_of d) == count
 
 -- the test of a value
 abbrev pub fits_of : ValueRule → Data → Bool
@@ -17,7 +28,12 @@ fits_of Total = is_total
 fits_of Text = is_text
 fits_of Hex = is_hex
 fits_of NameText = is_name_text
+fits_of True = is_true
 fits_of Tables = is_list is_table
+fits_of NamedTables = is_named_tables
+fits_of Upgrades = is_upgrades
+fits_of (Counts count) = are_counts count
+fits_of (Declared services) = is_declared (keys_of (entries_or_none (option_map (λ t. table_view t.now) services)))
 
 abbrev pub rule_of : KeyRule → keys.KeyRule
 rule_of r =

@@ -1,5 +1,11 @@
 -- The words of keys, and the lines that a scenario's faults print.
 use Rattle.std.specs.Prelude.{◌≡◌, ℕ, List, ◌++◌, Option, Some, None, option_map, Result, Ok, Err, MatchResult, codes}
+use Rattle.std.specs.Prelude.{String}
+use Rattle.std.specs.BTreeMap.{BTreeMap}
+use Rattle.std.specs.declared.alloc.Global.{Global}
+use Rattle.toml.specs.Data.{Members}
+use Rattle.toml.specs.View.{table_view}
+use Rattle.toml.specs.declared.value.Value.{Value}
 use Rattle.gq_model.specs.Scenario.{Scenario}
 use Rattle.gq_init.specs.Keys.{DocumentFault}
 use Rattle.gq_init.specs.Reading.{ReadFault, read_text, document_text}
@@ -60,6 +66,12 @@ scenario_fault_text (TooDeep name) = codes "S7 TooDeep " ++ printed name
 -- the same line as the definition's fault, or neither
 abbrev pub Tells : Option ScenarioFault → Option DocumentFault → Type 0
 Tells found fault = option_map scenario_fault_text found ≡ option_map document_text fault
+
+-- the top table, or a fault of the same line, unless memory ran out
+abbrev pub IsDocument : Result (BTreeMap (String Global) Value) ScenarioError → Result Members ReadFault → Type 0
+IsDocument (Ok table) answer = answer ≡ Ok (table_view table)
+IsDocument (Err (Memory why)) answer = Unit {0}
+IsDocument (Err (Fault fault)) answer = MatchResult answer (λ top. ⊥) (λ why. scenario_fault_text fault ≡ read_text why)
 
 -- the scenario, or a fault of the same line, unless memory ran out
 abbrev pub IsRead : Result Scenario ScenarioError → Result Scenario ReadFault → Type 0

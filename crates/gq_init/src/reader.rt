@@ -1,237 +1,105 @@
 // Scenarios, as documents describe them.
-ghost use Rattle.std.specs.Prelude.{◌≡◌, ◌∷◌, ◌||◌, ◌≤◌, [], None, length, map, codes, IfOk};
-ghost use Rattle.toml.specs.Data.{Members};
-ghost use Rattle.toml.specs.View.{table_view, items_view};
-ghost use Rattle.gq_model.specs.Lists.{any_of};
-ghost use Rattle.gq_model.specs.Program.{text_eq};
-ghost use Rattle.gq_init.specs.Given.{source_of};
-ghost use Rattle.gq_init.specs.Keys.{listed, members_of, required, either, other, table_fault};
-ghost use Rattle.gq_init.specs.Document.{leaf_of, source_in, first_of, name_twice};
-ghost use Rattle.gq_init.specs.Reading.{described_or};
-ghost use Rattle.gq_init.specs.Stage.{stage_top_keys, stage_leaf_keys, stage_walk_fault, stage_fault, stage_scenario};
-ghost use Rattle.gq_init.specs.Words.{key_text, Tells, IsRead};
-ghost use Rattle.gq_init.specs.Rules.{rule_of, fits_of};
-ghost use Rattle.gq_init.specs.Leaves.{leaf_names, leaves_of};
+ghost use Rattle.std.specs.Prelude.{◌≡◌, ◌≤◌, ◌∷◌, [], None, length, option_map, codes, IfOk};
+ghost use Rattle.toml.specs.View.{table_view};
+ghost use Rattle.gq_init.specs.Document.{keys_of, names_of, name_twice, walk_fault, described, document_fault};
+ghost use Rattle.gq_init.specs.Parts.{interfaces_at, are_too_many};
+ghost use Rattle.gq_init.specs.Made.{scenario_made};
+ghost use Rattle.gq_init.specs.Reading.{described_or, scenario_in};
+ghost use Rattle.gq_init.specs.Words.{Tells, IsRead};
 
+use crate::document::read_document;
 use crate::fault::{ScenarioError, ScenarioFault};
-use crate::hexadecimal::unhex;
+use crate::interfaces::read_interfaces;
 use crate::key::Key;
-use crate::lines::same_bytes;
-use crate::rules::{KeyRule, ValueRule, table_fault};
-use crate::scenario::{GREATEST_LEAVES, Leaf, Scenario};
-use crate::source::Source;
-use crate::value::{list_at, quantity_at, text_at};
-use gq_model::program::Name;
+use crate::scenario::{Nodes, Parts, Route, Scenario, told};
+use crate::tables::{read_nodes, read_quantum, read_routes_at};
+use crate::tree::{
+    GREATEST_COUNT, count_inits, count_leaves, has_long_routes, is_long, name_twice, push_names,
+};
+use crate::value::{list_at, table_at};
+use crate::walk::{GREATEST_DEPTH, version_of, walk_fault};
 use std::alloc::{AllocError, Global};
-use toml::{Table, Value};
+use toml::Table;
 
-/// The greatest length of a scenario's text, in bytes.
-pub const GREATEST_TEXT: usize = 1 << 20;
-
-// A required key.
-fn required(key: Key, value: ValueRule) -> KeyRule
-    ensures { rule_of result ≡ required (key_text key) (fits_of value) }
+// The number of interfaces of a document.
+fn interface_count(top: &Table) -> usize
+    ensures { result ≡ length (keys_of (interfaces_at (table_view top.now))) }
 {
-    KeyRule {
-        key,
-        required: true,
-        instead: &[],
-        beside: &[],
-        value,
+    match table_at(top, Key::Interface) {
+        Some(table) => table.len(),
+        None => 0,
     }
 }
 
-// The first of two keys of which just one is there.
-fn either(key: Key, instead: &'static [Key], value: ValueRule) -> KeyRule
-    ensures { rule_of result ≡ either (key_text key) (map key_text instead.now) (fits_of value) }
+// Whether a tree and the root's routes have too many of something.
+fn are_too_many(default_routes: Option<&[Route]>, nodes: &Nodes) -> bool
+    ensures { result ≡ are_too_many (option_map (λ r. r.now) default_routes.entry) nodes.now }
 {
-    KeyRule {
-        key,
-        required: true,
-        instead,
-        beside: &[],
-        value,
-    }
+    count_leaves(nodes, 0).is_none()
+        || count_inits(nodes, 0).is_none()
+        || is_long(default_routes)
+        || has_long_routes(nodes)
 }
 
-// The second of them.
-fn other(key: Key, beside: &'static [Key], value: ValueRule) -> KeyRule
-    ensures { rule_of result ≡ other (key_text key) (map key_text beside.now) (fits_of value) }
+// The first name of a tree that was seen before.
+fn repeated_name(alloc: Global, nodes: &Nodes) -> Result<Option<ScenarioFault>, AllocError>
+    ensures { IfOk result (λ fault. Tells fault (name_twice (codes "init" ∷ []) (names_of nodes.now))) }
 {
-    KeyRule {
-        key,
-        required: false,
-        instead: &[],
-        beside,
-        value,
-    }
+    let mut names = Vec::new(alloc);
+    push_names(&mut names, nodes)?;
+    Ok(name_twice(names.as_slice()))
 }
 
-// The first fault of the top table.
-fn top_fault(table: &Table) -> Option<ScenarioFault>
-    ensures { Tells result (table_fault stage_top_keys (table_view table.now)) }
+// The parts of a table that the walk has passed, with no more than 64 interfaces.
+fn read_parts(alloc: Global, top: &Table) -> Result<Parts, AllocError>
+    requires walked { walk_fault (table_view top.now) ≡ None }
+    requires few { length (keys_of (interfaces_at (table_view top.now))) ≤ 64 }
+    ensures { IfOk result (λ p. scenario_made p.version p.total p.default_routes p.interfaces p.nodes ≡ described (table_view top.now)) }
 {
-    let rules = [
-        required(Key::Version, ValueRule::Number(1, 1)),
-        required(Key::Ram, ValueRule::Total),
-        required(Key::Start, ValueRule::Tables),
-    ];
-    table_fault(&rules, table)
-}
-
-// The first fault of a leaf's table.
-fn leaf_fault(table: &Table) -> Option<ScenarioFault>
-    ensures { Tells result (table_fault stage_leaf_keys (table_view table.now)) }
-{
-    let rules = [
-        required(Key::Name, ValueRule::NameText),
-        required(Key::Quantum, ValueRule::Quantity(0, 1 << 40)),
-        either(Key::Program, &[Key::Code], ValueRule::Text),
-        other(Key::Code, &[Key::Program], ValueRule::Hex),
-    ];
-    table_fault(&rules, table)
-}
-
-// The first fault of these leaves. What is no table has no keys.
-fn leaves_fault(leaves: &[Value]) -> Option<ScenarioFault>
-    ensures { Tells result (first_of (table_fault stage_leaf_keys) (listed (items_view leaves.now))) }
-{
-    for leaf in leaves {
-        let Some(table) = leaf.as_table() else {
-            return Some(ScenarioFault::MissingKey(Key::Name));
-        };
-        if let Some(fault) = leaf_fault(table) {
-            return Some(fault);
-        }
-    }
-    None
-}
-
-// The first fault of a document's tables.
-fn walk_fault(table: &Table) -> Option<ScenarioFault>
-    ensures { Tells result (stage_walk_fault (table_view table.now)) }
-{
-    if let Some(fault) = top_fault(table) {
-        return Some(fault);
-    }
-    leaves_fault(list_at(table, Key::Start))
-}
-
-// How the table of a leaf, which has no faults, gives the leaf's program.
-fn read_source(alloc: Global, table: &Table) -> Result<Source, AllocError>
-    requires { table_fault stage_leaf_keys (table_view table.now) ≡ None }
-    ensures { IfOk result (λ s. source_of s ≡ source_in (table_view table.now)) }
-{
-    if let Some(text) = text_at(table, Key::Program) {
-        return Ok(Source::Text(Vec::from_slice(alloc, text.as_bytes())?));
-    }
-    let Some(code) = text_at(table, Key::Code) else {
-        unreachable!();
-    };
-    Ok(Source::Code(unhex(alloc, code.as_bytes())?))
-}
-
-// The leaf of a table without faults.
-fn read_leaf(alloc: Global, table: &Table) -> Result<Leaf, AllocError>
-    requires { table_fault stage_leaf_keys (table_view table.now) ≡ None }
-    ensures { IfOk result (λ leaf. leaf ≡ leaf_of (table_view table.now)) }
-{
-    let Some(name) = text_at(table, Key::Name) else {
-        unreachable!();
-    };
-    let Some(name) = Name::new(name.as_bytes()) else {
-        unreachable!();
-    };
-    let source = read_source(alloc, table)?;
-    Ok(Leaf::new(name, quantity_at(table, Key::Quantum), source))
-}
-
-// The leaves of tables without faults.
-fn read_leaves(alloc: Global, values: &[Value]) -> Result<Vec<Leaf>, AllocError>
-    requires { first_of (table_fault stage_leaf_keys) (listed (items_view values.now)) ≡ None }
-    ensures { IfOk result (λ leaves. leaves.items ≡ leaves_of (listed (items_view values.now))) }
-{
-    let mut leaves = Vec::new(alloc);
-    for value in values {
-        let Some(table) = value.as_table() else {
-            unreachable!();
-        };
-        leaves.push(read_leaf(alloc, table)?)?;
-    }
-    Ok(leaves)
-}
-
-// Whether a name is the root's, or one of these leaves has it.
-fn is_taken(leaves: &[Leaf], name: &[u8]) -> bool
-    ensures { result ≡ (any_of (text_eq name.now) (leaf_names leaves.now) || text_eq name.now (codes "init")) }
-{
-    for leaf in leaves {
-        if same_bytes(name, leaf.name().as_bytes()) {
-            return true;
-        }
-    }
-    same_bytes(name, b"init")
-}
-
-// The same name.
-fn copied(name: &Name) -> Name
-    ensures { result ≡ name.now }
-{
-    match Name::new(name.as_bytes()) {
-        Some(name) => name,
-        None => unreachable!(),
-    }
-}
-
-// The first name that was seen before, of which `init` is the root's.
-fn name_twice(leaves: &[Leaf]) -> Option<ScenarioFault>
-    ensures { Tells result (name_twice (codes "init" ∷ []) (leaf_names leaves.now)) }
-{
-    for (place, leaf) in leaves.iter().enumerate() {
-        let name = leaf.name();
-        if is_taken(&leaves[..place], name.as_bytes()) {
-            return Some(ScenarioFault::NameTwice(copied(name)));
-        }
-    }
-    None
+    let version = version_of(top);
+    let total = read_quantum(Key::Ram, top);
+    let default_routes = read_routes_at(alloc, Key::DefaultRoute, top)?;
+    let interfaces = read_interfaces(alloc, version, table_at(top, Key::Interface))?;
+    let nodes = read_nodes(alloc, GREATEST_DEPTH, list_at(top, Key::Start))?;
+    Ok(Parts {
+        version,
+        total,
+        default_routes,
+        interfaces,
+        nodes,
+    })
 }
 
 // The scenario that a document describes.
-fn document_scenario(alloc: Global, table: &Table) -> Result<Scenario, ScenarioError>
-    ensures { IsRead result (described_or (table_view table.now) (stage_fault (table_view table.now))) }
+fn document_scenario(alloc: Global, top: &Table) -> Result<Scenario, ScenarioError>
+    ensures { IsRead result (described_or (table_view top.now) (document_fault (table_view top.now))) }
 {
-    if let Some(fault) = walk_fault(table) {
+    if let Some(fault) = walk_fault(top) {
         return Err(ScenarioError::Fault(fault));
     }
-    let values = list_at(table, Key::Start);
-    if values.len() > GREATEST_LEAVES {
+    if interface_count(top) > GREATEST_COUNT {
         return Err(ScenarioError::Fault(ScenarioFault::TooMany));
     }
-    let leaves = read_leaves(alloc, values)?;
-    if let Some(fault) = name_twice(leaves.as_slice()) {
+    let parts = read_parts(alloc, top)?;
+    if are_too_many(told(&parts.default_routes), &parts.nodes) {
+        return Err(ScenarioError::Fault(ScenarioFault::TooMany));
+    }
+    if let Some(fault) = repeated_name(alloc, &parts.nodes)? {
         return Err(ScenarioError::Fault(fault));
     }
-    Ok(Scenario::new(quantity_at(table, Key::Ram), leaves))
+    Ok(Scenario::new(parts))
 }
 
-/// The scenario that a text describes, a TOML document of version 1 with leaves directly under the root. Each has its
-/// program as text or as code.
+/// The scenario that a text describes, a TOML document of either version. Each leaf has its program as text or as code.
 ///
 /// Refused where memory runs out, and by the first fault of the text: one of more than 1 MiB is `TooMany`, one that is no
-/// UTF-8 or no TOML `NotToml`. Then come the faults of the tables in their order, each its least unknown key, its first
-/// missing key and its first bad value, then more than 64 leaves, and then the first name that was seen before.
+/// UTF-8 or no TOML `NotToml`. Then come the faults of the tables: of the top table, of the interfaces in the order of their
+/// names, of the root's routes, and of the nodes in preorder, each with its routes. A node below depth 4 is `TooDeep`; else a
+/// table's fault is its least unknown key, its first missing key or its first bad value. Then more than 64 leaves, inits
+/// under the root, interfaces or routes in a list are `TooMany`, and the first name that was seen before is `NameTwice`.
 pub fn read_scenario(alloc: Global, text: &[u8]) -> Result<Scenario, ScenarioError>
-    ensures { IsRead result (stage_scenario text.now) }
+    ensures { IsRead result (scenario_in text.now) }
 {
-    if text.len() > GREATEST_TEXT {
-        return Err(ScenarioError::Fault(ScenarioFault::TooMany));
-    }
-    let Ok(text) = str::from_utf8(text) else {
-        return Err(ScenarioError::Fault(ScenarioFault::NotToml));
-    };
-    match toml::table_from_str(alloc, text) {
-        Ok(table) => document_scenario(alloc, &table),
-        Err(error) if error.is_memory() => Err(ScenarioError::Memory(AllocError)),
-        Err(_) => Err(ScenarioError::Fault(ScenarioFault::NotToml)),
-    }
+    let top = read_document(alloc, text)?;
+    document_scenario(alloc, &top)
 }

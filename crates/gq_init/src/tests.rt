@@ -2,9 +2,10 @@
 use crate::fault::ScenarioError;
 use crate::key::Key;
 use crate::node::NodeNo;
-use crate::reader::read_scenario;
-use crate::scenario::{LeafNo, Scenario};
+use crate::scenario::LeafNo;
 use crate::source::Source;
+use crate::stage::reader::read_scenario;
+use crate::stage::scenario::Scenario;
 use crate::turns::{TurnsError, read_turns};
 use gq_model::fault::TurnFault;
 use std::alloc::{AllocError, Global};

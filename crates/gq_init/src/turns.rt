@@ -7,7 +7,8 @@ ghost use Rattle.gq_model.specs.Letters.{lines};
 ghost use Rattle.gq_init.specs.TurnLines.{IsTurned, line_turn};
 
 use crate::lines::{next_line, next_piece};
-use crate::scenario::{LeafNo, Scenario};
+use crate::scenario::LeafNo;
+use crate::stage::scenario::Scenario;
 use gq_model::fault::TurnFault;
 use gq_model::letters::{is_digit, is_name};
 use std::alloc::{AllocError, AllocFailed, Global};

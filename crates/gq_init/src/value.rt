@@ -2,8 +2,10 @@
 ghost use Rattle.std.specs.Prelude.{◌≡◌, option_map};
 ghost use Rattle.toml.specs.Data.{get_member};
 ghost use Rattle.toml.specs.View.{view, table_view, items_view};
-ghost use Rattle.gq_init.specs.Keys.{number_of, quantity, has, listed};
-ghost use Rattle.gq_init.specs.Document.{text_at, quantity_at, list_at};
+ghost use Rattle.gq_init.specs.Keys.{number_of, quantity, has, listed, list_length};
+ghost use Rattle.gq_init.specs.Tables.{items_at};
+ghost use Rattle.gq_init.specs.Document.{text_at, number_at, quantity_at, list_at, table_of};
+ghost use Rattle.gq_init.specs.Rules.{entries_or_none};
 ghost use Rattle.gq_init.specs.Words.{key_text};
 
 use crate::key::Key;
@@ -61,6 +63,19 @@ pub(crate) fn text_at(table: &Table, key: Key) -> Option<&str>
     }
 }
 
+// The number at a key, 0 where there is none.
+pub(crate) fn number_at(table: &Table, key: Key) -> u64
+    ensures { result ≡ number_at (key_text key) (table_view table.now) }
+{
+    match value_at(table, key) {
+        Some(value) => match number_of(value) {
+            Some(number) => number,
+            None => 0,
+        },
+        None => 0,
+    }
+}
+
 // The quantity at a key, 0 where there is none.
 pub(crate) fn quantity_at(table: &Table, key: Key) -> u64
     ensures { result ≡ quantity_at (key_text key) (table_view table.now) }
@@ -84,5 +99,38 @@ pub(crate) fn list_at(table: &Table, key: Key) -> &[Value]
             None => &[],
         },
         None => &[],
+    }
+}
+
+// The values of the list at a key.
+pub(crate) fn values_at(table: &Table, key: Key) -> Option<&[Value]>
+    ensures { option_map (λ values. items_view values.now) result ≡ items_at (key_text key) (table_view table.now) }
+{
+    match value_at(table, key) {
+        Some(value) => match value.as_array() {
+            Some(values) => Some(values.as_slice()),
+            None => None,
+        },
+        None => None,
+    }
+}
+
+// The number of values of the list at a key, 0 where there is none.
+pub(crate) fn count_at(table: &Table, key: Key) -> usize
+    ensures { result ≡ list_length (items_at (key_text key) (table_view table.now)) }
+{
+    match values_at(table, key) {
+        Some(values) => values.len(),
+        None => 0,
+    }
+}
+
+// The table at a key.
+pub(crate) fn table_at(table: &Table, key: Key) -> Option<&Table>
+    ensures { entries_or_none (option_map (λ t. table_view t.now) result) ≡ table_of (get_member (key_text key) (table_view table.now)) }
+{
+    match value_at(table, key) {
+        Some(value) => value.as_table(),
+        None => None,
     }
 }

@@ -1,3 +1,11 @@
 pub mod Turns
 pub mod Reached
 pub mod Shapes
+pub mod Links
+pub mod Names
+pub mod Resolved
+pub mod Typed
+pub mod Statements
+pub mod Asking
+pub mod Sections
+pub mod Replies

@@ -2,4 +2,5 @@
 #![tactic(auto)]
 
 pub mod reached;
+pub mod statements;
 pub mod turns;

@@ -6,7 +6,6 @@ mod Rows_budgets
 mod Rows_refusals
 mod Rows_text
 mod Rows_turns
-mod Loops
 mod Sums_laws
 mod Rows_wrong
 mod Rows_rules

@@ -31,3 +31,4 @@ pub mod Decode
 pub mod Sources
 pub mod Kept
 pub mod Stored
+pub mod Promises

@@ -178,7 +178,8 @@ impl Accounts {
     /// Writes the byte at `offset` of a dataspace.
     pub fn store(&mut self, ds: DsId, offset: u32, byte: u8)
         requires { offset < length (content_of self.old.spaces.spaces ds.0) }
-        ensures { self.new ≡ with_content self.old ds.0 (slice_set (content_of self.old.spaces.spaces ds.0) offset byte) }
+        ensures written { self.new ≡ with_content self.old ds.0 (slice_set (content_of self.old.spaces.spaces ds.0) offset byte) }
+        ensures same_size { length (content_of self.new.spaces.spaces ds.0) ≡ length (content_of self.old.spaces.spaces ds.0) }
     {
         self.spaces.store(ds, offset, byte);
     }
@@ -186,7 +187,8 @@ impl Accounts {
     /// Writes a number to the four bytes from `offset` on, the lowest first.
     pub fn store4(&mut self, ds: DsId, offset: u32, word: u32)
         requires { offset + 4 ≤ length (content_of self.old.spaces.spaces ds.0) }
-        ensures { self.new ≡ with_content self.old ds.0 (with_bytes (content_of self.old.spaces.spaces ds.0) offset (to_le_bytes w32 word)) }
+        ensures written { self.new ≡ with_content self.old ds.0 (with_bytes (content_of self.old.spaces.spaces ds.0) offset (to_le_bytes w32 word)) }
+        ensures same_size { length (content_of self.new.spaces.spaces ds.0) ≡ length (content_of self.old.spaces.spaces ds.0) }
     {
         self.spaces.store4(ds, offset, word);
     }
@@ -270,6 +272,7 @@ impl Accounts {
         ensures paid { IfOk result (λ ds. self.new.accounts ≡ charged self.old.accounts account.0 (up size) self.old.price) }
         ensures was_vacant { IfOk result (λ ds. IsVacant self.old.spaces.spaces ds.0) }
         ensures made { IfOk result (λ ds. self.new.spaces.spaces ≡ slice_set self.old.spaces.spaces ds.0 (Some (zeros (up size)))) }
+        ensures size { IfOk result (λ ds. length (content_of self.new.spaces.spaces ds.0) ≡ up size) }
         ensures of_it { IfOk result (λ ds. self.new.owners ≡ slice_set self.old.owners ds.0 (Some account)) }
         ensures same_whole { IsSameWhole self.new self.old }
         ensures unchanged { OnErr result (self.new ≡ self.old) }

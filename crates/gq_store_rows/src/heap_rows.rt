@@ -56,6 +56,44 @@ fn free_three<S: ByteStore>(heap: &mut Heap, store: &mut S, a: Place, b: Place, 
     heap.free(store, c);
 }
 
+fn make_two<S: ByteStore>(heap: &mut Heap, store: &mut S) -> Result<(Place, Place), GrowFault>
+    requires { IsHeap heap.old (S.state store.old) }
+    ensures { IfOk result (λ p. AreInUse heap.new (S.state store.new) (p.0 ∷ p.1 ∷ [])) }
+{
+    let a = heap.alloc(store, 16)?;
+    let b = heap.alloc(store, 16)?;
+    Ok((b, a))
+}
+
+// Writes 7 to the first byte of one block and 9 to that of the other, and gives what both read then.
+fn write_two<S: ByteStore>(heap: &Heap, store: &mut S, a: Place, b: Place) -> (u8, u8)
+    requires { AreInUse heap.now (S.state store.old) (a ∷ b ∷ []) }
+{
+    heap.store(store, a, 0, 7);
+    heap.store(store, b, 0, 9);
+    (heap.load(store, a, 0), heap.load(store, b, 0))
+}
+
+fn free_two<S: ByteStore>(heap: &mut Heap, store: &mut S, a: Place, b: Place)
+    requires { AreInUse heap.old (S.state store.old) (a ∷ b ∷ []) }
+    ensures { IsHeap heap.new (S.state store.new) }
+{
+    heap.free(store, a);
+    heap.free(store, b);
+}
+
+#[test]
+fn keeps_two_blocks_apart_in_places_that_were_freed(rt: HostRuntime) -> Result<(), Fail> {
+    let mut store = ListStore::new(rt.alloc(), 1, None)?;
+    let mut heap = Heap::new();
+    let (a, b) = make_two(&mut heap, &mut store).ok().ok_or("two")?;
+    free_two(&mut heap, &mut store, a, b);
+    let (c, d) = make_two(&mut heap, &mut store).ok().ok_or("again")?;
+    assert_eq!(rt; write_two(&heap, &mut store, c, d), (7, 9));
+    assert_eq!(rt; heap.charge(), 4096);
+    Ok(())
+}
+
 #[test]
 fn uses_freed_places_again(rt: HostRuntime) -> Result<(), Fail> {
     let mut store = ListStore::new(rt.alloc(), 1, None)?;
@@ -97,6 +135,7 @@ fn gives_large_blocks_back(rt: HostRuntime) -> Result<(), Fail> {
     assert_eq!(rt; heap.charge(), 0);
     assert_eq!(rt; heap.charge_caps(), 0);
     let small = heap.alloc(&mut store, 2048).ok().ok_or("small")?;
+    assert_eq!(rt; heap.charge(), 4096);
     heap.free(&mut store, small);
     assert_eq!(rt; heap.charge(), 4096);
     assert_eq!(rt; heap.charge_caps(), 1);

@@ -43,6 +43,20 @@ fn gives_slices_back_whole(rt: HostRuntime) -> Result<(), Fail> {
     Ok(())
 }
 
+// Of 8192 bytes a slice of 4064 leaves 4096, and one of 4065 leaves none.
+#[test]
+fn takes_whole_pages(rt: HostRuntime) -> Result<(), Fail> {
+    let sliced = Sliced::new();
+    let mut store = ListStore::new(rt.alloc(), 2, None)?;
+    assert!(rt; sliced.alloc(&mut store, 4064).is_ok());
+    assert_eq!(rt; sliced.alloc(&mut store, 4065), Err(GrowFault::Exceeded));
+    assert!(rt; sliced.alloc(&mut store, 4064).is_ok());
+    let mut store = ListStore::new(rt.alloc(), 2, None)?;
+    assert!(rt; sliced.alloc(&mut store, 4065).is_ok());
+    assert_eq!(rt; sliced.alloc(&mut store, 0), Err(GrowFault::Exceeded));
+    Ok(())
+}
+
 #[test]
 fn wants_a_capability(rt: HostRuntime) -> Result<(), Fail> {
     let mut store = ListStore::new(rt.alloc(), 2, Some(1))?;

@@ -21,7 +21,8 @@ use Rattle.gq_world.specs.Told.{plain_account, plain_accounts, plain_spent, root
 use Rattle.gq_model.specs.Turns.{Turned, turned}
 use Rattle.gq_world.specs.Loading.{Fault, stage_loaded}
 use Rattle.gq_world.specs.Written.{whole_of, written_turns, written_from, stage_written}
-use Rattle.gq_world.specs.Headline.{EachOf, need_at, needed, budget_of, StaysWithin, KeepsBudget, SumsToTotal, IsUpheld, Upholds, IsPromised, WritesPromised}
+use Rattle.gq_model.specs.Promises.{EachOf, need_at, needed, budget_of, StaysWithin, KeepsBudget, SumsToTotal, IsUpheld, Upholds}
+use Rattle.gq_world.specs.Headline.{IsPromised, WritesPromised}
 use Rattle.gq_world.specs.Outcomes.{IsWhole}
 use Rattle.gq_world.proofs.Judged.{passes, accepted}
 use Rattle.gq_world.proofs.Refusals.{each_at, IsAcceptedLeaf, accepted_components, budget_is}

@@ -20,9 +20,10 @@ pub mod Lines
 pub mod Whole
 pub mod Stage_laws
 pub mod Stage_refusals
-pub mod Leaf_code
+pub mod Hexadecimal
 pub mod Headline
 pub mod Upheld
 pub mod Rows_whole
 pub mod Rows_headline
 pub mod Rows_written
+pub mod Told_runs

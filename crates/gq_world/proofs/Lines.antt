@@ -14,7 +14,7 @@ use Rattle.gq_world.specs.Worlds.{World, IsSound}
 use Rattle.gq_world.specs.Lines.{Told, all_accounts, node_count, leaf_place, told_of, with_label, IsAccountLine}
 use Rattle.gq_world.proofs.Accounts.{IsRead, told_leaf, told_here, label_here, part_here, accounts_count}
 
-version_is : (s : Scenario) (w : model.World) → ∥ IsSound s w ∥₁ → s.version ≡ 1
+pub version_is : (s : Scenario) (w : model.World) → ∥ IsSound s w ∥₁ → s.version ≡ 1
 version_is s w sound = ∥∥₁_elim sound (Coded-set coded_ℕ s.version 1) (λ h. h.bare.version)
 
 -- an account for the root and for each leaf

@@ -10,9 +10,9 @@ use Rattle.gq_model.specs.World.{Session, Leaf, World, session_at}
 use Rattle.gq_model.specs.Sums.{held, lent, received}
 use Rattle.gq_model.specs.Run.{run}
 use Rattle.gq_model.specs.Accounts.{accounts}
-use Rattle.gq_world.specs.Load.{Fault, loaded}
+use Rattle.gq_load.specs.Load.{Fault, loaded}
 use Rattle.gq_world.specs.Covered.{is_covered}
-use Rattle.gq_world.specs.Headline.{needed, budget_of, quota_at}
+use Rattle.gq_model.specs.Promises.{needed, budget_of, quota_at}
 use Rattle.gq_world.proofs.Rows_whole.{hello_text, echo_text, caps_text}
 
 abbrev scenario_of : Result Scenario Fault → Scenario

@@ -25,8 +25,8 @@ use Rattle.gq_world.specs.Judgements.{judged_as, AreAccepted}
 use Rattle.gq_world.specs.Faults.{AreBareComponents}
 use Rattle.gq_world.specs.Loading as stage
 use Rattle.gq_world.specs.Loading.{judgement_fault, programs_fault, quanta_fault, stage_loaded}
-use Rattle.gq_world.specs.Load as load
-use Rattle.gq_world.specs.Load.{loaded}
+use Rattle.gq_load.specs.Load as load
+use Rattle.gq_load.specs.Load.{loaded}
 use Rattle.gq_world.specs.Written.{written_from, written_turns, stage_written}
 use Rattle.gq_world.specs.Whole.{with_scenario, run_written}
 use Rattle.gq_world.proofs.Refusals.{Each, IsAcceptedLeaf, are_accepted, accepted_scenario}

@@ -8,7 +8,7 @@ use Rattle.gq_model.specs.World as model
 use Rattle.gq_model.specs.Accept.{Budget, budgets, step_budgets}
 use Rattle.gq_model.specs.Accounts.{LeafAccount, Account, accounts}
 use Rattle.gq_world.specs.Worlds.{World, IsSound}
-use Rattle.gq_world.specs.Headline.{IsUpheld}
+use Rattle.gq_model.specs.Promises.{IsUpheld}
 use Rattle.gq_world.specs.Lines.{Told, all_accounts, told_of}
 use Rattle.gq_world.proofs.Accounts.{pair_at, account_is, accounts_count}
 use Rattle.gq_world.proofs.Headline.{world_upheld, ram_sums}

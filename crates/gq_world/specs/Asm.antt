@@ -1,17 +1,11 @@
--- The code of a leaf as far as scenarios are read so far, and why it is not written.
+-- Why the code of a leaf is not written.
 use Rattle.std.specs.Prelude.{◌≡◌, ℕ, List, ◌++◌, Ok, Err, codes}
-use Rattle.gq_init.specs.Stage.{stage_scenario}
 use Rattle.gq_world.specs.declared.asm.AsmFault.{AsmFault}
 use Rattle.gq_world.specs.declared.asm.AsmFault.TheVariants.{Load, NoComponent, Memory, Write}
-use Rattle.gq_world.specs.declared.load.LoadError.{LoadError}
-use Rattle.gq_world.specs.declared.load.LoadError.TheVariants as error
-use Rattle.gq_world.specs.Faults.{load_fault_text}
+use Rattle.gq_load.specs.declared.fault.LoadError.{LoadError}
+use Rattle.gq_load.specs.declared.fault.LoadError.TheVariants as error
+use Rattle.gq_load.specs.Faults.{load_fault_text}
 use Rattle.gq_world.specs.Written.{Written, refused_with}
-use Rattle.gq_world.specs.Whole.{asm_from}
-
--- the code of the leaf of that name
-abbrev pub stage_asm_written : List ℕ → List ℕ → Written
-stage_asm_written scenario name = asm_from (stage_scenario scenario) name
 
 -- the line that a fault prints
 abbrev pub asm_fault_text : AsmFault → List ℕ

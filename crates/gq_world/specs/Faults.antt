@@ -9,7 +9,7 @@ use Rattle.gq_world.specs.declared.load.LoadFault.{LoadFault}
 use Rattle.gq_world.specs.declared.load.LoadFault.TheVariants as load
 use Rattle.gq_world.specs.declared.load.LoadError.{LoadError}
 use Rattle.gq_world.specs.declared.load.LoadError.TheVariants as error
-use Rattle.gq_world.specs.Load as whole
+use Rattle.gq_load.specs.Load as whole
 use Rattle.gq_world.specs.Loading as loading
 use Rattle.gq_world.specs.Loading.{fault_text}
 

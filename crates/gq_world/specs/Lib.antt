@@ -13,9 +13,9 @@ pub mod Written
 pub mod Going
 pub mod Outcomes
 pub mod Lines
-pub mod Load
 pub mod Whole
 pub mod Asm
+pub mod Check
 pub mod Covered
 pub mod Headline
 pub mod Tested

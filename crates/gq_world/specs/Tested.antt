@@ -9,7 +9,7 @@ use Rattle.gq_model.specs.Accept.{not_resolved}
 use Rattle.gq_model.specs.Accounts.{text_of}
 use Rattle.gq_model.specs.Turns.{Turned, turned}
 use Rattle.gq_init.specs.Reading.{ReadFault, scenario_in}
-use Rattle.gq_world.specs.Load.{Fault, Unread, sources_fault, refused, loaded_or, fault_text}
+use Rattle.gq_load.specs.Load.{Fault, Unread, sources_fault, refused, loaded_or, fault_text}
 use Rattle.gq_world.specs.Written.{refused_with, turn_fault_text}
 
 -- texts and codes have to be programs, and routes have to lead somewhere; no program is judged

@@ -18,6 +18,10 @@ refused_with text = codes "trade: " ++ text ++ 10 ∷ []
 abbrev pub turn_fault_text : TurnFault → ℕ → List ℕ
 turn_fault_text fault line = turn_fault_word fault ++ codes " line " ++ decimal line
 
+-- what is said of an accepted scenario that the machine does not run yet
+abbrev pub not_yet_text : List ℕ
+not_yet_text = codes "N1 NotYet"
+
 -- the text of a run by these turns, with the step budgets of the scenario
 unfoldable pub whole_of : Scenario → List (ℕ × ℕ) → List ℕ
 whole_of s turns = whole s (step_budgets (budgets s)) turns

@@ -12,7 +12,7 @@ use crate::line::{Line, extend, extend_entry, extend_number, phase_word};
 use crate::world::World;
 use arrayvec::ArrayVec;
 use gq_init::node::NodeNo;
-use gq_init::scenario::GREATEST_LABEL;
+use gq_init::stage::scenario::GREATEST_LABEL;
 use std::io::Write;
 
 /// Writes the lines of the accounts of all nodes in preorder, up to the first that is not written whole. They take no host

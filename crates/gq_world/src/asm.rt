@@ -1,9 +1,7 @@
 // The code of a leaf's program.
-ghost use Rattle.std.specs.Prelude.{◌≡◌, ◌∷◌, ◌++◌, [], Ok, Err, IfOk, IfErr, OnOk, false, string_bytes};
+ghost use Rattle.std.specs.Prelude.{◌≡◌, ◌∷◌, ◌++◌, [], Ok, Err, IfOk, IfErr, OnOk, string_bytes};
 ghost use Rattle.gq_model.specs.Code.{hex_of};
-ghost use Rattle.gq_model.specs.Scenario.{components};
-ghost use Rattle.gq_init.specs.Later.{is_later_text};
-ghost use Rattle.gq_world.specs.Asm.{stage_asm_written, IsAsmFaultOf, IsAsmBefore};
+ghost use Rattle.gq_world.specs.Asm.{IsAsmFaultOf, IsAsmBefore};
 ghost use Rattle.gq_world.specs.Counts.{written_to, failures_of};
 ghost use Rattle.gq_world.specs.Outcomes.{IsWhole, IsCutShort};
 ghost use Rattle.gq_world.specs.Whole.{asm_from, asm_written};
@@ -11,11 +9,14 @@ ghost use Rattle.gq_world.specs.Writes.{IsRaised};
 ghost use Rattle.gq_world.specs.declared.asm.AsmFault.TheVariants as fault;
 
 use crate::counted::{Counted, put};
-use crate::load::{LoadError, LoadFault, read_program};
 use gq_code::program_code::encode;
 use gq_init::fault::ScenarioError;
 use gq_init::reader::read_scenario;
+use gq_init::resolve::component::components;
 use gq_init::scenario::Scenario;
+use gq_load::fault::{LoadError, LoadFault};
+use gq_load::named::leaf_named;
+use gq_load::programs::read_program;
 use std::alloc::{AllocError, Global};
 use std::io::Write;
 
@@ -70,10 +71,11 @@ fn leaf_line<'a>(alloc: Global, scenario: &Scenario, name: &'a str) -> Result<St
     ensures refused { IfErr result (λ f. IsAsmFaultOf f (asm_from (Ok scenario.now) name.now)) }
     ensures before { IfErr result (λ f. IsAsmBefore f) }
 {
-    let Some(leaf) = scenario.leaf_named(name.as_bytes()) else {
+    let components = components(alloc, scenario)?;
+    let Some(leaf) = leaf_named(components.as_slice(), name.as_bytes()) else {
         return Err(AsmFault::NoComponent(name));
     };
-    let program = read_program(alloc, scenario, leaf)?;
+    let program = read_program(alloc, leaf)?;
     let code = encode(alloc, &program)?;
     Ok(hexadecimal_line(alloc, code.as_slice())?)
 }
@@ -91,10 +93,8 @@ pub fn asm<'a, W: Write>(
     ensures written { OnOk result (IsWhole (asm_written scenario.now name.now) (written_to W.contents out.old) (written_to W.contents out.new)) }
     ensures counted { OnOk result (failures_of out.new ≡ failures_of out.old) }
 
-    // The fault is that of the definition of what is read so far, and of the whole language where the text has nothing that is
-    // not read so far; then nothing was written.
-    ensures refused { IfErr result (λ f. IsAsmFaultOf f (stage_asm_written scenario.now name.now)) }
-    ensures covered { is_later_text scenario.now ≡ false → IfErr result (λ f. IsAsmFaultOf f (asm_written scenario.now name.now)) }
+    // The fault is that of the definition; then nothing was written.
+    ensures refused { IfErr result (λ f. IsAsmFaultOf f (asm_written scenario.now name.now)) }
     ensures unwritten { IfErr result (λ f. IsAsmBefore f → out.new ≡ out.old) }
 
     // A write failed, and was counted; a front of the line went out.

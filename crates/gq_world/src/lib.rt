@@ -5,6 +5,7 @@ pub mod account;
 mod account_line;
 pub mod asm;
 pub mod budget;
+pub mod check;
 pub mod counted;
 mod judge;
 mod line;

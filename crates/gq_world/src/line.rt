@@ -3,7 +3,7 @@ ghost use Rattle.std.specs.Prelude.{◌≡◌, ◌≤◌, ◌+◌, ◌++◌, ◌
 ghost use Rattle.gq_model.specs.Accounts.{phase_word, entry};
 
 use arrayvec::ArrayVec;
-use gq_init::scenario::GREATEST_LABEL;
+use gq_init::stage::scenario::GREATEST_LABEL;
 use gq_model::phase::Phase;
 use itoa::Buffer;
 

@@ -7,18 +7,20 @@ ghost use Rattle.gq_model.specs.World.{start};
 ghost use Rattle.gq_world.specs.Counts.{written_to, failures_of};
 ghost use Rattle.gq_world.specs.Writes.{IsFront, IsRaised};
 ghost use Rattle.gq_world.specs.Going.{AreBelow, HasRun, IsCut};
-ghost use Rattle.gq_world.specs.Written.{whole_of, stage_written};
-ghost use Rattle.gq_world.specs.Whole.{run_written};
-ghost use Rattle.gq_world.specs.Covered.{is_covered};
+ghost use Rattle.gq_load.specs.Load.{loaded};
+ghost use Rattle.gq_world.specs.Written.{whole_of};
+ghost use Rattle.gq_world.specs.Whole.{run_written, run_told};
 ghost use Rattle.gq_world.specs.Headline.{WritesPromised};
-ghost use Rattle.gq_world.specs.Outcomes.{IsWhole, IsCutShort, IsFaultOf, IsBefore};
+ghost use Rattle.gq_world.specs.Outcomes.{IsWhole, IsCutShort, IsFaultOf, IsTextFaultOf, IsBefore, IsWhyNot};
 
 use crate::account_line::write_accounts;
 use crate::counted::{Counted, WriteFault};
-use crate::load::{LoadError, LoadFault};
+use crate::load;
 use crate::world::{Stop, World};
 use gq_init::scenario::LeafNo;
 use gq_init::turns::{TurnsError, read_turns};
+use gq_load::accepted::Accepted;
+use gq_load::fault::{LoadError, LoadFault};
 use gq_model::fault::TurnFault;
 use std::alloc::Global;
 use std::io::Write;
@@ -28,6 +30,8 @@ use std::io::Write;
 pub enum RunFault {
     /// The scenario is refused.
     Load(LoadFault),
+    /// The scenario is accepted, but the machine does not run all that it has yet.
+    NotYet,
     /// The text of the turns is refused, at this line from 1; a text that is too long at line 0.
     Turns { fault: TurnFault, line: u64 },
     /// Host memory was refused.
@@ -100,6 +104,17 @@ fn run_world<W: Write>(
     write_accounts(world, out)
 }
 
+/// Why a scenario is not run: what refuses it, or that the machine does not run all that it has yet.
+fn why_not(alloc: Global, scenario: &[u8]) -> RunFault
+    ensures { IsWhyNot result (loaded scenario.now) }
+{
+    match Accepted::read(alloc, scenario) {
+        Ok(_accepted) => RunFault::NotYet,
+        Err(LoadError::Memory) => RunFault::Memory,
+        Err(LoadError::Fault(fault)) => RunFault::Load(fault),
+    }
+}
+
 /// Runs a scenario, a text in TOML, by the turns of a second text: loads it, takes all its turns, and writes the lines that
 /// they give and then the accounts of all nodes. Nothing is written where the scenario or the turns are refused, or where host
 /// memory is, which only loading and reading the turns take.
@@ -116,9 +131,9 @@ pub fn run<W: Write>(
     ensures promised { OnOk result (WritesPromised scenario.now turns.now (written_to W.contents out.old) (written_to W.contents out.new)) }
     ensures counted { OnOk result (failures_of out.new ≡ failures_of out.old) }
 
-    // The fault is that of the definition of what is brought so far, and of the whole language where this covers the scenario.
-    ensures refused { IfErr result (λ fault. IsFaultOf fault (stage_written scenario.now turns.now)) }
-    ensures covered { is_covered scenario.now ≡ true → IfErr result (λ fault. IsFaultOf fault (run_written scenario.now turns.now)) }
+    // The fault is that of the definition, or the scenario is accepted and none of those that the machine runs so far.
+    ensures refused { IfErr result (λ fault. IsFaultOf fault (run_told scenario.now turns.now)) }
+    ensures whole { IfErr result (λ fault. IsTextFaultOf fault (run_written scenario.now turns.now)) }
     ensures silent { IfErr result (λ fault. IsBefore fault → out.new ≡ out.old) }
 
     // A write failed: a front of the text was written.
@@ -127,8 +142,8 @@ pub fn run<W: Write>(
 {
     let mut world = match World::load(alloc, scenario) {
         Ok(world) => world,
-        Err(LoadError::Memory) => return Err(RunFault::Memory),
-        Err(LoadError::Fault(fault)) => return Err(RunFault::Load(fault)),
+        Err(load::LoadError::Memory) => return Err(RunFault::Memory),
+        Err(load::LoadError::Fault(_fault)) => return Err(why_not(alloc, scenario)),
     };
     let turns = match read_turns(alloc, turns, world.scenario()) {
         Ok(turns) => turns,

@@ -4,7 +4,9 @@ use crate::asm::{AsmFault, asm};
 use crate::load::{LoadError, LoadFault};
 use crate::run::{RunFault, run};
 use crate::world::{Stop, World};
+use gq_init::fault::ScenarioFault;
 use gq_init::node::NodeNo;
+use gq_load::fault::LoadFault as AcceptFault;
 use gq_machine::event::Event;
 use gq_model::fault::{CodeFault, TextFault, TurnFault};
 use gq_model::phase::Phase;
@@ -97,7 +99,7 @@ fn reads_the_code_of_one_leaf(rt: HostRuntime) {
     let mut out = Counted::new(Cursor::new(&mut text));
     assert!(rt; asm(rt.alloc(), CODED, "hello", &mut out).is_ok());
     let cut = asm(rt.alloc(), CODED, "cut", &mut out);
-    assert!(rt; matches!(cut, Err(AsmFault::Load(LoadFault::Code { .. }))));
+    assert!(rt; matches!(cut, Err(AsmFault::Load(AcceptFault::Code { .. }))));
     let nobody = asm(rt.alloc(), CODED, "init", &mut out);
     assert!(rt; matches!(nobody, Err(AsmFault::NoComponent("init"))));
     assert!(rt; out.failures() == 0);
@@ -119,8 +121,8 @@ fn prints_faults_of_code(rt: HostRuntime) -> Result<(), Fail> {
     let cases = [
         (AsmFault::NoComponent("-x"), "no component -x"),
         (
-            AsmFault::Load(LoadFault::QuantaExceed),
-            "S11 QuantaExceed init",
+            AsmFault::Load(AcceptFault::Scenario(ScenarioFault::NotToml)),
+            "S1 NotToml",
         ),
         (AsmFault::Memory, "host memory refused"),
         (AsmFault::Write, "file fault"),
@@ -199,7 +201,7 @@ fn writes_nothing_where_a_text_is_refused(rt: HostRuntime) {
     let mut text = Vec::new(rt.alloc());
     let mut out = Counted::new(Cursor::new(&mut text));
     let scenario = run(rt.alloc(), UNKNOWN_WORD, b"hello 2", &mut out);
-    assert!(rt; matches!(scenario, Err(RunFault::Load(LoadFault::Text { .. }))));
+    assert!(rt; matches!(scenario, Err(RunFault::Load(AcceptFault::Text { .. }))));
     let turns = run(rt.alloc(), HELLO, b"init 1", &mut out);
     assert!(rt;
         matches!(

@@ -2,9 +2,11 @@
 ghost use Rattle.std.specs.Prelude.{Some};
 ghost use Rattle.gq_world.specs.Faults.{load_fault_text};
 ghost use Rattle.gq_world.specs.Asm.{asm_fault_text};
+ghost use Rattle.gq_world.specs.Check.{check_fault_text};
 ghost use Rattle.gq_world.specs.Outcomes.{run_fault_text};
 
 use crate::asm::AsmFault;
+use crate::check::CheckFault;
 use crate::load::LoadFault;
 use crate::run::RunFault;
 use std::error::Error;
@@ -65,12 +67,33 @@ impl<'a> Debug for AsmFault<'a> {
 
 impl<'a> Error for AsmFault<'a> {}
 
+impl Display for CheckFault {
+    ghost output = { λ fault. Some (check_fault_text fault) };
+
+    fn fmt<W: Write>(&self, f: &mut Formatter<W>) -> fmt::Result {
+        match self {
+            CheckFault::Load(fault) => write!(f, "{fault}"),
+            CheckFault::Memory => f.write_str("host memory refused"),
+            CheckFault::Write => f.write_str("file fault"),
+        }
+    }
+}
+
+impl Debug for CheckFault {
+    fn fmt<W: Write>(&self, f: &mut Formatter<W>) -> fmt::Result {
+        Display::fmt(self, f)
+    }
+}
+
+impl Error for CheckFault {}
+
 impl Display for RunFault {
     ghost output = { λ fault. Some (run_fault_text fault) };
 
     fn fmt<W: Write>(&self, f: &mut Formatter<W>) -> fmt::Result {
         match self {
             RunFault::Load(fault) => write!(f, "{fault}"),
+            RunFault::NotYet => f.write_str("N1 NotYet"),
             RunFault::Turns { fault, line } => write!(f, "{fault} line {line}"),
             RunFault::Memory => f.write_str("host memory refused"),
             RunFault::Write => f.write_str("file fault"),
@@ -89,6 +112,7 @@ impl Error for RunFault {}
 #[cfg(test)]
 mod tests {
     use super::*;
+    use gq_load::fault::LoadFault as AcceptFault;
     use gq_model::fault::{Rule, TurnFault};
     use gq_model::program::{Name, Section};
     use std::test::Fail;
@@ -97,7 +121,7 @@ mod tests {
         let Some(leaf) = Name::new(leaf) else {
             return Err(Fail::from("a name"));
         };
-        Ok(RunFault::Load(LoadFault::Rule {
+        Ok(RunFault::Load(AcceptFault::Rule {
             leaf,
             rule,
             section,
@@ -120,10 +144,7 @@ mod tests {
                 broken(b"srv", Rule::HeapInSession, Section::Calling(0), 1)?,
                 "srv: V11 HeapInSession in call 0 at 1",
             ),
-            (
-                RunFault::Load(LoadFault::QuantaExceed),
-                "S11 QuantaExceed init",
-            ),
+            (RunFault::NotYet, "N1 NotYet"),
             (turns, "U2 NoSuchComponent line 1"),
             (RunFault::Memory, "host memory refused"),
             (RunFault::Write, "file fault"),

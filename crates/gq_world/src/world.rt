@@ -19,7 +19,8 @@ use crate::counted::{Counted, put};
 use crate::line::{Line, labelled};
 use arrayvec::ArrayVec;
 use gq_init::node::NodeNo;
-use gq_init::scenario::{LeafNo, Scenario};
+use gq_init::scenario::LeafNo;
+use gq_init::stage::scenario::Scenario;
 use gq_machine::event::Event;
 use gq_machine::machine::Machine;
 use std::io::Write;
@@ -87,7 +88,7 @@ impl World {
     }
 
     // The number of its leaves.
-    fn leaf_count(&self) -> usize
+    pub(crate) fn leaf_count(&self) -> usize
         ensures leaves { result ≡ length (components self.now.scenario) }
         ensures few { result ≤ 64 }
         ensures accounts { length (all_accounts self.now) ≡ suc result }

@@ -67,7 +67,10 @@ fn perform(rt: &HostRuntime, command: &Command, err: &mut Counted<Stderr>) -> St
             ),
             Err(_) => tell(err, Status::FileFault),
         },
-        Command::Asm(scenario, _) => match File::open(rt, scenario.as_str()) {
+        Command::Asm(scenario, _) | Command::Check(scenario) => match File::open(
+            rt,
+            scenario.as_str(),
+        ) {
             Ok(mut scenario) => execute(
                 rt.alloc(),
                 command,

@@ -4,7 +4,7 @@ use Rattle.gq_pages.specs.Bytes.{zeros}
 use Rattle.gq_dataspace.specs.Dataspaces.{Contents, content_of}
 use Rattle.gq_dataspace.proofs.Bytes.{length-zeros}
 use Rattle.gq_dataspace.proofs.Edits.{content_set}
-use Rattle.gq_dataspace.proofs.Others.{content_other, vacant_apart}
+use Rattle.gq_dataspace.proofs.Callers.{content_other, vacant_apart}
 use Rattle.gq_dataspace.proofs.tests.made.Goals as goal
 
 pub returns : goal.returns

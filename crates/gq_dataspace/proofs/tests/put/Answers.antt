@@ -4,7 +4,7 @@ use Rattle.gq_pages.specs.Bytes.{with_bytes}
 use Rattle.gq_dataspace.specs.Dataspaces.{Contents, content_of}
 use Rattle.gq_dataspace.proofs.Bytes.{length-with_bytes}
 use Rattle.gq_dataspace.proofs.Edits.{content_there, content_set}
-use Rattle.gq_dataspace.proofs.Others.{content_other}
+use Rattle.gq_dataspace.proofs.Callers.{content_other}
 use Rattle.gq_dataspace.proofs.tests.put.Goals as goal
 
 pub returns : goal.returns

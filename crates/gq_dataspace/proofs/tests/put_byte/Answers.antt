@@ -1,7 +1,7 @@
 use Rattle.std.proofs.Common.{◌≡◌, ◌+◌, ◌<◌, ℕ, List, Some, length, set, arith, ap, ◌∙◌, length-set}
 use Rattle.gq_dataspace.specs.Dataspaces.{Contents, content_of}
 use Rattle.gq_dataspace.proofs.Edits.{content_there, content_set}
-use Rattle.gq_dataspace.proofs.Others.{content_other}
+use Rattle.gq_dataspace.proofs.Callers.{content_other}
 use Rattle.gq_dataspace.proofs.tests.put_byte.Goals as goal
 
 pub returns : goal.returns

@@ -1,6 +1,6 @@
 use Rattle.std.proofs.Common.{◌≡◌, ℕ, None, arith, ap, ◌∙◌}
 use Rattle.gq_dataspace.specs.Dataspaces.{Contents, content_of}
-use Rattle.gq_dataspace.proofs.Others.{content_other, is_live}
+use Rattle.gq_dataspace.proofs.Callers.{content_other, is_live}
 use Rattle.gq_dataspace.proofs.tests.removed.Goals as goal
 
 pub destroy-requires : goal.destroy-requires

@@ -1,6 +1,6 @@
 use Rattle.std.proofs.Common.{◌≡◌, length, arith, sym, ap, ◌∙◌}
 use Rattle.gq_dataspace.specs.Dataspaces.{content_of}
-use Rattle.gq_dataspace.proofs.Others.{is_live}
+use Rattle.gq_dataspace.proofs.Callers.{is_live}
 use Rattle.gq_dataspace.proofs.tests.scattered.Goals as goal
 
 pub put_byte-requires : goal.put_byte-requires

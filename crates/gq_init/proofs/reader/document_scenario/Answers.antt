@@ -1,37 +1,63 @@
+use Rattle.std.proofs.Common.{◌≡◌, ◌<◌, ◌≤◌, [], ◌∷◌, None, Ok, codes, length, sym, ap, refl, subst, ◌∙◌, arith}
 use Rattle.toml.specs.View.{table_view}
-use Rattle.gq_init.specs.Stage.{stage_walk_fault}
+use Rattle.gq_model.specs.Scenario.{Scenario}
+use Rattle.gq_init.specs.Document.{keys_of, names_of, name_twice, walk_fault, document_fault}
+use Rattle.gq_init.specs.Made.{IsScenario}
+use Rattle.gq_init.specs.Parts.{interfaces_at, are_too_many}
+use Rattle.gq_init.specs.Words.{Tells}
+use Rattle.gq_init.proofs.Described.{fault_read}
 use Rattle.gq_init.proofs.Faults.{tells_none}
-use Rattle.gq_init.proofs.Described.{many_read, twice_read, all_read, few_leaves, whole_pages}
+use Rattle.gq_init.proofs.Documents.{many_interfaces, many_parts, names_left, is_scenario}
 use Rattle.gq_init.proofs.reader.document_scenario.Goals as goal
 
-pub returns-then-values-gt-GREATEST_LEAVES : goal.returns-then-values-gt-GREATEST_LEAVES
-returns-then-values-gt-GREATEST_LEAVES c =
-    let top = table_view c.args.table.now in
-    let walked = tells_none (stage_walk_fault top) (rw c.in_default.is at c.walk_fault.ensures) in
-    many_read top walked c.list_at-values.result.now c.list_at-values.ensures c.if-values-gt-GREATEST_LEAVES.true
+pub returns-then-interface_count-gt-GREATEST_COUNT : goal.returns-then-interface_count-gt-GREATEST_COUNT
+returns-then-interface_count-gt-GREATEST_COUNT c =
+    let top = table_view c.args.top.now in
+    let walked = tells_none (walk_fault top) (rw c.in_default.is at c.walk_fault.ensures) in
+    let many : 64 < length (keys_of (interfaces_at top)) = omega (arith, c.interface_count.ensures) in
+    rw (many_interfaces top walked many) refl
 
-pub returns-in-Some-name_twice : goal.returns-in-Some-name_twice
-returns-in-Some-name_twice c =
-    let top = table_view c.args.table.now in
-    let walked = tells_none (stage_walk_fault top) (rw c.in_default.is at c.walk_fault.ensures) in
-    let told = rw c.in-Some-name_twice.is at (rw c.as_slice.ensures.value at c.name_twice.ensures) in
-    twice_read top walked c.list_at-values.result.now c.list_at-values.ensures c.in_ok-leaves.leaves.items c.in-Some-name_twice.fault c.if-values-gt-GREATEST_LEAVES.false c.in_ok-leaves.ensures told
+pub returns-then-are_too_many : goal.returns-then-are_too_many
+returns-then-are_too_many c =
+    let top = table_view c.args.top.now in
+    let walked = tells_none (walk_fault top) (rw c.in_default.is at c.walk_fault.ensures) in
+    let few : length (keys_of (interfaces_at top)) ≤ 64 = omega (arith, c.interface_count.ensures) in
+    let P : Scenario → Type 0 = λ s. c.are_too_many.result ≡ are_too_many s.default_routes s.nodes in
+    let counted = subst P c.in_ok-parts.ensures (rw c.told.ensures at c.are_too_many.ensures) in
+    rw (many_parts top walked few (sym counted ∙ c.if-are_too_many.true)) refl
 
-pub new-requires-clause-few : goal.new-requires-clause-few
-new-requires-clause-few c =
-    let top = table_view c.args.table.now in
-    let walked = tells_none (stage_walk_fault top) (rw c.in_default.is at c.walk_fault.ensures) in
-    few_leaves top walked c.list_at-values.result.now c.list_at-values.ensures c.in_ok-leaves.leaves.items c.if-values-gt-GREATEST_LEAVES.false c.in_ok-leaves.ensures
+pub returns-in-Some-2 : goal.returns-in-Some-2
+returns-in-Some-2 c =
+    let top = table_view c.args.top.now in
+    let walked = tells_none (walk_fault top) (rw c.in_default.is at c.walk_fault.ensures) in
+    let few : length (keys_of (interfaces_at top)) ≤ 64 = omega (arith, c.interface_count.ensures) in
+    let P : Scenario → Type 0 = λ s. c.are_too_many.result ≡ are_too_many s.default_routes s.nodes in
+    let counted = subst P c.in_ok-parts.ensures (rw c.told.ensures at c.are_too_many.ensures) in
+    let left = names_left top walked few (sym counted ∙ c.if-are_too_many.false) in
+    let Q : Scenario → Type 0 = λ s. Tells c.in_ok-fault.field-0 (name_twice (codes "init" ∷ []) (names_of s.nodes)) in
+    let told = rw c.in-Some-2.is at (subst Q c.in_ok-parts.ensures c.in_ok-fault.ensures) in
+    fault_read top c.in-Some-2.fault (document_fault top) (rw left told)
 
-pub new-requires-clause-whole : goal.new-requires-clause-whole
-new-requires-clause-whole c =
-    let top = table_view c.args.table.now in
-    let walked = tells_none (stage_walk_fault top) (rw c.in_default.is at c.walk_fault.ensures) in
-    whole_pages top walked c.list_at-values.result.now c.list_at-values.ensures c.quantity_at.result c.quantity_at.ensures
+pub new-requires : goal.new-requires
+new-requires c =
+    let top = table_view c.args.top.now in
+    let walked = tells_none (walk_fault top) (rw c.in_default.is at c.walk_fault.ensures) in
+    let few : length (keys_of (interfaces_at top)) ≤ 64 = omega (arith, c.interface_count.ensures) in
+    let P : Scenario → Type 0 = λ s. c.are_too_many.result ≡ are_too_many s.default_routes s.nodes in
+    let counted = subst P c.in_ok-parts.ensures (rw c.told.ensures at c.are_too_many.ensures) in
+    let Q : Scenario → Type 0 = λ s. Tells c.in_ok-fault.field-0 (name_twice (codes "init" ∷ []) (names_of s.nodes)) in
+    let told = rw c.in_default-2.is at (subst Q c.in_ok-parts.ensures c.in_ok-fault.ensures) in
+    subst IsScenario (sym c.in_ok-parts.ensures) (is_scenario top walked few (sym counted ∙ c.if-are_too_many.false) (tells_none _ told))
 
 pub returns : goal.returns
 returns c =
-    let top = table_view c.args.table.now in
-    let walked = tells_none (stage_walk_fault top) (rw c.in_default.is at c.walk_fault.ensures) in
-    let told = rw c.in_default-name_twice.is at (rw c.as_slice.ensures.value at c.name_twice.ensures) in
-    all_read top walked c.list_at-values.result.now c.list_at-values.ensures c.in_ok-leaves.leaves.items c.quantity_at.result c.new.result c.if-values-gt-GREATEST_LEAVES.false c.in_ok-leaves.ensures told c.quantity_at.ensures c.new.ensures
+    let top = table_view c.args.top.now in
+    let walked = tells_none (walk_fault top) (rw c.in_default.is at c.walk_fault.ensures) in
+    let few : length (keys_of (interfaces_at top)) ≤ 64 = omega (arith, c.interface_count.ensures) in
+    let P : Scenario → Type 0 = λ s. c.are_too_many.result ≡ are_too_many s.default_routes s.nodes in
+    let counted = subst P c.in_ok-parts.ensures (rw c.told.ensures at c.are_too_many.ensures) in
+    let left = names_left top walked few (sym counted ∙ c.if-are_too_many.false) in
+    let Q : Scenario → Type 0 = λ s. Tells c.in_ok-fault.field-0 (name_twice (codes "init" ∷ []) (names_of s.nodes)) in
+    let told = rw c.in_default-2.is at (subst Q c.in_ok-parts.ensures c.in_ok-fault.ensures) in
+    let none : document_fault top ≡ None = left ∙ tells_none _ told in
+    rw none (ap Ok (sym (c.new.ensures ∙ c.in_ok-parts.ensures)))

@@ -1,26 +1,31 @@
-use Rattle.std.proofs.Common.{◌≡◌, ◌∙◌, sym, subst, length, ℕ, List, Err}
+use Rattle.std.proofs.Common.{◌∙◌, sym, subst, length, ℕ, List}
 use Rattle.gq_model.specs.Scenario.{components}
 use Rattle.gq_world.specs.declared.load.LoadError.{LoadError}
-use Rattle.gq_world.specs.declared.load.LoadFault.{LoadFault}
-use Rattle.gq_world.specs.Faults.{Refuses, load_fault_text}
+use Rattle.gq_world.specs.Faults.{Refuses}
+use Rattle.gq_load.specs.Load.{loaded}
+use Rattle.gq_model.specs.Turns.{turned}
 use Rattle.gq_world.specs.Loading.{stage_loaded}
 use Rattle.gq_world.specs.Going.{AreBelow}
-use Rattle.gq_world.specs.Written.{whole_of, refused_with, stage_written}
+use Rattle.gq_world.specs.Written.{whole_of, written_turns, stage_written}
 use Rattle.std.specs.Io.KnownBytes.{Appends}
 use Rattle.gq_world.specs.Writes.{IsFront}
 use Rattle.gq_world.specs.Outcomes.{IsWhole}
 use Rattle.gq_world.proofs.Stage_laws.{stage_is_whole}
-use Rattle.gq_world.proofs.Stage_refusals.{covered_is_whole}
+use Rattle.gq_world.proofs.Told_runs.{told_whole, not_loaded, why_told, why_text}
 use Rattle.gq_world.proofs.Headline.{writes_promised}
-use Rattle.gq_world.proofs.Whole.{refused_load, below_of, written_is}
+use Rattle.gq_world.proofs.Whole.{below_of, written_is}
 use Rattle.gq_world.proofs.run.run.Goals as goal
 
 pub returns-in-Err-Fault-clause-refused : goal.returns-in-Err-Fault-clause-refused
 returns-in-Err-Fault-clause-refused g c =
     let e = c.in-Err-Fault in
-    let loaded = stage_loaded c.args.scenario.now in
-    subst (λ (f : LoadFault). stage_written c.args.scenario.now c.args.turns.now ≡ Err (refused_with (load_fault_text f))) (sym e.fault-is)
-    (refused_load loaded c.args.turns.now e.fault (subst (λ (f : LoadError). Refuses f loaded) e.field-0-is e.ensures.refused))
+    let so_far = stage_loaded c.args.scenario.now in
+    let none = not_loaded so_far e._fault (subst (λ (f : LoadError). Refuses f so_far) e.field-0-is e.ensures.refused) in
+    why_told c.why_not.result (loaded c.args.scenario.now) so_far c.args.turns.now none c.why_not.ensures
+
+pub returns-in-Err-Fault-clause-whole : goal.returns-in-Err-Fault-clause-whole
+returns-in-Err-Fault-clause-whole g c =
+    let turns = c.args.turns.now in why_text c.why_not.result (loaded c.args.scenario.now) (λ s. written_turns s (turned (components s) turns)) c.why_not.ensures
 
 pub run_world-requires-clause-leaves : goal.run_world-requires-clause-leaves
 run_world-requires-clause-leaves g c =
@@ -67,15 +72,14 @@ returns-clause-cut g c = λ e.
       written = subst (λ (t : List (ℕ × ℕ)). IsFront a b (whole_of s t)) c.as_slice.ensures.value c.in-Err.ensures.front;
     }
 
+pub returns-clause-whole : goal.returns-clause-whole
+returns-clause-whole g c =
+    let s = c.in-Ok.world.scenario in
+    let turns = c.in-Ok-read_turns.turns.items in
+    let given = written_is c.args.scenario.now c.args.turns.now s c.scenario.result.now turns c.in-Ok.ensures.loaded c.scenario.ensures c.in-Ok-read_turns.ensures in
+    (whole_of s turns, stage_is_whole c.args.scenario.now c.args.turns.now (whole_of s turns) given)
+
 pub returns-clause-refused : goal.returns-clause-refused
 returns-clause-refused g c =
     let s = c.in-Ok.world.scenario in
-    let turns = c.in-Ok-read_turns.turns.items in
-    (whole_of s turns, written_is c.args.scenario.now c.args.turns.now s c.scenario.result.now turns c.in-Ok.ensures.loaded c.scenario.ensures c.in-Ok-read_turns.ensures)
-
--- where the scenario is covered, what is written so far is what the whole language has
-pub returns-in-Err-Fault-clause-covered : goal.returns-in-Err-Fault-clause-covered
-returns-in-Err-Fault-clause-covered g c = λ h. sym (covered_is_whole c.args.scenario.now c.args.turns.now h) ∙ returns-in-Err-Fault-clause-refused g c
-
-pub returns-clause-covered : goal.returns-clause-covered
-returns-clause-covered g c = λ h. let w = returns-clause-refused g c in (w.0, sym (covered_is_whole c.args.scenario.now c.args.turns.now h) ∙ w.1)
+    let w = returns-clause-whole g c in (w.0, told_whole c.args.scenario.now c.args.turns.now s c.in-Ok.ensures.whole c.in-Ok.ensures.loaded ∙ w.1)

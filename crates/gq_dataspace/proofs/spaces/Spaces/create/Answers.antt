@@ -1,9 +1,17 @@
-use Rattle.std.proofs.Common.{◌≡◌, ◌*◌, ◌<◌, ◌++◌, Some, length, set, arith, ap, ◌∙◌}
+use Rattle.std.proofs.Common.{◌≡◌, ℕ, ◌*◌, ◌/◌, ◌<◌, ◌≤◌, ◌++◌, Some, length, set, arith, ap, subst, ◌∙◌}
+use Rattle.gq_tariff.specs.Prices.{up}
 use Rattle.gq_pages.specs.Bytes.{zeros}
 use Rattle.gq_dataspace.specs.Dataspaces.{Contents, content_of}
 use Rattle.gq_dataspace.proofs.Bytes.{length-zeros}
 use Rattle.gq_dataspace.proofs.Edits.{content_set, zeros_again}
 use Rattle.gq_dataspace.proofs.spaces.Spaces.create.Goals as goal
+
+-- the loop has made all pages
+all_pages : (n r f k : ℕ) → 1 ≤ n → r ≡ up n → f ≡ 4096 → r / f ≤ k → (1 ≤ r / f → k ≤ r / f) → 4096 * k ≡ up n
+all_pages n r f k some rounded frame past within =
+    let a : r / 4096 ≤ k = subst (λ (x : ℕ). r / x ≤ k) frame past in
+    let b : 1 ≤ r / 4096 → k ≤ r / 4096 = subst (λ (x : ℕ). 1 ≤ r / x → k ≤ r / x) frame within in
+    let d : k ≤ r / 4096 = b (omega (arith, rounded, some)) in omega (arith, rounded, a, d)
 
 pub extend-requires-clause-few : goal.extend-requires-clause-few
 extend-requires-clause-few c =
@@ -21,3 +29,9 @@ loop-page-preserved c =
       made = c.extend.ensures.longer ∙ ap (λ (ss : Contents). set ss r (Some (content_of ss r ++ zeros 4096))) i.made ∙ zeros_again c.args.self.now.spaces r l._page i.vacant.0;
       paid = omega (arith, i.paid, c.extend.ensures.one_fewer);
     }
+
+pub returns-clause-size : goal.returns-clause-size
+returns-clause-size c =
+    let l = c.loop-page in let r = c.begin-ds.result.0 in let i = l.invariant in
+    ap (λ (ss : Contents). length (content_of ss r)) i.made ∙ ap length (content_set c.args.self.now.spaces r (zeros (4096 * l._page)) i.vacant.0) ∙ length-zeros (4096 * l._page)
+    ∙ all_pages c.args.n c.round_up.result c.from.result l._page c.requires.0 c.round_up.ensures.value c.from.ensures c.loop-page-test.false c.loop-page.auto._page-end

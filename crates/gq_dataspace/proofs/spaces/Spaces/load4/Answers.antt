@@ -30,20 +30,8 @@ returns-then-offset c =
     c.word.ensures ∙ ap (λ (f : ℕ). word_at (bytes_of s.pages f) (o % 4096)) c.frame-frame.ensures.value ∙ word_in s.pages (list_at s.table r) o (omega (arith, c.requires, long)) fits (c.self.invariant.whole r (o / 4096) below)
     ∙ ap (λ (xs : List ℕ). word_at xs o) (sym (content_at s.pages s.table r)) ∙ ap (λ (d : Dataspaces). word_at (content_of d.spaces r) o) c.self.view_is
 
-pub overflow_add-offset : goal.overflow_add-offset
-overflow_add-offset c =
+pub load_across-requires-clause-fits : goal.load_across-requires-clause-fits
+load_across-requires-clause-fits c =
     let s = c.self.inside in let r = c.args.ds.0 in
     let long : length (content_of c.args.self.now.spaces r) ≡ 4096 * length (list_at s.table r) = ap (λ (d : Dataspaces). length (content_of d.spaces r)) (sym c.self.view_is) ∙ length-content s.pages s.table r in
-    record { fits = omega (arith, c.requires, long, c.self.invariant.short r) }
-
-pub overflow_add-offset-2 : goal.overflow_add-offset-2
-overflow_add-offset-2 c =
-    let s = c.self.inside in let r = c.args.ds.0 in
-    let long : length (content_of c.args.self.now.spaces r) ≡ 4096 * length (list_at s.table r) = ap (λ (d : Dataspaces). length (content_of d.spaces r)) (sym c.self.view_is) ∙ length-content s.pages s.table r in
-    record { fits = omega (arith, c.requires, long, c.self.invariant.short r) }
-
-pub overflow_add-offset-3 : goal.overflow_add-offset-3
-overflow_add-offset-3 c =
-    let s = c.self.inside in let r = c.args.ds.0 in
-    let long : length (content_of c.args.self.now.spaces r) ≡ 4096 * length (list_at s.table r) = ap (λ (d : Dataspaces). length (content_of d.spaces r)) (sym c.self.view_is) ∙ length-content s.pages s.table r in
-    record { fits = omega (arith, c.requires, long, c.self.invariant.short r) }
+    omega (arith, c.requires, long, c.self.invariant.short r)

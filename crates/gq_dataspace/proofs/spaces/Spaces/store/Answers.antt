@@ -1,10 +1,11 @@
 use Rattle.std.proofs.Common.{◌≡◌, ◌*◌, ◌/◌, ◌%◌, ◌<◌, ℕ, List, Some, length, set, slice_index, arith, refl, sym, ap, ◌∙◌, length-set}
 use Rattle.gq_pages.specs.Frames.{bytes_of}
 use Rattle.gq_dataspace.specs.Lists.{list_at}
-use Rattle.gq_dataspace.specs.Dataspaces.{Dataspaces, content_of}
+use Rattle.gq_dataspace.specs.Dataspaces.{Contents, Dataspaces, content_of}
 use Rattle.gq_dataspace.specs.Holding.{bytes_in, spaces_in}
 use Rattle.gq_dataspace.proofs.Changes.{content_at, length-content, writes, whole_written}
 use Rattle.gq_dataspace.proofs.Bytes.{is_taken, one_written}
+use Rattle.gq_dataspace.proofs.Edits.{content_there, content_set}
 use Rattle.gq_dataspace.proofs.spaces.Spaces.store.Goals as goal
 
 pub frame-frame-requires : goal.frame-frame-requires
@@ -47,3 +48,9 @@ returns-clause-written c =
     one_written s.pages xs f o (o / 4096) (o % 4096) v (omega (arith, c.requires, long)) refl refl at whole (λ a lt e. (i.apart.once r r a (o / 4096) lt below (e ∙ sym at)).1)
     ∙ ap (λ (ys : List ℕ). set ys o v) (sym (content_at s.pages s.table r)) in
     rw (c.set_byte.ensures.written, ← c.self.view_is) (writes s.pages s.table r (o / 4096) f bs (set (content_of (spaces_in s.pages s.table) r) o v) i.apart below at is)
+
+pub returns-clause-same_size : goal.returns-clause-same_size
+returns-clause-same_size c =
+    let ss = c.args.self.now.spaces in let r = c.args.ds.0 in let bs : List ℕ = content_of ss r in let now : List ℕ = set bs c.args.offset c.args.byte in
+    ap (λ (xs : Contents). length (content_of xs r)) (returns-clause-written c) ∙ ap length (content_set ss r now (content_there ss r (omega (arith, c.requires))))
+    ∙ length-set bs c.args.offset c.args.byte

@@ -7,7 +7,7 @@ use Rattle.gq_dataspace.specs.Dataspaces.{Contents, Dataspaces, content_of}
 use Rattle.gq_dataspace.specs.Holding.{bytes_in, spaces_in}
 use Rattle.gq_dataspace.proofs.Changes.{content_at, length-content, writes, whole_written}
 use Rattle.gq_dataspace.proofs.Bytes.{is_taken, bytes_written, length-with_bytes}
-use Rattle.gq_dataspace.proofs.Edits.{content_there, stored_again}
+use Rattle.gq_dataspace.proofs.Edits.{content_there, content_set, stored_again}
 use Rattle.gq_dataspace.proofs.spaces.Spaces.store4.Goals as goal
 
 pub frame-frame-requires : goal.frame-frame-requires
@@ -52,37 +52,14 @@ returns-then-offset-clause-written c =
     ∙ ap (λ (p : ℕ). with_bytes (bytes_in s.pages xs) p ws) place ∙ ap (λ (ys : List ℕ). with_bytes ys o ws) (sym (content_at s.pages s.table r)) in
     rw (c.set_word.ensures.written, ← c.self.view_is) (writes s.pages s.table r (o / 4096) f bs (with_bytes (content_of (spaces_in s.pages s.table) r) o ws) i.apart below at is)
 
-pub overflow_add-offset : goal.overflow_add-offset
-overflow_add-offset c =
+pub returns-then-offset-clause-same_size : goal.returns-then-offset-clause-same_size
+returns-then-offset-clause-same_size c =
+    let ss = c.args.self.now.spaces in let r = c.args.ds.0 in let bs : List ℕ = content_of ss r in let ws : List ℕ = to_le_bytes w32 c.args.word in
+    ap (λ (xs : Contents). length (content_of xs r)) (returns-then-offset-clause-written c)
+    ∙ ap length (content_set ss r (with_bytes bs c.args.offset ws) (content_there ss r (omega (arith, c.requires)))) ∙ length-with_bytes bs c.args.offset ws
+
+pub store_across-requires-clause-fits : goal.store_across-requires-clause-fits
+store_across-requires-clause-fits c =
     let s = c.self.inside in let r = c.args.ds.0 in
     let long : length (content_of c.args.self.now.spaces r) ≡ 4096 * length (list_at s.table r) = ap (λ (d : Dataspaces). length (content_of d.spaces r)) (sym c.self.view_is) ∙ length-content s.pages s.table r in
-    record { fits = omega (arith, c.requires, long, c.self.invariant.short r) }
-
-pub overflow_add-offset-2 : goal.overflow_add-offset-2
-overflow_add-offset-2 c =
-    let s = c.self.inside in let r = c.args.ds.0 in
-    let long : length (content_of c.args.self.now.spaces r) ≡ 4096 * length (list_at s.table r) = ap (λ (d : Dataspaces). length (content_of d.spaces r)) (sym c.self.view_is) ∙ length-content s.pages s.table r in
-    record { fits = omega (arith, c.requires, long, c.self.invariant.short r) }
-
-pub overflow_add-offset-3 : goal.overflow_add-offset-3
-overflow_add-offset-3 c =
-    let s = c.self.inside in let r = c.args.ds.0 in
-    let long : length (content_of c.args.self.now.spaces r) ≡ 4096 * length (list_at s.table r) = ap (λ (d : Dataspaces). length (content_of d.spaces r)) (sym c.self.view_is) ∙ length-content s.pages s.table r in
-    record { fits = omega (arith, c.requires, long, c.self.invariant.short r) }
-
-pub returns-clause-written : goal.returns-clause-written
-returns-clause-written c =
-    let ss = c.args.self.now.spaces in let r = c.args.ds.0 in let o = c.args.offset in let ws : List ℕ = c.to_le_bytes.result in let bs : List ℕ = content_of ss r in
-    let lt : r < length ss = content_there ss r (omega (arith, c.requires)) in
-    let one : c.store.new.self.spaces ≡ set ss r (Some (set bs o (slice_index ws 0))) = c.store.ensures.written in
-    let two : c.store-2.new.self.spaces ≡ set ss r (Some (set (set bs o (slice_index ws 0)) (o + 1) (slice_index ws 1))) =
-    c.store-2.ensures.written ∙ ap (λ (xs : Contents). set xs r (Some (set (content_of xs r) (o + 1) (slice_index ws 1)))) one ∙ stored_again ss r (set bs o (slice_index ws 0)) (o + 1) (slice_index ws 1) lt in
-    let e : o + 2 ≡ o + 1 + 1 = omega arith in let f : o + 3 ≡ o + 1 + 1 + 1 = omega arith in
-    let bs2 : List ℕ = set (set bs o (slice_index ws 0)) (o + 1) (slice_index ws 1) in
-    let three : c.store-3.new.self.spaces ≡ set ss r (Some (set bs2 (o + 1 + 1) (slice_index ws 2))) =
-    c.store-3.ensures.written ∙ ap (λ (xs : Contents). set xs r (Some (set (content_of xs r) (o + 2) (slice_index ws 2)))) two ∙ stored_again ss r bs2 (o + 2) (slice_index ws 2) lt
-    ∙ ap (λ (p : ℕ). set ss r (Some (set bs2 p (slice_index ws 2)))) e in
-    let bs3 : List ℕ = set bs2 (o + 1 + 1) (slice_index ws 2) in
-    c.store-4.ensures.written ∙ ap (λ (xs : Contents). set xs r (Some (set (content_of xs r) (o + 3) (slice_index ws 3)))) three ∙ stored_again ss r bs3 (o + 3) (slice_index ws 3) lt
-    ∙ ap (λ (p : ℕ). set ss r (Some (set bs3 p (slice_index ws 3)))) f
-    ∙ ap (λ (vs : List ℕ). set ss r (Some (set (set (set (set bs o (slice_index vs 0)) (o + 1) (slice_index vs 1)) (o + 1 + 1) (slice_index vs 2)) (o + 1 + 1 + 1) (slice_index vs 3)))) c.to_le_bytes.ensures
+    omega (arith, c.requires, long, c.self.invariant.short r)

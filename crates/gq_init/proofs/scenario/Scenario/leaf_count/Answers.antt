@@ -1,10 +1,12 @@
-use Rattle.std.proofs.Common.{arith}
-use Rattle.gq_init.proofs.Components.{length-components, AreLeaves-leaf_scenario}
+use Rattle.std.proofs.Common.{◌+◌, ap, sym, ◌∙◌, arith}
+use Rattle.gq_model.specs.Accounts.{leaf_count}
+use Rattle.gq_model.specs.Scenario.{Scenario}
+use Rattle.gq_init.proofs.Tree_counts.{counted_some}
+use Rattle.gq_init.proofs.Preorder.{components-count}
 use Rattle.gq_init.proofs.scenario.Scenario.leaf_count.Goals as goal
 
 pub returns-clause-count : goal.returns-clause-count
 returns-clause-count c =
-    omega (arith, c.len.ensures, length-components c.args.self.now c.self.inside.ram c.self.inside.leaves.items c.self.view_is)
-
-pub returns-clause-leaves : goal.returns-clause-leaves
-returns-clause-leaves c = AreLeaves-leaf_scenario c.args.self.now c.self.inside.ram c.self.inside.leaves.items c.self.view_is
+    let (count, few) = counted_some (0 + leaf_count c.self.inside.nodes) c.in-Some.count (sym c.in-Some.is ∙ c.count_leaves.ensures) in
+    let nodes = ap (λ (s : Scenario). leaf_count s.nodes) c.self.view_is in
+    omega (arith, count, nodes, components-count c.args.self.now)

@@ -1,4 +1,4 @@
-use Rattle.std.proofs.Common.{◌≡◌, ◌+◌, ◌≤◌, ℕ, List, length, arith, sym, subst, Some, set}
+use Rattle.std.proofs.Common.{◌≡◌, ◌+◌, ◌≤◌, ℕ, List, length, arith, sym, subst, ap, ◌∙◌, Some, set}
 use Rattle.std.specs.Int.{w32, to_le_bytes}
 use Rattle.gq_pages.specs.Bytes.{with_bytes}
 use Rattle.gq_dataspace.specs.Dataspaces.{content_of}
@@ -12,3 +12,6 @@ invariant_of-self c =
     let within : c.args.offset + 4 ≤ length bs = subst (λ (m : Ledger). c.args.offset + 4 ≤ length (content_of m.spaces.spaces k)) (sym c.self.view_is) c.requires in
     let written : c.store4.new.self ≡ record { spaces = set l.spaces.spaces k (Some cs); free = l.spaces.free } = (λ i. record { spaces = c.store4.ensures.written i; free = c.store4.ensures.as_many i }) in
     rw written (written_balanced l k cs c.self.invariant (omega (arith, within)) (length-with_bytes bs c.args.offset (to_le_bytes w32 c.args.word)))
+
+pub returns-clause-same_size : goal.returns-clause-same_size
+returns-clause-same_size c = c.store4.ensures.same_size ∙ ap (λ (m : Ledger). length (content_of m.spaces.spaces c.args.ds.0)) c.self.view_is

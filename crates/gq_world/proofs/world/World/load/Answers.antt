@@ -1,11 +1,11 @@
 use Rattle.std.proofs.Common.{rules, ℕ, List, ◌≡◌, Option, Some, None, Result, Ok, Err, IfOk, IfErr, subst, sym}
 use Rattle.gq_world.specs.Worlds.{World}
-use Rattle.gq_world.specs.Load.{loaded}
+use Rattle.gq_load.specs.Load.{loaded}
 use Rattle.gq_world.specs.Loading.{stage_loaded}
-use Rattle.gq_world.specs.Headline.{Upholds}
+use Rattle.gq_model.specs.Promises.{Upholds}
 use Rattle.gq_model.specs.Scenario.{Scenario}
 use Rattle.gq_world.specs.declared.load.LoadError.{LoadError}
-use Rattle.gq_world.specs.Load as whole
+use Rattle.gq_load.specs.Load as whole
 use Rattle.gq_world.specs.Loading as stage
 use Rattle.gq_world.specs.declared.load.LoadError.TheVariants as error
 use Rattle.gq_world.specs.declared.load.LoadFault.TheVariants as fault

@@ -1,0 +1,123 @@
+// Frames that are taken and given back, and what is made for 64 MiB.
+ghost use Rattle.std.specs.Prelude.{◌≡◌, length};
+
+use crate::fault::Fault;
+use crate::timing::{since, tell, tell_all};
+use crate::words::zeros;
+use gq_pages::Pages;
+use gq_ram::Accounts;
+use std::alloc::{AllocError, Global};
+use std::time::Instant;
+
+// How many frames there are in 64 MiB.
+const FRAMES: u32 = 16384;
+
+// The bytes of a frame, and of all of them.
+const FRAME: usize = 4096;
+
+const WHOLE: u64 = 67108864;
+
+// How often a frame is taken and given back in a round.
+const PAIRS: u32 = 65536;
+
+/// Measures frames that are taken for the first time, frames that are taken and given back, and what is made for 64 MiB, so many times over. Gives the
+/// number of a frame.
+pub fn measured(rt: &HostRuntime, times: u32) -> Result<usize, Fault> {
+    let fresh = first_takes(rt, times)?;
+    let pairs = u64::from(times) * u64::from(PAIRS);
+    let mut pages = Pages::new(rt.alloc(), 2)?;
+    let start = Instant::now(rt)?;
+    let mut last = 0;
+    for _ in 0..times {
+        last = take_and_give(&mut pages, last);
+    }
+    tell(rt, "frame take and give", pairs, start)?;
+    let start = Instant::now(rt)?;
+    for _ in 0..times {
+        last = make_and_drop(rt.alloc(), last)?;
+    }
+    tell(rt, "Vec of a frame", pairs, start)?;
+    new_for_all(rt, times)?;
+    Ok((fresh ^ last) as usize)
+}
+
+// All frames of 64 MiB are taken for the first time.
+fn first_takes(rt: &HostRuntime, times: u32) -> Result<u32, Fault> {
+    let mut nanoseconds = 0;
+    let mut last = 0;
+    for _ in 0..times {
+        let mut pages = Pages::new(rt.alloc(), FRAMES)?;
+        let start = Instant::now(rt)?;
+        last = take_all(&mut pages);
+        nanoseconds = since(rt, start)?.saturating_add(nanoseconds);
+    }
+    tell_all(
+        rt,
+        "frame first take",
+        u64::from(times) * u64::from(FRAMES),
+        nanoseconds,
+    )?;
+    Ok(last)
+}
+
+// Takes all frames, and gives the number of the last one.
+fn take_all(pages: &mut Pages) -> u32 {
+    let mut last = 0;
+    for _ in 0..FRAMES {
+        if let Ok(frame) = pages.take() {
+            last = frame.0;
+        }
+    }
+    last
+}
+
+// Takes a frame and gives it back, over and over.
+fn take_and_give(pages: &mut Pages, before: u32) -> u32 {
+    let mut last = before;
+    for _ in 0..PAIRS {
+        if let Ok(frame) = pages.take() {
+            last = last.wrapping_add(frame.0);
+            pages.give(frame);
+        }
+    }
+    last
+}
+
+// Makes a `Vec` of the bytes of a frame, each 0, and drops the one before it, over and over.
+fn make_and_drop(alloc: Global, before: u32) -> Result<u32, AllocError> {
+    let mut last = before;
+    let mut kept = zeros(alloc, FRAME)?;
+    for pair in 0..PAIRS {
+        last = last.wrapping_add(touched(&mut kept, pair));
+        kept = zeros(alloc, FRAME)?;
+    }
+    Ok(last)
+}
+
+// Writes one of its bytes, and gives another one.
+fn touched(bytes: &mut Vec<u8>, pair: u32) -> u32
+    requires { length bytes.old.items ≡ 4096 }
+{
+    bytes[pair as usize % FRAME] = 1;
+    u32::from(bytes[pair as usize / 16 % FRAME])
+}
+
+// What is made for 64 MiB, and dropped.
+fn new_for_all(rt: &HostRuntime, times: u32) -> Result<(), Fault> {
+    let start = Instant::now(rt)?;
+    for _ in 0..times {
+        let _pages = Pages::new(rt.alloc(), FRAMES)?;
+    }
+    tell(rt, "Pages::new of 64 MiB", u64::from(times), start)?;
+    let start = Instant::now(rt)?;
+    for _ in 0..times {
+        let _accounts = Accounts::new(rt.alloc(), WHOLE, None)?;
+    }
+    tell(rt, "Accounts::new of 64 MiB", u64::from(times), start)?;
+    let start = Instant::now(rt)?;
+    for _ in 0..times {
+        let _bytes = zeros(rt.alloc(), WHOLE as usize)?;
+    }
+    tell(rt, "Vec of 64 MiB", u64::from(times), start)?;
+    Ok(())
+}

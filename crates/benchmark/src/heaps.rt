@@ -1,0 +1,154 @@
+// Blocks of the heap, in a store of plain lists.
+ghost use Rattle.std.specs.Prelude.{◌≡◌, ◌≤◌, [], ◌∷◌, ◌++◌, OnOk};
+ghost use Rattle.gq_heap.specs.Heap.{IsHeap, AreInUse};
+
+use crate::fault::Fault;
+use crate::timing::{since, tell, tell_all};
+use gq_heap::{Heap, Place};
+use gq_list_store::ListStore;
+use gq_store::ByteStore;
+use std::alloc::AllocError;
+use std::time::Instant;
+
+// The pages of the store, and its bytes.
+const PAGES: u32 = 64;
+
+const BYTES: u32 = 262144;
+
+// How often a block is made and freed in a round.
+const PAIRS: u32 = 65536;
+
+/// The nanoseconds of each phase.
+#[derive(Clone, Copy, Debug)]
+struct Phases {
+    first: u128,
+    free: u128,
+    again: u128,
+}
+
+/// Measures blocks of `size` bytes, 1 to 2048, so many times over: as many as the store has room for, but for one; the same freed, last to first; the same
+/// once more; and one beside all of these, made and freed over and over. Gives how many blocks there were in a round.
+pub fn measured(rt: &HostRuntime, times: u32, size: u32) -> Result<usize, Fault> {
+    if size == 0 || size > 2048 {
+        return Err(Fault::Usage);
+    }
+    let count = BYTES / size - 1;
+    let mut phases = Phases {
+        first: 0,
+        free: 0,
+        again: 0,
+    };
+    for _ in 0..times {
+        round(rt, size, count, &mut phases)?;
+    }
+    let operations = u64::from(times) * u64::from(count);
+    tell_all(rt, "heap first alloc", operations, phases.first)?;
+    tell_all(rt, "heap free", operations, phases.free)?;
+    tell_all(rt, "heap alloc again", operations, phases.again)?;
+    pairs(rt, size, 0, times, "heap alloc and free, no other block")?;
+    pairs(
+        rt,
+        size,
+        count,
+        times,
+        "heap alloc and free, all others in use",
+    )?;
+    Ok(count as usize)
+}
+
+// A round over a fresh store and heap.
+fn round(rt: &HostRuntime, size: u32, count: u32, phases: &mut Phases) -> Result<(), Fault>
+    requires { (1 ≤ size) × (size ≤ 2048) }
+{
+    let mut store = ListStore::new(rt.alloc(), PAGES, None)?;
+    let mut heap = Heap::new();
+    let mut places = Vec::with_capacity(rt.alloc(), count as usize)?;
+    let start = Instant::now(rt)?;
+    alloc_all(&mut heap, &mut store, &mut places, size, count)?;
+    let first = since(rt, start)?;
+    let start = Instant::now(rt)?;
+    free_all(&mut heap, &mut store, &mut places);
+    let free = since(rt, start)?;
+    let start = Instant::now(rt)?;
+    alloc_all(&mut heap, &mut store, &mut places, size, count)?;
+    let again = since(rt, start)?;
+    phases.first = phases.first.saturating_add(first);
+    phases.free = phases.free.saturating_add(free);
+    phases.again = phases.again.saturating_add(again);
+    Ok(())
+}
+
+// Makes so many blocks, and keeps their places.
+fn alloc_all<S: ByteStore>(
+    heap: &mut Heap,
+    store: &mut S,
+    places: &mut Vec<Place>,
+    size: u32,
+    count: u32,
+) -> Result<(), Fault>
+    requires size { (1 ≤ size) × (size ≤ 2048) }
+    requires kept { AreInUse heap.old (S.state store.old) places.old.items }
+    ensures { OnOk result (AreInUse heap.new (S.state store.new) places.new.items) }
+{
+    for _ in 0..count {
+        let place = heap.alloc(store, size)?;
+        keep(places, place)?;
+    }
+    Ok(())
+}
+
+// Keeps a place, after the others.
+fn keep(places: &mut Vec<Place>, place: Place) -> Result<(), AllocError>
+    ensures { OnOk result (places.new.items ≡ places.old.items ++ place ∷ []) }
+{
+    places.push(place)?;
+    Ok(())
+}
+
+// Frees all of them, last to first.
+fn free_all<S: ByteStore>(heap: &mut Heap, store: &mut S, places: &mut Vec<Place>)
+    requires { AreInUse heap.old (S.state store.old) places.old.items }
+    ensures { AreInUse heap.new (S.state store.new) places.new.items }
+{
+    for _ in 0..places.len() {
+        free_last(heap, store, places);
+    }
+}
+
+// Frees the last one, where there is one.
+fn free_last<S: ByteStore>(heap: &mut Heap, store: &mut S, places: &mut Vec<Place>)
+    requires { AreInUse heap.old (S.state store.old) places.old.items }
+    ensures { AreInUse heap.new (S.state store.new) places.new.items }
+{
+    let Some(place) = places.pop() else {
+        return;
+    };
+    heap.free(store, place);
+}
+
+// Beside so many blocks, one is made and freed over and over.
+fn pairs(rt: &HostRuntime, size: u32, count: u32, times: u32, name: &str) -> Result<(), Fault>
+    requires { (1 ≤ size) × (size ≤ 2048) }
+{
+    let mut store = ListStore::new(rt.alloc(), PAGES, None)?;
+    let mut heap = Heap::new();
+    let mut places = Vec::with_capacity(rt.alloc(), count as usize)?;
+    alloc_all(&mut heap, &mut store, &mut places, size, count)?;
+    let start = Instant::now(rt)?;
+    for _ in 0..times {
+        alloc_and_free(&mut heap, &mut store, size)?;
+    }
+    tell(rt, name, u64::from(times) * u64::from(PAIRS), start)
+}
+
+fn alloc_and_free<S: ByteStore>(heap: &mut Heap, store: &mut S, size: u32) -> Result<(), Fault>
+    requires size { (1 ≤ size) × (size ≤ 2048) }
+    requires kept { IsHeap heap.old (S.state store.old) }
+    ensures { OnOk result (IsHeap heap.new (S.state store.new)) }
+{
+    for _ in 0..PAIRS {
+        let place = heap.alloc(store, size)?;
+        heap.free(store, place);
+    }
+    Ok(())
+}

@@ -1,0 +1,116 @@
+// Programs and scenarios: text and code that is read and written.
+use crate::fault::Fault;
+use crate::timing::tell;
+use gq_asm::assemble;
+use gq_code::decode::decode;
+use gq_code::program_code::encode;
+use gq_code::{Interface, Interfaces};
+use gq_init::reader::read_scenario;
+use gq_model::program::Name;
+use gq_verify::verify;
+use std::alloc::AllocError;
+use std::io::Read;
+use std::time::Instant;
+
+/// Standard input, whole.
+fn input(rt: &HostRuntime) -> Result<Vec<u8>, Fault> {
+    let mut input = Vec::new(rt.alloc());
+    rt.stdin().read_to_end(&mut input)?;
+    Ok(input)
+}
+
+/// Assembles a text so often, and gives the number of its sections.
+pub fn assembled(rt: &HostRuntime, times: u32) -> Result<usize, Fault> {
+    let text = input(rt)?;
+    let start = Instant::now(rt)?;
+    let mut given = 0;
+    for _ in 0..times {
+        match assemble(rt.alloc(), text.as_slice()) {
+            Ok(program) => given = program.sections().len(),
+            Err(error) => return Err(Fault::Text(error)),
+        }
+    }
+    tell(rt, "assemble", u64::from(times), start)?;
+    Ok(given)
+}
+
+/// Decodes a code so often, and gives the number of its sections.
+pub fn decoded(rt: &HostRuntime, times: u32) -> Result<usize, Fault> {
+    let code = input(rt)?;
+    let start = Instant::now(rt)?;
+    let mut given = 0;
+    for _ in 0..times {
+        match decode(rt.alloc(), code.as_slice()) {
+            Ok(program) => given = program.sections().len(),
+            Err(error) => return Err(Fault::Code(error)),
+        }
+    }
+    tell(rt, "decode", u64::from(times), start)?;
+    Ok(given)
+}
+
+/// Encodes the program of a text so often, and gives the length of its code.
+pub fn encoded(rt: &HostRuntime, times: u32) -> Result<usize, Fault> {
+    let text = input(rt)?;
+    let program = match assemble(rt.alloc(), text.as_slice()) {
+        Ok(program) => program,
+        Err(error) => return Err(Fault::Text(error)),
+    };
+    let start = Instant::now(rt)?;
+    let mut given = 0;
+    for _ in 0..times {
+        given = encode(rt.alloc(), &program)?.len();
+    }
+    tell(rt, "encode", u64::from(times), start)?;
+    Ok(given)
+}
+
+/// As many interfaces as there may be, of services `s00` to `s77`, with a need of 8192 bytes.
+fn interfaces(rt: &HostRuntime) -> Result<Interfaces, Fault> {
+    let mut entries = Vec::new(rt.alloc());
+    for number in 0..64u8 {
+        let Some(service) = Name::new(&[b's', b'0' + number / 8, b'0' + number % 8]) else {
+            return Err(Fault::Interfaces);
+        };
+        let interface = Interface::new(1000, 2000, 8192, None);
+        if entries.push((service, interface)).is_err() {
+            return Err(Fault::Memory(AllocError));
+        }
+    }
+    Interfaces::new(entries).ok_or(Fault::Interfaces)
+}
+
+/// Verifies the program of a text so often, with 64 interfaces, and gives the bytes of its own that it uses at most.
+pub fn verified(rt: &HostRuntime, times: u32) -> Result<usize, Fault> {
+    let text = input(rt)?;
+    let program = match assemble(rt.alloc(), text.as_slice()) {
+        Ok(program) => program,
+        Err(error) => return Err(Fault::Text(error)),
+    };
+    let interfaces = interfaces(rt)?;
+    let start = Instant::now(rt)?;
+    let mut given = 0;
+    for _ in 0..times {
+        match verify(&program, None, &interfaces) {
+            Ok(verified) => given = verified.own(),
+            Err(fault) => return Err(Fault::Refused(fault)),
+        }
+    }
+    tell(rt, "verify", u64::from(times), start)?;
+    Ok(given as usize)
+}
+
+/// Reads a scenario so often, and gives the number of its leaves.
+pub fn read(rt: &HostRuntime, times: u32) -> Result<usize, Fault> {
+    let text = input(rt)?;
+    let start = Instant::now(rt)?;
+    let mut given = 0;
+    for _ in 0..times {
+        match read_scenario(rt.alloc(), text.as_slice()) {
+            Ok(scenario) => given = scenario.leaf_count(),
+            Err(error) => return Err(Fault::Scenario(error)),
+        }
+    }
+    tell(rt, "read", u64::from(times), start)?;
+    Ok(given)
+}

@@ -1,0 +1,14 @@
+use Rattle.std.proofs.Common.{map, ap, ◌∙◌, suc, [], length, refl}
+use Rattle.gq_budget.specs.Rounds.{rounds}
+use Rattle.gq_budget.specs.Budgets.{budgets_by}
+use Rattle.gq_budget.proofs.Kept.{budgets_kept}
+use Rattle.gq_budget.proofs.budgets.step_budgets.Goals as goal
+
+pub returns : goal.returns
+returns c = λ system l r.
+    let leads = map (λ v. v.items) c.args.leads.now in
+    let uses = length c.args.leaves.now in
+    let k = budgets_kept system c.args.leaves.now leads uses l r refl in
+    let asks = c.deref.ensures.value ∙ c.in_ok-asks.ensures in
+    let often = c.deref-2.ensures.value ∙ (c.in_ok-often.ensures ∙ ap (λ a. rounds (suc uses) a []) asks) in
+    c.in_ok-steps.ensures ∙ (ap (λ t. budgets_by c.args.leaves.now t) often ∙ k)

@@ -1,0 +1,7 @@
+use Rattle.std.proofs.Common.{◌≡◌, [], suc}
+use Rattle.gq_budget.specs.Rounds.{rounds}
+use Rattle.gq_budget.proofs.rounds.rounds.Given as goal
+
+-- the table after the rounds so far
+abbrev pub invariant-loop-use : goal.invariant-loop-use
+invariant-loop-use l = l.often.items ≡ rounds (suc l._use) l.asks []

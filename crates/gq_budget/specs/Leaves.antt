@@ -1,0 +1,51 @@
+-- Leaves, and whose routes lead to them.
+use Rattle.std.specs.Prelude.{ℕ, suc, Bool, false, List, [], ◌∷◌, Option, Some, None}
+use Rattle.gq_model.specs.Program.{Statements}
+use Rattle.gq_model.specs.declared.program.Section.{Section}
+use Rattle.gq_model.specs.Scenario.{System, Component}
+use Rattle.gq_model.specs.Routes.{server_of}
+use Rattle.gq_model.specs.Kinds.{Subject}
+use Rattle.gq_model.specs.Budgets.{section_cost, section_requests}
+use Rattle.gq_model.specs.Use.{subject, is_there}
+use Rattle.gq_verify.specs.Counting.{saturated}
+
+-- what a leaf's program is judged by, and the service that it provides
+pub record Leaf : Type 0 where
+  pub subject : Subject
+  pub provides : Option (List ℕ)
+
+abbrev pub leaf_of : System → Component → Leaf
+leaf_of system c = record { subject = subject system c; provides = c.node.provides }
+
+abbrev pub leaves_from : System → List Component → List Leaf
+leaves_from system [] = []
+leaves_from system (c ∷ rest) = leaf_of system c ∷ leaves_from system rest
+
+-- the leaves of a system
+abbrev pub leaves_of : System → List Leaf
+leaves_of system = leaves_from system system.components
+
+-- whether the routes of these leaves for the service that the x-th leaf provides lead to it
+abbrev pub leads_for : System → ℕ → Option (List ℕ) → List Component → List Bool
+leads_for system x provides [] = []
+leads_for system x None (c ∷ rest) = false ∷ leads_for system x None rest
+leads_for system x (Some service) (c ∷ rest) = is_there x (server_of system c service) ∷ leads_for system x (Some service) rest
+
+-- the same of the leaves from the x-th on, each with all leaves
+abbrev pub leads_from : System → ℕ → List Component → List (List Bool)
+leads_from system x [] = []
+leads_from system x (c ∷ rest) = leads_for system x c.node.provides system.components ∷ leads_from system (suc x) rest
+
+-- for each leaf, which leaves' routes for its service lead to it
+abbrev pub leads_of : System → List (List Bool)
+leads_of system = leads_from system 0 system.components
+
+-- the requests of each of these sections of a leaf for a section of a service
+abbrev pub requests_of : Subject → List ℕ → Section → List (Section × Statements) → List ℕ
+requests_of v service section [] = []
+requests_of v service section (p ∷ rest) = saturated (section_requests v p.0 service section) ∷ requests_of v service section rest
+
+-- the steps of each of these sections
+abbrev pub costs_of : List (Section × Statements) → List ℕ
+costs_of [] = []
+costs_of (p ∷ rest) = saturated (section_cost p.0 p.1) ∷ costs_of rest

@@ -1,0 +1,4 @@
+pub mod Sums
+pub mod Leaves
+pub mod Rounds
+pub mod Budgets

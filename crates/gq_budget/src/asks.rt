@@ -1,0 +1,153 @@
+// How often sections ask for sections.
+ghost use Rattle.std.specs.Prelude.{◌≡◌, IfOk, map, option_copied};
+ghost use Rattle.gq_budget.specs.Rounds.{asked_of, asked_by, asks_for, asks_of, all_asks, often, leaf_round};
+
+use crate::leaf::Leaf;
+use crate::numbers::{Numbers, table_products};
+use gq_code::Section;
+use std::alloc::{AllocError, Global};
+use std::marker::Model;
+
+/// How often a section runs by itself, and how often each section of each leaf asks for it.
+#[derive(Drop)]
+pub(crate) struct Asks {
+    first: u64,
+    asked: Vec<Numbers>,
+}
+
+impl Model for Asks {
+    ghost use Rattle.gq_budget.specs.Rounds.{Asks};
+
+    ghost Value = { Asks };
+
+    ghost view = { λ a. record { first = a.first; asked = a.asked.items } };
+}
+
+impl Asks {
+    // Of a section of the service that a leaf provides, where these leaves' routes for it lead to the leaf.
+    fn new(
+        alloc: Global,
+        leaves: &[Leaf<'_>],
+        leads: &[bool],
+        leaf: &Leaf<'_>,
+        section: Section,
+    ) -> Result<Asks, AllocError>
+        ensures { IfOk result (λ a. a ≡ asks_for leaves.now leads.now leaf.now.provides section) }
+    {
+        match (section, leaf.provides()) {
+            (Section::Main, _) => Ok(Asks {
+                first: 1,
+                asked: Vec::new(alloc),
+            }),
+            (_, None) => Ok(Asks {
+                first: 0,
+                asked: Vec::new(alloc),
+            }),
+            (_, Some(service)) => Ok(Asks {
+                first: 0,
+                asked: asked_by(alloc, leaves, leads, service.as_bytes(), section)?,
+            }),
+        }
+    }
+
+    // How often the section runs, where the sections of the leaves run so often; 2^64 - 1 where it is more often.
+    fn often(&self, table: &[Numbers]) -> u64
+        ensures { result ≡ often self.now table.now }
+    {
+        let asked = table_products(&self.asked, table);
+        self.first.saturating_add(asked)
+    }
+}
+
+// How often the sections of a leaf ask for a section of a service; never where it does not lead.
+fn asked_of(
+    alloc: Global,
+    leaf: &Leaf<'_>,
+    leads: bool,
+    service: &[u8],
+    section: Section,
+) -> Result<Numbers, AllocError>
+    ensures { IfOk result (λ a. a ≡ asked_of leaf.now leads service.now section) }
+{
+    if leads {
+        leaf.requests(alloc, service, section)
+    } else {
+        Ok(Numbers::new(Vec::new(alloc)))
+    }
+}
+
+// How often the sections of each of these leaves ask for a section of a service.
+fn asked_by(
+    alloc: Global,
+    leaves: &[Leaf<'_>],
+    leads: &[bool],
+    service: &[u8],
+    section: Section,
+) -> Result<Vec<Numbers>, AllocError>
+    ensures { IfOk result (λ a. a.items ≡ asked_by leaves.now leads.now service.now section) }
+{
+    let mut asked = Vec::new(alloc);
+    for (leaf, leads) in leaves.iter().zip(leads) {
+        asked.push(asked_of(alloc, leaf, *leads, service, section)?)?;
+    }
+    Ok(asked)
+}
+
+/// How often each section of a leaf runs by itself, and how often each section of each leaf asks for it.
+#[derive(Drop)]
+pub(crate) struct LeafAsks {
+    sections: Vec<Asks>,
+}
+
+impl Model for LeafAsks {
+    ghost use Rattle.std.specs.Prelude.{List};
+    ghost use Rattle.gq_budget.specs.Rounds.{Asks};
+
+    ghost Value = { List Asks };
+
+    ghost view = { λ a. a.sections.items };
+}
+
+impl LeafAsks {
+    // Of a leaf, to which the routes of these leaves lead for its service.
+    fn new(
+        alloc: Global,
+        leaves: &[Leaf<'_>],
+        leads: &[bool],
+        leaf: &Leaf<'_>,
+    ) -> Result<LeafAsks, AllocError>
+        ensures { IfOk result (λ a. a ≡ asks_of leaves.now leads.now leaf.now.provides leaf.now.subject.program.sections) }
+    {
+        let mut sections = Vec::new(alloc);
+        for (section, _) in leaf.sections() {
+            sections.push(Asks::new(alloc, leaves, leads, leaf, *section)?)?;
+        }
+        Ok(LeafAsks { sections })
+    }
+
+    /// How often each section of the leaf runs, where the sections of the leaves run so often.
+    pub fn round(&self, alloc: Global, table: &[Numbers]) -> Result<Numbers, AllocError>
+        ensures { IfOk result (λ n. n ≡ leaf_round self.now table.now) }
+    {
+        let mut often = Vec::new(alloc);
+        for asks in &self.sections {
+            often.push(asks.often(table))?;
+        }
+        Ok(Numbers::new(often))
+    }
+}
+
+/// Of each leaf: how often its sections run by themselves and are asked for.
+pub(crate) fn all_asks(
+    alloc: Global,
+    leaves: &[Leaf<'_>],
+    leads: &[Vec<bool>],
+) -> Result<Vec<LeafAsks>, AllocError>
+    ensures { IfOk result (λ a. a.items ≡ all_asks leaves.now leaves.now (map (λ v. v.items) leads.now)) }
+{
+    let mut asks = Vec::new(alloc);
+    for (leaf, leads) in leaves.iter().zip(leads) {
+        asks.push(LeafAsks::new(alloc, leaves, leads, leaf)?)?;
+    }
+    Ok(asks)
+}

@@ -1,0 +1,38 @@
+// The step budgets of leaves.
+ghost use Rattle.std.specs.Prelude.{◌≡◌, IfOk, map};
+ghost use Rattle.gq_model.specs.Scenario.{System};
+ghost use Rattle.gq_budget.specs.Leaves.{leaves_of, leads_of};
+ghost use Rattle.gq_budget.specs.Budgets.{budgets_of, budgets_by};
+
+use crate::asks::all_asks;
+use crate::leaf::Leaf;
+use crate::numbers::Numbers;
+use crate::rounds::rounds;
+use std::alloc::{AllocError, Global};
+
+// What the sections of each of these leaves cost, where they run so often.
+fn budgets(alloc: Global, leaves: &[Leaf<'_>], often: &[Numbers]) -> Result<Vec<u64>, AllocError>
+    ensures { IfOk result (λ steps. steps.items ≡ budgets_by leaves.now often.now) }
+{
+    let mut steps = Vec::new(alloc);
+    for (leaf, often) in leaves.iter().zip(often) {
+        let costs = leaf.costs(alloc)?;
+        steps.push(costs.products(often))?;
+    }
+    Ok(steps)
+}
+
+/// The greatest number of steps of each of the leaves of a system; 2^64 - 1 where there are more. `leads` tells for each leaf which leaves'
+/// routes for the service that it provides lead to it.
+pub fn step_budgets(
+    alloc: Global,
+    leaves: &[Leaf<'_>],
+    leads: &[Vec<bool>],
+) -> Result<Vec<u64>, AllocError>
+    ensures { (system : System) → leaves.now ≡ leaves_of system → map (λ v. v.items) leads.now ≡ leads_of system → IfOk result (λ steps. steps.items ≡ budgets_of system) }
+{
+    let asks = all_asks(alloc, leaves, leads)?;
+    let often = rounds(alloc, &asks, leaves.len())?;
+    let steps = budgets(alloc, leaves, &often)?;
+    Ok(steps)
+}

@@ -1,0 +1,98 @@
+// Leaves.
+ghost use Rattle.std.specs.Prelude.{◌≡◌, IfOk, IsTrue, option_copied};
+ghost use Rattle.gq_model.specs.Lists.{all_of};
+ghost use Rattle.gq_model.specs.Code.{is_section};
+ghost use Rattle.gq_budget.specs.Leaves.{requests_of, costs_of};
+
+use crate::numbers::Numbers;
+use gq_code::{Body, Name, Program, Section};
+use gq_verify::{Verified, section_cost};
+use std::alloc::{AllocError, Global};
+use std::marker::Model;
+
+/// A leaf: its program, which breaks no rule, and the service that it provides. Contracts see it as what its program is judged by, with
+/// the service.
+#[derive(Drop)]
+pub struct Leaf<'a> {
+    program: &'a Program,
+    verified: &'a Verified<'a>,
+    provides: Option<&'a Name>,
+}
+
+impl<'a> Model for Leaf<'a> {
+    ghost use Rattle.std.specs.Prelude.{◌≡◌, option_copied};
+    ghost use Rattle.gq_model.specs.Stored.{statements_code};
+    ghost use Rattle.std.specs.Coded.{codes};
+    ghost use Rattle.gq_budget.specs.Leaves.{Leaf};
+
+    ghost Value = { Leaf };
+
+    ghost coded = { Prim.hlevel (codes, statements_code (Prim.hlevel codes)) };
+
+    ghost view = { λ l. record { subject = l.verified.now; provides = option_copied l.provides } };
+
+    ghost invariant = { λ l. l.program.now ≡ l.verified.now.program };
+}
+
+impl<'a> Leaf<'a> {
+    /// A leaf of this program, which has been judged, that provides this service, or none.
+    pub fn new(
+        program: &'a Program,
+        verified: &'a Verified<'a>,
+        provides: Option<&'a Name>,
+    ) -> Leaf<'a>
+        requires { program.now ≡ verified.now.program }
+        ensures { result ≡ record { subject = verified.now; provides = option_copied provides.entry } }
+    {
+        Leaf {
+            program,
+            verified,
+            provides,
+        }
+    }
+
+    /// The service that it provides.
+    pub(crate) fn provides(&self) -> Option<&Name>
+        ensures { option_copied result ≡ self.now.provides }
+    {
+        self.provides
+    }
+
+    /// The sections of its program, in their order.
+    pub(crate) fn sections(&self) -> &[(Section, Body)]
+        ensures sections { result.now ≡ self.now.subject.program.sections }
+        ensures each { IsTrue (all_of (λ p. is_section p.0) result.now) }
+    {
+        let program = self.program;
+        program.laws();
+        program.sections()
+    }
+
+    /// How often each of its sections asks for a section of a service; 2^64 - 1 where it is more often.
+    pub(crate) fn requests(
+        &self,
+        alloc: Global,
+        service: &[u8],
+        section: Section,
+    ) -> Result<Numbers, AllocError>
+        ensures { IfOk result (λ r. r ≡ requests_of self.now.subject service.now section self.now.subject.program.sections) }
+    {
+        let verified = self.verified;
+        let mut requests = Vec::new(alloc);
+        for (from, _) in self.sections() {
+            requests.push(verified.requests(*from, service, section))?;
+        }
+        Ok(Numbers::new(requests))
+    }
+
+    /// The greatest number of steps of each of its sections.
+    pub(crate) fn costs(&self, alloc: Global) -> Result<Numbers, AllocError>
+        ensures { IfOk result (λ r. r ≡ costs_of self.now.subject.program.sections) }
+    {
+        let mut costs = Vec::new(alloc);
+        for (section, body) in self.sections() {
+            costs.push(section_cost(*section, body))?;
+        }
+        Ok(Numbers::new(costs))
+    }
+}

@@ -1,0 +1,58 @@
+// Lists of numbers, and sums of products.
+ghost use Rattle.std.specs.Prelude.{◌≡◌};
+ghost use Rattle.gq_verify.specs.Counting.{saturated};
+ghost use Rattle.gq_budget.specs.Sums.{products, table_products};
+
+use std::marker::Model;
+
+/// A list of numbers.
+#[derive(Drop)]
+pub(crate) struct Numbers {
+    numbers: Vec<u64>,
+}
+
+impl Model for Numbers {
+    ghost use Rattle.std.specs.Prelude.{ℕ, List};
+
+    ghost Value = { List ℕ };
+
+    ghost view = { λ n. n.numbers.items };
+}
+
+impl Numbers {
+    /// These numbers.
+    pub fn new(numbers: Vec<u64>) -> Numbers
+        ensures { result ≡ numbers.items }
+    {
+        Numbers { numbers }
+    }
+
+    /// The sum of the products of the numbers at the same places of both lists; 2^64 - 1 where it is greater.
+    pub fn products(&self, often: &Numbers) -> u64
+        ensures { result ≡ saturated (products self.now often.now) }
+    {
+        products(&self.numbers, &often.numbers)
+    }
+}
+
+// The sum of the products of the numbers at the same places of both lists; 2^64 - 1 where it is greater.
+fn products(counts: &[u64], often: &[u64]) -> u64
+    ensures { result ≡ saturated (products counts.now often.now) }
+{
+    let mut sum = 0_u64;
+    for (count, times) in counts.iter().zip(often) {
+        sum = sum.saturating_add(count.saturating_mul(*times));
+    }
+    sum
+}
+
+/// The same of two tables: the sum of the products of the numbers at the same places of both.
+pub(crate) fn table_products(counts: &[Numbers], often: &[Numbers]) -> u64
+    ensures { result ≡ saturated (table_products counts.now often.now) }
+{
+    let mut sum = 0_u64;
+    for (row, times) in counts.iter().zip(often) {
+        sum = sum.saturating_add(row.products(times));
+    }
+    sum
+}

@@ -1,0 +1,23 @@
+-- A scenario of its parts, and what every scenario is.
+use Rattle.std.specs.Prelude.{◌≡◌, [], ◌∷◌, false, Option, None, option_map, Vec, codes}
+use Rattle.std.specs.declared.alloc.Global.{Global}
+use Rattle.gq_model.specs.Amounts.{Amount}
+use Rattle.gq_model.specs.Scenario.{Interfaces, Route, Nodes, Scenario}
+use Rattle.gq_init.specs.Document.{has_too_many, names_of, name_twice}
+use Rattle.gq_init.specs.Trees.{version_number}
+use Rattle.gq_init.specs.declared.scenario.Version.{Version}
+
+abbrev pub scenario_made : Version → Amount → Option (Vec Route Global) → Interfaces → Nodes → Scenario
+scenario_made version total default_routes interfaces nodes =
+    record {
+      version = version_number version;
+      total = total;
+      default_routes = option_map (λ r. r.items) default_routes;
+      interfaces = interfaces;
+      nodes = nodes;
+    }
+
+-- there are not too many of anything, and no name stands twice
+pub record IsScenario (s : Scenario) : Type 0 where
+  pub few : has_too_many s ≡ false
+  pub single : name_twice (codes "init" ∷ []) (names_of s.nodes) ≡ None

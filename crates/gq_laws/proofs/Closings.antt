@@ -1,0 +1,186 @@
+-- The reply to a close gives back the whole donation, and no other step ends a session.
+use Rattle.std.proofs.Common.{◌≡◌, ◌≢◌, ℕ, ◌+◌, ◌-◌, ◌≤◌, inl, inr, true, cond, List, [], ◌∷◌, Option, Some, None, refl, ap, sym, ◌∙◌, arith}
+use Rattle.std.specs.Prelude.{slice_get, slice_set, sum_by}
+use Rattle.std.proofs.lemmas.Bool.{leb-true}
+use Rattle.std.proofs.lemmas.Bool.Decides.{eqb_tells}
+use Rattle.gq_model.specs.declared.phase.Phase.TheVariants.{Blocked, Serving, Handling}
+use Rattle.gq_model.specs.Amounts.{Resource, part}
+use Rattle.gq_model.specs.Scenario.{System, Component, Scenario, components, system}
+use Rattle.gq_model.specs.World.{Slot, Empty, Spot, In_leaf, In_session, In_object, Session, Hand, Leaf, World, session_at, with_slot, put_leaf_slot, put_session_slot, put_object}
+use Rattle.gq_model.specs.Doing.{Doing, standing}
+use Rattle.gq_model.specs.Sums.{donated, to_leaf, from_leaf, held, lent, received, handed, quota, is_paid, are_paid, paid}
+use Rattle.gq_model.specs.Step.{serving, resumed}
+use Rattle.gq_model.specs.Promises.{EachOf, quota_of, quota_at, GivesBack}
+use Rattle.gq_laws.specs.Links.{stance, Stance, links, outline, outline_in, AreLinked}
+use Rattle.gq_laws.proofs.Linking.{some_same, none_some}
+use Rattle.gq_laws.proofs.Link_quiet.{Takes}
+use Rattle.gq_laws.proofs.Link_sections.{leaf_of_stance, handling, was, not_server, put, put_outlines, put_serves, client_blocked, its_hand, resumed_world, resumed_here, resumed_else, without}
+use Rattle.gq_laws.proofs.Prices_kept.{sum_set, session_stands, and_both, paid_one}
+
+-- SUMS
+
+-- a session with another bank or object counts as it did
+sum_same : (f : Option Session → ℕ) (sessions : List (Option Session)) (k : ℕ) (t s : Session) → slice_get sessions k ≡ Some (Some t) → f (Some s) ≡ f (Some t) → sum_by f (slice_set sessions k (Some s)) ≡ sum_by f sessions
+sum_same f sessions k t s e same = let n = sum_set f sessions k (Some t) (Some s) e in omega (arith, n, same)
+
+-- a number that does not look at slots and objects
+abbrev Outer : (Option Session → ℕ) → Type 0
+Outer f = (s : Session) (slots : List Slot) (object : Slot) → f (Some (record s { slots = slots; object = object })) ≡ f (Some s)
+
+slot_sum : (f : Option Session → ℕ) → Outer f → (w : World) (q : Spot) (slot : Slot) → sum_by f (with_slot w q slot).sessions ≡ sum_by f w.sessions
+slot_sum f outer w (In_leaf x i) slot = go (slice_get w.leaves x)
+  where
+    go : (o : Option Leaf) → sum_by f (put_leaf_slot w o x i slot).sessions ≡ sum_by f w.sessions
+    go None = refl
+    go (Some leaf) = refl
+slot_sum f outer w (In_session k i) slot = go (session_at w k) refl
+  where
+    go : (o : Option Session) → session_at w k ≡ o → sum_by f (put_session_slot w o k i slot).sessions ≡ sum_by f w.sessions
+    go None e = refl
+    go (Some s) e = sum_same f w.sessions k s (record s { slots = slice_set s.slots i slot }) (session_stands w k s e) (outer s (slice_set s.slots i slot) s.object)
+slot_sum f outer w (In_object k) slot = go (session_at w k) refl
+  where
+    go : (o : Option Session) → session_at w k ≡ o → sum_by f (put_object w o k slot).sessions ≡ sum_by f w.sessions
+    go None e = refl
+    go (Some s) e = sum_same f w.sessions k s (record s { object = slot }) (session_stands w k s e) (outer s s.slots slot)
+
+lent_outer : (r : Resource) (x : ℕ) → Outer (from_leaf x (donated r))
+lent_outer r x s slots object = refl
+
+received_outer : (r : Resource) (x : ℕ) → Outer (to_leaf x (donated r))
+received_outer r x s slots object = refl
+
+-- a session that is found by its outline
+session_of_outline : (o : Option Session) (u : Session) → outline_in o ≡ Some u → (s : Session) × (o ≡ Some s) × (outline s ≡ u)
+session_of_outline None u e = absurd (none_some e)
+session_of_outline (Some s) u e = (s, refl, some_same e)
+
+from_one : (r : Resource) (x : ℕ) (s : Session) → s.client ≡ x → from_leaf x (donated r) (Some s) ≡ donated r s
+from_one r x s e = elim (eqb_tells s.client x) [ inl f ↦ ap (λ b. cond b (donated r s) 0) f.0 | inr f ↦ absurd (f.1 e) ]
+
+from_other : (r : Resource) (x : ℕ) (s : Session) → s.client ≢ x → from_leaf x (donated r) (Some s) ≡ 0
+from_other r x s ne = elim (eqb_tells s.client x) [ inl f ↦ absurd (ne f.1) | inr f ↦ ap (λ b. cond b (donated r s) 0) f.0 ]
+
+to_one : (r : Resource) (x : ℕ) (s : Session) → s.server ≡ x → to_leaf x (donated r) (Some s) ≡ donated r s
+to_one r x s e = elim (eqb_tells s.server x) [ inl f ↦ ap (λ b. cond b (donated r s) 0) f.0 | inr f ↦ absurd (f.1 e) ]
+
+to_other : (r : Resource) (x : ℕ) (s : Session) → s.server ≢ x → to_leaf x (donated r) (Some s) ≡ 0
+to_other r x s ne = elim (eqb_tells s.server x) [ inl f ↦ absurd (ne f.1) | inr f ↦ ap (λ b. cond b (donated r s) 0) f.0 ]
+
+-- for each resource that is counted, where both worlds are paid
+each_of : (G : Resource → Type 0) (w v : World) (x y : ℕ) (c e : Component) (a b : Leaf) (resources : List Resource) → are_paid w x c a resources ≡ true → are_paid v y e b resources ≡ true
+    → ((r : Resource) → is_paid w x c a r ≡ true → is_paid v y e b r ≡ true → G r) → EachOf resources G
+each_of G w v x y c e a b [] p q g = tt
+each_of G w v x y c e a b (r ∷ rest) p q g =
+    let m = and_both (is_paid w x c a r) (are_paid w x c a rest) p in
+    let n = and_both (is_paid v y e b r) (are_paid v y e b rest) q in
+    (g r m.0 n.0, each_of G w v x y c e a b rest m.1 n.1 g)
+
+handed_resumes : (hand : Option Hand) (quantum : ℕ) → handed (resumed hand) quantum ≡ quantum
+handed_resumes None q = refl
+handed_resumes (Some g) q = refl
+
+-- the x-th leaf and its component, as a quota names them
+quota_there : (r : Resource) (s : Scenario) (w : World) (x : ℕ) (c : Component) (leaf : Leaf) → slice_get (components s) x ≡ Some c → slice_get w.leaves x ≡ Some leaf → quota_at r s w x ≡ quota r w x c leaf
+quota_there r s w x c leaf e f = (λ i. quota_of r w x (e i) (f i))
+
+-- a leaf that was handed q and has received n, of which it has lent m, and then d less
+lends_less : (q n m less d : ℕ) → less + d ≡ m → m ≤ q + n → q + n - less ≡ q + n - m + d
+lends_less q n m less d e le = omega (arith, e, le)
+
+-- and one that has received d less
+receives_less : (q n less m d : ℕ) → less + d ≡ n → m ≤ q + less → q + less - m + d ≡ q + n - m
+receives_less q n less m d e le = omega (arith, e, le)
+
+module _ (s : Scenario) (d : Doing) (of : d.system ≡ system s) (t : Takes d) (h : AreLinked d.system (links d.world)) (component : slice_get d.system.components d.x ≡ Some d.component) (pays : paid d.system d.world ≡ true)
+    (handles : d.leaf.phase ≡ Handling) (g : Hand) (hand : d.leaf.hand ≡ Some g) (u : Session) (there : session_at d.world g.session ≡ Some u) where
+  abbrev empty_put : World
+  empty_put = put d t h handles g hand u there Empty
+
+  abbrev gone : World
+  gone = without d t h handles g hand u there
+
+  abbrev pub after : World
+  after = resumed_world d t h handles g hand u there Empty (λ operands. operands) gone refl
+
+  server_is : u.server ≡ d.x
+  server_is = let v = h.handles d.x Handling g (handling d t h handles g hand u there) in ap (λ (s : Session). s.server) (some_same (sym (was d t h handles g hand u there) ∙ v.1)) ∙ v.2
+
+  client_ne : u.client ≢ d.x
+  client_ne = not_server d t h handles g hand u there
+
+  -- the session as it stands before it goes
+  last : (v : Session) × (session_at empty_put g.session ≡ Some v) × (outline v ≡ outline u)
+  last = session_of_outline (session_at empty_put g.session) (outline u) (put_outlines d t h handles g hand u there Empty g.session ∙ ap outline_in there)
+
+  last_given : (r : Resource) → donated r last.0 ≡ donated r u
+  last_given r = ap (donated r) last.2
+
+  -- the sums without it
+  sum_less : (f : Option Session → ℕ) → Outer f → f None ≡ 0 → sum_by f after.sessions + f (Some last.0) ≡ sum_by f d.world.sessions
+  sum_less f outer none =
+      let n = sum_set f empty_put.sessions g.session (Some last.0) None (session_stands empty_put g.session last.0 last.1) in
+      let m = slot_sum f outer (standing d (serving d.leaf)) u.spot Empty in
+      omega (arith, n, m, none)
+
+  client_component : (c : Component) × (slice_get d.system.components u.client ≡ Some c)
+  client_component = let r = h.routed g.session (outline u) (was d t h handles g hand u there) in (r.0, r.1)
+
+  in_components : (x : ℕ) (c : Component) → slice_get d.system.components x ≡ Some c → slice_get (components s) x ≡ Some c
+  in_components x c e = ap (λ (a : System). slice_get a.components x) (sym of) ∙ e
+
+  client_was : (leaf : Leaf) × (slice_get d.world.leaves u.client ≡ Some leaf) × (stance leaf.phase leaf.hand ≡ stance Blocked (its_hand d t h handles g hand u there Empty))
+  client_was = leaf_of_stance (slice_get d.world.leaves u.client) (stance Blocked (its_hand d t h handles g hand u there Empty)) (client_blocked d t h handles g hand u there Empty)
+
+  client_now : (leaf : Leaf) × (slice_get after.leaves u.client ≡ Some leaf) × (stance leaf.phase leaf.hand ≡ stance (resumed (its_hand d t h handles g hand u there Empty)) (its_hand d t h handles g hand u there Empty))
+  client_now = leaf_of_stance (slice_get after.leaves u.client) _ (resumed_here d t h handles g hand u there Empty (λ operands. operands) gone refl)
+
+  server_now : (leaf : Leaf) × (slice_get after.leaves d.x ≡ Some leaf) × (stance leaf.phase leaf.hand ≡ stance Serving None)
+  server_now =
+      leaf_of_stance (slice_get after.leaves d.x) (stance Serving None)
+      (resumed_else d t h handles g hand u there Empty (λ operands. operands) gone refl d.x (λ e. client_ne (sym e)) ∙ put_serves d t h handles g hand u there Empty)
+
+  client_phase : (q : ℕ) → (handed client_was.0.phase q ≡ q) × (handed client_now.0.phase q ≡ q)
+  client_phase q = (ap (λ p. handed p q) (ap (λ (a : Stance). a.phase) client_was.2), ap (λ p. handed p q) (ap (λ (a : Stance). a.phase) client_now.2) ∙ handed_resumes (its_hand d t h handles g hand u there Empty) q)
+
+  server_phase : (q : ℕ) → (handed t.old.phase q ≡ q) × (handed server_now.0.phase q ≡ q)
+  server_phase q = (ap (λ p. handed p q) (sym t.phase ∙ handles), ap (λ p. handed p q) (ap (λ (a : Stance). a.phase) server_now.2))
+
+  pub gives_back : paid d.system after ≡ true → EachOf d.system.counted (GivesBack s d.world after u)
+  gives_back still =
+      each_of (GivesBack s d.world after u) d.world after u.client d.x client_component.0 d.component client_was.0 server_now.0 d.system.counted
+      (paid_one d.system.counted d.world 0 d.system.components d.world.leaves pays u.client client_component.0 client_was.0 client_component.1 client_was.1 u.client (omega arith))
+      (paid_one d.system.counted after 0 d.system.components after.leaves still d.x d.component server_now.0 component server_now.1 d.x (omega arith))
+      (λ r p q. record { client = client r p; server = server r q })
+    where
+      client : (r : Resource) → is_paid d.world u.client client_component.0 client_was.0 r ≡ true → quota_at r s after u.client ≡ quota_at r s d.world u.client + part r u.donation
+      client r p =
+          let quantum = part r client_component.0.node.quantum in
+          let enough = leb-true (held r d.world u.client client_was.0 + lent r d.world u.client) (handed client_was.0.phase quantum + received r d.world u.client) p in
+          let less = sum_less (from_leaf u.client (donated r)) (lent_outer r u.client) refl in
+          let mine = from_one r u.client last.0 (ap (λ (s : Session). s.client) last.2) in
+          let given = last_given r in
+          let same = sum_less (to_leaf u.client (donated r)) (received_outer r u.client) refl in
+          let other = to_other r u.client last.0 (λ e. client_ne (sym e ∙ ap (λ (s : Session). s.server) last.2 ∙ server_is)) in
+          let phases = client_phase quantum in
+          let old_phase = phases.0 in
+          let new_phase = phases.1 in
+          quota_there r s after u.client client_component.0 client_now.0 (in_components u.client client_component.0 client_component.1) client_now.1
+          ∙ (omega (arith, enough, less, mine, given, same, other, old_phase, new_phase) ∙ ap (λ n. n + part r u.donation) (sym (quota_there r s d.world u.client client_component.0 client_was.0 (in_components u.client client_component.0 client_component.1) client_was.1)))
+
+      server : (r : Resource) → is_paid after d.x d.component server_now.0 r ≡ true → quota_at r s after u.server + part r u.donation ≡ quota_at r s d.world u.server
+      server r p =
+          let quantum = part r d.component.node.quantum in
+          let enough = leb-true (held r after d.x server_now.0 + lent r after d.x) (handed server_now.0.phase quantum + received r after d.x) p in
+          let less = sum_less (to_leaf d.x (donated r)) (received_outer r d.x) refl in
+          let mine = to_one r d.x last.0 (ap (λ (s : Session). s.server) last.2 ∙ server_is) in
+          let given = last_given r in
+          let same = sum_less (from_leaf d.x (donated r)) (lent_outer r d.x) refl in
+          let other = from_other r d.x last.0 (λ e. client_ne (ap (λ (s : Session). s.client) (sym last.2) ∙ e)) in
+          let phases = server_phase quantum in
+          let old_phase = phases.0 in
+          let new_phase = phases.1 in
+          ap (λ x. quota_at r s after x + part r u.donation) server_is
+          ∙ (ap (λ n. n + part r u.donation) (quota_there r s after d.x d.component server_now.0 (in_components d.x d.component component) server_now.1)
+          ∙ (omega (arith, enough, less, mine, given, same, other, old_phase, new_phase)
+          ∙ (sym (quota_there r s d.world d.x d.component t.old (in_components d.x d.component component) t.there) ∙ ap (quota_at r s d.world) (sym server_is))))

@@ -1,0 +1,143 @@
+-- Steps inside a section that ask nothing of a session: they do what the rules tell, only want of quota stops them, and others are left alone.
+use Rattle.std.specs.Prelude.{◌≡◌, ◌≢◌, ℕ, ◌<◌, true, List, [], ◌∷◌, length, Option, Some, None, Ok, Err, slice_get}
+use Rattle.gq_model.specs.Lists.{all_of}
+use Rattle.gq_model.specs.declared.program.Place.{Place}
+use Rattle.gq_model.specs.declared.program.Instruction.{Instruction}
+use Rattle.gq_model.specs.declared.program.Instruction.TheVariants.{Open, Upgrade, Call, Close}
+use Rattle.gq_model.specs.declared.program.Section.TheVariants.{Main}
+use Rattle.gq_model.specs.declared.fault.Wrong.{Wrong}
+use Rattle.gq_model.specs.declared.fault.Wrong.TheVariants.{ExceededQuota}
+use Rattle.gq_model.specs.Program.{Statements, Done, Do, If, Loop}
+use Rattle.gq_model.specs.Operands.{operands, in_range}
+use Rattle.gq_model.specs.Scenario.{Component, interface_in}
+use Rattle.gq_model.specs.World.{Empty, Waiting, Spot, Session, Hand, Round, Leaf, World, session_at, slot_at, spot_of, start_leaf}
+use Rattle.gq_model.specs.Doing.{Doing, Event, Stepped}
+use Rattle.gq_model.specs.Step.{instruct, perform}
+use Rattle.gq_model.specs.Kinds.{Kind, State, Context, Subject}
+use Rattle.gq_model.specs.Flow.{context, start_of}
+use Rattle.gq_model.specs.Rules.{judged}
+use Rattle.gq_model.specs.Kept.{within, Continues}
+use Rattle.gq_laws.specs.Typed.{StaysOfKind, StayOfKind, Meets, PromisesLinks, SharesBuffers}
+
+-- a step ends in worlds of which P holds, and only want of quota is wrong with it
+pub record IsSafe (P : World → Type 0) (r : Stepped) : Type 0 where
+  pub ends : (w : World) (event : Event) → r ≡ Ok (w, event) → P w
+  pub short : (wrong : Wrong) → r ≡ Err wrong → wrong ≡ ExceededQuota
+
+-- a statement that asks nothing of a session
+abbrev pub IsOfOwn : Instruction → Type 0
+IsOfOwn (Open place service n) = ⊥
+IsOfOwn (Upgrade place n) = ⊥
+IsOfOwn (Call place) = ⊥
+IsOfOwn (Close place) = ⊥
+IsOfOwn _ = Unit {0}
+
+-- the leaf of the step is the one that the world has, but for its statements and the like
+pub record Takes (d : Doing) : Type 0 where
+  pub old : Leaf
+  pub there : slice_get d.world.leaves d.x ≡ Some old
+  pub slots : d.leaf.slots ≡ old.slots
+  pub phase : d.leaf.phase ≡ old.phase
+  pub hand : d.leaf.hand ≡ old.hand
+
+-- no slot that the leaf can name waits for a reply
+abbrev pub IsAwake : Doing → Type 0
+IsAwake d = (place : Place) (q : Spot) (k : ℕ) → spot_of d.x d.leaf.hand place ≡ Some q → slot_at d.world q ≢ Some (Waiting k)
+
+-- what the rules take for granted of the system, of links and of the session at hand
+pub record Grants (promised : ℕ → Option Kind) (c : Context) (d : Doing) : Type 0 where
+  pub interfaces : c.subject.interfaces ≡ d.system.interfaces
+  -- the session at hand is one of the service that the leaf provides
+  pub provided : (hand : Hand) (s : Session) → d.leaf.hand ≡ Some hand → session_at d.world hand.session ≡ Some s
+      → interface_in s.service d.system.interfaces ≡ c.subject.provided
+  pub links : PromisesLinks promised d.world
+  pub buffers : SharesBuffers d.system promised d.world
+  pub awake : IsAwake d
+
+-- the leaf of the step stands at the state in this world, with the same statements left and the same session at hand
+pub record StandsAt (promised : ℕ → Option Kind) (c : Context) (state : State) (d : Doing) (w : World) : Type 0 where
+  pub leaf : Leaf
+  pub there : slice_get w.leaves d.x ≡ Some leaf
+  pub meets : Meets promised c state w leaf
+  pub todo : leaf.todo ≡ d.leaf.todo
+  pub loops : leaf.loops ≡ d.leaf.loops
+  pub hand : leaf.hand ≡ d.leaf.hand
+  pub phase : leaf.phase ≡ d.leaf.phase
+
+-- a leaf at the start of `main` stands where the rules start, if its program has 8 locals
+abbrev pub StartsAsRuled : (ℕ → Option Kind) → Subject → Type 0
+StartsAsRuled promised v = (w : World) (c : Component) → length v.program.locals ≡ 8 → Meets promised (context v Main) (start_of v Main) w (start_leaf c)
+
+-- a statement in range, that the rules allow where the leaf stands, leads to where the rules say
+abbrev pub GoesAsRuled : (ℕ → Option Kind) → Context → Doing → Type 0
+GoesAsRuled promised c d =
+    (state new : State) (i : Instruction) → IsOfOwn i → all_of in_range (operands i) ≡ true → Meets promised c state d.world d.leaf
+    → judged c state i ≡ Ok new → IsSafe (StandsAt promised c new d) (instruct d i)
+
+-- INSIDE A SECTION
+
+-- the leaf of the step stands in this world at a state from which what is left of its section leads to this end of it
+pub record LeadsOn (promised : ℕ → Option Kind) (c : Context) (end : State) (d : Doing) (w : World) : Type 0 where
+  pub leaf : Leaf
+  pub there : slice_get w.leaves d.x ≡ Some leaf
+  pub state : State
+  pub meets : Meets promised (within c leaf.loops) state w leaf
+  pub goes_on : Continues c state leaf.todo leaf.loops end
+  pub hand : leaf.hand ≡ d.leaf.hand
+  pub phase : leaf.phase ≡ d.leaf.phase
+
+-- what comes next is a statement in range that asks nothing of a session, a choice, a loop that has a round, or the end of a body
+abbrev pub IsInside : Statements → List Round → Type 0
+IsInside Done [] = ⊥
+IsInside Done (r ∷ loops) = Unit {0}
+IsInside (Do i rest) loops = IsOfOwn i × (all_of in_range (operands i) ≡ true)
+IsInside (If arm other rest) loops = Unit {0}
+IsInside (Loop count body rest) loops = 0 < count
+
+-- so far as no session is asked, each step leads on by the rules
+abbrev pub LeadsAsRuled : (ℕ → Option Kind) → Context → Doing → Type 0
+LeadsAsRuled promised c d =
+    (state end : State) → IsInside d.leaf.todo d.leaf.loops → Meets promised (within c d.leaf.loops) state d.world d.leaf
+    → Continues c state d.leaf.todo d.leaf.loops end → IsSafe (LeadsOn promised c end d) (perform d d.leaf.todo)
+
+-- WHAT IS LEFT TO OTHERS
+
+-- a session without its object and what is in its slots
+abbrev pub bare : Session → Session
+bare s = record s { object = Empty; slots = [] }
+
+abbrev pub IsElse : ℕ → Option Hand → Type 0
+IsElse k None = Unit {0}
+IsElse k (Some hand) = hand.session ≢ k
+
+-- a session keeps its parts, the kind of its object and, where it is not at hand, the kinds of its slots
+pub record KeepsSession (hand : Option Hand) (k : ℕ) (old new : Session) : Type 0 where
+  pub rest : bare new ≡ bare old
+  pub object : StaysOfKind old.object new.object
+  pub slots : IsElse k hand → StayOfKind old.slots new.slots
+
+abbrev pub KeepsSessionIn : Option Hand → ℕ → Option Session → Option Session → Type 0
+KeepsSessionIn hand k None new = new ≡ None
+KeepsSessionIn hand k (Some old) new = (s : Session) × (new ≡ Some s) × KeepsSession hand k old s
+
+-- the step keeps the other leaves, the requests and, but for what is in slots at hand and in bytes, the sessions
+pub record LeavesOthers (d : Doing) (w : World) : Type 0 where
+  pub leaves : (y : ℕ) → y ≢ d.x → slice_get w.leaves y ≡ slice_get d.world.leaves y
+  pub requests : w.requests ≡ d.world.requests
+  pub sessions : (k : ℕ) → KeepsSessionIn d.leaf.hand k (session_at d.world k) (session_at w k)
+
+-- a leaf that has another session at hand, or none, stands in this world where it stood
+abbrev pub StandElse : (ℕ → Option Kind) → Doing → World → Type 0
+StandElse promised d w =
+    (c : Context) (state : State) (leaf : Leaf) → ((hand : Hand) → leaf.hand ≡ Some hand → IsElse hand.session d.leaf.hand)
+    → Meets promised c state d.world leaf → Meets promised c state w leaf
+
+-- so far as no session is asked, each step inside a section leaves others as they are, whatever the rules say of it
+abbrev pub KeepsToItself : Doing → Type 0
+KeepsToItself d = (w : World) (event : Event) → IsInside d.leaf.todo d.leaf.loops → perform d d.leaf.todo ≡ Ok (w, event) → LeavesOthers d w
+
+-- and after it every link leads to what was promised of it, with its buffer
+abbrev pub KeepsPromises : (ℕ → Option Kind) → Doing → Type 0
+KeepsPromises promised d =
+    (w : World) (event : Event) → IsInside d.leaf.todo d.leaf.loops → perform d d.leaf.todo ≡ Ok (w, event)
+    → PromisesLinks promised d.world → SharesBuffers d.system promised d.world → PromisesLinks promised w × SharesBuffers d.system promised w

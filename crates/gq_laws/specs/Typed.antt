@@ -1,0 +1,108 @@
+-- When a leaf stands at a state of the rules: its slots are of the kinds, its operands within the bounds, its loops the counts.
+use Rattle.std.specs.Prelude.{◌≡◌, true, false, ℕ, ◌<◌, List, [], ◌∷◌, length, Option, Some, None, slice_get}
+use Rattle.gq_model.specs.declared.program.Form.TheVariants.{Slice, Space}
+use Rattle.gq_model.specs.declared.program.Section.{Section}
+use Rattle.gq_model.specs.Amounts.{Amount}
+use Rattle.gq_model.specs.Scenario.{System, number_of}
+use Rattle.gq_model.specs.World.{Slot, Empty, Waiting, Bytes, Pool, Link, Spot, Session, Hand, Round, Leaf, World, session_at, slot_at}
+use Rattle.gq_model.specs.Memory.{room, buffer_of}
+use Rattle.gq_model.specs.Kinds.{Kind, Empty_kind, Memory, Pool_kind, Link_kind, State, Context, in_main}
+use Rattle.gq_model.specs.Kept.{Under}
+use Rattle.gq_laws.specs.Shapes.{Each}
+
+-- SLOTS
+
+abbrev pub AreBytes : List ℕ → Type 0
+AreBytes = Each (λ b. b < 256)
+
+abbrev pub IsEntry : ℕ → Option (List ℕ) → Type 0
+IsEntry n None = Unit {0}
+IsEntry n (Some bytes) = (length bytes ≡ n) × AreBytes bytes
+
+-- a slot is of a kind; a slot that names a session is of the kind that is promised of that session
+abbrev pub IsKind : (ℕ → Option Kind) → Slot → Kind → Type 0
+IsKind promised Empty kind = kind ≡ Empty_kind
+IsKind promised (Bytes form n bytes) kind = (kind ≡ Memory form n) × (length bytes ≡ room form n) × AreBytes bytes
+IsKind promised (Pool n entries) kind = (kind ≡ Pool_kind n (length entries)) × Each (IsEntry n) entries
+IsKind promised (Link k) kind = promised k ≡ Some kind
+IsKind promised (Waiting k) kind = promised k ≡ Some kind
+
+-- as many slots as kinds, each of its kind
+abbrev pub AreKinds : (ℕ → Option Kind) → List Slot → List Kind → Type 0
+AreKinds promised [] [] = Unit {0}
+AreKinds promised (slot ∷ slots) (kind ∷ kinds) = IsKind promised slot kind × AreKinds promised slots kinds
+AreKinds promised [] (kind ∷ kinds) = ⊥
+AreKinds promised (slot ∷ slots) [] = ⊥
+
+-- bytes stay bytes, of the same form, size and number; any other slot stays what it is
+abbrev pub StaysOfKind : Slot → Slot → Type 0
+StaysOfKind (Bytes form n bytes) new = (others : List ℕ) × (new ≡ Bytes form n others) × (length others ≡ length bytes) × (AreBytes bytes → AreBytes others)
+StaysOfKind Empty new = new ≡ Empty
+StaysOfKind (Pool n entries) new = new ≡ Pool n entries
+StaysOfKind (Link k) new = new ≡ Link k
+StaysOfKind (Waiting k) new = new ≡ Waiting k
+
+abbrev pub StayOfKind : List Slot → List Slot → Type 0
+StayOfKind [] [] = Unit {0}
+StayOfKind (old ∷ olds) (new ∷ news) = StaysOfKind old new × StayOfKind olds news
+StayOfKind [] (new ∷ news) = ⊥
+StayOfKind (old ∷ olds) [] = ⊥
+
+-- LOOPS
+
+-- the loops that were entered are these, each in a round of its
+abbrev pub AreCounts : List Round → List ℕ → Type 0
+AreCounts [] [] = Unit {0}
+AreCounts (r ∷ loops) (n ∷ counts) = (r.count ≡ n) × (r.round < n) × AreCounts loops counts
+AreCounts [] (n ∷ counts) = ⊥
+AreCounts (r ∷ loops) [] = ⊥
+
+-- SECTIONS
+
+-- `main` has nothing at hand, and every other section a session of which it is a section
+abbrev pub IsAtHand : Section → Option Hand → Type 0
+IsAtHand section None = in_main section ≡ true
+IsAtHand section (Some hand) = (hand.section ≡ section) × (in_main section ≡ false)
+
+-- the session's slots are of these kinds, and its object is a slice of so many bytes
+pub record BankMeets (promised : ℕ → Option Kind) (c : Context) (kinds : List Kind) (s : Session) : Type 0 where
+  pub slots : AreKinds promised s.slots kinds
+  pub object : IsKind promised s.object (Memory Slice (number_of c.subject.provided (λ i. i.object)))
+
+-- the session at hand, if there is one
+abbrev pub HandMeets : (ℕ → Option Kind) → Context → List Kind → World → Option Hand → Type 0
+HandMeets promised c kinds w None = Unit {0}
+HandMeets promised c kinds w (Some hand) = (s : Session) × (session_at w hand.session ≡ Some s) × BankMeets promised c kinds s
+
+-- the leaf stands at the state
+pub record Meets (promised : ℕ → Option Kind) (c : Context) (state : State) (w : World) (leaf : Leaf) : Type 0 where
+  pub own : AreKinds promised leaf.slots state.own
+  pub hand : IsAtHand c.section leaf.hand
+  pub bank : HandMeets promised c state.bank w leaf.hand
+  pub operands : Under leaf.operands state.bounds
+  pub locals : Under leaf.locals c.subject.program.locals
+  pub loops : AreCounts leaf.loops c.counts
+
+-- LINKS
+
+abbrev pub IsLinkKind : Kind → Type 0
+IsLinkKind (Link_kind service level given) = Unit {0}
+IsLinkKind _ = ⊥
+
+-- what is promised of a session to which a link leads is the kind of a link
+abbrev pub PromisesLinks : (ℕ → Option Kind) → World → Type 0
+PromisesLinks promised w = (q : Spot) (k : ℕ) (kind : Kind) → slot_at w q ≡ Some (Link k) → promised k ≡ Some kind → IsLinkKind kind
+
+-- a session whose first slot is a space of n bytes
+pub record HasBuffer (n : ℕ) (s : Session) : Type 0 where
+  pub bytes : List ℕ
+  pub there : slice_get s.slots 0 ≡ Some (Bytes Space n bytes)
+  pub count : length bytes ≡ room Space n
+  pub each : AreBytes bytes
+
+-- behind a link whose service shares a buffer stands a space of just its size, in the first slot of the session
+abbrev pub SharesBuffers : System → (ℕ → Option Kind) → World → Type 0
+SharesBuffers system promised w =
+    (q : Spot) (k : ℕ) (service : List ℕ) (level : ℕ) (given : Amount) → slot_at w q ≡ Some (Link k)
+    → promised k ≡ Some (Link_kind service level given) → 0 < buffer_of system service
+    → (s : Session) × (session_at w k ≡ Some s) × (s.service ≡ service) × HasBuffer (buffer_of system service) s

@@ -1,0 +1,8 @@
+use Rattle.std.proofs.Common.{◌≡◌, drop}
+use Rattle.gq_model.specs.Amounts.{Caps}
+use Rattle.gq_model.specs.Accept.{own_refusal}
+use Rattle.gq_load.proofs.over.check_caps.Given as goal
+
+-- no leaf so far is refused
+abbrev pub invariant-loop-place : goal.invariant-loop-place
+invariant-loop-place l = own_refusal Caps (drop l.place l.components) (drop l.place l.budgets) ≡ own_refusal Caps l.components l.budgets

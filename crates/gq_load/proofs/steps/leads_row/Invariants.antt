@@ -1,0 +1,9 @@
+use Rattle.std.proofs.Common.{◌≡◌, ◌++◌, drop, option_copied}
+use Rattle.gq_load.specs.Leads.{leads_row}
+use Rattle.gq_load.proofs.steps.leads_row.Given as goal
+
+-- the row so far, with what is left of it, is all
+abbrev pub invariant-loop-component : goal.invariant-loop-component
+invariant-loop-component l =
+    l.row.items ++ leads_row l.components l.leaf (option_copied l.provides) (drop l.component-index l.components)
+    ≡ leads_row l.components l.leaf (option_copied l.provides) l.components

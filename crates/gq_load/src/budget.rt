@@ -1,0 +1,91 @@
+// The budgets of leaves: what each uses at most.
+ghost use Rattle.std.specs.Prelude.{◌≡◌, length, IfOk};
+ghost use Rattle.gq_model.specs.Amounts.{amount};
+ghost use Rattle.gq_init.specs.Trees.{version_number};
+ghost use Rattle.gq_load.specs.Budgets.{budget_with, budgets_with};
+
+use gq_init::scenario::Version;
+use gq_verify::Verified;
+use std::alloc::{AllocError, Global};
+use std::marker::Model;
+
+/// What a leaf uses at most, whatever the turns.
+#[derive(Clone, Copy, Debug, PartialEq, Eq)]
+pub struct Budget {
+    own: u64,
+    own_caps: u64,
+    steps: u64,
+}
+
+impl Model for Budget {
+    ghost use Rattle.gq_model.specs.Amounts.{amount};
+    ghost use Rattle.gq_model.specs.Accept.{Budget};
+
+    ghost Value = { Budget };
+
+    ghost view = { λ b. record { own = amount b.own b.own_caps; steps = b.steps } };
+
+    ghost inverse = { λ b. record { own = b.own.ram; own_caps = b.own.caps; steps = b.steps } };
+}
+
+impl Budget {
+    /// So many bytes and capabilities of the own account, and so many steps.
+    pub fn new(own: u64, own_caps: u64, steps: u64) -> Budget
+        ensures { result ≡ record { own = amount own own_caps; steps = steps } }
+    {
+        Budget {
+            own,
+            own_caps,
+            steps,
+        }
+    }
+
+    /// The bytes of its own account that it holds or lends.
+    pub fn own(&self) -> u64
+        ensures { result ≡ self.now.own.ram }
+    {
+        self.own
+    }
+
+    /// The capabilities of its own account that it holds or lends; 0 in version 1.
+    pub fn own_caps(&self) -> u64
+        ensures { result ≡ self.now.own.caps }
+    {
+        self.own_caps
+    }
+
+    /// The steps that it takes.
+    pub fn steps(&self) -> u64
+        ensures { result ≡ self.now.steps }
+    {
+        self.steps
+    }
+}
+
+// The budget of a program with so many steps.
+fn budget_of(version: Version, verified: &Verified<'_>, steps: u64) -> Budget
+    ensures { result ≡ budget_with (version_number version) verified.now steps }
+{
+    let own_caps = match version {
+        Version::One => 0,
+        Version::Two => verified.own_caps(),
+    };
+    Budget::new(verified.own(), own_caps, steps)
+}
+
+// The budgets of programs, each with so many steps.
+pub(crate) fn budgets_of(
+    alloc: Global,
+    version: Version,
+    verified: &[Verified<'_>],
+    steps: &[u64],
+) -> Result<Vec<Budget>, AllocError>
+    requires { length steps.now ≡ length verified.now }
+    ensures { IfOk result (λ b. b.items ≡ budgets_with (version_number version) verified.now steps.now) }
+{
+    let mut budgets = Vec::new(alloc);
+    for (place, verified) in verified.iter().enumerate() {
+        budgets.push(budget_of(version, verified, steps[place]))?;
+    }
+    Ok(budgets)
+}

@@ -1,0 +1,70 @@
+// The programs of a scenario's leaves.
+ghost use Rattle.std.specs.Prelude.{◌≡◌, None, IfOk, IfErr};
+ghost use Rattle.gq_load.specs.Faults.{Gives};
+ghost use Rattle.gq_load.specs.Judged.{programs_of};
+ghost use Rattle.gq_load.specs.Load.{source_fault, sources_fault};
+
+use crate::fault::{LoadError, LoadFault};
+use gq_asm::{AssembleError, assemble};
+use gq_code::decode::{DecodeError, decode};
+use gq_code::program::Program;
+use gq_init::resolve::component::Component;
+use gq_init::scenario::Leaf;
+use gq_init::source::Source;
+use gq_model::program::Name;
+use std::alloc::Global;
+
+// The same name.
+pub(crate) fn copied(name: &Name) -> Name
+    ensures { result ≡ name.now }
+{
+    match Name::new(name.as_bytes()) {
+        Some(name) => name,
+        None => unreachable!(),
+    }
+}
+
+/// The program of a leaf, from its text or its code.
+///
+/// Refused where host memory is, and where the text or the code is no program: then the fault names the leaf.
+pub fn read_program(alloc: Global, leaf: &Leaf) -> Result<Program, LoadError>
+    ensures program { IfOk result (λ p. p ≡ leaf.now.program) }
+    ensures faultless { IfOk result (λ p. source_fault leaf.now.name leaf.now.source ≡ None) }
+    ensures refused { IfErr result (λ e. Gives e (source_fault leaf.now.name leaf.now.source)) }
+{
+    match leaf.source() {
+        Source::Text(text) => match assemble(alloc, text.as_slice()) {
+            Ok(program) => Ok(program),
+            Err(AssembleError::Memory(_)) => Err(LoadError::Memory),
+            Err(AssembleError::Fault { fault, line }) => Err(LoadError::Fault(LoadFault::Text {
+                leaf: copied(leaf.name()),
+                fault,
+                line,
+            })),
+        },
+        Source::Code(code) => match decode(alloc, code.as_slice()) {
+            Ok(program) => Ok(program),
+            Err(DecodeError::Memory(_)) => Err(LoadError::Memory),
+            Err(DecodeError::Fault(fault)) => Err(LoadError::Fault(LoadFault::Code {
+                leaf: copied(leaf.name()),
+                fault,
+            })),
+        },
+    }
+}
+
+// The programs of these leaves, in their order.
+pub(crate) fn read_programs(
+    alloc: Global,
+    components: &[Component<'_>],
+) -> Result<Vec<Program>, LoadError>
+    ensures programs { IfOk result (λ v. v.items ≡ programs_of components.now) }
+    ensures faultless { IfOk result (λ v. sources_fault components.now ≡ None) }
+    ensures refused { IfErr result (λ e. Gives e (sources_fault components.now)) }
+{
+    let mut programs = Vec::new(alloc);
+    for component in components {
+        programs.push(read_program(alloc, component.leaf())?)?;
+    }
+    Ok(programs)
+}

@@ -1,0 +1,86 @@
+-- What is promised of every run of an accepted scenario, of each world in it.
+use Rattle.std.specs.Prelude.{◌≡◌, ℕ, ◌+◌, ◌≤◌, true, List, [], ◌∷◌, ◌++◌, Option, Some, None, Ok, slice_get, sum_by}
+use Rattle.gq_model.specs.Amounts.{Resource, part}
+use Rattle.gq_model.specs.Scenario.{Interface, Scenario, System, Component, components, system, interface_in}
+use Rattle.gq_model.specs.Kinds.{need_of}
+use Rattle.gq_model.specs.World.{Session, Leaf, World, session_at}
+use Rattle.gq_model.specs.Sums.{to_leaf, held, lent, received, quota, paid}
+use Rattle.gq_model.specs.Doing.{Event}
+use Rattle.gq_model.specs.Step.{next}
+use Rattle.gq_model.specs.Run.{run}
+use Rattle.gq_model.specs.Accounts.{accounts, account_lines, whole}
+use Rattle.gq_model.specs.Verdict.{greatest_cost}
+use Rattle.gq_model.specs.Accept.{Budget, budget, budgets, step_budgets}
+
+-- so it is for each of these resources
+abbrev pub EachOf : List Resource → (Resource → Type 0) → Type 0
+EachOf [] P = Unit {0}
+EachOf (r ∷ resources) P = P r × EachOf resources P
+
+-- BUDGETS
+
+-- what a service needs for a session of a level
+abbrev pub need_at : Resource → Option Interface → ℕ → ℕ
+need_at r None level = 0
+need_at r (Some i) level = part r (need_of i level)
+
+-- what the sessions to a leaf need together
+abbrev pub needed : Resource → System → World → ℕ → ℕ
+needed r system w x = sum_by (to_leaf x (λ s. need_at r (interface_in s.service system.interfaces) s.level)) w.sessions
+
+abbrev pub budget_of : Scenario → ℕ → Component → Budget
+budget_of s x c = budget s.version (system s) x c
+
+-- what a leaf holds and has lent is within its own budget and the needs of the sessions to it, and these are within its quantum and what it has received
+pub record StaysWithin (s : Scenario) (w : World) (x : ℕ) (c : Component) (leaf : Leaf) (r : Resource) : Type 0 where
+  pub within_budget : held r w x leaf + lent r w x ≤ part r (budget_of s x c).own + needed r (system s) w x
+  pub budget_is_paid : part r (budget_of s x c).own + needed r (system s) w x ≤ part r c.node.quantum + received r w x
+
+-- the leaf of a component keeps the budget that is told of it: of steps, which is itself limited, and of each resource that is counted
+pub record KeepsBudget (s : Scenario) (w : World) (x : ℕ) (c : Component) : Type 0 where
+  pub leaf : Leaf
+  pub there : slice_get w.leaves x ≡ Some leaf
+  pub told : slice_get (budgets s) x ≡ Some (budget_of s x c)
+  pub steps : leaf.steps ≤ (budget_of s x c).steps
+  pub limited : (budget_of s x c).steps ≤ greatest_cost
+  pub bytes_and_caps : EachOf (system s).counted (StaysWithin s w x c leaf)
+
+-- QUOTAS
+
+-- the quotas of all nodes sum to what the root was given, whatever step budgets are told with them
+abbrev pub SumsToTotal : Scenario → World → Resource → Type 0
+SumsToTotal s w r = (told : List ℕ) → sum_by (λ a. part r a.quota) (accounts s w told) ≡ part r s.total
+
+-- the quota of a leaf that is there
+abbrev pub quota_of : Resource → World → ℕ → Option Component → Option Leaf → ℕ
+quota_of r w x (Some c) (Some leaf) = quota r w x c leaf
+quota_of r w x (Some c) None = 0
+quota_of r w x None leaf = 0
+
+abbrev pub quota_at : Resource → Scenario → World → ℕ → ℕ
+quota_at r s w x = quota_of r w x (slice_get (components s) x) (slice_get w.leaves x)
+
+-- the client has the whole donation back, and the server has it no more
+pub record GivesBack (s : Scenario) (old new : World) (session : Session) (r : Resource) : Type 0 where
+  pub client : quota_at r s new session.client ≡ quota_at r s old session.client + part r session.donation
+  pub server : quota_at r s new session.server + part r session.donation ≡ quota_at r s old session.server
+
+-- the step that ends a session gives back its donation
+abbrev pub ClosesWhole : Scenario → World → Type 0
+ClosesWhole s w = (x k : ℕ) (session : Session) (new : World) (event : Event) → next (system s) w x ≡ Ok (new, event) → session_at w k ≡ Some session → session_at new k ≡ None → EachOf (system s).counted (GivesBack s w new session)
+
+-- WORLDS AND RUNS
+
+-- in a world any leaf can take its turn, all is paid for, each leaf has kept its budget, the quotas sum to the total, and a session that ends gives back its donation
+pub record IsUpheld (s : Scenario) (w : World) : Type 0 where
+  pub goes_on : (x : ℕ) → (p : World × Event) × (next (system s) w x ≡ Ok p)
+  pub is_paid : paid (system s) w ≡ true
+  pub keeps_budgets : (x : ℕ) (c : Component) → slice_get (components s) x ≡ Some c → KeepsBudget s w x c
+  pub quotas_sum : EachOf (system s).counted (SumsToTotal s w)
+  pub closes : ClosesWhole s w
+
+-- these turns came to no wrong step, the world after them is such a one, and the text is whole: all lines, then the accounts
+pub record Upholds (s : Scenario) (turns : List (ℕ × ℕ)) : Type 0 where
+  pub never_wrong : (run (system s) turns).wrong ≡ None
+  pub in_world : IsUpheld s (run (system s) turns).world
+  pub writes_all : whole s (step_budgets (budgets s)) turns ≡ (run (system s) turns).text ++ account_lines s.version (accounts s (run (system s) turns).world (step_budgets (budgets s)))

@@ -1,0 +1,9 @@
+pub mod Judging
+pub mod Flowing
+pub mod Starting
+pub mod Counting
+pub mod Faults
+pub mod Pointing
+pub mod Requesting
+pub mod Subjects
+pub mod Keeping

@@ -1,0 +1,16 @@
+-- What a program is judged by.
+use Rattle.std.specs.Prelude.{ℕ, List, Option, Some, None, if◌then◌else◌, ◌∷◌, []}
+use Rattle.gq_model.specs.Program.{Program, Statements, same_section}
+use Rattle.gq_model.specs.declared.program.Section.{Section}
+use Rattle.gq_model.specs.Scenario.{Interfaces, service_in}
+use Rattle.gq_model.specs.Kinds.{Subject}
+use Rattle.gq_model.specs.Budgets.{section_cost}
+
+-- a program, the interface of the service that it provides, and all interfaces
+abbrev pub subject_of : Program → Option (List ℕ) → Interfaces → Subject
+subject_of program provides interfaces = record { program = program; provided = service_in provides interfaces; interfaces = interfaces }
+
+-- what a section costs, where it is among these
+abbrev pub cost_in : Section → List (Section × Statements) → Option ℕ
+cost_in s [] = None
+cost_in s (p ∷ rest) = if same_section s p.0 then Some (section_cost s p.1) else cost_in s rest

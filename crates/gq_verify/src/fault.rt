@@ -1,0 +1,15 @@
+// Why a program is refused.
+
+use gq_code::Section;
+use gq_model::fault::Rule;
+use thiserror::Error;
+
+/// The rule that a program breaks first: the section, and the number of the statement there, from 1; 0 is the section's start, and the
+/// number past the last its end.
+#[derive(Clone, Copy, Debug, PartialEq, Eq, Error)]
+#[error("{rule} in {section} at {place}")]
+pub struct Fault {
+    pub rule: Rule,
+    pub section: Section,
+    pub place: u64,
+}

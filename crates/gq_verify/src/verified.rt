@@ -1,0 +1,119 @@
+// What is said of a program before it runs.
+ghost use Rattle.std.specs.Prelude.{◌≡◌, IfOk, IfErr, IsTrue, None, Ok, Err, option_copied};
+ghost use Rattle.gq_model.specs.Amounts.{Ram, Caps};
+ghost use Rattle.gq_model.specs.Code.{is_section};
+ghost use Rattle.gq_model.specs.Budgets.{own, section_requests};
+ghost use Rattle.gq_model.specs.Verdict.{verdict, verified, program_fault};
+ghost use Rattle.gq_verify.specs.Counting.{saturated};
+ghost use Rattle.gq_verify.specs.Faults.{known_fault};
+ghost use Rattle.gq_verify.specs.Subjects.{subject_of, cost_in};
+
+use crate::fault::Fault;
+use crate::own::own;
+use crate::requests::{Asked, section_requests};
+use crate::sections::program_fault;
+use crate::starts::Starts;
+use crate::steps::section_cost;
+use crate::subject::Subject;
+use gq_caps::Amount;
+use gq_code::{Interfaces, Name, Program, Section};
+use std::marker::Model;
+
+/// A program that breaks no rule, with what it uses at most. Contracts see it as what it was judged by.
+#[derive(Drop)]
+pub struct Verified<'a> {
+    subject: Subject<'a>,
+    starts: Starts,
+    own: Amount,
+}
+
+impl<'a> Model for Verified<'a> {
+    ghost use Rattle.gq_model.specs.Kinds.{Subject};
+    ghost use Rattle.gq_model.specs.Stored.{statements_code};
+    ghost use Rattle.std.specs.Coded.{codes};
+
+    ghost Value = { Subject };
+
+    ghost coded = { Prim.hlevel (codes, statements_code (Prim.hlevel codes)) };
+
+    ghost use Rattle.gq_verify.specs.Keeping.{IsKept};
+
+    ghost view = { λ v. v.subject };
+
+    ghost invariant = { λ v. IsKept v.subject v.starts v.own };
+}
+
+impl<'a> Verified<'a> {
+    /// What every verified program is: it breaks no rule. It does nothing.
+    pub fn laws(&self)
+        ensures { program_fault self.now ≡ None }
+    {
+        let _own = self.own;
+    }
+
+    /// The most bytes of its own account that its `main` uses: at a point of it the prices of what the own slots hold with what they have
+    /// lent, and the heap by the greatest number of places of each class, pools counted as full. Less than 2^42.
+    pub fn own(&self) -> u64
+        ensures { result ≡ own Ram self.now }
+    {
+        self.own.ram
+    }
+
+    /// The same in capabilities.
+    pub fn own_caps(&self) -> u64
+        ensures { result ≡ own Caps self.now }
+    {
+        self.own.caps
+    }
+
+    /// The greatest number of steps of a section, at most 10^12; `None` where it is not there. It goes over the statements once.
+    pub fn cost(&self, section: Section) -> Option<u64>
+        ensures { result ≡ cost_in section self.now.program.sections }
+    {
+        let subject = &self.subject;
+        match subject.body(section) {
+            Some(body) => Some(section_cost(section, body)),
+            None => None,
+        }
+    }
+
+    /// The greatest number of requests of a section for a section of a service; 2^64 - 1 where there are more. It goes over the statements
+    /// a few times.
+    pub fn requests(&self, from: Section, service: &[u8], section: Section) -> u64
+        requires { IsTrue (is_section from) }
+        ensures { result ≡ saturated (section_requests self.now from service.now section) }
+    {
+        let subject = &self.subject;
+        let starts = &self.starts;
+        section_requests(subject, starts, from, &Asked { service, section })
+    }
+}
+
+/// What is said of a program that provides this service, or none: that it breaks no rule, with what it uses at most, or the rule that it
+/// breaks first. A service without an interface counts as none. It goes over the statements a fixed number of times, and takes no host
+/// memory.
+pub fn verify<'a>(
+    program: &'a Program,
+    provides: Option<&Name>,
+    interfaces: &'a Interfaces,
+) -> Result<Verified<'a>, Fault>
+    ensures subject { IfOk result (λ v. v ≡ subject_of program.now (option_copied provides.entry) interfaces.now) }
+    ensures accepted { IfOk result (λ v. verdict program.now (option_copied provides.entry) interfaces.now ≡ Ok (verified v)) }
+    ensures refused { IfErr result (λ fault. verdict program.now (option_copied provides.entry) interfaces.now ≡ Err (known_fault fault)) }
+{
+    let provided = match provides {
+        Some(service) => interfaces.named(service.as_bytes()),
+        None => None,
+    };
+    let subject = Subject::new(program, provided, interfaces);
+    if let Some(fault) = program_fault(&subject) {
+        return Err(fault);
+    }
+    let starts = Starts::new(&subject);
+    let own = own(&subject);
+    Ok(Verified {
+        subject,
+        starts,
+        own,
+    })
+}

@@ -1,0 +1,138 @@
+#!/usr/bin/env python3
+"""Hands texts of any bytes to `trade check` and `trade run`: run_hostile_texts.py PROGRAM
+
+Long, deep and broken texts have to be refused with the line that is told beside each; texts made of a scenario by random changes, always the same
+ones, have to be done or refused. A refusal is one line on standard error, with nothing on standard output and exit status 1. The program may take
+no more memory than 64 MiB and 50 times the text. The last line is 'N passed, M failed', and the exit status is 1 where one failed.
+"""
+import pathlib
+import random
+import resource
+import subprocess
+import sys
+import tempfile
+
+TOP = pathlib.Path(__file__).resolve().parent.parent
+SECONDS = 120
+CHANGES = 400
+
+
+def leaves(number):
+    """So many leaves under the root, each with an empty program."""
+    leaf = '[[start]]\nname = "n{}"\nquantum = 0\nprogram = "main\\nend"\n'
+    return 'version = 1\nram = "64K"\n' + "".join(leaf.format(place) for place in range(number))
+
+
+def named(name):
+    """A scenario of one leaf with this name, as a text in TOML."""
+    return f'version = 1\nram = "64K"\n[[start]]\nname = "{name}"\nquantum = 0\nprogram = ""\n'
+
+
+def texts():
+    """The name of each text, the text, and the line that refuses it."""
+    yield "arrays in one another", b"a = " + b"[" * 500000 + b"]" * 500000, "S1 NotToml"
+    yield "arrays that are not closed", b"a = " + b"[" * 1000000, "S1 NotToml"
+    yield "inline tables in one another", b"a = " + b"{a=" * 250000 + b"1" + b"}" * 250000, "S1 NotToml"
+    yield "a dotted key", b"a" + b".a" * 500000 + b" = 1\n", "S1 NotToml"
+    yield "a dotted table", b"[" + b"a." * 500000 + b"a]\n", "S1 NotToml"
+    yield "a long number", b"version = 1\nram = " + b"9" * 1000000 + b"\nstart = []\n", "S1 NotToml"
+    yield "a number beyond 64 bits", b"version = 1\nram = 18446744073709551616\nstart = []\n", "S1 NotToml"
+    yield "a negative number", b"version = 1\nram = -4096\nstart = []\n", "S3 BadValue ram"
+    yield "a name of control characters", named("\\u0000\\u0001").encode(), "S3 BadValue name"
+    yield "a name beyond ASCII", named("é").encode(), "S3 BadValue name"
+    yield "a name with a line feed", named("a\\nb").encode(), "S3 BadValue name"
+    yield "a name without bytes", named("").encode(), "S3 BadValue name"
+    yield "a name of 17 bytes", named("a" * 17).encode(), "S3 BadValue name"
+    yield "a long name", named("a" * 900000).encode(), "S3 BadValue name"
+    yield "many keys", b"version = 1\n" + b"".join(b"k%d = 1\n" % place for place in range(80000)), "S4 UnknownKey ?"
+    yield "many empty leaves", b"[[start]]\n" * 100000, "S2 MissingKey version"
+    yield "15000 leaves", leaves(15000).encode(), "S6 TooMany"
+    yield "zeros", b"\0" * 1048576, "S1 NotToml"
+    yield "no UTF-8", b"\xff" * 1048576, "S1 NotToml"
+    yield "a cut character", 'version = 1 # é'.encode()[:-1], "S1 NotToml"
+    yield "line feeds", b"\n" * 1048576, "S2 MissingKey version"
+    yield "a byte too many", b"\n" * 1048577, "S6 TooMany"
+    yield "17 MiB", b"\n" * 17825792, "S6 TooMany"
+    text = b'version = 1\nram = "64K"\n[[start]]\nname = "a"\nquantum = 0\nprogram = \'\'\'\nmain\n' + b'say "x"\n' * 100000 + b"end\n'''\n"
+    yield "a program of 100000 statements", text, "a: M8 TooLong line 4098"
+    code = b'version = 1\nram = "64K"\n[[start]]\nname = "a"\nquantum = 0\ncode = "' + b"00" * 450000 + b'"\n'
+    yield "a code of 450000 bytes", code, "a: C6 TrailingBytes"
+
+
+def changed(text, source):
+    """The text with some of its bytes replaced, left out, doubled or moved."""
+    text = bytearray(text)
+    for _ in range(source.randrange(1, 6)):
+        place, length = source.randrange(len(text)), source.randrange(1, 12)
+        piece = text[place : place + length]
+        kind = source.randrange(4)
+        if kind == 0:
+            text[place : place + length] = bytes(source.randrange(256) for _ in piece)
+        elif kind == 1:
+            del text[place : place + length]
+        elif kind == 2:
+            text[place:place] = piece * source.randrange(1, 4)
+        else:
+            text[source.randrange(len(text)) : 0] = piece
+        if not text:
+            text = bytearray(b"x")
+    return bytes(text)
+
+
+def result_of(program, words, room, text):
+    """How a run of the program over this text ends, within its memory."""
+    path = room / "scenario.toml"
+    path.write_bytes(text)
+    turns = room / "turns"
+    turns.write_bytes(b"")
+    most = 64 * 2**20 + 50 * len(text)
+    files = [str(path)] + ([str(turns)] if words == ["run"] else [])
+    ran = subprocess.run(
+        [program, *words, *files],
+        capture_output=True,
+        timeout=SECONDS,
+        preexec_fn=lambda: resource.setrlimit(resource.RLIMIT_AS, (most, most)),
+    )
+    return ran.stdout, ran.stderr, ran.returncode
+
+
+def is_refusal(stdout, stderr, status):
+    """A refusal: one line of printable characters, and nothing else."""
+    line = stderr[:-1]
+    return status == 1 and not stdout and stderr.startswith(b"trade: ") and stderr.endswith(b"\n") and all(32 <= byte < 127 for byte in line)
+
+
+def is_done(stdout, stderr, status):
+    """A check that is done: a line for each leaf, and nothing else."""
+    return status == 0 and not stderr and all(line.startswith(b"budget init -> ") for line in stdout.splitlines())
+
+
+def main():
+    program = sys.argv[1]
+    passed = failed = 0
+    with tempfile.TemporaryDirectory() as folder:
+        room = pathlib.Path(folder)
+        for name, text, line in texts():
+            for words in (["check"], ["run"]):
+                got = result_of(program, words, room, text)
+                if got == (b"", f"trade: {line}\n".encode(), 1):
+                    passed += 1
+                else:
+                    failed += 1
+                    print(f"FAILED {words[0]} of {name}: {got[0][:100]} {got[1][:200]} {got[2]}")
+        source = random.Random(1)
+        samples = sorted((TOP / "tests" / "cases").glob("check-*/scenario.toml"))
+        for _ in range(CHANGES):
+            text = changed(source.choice(samples).read_bytes(), source)
+            got = result_of(program, ["check"], room, text)
+            if is_refusal(*got) or is_done(*got):
+                passed += 1
+            else:
+                failed += 1
+                print(f"FAILED check of {text!r}: {got}")
+    print(f"{passed} passed, {failed} failed")
+    sys.exit(1 if failed else 0)
+
+
+if __name__ == "__main__":
+    main()
