@@ -3,7 +3,6 @@
 
 #[cfg(test)]
 mod budgets;
-#[cfg(test)]
-mod leaves;
+pub mod leaves;
 #[cfg(test)]
 mod samples;
