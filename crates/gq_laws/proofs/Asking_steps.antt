@@ -35,7 +35,7 @@ use Rattle.gq_laws.proofs.Asking_waits.{set_same, Made, IsSlotPlace, same_slots,
 
 -- THE LINK THAT A STATEMENT NAMES
 
-link_is : (o : Option Kind) (l : List ℕ × ℕ × Amount) → link_kind o ≡ Some l → o ≡ Some (Link_kind l.0 l.1 l.2)
+pub link_is : (o : Option Kind) (l : List ℕ × ℕ × Amount) → link_kind o ≡ Some l → o ≡ Some (Link_kind l.0 l.1 l.2)
 link_is None l e = absurd (none_some e)
 link_is (Some Empty_kind) l e = absurd (none_some e)
 link_is (Some (Memory form n)) l e = absurd (none_some e)
@@ -51,10 +51,10 @@ memory_link e = cc
 pool_link : {service : List ℕ} {level : ℕ} {given : Amount} {n m : ℕ} → Link_kind service level given ≢ Pool_kind n m
 pool_link e = cc
 
-same_service : {service other : List ℕ} {level l : ℕ} {given a : Amount} → Link_kind service level given ≡ Link_kind other l a → service ≡ other
+pub same_service : {service other : List ℕ} {level l : ℕ} {given a : Amount} → Link_kind service level given ≡ Link_kind other l a → service ≡ other
 same_service e = cc
 
-same_level : {service other : List ℕ} {level l : ℕ} {given a : Amount} → Link_kind service level given ≡ Link_kind other l a → level ≡ l
+pub same_level : {service other : List ℕ} {level l : ℕ} {given a : Amount} → Link_kind service level given ≡ Link_kind other l a → level ≡ l
 same_level e = cc
 
 same_given : {service other : List ℕ} {level l : ℕ} {given a : Amount} → Link_kind service level given ≡ Link_kind other l a → given ≡ a

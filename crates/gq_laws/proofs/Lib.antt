@@ -28,6 +28,8 @@ pub mod Quanta
 pub mod Quanta_kept
 pub mod Totals
 pub mod Loops
+pub mod Flow_banks
+pub mod Accepted_programs
 pub mod Statement_rules
 pub mod Statement_numbers
 pub mod Statement_slots
@@ -45,3 +47,18 @@ pub mod Section_ends
 pub mod Section_starts
 pub mod Reply_worlds
 pub mod Reply_stands
+pub mod Left_worlds
+pub mod Left_programs
+pub mod Typed_worlds
+pub mod Sure
+pub mod Sound_systems
+pub mod Asked_worlds
+pub mod Asked_services
+pub mod Asked_tells
+pub mod Asked_stands
+pub mod Asked_rests
+pub mod Asked_typed
+pub mod Typed_links
+pub mod Typed_inside
+pub mod Typed_replies
+pub mod Typed_steps

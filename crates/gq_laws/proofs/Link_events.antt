@@ -15,7 +15,7 @@ pub each_map : {A : Type 0} (P Q : A → Type 0) → ((a : A) → P a → Q a) �
 each_map P Q f [] h = tt
 each_map P Q f (a ∷ rest) h = (f a h.0, each_map P Q f rest h.1)
 
-each_end : {A : Type 0} (P : A → Type 0) (items : List A) (a : A) → Each P items → P a → Each P (items ++ a ∷ [])
+pub each_end : {A : Type 0} (P : A → Type 0) (items : List A) (a : A) → Each P items → P a → Each P (items ++ a ∷ [])
 each_end P [] a h p = (p, tt)
 each_end P (b ∷ rest) a h p = (h.0, each_end P rest a h.1 p)
 
@@ -41,7 +41,7 @@ no_hand : (k : ℕ) (hand : Option Hand) → ((g : Hand) → hand ≡ Some g →
 no_hand k None h = refl
 no_hand k (Some g) h = one_none g.session k (h g refl)
 
-no_hand_at : (k : ℕ) (t : Option Stance) → ((g : Hand) (p : Phase) → t ≡ Some (stance p (Some g)) → g.session ≢ k) → at_hand k t ≡ 0
+pub no_hand_at : (k : ℕ) (t : Option Stance) → ((g : Hand) (p : Phase) → t ≡ Some (stance p (Some g)) → g.session ≢ k) → at_hand k t ≡ 0
 no_hand_at k None h = refl
 no_hand_at k (Some t) h = no_hand k t.hand (λ g e. h g t.phase (ap (λ o. Some (stance t.phase o)) e))
 

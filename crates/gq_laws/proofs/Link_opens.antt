@@ -81,7 +81,7 @@ none_asked l k free (r ∷ rest) h =
     let further = none_asked l k free rest h.1 in
     omega (arith, first, further)
 
-fill_found : (P : World → Type 0) (w : World) (q : Spot) (slot : Slot) (go : World → Stepped) → (slot_at w q ≡ Some Empty → Ends P (go (with_slot w q slot))) → Ends P (fill w q (slot_at w q) slot go)
+pub fill_found : (P : World → Type 0) (w : World) (q : Spot) (slot : Slot) (go : World → Stepped) → (slot_at w q ≡ Some Empty → Ends P (go (with_slot w q slot))) → Ends P (fill w q (slot_at w q) slot go)
 fill_found P w q slot go h = by (slot_at w q) refl
   where
     by : (o : Option Slot) → slot_at w q ≡ o → Ends P (fill w q o slot go)
@@ -104,7 +104,7 @@ module _ (d : Doing) (t : Takes d) (active : d.leaf.phase ≢ Blocked) (h : AreL
   abbrev filled : World
   filled = with_slot d.world q (Waiting k)
 
-  abbrev added : World
+  abbrev pub added : World
   added = record filled { sessions = add_session new filled.sessions }
 
   free_l : L.sessions k ≡ None
@@ -116,7 +116,7 @@ module _ (d : Doing) (t : Takes d) (active : d.leaf.phase ≢ Blocked) (h : AreL
   handled : (g : Hand) → d.leaf.hand ≡ Some g → Handles L d.x g
   handled g e = h.handles d.x d.leaf.phase g (stood d t ∙ ap (λ o. Some (stance d.leaf.phase o)) e)
 
-  not_object : (j : ℕ) → q ≢ In_object j
+  pub not_object : (j : ℕ) → q ≢ In_object j
   not_object j same = by place d.leaf.hand refl at
     where
       by : (place : Place) (hand : Option Hand) → d.leaf.hand ≡ hand → spot_of d.x hand place ≡ Some q → ⊥
@@ -132,7 +132,7 @@ module _ (d : Doing) (t : Takes d) (active : d.leaf.phase ≢ Blocked) (h : AreL
       by Object None e f = none_some f
       by Object (Some g) e f = full_object d t h g e (ap (slot_at d.world) (some_same f) ∙ empty)
 
-  ready : Ready d.system L d.x k (outline new) Ask_open
+  pub ready : Ready d.system L d.x k (outline new) Ask_open
   ready =
       record {
         client = refl;
@@ -152,10 +152,10 @@ module _ (d : Doing) (t : Takes d) (active : d.leaf.phase ≢ Blocked) (h : AreL
       false_true e = absurd cc
 
   -- the other sessions, as they stand once the slot waits
-  added_else : (j : ℕ) → j ≢ k → session_at added j ≡ session_at filled j
+  pub added_else : (j : ℕ) → j ≢ k → session_at added j ≡ session_at filled j
   added_else j ne = add_else new filled.sessions j (λ e. ne (e ∙ sym same_place))
 
-  added_here : session_at added k ≡ Some new
+  pub added_here : session_at added k ≡ Some new
   added_here = ap (λ j. joined (slice_get (add_session new filled.sessions) j)) same_place ∙ add_here new filled.sessions
 
   added_slots : (r : Spot) → r ≢ q → naming_in (slot_at added r) ≡ naming_in (slot_at d.world r)

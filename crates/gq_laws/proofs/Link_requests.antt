@@ -148,7 +148,7 @@ module _ (d : Doing) (t : Takes d) (active : d.leaf.phase ≢ Blocked) (h : AreL
 -- REQUESTS OF A LINKED SESSION
 
 -- the session that is found behind a link
-link_found : (P : World → Type 0) (w : World) (q : Spot) (go : ℕ → Session → Stepped) → ((k : ℕ) (s : Session) → slot_at w q ≡ Some (Link k) → session_at w k ≡ Some s → Ends P (go k s)) → Ends P (link_in w (slot_at w q) go)
+pub link_found : (P : World → Type 0) (w : World) (q : Spot) (go : ℕ → Session → Stepped) → ((k : ℕ) (s : Session) → slot_at w q ≡ Some (Link k) → session_at w k ≡ Some s → Ends P (go k s)) → Ends P (link_in w (slot_at w q) go)
 link_found P w q go h = by (slot_at w q) refl
   where
     by : (o : Option Slot) → slot_at w q ≡ o → Ends P (link_in w o go)
@@ -169,7 +169,7 @@ module _ (d : Doing) (t : Takes d) (active : d.leaf.phase ≢ Blocked) (h : AreL
     link_l : L.slots q ≡ Some (Leads k)
     link_l = ap naming_in link
 
-    spot_is : s.spot ≡ q
+    pub spot_is : s.spot ≡ q
     spot_is = let u = h.named q (Leads k) link_l in ap (λ (s : Session). s.spot) (some_same (sym there_l ∙ u.1)) ∙ u.2
 
     -- it is accepted, and has no request
@@ -193,7 +193,7 @@ module _ (d : Doing) (t : Takes d) (active : d.leaf.phase ≢ Blocked) (h : AreL
         let none = at_rest.1 in
         absurd (omega (arith, one, none))
 
-    is_object : (j : ℕ) → q ≢ In_object j
+    pub is_object : (j : ℕ) → q ≢ In_object j
     is_object j same = subst (λ q. Belongs L q s.client) (spot_is ∙ same) (h.belongs k (outline s) there_l)
 
     -- the session with another donation
@@ -201,7 +201,7 @@ module _ (d : Doing) (t : Takes d) (active : d.leaf.phase ≢ Blocked) (h : AreL
       abbrev with_given : Session
       with_given = record s { donation = given }
 
-      link_ready : Ready d.system L d.x k (outline with_given) ask
+      pub link_ready : Ready d.system L d.x k (outline with_given) ask
       link_ready =
           record {
             client = client_is;

@@ -63,14 +63,14 @@ kind_is (Link_kind s l a) (Link_kind s' l' a') e =
     λ i. Link_kind (text_is s s' q.0 i) (eqb-true l l' q.1 i) (amount_is a a' p.1 i)
 kind_is _ _ e = cc
 
-kinds_are : (ks ls : List Kind) → same_kinds ks ls ≡ true → ks ≡ ls
+pub kinds_are : (ks ls : List Kind) → same_kinds ks ls ≡ true → ks ≡ ls
 kinds_are [] [] e = refl
 kinds_are [] (l ∷ ls) e = cc
 kinds_are (k ∷ ks) [] e = cc
 kinds_are (k ∷ ks) (l ∷ ls) e = let p = both_true (same_kind k l) (same_kinds ks ls) e in λ i. kind_is k l p.0 i ∷ kinds_are ks ls p.1 i
 
 -- both sides of a join are the same state
-join_ok : (s t w : State) → join s t ≡ Ok w → (w ≡ s) × (s.bounds ≡ []) × (t ≡ s)
+pub join_ok : (s t w : State) → join s t ≡ Ok w → (w ≡ s) × (s.bounds ≡ []) × (t ≡ s)
 join_ok s t w e =
     let a = must_ok (is_nil s.bounds && is_nil t.bounds) LeftoverOperand _ w e in
     let n = both_true (is_nil s.bounds) (is_nil t.bounds) a.0 in
@@ -85,7 +85,7 @@ pub none_left_ok : (s t : State) → none_left s ≡ Ok t → (s.bounds ≡ []) 
 none_left_ok s t e = let a = must_ok (is_nil s.bounds) LeftoverOperand (Ok s) t e in (nil_is s.bounds a.0, ap (λ r. state_or t (at 1 r)) (sym a.1))
 
 -- what the rules say of a loop that they let pass
-loop_ok : (c : Context) (s : State) (n : ℕ) (body rest : Statements) (u : State) → flow c s (Loop n body rest) ≡ Ok u → (s.bounds ≡ []) × (flow (inside c n) s body ≡ Ok s) × (flow c s rest ≡ Ok u)
+pub loop_ok : (c : Context) (s : State) (n : ℕ) (body rest : Statements) (u : State) → flow c s (Loop n body rest) ≡ Ok u → (s.bounds ≡ []) × (flow (inside c n) s body ≡ Ok s) × (flow c s rest ≡ Ok u)
 loop_ok c s n body rest u e =
     let a = then_ok (at 1 (none_left s)) (λ t. flow_then (later 1 (flow (inside c n) t body)) (λ v. flow_then (at 1 (join t v)) (λ w. later (1 + size body) (flow c w rest)))) u e in
     let l = none_left_ok s a.0 (at_ok 1 (none_left s) a.0 a.1) in

@@ -44,7 +44,7 @@ IsOf x (In_leaf y i) = y ≡ x
 IsOf x (In_session j i) = Unit {0}
 IsOf x (In_object j) = ⊥
 
-written : (v : World) (q : Spot) (slot : Slot) (x : ℕ) (old : Leaf) → slice_get v.leaves x ≡ Some old → IsOf x q → Goes v (with_slot v q slot) x q slot (record old { slots = own_then q slot old.slots })
+pub written : (v : World) (q : Spot) (slot : Slot) (x : ℕ) (old : Leaf) → slice_get v.leaves x ≡ Some old → IsOf x q → Goes v (with_slot v q slot) x q slot (record old { slots = own_then q slot old.slots })
 written v (In_leaf y i) slot x old there of =
     let new : Leaf = record old { slots = slice_set old.slots i slot } in
     subst (λ y. Goes v (with_slot v (In_leaf y i) slot) x (In_leaf y i) slot new) (sym of)

@@ -28,13 +28,13 @@ to_same {a} {b} e = ap name_or e
 -- LEAVES AMONG NODES AND COMPONENTS
 
 -- the leaf stands directly among these nodes
-abbrev Among : LeafNode → Nodes → Type 0
+abbrev pub Among : LeafNode → Nodes → Type 0
 Among n End = ⊥
 Among n (Leaf_node node rest) = (node ≡ n) ⊎ Among n rest
 Among n (Init_node node children rest) = Among n rest
 
 -- it is the leaf of one of these components
-abbrev Holds : LeafNode → List Component → Type 0
+abbrev pub Holds : LeafNode → List Component → Type 0
 Holds n [] = ⊥
 Holds n (c ∷ cs) = (c.node ≡ n) ⊎ Holds n cs
 
@@ -56,13 +56,13 @@ each_append : {A : Type 0} (P : A → Type 0) (cs ds : List A) → Each P cs →
 each_append P [] ds h k = k
 each_append P (a ∷ cs) ds h k = (h.0, each_append P cs ds h.1 k)
 
-each_at : {A : Type 0} (P : A → Type 0) (items : List A) (i : ℕ) (a : A) → Each P items → slice_get items i ≡ Some a → P a
+pub each_at : {A : Type 0} (P : A → Type 0) (items : List A) (i : ℕ) (a : A) → Each P items → slice_get items i ≡ Some a → P a
 each_at P [] i a h e = absurd (none_some e)
 each_at P (b ∷ rest) zero a h e = subst P (some_same e) h.0
 each_at P (b ∷ rest) (suc i) a h e = each_at P rest i a h.1 e
 
 -- each leaf among a level's siblings is a component
-abbrev IsKnown : List Component → Level → Type 0
+abbrev pub IsKnown : List Component → Level → Type 0
 IsKnown all l = (n : LeafNode) → Among n l.siblings → Holds n all
 
 module _ (all : List Component) where
@@ -83,17 +83,17 @@ module _ (all : List Component) where
       (known (below label node.name) node.default_routes children (level node.routes default_routes siblings ∷ above) children (λ n h. within n (holds_left n inner further (direct (below label node.name) node.default_routes children (level node.routes default_routes siblings ∷ above) children n h))) (own, up) (λ n h. within n (holds_left n inner further h)))
       (known label default_routes siblings above rest own up (λ n h. within n (holds_right n inner further h)))
 
-all_known : (s : Scenario) → Each (λ c. Each (IsKnown (components s)) c.levels) (components s)
+pub all_known : (s : Scenario) → Each (λ c. Each (IsKnown (components s)) c.levels) (components s)
 all_known s = known (components s) (codes "init") s.default_routes s.nodes [] s.nodes (λ n h. direct (components s) (codes "init") s.default_routes s.nodes [] s.nodes n h) tt (λ n h. h)
 
 -- ROUTES
 
 -- a component's leaf of this name provides the service
-record Provides (all : List Component) (service name : List ℕ) : Type 0 where
-  leaf : LeafNode
-  there : Holds leaf all
-  is : leaf.name ≡ name
-  provides : is_service leaf.provides service ≡ true
+pub record Provides (all : List Component) (service name : List ℕ) : Type 0 where
+  pub leaf : LeafNode
+  pub there : Holds leaf all
+  pub is : leaf.name ≡ name
+  pub provides : is_service leaf.provides service ≡ true
 
 no_to : {A : Type 0} (name : List ℕ) → No_route ≡ To name → A
 no_to name e = absurd cc
@@ -153,12 +153,12 @@ module _ (all : List Component) (service : List ℕ) where
       by true f further = led_provides r.target siblings above name h up f
       by false f further = further f
 
-  route_provides : (levels : List Level) (name : List ℕ) → Each (IsKnown all) levels → route levels service ≡ To name → Provides all service name
+  pub route_provides : (levels : List Level) (name : List ℕ) → Each (IsKnown all) levels → route levels service ≡ To name → Provides all service name
   route_provides [] name h e = no_to name e
   route_provides (l ∷ above) name h e = fit_provides l.routes l.siblings (route above service) name h.0 (λ f. route_provides above name h.1 f) e
 
 -- the leaf of that place has that name
-numbered_name : (k : ℕ) (name : List ℕ) (cs : List Component) (y : ℕ) → numbered k name cs ≡ Some y → (i : ℕ) × (c : Component) × (y ≡ k + i) × (slice_get cs i ≡ Some c) × (name ≡ c.node.name)
+pub numbered_name : (k : ℕ) (name : List ℕ) (cs : List Component) (y : ℕ) → numbered k name cs ≡ Some y → (i : ℕ) × (c : Component) × (y ≡ k + i) × (slice_get cs i ≡ Some c) × (name ≡ c.node.name)
 numbered_name k name [] y e = absurd (none_some e)
 numbered_name k name (c ∷ cs) y e = by (text_eq name c.node.name) refl e (λ f. numbered_name (suc k) name cs y f)
   where

@@ -84,7 +84,7 @@ covered_same : (resources : List Resource) (i : Interface) (level : ℕ) (s t : 
 covered_same [] i level s t e = ok_same e
 covered_same (r ∷ resources) i level s t e = covered_same resources i level s t (must_holds _ _ _ t e).1
 
-within_same : (section : Section) (provided : Option Interface) (s t : State) → within_need section provided s ≡ Ok t → s ≡ t
+pub within_same : (section : Section) (provided : Option Interface) (s t : State) → within_need section provided s ≡ Ok t → s ≡ t
 within_same Main provided s t e = ok_same e
 within_same Opening None s t e = ok_same e
 within_same (Upgrading l) None s t e = ok_same e

@@ -9,3 +9,6 @@ pub mod Statements
 pub mod Asking
 pub mod Sections
 pub mod Replies
+pub mod Left
+pub mod Sound
+pub mod Typing

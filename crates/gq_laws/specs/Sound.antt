@@ -1,0 +1,20 @@
+-- Scenarios as the readers give them, and those of them that are accepted.
+use Rattle.std.specs.Prelude.{◌≡◌, ◌≤◌, ℕ, List, length, Some, slice_get}
+use Rattle.gq_model.specs.Code.{IsProgram}
+use Rattle.gq_model.specs.Scenario.{Interface, Scenario, Component, components, interface_in}
+use Rattle.gq_model.specs.Accept.{IsAccepted}
+use Rattle.gq_laws.specs.Names.{NamesDiffer}
+
+-- what a reader of scenarios makes sure of
+pub record IsWellFormed (s : Scenario) : Type 0 where
+  -- no two leaves have the same name
+  pub differ : NamesDiffer s
+  -- programs have eight locals, sections in their order, and operands in range
+  pub programs : (x : ℕ) (c : Component) → slice_get (components s) x ≡ Some c → IsProgram c.node.program
+  -- a service has at most 3 upgrades
+  pub upgrades : (service : List ℕ) (i : Interface) → interface_in service s.interfaces ≡ Some i → length i.upgrades ≤ 3
+
+-- it is accepted, too
+pub record IsSound (s : Scenario) : Type 0 where
+  pub formed : IsWellFormed s
+  pub accepted : IsAccepted s
