@@ -1,8 +1,8 @@
 -- Programs of accepted scenarios are made of statements whose operands are in range and whose services lead to a server, and each loop has a round.
-use Rattle.std.proofs.Common.{◌≡◌, ℕ, suc, ◌+◌, ◌-◌, ◌==◌, inl, inr, Bool, true, false, cond, nat_lt, nat_le, ◌&&◌, List, [], ◌∷◌, ◌++◌, Option, Some, None, refl, sym, ap, ◌∙◌, eq-eqb}
+use Rattle.std.proofs.Common.{◌≡◌, ℕ, suc, ◌+◌, ◌-◌, ◌==◌, inl, inr, Bool, true, false, cond, nat_lt, nat_le, ◌&&◌, List, [], ◌∷◌, ◌++◌, Some, None, refl, sym, ap, ◌∙◌, eq-eqb}
 use Rattle.std.specs.Prelude.{slice_get, length, sum_by}
 use Rattle.std.proofs.lemmas.Bool.{leb-true, and_from}
-use Rattle.gq_model.specs.Lists.{all_of, or_first, between}
+use Rattle.gq_model.specs.Lists.{all_of, between}
 use Rattle.gq_model.specs.Amounts.{Ram, Caps}
 use Rattle.gq_model.specs.declared.program.Instruction.{Instruction}
 use Rattle.gq_model.specs.declared.program.Instruction.TheVariants.{Open}

@@ -61,4 +61,10 @@ pub mod Asked_typed
 pub mod Typed_links
 pub mod Typed_inside
 pub mod Typed_replies
+pub mod Oldest_requests
+pub mod Typed_taken
+pub mod Typed_accept
+pub mod Typed_start
+pub mod Typed_ends
 pub mod Typed_steps
+pub mod Typed_runs

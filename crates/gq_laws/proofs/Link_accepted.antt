@@ -59,7 +59,7 @@ module _ (P : Request → Type 0) (w : World) (x : ℕ) where
   found_by q qs true to o f a e = subst (Found P w x (q ∷ qs)) (some_same e) (record { to = to; counts = λ k. refl; first = λ h. h.0; left = λ h. h.1 })
   found_by q qs false to o f a e = found_later q qs o f a e
 
-  oldest_found : (rs : List Request) (p : Request × List Request) → oldest w x rs ≡ Some p → Found P w x rs p
+  pub oldest_found : (rs : List Request) (p : Request × List Request) → oldest w x rs ≡ Some p → Found P w x rs p
   oldest_found [] p e = absurd (none_some e)
   oldest_found (q ∷ qs) p e = found_by q qs (is_to x (session_at w q.session)) refl (oldest w x qs) (λ a f. oldest_found qs a f) p e
 
@@ -88,10 +88,10 @@ module _ (d : Doing) (t : Takes d) (h : AreLinked d.system (links d.world)) wher
     there_l : L.sessions r.session ≡ Some (outline old)
     there_l = ap outline_in there
 
-    asked_as : old.accepted ≡ not (is_open r.ask)
+    pub asked_as : old.accepted ≡ not (is_open r.ask)
     asked_as = let a = found.first h.asked in ap (λ (s : Session). s.accepted) (some_same (sym there_l ∙ a.1)) ∙ a.2
 
-    server_is : old.server ≡ d.x
+    pub server_is : old.server ≡ d.x
     server_is = by old.server (ap (is_to d.x) (sym there) ∙ found.to)
       where
         by : (y : ℕ) → (y == d.x) ≡ true → y ≡ d.x

@@ -5,6 +5,7 @@ use Rattle.std.proofs.lemmas.Bool.{eqb-true}
 use Rattle.gq_model.specs.Amounts.{Amount, same_amount}
 use Rattle.gq_model.specs.declared.program.Form.TheVariants.{Block, Slice, Space}
 use Rattle.gq_model.specs.Program.{Statements, Done, Do, If, Loop, ◌then◌, size, text_eq}
+use Rattle.gq_model.specs.declared.program.Instruction.{Instruction}
 use Rattle.gq_model.specs.World.{Round}
 use Rattle.gq_model.specs.Kinds.{Kind, Empty_kind, Memory, Pool_kind, Link_kind, State, Context, inside, same_kind, same_kinds}
 use Rattle.gq_model.specs.declared.fault.Rule.{Rule}
@@ -159,3 +160,10 @@ if_ok c s arm other rest u e =
     let first = later_ok 1 (flow c p.0 arm) q.0 q.1 in
     let second : flow c p.0 other ≡ Ok q.0 = later_ok (1 + size arm) (flow c p.0 other) r.0 r.1 ∙ ap Ok k.2 in
     (p.0, at_ok 1 (chosen_from s) p.0 p.1, flow_append c p.0 arm rest q.0 u first end, flow_append c p.0 other rest q.0 u second end)
+
+-- a statement leads by its rule to where what comes after it goes on
+pub do_ok : (c : Context) (s end : State) (i : Instruction) (rest : Statements) (loops : List Round) → Continues c s (Do i rest) loops end → (t : State) × (judged (within c loops) s i ≡ Ok t) × Continues c t rest loops end
+do_ok c s end i rest loops goes =
+    let k = within c loops in
+    let t = then_ok (at 1 (judged k s i)) (λ s. later 1 (flow k s rest)) goes.0 goes.1 in
+    (t.0, at_ok 1 (judged k s i) t.0 t.1, (goes.0, later_ok 1 (flow k t.0 rest) goes.0 t.2, goes.2))

@@ -1,5 +1,5 @@
 -- What is sure of the system of a scenario that is well formed and accepted.
-use Rattle.std.proofs.Common.{◌≡◌, ◌≤◌, ℕ, zero, suc, ◌+◌, ◌==◌, cond, Bool, true, false, ◌&&◌, nat_le, List, [], ◌∷◌, length, Option, Some, None, refl, ap, sym, ◌∙◌, subst, arith, eqb-true}
+use Rattle.std.proofs.Common.{◌≡◌, ℕ, zero, suc, ◌+◌, ◌==◌, cond, Bool, true, false, ◌&&◌, nat_le, List, [], ◌∷◌, length, Option, Some, None, refl, ap, sym, ◌∙◌, subst, arith, eqb-true}
 use Rattle.std.specs.Prelude.{slice_get, sum_by}
 use Rattle.gq_model.specs.Amounts.{Ram, Caps}
 use Rattle.gq_model.specs.Lists.{or_first, all_of, between}
@@ -8,7 +8,7 @@ use Rattle.gq_model.specs.Program.{Statements, Program, size, same_section, sect
 use Rattle.gq_model.specs.Operands.{greatest_number}
 use Rattle.gq_model.specs.Code.{is_body, is_section, section_number, are_sections, greatest_statements, IsProgram}
 use Rattle.gq_model.specs.Scenario.{Scenario, System, Component, Interfaces, components, system, interface_in, service_in}
-use Rattle.gq_model.specs.Routes.{Routed, To, No_route, Ambiguous, Provides_differs, is_service, route, numbered, leaf_routed, server_of}
+use Rattle.gq_model.specs.Routes.{Routed, To, No_route, Ambiguous, Provides_differs, is_service, route, leaf_routed, server_of}
 use Rattle.gq_model.specs.Resolve.{Unresolved, unresolved}
 use Rattle.gq_model.specs.Verdict.{Fault, program_fault}
 use Rattle.gq_model.specs.Use.{subject}

@@ -1,5 +1,5 @@
 -- What is sure of the system of an accepted scenario that is well formed.
-use Rattle.std.proofs.Common.{◌≡◌, ◌≤◌, true, ℕ, List, length, Option, Some, None}
+use Rattle.std.proofs.Common.{◌≡◌, ◌≤◌, true, ℕ, List, length, Some, None}
 use Rattle.std.specs.Prelude.{slice_get}
 use Rattle.gq_model.specs.Scenario.{Interface, System, Component, interface_in, service_in}
 use Rattle.gq_model.specs.declared.program.Section.{Section}

@@ -1,33 +1,31 @@
 -- A step inside a section that asks nothing of a session keeps worlds typed.
-use Rattle.std.proofs.Common.{◌≡◌, ◌≢◌, ◌≤◌, ◌<◌, ◌==◌, ◌⊎◌, ℕ, inl, inr, cond, Bool, true, false, List, [], ◌∷◌, length, Option, Some, None, Ok, refl, ap, sym, ◌∙◌, subst}
+use Rattle.std.proofs.Common.{◌≡◌, ◌≢◌, ◌≤◌, ◌⊎◌, ℕ, inl, inr, true, length, Option, Some, None, Ok, refl, ap, sym, ◌∙◌, subst}
 use Rattle.std.specs.Prelude.{slice_get}
 use Rattle.std.proofs.lemmas.Bool.Decides.{eqb_tells}
 use Rattle.gq_model.specs.declared.program.Form.TheVariants.{Slice}
-use Rattle.gq_model.specs.declared.program.Section.{Section}
 use Rattle.gq_model.specs.declared.phase.Phase.{Phase}
 use Rattle.gq_model.specs.declared.phase.Phase.TheVariants.{Running, Handling}
 use Rattle.gq_model.specs.Program.{Statements, section_in}
 use Rattle.gq_model.specs.Scenario.{System, Component, interface_in, number_of}
 use Rattle.gq_model.specs.World.{Session, Request, Hand, Leaf, World, session_at}
-use Rattle.gq_model.specs.Doing.{Doing, Event}
-use Rattle.gq_model.specs.Step.{section_for, perform}
-use Rattle.gq_model.specs.Kinds.{Kind, Memory, State, Context, Subject}
+use Rattle.gq_model.specs.Doing.{Doing}
+use Rattle.gq_model.specs.Step.{section_for}
+use Rattle.gq_model.specs.Kinds.{Kind, Memory, State}
 use Rattle.gq_model.specs.Flow.{flow, context, body, start_of}
 use Rattle.gq_model.specs.Use.{subject}
 use Rattle.gq_model.specs.Verdict.{is_wanted}
 use Rattle.gq_model.specs.Kept.{level_then, section_if, section_at_hand, section_asked, within, Continues, bank_kinds}
-use Rattle.gq_laws.specs.Links.{stance_in, stance, outline, outline_in, links, IsLinkedWorld}
-use Rattle.gq_laws.specs.Typed.{IsKind, AreKinds, Meets}
-use Rattle.gq_laws.specs.Statements.{IsSafe, Takes, Grants, LeadsOn, IsInside, bare, IsElse, KeepsSession, KeepsSessionIn, LeavesOthers}
+use Rattle.gq_laws.specs.Links.{stance_in, stance, outline_in, links, IsLinkedWorld}
+use Rattle.gq_laws.specs.Typed.{AreKinds, Meets}
+use Rattle.gq_laws.specs.Statements.{Takes, LeadsOn, bare, IsElse, KeepsSession, KeepsSessionIn, LeavesOthers}
 use Rattle.gq_laws.specs.Asking.{IsWithin}
 use Rattle.gq_laws.specs.Shapes.{Each}
 use Rattle.gq_laws.specs.Replies.{once_replied}
-use Rattle.gq_laws.specs.Typing.{kind_then, section_of, IsAwaited, GoesOnFrom, IsInSection, StandsBy, RestsAt, FitsService, FitsRequest, IsTypedBy, IsTyped}
+use Rattle.gq_laws.specs.Typing.{kind_then, section_of, IsAwaited, StandsBy, FitsService, FitsRequest, IsTypedBy}
 use Rattle.gq_laws.proofs.Linking.{some_same, none_some}
 use Rattle.gq_laws.proofs.Link_events.{each_map}
-use Rattle.gq_laws.proofs.Statement_others.{stays_kind, stay_kinds, keeps_to_itself}
+use Rattle.gq_laws.proofs.Statement_others.{stays_kind, stay_kinds}
 use Rattle.gq_laws.proofs.Statement_frame.{stand_else}
-use Rattle.gq_laws.proofs.Statement_control.{leads_on}
 use Rattle.gq_laws.proofs.Typed_worlds.{kind_same, asked_same, if_here, stands_else}
 use Rattle.gq_laws.proofs.Typed_links.{stood}
 
@@ -144,12 +142,12 @@ module _ (promised : ℕ → Option Kind) (d : Doing) (takes : Takes d) (h : IsL
         known = subst (λ u. interface_in u.service d.system.interfaces ≡ Some f.interface) (sym b.2.rest) f.known;
         level = subst (λ u. u.level ≤ length f.interface.upgrades) (sym b.2.rest) f.level;
         rests = λ server placed none.
-          let was = sym (hand_same k b.0.server) ∙ (ap (λ u. section_at_hand k (slice_get w.leaves u.server)) (sym b.2.rest) ∙ none) in
-          let r = f.rests server (ap (λ u. slice_get d.system.components u.server) (sym b.2.rest) ∙ placed) was in
-          record {
-            bank = stay_kinds promised b.0.slots s.slots (bank_kinds d.system server s) (b.2.slots (not_at_hand k b.0 b.1 was d.leaf.hand refl)) (subst (λ u. AreKinds promised b.0.slots (bank_kinds d.system server u)) (sym b.2.rest) r.bank);
-            object = λ accepted. stays_kind promised b.0.object s.object (Memory Slice (number_of (subject d.system server).provided (λ i. i.object))) b.2.object (r.object (ap (λ u. u.accepted) (sym b.2.rest) ∙ accepted));
-          };
+            let was = sym (hand_same k b.0.server) ∙ (ap (λ u. section_at_hand k (slice_get w.leaves u.server)) (sym b.2.rest) ∙ none) in
+            let r = f.rests server (ap (λ u. slice_get d.system.components u.server) (sym b.2.rest) ∙ placed) was in
+            record {
+              bank = stay_kinds promised b.0.slots s.slots (bank_kinds d.system server s) (b.2.slots (not_at_hand k b.0 b.1 was d.leaf.hand refl)) (subst (λ u. AreKinds promised b.0.slots (bank_kinds d.system server u)) (sym b.2.rest) r.bank);
+              object = λ accepted. stays_kind promised b.0.object s.object (Memory Slice (number_of (subject d.system server).provided (λ i. i.object))) b.2.object (r.object (ap (λ u. u.accepted) (sym b.2.rest) ∙ accepted));
+            };
       }
 
   request_fits : (r : Request) → FitsRequest d.system d.world r → FitsRequest d.system w r

@@ -1,31 +1,31 @@
 -- What the statements' laws take for granted holds in a typed world: links are as promised, with their buffers, and the session at hand is of the leaf's service.
-use Rattle.std.proofs.Common.{◌≡◌, ◌≢◌, ◌≤◌, ◌<◌, ◌==◌, ℕ, zero, suc, inl, inr, cond, Bool, true, false, List, [], ◌∷◌, length, Option, Some, None, refl, ap, sym, ◌∙◌, subst, arith}
+use Rattle.std.proofs.Common.{◌≡◌, ◌≢◌, ℕ, inl, inr, cond, true, List, Option, Some, None, refl, ap, sym, ◌∙◌, subst, arith}
 use Rattle.std.specs.Prelude.{slice_get}
 use Rattle.gq_model.specs.Amounts.{Amount}
 use Rattle.gq_model.specs.declared.program.Form.{Form}
-use Rattle.gq_model.specs.declared.program.Form.TheVariants.{Slice, Space}
+use Rattle.gq_model.specs.declared.program.Form.TheVariants.{Space}
 use Rattle.gq_model.specs.declared.program.Section.{Section}
 use Rattle.gq_model.specs.declared.program.Section.TheVariants.{Main, Opening, Upgrading, Calling, Closing}
 use Rattle.gq_model.specs.declared.phase.Phase.{Phase}
 use Rattle.gq_model.specs.declared.phase.Phase.TheVariants.{Blocked}
-use Rattle.gq_model.specs.Scenario.{Interface, System, Component, interface_in, service_in, number_of}
-use Rattle.gq_model.specs.World.{Slot, Empty, Bytes, Pool, Link, Waiting, Spot, In_session, Session, Hand, Leaf, World, session_at, slot_at, session_slot}
+use Rattle.gq_model.specs.Scenario.{System, Component, interface_in, number_of}
+use Rattle.gq_model.specs.World.{Slot, Empty, Bytes, Pool, Link, Waiting, Spot, In_session, Session, Hand, World, session_at, slot_at, session_slot}
 use Rattle.gq_model.specs.Memory.{room, buffer_of}
 use Rattle.gq_model.specs.Doing.{Doing}
-use Rattle.gq_model.specs.Kinds.{Kind, Empty_kind, Memory, Pool_kind, Link_kind, Context, Subject, no_kinds}
-use Rattle.gq_model.specs.Flow.{bank_at, context}
+use Rattle.gq_model.specs.Kinds.{Kind, Memory, Pool_kind, Link_kind, no_kinds}
+use Rattle.gq_model.specs.Flow.{bank_at}
 use Rattle.gq_model.specs.Use.{subject}
-use Rattle.gq_model.specs.Verdict.{program_fault}
-use Rattle.gq_model.specs.Kept.{section_at_hand, section_asked, kind_replied, within, bank_kinds}
-use Rattle.gq_laws.specs.Links.{Naming, Leads, Waits, named, naming, naming_in, stance_in, stance, outline, outline_in, at_hand, pending_of, links, IsLinkedWorld}
+use Rattle.gq_model.specs.Kept.{section_asked}
+use Rattle.gq_laws.specs.Links.{Naming, Leads, Waits, named, naming_in, stance_in, stance, outline, outline_in, pending_of, links, IsLinkedWorld}
 use Rattle.gq_laws.specs.Typed.{IsKind, AreKinds, IsLinkKind, PromisesLinks, HasBuffer, SharesBuffers}
-use Rattle.gq_laws.specs.Statements.{Takes, IsAwake, Grants}
+use Rattle.gq_laws.specs.Statements.{Takes, Grants}
 use Rattle.gq_laws.specs.Asking.{TellsLinks}
-use Rattle.gq_laws.specs.Typing.{kind_then, Tells, section_of, FitsService, IsTypedBy}
+use Rattle.gq_laws.specs.Typing.{kind_then, Tells, IsTypedBy}
 use Rattle.gq_laws.proofs.Linking.{some_same, none_some}
 use Rattle.gq_laws.proofs.Statement_slots.{kinds_get}
 use Rattle.gq_laws.proofs.Statement_awake.{is_awake}
 use Rattle.gq_laws.proofs.Typed_worlds.{none_asked, hand_none}
+use Rattle.gq_laws.proofs.Accepted_programs.{buffer_at}
 use Rattle.gq_laws.proofs.Sure.{IsSure}
 
 pub session_of_outline : (o : Option Session) (u : Session) → outline_in o ≡ Some u → (s : Session) × (o ≡ Some s) × (outline s ≡ u)
@@ -89,8 +89,7 @@ module _ (promised : ℕ → Option Kind) (system : System) (w : World) (h : IsL
 
 -- SESSIONS AT REST
 
-module _ (promised : ℕ → Option Kind) (system : System) (sure : IsSure system) (w : World) (h : IsLinkedWorld system w) (t : IsTypedBy promised system w)
-    (buffer_at : (v : Subject) (i : Interface) (level : ℕ) → program_fault v ≡ None → v.provided ≡ Some i → length i.upgrades ≤ 3 → 0 < i.buffer → level ≤ length i.upgrades → slice_get (bank_at v level) 0 ≡ Some (Memory Space i.buffer)) where
+module _ (promised : ℕ → Option Kind) (system : System) (sure : IsSure system) (w : World) (h : IsLinkedWorld system w) (t : IsTypedBy promised system w) where
   -- a slot of the kind of memory holds it
   space_there : (k n : ℕ) (slot : Slot) → slot_at w (In_session k 0) ≡ Some slot → IsKind promised slot (Memory Space n) → (bytes : List ℕ) × (slot ≡ Bytes Space n bytes) × IsKind promised (Bytes Space n bytes) (Memory Space n)
   space_there k n Empty there is = absurd cc
@@ -159,13 +158,12 @@ pub stood : (d : Doing) → Takes d → (links d.world).stances d.x ≡ Some (st
 stood d takes = ap stance_in takes.there ∙ (ap (λ p. Some (stance p takes.old.hand)) (sym takes.phase) ∙ ap (λ o. Some (stance d.leaf.phase o)) (sym takes.hand))
 
 pub grants : (promised : ℕ → Option Kind) (d : Doing) → IsSure d.system → IsLinkedWorld d.system d.world → IsTypedBy promised d.system d.world
-    → ((v : Subject) (i : Interface) (level : ℕ) → program_fault v ≡ None → v.provided ≡ Some i → length i.upgrades ≤ 3 → 0 < i.buffer → level ≤ length i.upgrades → slice_get (bank_at v level) 0 ≡ Some (Memory Space i.buffer))
     → (section : Section) (counts : List ℕ) → Takes d → d.leaf.phase ≢ Blocked → slice_get d.system.components d.x ≡ Some d.component → Grants promised (record { subject = subject d.system d.component; section = section; counts = counts }) d
-grants promised d sure h t buffer_at section counts takes awake at =
+grants promised d sure h t section counts takes awake at =
     record {
       interfaces = refl;
-      provided = λ hand s is there. (provided_at_hand promised d.system sure d.world h t buffer_at d.x d.component d.leaf.phase d.leaf.hand at (stood d takes) hand s is there).1;
+      provided = λ hand s is there. (provided_at_hand promised d.system sure d.world h t d.x d.component d.leaf.phase d.leaf.hand at (stood d takes) hand s is there).1;
       links = promises_links promised d.system d.world h t.tells;
-      buffers = shares_buffers promised d.system sure d.world h t buffer_at;
+      buffers = shares_buffers promised d.system sure d.world h t;
       awake = is_awake d takes h awake;
     }

@@ -1,28 +1,25 @@
 -- The end of a section for a session keeps worlds typed: its server waits for a request, and its client goes on with the reply.
-use Rattle.std.proofs.Common.{◌≡◌, ◌≢◌, ◌≤◌, ◌+◌, ◌==◌, ◌⊎◌, ℕ, zero, suc, inl, inr, cond, Bool, true, false, List, [], ◌∷◌, length, Option, Some, None, Ok, refl, ap, sym, ◌∙◌, subst, arith}
+use Rattle.std.proofs.Common.{◌≡◌, ◌≢◌, ◌≤◌, ◌==◌, ℕ, inl, inr, cond, Bool, true, false, length, Option, Some, None, Ok, refl, ap, sym, ◌∙◌, subst, arith}
 use Rattle.std.specs.Prelude.{slice_get, slice_set}
 use Rattle.std.proofs.lemmas.Bool.Decides.{eqb_tells}
 use Rattle.gq_model.specs.Lists.{or_first}
 use Rattle.gq_model.specs.declared.program.Form.TheVariants.{Slice}
 use Rattle.gq_model.specs.declared.program.Section.{Section}
 use Rattle.gq_model.specs.declared.program.Section.TheVariants.{Main, Opening, Upgrading, Calling, Closing}
-use Rattle.gq_model.specs.declared.phase.Phase.{Phase}
-use Rattle.gq_model.specs.declared.phase.Phase.TheVariants.{Running, Blocked, Serving, Handling}
-use Rattle.gq_model.specs.Program.{Statements, section_in}
-use Rattle.gq_model.specs.Code.{is_section}
-use Rattle.gq_model.specs.Scenario.{System, Component, interface_in, number_of}
+use Rattle.gq_model.specs.declared.phase.Phase.TheVariants.{Blocked, Handling}
+use Rattle.gq_model.specs.Scenario.{Component, interface_in, number_of}
 use Rattle.gq_model.specs.World.{Slot, Spot, In_leaf, In_session, In_object, Session, Request, Hand, Leaf, World, session_at}
 use Rattle.gq_model.specs.Doing.{Doing, Event}
 use Rattle.gq_model.specs.Step.{section_for, serving, resumed, section_ended}
-use Rattle.gq_model.specs.Kinds.{Kind, Memory, Link_kind, State, Context, Subject, in_main, no_kinds}
-use Rattle.gq_model.specs.Flow.{flow, context, body, start_of, own_after, bank_at, section_end}
+use Rattle.gq_model.specs.Kinds.{Kind, Memory, Link_kind, State, Context, Subject, no_kinds}
+use Rattle.gq_model.specs.Flow.{context, own_after, bank_at, section_end}
 use Rattle.gq_model.specs.Use.{subject}
 use Rattle.gq_model.specs.Verdict.{is_wanted}
-use Rattle.gq_model.specs.Kept.{level_then, section_if, section_waiting, section_at_hand, section_asked, kind_replied, within, Continues, bank_kinds}
+use Rattle.gq_model.specs.Kept.{level_then, section_if, section_at_hand, section_asked, kind_replied, within, bank_kinds}
 use Rattle.gq_laws.specs.Shapes.{Each}
-use Rattle.gq_laws.specs.Links.{Leads, Waits, naming_in, one_if, requests_of, at_hand, IsAt, Handles, stance_in, Stance, stance, outline, outline_in, pending_of, Links, links, IsLinkedWorld}
+use Rattle.gq_laws.specs.Links.{Waits, naming_in, one_if, requests_of, at_hand, IsAt, Handles, stance, outline, outline_in, Links, links, IsLinkedWorld}
 use Rattle.gq_laws.specs.Typed.{IsKind, AreKinds, Meets}
-use Rattle.gq_laws.specs.Statements.{Takes, bare, IsElse}
+use Rattle.gq_laws.specs.Statements.{Takes, bare}
 use Rattle.gq_laws.specs.Asking.{IsWithin}
 use Rattle.gq_laws.specs.Replies.{HasEnded, Replies, Resumes, session_replied, bank_then, session_then, slot_replied, own_then, resuming, once_replied}
 use Rattle.gq_laws.specs.Typing.{kind_then, section_of, IsAwaited, IsInSection, StandsBy, RestsAt, FitsService, FitsRequest, IsTypedBy}
@@ -32,7 +29,7 @@ use Rattle.gq_laws.proofs.Reply_worlds.{replies_ruled}
 use Rattle.gq_laws.proofs.Reply_stands.{resumes_ruled}
 use Rattle.gq_laws.proofs.Sure.{IsSure}
 use Rattle.gq_laws.proofs.Typed_worlds.{kind_same, asked_same, waiting_none, none_asked, if_here, stands_else}
-use Rattle.gq_laws.proofs.Typed_links.{session_of_outline, stood}
+use Rattle.gq_laws.proofs.Typed_links.{stood}
 use Rattle.gq_laws.proofs.Typed_inside.{IsActive, stands_active, hand_else}
 
 -- a section of a session that stays open leaves its slots so at this level
@@ -93,7 +90,7 @@ module _ (promised : ℕ → Option Kind) (d : Doing) (sure : IsSure d.system) (
   its_accepted : s.accepted ≡ true
   its_accepted = ap (λ (s : Session). s.accepted) (sym outlined) ∙ handled.3
 
-  its_level : IsAt g.section s.level
+  pub its_level : IsAt g.section s.level
   its_level = subst (λ (s : Session). IsAt g.section s.level) outlined handled.4
 
   one_at_hand : at_hand k (L.stances s.server) ≡ 1
@@ -258,11 +255,11 @@ module _ (promised : ℕ → Option Kind) (d : Doing) (sure : IsSure d.system) (
           known = f.known;
           level = f.level;
           rests = λ server placed none.
-            let component : server ≡ d.component = some_same (sym placed ∙ (ap (slice_get d.system.components) its_server ∙ at)) in
-            subst (λ c. RestsAt promised d.system c s) (sym component) (record {
-              bank = subst (λ b. AreKinds promised s.slots (cond b (bank_at v s.level) no_kinds)) (sym its_accepted) (subst (AreKinds promised s.slots) e.2 r.bank.slots);
-              object = λ accepted. r.bank.object;
-            });
+              let component : server ≡ d.component = some_same (sym placed ∙ (ap (slice_get d.system.components) its_server ∙ at)) in
+              subst (λ c. RestsAt promised d.system c s) (sym component) (record {
+                bank = subst (λ b. AreKinds promised s.slots (cond b (bank_at v s.level) no_kinds)) (sym its_accepted) (subst (AreKinds promised s.slots) e.2 r.bank.slots);
+                object = λ accepted. r.bank.object;
+              });
         })
 
     session_fits : (j : ℕ) (u : Session) → session_at w j ≡ Some u → FitsService promised d.system w j u
@@ -280,13 +277,13 @@ module _ (promised : ℕ → Option Kind) (d : Doing) (sure : IsSure d.system) (
               known = subst (λ u. interface_in u.service d.system.interfaces ≡ Some f.interface) (sym b.2) f.known;
               level = subst (λ u. u.level ≤ length f.interface.upgrades) (sym b.2) f.level;
               rests = λ server placed none.
-                let was = sym (hand_same j b.0.server ne) ∙ (ap (λ u. section_at_hand j (slice_get w.leaves u.server)) (sym b.2) ∙ none) in
-                let o = f.rests server (ap (λ u. slice_get d.system.components u.server) (sym b.2) ∙ placed) was in
-                let n = z.sessions j b.0 (bank_kinds d.system server b.0) ne b.1 o.bank in
-                record {
-                  bank = subst (λ x. AreKinds promised u.slots (bank_kinds d.system server x)) (sym b.2) (subst (λ x. AreKinds promised x.slots (bank_kinds d.system server b.0)) (some_same (sym n.1 ∙ there)) n.4);
-                  object = λ accepted. subst (λ slot. IsKind promised slot (Memory Slice (number_of (subject d.system server).provided (λ i. i.object)))) (sym b.3) (o.object (ap (λ u. u.accepted) (sym b.2) ∙ accepted));
-                };
+                  let was = sym (hand_same j b.0.server ne) ∙ (ap (λ u. section_at_hand j (slice_get w.leaves u.server)) (sym b.2) ∙ none) in
+                  let o = f.rests server (ap (λ u. slice_get d.system.components u.server) (sym b.2) ∙ placed) was in
+                  let n = z.sessions j b.0 (bank_kinds d.system server b.0) ne b.1 o.bank in
+                  record {
+                    bank = subst (λ x. AreKinds promised u.slots (bank_kinds d.system server x)) (sym b.2) (subst (λ x. AreKinds promised x.slots (bank_kinds d.system server b.0)) (some_same (sym n.1 ∙ there)) n.4);
+                    object = λ accepted. subst (λ slot. IsKind promised slot (Memory Slice (number_of (subject d.system server).provided (λ i. i.object)))) (sym b.3) (o.object (ap (λ u. u.accepted) (sym b.2) ∙ accepted));
+                  };
             }
 
     request_fits : (q : Request) → FitsRequest d.system d.world q → FitsRequest d.system w q

@@ -1,5 +1,5 @@
 -- What is promised of sessions, and how leaves stand, from one world to another.
-use Rattle.std.proofs.Common.{◌≡◌, ◌≢◌, ℕ, ◌+◌, ◌==◌, cond, Bool, true, false, List, [], ◌∷◌, Option, Some, None, refl, ap, sym, ◌∙◌, subst, arith}
+use Rattle.std.proofs.Common.{◌≡◌, ℕ, ◌+◌, ◌==◌, cond, Bool, true, false, List, [], ◌∷◌, Option, Some, None, refl, ap, sym, ◌∙◌, arith}
 use Rattle.std.specs.Prelude.{slice_get}
 use Rattle.gq_model.specs.Lists.{or_first}
 use Rattle.gq_model.specs.declared.program.Section.{Section}
@@ -7,13 +7,13 @@ use Rattle.gq_model.specs.declared.program.Section.TheVariants.{Main, Opening, U
 use Rattle.gq_model.specs.declared.phase.Phase.{Phase}
 use Rattle.gq_model.specs.declared.phase.Phase.TheVariants.{Pending, Running, Blocked, Serving, Handling, Exited}
 use Rattle.gq_model.specs.Scenario.{System, Component}
-use Rattle.gq_model.specs.World.{Session, Request, Hand, Leaf, World, session_at}
+use Rattle.gq_model.specs.World.{Session, Request, Hand, Leaf, World}
 use Rattle.gq_model.specs.Step.{section_for}
 use Rattle.gq_model.specs.Kinds.{Kind, State, Context}
 use Rattle.gq_model.specs.Flow.{own_after}
 use Rattle.gq_model.specs.Use.{subject}
-use Rattle.gq_model.specs.Kept.{level_then, section_waiting, section_if, section_at_hand, section_asked, kind_replied}
-use Rattle.gq_laws.specs.Links.{one_if, requests_of, by_hand, at_hand, stance_in, links, outline, outline_in, pending_of}
+use Rattle.gq_model.specs.Kept.{level_then, section_waiting, section_if, section_at_hand, section_asked}
+use Rattle.gq_laws.specs.Links.{one_if, requests_of, by_hand, at_hand, stance_in, links, pending_of}
 use Rattle.gq_laws.specs.Typed.{AreKinds, Meets}
 use Rattle.gq_laws.specs.Statements.{bare}
 use Rattle.gq_laws.specs.Typing.{kind_then, section_of, IsAwaited, GoesOnFrom, IsInSection, StandsBy}

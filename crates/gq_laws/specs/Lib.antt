@@ -10,5 +10,6 @@ pub mod Asking
 pub mod Sections
 pub mod Replies
 pub mod Left
+pub mod Moves
 pub mod Sound
 pub mod Typing

@@ -1,5 +1,5 @@
 -- Worlds in which each leaf stands where the rules say, and each session with its slots as its last section left them.
-use Rattle.std.specs.Prelude.{◌≡◌, ◌≤◌, true, ℕ, List, length, replicate, Option, Some, None, Ok, slice_get}
+use Rattle.std.specs.Prelude.{◌≡◌, ◌≤◌, true, ℕ, length, replicate, Option, Some, None, Ok, slice_get}
 use Rattle.gq_model.specs.declared.program.Form.TheVariants.{Slice}
 use Rattle.gq_model.specs.declared.program.Section.{Section}
 use Rattle.gq_model.specs.declared.program.Section.TheVariants.{Main}
@@ -9,7 +9,7 @@ use Rattle.gq_model.specs.Program.{Statements, section_in}
 use Rattle.gq_model.specs.Scenario.{Interface, System, Component, interface_in, number_of}
 use Rattle.gq_model.specs.World.{Empty, Session, Request, Hand, Leaf, World, session_at}
 use Rattle.gq_model.specs.Step.{section_for}
-use Rattle.gq_model.specs.Kinds.{Kind, Memory, Link_kind, State, Subject}
+use Rattle.gq_model.specs.Kinds.{Kind, Memory, Link_kind, State}
 use Rattle.gq_model.specs.Flow.{flow, context, body, start_of, own_after}
 use Rattle.gq_model.specs.Kept.{level_then, section_at_hand, section_asked, kind_replied, within, Continues, bank_kinds}
 use Rattle.gq_model.specs.Verdict.{is_wanted}

@@ -1,0 +1,169 @@
+-- The end of `main` keeps worlds typed: the leaf serves from now on, or has exited and releases those that wait for it.
+use Rattle.std.proofs.Common.{◌≡◌, ◌≢◌, ℕ, zero, suc, inl, inr, cond, Bool, true, false, List, [], ◌∷◌, Option, Some, None, Ok, refl, ap, sym, ◌∙◌, subst}
+use Rattle.std.specs.Prelude.{slice_get}
+use Rattle.std.proofs.lemmas.Bool.Decides.{eqb_tells}
+use Rattle.gq_model.specs.Lists.{or_first}
+use Rattle.gq_model.specs.declared.program.Section.TheVariants.{Main}
+use Rattle.gq_model.specs.declared.phase.Phase.{Phase}
+use Rattle.gq_model.specs.declared.phase.Phase.TheVariants.{Pending, Running, Blocked, Serving, Handling, Exited}
+use Rattle.gq_model.specs.Scenario.{System, Component}
+use Rattle.gq_model.specs.World.{Session, Hand, Leaf, World, session_at}
+use Rattle.gq_model.specs.Doing.{Doing, Event, Quiet, Finished, standing}
+use Rattle.gq_model.specs.Step.{is_name, released, all_released, exited, exit_of, serving, main_ended}
+use Rattle.gq_model.specs.Kinds.{Kind, State, Context, Subject}
+use Rattle.gq_model.specs.Flow.{flow, context, body, start_of, section_end, state_or, own_after}
+use Rattle.gq_model.specs.Use.{subject}
+use Rattle.gq_model.specs.Kept.{section_waiting, section_if, section_at_hand, section_asked}
+use Rattle.gq_laws.specs.Shapes.{Each}
+use Rattle.gq_laws.specs.Links.{IsLinkedWorld}
+use Rattle.gq_laws.specs.Typed.{AreKinds, HandMeets, Meets}
+use Rattle.gq_laws.specs.Statements.{Takes}
+use Rattle.gq_laws.specs.Typing.{kind_then, section_of, IsAwaited, IsInSection, StandsBy, StandAll, FitsService, FitsRequest, IsTypedBy}
+use Rattle.gq_laws.proofs.Endings.{Ends, gives, when_ends}
+use Rattle.gq_laws.proofs.Linking.{some_same, none_some}
+use Rattle.gq_laws.proofs.Link_events.{each_map}
+use Rattle.gq_laws.proofs.Link_worlds.{set_here, set_else}
+use Rattle.gq_laws.proofs.Typed_worlds.{stands_else}
+use Rattle.gq_laws.proofs.Sure.{IsSure}
+
+-- WORLDS WITH THE SAME SESSIONS, REQUESTS AND HANDS
+
+pub record SameHands (v w : World) : Type 0 where
+  pub sessions : (k : ℕ) → session_at w k ≡ session_at v k
+  pub requests : w.requests ≡ v.requests
+  pub hands : (k y : ℕ) → section_at_hand k (slice_get w.leaves y) ≡ section_at_hand k (slice_get v.leaves y)
+
+module _ (promised : ℕ → Option Kind) (system : System) (v w : World) (same : SameHands v w) where
+  asked_same : (k : ℕ) (s : Session) → section_asked w k s ≡ section_asked v k s
+  asked_same k s =
+      ap (λ rs. or_first (section_waiting k s rs) (section_at_hand k (slice_get w.leaves s.server))) same.requests
+      ∙ ap (or_first (section_waiting k s v.requests)) (same.hands k s.server)
+
+  awaited_same : (y : ℕ) (state next : State) → IsAwaited system v y state next → IsAwaited system w y state next
+  awaited_same y state next u = record { k = u.k; session = u.session; section = u.section; there = same.sessions u.k ∙ u.there; client = u.client; asked = asked_same u.k u.session ∙ u.asked; is = u.is }
+
+  bank_same : (c : Context) (kinds : List Kind) (hand : Option Hand) → HandMeets promised c kinds v hand → HandMeets promised c kinds w hand
+  bank_same c kinds None m = tt
+  bank_same c kinds (Some g) m = (m.0, same.sessions g.session ∙ m.1, m.2)
+
+  meets_same : (leaf : Leaf) (c : Context) (state : State) → Meets promised c state v leaf → Meets promised c state w leaf
+  meets_same leaf c state m = record { own = m.own; hand = m.hand; bank = bank_same c state.bank leaf.hand m.bank; operands = m.operands; locals = m.locals; loops = m.loops }
+
+  -- a leaf that is the same stands where it stood
+  pub stands_same : (y : ℕ) (c : Component) (leaf : Leaf) (phase : Phase) → StandsBy promised system v y c leaf phase → StandsBy promised system w y c leaf phase
+  stands_same y c leaf phase h = stands_else promised promised system v w y c leaf (meets_same leaf) (λ ks m. m) (awaited_same y) phase h
+
+  session_same : IsTypedBy promised system v → (k : ℕ) (s : Session) → session_at w k ≡ Some s → FitsService promised system w k s
+  session_same t k s there =
+      let f = t.sessions k s (sym (same.sessions k) ∙ there) in
+      record { interface = f.interface; known = f.known; level = f.level; rests = λ server placed none. f.rests server placed (sym (same.hands k s.server) ∙ none) }
+
+  -- where each leaf stands by the rules, the world is typed
+  pub same_typed : IsTypedBy promised system v → StandAll promised system w → IsTypedBy promised system w
+  same_typed t leaves =
+      record {
+        tells = λ k s there. t.tells k s (sym (same.sessions k) ∙ there) ∙ ap (λ o. Some (kind_then s o)) (sym (asked_same k s));
+        leaves = leaves;
+        sessions = session_same t;
+        requests = subst (λ rs. Each (FitsRequest system w) rs) (sym same.requests) (each_map (FitsRequest system v) (FitsRequest system w) (λ r f s there. f s (sym (same.sessions r.session) ∙ there)) v.requests t.requests);
+      }
+
+-- LEAVES THAT ARE RELEASED
+
+released_hand : (name : List ℕ) (cs : List Component) (leaves : List Leaf) (k y : ℕ) → section_at_hand k (slice_get (all_released name cs leaves) y) ≡ section_at_hand k (slice_get leaves y)
+released_hand name [] leaves k y = refl
+released_hand name (c ∷ cs) [] k y = refl
+released_hand name (c ∷ cs) (leaf ∷ leaves) k zero = refl
+released_hand name (c ∷ cs) (leaf ∷ leaves) k (suc y) = released_hand name cs leaves k y
+
+-- a leaf that is there was there, in a phase from which it was released, if it waited for this name
+released_there : (name : List ℕ) (cs : List Component) (leaves : List Leaf) (y : ℕ) (c : Component) (leaf : Leaf) → slice_get cs y ≡ Some c → slice_get (all_released name cs leaves) y ≡ Some leaf
+    → (old : Leaf) × (slice_get leaves y ≡ Some old) × (leaf ≡ record old { phase = released name c.node.after old.phase })
+released_there name [] leaves y c leaf placed there = absurd (none_some placed)
+released_there name (b ∷ cs) [] y c leaf placed there = absurd (none_some there)
+released_there name (b ∷ cs) (old ∷ leaves) zero c leaf placed there = (old, refl, sym (some_same there) ∙ ap (λ c. record old { phase = released name c.node.after old.phase }) (some_same placed))
+released_there name (b ∷ cs) (old ∷ leaves) (suc y) c leaf placed there = released_there name cs leaves y c leaf placed there
+
+module _ (promised : ℕ → Option Kind) (system : System) (w : World) (y : ℕ) (c : Component) (old : Leaf) (p : Phase) where
+  abbrev new : Leaf
+  new = record old { phase = p }
+
+  meets_new : (e : Context) (state : State) → Meets promised e state w old → Meets promised e state w new
+  meets_new e state m = record { own = m.own; hand = m.hand; bank = m.bank; operands = m.operands; locals = m.locals; loops = m.loops }
+
+  pending_new : (b : Bool) → IsInSection promised system w y c old Pending (section_of old.hand) → StandsBy promised system w y c new (cond b Running Pending)
+  pending_new true h = record { state = h.state; next = h.next; end = h.end; meets = meets_new _ h.state h.meets; from = h.from; goes_on = h.goes_on; whole = h.whole; listed = h.listed }
+  pending_new false h = record { state = h.state; next = h.next; end = h.end; meets = meets_new _ h.state h.meets; from = h.from; goes_on = h.goes_on; whole = h.whole; listed = h.listed }
+
+  -- a leaf stands where it stood, also once it is released
+  released_stands : (name : List ℕ) (after : Option (List ℕ)) (phase : Phase) → StandsBy promised system w y c old phase → StandsBy promised system w y c new (released name after phase)
+  released_stands name after Pending h = pending_new (is_name name after) h
+  released_stands name after Running h = record { state = h.state; next = h.next; end = h.end; meets = meets_new _ h.state h.meets; from = h.from; goes_on = h.goes_on; whole = h.whole; listed = h.listed }
+  released_stands name after Blocked h = record { state = h.state; next = h.next; end = h.end; meets = meets_new _ h.state h.meets; from = h.from; goes_on = h.goes_on; whole = h.whole; listed = h.listed }
+  released_stands name after Serving h = h
+  released_stands name after Handling h = record { state = h.state; next = h.next; end = h.end; meets = meets_new _ h.state h.meets; from = h.from; goes_on = h.goes_on; whole = h.whole; listed = h.listed }
+  released_stands name after Exited h = h
+
+-- THE END OF `main`
+
+-- at its end the own bank is as `main` leaves it
+pub main_own : (v : Subject) (end : State) → flow (context v Main) (start_of v Main) (body v Main) ≡ Ok end → end.own ≡ own_after v
+main_own v end e = sym (ap (λ f. (state_or (start_of v Main) f).own) e)
+
+module _ (promised : ℕ → Option Kind) (d : Doing) (takes : Takes d) (t : IsTypedBy promised d.system d.world) (at : slice_get d.system.components d.x ≡ Some d.component) (free : d.leaf.hand ≡ None) where
+  abbrev v : Subject
+  v = subject d.system d.component
+
+  -- the hands are the same, where the leaf's is
+  standing_hands : (leaf : Leaf) → leaf.hand ≡ None → (k y : ℕ) → section_at_hand k (slice_get (standing d leaf).leaves y) ≡ section_at_hand k (slice_get d.world.leaves y)
+  standing_hands leaf none k y =
+      elim (eqb_tells y d.x) [
+        | inl f ↦ (ap (λ y. section_at_hand k (slice_get (standing d leaf).leaves y)) f.1 ∙ (ap (section_at_hand k) (set_here d.world.leaves d.x leaf takes.old takes.there) ∙ (ap (section_if k) (none ∙ (sym free ∙ takes.hand)) ∙ (sym (ap (section_at_hand k) takes.there) ∙ ap (λ y. section_at_hand k (slice_get d.world.leaves y)) (sym f.1)))))
+        | inr f ↦ ap (section_at_hand k) (set_else d.world.leaves d.x y leaf f.1)
+      ]
+
+  serving_same : SameHands d.world (standing d (serving d.leaf))
+  serving_same = record { sessions = λ k. refl; requests = refl; hands = standing_hands (serving d.leaf) refl }
+
+  exit_same : SameHands d.world (exit_of d)
+  exit_same = record { sessions = λ k. refl; requests = refl; hands = λ k y. released_hand d.component.node.name d.system.components (standing d (exited d.leaf)).leaves k y ∙ standing_hands (exited d.leaf) free k y }
+
+  -- a fact of each leaf that is there then, where one leaf is anew
+  module _ (leaf : Leaf) where
+    leaf_then : (y : ℕ) (found : Leaf) → slice_get (standing d leaf).leaves y ≡ Some found → y ≡ d.x → found ≡ leaf
+    leaf_then y found there e = some_same (sym there ∙ (ap (slice_get (standing d leaf).leaves) e ∙ set_here d.world.leaves d.x leaf takes.old takes.there))
+
+    leaf_before : (y : ℕ) (found : Leaf) → slice_get (standing d leaf).leaves y ≡ Some found → y ≢ d.x → slice_get d.world.leaves y ≡ Some found
+    leaf_before y found there ne = sym (set_else d.world.leaves d.x y leaf ne) ∙ there
+
+  component_is : (y : ℕ) (c : Component) → slice_get d.system.components y ≡ Some c → y ≡ d.x → d.component ≡ c
+  component_is y c placed e = some_same (sym at ∙ (ap (slice_get d.system.components) (sym e) ∙ placed))
+
+  serving_stands : AreKinds promised d.leaf.slots (own_after v) → StandAll promised d.system (standing d (serving d.leaf))
+  serving_stands own y c leaf placed there =
+      elim (eqb_tells y d.x) [
+        | inl f ↦ subst (λ l. StandsBy promised d.system (standing d (serving d.leaf)) y c l l.phase) (sym (leaf_then (serving d.leaf) y leaf there f.1)) (subst (λ c. AreKinds promised d.leaf.slots (own_after (subject d.system c))) (component_is y c placed f.1) own)
+        | inr f ↦ stands_same promised d.system d.world (standing d (serving d.leaf)) serving_same y c leaf leaf.phase (t.leaves y c leaf placed (leaf_before (serving d.leaf) y leaf there f.1))
+      ]
+
+  exit_stands : StandAll promised d.system (exit_of d)
+  exit_stands y c leaf placed there =
+      let name = d.component.node.name in
+      let o = released_there name d.system.components (standing d (exited d.leaf)).leaves y c leaf placed there in
+      subst (λ l. StandsBy promised d.system (exit_of d) y c l l.phase) (sym o.2)
+      (elim (eqb_tells y d.x) [
+        | inl f ↦ subst (λ (u : Leaf). StandsBy promised d.system (exit_of d) y c (record u { phase = released name c.node.after u.phase }) (released name c.node.after u.phase)) (sym (leaf_then (exited d.leaf) y o.0 o.1 f.1)) refl
+        | inr f ↦ released_stands promised d.system (exit_of d) y c o.0 (released name c.node.after o.0.phase) name c.node.after o.0.phase
+            (stands_same promised d.system d.world (exit_of d) exit_same y c o.0 o.0.phase (t.leaves y c o.0 placed (leaf_before (exited d.leaf) y o.0 o.1 f.1)))
+      ])
+
+  main_ends : AreKinds promised d.leaf.slots (own_after v) → (provides : Option (List ℕ)) → Ends (IsTypedBy promised d.system) (main_ended d provides)
+  main_ends own (Some service) = gives _ Quiet (same_typed promised d.system d.world (standing d (serving d.leaf)) serving_same t (serving_stands own))
+  main_ends own None = when_ends (IsTypedBy promised d.system) _ _ _ (gives (exit_of d) Finished (same_typed promised d.system d.world (exit_of d) exit_same t exit_stands))
+
+pub main_typed : (promised : ℕ → Option Kind) (d : Doing) → IsSure d.system → Takes d → IsLinkedWorld d.system d.world → IsTypedBy promised d.system d.world → slice_get d.system.components d.x ≡ Some d.component → d.leaf.phase ≡ Running → d.leaf.hand ≡ None
+    → (end last : State) → Meets promised (context (subject d.system d.component) Main) end d.world d.leaf → flow (context (subject d.system d.component) Main) (start_of (subject d.system d.component) Main) (body (subject d.system d.component) Main) ≡ Ok end → section_end (subject d.system d.component) Main end ≡ Ok last
+    → (own_main : (v : Subject) (end : State) → flow (context v Main) (start_of v Main) (body v Main) ≡ Ok end → end.own ≡ own_after v)
+    → (w : World) (event : Event) → main_ended d d.component.node.provides ≡ Ok (w, event) → IsTypedBy promised d.system w
+main_typed promised d sure takes h t at runs free end last m whole ends own_main w event e =
+    (main_ends promised d takes t at free (subst (AreKinds promised d.leaf.slots) (own_main (subject d.system d.component) end whole) m.own) d.component.node.provides).holds w event e
