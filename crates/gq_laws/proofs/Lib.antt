@@ -27,6 +27,9 @@ pub mod Places
 pub mod Quanta
 pub mod Quanta_kept
 pub mod Totals
+pub mod Uncounted
+pub mod Number_sums
+pub mod Donations
 pub mod Loops
 pub mod Flow_banks
 pub mod Accepted_programs

@@ -11,5 +11,7 @@ pub mod Sections
 pub mod Replies
 pub mod Left
 pub mod Moves
+pub mod Uncounted
+pub mod Lending
 pub mod Sound
 pub mod Typing
