@@ -52,6 +52,10 @@ pub mod Reply_worlds
 pub mod Reply_stands
 pub mod Left_worlds
 pub mod Left_programs
+pub mod Move_cases
+pub mod Left_costs
+pub mod Left_points
+pub mod Left_requests
 pub mod Typed_worlds
 pub mod Sure
 pub mod Sound_systems

@@ -127,5 +127,5 @@ grants = record { interfaces = refl; provided = λ hand s e. absurd (none_some e
     running e = cc
 
 -- so the client's step, which stores a byte, is not wrong but for want of quota, and leads on
-goes : IsSafe (LeadsOn promised c end d) (perform d client.todo)
+goes : IsSafe (LeadsOn promised c state end d) (perform d client.todo)
 goes = leads_on promised c d takes grants state end (tt, refl) meets (end, refl, refl)

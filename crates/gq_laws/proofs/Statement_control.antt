@@ -1,5 +1,5 @@
 -- Statements, choices and rounds inside a section lead on by the rules, and only want of quota stops them.
-use Rattle.std.proofs.Common.{◌≡◌, ℕ, zero, suc, ◌<◌, nat_lt, Bool, true, false, cond, List, [], ◌∷◌, Option, Some, None, Ok, refl, ap, sym, subst}
+use Rattle.std.proofs.Common.{◌≡◌, ℕ, zero, suc, ◌<◌, ◌⊎◌, inl, inr, nat_lt, Bool, true, false, cond, List, [], ◌∷◌, Option, Some, None, Ok, refl, ap, sym, subst}
 use Rattle.std.proofs.lemmas.Bool.{ltb-true}
 use Rattle.gq_model.specs.Program.{Statements, Done, Do, If, Loop, ◌then◌}
 use Rattle.gq_model.specs.declared.program.Instruction.{Instruction}
@@ -12,6 +12,7 @@ use Rattle.gq_model.specs.Rules.{judged}
 use Rattle.gq_model.specs.Flow.{flow, at, later, none_left}
 use Rattle.gq_model.specs.Kept.{Under, counts_of, within, Continues}
 use Rattle.gq_laws.proofs.Loops.{then_ok, at_ok, later_ok, none_left_ok, if_ok, loop_enters, loop_again, loop_leaves}
+use Rattle.gq_laws.specs.Moves.{Moves, Does, Chooses, Enters, Repeats, Leaves}
 use Rattle.gq_laws.specs.Typed.{AreKinds, AreCounts, HandMeets, Meets}
 use Rattle.gq_laws.specs.Statements.{IsSafe, Takes, Grants, LeadsOn, IsInside, LeadsAsRuled}
 use Rattle.gq_laws.proofs.Link_worlds.{set_here}
@@ -32,20 +33,25 @@ chosen_flows : (c : Context) (s u : State) (arm other rest : Statements) (a : �
 chosen_flows c s u arm other rest zero e f = f
 chosen_flows c s u arm other rest (suc n) e f = e
 
+either : (a : ℕ) (arm other rest : Statements) → ((chosen a arm other then rest) ≡ (arm then rest)) ⊎ ((chosen a arm other then rest) ≡ (other then rest))
+either zero arm other rest = inr refl
+either (suc n) arm other rest = inl refl
+
 module _ (promised : ℕ → Option Kind) (c : Context) (d : Doing) (t : Takes d) (g : Grants promised c d) (state end : State) (h : Meets promised (within c d.leaf.loops) state d.world d.leaf) where
   Leads : Stepped → Type 0
-  Leads r = IsSafe (LeadsOn promised c end d) r
+  Leads r = IsSafe (LeadsOn promised c state end d) r
 
   -- the leaf goes on with other statements
-  leads : (new : State) (leaf : Leaf) → Meets promised (within c leaf.loops) new d.world leaf → Continues c new leaf.todo leaf.loops end → leaf.hand ≡ d.leaf.hand → leaf.phase ≡ d.leaf.phase → Leads (Ok (standing d leaf, Quiet))
+  leads : (new : State) (leaf : Leaf) → Moves c state d.leaf.todo d.leaf.loops new leaf.todo leaf.loops → Meets promised (within c leaf.loops) new d.world leaf → Continues c new leaf.todo leaf.loops end → leaf.hand ≡ d.leaf.hand → leaf.phase ≡ d.leaf.phase → Leads (Ok (standing d leaf, Quiet))
   unfolding Leads
-  leads new leaf m goes hand phase =
+  leads new leaf moves m goes hand phase =
       safe_gives (standing d leaf) Quiet
       (record {
         leaf = leaf;
         there = set_here d.world.leaves d.x leaf t.old t.there;
         state = new;
         meets = meets_kept promised (within c leaf.loops) new (standing d leaf) d.world leaf (λ k. refl) m;
+        moves = moves;
         goes_on = goes;
         hand = hand;
         phase = phase;
@@ -64,9 +70,9 @@ module _ (promised : ℕ → Option Kind) (c : Context) (d : Doing) (t : Takes d
         loops = counts;
       }
 
-  do_leads : (i : Instruction) (rest : Statements) → IsInside (Do i rest) d.leaf.loops → Continues c state (Do i rest) d.leaf.loops end → Leads (perform d (Do i rest))
+  do_leads : (i : Instruction) (rest : Statements) → d.leaf.todo ≡ Do i rest → IsInside (Do i rest) d.leaf.loops → Continues c state (Do i rest) d.leaf.loops end → Leads (perform d (Do i rest))
   unfolding Leads
-  do_leads i rest inside goes =
+  do_leads i rest is inside goes =
       let k = within c d.leaf.loops in
       let e : Doing = record d { leaf = record d.leaf { todo = rest } } in
       let v = then_ok (at 1 (judged k state i)) (λ s. later 1 (flow k s rest)) goes.0 goes.1 in
@@ -80,14 +86,15 @@ module _ (promised : ℕ → Option Kind) (c : Context) (d : Doing) (t : Takes d
         there = s.there;
         state = v.0;
         meets = subst (λ l. Meets promised (within c l) v.0 w s.leaf) (sym s.loops) s.meets;
+        moves = Does i rest is (at_ok 1 (judged k state i) v.0 v.1) s.todo s.loops;
         goes_on = subst (λ l. Continues c v.0 s.leaf.todo l end) (sym s.loops) (subst (λ todo. Continues c v.0 todo d.leaf.loops end) (sym s.todo) (goes.0, flows, goes.2));
         hand = s.hand;
         phase = s.phase;
       }) (own_goes promised k e taken granted state v.0 i inside.0 inside.1 m (at_ok 1 (judged k state i) v.0 v.1))
 
-  if_leads : (arm other rest : Statements) → Continues c state (If arm other rest) d.leaf.loops end → Leads (perform d (If arm other rest))
+  if_leads : (arm other rest : Statements) → d.leaf.todo ≡ If arm other rest → Continues c state (If arm other rest) d.leaf.loops end → Leads (perform d (If arm other rest))
   unfolding Leads
-  if_leads arm other rest goes =
+  if_leads arm other rest is goes =
       let k = within c d.leaf.loops in
       let v = if_ok k state arm other rest goes.0 goes.1 in
       let p = popped_there state (λ a s. none_left s) v.0 v.1 in
@@ -96,17 +103,17 @@ module _ (promised : ℕ → Option Kind) (c : Context) (d : Doing) (t : Takes d
       let todo = chosen a.0 arm other then rest in
       let leaf : Leaf = record d.leaf { operands = a.1; todo = todo } in
       let m = stands_in v.0 a.1 todo d.leaf.loops (ap (λ (s : State). s.own) n.1) (ap (λ (s : State). s.bank) n.1) (subst (λ (s : State). Under a.1 s.bounds) (sym n.1) a.4) h.loops in
-      safe_pop d.leaf.operands _ a.0 a.1 a.2 (leads v.0 leaf m (goes.0, chosen_flows k v.0 goes.0 arm other rest a.0 v.2 v.3, goes.2) refl refl)
+      safe_pop d.leaf.operands _ a.0 a.1 a.2 (leads v.0 leaf (Chooses arm other rest is v.1 (either a.0 arm other rest) refl) m (goes.0, chosen_flows k v.0 goes.0 arm other rest a.0 v.2 v.3, goes.2) refl refl)
 
-  loop_leads : (n : ℕ) (body rest : Statements) → 0 < n → Continues c state (Loop n body rest) d.leaf.loops end → Leads (perform d (Loop n body rest))
-  loop_leads n body rest positive goes =
+  loop_leads : (n : ℕ) (body rest : Statements) → d.leaf.todo ≡ Loop n body rest → 0 < n → Continues c state (Loop n body rest) d.leaf.loops end → Leads (perform d (Loop n body rest))
+  loop_leads n body rest is positive goes =
       let entered : Round = record { round = 0; count = n; body = body; rest = rest } in
       let loops = entered ∷ d.leaf.loops in
-      leads state (record d.leaf { todo = body; loops = loops }) (stands_in state d.leaf.operands body loops refl refl h.operands (refl, positive, h.loops)) (loop_enters c state n body rest d.leaf.loops end positive goes) refl refl
+      leads state (record d.leaf { todo = body; loops = loops }) (Enters n body rest is refl refl refl) (stands_in state d.leaf.operands body loops refl refl h.operands (refl, positive, h.loops)) (loop_enters c state n body rest d.leaf.loops end positive goes) refl refl
 
-  body_leads : (loops : List Round) → d.leaf.loops ≡ loops → IsInside Done loops → Continues c state Done loops end → Leads (body_ended d loops)
-  body_leads [] same inside goes = absurd inside
-  body_leads (r ∷ loops) same inside goes = by (nat_lt (suc r.round) r.count) refl
+  body_leads : (loops : List Round) → d.leaf.todo ≡ Done → d.leaf.loops ≡ loops → IsInside Done loops → Continues c state Done loops end → Leads (body_ended d loops)
+  body_leads [] is same inside goes = absurd inside
+  body_leads (r ∷ loops) is same inside goes = by (nat_lt (suc r.round) r.count) refl
     where
       counts : AreCounts (r ∷ loops) (counts_of (r ∷ loops))
       counts = subst (λ l. AreCounts l (counts_of l)) same h.loops
@@ -115,16 +122,16 @@ module _ (promised : ℕ → Option Kind) (c : Context) (d : Doing) (t : Takes d
           → Leads (Ok (standing d (cond b (record d.leaf { todo = r.body; loops = record r { round = suc r.round } ∷ loops }) (record d.leaf { todo = r.rest; loops = loops })), Quiet))
       by true e =
           let more = ltb-true (suc r.round) r.count e in
-          leads state (record d.leaf { todo = r.body; loops = record r { round = suc r.round } ∷ loops }) (stands_in state d.leaf.operands r.body (record r { round = suc r.round } ∷ loops) refl refl h.operands (refl, more, counts.2)) (loop_again c state r loops end more goes) refl refl
+          leads state (record d.leaf { todo = r.body; loops = record r { round = suc r.round } ∷ loops }) (Repeats r loops is same refl more refl refl) (stands_in state d.leaf.operands r.body (record r { round = suc r.round } ∷ loops) refl refl h.operands (refl, more, counts.2)) (loop_again c state r loops end more goes) refl refl
       by false e =
-          leads state (record d.leaf { todo = r.rest; loops = loops }) (stands_in state d.leaf.operands r.rest loops refl refl h.operands counts.2) (loop_leaves c state r loops end goes) refl refl
+          leads state (record d.leaf { todo = r.rest; loops = loops }) (Leaves r loops is same refl refl refl) (stands_in state d.leaf.operands r.rest loops refl refl h.operands counts.2) (loop_leaves c state r loops end goes) refl refl
 
-  all_lead : (todo : Statements) → IsInside todo d.leaf.loops → Continues c state todo d.leaf.loops end → Leads (perform d todo)
-  all_lead Done inside goes = body_leads d.leaf.loops refl inside goes
-  all_lead (Do i rest) inside goes = do_leads i rest inside goes
-  all_lead (If arm other rest) inside goes = if_leads arm other rest goes
-  all_lead (Loop n body rest) inside goes = loop_leads n body rest inside goes
+  all_lead : (todo : Statements) → d.leaf.todo ≡ todo → IsInside todo d.leaf.loops → Continues c state todo d.leaf.loops end → Leads (perform d todo)
+  all_lead Done is inside goes = body_leads d.leaf.loops is refl inside goes
+  all_lead (Do i rest) is inside goes = do_leads i rest is inside goes
+  all_lead (If arm other rest) is inside goes = if_leads arm other rest is goes
+  all_lead (Loop n body rest) is inside goes = loop_leads n body rest is inside goes
 
 pub leads_on : (promised : ℕ → Option Kind) (c : Context) (d : Doing) → Takes d → Grants promised c d → LeadsAsRuled promised c d
 unfolding Leads
-leads_on promised c d t g state end inside h goes = all_lead promised c d t g state end h d.leaf.todo inside goes
+leads_on promised c d t g state end inside h goes = all_lead promised c d t g state end h d.leaf.todo refl inside goes

@@ -54,7 +54,7 @@ hand_else d takes h y leaf ne there g at (Some b) mine =
     ne (sym f.2 ∙ (ap (λ (s : Session). s.server) (some_same (sym f.1 ∙ (ap (links d.world).sessions (sym same) ∙ m.1))) ∙ m.2))
 
 module _ (promised : ℕ → Option Kind) (d : Doing) (takes : Takes d) (h : IsLinkedWorld d.system d.world) (t : IsTypedBy promised d.system d.world) (at : slice_get d.system.components d.x ≡ Some d.component) (active : IsActive d.leaf.phase)
-    (w : World) (others : LeavesOthers d w) (end : State) (leads : LeadsOn promised (context (subject d.system d.component) (section_of d.leaf.hand)) end d w)
+    (w : World) (others : LeavesOthers d w) (old end : State) (leads : LeadsOn promised (context (subject d.system d.component) (section_of d.leaf.hand)) old end d w)
     (whole : flow (context (subject d.system d.component) (section_of d.leaf.hand)) (start_of (subject d.system d.component) (section_of d.leaf.hand)) (body (subject d.system d.component) (section_of d.leaf.hand)) ≡ Ok end)
     (listed : (list : Statements) × (section_in (section_of d.leaf.hand) d.component.node.program.sections ≡ Some list)) where
   hand_same : (k y : ℕ) → section_at_hand k (slice_get w.leaves y) ≡ section_at_hand k (slice_get d.world.leaves y)

@@ -145,7 +145,7 @@ module _ (promised : ℕ → Option Kind) (d : Doing) (sure : IsSure d.system) (
     inside_safe inside =
         let leads = leads_on promised (context v (section_of d.leaf.hand)) d takes (grants promised d sure h t (section_of d.leaf.hand) [] takes (not_blocked active) at) state end inside meets goes_on in
         record {
-          ends = λ w event e. (promised, typed_inside promised d takes h t at active w (keeps_to_itself d w event inside e) end (leads.ends w event e) whole listed);
+          ends = λ w event e. (promised, typed_inside promised d takes h t at active w (keeps_to_itself d w event inside e) state end (leads.ends w event e) whole listed);
           short = leads.short;
         }
 

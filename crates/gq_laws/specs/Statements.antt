@@ -17,6 +17,7 @@ use Rattle.gq_model.specs.Kinds.{Kind, State, Context, Subject}
 use Rattle.gq_model.specs.Flow.{context, start_of}
 use Rattle.gq_model.specs.Rules.{judged}
 use Rattle.gq_model.specs.Kept.{within, Continues}
+use Rattle.gq_laws.specs.Moves.{Moves}
 use Rattle.gq_laws.specs.Typed.{StaysOfKind, StayOfKind, Meets, PromisesLinks, SharesBuffers}
 
 -- a step ends in worlds of which P holds, and only want of quota is wrong with it
@@ -76,12 +77,13 @@ GoesAsRuled promised c d =
 
 -- INSIDE A SECTION
 
--- the leaf of the step stands in this world at a state from which what is left of its section leads to this end of it
-pub record LeadsOn (promised : ℕ → Option Kind) (c : Context) (end : State) (d : Doing) (w : World) : Type 0 where
+-- the leaf of the step stands in this world where the rules go on to, at a state from which what is left of its section leads to this end of it
+pub record LeadsOn (promised : ℕ → Option Kind) (c : Context) (old end : State) (d : Doing) (w : World) : Type 0 where
   pub leaf : Leaf
   pub there : slice_get w.leaves d.x ≡ Some leaf
   pub state : State
   pub meets : Meets promised (within c leaf.loops) state w leaf
+  pub moves : Moves c old d.leaf.todo d.leaf.loops state leaf.todo leaf.loops
   pub goes_on : Continues c state leaf.todo leaf.loops end
   pub hand : leaf.hand ≡ d.leaf.hand
   pub phase : leaf.phase ≡ d.leaf.phase
@@ -98,7 +100,7 @@ IsInside (Loop count body rest) loops = 0 < count
 abbrev pub LeadsAsRuled : (ℕ → Option Kind) → Context → Doing → Type 0
 LeadsAsRuled promised c d =
     (state end : State) → IsInside d.leaf.todo d.leaf.loops → Meets promised (within c d.leaf.loops) state d.world d.leaf
-    → Continues c state d.leaf.todo d.leaf.loops end → IsSafe (LeadsOn promised c end d) (perform d d.leaf.todo)
+    → Continues c state d.leaf.todo d.leaf.loops end → IsSafe (LeadsOn promised c state end d) (perform d d.leaf.todo)
 
 -- WHAT IS LEFT TO OTHERS
 
