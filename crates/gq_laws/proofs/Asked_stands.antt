@@ -1,5 +1,5 @@
 -- Once a leaf has asked something of a session, it waits where the rules say, and all other leaves stand where they stood.
-use Rattle.std.proofs.Common.{◌≡◌, ◌≢◌, ℕ, inl, inr, Option, Some, None, Ok, refl, ap, sym, ◌∙◌, subst}
+use Rattle.std.proofs.Common.{◌≡◌, ◌≢◌, ℕ, inl, inr, Option, Some, None, Ok, refl, ap, sym, ◌∙◌, subst, List}
 use Rattle.std.specs.Prelude.{slice_get}
 use Rattle.std.proofs.lemmas.Bool.Decides.{eqb_tells}
 use Rattle.gq_model.specs.declared.phase.Phase.{Phase}
@@ -7,7 +7,7 @@ use Rattle.gq_model.specs.declared.phase.Phase.TheVariants.{Blocked}
 use Rattle.gq_model.specs.declared.program.Instruction.{Instruction}
 use Rattle.gq_model.specs.Program.{Statements, section_in}
 use Rattle.gq_model.specs.Scenario.{Component, interface_in, number_of}
-use Rattle.gq_model.specs.World.{Slot, Waiting, Spot, In_leaf, In_session, In_object, Session, Hand, Leaf, World, session_at, session_object, leaf_slot, session_slot, slot_at}
+use Rattle.gq_model.specs.World.{Slot, Waiting, Spot, In_leaf, In_session, In_object, Session, Hand, Leaf, World, session_at, session_object, leaf_slot, session_slot, slot_at, Round}
 use Rattle.gq_model.specs.Doing.{Doing}
 use Rattle.gq_model.specs.Step.{section_for}
 use Rattle.gq_model.specs.Kinds.{Kind, State, Context, Subject}
@@ -19,13 +19,14 @@ use Rattle.gq_laws.specs.Typed.{Meets}
 use Rattle.gq_laws.specs.Statements.{Takes}
 use Rattle.gq_laws.specs.Asking.{promised_anew, while_waiting, Awaits}
 use Rattle.gq_laws.specs.Replies.{once_replied}
-use Rattle.gq_laws.specs.Typing.{section_of, IsAwaited, IsInSection, StandsBy, StandAll}
+use Rattle.gq_laws.specs.Typing.{Extra, Carries, section_of, IsAwaited, IsInSection, StandsBy, StandAll}
 use Rattle.gq_laws.proofs.Linking.{some_same, none_some}
 use Rattle.gq_laws.proofs.Link_quiet.{stood}
 use Rattle.gq_laws.proofs.Asking_slots.{Free, AreFree, kinds_anew, hand_anew}
 use Rattle.gq_laws.proofs.Typed_worlds.{stands_else}
 use Rattle.gq_laws.proofs.Asked_worlds.{IsMine, Asked, takes_up, then_else}
 use Rattle.gq_laws.proofs.Asked_tells.{session_now, asked_else, asked_none, asked_here}
+use Rattle.gq_model.specs.declared.program.Section.{Section}
 
 -- SPOTS
 
@@ -104,17 +105,18 @@ module _ (promised : ℕ → Option Kind) (kind : Kind) (d : Doing) (t : Takes d
           is = f.is;
         }
 
-    pub leaf_else : (c : Component) (phase : Phase) → StandsBy promised d.system d.world y c leaf phase → StandsBy anew d.system w y c leaf phase
-    leaf_else c = stands_else promised anew d.system d.world w y c leaf meets_else (λ ks. kinds_anew promised k kind leaf.slots ks own_free) awaited_else
+    pub leaf_else : (c : Component) (phase : Phase) → (before after : Extra) → ((section : Section) (state : State) (todo : Statements) (loops : List Round) → before y section state todo loops → after y section state todo loops) → StandsBy promised before d.system d.world y c leaf phase → StandsBy anew after d.system w y c leaf phase
+    leaf_else c phase before after carries = stands_else promised anew before after d.system d.world w y c leaf meets_else (λ ks. kinds_anew promised k kind leaf.slots ks own_free) awaited_else carries phase
 
 -- ALL LEAVES
 
-module _ (promised : ℕ → Option Kind) (d : Doing) (t : Takes d) (h : IsLinkedWorld d.system d.world) (i : Instruction) (new end : State) (w : World)
+module _ (promised : ℕ → Option Kind) (before after : Extra) (d : Doing) (carries : Carries d.x before after) (t : Takes d) (h : IsLinkedWorld d.system d.world) (i : Instruction) (new end : State) (w : World)
     (b : Awaits promised (within (context (subject d.system d.component) (section_of d.leaf.hand)) d.leaf.loops) new i d w) (a : Asked d i b.k b.session w)
     (goes_on : Continues (context (subject d.system d.component) (section_of d.leaf.hand)) new d.leaf.todo d.leaf.loops end)
     (whole : flow (context (subject d.system d.component) (section_of d.leaf.hand)) (start_of (subject d.system d.component) (section_of d.leaf.hand)) (body (subject d.system d.component) (section_of d.leaf.hand)) ≡ Ok end)
     (listed : (list : Statements) × (section_in (section_of d.leaf.hand) d.component.node.program.sections ≡ Some list))
-    (resumes : new ≡ once_replied (number_of (interface_in b.session.service d.system.interfaces) (λ i. i.reply)) (section_for a.ask (level_then a.ask b.session.level)) (while_waiting i new)) where
+    (resumes : new ≡ once_replied (number_of (interface_in b.session.service d.system.interfaces) (λ i. i.reply)) (section_for a.ask (level_then a.ask b.session.level)) (while_waiting i new))
+    (also : after d.x (section_of d.leaf.hand) new d.leaf.todo d.leaf.loops) where
   abbrev v : Subject
   v = subject d.system d.component
 
@@ -133,7 +135,7 @@ module _ (promised : ℕ → Option Kind) (d : Doing) (t : Takes d) (h : IsLinke
         is = resumes;
       }
 
-  in_section : IsInSection p d.system w d.x d.component b.leaf Blocked (section_of b.leaf.hand)
+  in_section : IsInSection p after d.system w d.x d.component b.leaf Blocked (section_of b.leaf.hand)
   in_section =
       let hand = sym b.hand in
       let todo = sym b.todo in
@@ -147,18 +149,19 @@ module _ (promised : ℕ → Option Kind) (d : Doing) (t : Takes d) (h : IsLinke
         goes_on = subst (λ o. Continues (context v (section_of o)) new b.leaf.todo b.leaf.loops end) hand (subst (λ o. Continues (context v (section_of d.leaf.hand)) new o b.leaf.loops end) todo (subst (λ o. Continues (context v (section_of d.leaf.hand)) new d.leaf.todo o end) loops goes_on));
         whole = subst (λ o. flow (context v (section_of o)) (start_of v (section_of o)) (body v (section_of o)) ≡ Ok end) hand whole;
         listed = subst (λ o. (list : Statements) × (section_in (section_of o) d.component.node.program.sections ≡ Some list)) hand listed;
+        also = subst (λ o. after d.x (section_of o) new b.leaf.todo b.leaf.loops) hand (subst (λ o. after d.x (section_of d.leaf.hand) new o b.leaf.loops) todo (subst (λ o. after d.x (section_of d.leaf.hand) new d.leaf.todo o) loops also));
       }
 
-  module _ (component : slice_get d.system.components d.x ≡ Some d.component) (stand : StandAll promised d.system d.world) where
-    stands_here : (c : Component) (leaf : Leaf) → slice_get d.system.components d.x ≡ Some c → slice_get w.leaves d.x ≡ Some leaf → StandsBy p d.system w d.x c leaf leaf.phase
+  module _ (component : slice_get d.system.components d.x ≡ Some d.component) (stand : StandAll promised before d.system d.world) where
+    stands_here : (c : Component) (leaf : Leaf) → slice_get d.system.components d.x ≡ Some c → slice_get w.leaves d.x ≡ Some leaf → StandsBy p after d.system w d.x c leaf leaf.phase
     stands_here c leaf of there =
-        subst (λ c. StandsBy p d.system w d.x c leaf leaf.phase) (some_same (sym component ∙ of)) (
-        subst (λ (leaf : Leaf). StandsBy p d.system w d.x d.component leaf leaf.phase) (some_same (sym b.there ∙ there)) (
-        subst (StandsBy p d.system w d.x d.component b.leaf) (sym b.phase) in_section))
+        subst (λ c. StandsBy p after d.system w d.x c leaf leaf.phase) (some_same (sym component ∙ of)) (
+        subst (λ (leaf : Leaf). StandsBy p after d.system w d.x d.component leaf leaf.phase) (some_same (sym b.there ∙ there)) (
+        subst (StandsBy p after d.system w d.x d.component b.leaf) (sym b.phase) in_section))
 
-    pub asked_stands : StandAll p d.system w
+    pub asked_stands : StandAll p after d.system w
     asked_stands y c leaf of there =
         elim (eqb_tells y d.x) [
-          | inl e ↦ subst (λ y. StandsBy p d.system w y c leaf leaf.phase) (sym e.1) (stands_here c leaf (ap (slice_get d.system.components) (sym e.1) ∙ of) (ap (slice_get w.leaves) (sym e.1) ∙ there))
-          | inr e ↦ (let was = sym (a.leaves y e.1) ∙ there in leaf_else promised b.kind d t h i b.k b.session w a y leaf e.1 was c leaf.phase (stand y c leaf of was))
+          | inl e ↦ subst (λ y. StandsBy p after d.system w y c leaf leaf.phase) (sym e.1) (stands_here c leaf (ap (slice_get d.system.components) (sym e.1) ∙ of) (ap (slice_get w.leaves) (sym e.1) ∙ there))
+          | inr e ↦ (let was = sym (a.leaves y e.1) ∙ there in leaf_else promised b.kind d t h i b.k b.session w a y leaf e.1 was c leaf.phase before after (λ section state todo loops. carries y section state todo loops e.1) (stand y c leaf of was))
         ]

@@ -1,5 +1,5 @@
 -- A request that is taken up keeps worlds typed, and only want of quota stops it.
-use Rattle.std.proofs.Common.{◌≡◌, ◌≤◌, ◌<◌, ℕ, suc, inl, inr, cond, true, not, List, length, Option, Some, None, Ok, refl, ap, sym, ◌∙◌, subst, arith}
+use Rattle.std.proofs.Common.{◌≡◌, ◌≤◌, ◌<◌, ℕ, suc, inl, inr, cond, true, not, List, length, Option, Some, None, Ok, refl, ap, sym, ◌∙◌, subst, arith, []}
 use Rattle.std.specs.Prelude.{slice_get}
 use Rattle.std.proofs.lemmas.Bool.{leb-true}
 use Rattle.gq_model.specs.declared.program.Form.TheVariants.{Slice}
@@ -21,7 +21,7 @@ use Rattle.gq_laws.specs.Links.{outline, outline_in, stance, links, requests_of,
 use Rattle.gq_laws.specs.Typed.{IsKind, AreKinds}
 use Rattle.gq_laws.specs.Statements.{IsSafe, Takes}
 use Rattle.gq_laws.specs.Sections.{HasObject, IsAtRest, Begins}
-use Rattle.gq_laws.specs.Typing.{StandsBy, RestsAt, FitsRequest, IsTypedBy}
+use Rattle.gq_laws.specs.Typing.{Extra, Carries, StandsBy, RestsAt, FitsRequest, IsTypedBy}
 use Rattle.gq_laws.proofs.Endings.{Ends, gives, need_ends, when_ends}
 use Rattle.gq_laws.proofs.Linking.{some_same}
 use Rattle.gq_laws.proofs.Link_events.{one_one, none_of}
@@ -99,10 +99,11 @@ ends_need {P} o wrong go a e h = subst (λ o. Ends P (need o wrong go)) (sym e) 
 
 -- THE REQUEST THAT IS TAKEN UP
 
-module _ (promised : ℕ → Option Kind) (d : Doing) (sure : IsSure d.system) (takes : Takes d) (h : IsLinkedWorld d.system d.world) (t : IsTypedBy promised d.system d.world) (at : slice_get d.system.components d.x ≡ Some d.component) (serves : d.leaf.phase ≡ Serving)
+module _ (promised : ℕ → Option Kind) (before after : Extra) (d : Doing) (carries : Carries d.x before after) (sure : IsSure d.system) (takes : Takes d) (h : IsLinkedWorld d.system d.world) (t : IsTypedBy promised before d.system d.world) (at : slice_get d.system.components d.x ≡ Some d.component) (serves : d.leaf.phase ≡ Serving)
     (sections_there : (v : Subject) (i : Interface) (section : Section) → program_fault v ≡ None → v.provided ≡ Some i → length i.upgrades ≤ 3 → is_wanted (Some i) section ≡ true → ((l : ℕ) → section ≡ Upgrading l → 0 < l) → (list : Statements) × (section_in section v.program.sections ≡ Some list))
     (flows : (v : Subject) (section : Section) (list : Statements) → program_fault v ≡ None → section_in section v.program.sections ≡ Some list → (end : State) × (last : State) × (flow (context v section) (start_of v section) (body v section) ≡ Ok end) × (section_end v section end ≡ Ok last))
-    (r : Request) (rest : List Request) (e : oldest d.world d.x d.world.requests ≡ Some (r, rest)) (old : Session) (there : session_at d.world r.session ≡ Some old) where
+    (r : Request) (rest : List Request) (e : oldest d.world d.x d.world.requests ≡ Some (r, rest)) (old : Session) (there : session_at d.world r.session ≡ Some old)
+    (also : after d.x (asked_section r.ask old) (start_of (subject d.system d.component) (asked_section r.ask old)) (body (subject d.system d.component) (asked_section r.ask old)) []) where
   abbrev k : ℕ
   k = r.session
 
@@ -178,7 +179,7 @@ module _ (promised : ℕ → Option Kind) (d : Doing) (sure : IsSure d.system) (
   listed = sections_there v its section faultless (sym provided ∙ known) (sure.upgrades old.service its known) wanted (upgrades_above r.ask old)
 
   own_rests : AreKinds promised d.leaf.slots (own_after v)
-  own_rests = subst (λ slots. AreKinds promised slots (own_after v)) (sym takes.slots) (subst (StandsBy promised d.system d.world d.x d.component takes.old) (sym takes.phase ∙ serves) (t.leaves d.x d.component takes.old at takes.there))
+  own_rests = subst (λ slots. AreKinds promised slots (own_after v)) (sym takes.slots) (subst (StandsBy promised before d.system d.world d.x d.component takes.old) (sym takes.phase ∙ serves) (t.leaves d.x d.component takes.old at takes.there))
 
   at_rest : IsAtRest promised v d r old
   at_rest =
@@ -216,10 +217,10 @@ module _ (promised : ℕ → Option Kind) (d : Doing) (sure : IsSure d.system) (
         level = λ i is. accepted_level d.system i r.ask old (subst (λ (i : Interface). old.level ≤ length i.upgrades) (some_same (sym known ∙ is)) (t.sessions k old there).level) (subst (λ o. is_wanted o section ≡ true) is (found.first t.requests old there).1);
       }
 
-  typed_then : Begins promised v section d r world_then → IsTypedBy promised d.system world_then
+  typed_then : Begins promised v section d r world_then → IsTypedBy promised after d.system world_then
   typed_then begins =
       let flow = flows v section listed.0 faultless listed.1 in
-      taken_typed promised d takes h t r section old new rest is_next world_then (has_taken begins) flow.0 flow.2 listed
+      taken_typed promised before d takes h t r section old new rest is_next world_then (has_taken begins) after carries also flow.0 flow.2 listed
 
   is_then : Ends (λ w. w ≡ world_then) (accept d r rest)
   is_then = ends_need (session_at d.world k) _ _ old there (when_ends (λ w. w ≡ world_then) _ _ _ (need_ends (λ w. w ≡ world_then) _ _ _ (λ b. gives world_then Quiet refl)))
@@ -227,19 +228,21 @@ module _ (promised : ℕ → Option Kind) (d : Doing) (sure : IsSure d.system) (
   begins_safe : IsSafe (Begins promised v section d r) (accept d r rest)
   begins_safe = begins_ruled promised d takes r rest old (sure.locals d.x d.component at) at_rest
 
-  accept_safe : IsSafe (IsTypedBy promised d.system) (accept d r rest)
+  accept_safe : IsSafe (IsTypedBy promised after d.system) (accept d r rest)
   accept_safe =
       record {
-        ends = λ w event q. let is = is_then.holds w event q in subst (IsTypedBy promised d.system) (sym is) (typed_then (subst (Begins promised v section d r) is (begins_safe.ends w event q)));
+        ends = λ w event q. let is = is_then.holds w event q in subst (IsTypedBy promised after d.system) (sym is) (typed_then (subst (Begins promised v section d r) is (begins_safe.ends w event q)));
         short = begins_safe.short;
       }
 
-pub accept_typed : (promised : ℕ → Option Kind) (d : Doing) → IsSure d.system → Takes d → IsLinkedWorld d.system d.world → IsTypedBy promised d.system d.world
+pub accept_typed : (promised : ℕ → Option Kind) (before after : Extra) (d : Doing) → Carries d.x before after → IsSure d.system → Takes d → IsLinkedWorld d.system d.world → IsTypedBy promised before d.system d.world
     → slice_get d.system.components d.x ≡ Some d.component → d.leaf.phase ≡ Serving
     → (sections_there : (v : Subject) (i : Interface) (section : Section) → program_fault v ≡ None → v.provided ≡ Some i → length i.upgrades ≤ 3 → is_wanted (Some i) section ≡ true → ((l : ℕ) → section ≡ Upgrading l → 0 < l) → (list : Statements) × (section_in section v.program.sections ≡ Some list))
     → (flows : (v : Subject) (section : Section) (list : Statements) → program_fault v ≡ None → section_in section v.program.sections ≡ Some list → (end : State) × (last : State) × (flow (context v section) (start_of v section) (body v section) ≡ Ok end) × (section_end v section end ≡ Ok last))
-    → (r : Request) (rest : List Request) → oldest d.world d.x d.world.requests ≡ Some (r, rest) → IsSafe (IsTypedBy promised d.system) (accept d r rest)
-accept_typed promised d sure takes h t at serves sections_there flows r rest e =
+    → (r : Request) (rest : List Request) → oldest d.world d.x d.world.requests ≡ Some (r, rest)
+    → ((old : Session) → session_at d.world r.session ≡ Some old → after d.x (asked_section r.ask old) (start_of (subject d.system d.component) (asked_section r.ask old)) (body (subject d.system d.component) (asked_section r.ask old)) [])
+    → IsSafe (IsTypedBy promised after d.system) (accept d r rest)
+accept_typed promised before after d carries sure takes h t at serves sections_there flows r rest e also =
     let asked = (oldest_found (IsAsked (links d.world)) d.world d.x d.world.requests (r, rest) e).first h.asked in
     let u = session_of_outline (session_at d.world r.session) asked.0 asked.1 in
-    accept_safe promised d sure takes h t at serves sections_there flows r rest e u.0 u.1
+    accept_safe promised before after d carries sure takes h t at serves sections_there flows r rest e u.0 u.1 (also u.0 u.1)

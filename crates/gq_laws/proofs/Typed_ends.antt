@@ -7,7 +7,7 @@ use Rattle.gq_model.specs.declared.program.Section.TheVariants.{Main}
 use Rattle.gq_model.specs.declared.phase.Phase.{Phase}
 use Rattle.gq_model.specs.declared.phase.Phase.TheVariants.{Pending, Running, Blocked, Serving, Handling, Exited}
 use Rattle.gq_model.specs.Scenario.{System, Component}
-use Rattle.gq_model.specs.World.{Session, Hand, Leaf, World, session_at}
+use Rattle.gq_model.specs.World.{Session, Hand, Leaf, World, session_at, Round}
 use Rattle.gq_model.specs.Doing.{Doing, Event, Quiet, Finished, standing}
 use Rattle.gq_model.specs.Step.{is_name, released, all_released, exited, exit_of, serving, main_ended}
 use Rattle.gq_model.specs.Kinds.{Kind, State, Context, Subject}
@@ -18,13 +18,15 @@ use Rattle.gq_laws.specs.Shapes.{Each}
 use Rattle.gq_laws.specs.Links.{IsLinkedWorld}
 use Rattle.gq_laws.specs.Typed.{AreKinds, HandMeets, Meets}
 use Rattle.gq_laws.specs.Statements.{Takes}
-use Rattle.gq_laws.specs.Typing.{kind_then, section_of, IsAwaited, IsInSection, StandsBy, StandAll, FitsService, FitsRequest, IsTypedBy}
+use Rattle.gq_laws.specs.Typing.{Extra, Carries, kind_then, section_of, IsAwaited, IsInSection, StandsBy, StandAll, FitsService, FitsRequest, IsTypedBy}
 use Rattle.gq_laws.proofs.Endings.{Ends, gives, when_ends}
 use Rattle.gq_laws.proofs.Linking.{some_same, none_some}
 use Rattle.gq_laws.proofs.Link_events.{each_map}
 use Rattle.gq_laws.proofs.Link_worlds.{set_here, set_else}
 use Rattle.gq_laws.proofs.Typed_worlds.{stands_else}
 use Rattle.gq_laws.proofs.Sure.{IsSure}
+use Rattle.gq_model.specs.declared.program.Section.{Section}
+use Rattle.gq_model.specs.Program.{Statements}
 
 -- WORLDS WITH THE SAME SESSIONS, REQUESTS AND HANDS
 
@@ -50,21 +52,21 @@ module _ (promised : ℕ → Option Kind) (system : System) (v w : World) (same 
   meets_same leaf c state m = record { own = m.own; hand = m.hand; bank = bank_same c state.bank leaf.hand m.bank; operands = m.operands; locals = m.locals; loops = m.loops }
 
   -- a leaf that is the same stands where it stood
-  pub stands_same : (y : ℕ) (c : Component) (leaf : Leaf) (phase : Phase) → StandsBy promised system v y c leaf phase → StandsBy promised system w y c leaf phase
-  stands_same y c leaf phase h = stands_else promised promised system v w y c leaf (meets_same leaf) (λ ks m. m) (awaited_same y) phase h
+  pub stands_same : (y : ℕ) (c : Component) (leaf : Leaf) (phase : Phase) → (before after : Extra) → ((section : Section) (state : State) (todo : Statements) (loops : List Round) → before y section state todo loops → after y section state todo loops) → StandsBy promised before system v y c leaf phase → StandsBy promised after system w y c leaf phase
+  stands_same y c leaf phase before after carries h = stands_else promised promised before after system v w y c leaf (meets_same leaf) (λ ks m. m) (awaited_same y) carries phase h
 
-  session_same : IsTypedBy promised system v → (k : ℕ) (s : Session) → session_at w k ≡ Some s → FitsService promised system w k s
-  session_same t k s there =
+  session_same : (before : Extra) → IsTypedBy promised before system v → (k : ℕ) (s : Session) → session_at w k ≡ Some s → FitsService promised system w k s
+  session_same before t k s there =
       let f = t.sessions k s (sym (same.sessions k) ∙ there) in
       record { interface = f.interface; known = f.known; level = f.level; rests = λ server placed none. f.rests server placed (sym (same.hands k s.server) ∙ none) }
 
   -- where each leaf stands by the rules, the world is typed
-  pub same_typed : IsTypedBy promised system v → StandAll promised system w → IsTypedBy promised system w
-  same_typed t leaves =
+  pub same_typed : (before after : Extra) → IsTypedBy promised before system v → StandAll promised after system w → IsTypedBy promised after system w
+  same_typed before after t leaves =
       record {
         tells = λ k s there. t.tells k s (sym (same.sessions k) ∙ there) ∙ ap (λ o. Some (kind_then s o)) (sym (asked_same k s));
         leaves = leaves;
-        sessions = session_same t;
+        sessions = session_same before t;
         requests = subst (λ rs. Each (FitsRequest system w) rs) (sym same.requests) (each_map (FitsRequest system v) (FitsRequest system w) (λ r f s there. f s (sym (same.sessions r.session) ∙ there)) v.requests t.requests);
       }
 
@@ -84,25 +86,25 @@ released_there name (b ∷ cs) [] y c leaf placed there = absurd (none_some ther
 released_there name (b ∷ cs) (old ∷ leaves) zero c leaf placed there = (old, refl, sym (some_same there) ∙ ap (λ c. record old { phase = released name c.node.after old.phase }) (some_same placed))
 released_there name (b ∷ cs) (old ∷ leaves) (suc y) c leaf placed there = released_there name cs leaves y c leaf placed there
 
-module _ (promised : ℕ → Option Kind) (system : System) (w : World) (y : ℕ) (c : Component) (old : Leaf) (p : Phase) where
+module _ (promised : ℕ → Option Kind) (extra : Extra) (system : System) (w : World) (y : ℕ) (c : Component) (old : Leaf) (p : Phase) where
   abbrev new : Leaf
   new = record old { phase = p }
 
   meets_new : (e : Context) (state : State) → Meets promised e state w old → Meets promised e state w new
   meets_new e state m = record { own = m.own; hand = m.hand; bank = m.bank; operands = m.operands; locals = m.locals; loops = m.loops }
 
-  pending_new : (b : Bool) → IsInSection promised system w y c old Pending (section_of old.hand) → StandsBy promised system w y c new (cond b Running Pending)
-  pending_new true h = record { state = h.state; next = h.next; end = h.end; meets = meets_new _ h.state h.meets; from = h.from; goes_on = h.goes_on; whole = h.whole; listed = h.listed }
-  pending_new false h = record { state = h.state; next = h.next; end = h.end; meets = meets_new _ h.state h.meets; from = h.from; goes_on = h.goes_on; whole = h.whole; listed = h.listed }
+  pending_new : (b : Bool) → IsInSection promised extra system w y c old Pending (section_of old.hand) → StandsBy promised extra system w y c new (cond b Running Pending)
+  pending_new true h = record { state = h.state; next = h.next; end = h.end; meets = meets_new _ h.state h.meets; from = h.from; goes_on = h.goes_on; whole = h.whole; listed = h.listed; also = h.also }
+  pending_new false h = record { state = h.state; next = h.next; end = h.end; meets = meets_new _ h.state h.meets; from = h.from; goes_on = h.goes_on; whole = h.whole; listed = h.listed; also = h.also }
 
   -- a leaf stands where it stood, also once it is released
-  released_stands : (name : List ℕ) (after : Option (List ℕ)) (phase : Phase) → StandsBy promised system w y c old phase → StandsBy promised system w y c new (released name after phase)
-  released_stands name after Pending h = pending_new (is_name name after) h
-  released_stands name after Running h = record { state = h.state; next = h.next; end = h.end; meets = meets_new _ h.state h.meets; from = h.from; goes_on = h.goes_on; whole = h.whole; listed = h.listed }
-  released_stands name after Blocked h = record { state = h.state; next = h.next; end = h.end; meets = meets_new _ h.state h.meets; from = h.from; goes_on = h.goes_on; whole = h.whole; listed = h.listed }
-  released_stands name after Serving h = h
-  released_stands name after Handling h = record { state = h.state; next = h.next; end = h.end; meets = meets_new _ h.state h.meets; from = h.from; goes_on = h.goes_on; whole = h.whole; listed = h.listed }
-  released_stands name after Exited h = h
+  released_stands : (name : List ℕ) (waits : Option (List ℕ)) (phase : Phase) → StandsBy promised extra system w y c old phase → StandsBy promised extra system w y c new (released name waits phase)
+  released_stands name waits Pending h = pending_new (is_name name waits) h
+  released_stands name waits Running h = record { state = h.state; next = h.next; end = h.end; meets = meets_new _ h.state h.meets; from = h.from; goes_on = h.goes_on; whole = h.whole; listed = h.listed; also = h.also }
+  released_stands name waits Blocked h = record { state = h.state; next = h.next; end = h.end; meets = meets_new _ h.state h.meets; from = h.from; goes_on = h.goes_on; whole = h.whole; listed = h.listed; also = h.also }
+  released_stands name waits Serving h = h
+  released_stands name waits Handling h = record { state = h.state; next = h.next; end = h.end; meets = meets_new _ h.state h.meets; from = h.from; goes_on = h.goes_on; whole = h.whole; listed = h.listed; also = h.also }
+  released_stands name waits Exited h = h
 
 -- THE END OF `main`
 
@@ -110,7 +112,7 @@ module _ (promised : ℕ → Option Kind) (system : System) (w : World) (y : ℕ
 pub main_own : (v : Subject) (end : State) → flow (context v Main) (start_of v Main) (body v Main) ≡ Ok end → end.own ≡ own_after v
 main_own v end e = sym (ap (λ f. (state_or (start_of v Main) f).own) e)
 
-module _ (promised : ℕ → Option Kind) (d : Doing) (takes : Takes d) (t : IsTypedBy promised d.system d.world) (at : slice_get d.system.components d.x ≡ Some d.component) (free : d.leaf.hand ≡ None) where
+module _ (promised : ℕ → Option Kind) (before after : Extra) (d : Doing) (carries : Carries d.x before after) (takes : Takes d) (t : IsTypedBy promised before d.system d.world) (at : slice_get d.system.components d.x ≡ Some d.component) (free : d.leaf.hand ≡ None) where
   abbrev v : Subject
   v = subject d.system d.component
 
@@ -139,31 +141,30 @@ module _ (promised : ℕ → Option Kind) (d : Doing) (takes : Takes d) (t : IsT
   component_is : (y : ℕ) (c : Component) → slice_get d.system.components y ≡ Some c → y ≡ d.x → d.component ≡ c
   component_is y c placed e = some_same (sym at ∙ (ap (slice_get d.system.components) (sym e) ∙ placed))
 
-  serving_stands : AreKinds promised d.leaf.slots (own_after v) → StandAll promised d.system (standing d (serving d.leaf))
+  serving_stands : AreKinds promised d.leaf.slots (own_after v) → StandAll promised after d.system (standing d (serving d.leaf))
   serving_stands own y c leaf placed there =
       elim (eqb_tells y d.x) [
-        | inl f ↦ subst (λ l. StandsBy promised d.system (standing d (serving d.leaf)) y c l l.phase) (sym (leaf_then (serving d.leaf) y leaf there f.1)) (subst (λ c. AreKinds promised d.leaf.slots (own_after (subject d.system c))) (component_is y c placed f.1) own)
-        | inr f ↦ stands_same promised d.system d.world (standing d (serving d.leaf)) serving_same y c leaf leaf.phase (t.leaves y c leaf placed (leaf_before (serving d.leaf) y leaf there f.1))
+        | inl f ↦ subst (λ l. StandsBy promised after d.system (standing d (serving d.leaf)) y c l l.phase) (sym (leaf_then (serving d.leaf) y leaf there f.1)) (subst (λ c. AreKinds promised d.leaf.slots (own_after (subject d.system c))) (component_is y c placed f.1) own)
+        | inr f ↦ stands_same promised d.system d.world (standing d (serving d.leaf)) serving_same y c leaf leaf.phase before after (λ section state todo loops. carries y section state todo loops f.1) (t.leaves y c leaf placed (leaf_before (serving d.leaf) y leaf there f.1))
       ]
 
-  exit_stands : StandAll promised d.system (exit_of d)
+  exit_stands : StandAll promised after d.system (exit_of d)
   exit_stands y c leaf placed there =
       let name = d.component.node.name in
       let o = released_there name d.system.components (standing d (exited d.leaf)).leaves y c leaf placed there in
-      subst (λ l. StandsBy promised d.system (exit_of d) y c l l.phase) (sym o.2)
+      subst (λ l. StandsBy promised after d.system (exit_of d) y c l l.phase) (sym o.2)
       (elim (eqb_tells y d.x) [
-        | inl f ↦ subst (λ (u : Leaf). StandsBy promised d.system (exit_of d) y c (record u { phase = released name c.node.after u.phase }) (released name c.node.after u.phase)) (sym (leaf_then (exited d.leaf) y o.0 o.1 f.1)) refl
-        | inr f ↦ released_stands promised d.system (exit_of d) y c o.0 (released name c.node.after o.0.phase) name c.node.after o.0.phase
-            (stands_same promised d.system d.world (exit_of d) exit_same y c o.0 o.0.phase (t.leaves y c o.0 placed (leaf_before (exited d.leaf) y o.0 o.1 f.1)))
+        | inl f ↦ subst (λ (u : Leaf). StandsBy promised after d.system (exit_of d) y c (record u { phase = released name c.node.after u.phase }) (released name c.node.after u.phase)) (sym (leaf_then (exited d.leaf) y o.0 o.1 f.1)) refl
+        | inr f ↦ released_stands promised after d.system (exit_of d) y c o.0 (released name c.node.after o.0.phase) name c.node.after o.0.phase
+            (stands_same promised d.system d.world (exit_of d) exit_same y c o.0 o.0.phase before after (λ section state todo loops. carries y section state todo loops f.1) (t.leaves y c o.0 placed (leaf_before (exited d.leaf) y o.0 o.1 f.1)))
       ])
 
-  main_ends : AreKinds promised d.leaf.slots (own_after v) → (provides : Option (List ℕ)) → Ends (IsTypedBy promised d.system) (main_ended d provides)
-  main_ends own (Some service) = gives _ Quiet (same_typed promised d.system d.world (standing d (serving d.leaf)) serving_same t (serving_stands own))
-  main_ends own None = when_ends (IsTypedBy promised d.system) _ _ _ (gives (exit_of d) Finished (same_typed promised d.system d.world (exit_of d) exit_same t exit_stands))
+  main_ends : AreKinds promised d.leaf.slots (own_after v) → (provides : Option (List ℕ)) → Ends (IsTypedBy promised after d.system) (main_ended d provides)
+  main_ends own (Some service) = gives _ Quiet (same_typed promised d.system d.world (standing d (serving d.leaf)) serving_same before after t (serving_stands own))
+  main_ends own None = when_ends (IsTypedBy promised after d.system) _ _ _ (gives (exit_of d) Finished (same_typed promised d.system d.world (exit_of d) exit_same before after t exit_stands))
 
-pub main_typed : (promised : ℕ → Option Kind) (d : Doing) → IsSure d.system → Takes d → IsLinkedWorld d.system d.world → IsTypedBy promised d.system d.world → slice_get d.system.components d.x ≡ Some d.component → d.leaf.phase ≡ Running → d.leaf.hand ≡ None
-    → (end last : State) → Meets promised (context (subject d.system d.component) Main) end d.world d.leaf → flow (context (subject d.system d.component) Main) (start_of (subject d.system d.component) Main) (body (subject d.system d.component) Main) ≡ Ok end → section_end (subject d.system d.component) Main end ≡ Ok last
-    → (own_main : (v : Subject) (end : State) → flow (context v Main) (start_of v Main) (body v Main) ≡ Ok end → end.own ≡ own_after v)
-    → (w : World) (event : Event) → main_ended d d.component.node.provides ≡ Ok (w, event) → IsTypedBy promised d.system w
-main_typed promised d sure takes h t at runs free end last m whole ends own_main w event e =
-    (main_ends promised d takes t at free (subst (AreKinds promised d.leaf.slots) (own_main (subject d.system d.component) end whole) m.own) d.component.node.provides).holds w event e
+pub main_typed : (promised : ℕ → Option Kind) (before after : Extra) (d : Doing) → Carries d.x before after → Takes d → IsTypedBy promised before d.system d.world → slice_get d.system.components d.x ≡ Some d.component → d.leaf.hand ≡ None
+    → (end : State) → Meets promised (context (subject d.system d.component) Main) end d.world d.leaf → flow (context (subject d.system d.component) Main) (start_of (subject d.system d.component) Main) (body (subject d.system d.component) Main) ≡ Ok end
+    → (w : World) (event : Event) → main_ended d d.component.node.provides ≡ Ok (w, event) → IsTypedBy promised after d.system w
+main_typed promised before after d carries takes t at free end m whole w event e =
+    (main_ends promised before after d carries takes t at free (subst (AreKinds promised d.leaf.slots) (main_own (subject d.system d.component) end whole) m.own) d.component.node.provides).holds w event e

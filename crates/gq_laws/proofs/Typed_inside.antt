@@ -1,5 +1,5 @@
 -- A step inside a section that asks nothing of a session keeps worlds typed.
-use Rattle.std.proofs.Common.{◌≡◌, ◌≢◌, ◌≤◌, ◌⊎◌, ℕ, inl, inr, true, length, Option, Some, None, Ok, refl, ap, sym, ◌∙◌, subst}
+use Rattle.std.proofs.Common.{◌≡◌, ◌≢◌, ◌≤◌, ◌⊎◌, ℕ, inl, inr, true, length, Option, Some, None, Ok, refl, ap, sym, ◌∙◌, subst, List}
 use Rattle.std.specs.Prelude.{slice_get}
 use Rattle.std.proofs.lemmas.Bool.Decides.{eqb_tells}
 use Rattle.gq_model.specs.declared.program.Form.TheVariants.{Slice}
@@ -7,7 +7,7 @@ use Rattle.gq_model.specs.declared.phase.Phase.{Phase}
 use Rattle.gq_model.specs.declared.phase.Phase.TheVariants.{Running, Handling}
 use Rattle.gq_model.specs.Program.{Statements, section_in}
 use Rattle.gq_model.specs.Scenario.{System, Component, interface_in, number_of}
-use Rattle.gq_model.specs.World.{Session, Request, Hand, Leaf, World, session_at}
+use Rattle.gq_model.specs.World.{Session, Request, Hand, Leaf, World, session_at, Round}
 use Rattle.gq_model.specs.Doing.{Doing}
 use Rattle.gq_model.specs.Step.{section_for}
 use Rattle.gq_model.specs.Kinds.{Kind, Memory, State}
@@ -21,28 +21,29 @@ use Rattle.gq_laws.specs.Statements.{Takes, LeadsOn, bare, IsElse, KeepsSession,
 use Rattle.gq_laws.specs.Asking.{IsWithin}
 use Rattle.gq_laws.specs.Shapes.{Each}
 use Rattle.gq_laws.specs.Replies.{once_replied}
-use Rattle.gq_laws.specs.Typing.{kind_then, section_of, IsAwaited, StandsBy, FitsService, FitsRequest, IsTypedBy}
+use Rattle.gq_laws.specs.Typing.{Extra, Carries, kind_then, section_of, IsAwaited, StandsBy, FitsService, FitsRequest, IsTypedBy}
 use Rattle.gq_laws.proofs.Linking.{some_same, none_some}
 use Rattle.gq_laws.proofs.Link_events.{each_map}
 use Rattle.gq_laws.proofs.Statement_others.{stays_kind, stay_kinds}
 use Rattle.gq_laws.proofs.Statement_frame.{stand_else}
 use Rattle.gq_laws.proofs.Typed_worlds.{kind_same, asked_same, if_here, stands_else}
 use Rattle.gq_laws.proofs.Typed_links.{stood}
+use Rattle.gq_model.specs.declared.program.Section.{Section}
 
 -- a leaf that takes a step
 abbrev pub IsActive : Phase → Type 0
 IsActive phase = (phase ≡ Running) ⊎ (phase ≡ Handling)
 
 -- it stands where a section at its hand, or `main`, has come to
-pub stands_active : (promised : ℕ → Option Kind) (system : System) (x : ℕ) (c : Component) (w : World) (leaf : Leaf) (phase : Phase) → IsActive phase → (state end : State)
+pub stands_active : (promised : ℕ → Option Kind) (extra : Extra) (system : System) (x : ℕ) (c : Component) (w : World) (leaf : Leaf) (phase : Phase) → IsActive phase → (state end : State)
     → Meets promised (within (context (subject system c) (section_of leaf.hand)) leaf.loops) state w leaf
     → Continues (context (subject system c) (section_of leaf.hand)) state leaf.todo leaf.loops end
     → flow (context (subject system c) (section_of leaf.hand)) (start_of (subject system c) (section_of leaf.hand)) (body (subject system c) (section_of leaf.hand)) ≡ Ok end
-    → (list : Statements) × (section_in (section_of leaf.hand) c.node.program.sections ≡ Some list) → StandsBy promised system w x c leaf phase
-stands_active promised system x c w leaf phase (inl e) state end meets goes_on whole listed =
-    subst (StandsBy promised system w x c leaf) (sym e) (record { state = state; next = state; end = end; meets = meets; from = refl; goes_on = goes_on; whole = whole; listed = listed })
-stands_active promised system x c w leaf phase (inr e) state end meets goes_on whole listed =
-    subst (StandsBy promised system w x c leaf) (sym e) (record { state = state; next = state; end = end; meets = meets; from = refl; goes_on = goes_on; whole = whole; listed = listed })
+    → (list : Statements) × (section_in (section_of leaf.hand) c.node.program.sections ≡ Some list) → extra x (section_of leaf.hand) state leaf.todo leaf.loops → StandsBy promised extra system w x c leaf phase
+stands_active promised extra system x c w leaf phase (inl e) state end meets goes_on whole listed also =
+    subst (StandsBy promised extra system w x c leaf) (sym e) (record { state = state; next = state; end = end; meets = meets; from = refl; goes_on = goes_on; whole = whole; listed = listed; also = also })
+stands_active promised extra system x c w leaf phase (inr e) state end meets goes_on whole listed also =
+    subst (StandsBy promised extra system w x c leaf) (sym e) (record { state = state; next = state; end = end; meets = meets; from = refl; goes_on = goes_on; whole = whole; listed = listed; also = also })
 
 -- what is at another leaf's hand is another session
 pub hand_else : (d : Doing) → Takes d → IsLinkedWorld d.system d.world → (y : ℕ) (leaf : Leaf) → y ≢ d.x → slice_get d.world.leaves y ≡ Some leaf → (g : Hand) → leaf.hand ≡ Some g → (o : Option Hand) → d.leaf.hand ≡ o → IsElse g.session o
@@ -53,10 +54,11 @@ hand_else d takes h y leaf ne there g at (Some b) mine =
     let m = h.handles d.x d.leaf.phase b (stood d takes ∙ ap (λ o. Some (stance d.leaf.phase o)) mine) in
     ne (sym f.2 ∙ (ap (λ (s : Session). s.server) (some_same (sym f.1 ∙ (ap (links d.world).sessions (sym same) ∙ m.1))) ∙ m.2))
 
-module _ (promised : ℕ → Option Kind) (d : Doing) (takes : Takes d) (h : IsLinkedWorld d.system d.world) (t : IsTypedBy promised d.system d.world) (at : slice_get d.system.components d.x ≡ Some d.component) (active : IsActive d.leaf.phase)
+module _ (promised : ℕ → Option Kind) (before after : Extra) (d : Doing) (carries : Carries d.x before after) (takes : Takes d) (h : IsLinkedWorld d.system d.world) (t : IsTypedBy promised before d.system d.world) (at : slice_get d.system.components d.x ≡ Some d.component) (active : IsActive d.leaf.phase)
     (w : World) (others : LeavesOthers d w) (old end : State) (leads : LeadsOn promised (context (subject d.system d.component) (section_of d.leaf.hand)) old end d w)
     (whole : flow (context (subject d.system d.component) (section_of d.leaf.hand)) (start_of (subject d.system d.component) (section_of d.leaf.hand)) (body (subject d.system d.component) (section_of d.leaf.hand)) ≡ Ok end)
-    (listed : (list : Statements) × (section_in (section_of d.leaf.hand) d.component.node.program.sections ≡ Some list)) where
+    (listed : (list : Statements) × (section_in (section_of d.leaf.hand) d.component.node.program.sections ≡ Some list))
+    (also : after d.x (section_of d.leaf.hand) leads.state leads.leaf.todo leads.leaf.loops) where
   hand_same : (k y : ℕ) → section_at_hand k (slice_get w.leaves y) ≡ section_at_hand k (slice_get d.world.leaves y)
   hand_same k y =
       elim (eqb_tells y d.x) [
@@ -96,29 +98,30 @@ module _ (promised : ℕ → Option Kind) (d : Doing) (takes : Takes d) (h : IsL
         is = subst (λ u. next ≡ once_replied (number_of (interface_in u.service d.system.interfaces) (λ i. i.reply)) a.section state) (sym f.2.rest) a.is;
       }
 
-  leaf_stands : (y : ℕ) (c : Component) (leaf : Leaf) → slice_get d.system.components y ≡ Some c → slice_get w.leaves y ≡ Some leaf → StandsBy promised d.system w y c leaf leaf.phase
+  leaf_stands : (y : ℕ) (c : Component) (leaf : Leaf) → slice_get d.system.components y ≡ Some c → slice_get w.leaves y ≡ Some leaf → StandsBy promised after d.system w y c leaf leaf.phase
   leaf_stands y c leaf placed there = elim (eqb_tells y d.x) [ inl f ↦ here f.1 | inr f ↦ else f.1 ]
     where
-      its : StandsBy promised d.system w d.x d.component leads.leaf leads.leaf.phase
+      its : StandsBy promised after d.system w d.x d.component leads.leaf leads.leaf.phase
       its =
           let v = subject d.system d.component in
-          stands_active promised d.system d.x d.component w leads.leaf leads.leaf.phase (subst IsActive (sym leads.phase) active) leads.state end
+          stands_active promised after d.system d.x d.component w leads.leaf leads.leaf.phase (subst IsActive (sym leads.phase) active) leads.state end
           (subst (λ o. Meets promised (within (context v (section_of o)) leads.leaf.loops) leads.state w leads.leaf) (sym leads.hand) leads.meets)
           (subst (λ o. Continues (context v (section_of o)) leads.state leads.leaf.todo leads.leaf.loops end) (sym leads.hand) leads.goes_on)
           (subst (λ o. flow (context v (section_of o)) (start_of v (section_of o)) (body v (section_of o)) ≡ Ok end) (sym leads.hand) whole)
           (subst (λ o. (list : Statements) × (section_in (section_of o) d.component.node.program.sections ≡ Some list)) (sym leads.hand) listed)
+          (subst (λ o. after d.x (section_of o) leads.state leads.leaf.todo leads.leaf.loops) (sym leads.hand) also)
 
-      here : y ≡ d.x → StandsBy promised d.system w y c leaf leaf.phase
+      here : y ≡ d.x → StandsBy promised after d.system w y c leaf leaf.phase
       here e =
           let component : c ≡ d.component = some_same (sym placed ∙ (ap (slice_get d.system.components) e ∙ at)) in
           let same : leaf ≡ leads.leaf = some_same (sym there ∙ (ap (slice_get w.leaves) e ∙ leads.there)) in
-          subst (λ y. StandsBy promised d.system w y c leaf leaf.phase) (sym e)
-          (subst (λ c. StandsBy promised d.system w d.x c leaf leaf.phase) (sym component) (subst (λ l. StandsBy promised d.system w d.x d.component l l.phase) (sym same) its))
+          subst (λ y. StandsBy promised after d.system w y c leaf leaf.phase) (sym e)
+          (subst (λ c. StandsBy promised after d.system w d.x c leaf leaf.phase) (sym component) (subst (λ l. StandsBy promised after d.system w d.x d.component l l.phase) (sym same) its))
 
-      else : y ≢ d.x → StandsBy promised d.system w y c leaf leaf.phase
+      else : y ≢ d.x → StandsBy promised after d.system w y c leaf leaf.phase
       else ne =
           let was = sym (others.leaves y ne) ∙ there in
-          stands_else promised promised d.system d.world w y c leaf (λ e state m. stand_else promised d w others e state leaf (λ g is. hand_else d takes h y leaf ne was g is d.leaf.hand refl) m) (λ ks a. a) (awaited y) leaf.phase (t.leaves y c leaf placed was)
+          stands_else promised promised before after d.system d.world w y c leaf (λ e state m. stand_else promised d w others e state leaf (λ g is. hand_else d takes h y leaf ne was g is d.leaf.hand refl) m) (λ ks a. a) (awaited y) (λ section state todo loops. carries y section state todo loops ne) leaf.phase (t.leaves y c leaf placed was)
 
   -- a session that is not at its server's hand is not at this leaf's
   not_at_hand : (k : ℕ) (old : Session) → session_at d.world k ≡ Some old → section_at_hand k (slice_get d.world.leaves old.server) ≡ None → (o : Option Hand) → d.leaf.hand ≡ o → IsElse k o
@@ -155,7 +158,7 @@ module _ (promised : ℕ → Option Kind) (d : Doing) (takes : Takes d) (h : IsL
       let b = session_back r.session s there in
       subst (λ u. IsWithin d.system u.service r.ask × (is_wanted (interface_in u.service d.system.interfaces) (section_for r.ask (level_then r.ask u.level)) ≡ true)) (sym b.2.rest) (f b.0 b.1)
 
-  pub typed_inside : IsTypedBy promised d.system w
+  pub typed_inside : IsTypedBy promised after d.system w
   typed_inside =
       record {
         tells = told;

@@ -20,7 +20,7 @@ use Rattle.gq_laws.specs.Links.{Naming, Leads, Waits, named, naming_in, stance_i
 use Rattle.gq_laws.specs.Typed.{IsKind, AreKinds, IsLinkKind, PromisesLinks, HasBuffer, SharesBuffers}
 use Rattle.gq_laws.specs.Statements.{Takes, Grants}
 use Rattle.gq_laws.specs.Asking.{TellsLinks}
-use Rattle.gq_laws.specs.Typing.{kind_then, Tells, IsTypedBy}
+use Rattle.gq_laws.specs.Typing.{Extra, kind_then, Tells, IsTypedBy}
 use Rattle.gq_laws.proofs.Linking.{some_same, none_some}
 use Rattle.gq_laws.proofs.Statement_slots.{kinds_get}
 use Rattle.gq_laws.proofs.Statement_awake.{is_awake}
@@ -89,7 +89,7 @@ module _ (promised : ℕ → Option Kind) (system : System) (w : World) (h : IsL
 
 -- SESSIONS AT REST
 
-module _ (promised : ℕ → Option Kind) (system : System) (sure : IsSure system) (w : World) (h : IsLinkedWorld system w) (t : IsTypedBy promised system w) where
+module _ (promised : ℕ → Option Kind) (extra : Extra) (system : System) (sure : IsSure system) (w : World) (h : IsLinkedWorld system w) (t : IsTypedBy promised extra system w) where
   -- a slot of the kind of memory holds it
   space_there : (k n : ℕ) (slot : Slot) → slot_at w (In_session k 0) ≡ Some slot → IsKind promised slot (Memory Space n) → (bytes : List ℕ) × (slot ≡ Bytes Space n bytes) × IsKind promised (Bytes Space n bytes) (Memory Space n)
   space_there k n Empty there is = absurd cc
@@ -157,13 +157,13 @@ module _ (promised : ℕ → Option Kind) (system : System) (sure : IsSure syste
 pub stood : (d : Doing) → Takes d → (links d.world).stances d.x ≡ Some (stance d.leaf.phase d.leaf.hand)
 stood d takes = ap stance_in takes.there ∙ (ap (λ p. Some (stance p takes.old.hand)) (sym takes.phase) ∙ ap (λ o. Some (stance d.leaf.phase o)) (sym takes.hand))
 
-pub grants : (promised : ℕ → Option Kind) (d : Doing) → IsSure d.system → IsLinkedWorld d.system d.world → IsTypedBy promised d.system d.world
+pub grants : (promised : ℕ → Option Kind) (extra : Extra) (d : Doing) → IsSure d.system → IsLinkedWorld d.system d.world → IsTypedBy promised extra d.system d.world
     → (section : Section) (counts : List ℕ) → Takes d → d.leaf.phase ≢ Blocked → slice_get d.system.components d.x ≡ Some d.component → Grants promised (record { subject = subject d.system d.component; section = section; counts = counts }) d
-grants promised d sure h t section counts takes awake at =
+grants promised extra d sure h t section counts takes awake at =
     record {
       interfaces = refl;
-      provided = λ hand s is there. (provided_at_hand promised d.system sure d.world h t d.x d.component d.leaf.phase d.leaf.hand at (stood d takes) hand s is there).1;
+      provided = λ hand s is there. (provided_at_hand promised extra d.system sure d.world h t d.x d.component d.leaf.phase d.leaf.hand at (stood d takes) hand s is there).1;
       links = promises_links promised d.system d.world h t.tells;
-      buffers = shares_buffers promised d.system sure d.world h t;
+      buffers = shares_buffers promised extra d.system sure d.world h t;
       awake = is_awake d takes h awake;
     }

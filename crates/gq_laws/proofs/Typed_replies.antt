@@ -1,5 +1,5 @@
 -- The end of a section for a session keeps worlds typed: its server waits for a request, and its client goes on with the reply.
-use Rattle.std.proofs.Common.{◌≡◌, ◌≢◌, ◌≤◌, ◌==◌, ℕ, inl, inr, cond, Bool, true, false, length, Option, Some, None, Ok, refl, ap, sym, ◌∙◌, subst, arith}
+use Rattle.std.proofs.Common.{◌≡◌, ◌≢◌, ◌≤◌, ◌==◌, ℕ, inl, inr, cond, Bool, true, false, length, Option, Some, None, Ok, refl, ap, sym, ◌∙◌, subst, arith, List}
 use Rattle.std.specs.Prelude.{slice_get, slice_set}
 use Rattle.std.proofs.lemmas.Bool.Decides.{eqb_tells}
 use Rattle.gq_model.specs.Lists.{or_first}
@@ -8,7 +8,7 @@ use Rattle.gq_model.specs.declared.program.Section.{Section}
 use Rattle.gq_model.specs.declared.program.Section.TheVariants.{Main, Opening, Upgrading, Calling, Closing}
 use Rattle.gq_model.specs.declared.phase.Phase.TheVariants.{Blocked, Handling}
 use Rattle.gq_model.specs.Scenario.{Component, interface_in, number_of}
-use Rattle.gq_model.specs.World.{Slot, Spot, In_leaf, In_session, In_object, Session, Request, Hand, Leaf, World, session_at}
+use Rattle.gq_model.specs.World.{Slot, Spot, In_leaf, In_session, In_object, Session, Request, Hand, Leaf, World, session_at, Round}
 use Rattle.gq_model.specs.Doing.{Doing, Event}
 use Rattle.gq_model.specs.Step.{section_for, serving, resumed, section_ended}
 use Rattle.gq_model.specs.Kinds.{Kind, Memory, Link_kind, State, Context, Subject, no_kinds}
@@ -22,7 +22,7 @@ use Rattle.gq_laws.specs.Typed.{IsKind, AreKinds, Meets}
 use Rattle.gq_laws.specs.Statements.{Takes, bare}
 use Rattle.gq_laws.specs.Asking.{IsWithin}
 use Rattle.gq_laws.specs.Replies.{HasEnded, Replies, Resumes, session_replied, bank_then, session_then, slot_replied, own_then, resuming, once_replied}
-use Rattle.gq_laws.specs.Typing.{kind_then, section_of, IsAwaited, IsInSection, StandsBy, RestsAt, FitsService, FitsRequest, IsTypedBy}
+use Rattle.gq_laws.specs.Typing.{Extra, Carries, kind_then, section_of, IsAwaited, IsInSection, StandsBy, RestsAt, FitsService, FitsRequest, IsTypedBy}
 use Rattle.gq_laws.proofs.Linking.{some_same, none_some}
 use Rattle.gq_laws.proofs.Link_events.{each_map}
 use Rattle.gq_laws.proofs.Reply_worlds.{replies_ruled}
@@ -31,6 +31,7 @@ use Rattle.gq_laws.proofs.Sure.{IsSure}
 use Rattle.gq_laws.proofs.Typed_worlds.{kind_same, asked_same, waiting_none, none_asked, if_here, stands_else}
 use Rattle.gq_laws.proofs.Typed_links.{stood}
 use Rattle.gq_laws.proofs.Typed_inside.{IsActive, stands_active, hand_else}
+use Rattle.gq_model.specs.Program.{Statements}
 
 -- a section of a session that stays open leaves its slots so at this level
 abbrev pub LeavesBank : Subject → Section → State → ℕ → Type 0
@@ -64,7 +65,7 @@ resumed_active : (o : Option Hand) → IsActive (resumed o)
 resumed_active None = inl refl
 resumed_active (Some g) = inr refl
 
-module _ (promised : ℕ → Option Kind) (d : Doing) (sure : IsSure d.system) (takes : Takes d) (h : IsLinkedWorld d.system d.world) (t : IsTypedBy promised d.system d.world) (at : slice_get d.system.components d.x ≡ Some d.component) (handling : d.leaf.phase ≡ Handling)
+module _ (promised : ℕ → Option Kind) (before : Extra) (d : Doing) (sure : IsSure d.system) (takes : Takes d) (h : IsLinkedWorld d.system d.world) (t : IsTypedBy promised before d.system d.world) (at : slice_get d.system.components d.x ≡ Some d.component) (handling : d.leaf.phase ≡ Handling)
     (g : Hand) (s : Session) (mine : d.leaf.hand ≡ Some g) (found : session_at d.world g.session ≡ Some s) where
   abbrev k : ℕ
   k = g.session
@@ -119,7 +120,7 @@ module _ (promised : ℕ → Option Kind) (d : Doing) (sure : IsSure d.system) (
   pub promise : promised k ≡ Some (kind_replied g.section s)
   promise = t.tells k s found ∙ ap (λ o. Some (kind_then s o)) asked_at_hand
 
-  module _ (end last : State) (meets : Meets promised (context v g.section) end d.world d.leaf) (own : end.own ≡ own_after v) (bank : LeavesBank v g.section end s.level) (provided : v.provided ≡ interface_in s.service d.system.interfaces) (ends : section_end v g.section end ≡ Ok last) (w : World) (event : Event) (is : section_ended d d.leaf.hand ≡ Ok (w, event)) where
+  module _ (after : Extra) (carries : Carries d.x before after) (end last : State) (meets : Meets promised (context v g.section) end d.world d.leaf) (own : end.own ≡ own_after v) (bank : LeavesBank v g.section end s.level) (provided : v.provided ≡ interface_in s.service d.system.interfaces) (ends : section_end v g.section end ≡ Ok last) (w : World) (event : Event) (is : section_ended d d.leaf.hand ≡ Ok (w, event)) where
     ended : HasEnded promised (context v g.section) end d g s w
     ended = record { meets = meets; last = last; ends = ends; at_hand = mine; there = found; event = event; ended = is }
 
@@ -215,35 +216,35 @@ module _ (promised : ℕ → Option Kind) (d : Doing) (sure : IsSure d.system) (
         let section : a.section ≡ g.section = some_same (sym a.asked ∙ (ap (λ j. section_asked d.world j a.session) same ∙ (ap (section_asked d.world k) session ∙ asked_at_hand))) in
         a.is ∙ (ap (λ (u : Session). once_replied (number_of (interface_in u.service d.system.interfaces) (λ i. i.reply)) a.section state) session ∙ ap (λ q. once_replied (number_of (interface_in s.service d.system.interfaces) (λ i. i.reply)) q state) section)
 
-    client_stands : (c : Component) → slice_get d.system.components s.client ≡ Some c → (leaf : Leaf) → slice_get w.leaves s.client ≡ Some leaf → StandsBy promised d.system w s.client c leaf leaf.phase
+    client_stands : (c : Component) → slice_get d.system.components s.client ≡ Some c → (leaf : Leaf) → slice_get w.leaves s.client ≡ Some leaf → StandsBy promised after d.system w s.client c leaf leaf.phase
     client_stands c placed leaf there =
-        let i : IsInSection promised d.system d.world s.client c r.client Blocked (section_of r.client.hand) = subst (StandsBy promised d.system d.world s.client c r.client) r.blocked (t.leaves s.client c r.client placed r.was) in
+        let i : IsInSection promised before d.system d.world s.client c r.client Blocked (section_of r.client.hand) = subst (StandsBy promised before d.system d.world s.client c r.client) r.blocked (t.leaves s.client c r.client placed r.was) in
         let new : Leaf = resuming r.client r.operands (own_then s.spot slot r.client.slots) in
         let e : Context = within (context (subject d.system c) (section_of r.client.hand)) r.client.loops in
         let m = z.client e i.state r.client r.was i.meets in
         let is_new : m.0 ≡ new = some_same (sym m.1 ∙ r.goes_on) in
         let replied : once_replied (number_of v.provided (λ i. i.reply)) g.section i.state ≡ i.next = ap (λ o. once_replied (number_of o (λ i. i.reply)) g.section i.state) provided ∙ sym (waits_for i.state i.next i.from) in
         let meets_new : Meets promised e i.next w new = subst (λ l. Meets promised e i.next w l) is_new (subst (λ st. Meets promised e st w m.0) replied m.2) in
-        subst (λ l. StandsBy promised d.system w s.client c l l.phase) (some_same (sym r.goes_on ∙ there))
-        (stands_active promised d.system s.client c w new (resumed r.client.hand) (resumed_active r.client.hand) i.next i.end meets_new i.goes_on i.whole i.listed)
+        subst (λ l. StandsBy promised after d.system w s.client c l l.phase) (some_same (sym r.goes_on ∙ there))
+        (stands_active promised after d.system s.client c w new (resumed r.client.hand) (resumed_active r.client.hand) i.next i.end meets_new i.goes_on i.whole i.listed (carries s.client (section_of r.client.hand) i.next r.client.todo r.client.loops r.other i.also))
 
-    leaf_stands : (y : ℕ) (c : Component) (leaf : Leaf) → slice_get d.system.components y ≡ Some c → slice_get w.leaves y ≡ Some leaf → StandsBy promised d.system w y c leaf leaf.phase
+    leaf_stands : (y : ℕ) (c : Component) (leaf : Leaf) → slice_get d.system.components y ≡ Some c → slice_get w.leaves y ≡ Some leaf → StandsBy promised after d.system w y c leaf leaf.phase
     leaf_stands y c leaf placed there = elim (eqb_tells y d.x) [ inl f ↦ server f.1 | inr f ↦ elim (eqb_tells y s.client) [ inl e ↦ client e.1 | inr e ↦ else f.1 e.1 ] ]
       where
-        server : y ≡ d.x → StandsBy promised d.system w y c leaf leaf.phase
+        server : y ≡ d.x → StandsBy promised after d.system w y c leaf leaf.phase
         server e =
             let component : c ≡ d.component = some_same (sym placed ∙ (ap (slice_get d.system.components) e ∙ at)) in
             let same : leaf ≡ serving d.leaf = some_same (sym there ∙ (ap (slice_get w.leaves) e ∙ r.server)) in
             let kinds : AreKinds promised d.leaf.slots (own_after (subject d.system c)) = subst (λ c. AreKinds promised d.leaf.slots (own_after (subject d.system c))) (sym component) (subst (AreKinds promised d.leaf.slots) own meets.own) in
-            subst (λ l. StandsBy promised d.system w y c l l.phase) (sym same) kinds
+            subst (λ l. StandsBy promised after d.system w y c l l.phase) (sym same) kinds
 
-        client : y ≡ s.client → StandsBy promised d.system w y c leaf leaf.phase
-        client e = subst (λ y. StandsBy promised d.system w y c leaf leaf.phase) (sym e) (client_stands c (sym (ap (slice_get d.system.components) e) ∙ placed) leaf (sym (ap (slice_get w.leaves) e) ∙ there))
+        client : y ≡ s.client → StandsBy promised after d.system w y c leaf leaf.phase
+        client e = subst (λ y. StandsBy promised after d.system w y c leaf leaf.phase) (sym e) (client_stands c (sym (ap (slice_get d.system.components) e) ∙ placed) leaf (sym (ap (slice_get w.leaves) e) ∙ there))
 
-        else : y ≢ d.x → y ≢ s.client → StandsBy promised d.system w y c leaf leaf.phase
+        else : y ≢ d.x → y ≢ s.client → StandsBy promised after d.system w y c leaf leaf.phase
         else ne not_client =
             let was = sym (r.leaves y ne not_client) ∙ there in
-            stands_else promised promised d.system d.world w y c leaf (λ e state m. z.others e state leaf (λ b is. hand_else d takes h y leaf ne was b is d.leaf.hand refl) m) (λ ks a. a) (awaited y not_client) leaf.phase (t.leaves y c leaf placed was)
+            stands_else promised promised before after d.system d.world w y c leaf (λ e state m. z.others e state leaf (λ b is. hand_else d takes h y leaf ne was b is d.leaf.hand refl) m) (λ ks a. a) (awaited y not_client) (λ section state todo loops. carries y section state todo loops ne) leaf.phase (t.leaves y c leaf placed was)
 
     -- SESSIONS AND REQUESTS
 
@@ -297,7 +298,7 @@ module _ (promised : ℕ → Option Kind) (d : Doing) (sure : IsSure d.system) (
             let b = back q.session u ne there in
             subst (λ u. IsWithin d.system u.service q.ask × (is_wanted (interface_in u.service d.system.interfaces) (section_for q.ask (level_then q.ask u.level)) ≡ true)) (sym b.2) (f b.0 b.1)
 
-    pub replied_typed : IsTypedBy promised d.system w
+    pub replied_typed : IsTypedBy promised after d.system w
     replied_typed =
         record {
           tells = told;

@@ -19,7 +19,7 @@ use Rattle.gq_laws.specs.Links.{IsLinkedWorld}
 use Rattle.gq_laws.specs.Sound.{IsSound}
 use Rattle.gq_laws.specs.Left.{AreLeft, IsGood}
 use Rattle.gq_laws.specs.Statements.{IsSafe, Takes}
-use Rattle.gq_laws.specs.Typing.{section_of, IsInSection, StandsBy, IsTyped}
+use Rattle.gq_laws.specs.Typing.{Extra, no_extra, section_of, IsInSection, StandsBy, IsTyped}
 use Rattle.gq_laws.proofs.Reaching.{in_reached}
 use Rattle.gq_laws.proofs.Linked_worlds.{kept_linked, start_linked}
 use Rattle.gq_laws.proofs.Left_worlds.{start_left, kept_left}
@@ -27,13 +27,13 @@ use Rattle.gq_laws.proofs.Accepted_programs.{main_there, section_flows}
 use Rattle.gq_laws.proofs.Statement_rules.{safe_gives}
 use Rattle.gq_laws.proofs.Sure.{IsSure}
 use Rattle.gq_laws.proofs.Sound_systems.{sure_of, good_of}
-use Rattle.gq_laws.proofs.Typed_start.{start_typed}
-use Rattle.gq_laws.proofs.Typed_steps.{steps}
+use Rattle.gq_laws.proofs.Typed_start.{nothing, start_typed}
+use Rattle.gq_laws.proofs.Typed_steps.{outcome, outcome_typed}
 
 -- a leaf whose step is counted stands where it stood
-in_section_counted : (promised : ℕ → Option Kind) (system : System) (w : World) (x : ℕ) (c : Component) (leaf : Leaf) (n : ℕ) (phase : Phase)
-    → IsInSection promised system w x c leaf phase (section_of leaf.hand) → IsInSection promised system w x c (record leaf { steps = n }) phase (section_of leaf.hand)
-in_section_counted promised system w x c leaf n phase s =
+in_section_counted : (promised : ℕ → Option Kind) (extra : Extra) (system : System) (w : World) (x : ℕ) (c : Component) (leaf : Leaf) (n : ℕ) (phase : Phase)
+    → IsInSection promised extra system w x c leaf phase (section_of leaf.hand) → IsInSection promised extra system w x c (record leaf { steps = n }) phase (section_of leaf.hand)
+in_section_counted promised extra system w x c leaf n phase s =
     record {
       state = s.state;
       next = s.next;
@@ -43,15 +43,16 @@ in_section_counted promised system w x c leaf n phase s =
       goes_on = s.goes_on;
       whole = s.whole;
       listed = s.listed;
+      also = s.also;
     }
 
-counted : (promised : ℕ → Option Kind) (system : System) (w : World) (x : ℕ) (c : Component) (leaf : Leaf) (n : ℕ) (phase : Phase) → StandsBy promised system w x c leaf phase → StandsBy promised system w x c (record leaf { steps = n }) phase
-counted promised system w x c leaf n Pending s = in_section_counted promised system w x c leaf n Pending s
-counted promised system w x c leaf n Running s = in_section_counted promised system w x c leaf n Running s
-counted promised system w x c leaf n Blocked s = in_section_counted promised system w x c leaf n Blocked s
-counted promised system w x c leaf n Serving s = s
-counted promised system w x c leaf n Handling s = in_section_counted promised system w x c leaf n Handling s
-counted promised system w x c leaf n Exited s = s
+pub counted : (promised : ℕ → Option Kind) (extra : Extra) (system : System) (w : World) (x : ℕ) (c : Component) (leaf : Leaf) (n : ℕ) (phase : Phase) → StandsBy promised extra system w x c leaf phase → StandsBy promised extra system w x c (record leaf { steps = n }) phase
+counted promised extra system w x c leaf n Pending s = in_section_counted promised extra system w x c leaf n Pending s
+counted promised extra system w x c leaf n Running s = in_section_counted promised extra system w x c leaf n Running s
+counted promised extra system w x c leaf n Blocked s = in_section_counted promised extra system w x c leaf n Blocked s
+counted promised extra system w x c leaf n Serving s = s
+counted promised extra system w x c leaf n Handling s = in_section_counted promised extra system w x c leaf n Handling s
+counted promised extra system w x c leaf n Exited s = s
 
 -- one turn
 pub next_typed : (system : System) → IsSure system → (w : World) → IsLinkedWorld system w → AreLeft (IsGood system) system w → IsTyped system w → (x : ℕ) → IsSafe (IsTyped system) (next system w x)
@@ -63,7 +64,8 @@ next_typed system sure w h left t x = by (slice_get system.components x) refl (s
     by (Some c) e (Some leaf) f =
         let d : Doing = record { system = system; world = w; x = x; component = c; leaf = record leaf { steps = suc leaf.steps } } in
         let taken : Takes d = record { old = leaf; there = f; slots = refl; phase = refl; hand = refl } in
-        steps t.0 d sure taken h t.1 e (left x c leaf e f).todo (counted t.0 system w x c leaf (suc leaf.steps) leaf.phase (t.1.leaves x c leaf e f))
+        let o = outcome t.0 no_extra d sure taken h t.1 e (left x c leaf e f).todo (counted t.0 no_extra system w x c leaf (suc leaf.steps) leaf.phase (t.1.leaves x c leaf e f)) in
+        record { ends = λ new event g. outcome_typed t.0 no_extra d sure taken h t.1 e new (o.ends new event g); short = o.short }
 
 -- THE WORLDS OF A SCENARIO
 
@@ -105,7 +107,7 @@ module _ (s : Scenario) (sound : IsSound s) where
       record {
         linked = start_linked (system s);
         left = start_left (IsGood (system s)) (system s) (good_of s sound);
-        typed = start_typed (system s) sure main_flows main_listed;
+        typed = (nothing, start_typed no_extra (system s) sure main_flows main_listed (λ x c there. tt));
       }
 
   reached_stands : (w : World) → IsReached s w → Stands w

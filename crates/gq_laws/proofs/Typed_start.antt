@@ -8,7 +8,7 @@ use Rattle.gq_model.specs.World.{Leaf, first_phase, start_leaf, start_leaves, st
 use Rattle.gq_model.specs.Kinds.{Kind, State}
 use Rattle.gq_model.specs.Flow.{flow, context, body, start_of}
 use Rattle.gq_model.specs.Use.{subject}
-use Rattle.gq_laws.specs.Typing.{StandsBy, IsTyped}
+use Rattle.gq_laws.specs.Typing.{Extra, StandsBy, IsTyped, IsTypedBy}
 use Rattle.gq_laws.proofs.Linking.{some_same, none_some}
 use Rattle.gq_laws.proofs.Statement_frame.{starts}
 use Rattle.gq_laws.proofs.Sure.{IsSure}
@@ -19,31 +19,29 @@ start_at [] x c leaf placed there = absurd (none_some placed)
 start_at (b ∷ rest) zero c leaf placed there = sym (some_same there) ∙ ap start_leaf (some_same placed)
 start_at (b ∷ rest) (suc x) c leaf placed there = start_at rest x c leaf placed there
 
-module _ (system : System) (sure : IsSure system) where
-  -- nothing is promised yet
-  abbrev nothing : ℕ → Option Kind
-  nothing k = None
+-- nothing is promised yet
+abbrev pub nothing : ℕ → Option Kind
+nothing k = None
 
+module _ (extra : Extra) (system : System) (sure : IsSure system) where
   module _ (x : ℕ) (c : Component) (placed : slice_get system.components x ≡ Some c) (end : State) (whole : flow (context (subject system c) Main) (start_of (subject system c) Main) (body (subject system c) Main) ≡ Ok end)
-      (listed : (list : Statements) × (section_in Main c.node.program.sections ≡ Some list)) where
-    start_stands : (after : Option (List ℕ)) → StandsBy nothing system (start system) x c (start_leaf c) (first_phase after)
+      (listed : (list : Statements) × (section_in Main c.node.program.sections ≡ Some list)) (also : extra x Main (start_of (subject system c) Main) (body (subject system c) Main) []) where
+    start_stands : (after : Option (List ℕ)) → StandsBy nothing extra system (start system) x c (start_leaf c) (first_phase after)
     start_stands None =
         let v = subject system c in
-        record { state = start_of v Main; next = start_of v Main; end = end; meets = starts nothing v (start system) c (sure.locals x c placed); from = refl; goes_on = (end, whole, refl); whole = whole; listed = listed }
+        record { state = start_of v Main; next = start_of v Main; end = end; meets = starts nothing v (start system) c (sure.locals x c placed); from = refl; goes_on = (end, whole, refl); whole = whole; listed = listed; also = also }
     start_stands (Some name) =
         let v = subject system c in
-        record { state = start_of v Main; next = start_of v Main; end = end; meets = starts nothing v (start system) c (sure.locals x c placed); from = refl; goes_on = (end, whole, refl); whole = whole; listed = listed }
+        record { state = start_of v Main; next = start_of v Main; end = end; meets = starts nothing v (start system) c (sure.locals x c placed); from = refl; goes_on = (end, whole, refl); whole = whole; listed = listed; also = also }
 
-pub start_typed : (system : System) → IsSure system → (main_flows : (x : ℕ) (c : Component) → slice_get system.components x ≡ Some c → (end : State) × (flow (context (subject system c) Main) (start_of (subject system c) Main) (body (subject system c) Main) ≡ Ok end))
-    → (main_listed : (x : ℕ) (c : Component) → slice_get system.components x ≡ Some c → (list : Statements) × (section_in Main c.node.program.sections ≡ Some list)) → IsTyped system (start system)
-start_typed system sure main_flows main_listed = (
-  nothing system sure,
+pub start_typed : (extra : Extra) (system : System) → IsSure system → (main_flows : (x : ℕ) (c : Component) → slice_get system.components x ≡ Some c → (end : State) × (flow (context (subject system c) Main) (start_of (subject system c) Main) (body (subject system c) Main) ≡ Ok end))
+    → (main_listed : (x : ℕ) (c : Component) → slice_get system.components x ≡ Some c → (list : Statements) × (section_in Main c.node.program.sections ≡ Some list)) → ((x : ℕ) (c : Component) → slice_get system.components x ≡ Some c → extra x Main (start_of (subject system c) Main) (body (subject system c) Main) []) → IsTypedBy nothing extra system (start system)
+start_typed extra system sure main_flows main_listed also =
   record {
     tells = λ k s there. absurd (none_some there);
     leaves = λ x c leaf placed there.
         let f = main_flows x c placed in
-        subst (λ l. StandsBy (nothing system sure) system (start system) x c l l.phase) (sym (start_at system.components x c leaf placed there)) (start_stands system sure x c placed f.0 f.1 (main_listed x c placed) c.node.after);
+        subst (λ l. StandsBy nothing extra system (start system) x c l l.phase) (sym (start_at system.components x c leaf placed there)) (start_stands extra system sure x c placed f.0 f.1 (main_listed x c placed) (also x c placed) c.node.after);
     sessions = λ k s there. absurd (none_some there);
     requests = tt;
-  },
-)
+  }

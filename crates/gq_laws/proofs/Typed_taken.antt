@@ -1,12 +1,12 @@
 -- A world in which a leaf has taken up a request is typed, if it was before.
-use Rattle.std.proofs.Common.{◌≡◌, ◌≢◌, ◌≤◌, ℕ, inl, inr, cond, List, length, Option, Some, None, Ok, refl, ap, sym, ◌∙◌, subst}
+use Rattle.std.proofs.Common.{◌≡◌, ◌≢◌, ◌≤◌, ℕ, inl, inr, cond, List, length, Option, Some, None, Ok, refl, ap, sym, ◌∙◌, subst, []}
 use Rattle.std.specs.Prelude.{slice_get}
 use Rattle.std.proofs.lemmas.Bool.Decides.{eqb_tells}
 use Rattle.gq_model.specs.Lists.{or_first}
 use Rattle.gq_model.specs.declared.program.Section.{Section}
 use Rattle.gq_model.specs.Program.{Statements, section_in}
 use Rattle.gq_model.specs.Scenario.{Interface, Component, interface_in, number_of}
-use Rattle.gq_model.specs.World.{Session, Request, Hand, Leaf, World, session_at}
+use Rattle.gq_model.specs.World.{Session, Request, Hand, Leaf, World, session_at, Round}
 use Rattle.gq_model.specs.Doing.{Doing}
 use Rattle.gq_model.specs.Kinds.{Kind, State, Context, Subject}
 use Rattle.gq_model.specs.Flow.{flow, context, body, start_of}
@@ -18,7 +18,7 @@ use Rattle.gq_laws.specs.Typed.{HandMeets, Meets}
 use Rattle.gq_laws.specs.Statements.{Takes}
 use Rattle.gq_laws.specs.Sections.{Begins}
 use Rattle.gq_laws.specs.Replies.{once_replied}
-use Rattle.gq_laws.specs.Typing.{kind_then, section_of, IsAwaited, StandsBy, FitsService, FitsRequest, IsTypedBy}
+use Rattle.gq_laws.specs.Typing.{Extra, Carries, kind_then, section_of, IsAwaited, StandsBy, FitsService, FitsRequest, IsTypedBy}
 use Rattle.gq_laws.proofs.Linking.{some_same, none_some}
 use Rattle.gq_laws.proofs.Link_events.{each_map}
 use Rattle.gq_laws.proofs.Typed_worlds.{if_here, stands_else}
@@ -59,7 +59,7 @@ record CarriesOn (v w : World) (k : ℕ) (old new : Session) : Type 0 where
 if_else : (k : ℕ) (hand : Hand) → hand.session ≢ k → section_if k (Some hand) ≡ None
 if_else k hand ne = elim (eqb_tells hand.session k) [ inl f ↦ absurd (ne f.1) | inr f ↦ ap (λ b. cond b (Some hand.section) None) f.0 ]
 
-module _ (promised : ℕ → Option Kind) (d : Doing) (takes : Takes d) (h : IsLinkedWorld d.system d.world) (t : IsTypedBy promised d.system d.world) (r : Request) (section : Section) (old new : Session) (rest : List Request)
+module _ (promised : ℕ → Option Kind) (before : Extra) (d : Doing) (takes : Takes d) (h : IsLinkedWorld d.system d.world) (t : IsTypedBy promised before d.system d.world) (r : Request) (section : Section) (old new : Session) (rest : List Request)
     (n : IsNext d takes r.session section old rest) (w : World) (a : HasTaken promised d r section old new rest w) where
   abbrev k : ℕ
   k = r.session
@@ -159,31 +159,32 @@ module _ (promised : ℕ → Option Kind) (d : Doing) (takes : Takes d) (h : IsL
   other_meets y leaf ne there c state m =
       record { own = m.own; hand = m.hand; bank = other_bank c state.bank leaf.hand (other_hand y leaf ne there) m.bank; operands = m.operands; locals = m.locals; loops = m.loops }
 
-  module _ (end : State) (whole : flow (context v section) (start_of v section) (body v section) ≡ Ok end) (listed : (list : Statements) × (section_in section d.component.node.program.sections ≡ Some list)) where
-    its : StandsBy promised d.system w d.x d.component a.begins.leaf a.begins.leaf.phase
+  module _ (after : Extra) (carries : Carries d.x before after) (also : after d.x section (start_of v section) (body v section) []) (end : State) (whole : flow (context v section) (start_of v section) (body v section) ≡ Ok end) (listed : (list : Statements) × (section_in section d.component.node.program.sections ≡ Some list)) where
+    its : StandsBy promised after d.system w d.x d.component a.begins.leaf a.begins.leaf.phase
     its =
         let leaf = a.begins.leaf in
         let same : section ≡ section_of leaf.hand = ap section_of (sym a.begins.hand) in
-        stands_active promised d.system d.x d.component w leaf leaf.phase (inr a.begins.phase) (start_of v section) end
+        stands_active promised after d.system d.x d.component w leaf leaf.phase (inr a.begins.phase) (start_of v section) end
         (subst (λ s. Meets promised (within (context v s) leaf.loops) (start_of v section) w leaf) same (subst (λ l. Meets promised (within (context v section) l) (start_of v section) w leaf) (sym a.begins.loops) a.begins.meets))
         (subst (λ s. Continues (context v s) (start_of v section) leaf.todo leaf.loops end) same (subst (λ l. Continues (context v section) (start_of v section) leaf.todo l end) (sym a.begins.loops) (end, ap (flow (context v section) (start_of v section)) a.begins.todo ∙ whole, refl)))
         (subst (λ s. flow (context v s) (start_of v s) (body v s) ≡ Ok end) same whole)
         (subst (λ s. (list : Statements) × (section_in s d.component.node.program.sections ≡ Some list)) same listed)
+        (subst (λ s. after d.x s (start_of v section) leaf.todo leaf.loops) same (subst (λ o. after d.x section (start_of v section) o leaf.loops) (sym a.begins.todo) (subst (λ o. after d.x section (start_of v section) (body v section) o) (sym a.begins.loops) also)))
 
-    leaf_stands : (y : ℕ) (c : Component) (leaf : Leaf) → slice_get d.system.components y ≡ Some c → slice_get w.leaves y ≡ Some leaf → StandsBy promised d.system w y c leaf leaf.phase
+    leaf_stands : (y : ℕ) (c : Component) (leaf : Leaf) → slice_get d.system.components y ≡ Some c → slice_get w.leaves y ≡ Some leaf → StandsBy promised after d.system w y c leaf leaf.phase
     leaf_stands y c leaf placed there = elim (eqb_tells y d.x) [ inl f ↦ here f.1 | inr f ↦ else f.1 ]
       where
-        here : y ≡ d.x → StandsBy promised d.system w y c leaf leaf.phase
+        here : y ≡ d.x → StandsBy promised after d.system w y c leaf leaf.phase
         here e =
             let component : c ≡ d.component = some_same (sym placed ∙ (ap (slice_get d.system.components) e ∙ n.at)) in
             let same : leaf ≡ a.begins.leaf = some_same (sym there ∙ (ap (slice_get w.leaves) e ∙ a.begins.there)) in
-            subst (λ y. StandsBy promised d.system w y c leaf leaf.phase) (sym e)
-            (subst (λ c. StandsBy promised d.system w d.x c leaf leaf.phase) (sym component) (subst (λ l. StandsBy promised d.system w d.x d.component l l.phase) (sym same) its))
+            subst (λ y. StandsBy promised after d.system w y c leaf leaf.phase) (sym e)
+            (subst (λ c. StandsBy promised after d.system w d.x c leaf leaf.phase) (sym component) (subst (λ l. StandsBy promised after d.system w d.x d.component l l.phase) (sym same) its))
 
-        else : y ≢ d.x → StandsBy promised d.system w y c leaf leaf.phase
+        else : y ≢ d.x → StandsBy promised after d.system w y c leaf leaf.phase
         else ne =
             let was = sym (a.leaves y ne) ∙ there in
-            stands_else promised promised d.system d.world w y c leaf (other_meets y leaf ne was) (λ ks m. m) (awaited y) leaf.phase (t.leaves y c leaf placed was)
+            stands_else promised promised before after d.system d.world w y c leaf (other_meets y leaf ne was) (λ ks m. m) (awaited y) (λ section state todo loops. carries y section state todo loops ne) leaf.phase (t.leaves y c leaf placed was)
 
     -- SESSIONS
 
@@ -212,7 +213,7 @@ module _ (promised : ℕ → Option Kind) (d : Doing) (takes : Takes d) (h : IsL
     request_fits : (q : Request) → FitsRequest d.system d.world q × (q.session ≢ k) → FitsRequest d.system w q
     request_fits q f s there = f.0 s (sym (a.sessions q.session f.1) ∙ there)
 
-    pub taken_typed : IsTypedBy promised d.system w
+    pub taken_typed : IsTypedBy promised after d.system w
     taken_typed =
         record {
           tells = told;

@@ -6,8 +6,9 @@ use Rattle.gq_model.specs.declared.program.Section.{Section}
 use Rattle.gq_model.specs.declared.program.Section.TheVariants.{Main, Opening, Upgrading, Calling, Closing}
 use Rattle.gq_model.specs.declared.phase.Phase.{Phase}
 use Rattle.gq_model.specs.declared.phase.Phase.TheVariants.{Pending, Running, Blocked, Serving, Handling, Exited}
+use Rattle.gq_model.specs.Program.{Statements}
 use Rattle.gq_model.specs.Scenario.{System, Component}
-use Rattle.gq_model.specs.World.{Session, Request, Hand, Leaf, World}
+use Rattle.gq_model.specs.World.{Session, Request, Hand, Round, Leaf, World}
 use Rattle.gq_model.specs.Step.{section_for}
 use Rattle.gq_model.specs.Kinds.{Kind, State, Context}
 use Rattle.gq_model.specs.Flow.{own_after}
@@ -16,7 +17,7 @@ use Rattle.gq_model.specs.Kept.{level_then, section_waiting, section_if, section
 use Rattle.gq_laws.specs.Links.{one_if, requests_of, by_hand, at_hand, stance_in, links, pending_of}
 use Rattle.gq_laws.specs.Typed.{AreKinds, Meets}
 use Rattle.gq_laws.specs.Statements.{bare}
-use Rattle.gq_laws.specs.Typing.{kind_then, section_of, IsAwaited, GoesOnFrom, IsInSection, StandsBy}
+use Rattle.gq_laws.specs.Typing.{Extra, kind_then, section_of, IsAwaited, GoesOnFrom, IsInSection, StandsBy}
 
 -- SESSIONS WITH THE SAME PARTS
 
@@ -78,10 +79,11 @@ if_here k hand e = ap (λ b. cond b (Some hand.section) None) e
 
 -- LEAVES THAT STAND ELSEWHERE
 
-module _ (p q : ℕ → Option Kind) (system : System) (v w : World) (x : ℕ) (c : Component) (leaf : Leaf)
+module _ (p q : ℕ → Option Kind) (before after : Extra) (system : System) (v w : World) (x : ℕ) (c : Component) (leaf : Leaf)
     (meets : (e : Context) (state : State) → Meets p e state v leaf → Meets q e state w leaf)
     (kinds : (ks : List Kind) → AreKinds p leaf.slots ks → AreKinds q leaf.slots ks)
-    (awaited : (state next : State) → IsAwaited system v x state next → IsAwaited system w x state next) where
+    (awaited : (state next : State) → IsAwaited system v x state next → IsAwaited system w x state next)
+    (carries : (section : Section) (state : State) (todo : Statements) (loops : List Round) → before x section state todo loops → after x section state todo loops) where
   goes_on_from : (phase : Phase) (state next : State) → GoesOnFrom system v x phase state next → GoesOnFrom system w x phase state next
   goes_on_from Pending state next h = h
   goes_on_from Running state next h = h
@@ -90,7 +92,7 @@ module _ (p q : ℕ → Option Kind) (system : System) (v w : World) (x : ℕ) (
   goes_on_from Handling state next h = h
   goes_on_from Exited state next h = h
 
-  in_section_else : (phase : Phase) (section : Section) → IsInSection p system v x c leaf phase section → IsInSection q system w x c leaf phase section
+  in_section_else : (phase : Phase) (section : Section) → IsInSection p before system v x c leaf phase section → IsInSection q after system w x c leaf phase section
   in_section_else phase section h =
       record {
         state = h.state;
@@ -101,10 +103,11 @@ module _ (p q : ℕ → Option Kind) (system : System) (v w : World) (x : ℕ) (
         goes_on = h.goes_on;
         whole = h.whole;
         listed = h.listed;
+        also = carries section h.next leaf.todo leaf.loops h.also;
       }
 
   -- a leaf stands in another world where it stood, if its slots and the session at its hand do
-  pub stands_else : (phase : Phase) → StandsBy p system v x c leaf phase → StandsBy q system w x c leaf phase
+  pub stands_else : (phase : Phase) → StandsBy p before system v x c leaf phase → StandsBy q after system w x c leaf phase
   stands_else Pending h = in_section_else Pending (section_of leaf.hand) h
   stands_else Running h = in_section_else Running (section_of leaf.hand) h
   stands_else Blocked h = in_section_else Blocked (section_of leaf.hand) h

@@ -1,5 +1,5 @@
 -- Worlds in which each leaf stands where the rules say, and each session with its slots as its last section left them.
-use Rattle.std.specs.Prelude.{◌≡◌, ◌≤◌, true, ℕ, length, replicate, Option, Some, None, Ok, slice_get}
+use Rattle.std.specs.Prelude.{◌≡◌, ◌≢◌, ◌≤◌, true, ℕ, length, replicate, Option, Some, None, Ok, slice_get, List}
 use Rattle.gq_model.specs.declared.program.Form.TheVariants.{Slice}
 use Rattle.gq_model.specs.declared.program.Section.{Section}
 use Rattle.gq_model.specs.declared.program.Section.TheVariants.{Main}
@@ -7,7 +7,7 @@ use Rattle.gq_model.specs.declared.phase.Phase.{Phase}
 use Rattle.gq_model.specs.declared.phase.Phase.TheVariants.{Pending, Running, Blocked, Serving, Handling, Exited}
 use Rattle.gq_model.specs.Program.{Statements, section_in}
 use Rattle.gq_model.specs.Scenario.{Interface, System, Component, interface_in, number_of}
-use Rattle.gq_model.specs.World.{Empty, Session, Request, Hand, Leaf, World, session_at}
+use Rattle.gq_model.specs.World.{Empty, Session, Request, Hand, Round, Leaf, World, session_at}
 use Rattle.gq_model.specs.Step.{section_for}
 use Rattle.gq_model.specs.Kinds.{Kind, Memory, Link_kind, State}
 use Rattle.gq_model.specs.Flow.{flow, context, body, start_of, own_after}
@@ -56,8 +56,20 @@ GoesOnFrom system w x Serving state next = next ≡ state
 GoesOnFrom system w x Handling state next = next ≡ state
 GoesOnFrom system w x Exited state next = next ≡ state
 
+-- what else is known of a leaf that is in a section: at this state, with these statements left in these loops
+abbrev pub Extra : Type 1
+Extra = ℕ → Section → State → Statements → List Round → Type 0
+
+-- nothing else
+abbrev pub no_extra : Extra
+no_extra x section state todo loops = Unit {0}
+
+-- what is known of another leaf than the x-th carries over
+abbrev pub Carries : ℕ → Extra → Extra → Type 0
+Carries x before after = (y : ℕ) (section : Section) (state : State) (todo : Statements) (loops : List Round) → y ≢ x → before y section state todo loops → after y section state todo loops
+
 -- the leaf stands in a section at a state from which what is left of the section leads to its end by the rules
-pub record IsInSection (promised : ℕ → Option Kind) (system : System) (w : World) (x : ℕ) (c : Component) (leaf : Leaf) (phase : Phase) (section : Section) : Type 0 where
+pub record IsInSection (promised : ℕ → Option Kind) (extra : Extra) (system : System) (w : World) (x : ℕ) (c : Component) (leaf : Leaf) (phase : Phase) (section : Section) : Type 0 where
   pub state : State
   pub next : State
   pub end : State
@@ -66,19 +78,20 @@ pub record IsInSection (promised : ℕ → Option Kind) (system : System) (w : W
   pub goes_on : Continues (context (subject system c) section) next leaf.todo leaf.loops end
   pub whole : flow (context (subject system c) section) (start_of (subject system c) section) (body (subject system c) section) ≡ Ok end
   pub listed : (list : Statements) × (section_in section c.node.program.sections ≡ Some list)
+  pub also : extra x section next leaf.todo leaf.loops
 
 -- so a leaf stands by its phase; one that waits for a request has its slots as `main` left them, and one that has ended has none in use
-abbrev pub StandsBy : (ℕ → Option Kind) → System → World → ℕ → Component → Leaf → Phase → Type 0
-StandsBy promised system w x c leaf Pending = IsInSection promised system w x c leaf Pending (section_of leaf.hand)
-StandsBy promised system w x c leaf Running = IsInSection promised system w x c leaf Running (section_of leaf.hand)
-StandsBy promised system w x c leaf Blocked = IsInSection promised system w x c leaf Blocked (section_of leaf.hand)
-StandsBy promised system w x c leaf Serving = AreKinds promised leaf.slots (own_after (subject system c))
-StandsBy promised system w x c leaf Handling = IsInSection promised system w x c leaf Handling (section_of leaf.hand)
-StandsBy promised system w x c leaf Exited = leaf.slots ≡ replicate 64 Empty
+abbrev pub StandsBy : (ℕ → Option Kind) → Extra → System → World → ℕ → Component → Leaf → Phase → Type 0
+StandsBy promised extra system w x c leaf Pending = IsInSection promised extra system w x c leaf Pending (section_of leaf.hand)
+StandsBy promised extra system w x c leaf Running = IsInSection promised extra system w x c leaf Running (section_of leaf.hand)
+StandsBy promised extra system w x c leaf Blocked = IsInSection promised extra system w x c leaf Blocked (section_of leaf.hand)
+StandsBy promised extra system w x c leaf Serving = AreKinds promised leaf.slots (own_after (subject system c))
+StandsBy promised extra system w x c leaf Handling = IsInSection promised extra system w x c leaf Handling (section_of leaf.hand)
+StandsBy promised extra system w x c leaf Exited = leaf.slots ≡ replicate 64 Empty
 
-abbrev pub StandAll : (ℕ → Option Kind) → System → World → Type 0
-StandAll promised system w =
-    (x : ℕ) (c : Component) (leaf : Leaf) → slice_get system.components x ≡ Some c → slice_get w.leaves x ≡ Some leaf → StandsBy promised system w x c leaf leaf.phase
+abbrev pub StandAll : (ℕ → Option Kind) → Extra → System → World → Type 0
+StandAll promised extra system w =
+    (x : ℕ) (c : Component) (leaf : Leaf) → slice_get system.components x ≡ Some c → slice_get w.leaves x ≡ Some leaf → StandsBy promised extra system w x c leaf leaf.phase
 
 -- SESSIONS
 
@@ -102,11 +115,11 @@ FitsRequest system w r =
 -- WORLDS
 
 -- with what is promised of sessions, all of this holds
-pub record IsTypedBy (promised : ℕ → Option Kind) (system : System) (w : World) : Type 0 where
+pub record IsTypedBy (promised : ℕ → Option Kind) (extra : Extra) (system : System) (w : World) : Type 0 where
   pub tells : Tells promised w
-  pub leaves : StandAll promised system w
+  pub leaves : StandAll promised extra system w
   pub sessions : (k : ℕ) (s : Session) → session_at w k ≡ Some s → FitsService promised system w k s
   pub requests : Each (FitsRequest system w) w.requests
 
 abbrev pub IsTyped : System → World → Type 0
-IsTyped system w = (promised : ℕ → Option Kind) × IsTypedBy promised system w
+IsTyped system w = (promised : ℕ → Option Kind) × IsTypedBy promised no_extra system w
