@@ -35,7 +35,7 @@ same_is (Closing a) (Closing b) e = ap Closing (eqb-true a b e)
 same_is _ _ e = cc
 
 -- a program without a fault lacks no section, and none of its own has a fault
-accepted : (v : Subject) → program_fault v ≡ None → (first_unwanted v all_sections ≡ None) × (first_fault v v.program.sections ≡ None)
+pub accepted : (v : Subject) → program_fault v ≡ None → (first_unwanted v all_sections ≡ None) × (first_fault v v.program.sections ≡ None)
 accepted v e = by (first_unwanted v all_sections) refl e
   where
     by : (o : Option Section) → first_unwanted v all_sections ≡ o → walked v o ≡ None → (first_unwanted v all_sections ≡ None) × (first_fault v v.program.sections ≡ None)
@@ -125,7 +125,7 @@ flow_passes section list (Err fault) e = absurd (some_none e)
 flow_passes section list (Ok last) e = (last, refl)
 
 -- a section that is there passes the rules
-passes : (v : Subject) (section : Section) (list : Statements) (pairs : List (Section × Statements)) → first_fault v pairs ≡ None → section_in section pairs ≡ Some list → (last : State) × (section_flow v section ≡ Ok last)
+pub passes : (v : Subject) (section : Section) (list : Statements) (pairs : List (Section × Statements)) → first_fault v pairs ≡ None → section_in section pairs ≡ Some list → (last : State) × (section_flow v section ≡ Ok last)
 passes v section list [] e there = absurd (none_some there)
 passes v section list (p ∷ rest) e there =
     let n = or_none (fault_of p.0 p.1 (section_flow v p.0)) (first_fault v rest) e in by n.0 (same_section section p.0) refl there (λ f. passes v section list rest n.1 f)

@@ -30,6 +30,10 @@ pub mod Totals
 pub mod Uncounted
 pub mod Number_sums
 pub mod Donations
+pub mod Kind_costs
+pub mod Session_costs
+pub mod Heap_kinds
+pub mod Own_costs
 pub mod Loops
 pub mod Flow_banks
 pub mod Accepted_programs

@@ -13,5 +13,6 @@ pub mod Left
 pub mod Moves
 pub mod Uncounted
 pub mod Lending
+pub mod Holding
 pub mod Sound
 pub mod Typing
