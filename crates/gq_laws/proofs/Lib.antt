@@ -34,6 +34,10 @@ pub mod Kind_costs
 pub mod Session_costs
 pub mod Heap_kinds
 pub mod Own_costs
+pub mod Use_chains
+pub mod Linkless_flows
+pub mod Opened_links
+pub mod Times_bound
 pub mod Loops
 pub mod Flow_banks
 pub mod Accepted_programs
