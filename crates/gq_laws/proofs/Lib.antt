@@ -83,3 +83,4 @@ pub mod Typed_start
 pub mod Typed_ends
 pub mod Typed_steps
 pub mod Typed_runs
+pub mod Bounded_typed

@@ -175,7 +175,7 @@ module _ (promised : ℕ → Option Kind) (before after : Extra) (d : Doing) (ca
   wanted : is_wanted (Some its) section ≡ true
   wanted = subst (λ o. is_wanted o section ≡ true) known (found.first t.requests old there).1
 
-  listed : (list : Statements) × (section_in section v.program.sections ≡ Some list)
+  pub listed : (list : Statements) × (section_in section v.program.sections ≡ Some list)
   listed = sections_there v its section faultless (sym provided ∙ known) (sure.upgrades old.service its known) wanted (upgrades_above r.ask old)
 
   own_rests : AreKinds promised d.leaf.slots (own_after v)
