@@ -84,3 +84,4 @@ pub mod Typed_ends
 pub mod Typed_steps
 pub mod Typed_runs
 pub mod Bounded_typed
+pub mod Held_paid
