@@ -85,3 +85,4 @@ pub mod Typed_steps
 pub mod Typed_runs
 pub mod Bounded_typed
 pub mod Held_paid
+pub mod Held_runs

@@ -1,5 +1,6 @@
 -- Scenarios as the readers give them, and those of them that are accepted.
 use Rattle.std.specs.Prelude.{◌≡◌, ◌≤◌, ℕ, List, length, Some, slice_get}
+use Rattle.gq_model.specs.Amounts.{counted_in}
 use Rattle.gq_model.specs.Code.{IsProgram}
 use Rattle.gq_model.specs.Scenario.{Interface, Scenario, Component, components, interface_in}
 use Rattle.gq_model.specs.Accept.{IsAccepted}
@@ -11,7 +12,8 @@ pub record IsWellFormed (s : Scenario) : Type 0 where
   pub differ : NamesDiffer s
   -- programs have eight locals, sections in their order, and operands in range
   pub programs : (x : ℕ) (c : Component) → slice_get (components s) x ≡ Some c → IsProgram c.node.program
-  -- a service has at most 3 upgrades
+  -- a service counts the resources that the scenario counts, and has at most 3 upgrades
+  pub counted : (service : List ℕ) (i : Interface) → interface_in service s.interfaces ≡ Some i → i.counted ≡ counted_in s.version
   pub upgrades : (service : List ℕ) (i : Interface) → interface_in service s.interfaces ≡ Some i → length i.upgrades ≤ 3
 
 -- it is accepted, too

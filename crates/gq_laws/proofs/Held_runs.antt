@@ -1,0 +1,211 @@
+-- No step of an accepted scenario is wrong: in each world that it comes to, all is held within what was verified, and so each step is paid for.
+use Rattle.std.proofs.Common.{◌≡◌, ◌≢◌, ◌≤◌, ◌+◌, true, ℕ, zero, suc, List, [], ◌∷◌, replicate, Option, Some, None, Ok, Err, refl, ap, sym, ◌∙◌, subst, arith}
+use Rattle.std.specs.Prelude.{slice_get, sum_by}
+use Rattle.gq_tariff.specs.Prices.{classes}
+use Rattle.gq_model.specs.Amounts.{Resource, Ram, Caps, part, counted_in}
+use Rattle.gq_model.specs.Lists.{greatest}
+use Rattle.gq_model.specs.declared.phase.Phase.{Phase}
+use Rattle.gq_model.specs.declared.fault.Wrong.{Wrong}
+use Rattle.gq_model.specs.declared.fault.Wrong.TheVariants.{ExceededQuota}
+use Rattle.gq_model.specs.declared.program.Instruction.{Instruction}
+use Rattle.gq_model.specs.declared.program.Instruction.TheVariants.{Open}
+use Rattle.gq_model.specs.declared.program.Section.TheVariants.{Main}
+use Rattle.gq_model.specs.Program.{Statements, Done, Do, If, Loop, section_in}
+use Rattle.gq_model.specs.Scenario.{Interface, Scenario, System, Component, components, system, interface_in}
+use Rattle.gq_model.specs.World.{Empty, Session, Leaf, World, session_at, first_phase, start_leaf, start_leaves, start}
+use Rattle.gq_model.specs.Sums.{slot_price, paid}
+use Rattle.gq_model.specs.Doing.{Doing, Event, Idle, Stepped}
+use Rattle.gq_model.specs.Step.{step_of, next}
+use Rattle.gq_model.specs.Kinds.{Kind, State, Subject, kind_places, kinds_cost}
+use Rattle.gq_model.specs.Flow.{flow, context, body, start_of}
+use Rattle.gq_model.specs.Budgets.{own}
+use Rattle.gq_model.specs.Use.{subject}
+use Rattle.gq_model.specs.Promises.{EachOf, budget_of}
+use Rattle.gq_laws.specs.Reached.{IsReached}
+use Rattle.gq_laws.specs.Shapes.{Each}
+use Rattle.gq_laws.specs.Links.{IsLinkedWorld}
+use Rattle.gq_laws.specs.Sound.{IsSound}
+use Rattle.gq_laws.specs.Left.{AllAre, AreLeft, Leads, IsGood}
+use Rattle.gq_laws.specs.Statements.{IsSafe, Takes}
+use Rattle.gq_laws.specs.Typing.{StandsBy, IsTypedBy}
+use Rattle.gq_laws.specs.Lending.{slot_given}
+use Rattle.gq_laws.specs.Holding.{IsBounded, own_part, main_points, PeaksWithin, HoldsNone, HoldsWithin, IsHeld}
+use Rattle.gq_laws.specs.Uncounted.{uncounted}
+use Rattle.gq_laws.proofs.Linking.{none_some, some_same}
+use Rattle.gq_laws.proofs.Reaching.{in_reached}
+use Rattle.gq_laws.proofs.Linked_worlds.{kept_linked, start_linked}
+use Rattle.gq_laws.proofs.Left_worlds.{start_left, kept_left}
+use Rattle.gq_laws.proofs.Accepted_programs.{main_there, section_flows}
+use Rattle.gq_laws.proofs.Sure.{IsSure}
+use Rattle.gq_laws.proofs.Sound_systems.{sure_of, good_of, is_resolved}
+use Rattle.gq_laws.proofs.Own_costs.{own_pays, own_is}
+use Rattle.gq_laws.proofs.Uncounted.{step_paid, step_same, never_short}
+use Rattle.gq_laws.proofs.Typed_start.{nothing, start_typed}
+use Rattle.gq_laws.proofs.Typed_steps.{Outcome, outcome}
+use Rattle.gq_laws.proofs.Typed_runs.{counted}
+use Rattle.gq_laws.proofs.Bounded_typed.{bounded_start}
+use Rattle.gq_laws.proofs.Held_paid.{IsAmong, of_each, HaveInterfaces, within_own, held_paid}
+use Rattle.gq_laws.proofs.Endings.{gives}
+
+-- what is good in a system is good where nothing is counted
+good_same : (system : System) (c : Component) (i : Instruction) → IsGood system c i → IsGood (uncounted system) c i
+good_same system c (Open place service n) h = h
+good_same system c i h = (h.0, tt)
+
+all_good_same : (system : System) (c : Component) (todo : Statements) → AllAre (IsGood system c) todo → AllAre (IsGood (uncounted system) c) todo
+all_good_same system c Done h = tt
+all_good_same system c (Do i rest) h = (good_same system c i h.0, all_good_same system c rest h.1)
+all_good_same system c (If arm other rest) h = (all_good_same system c arm h.0, all_good_same system c other h.1, all_good_same system c rest h.2)
+all_good_same system c (Loop n body rest) h = (h.0, all_good_same system c body h.1, all_good_same system c rest h.2)
+
+-- THE START
+
+start_at : (cs : List Component) (x : ℕ) (c : Component) (leaf : Leaf) → slice_get cs x ≡ Some c → slice_get (start_leaves cs) x ≡ Some leaf → leaf ≡ start_leaf c
+start_at [] x c leaf placed there = absurd (none_some placed)
+start_at (b ∷ rest) zero c leaf placed there = sym (some_same there) ∙ ap start_leaf (some_same placed)
+start_at (b ∷ rest) (suc x) c leaf placed there = start_at rest x c leaf placed there
+
+no_peaks : (states : List State) (cs : List ℕ) (n : ℕ) → PeaksWithin states cs (replicate n 0)
+no_peaks states [] n = tt
+no_peaks states (c ∷ cs) zero = tt
+no_peaks states (c ∷ cs) (suc n) = (omega arith, no_peaks states cs n)
+
+none_first : (c : Component) (after : Option (List ℕ)) → HoldsNone (start_leaf c) (first_phase after)
+none_first c None = tt
+none_first c (Some name) = (refl, refl)
+
+no_slots : (r : Resource) (w : World) → sum_by (slot_price r) (replicate 64 Empty) + sum_by (slot_given r w) (replicate 64 Empty) ≡ 0
+no_slots Ram w = refl
+no_slots Caps w = refl
+
+start_holds : (system : System) (x : ℕ) (c : Component) (leaf : Leaf) → slice_get system.components x ≡ Some c → slice_get (start system).leaves x ≡ Some leaf → HoldsWithin system (start system) c leaf
+start_holds system x c leaf placed there =
+    subst (HoldsWithin system (start system) c) (sym (start_at system.components x c leaf placed there)) (record {
+      own = λ r. (let nothing_there = no_slots r (start system) in omega (arith, nothing_there));
+      peaks = no_peaks (main_points (subject system c)) classes 8;
+      none = none_first c c.node.after;
+    })
+
+start_held : (system : System) → IsHeld system (start system)
+start_held system =
+    record {
+      leaves = start_holds system;
+      sessions = λ k s there. absurd (none_some there);
+      requests = tt;
+    }
+
+-- EACH STEP
+
+module _ (s : Scenario) (sound : IsSound s)
+    (held_step : (promised : ℕ → Option Kind) (d : Doing) → IsSure d.system → (takes : Takes d) → ((n : ℕ) × (d.leaf ≡ record takes.old { steps = n })) → IsLinkedWorld d.system d.world → IsTypedBy promised (IsBounded d.system) d.system d.world → slice_get d.system.components d.x ≡ Some d.component
+        → IsHeld d.system d.world → (w : World) → IsLinkedWorld d.system w → Outcome promised (IsBounded d.system) d w → ((p : ℕ → Option Kind) × IsTypedBy p (IsBounded d.system) d.system w) × IsHeld d.system w) where
+  abbrev real : System
+  real = system s
+
+  abbrev u : System
+  u = uncounted real
+
+  real_sure : IsSure real
+  real_sure = sure_of s sound
+
+  sure : IsSure u
+  sure =
+      record {
+        server = real_sure.server;
+        provides = real_sure.provides;
+        faultless = real_sure.faultless;
+        locals = real_sure.locals;
+        sections = real_sure.sections;
+        upgrades = real_sure.upgrades;
+      }
+
+  -- a world in which all that a step takes for granted holds
+  pub record Stands (w : World) : Type 0 where
+    pub linked : IsLinkedWorld u w
+    pub left : AreLeft (IsGood real) u w
+    pub promised : ℕ → Option Kind
+    pub typed : IsTypedBy promised (IsBounded u) u w
+    pub held : IsHeld u w
+
+  stands_on : (w : World) (x : ℕ) (new : World) (event : Event) → Stands w → next u w x ≡ Ok (new, event) → Stands new
+  stands_on w x new event h e = by (slice_get u.components x) refl (slice_get w.leaves x) refl e
+    where
+      linked_new : IsLinkedWorld u new
+      linked_new = kept_linked u w x new event h.linked e
+
+      left_new : AreLeft (IsGood real) u new
+      left_new = kept_left (IsGood real) u (good_of s sound) w x new event h.left e
+
+      by : (o : Option Component) → slice_get u.components x ≡ o → (p : Option Leaf) → slice_get w.leaves x ≡ p → step_of u w x o p ≡ Ok (new, event) → Stands new
+      by None f p g k = (gives {P = Stands} w Idle h).holds new event k
+      by (Some c) f None g k = (gives {P = Stands} w Idle h).holds new event k
+      by (Some c) f (Some leaf) g k =
+          let d : Doing = record { system = u; world = w; x = x; component = c; leaf = record leaf { steps = suc leaf.steps } } in
+          let taken : Takes d = record { old = leaf; there = g; slots = refl; phase = refl; hand = refl } in
+          let good = all_good_same real c leaf.todo (h.left x c leaf f g).todo in
+          let stands = counted h.promised (IsBounded u) u w x c leaf (suc leaf.steps) leaf.phase (h.typed.leaves x c leaf f g) in
+          let o = (outcome h.promised (IsBounded u) d sure taken h.linked h.typed f good stands).ends new event k in
+          let n = held_step h.promised d sure taken (suc leaf.steps, refl) h.linked h.typed f h.held new linked_new o in
+          record { linked = linked_new; left = left_new; promised = n.0.0; typed = n.0.1; held = n.1 }
+
+  -- only want of quota could be wrong with a step, and where nothing is counted there is none
+  never : (w : World) (x : ℕ) (wrong : Wrong) → Stands w → next u w x ≡ Err wrong → ⊥
+  never w x wrong h e = by (slice_get u.components x) refl (slice_get w.leaves x) refl e
+    where
+      no : ◌≡◌ {A = Stepped} (Ok (w, Idle)) (Err wrong) → ⊥
+      no e = cc
+
+      by : (o : Option Component) → slice_get u.components x ≡ o → (p : Option Leaf) → slice_get w.leaves x ≡ p → step_of u w x o p ≡ Err wrong → ⊥
+      by None f p g k = absurd (no k)
+      by (Some c) f None g k = absurd (no k)
+      by (Some c) f (Some leaf) g k =
+          let d : Doing = record { system = u; world = w; x = x; component = c; leaf = record leaf { steps = suc leaf.steps } } in
+          let taken : Takes d = record { old = leaf; there = g; slots = refl; phase = refl; hand = refl } in
+          let good = all_good_same real c leaf.todo (h.left x c leaf f g).todo in
+          let stands = counted h.promised (IsBounded u) u w x c leaf (suc leaf.steps) leaf.phase (h.typed.leaves x c leaf f g) in
+          never_short real w x wrong e ((outcome h.promised (IsBounded u) d sure taken h.linked h.typed f good stands).short wrong k)
+
+  -- all is paid for
+  interfaces : (w : World) → Stands w → HaveInterfaces u real.counted w
+  interfaces w h k session there =
+      let f = h.typed.sessions k session there in (f.interface, f.known, sound.formed.counted session.service f.interface f.known)
+
+  pays : (x : ℕ) (c : Component) → slice_get u.components x ≡ Some c → (r : Resource) → IsAmong r real.counted → own r (subject u c) ≤ part r c.node.quantum
+  pays x c there r among =
+      let is = of_each (λ r. part r (budget_of s x c).own ≡ own r (subject real c)) real.counted (own_is s x c) r among in
+      subst (λ n. n ≤ part r c.node.quantum) is (own_pays s x c there sound.accepted r)
+
+  pub stands_paid : (w : World) → Stands w → paid real w ≡ true
+  stands_paid w h = held_paid u real.counted w h.linked (interfaces w h) h.held.leaves h.held.sessions pays real refl refl
+
+  -- so each step is
+  pub goes_on : (w : World) → Stands w → (x : ℕ) → (p : World × Event) × (next real w x ≡ Ok p)
+  goes_on w h x = by (next u w x) refl
+    where
+      by : (r : Stepped) → next u w x ≡ r → (p : World × Event) × (next real w x ≡ Ok p)
+      by (Ok p) e = (p, step_paid real w x p.0 p.1 e (stands_paid p.0 (stands_on w x p.0 p.1 h e)))
+      by (Err wrong) e = absurd (never w x wrong h e)
+
+  -- THE WORLDS OF THE SCENARIO
+
+  main_listed : (x : ℕ) (c : Component) → slice_get u.components x ≡ Some c → (list : Statements) × (section_in Main c.node.program.sections ≡ Some list)
+  main_listed x c there = main_there (subject u c) (sure.faultless x c there)
+
+  main_flows : (x : ℕ) (c : Component) → slice_get u.components x ≡ Some c → (end : State) × (flow (context (subject u c) Main) (start_of (subject u c) Main) (body (subject u c) Main) ≡ Ok end)
+  main_flows x c there =
+      let l = main_listed x c there in
+      let f = section_flows (subject u c) Main l.0 (sure.faultless x c there) l.1 in
+      (f.0, f.2)
+
+  stands_first : Stands (start real)
+  stands_first =
+      record {
+        linked = start_linked u;
+        left = start_left (IsGood real) u (good_of s sound);
+        promised = nothing;
+        typed = start_typed (IsBounded u) u sure main_flows main_listed (λ x c there. let l = main_listed x c there in bounded_start u x c Main l.0 there (sure.faultless x c there) l.1);
+        held = start_held u;
+      }
+
+  pub reached_stands : (w : World) → IsReached s w → Stands w
+  reached_stands = in_reached s Stands (λ w x new event h e. stands_on w x new event h (step_same real w x new event e)) stands_first
