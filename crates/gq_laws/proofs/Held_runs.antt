@@ -127,7 +127,7 @@ module _ (s : Scenario) (sound : IsSound s)
     pub typed : IsTypedBy promised (IsBounded u) u w
     pub held : IsHeld u w
 
-  stands_on : (w : World) (x : ℕ) (new : World) (event : Event) → Stands w → next u w x ≡ Ok (new, event) → Stands new
+  pub stands_on : (w : World) (x : ℕ) (new : World) (event : Event) → Stands w → next u w x ≡ Ok (new, event) → Stands new
   stands_on w x new event h e = by (slice_get u.components x) refl (slice_get w.leaves x) refl e
     where
       linked_new : IsLinkedWorld u new
@@ -166,7 +166,7 @@ module _ (s : Scenario) (sound : IsSound s)
           never_short real w x wrong e ((outcome h.promised (IsBounded u) d sure taken h.linked h.typed f good stands).short wrong k)
 
   -- all is paid for
-  interfaces : (w : World) → Stands w → HaveInterfaces u real.counted w
+  pub interfaces : (w : World) → Stands w → HaveInterfaces u real.counted w
   interfaces w h k session there =
       let f = h.typed.sessions k session there in (f.interface, f.known, sound.formed.counted session.service f.interface f.known)
 
@@ -197,7 +197,7 @@ module _ (s : Scenario) (sound : IsSound s)
       let f = section_flows (subject u c) Main l.0 (sure.faultless x c there) l.1 in
       (f.0, f.2)
 
-  stands_first : Stands (start real)
+  pub stands_first : Stands (start real)
   stands_first =
       record {
         linked = start_linked u;

@@ -86,3 +86,5 @@ pub mod Typed_runs
 pub mod Bounded_typed
 pub mod Held_paid
 pub mod Held_runs
+pub mod Reached_worlds
+pub mod Gathered
