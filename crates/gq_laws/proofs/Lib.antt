@@ -7,6 +7,7 @@ mod Rows_reached
 mod Rows_needed
 mod Rows_statements
 mod Rows_replies
+mod Rows_sound
 pub mod Linking
 pub mod Link_events
 pub mod Link_accepts
