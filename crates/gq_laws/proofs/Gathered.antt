@@ -30,6 +30,9 @@ use Rattle.gq_laws.proofs.Uncounted.{step_same}
 use Rattle.gq_laws.proofs.Typed_steps.{Outcome}
 use Rattle.gq_laws.proofs.Held_paid.{IsAmong, of_each, each_by, within_own}
 use Rattle.gq_laws.proofs.Held_runs.{Stands, stands_on, stands_first, interfaces, stands_paid, goes_on, reached_stands}
+use Rattle.gq_laws.proofs.Use_chains.{resolved_acyclic}
+use Rattle.gq_laws.proofs.Times_bound.{counts_bounded}
+use Rattle.gq_laws.proofs.Counted_runs.{steps_within}
 use Rattle.gq_laws.proofs.Reached_worlds.{reached_whole, reached_closes, reached_sums}
 
 place_within : {A : Type 0} (items : List A) (i : ℕ) (a : A) → slice_get items i ≡ Some a → i < length items
@@ -37,10 +40,13 @@ place_within [] i a e = absurd (none_some e)
 place_within (b ∷ items) zero a e = omega arith
 place_within (b ∷ items) (suc i) a e = let rest = place_within items i a e in omega (arith, rest)
 
+-- no leaf takes more steps than its budget
+pub steps_kept : (s : Scenario) → IsSound s → (w : World) → IsReached s w → (x : ℕ) (c : Component) (leaf : Leaf) → slice_get (components s) x ≡ Some c → slice_get w.leaves x ≡ Some leaf → leaf.steps ≤ step_budget (system s) x c
+steps_kept s sound = steps_within s sound (counts_bounded (system s) (resolved_acyclic s (is_resolved s sound.accepted)))
+
 module _ (s : Scenario) (sound : IsSound s)
     (held_step : (promised : ℕ → Option Kind) (d : Doing) → IsSure d.system → (takes : Takes d) → ((n : ℕ) × (d.leaf ≡ record takes.old { steps = n })) → IsLinkedWorld d.system d.world → IsTypedBy promised (IsBounded d.system) d.system d.world → slice_get d.system.components d.x ≡ Some d.component
-        → IsHeld d.system d.world → (w : World) → IsLinkedWorld d.system w → Outcome promised (IsBounded d.system) d w → ((p : ℕ → Option Kind) × IsTypedBy p (IsBounded d.system) d.system w) × IsHeld d.system w)
-    (steps_within : (w : World) → IsReached s w → (x : ℕ) (c : Component) (leaf : Leaf) → slice_get (components s) x ≡ Some c → slice_get w.leaves x ≡ Some leaf → leaf.steps ≤ step_budget (system s) x c) where
+        → IsHeld d.system d.world → (w : World) → IsLinkedWorld d.system w → Outcome promised (IsBounded d.system) d w → ((p : ℕ → Option Kind) × IsTypedBy p (IsBounded d.system) d.system w) × IsHeld d.system w) where
   abbrev real : System
   real = system s
 
@@ -88,7 +94,7 @@ module _ (s : Scenario) (sound : IsSound s)
         leaf = leaf.0;
         there = leaf.1;
         told = told_is s x c placed;
-        steps = steps_within w reached x c leaf.0 placed leaf.1;
+        steps = steps_kept s sound w reached x c leaf.0 placed leaf.1;
         limited = steps_limited s x c placed sound.accepted;
         bytes_and_caps = each_by (StaysWithin s w x c leaf.0) real.counted (λ r among. stays_within r among leaf.0 leaf.1);
       }

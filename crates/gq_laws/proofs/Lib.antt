@@ -88,4 +88,13 @@ pub mod Bounded_typed
 pub mod Held_paid
 pub mod Held_runs
 pub mod Reached_worlds
+pub mod Counted_sums
+pub mod Counted_worlds
+pub mod Counted_goes
+pub mod Counted_ends
+pub mod Counted_taken
+pub mod Counted_services
+pub mod Counted_asked
+pub mod Counted_start
+pub mod Counted_runs
 pub mod Gathered

@@ -14,5 +14,6 @@ pub mod Moves
 pub mod Uncounted
 pub mod Lending
 pub mod Holding
+pub mod Counting
 pub mod Sound
 pub mod Typing
