@@ -155,7 +155,7 @@ bank_no_heap c s t (Loop count inner rest) e h = bank_no_heap c s t rest (loop_o
 none_light : NoHeap no_kinds
 none_light = (refl, (refl, (refl, (refl, (refl, (refl, (refl, (refl, tt))))))))
 
-reached_no_heap : (c : Context) (s : State) (todo : Statements) → NoHeap s.bank → NoHeap (state_or s (flow c s todo)).bank
+pub reached_no_heap : (c : Context) (s : State) (todo : Statements) → NoHeap s.bank → NoHeap (state_or s (flow c s todo)).bank
 reached_no_heap c s todo h = by (flow c s todo) refl
   where
     by : (r : Flowed) → flow c s todo ≡ r → NoHeap (state_or s r).bank

@@ -238,7 +238,7 @@ module _ (promised : ℕ → Option Kind) (c : ℕ) where
   heap_none (Pool_kind n m) h = absurd cc
   heap_none (Link_kind service level given) h = refl
 
-  kinds_none : (kinds : List Kind) → NoHeap kinds → sum_by (kind_places c) kinds ≡ 0
+  pub kinds_none : (kinds : List Kind) → NoHeap kinds → sum_by (kind_places c) kinds ≡ 0
   kinds_none [] h = refl
   kinds_none (kind ∷ kinds) h =
       let here = heap_none kind h.0 in let further = kinds_none kinds h.1 in omega (arith, here, further, sum_by-cons (kind_places c) kind kinds)

@@ -85,6 +85,11 @@ pub mod Typed_ends
 pub mod Typed_steps
 pub mod Typed_runs
 pub mod Bounded_typed
+pub mod Peaks_kept
+pub mod Held_own
+pub mod Held_sums
+pub mod Held_leaves
+pub mod Held_steps
 pub mod Held_paid
 pub mod Held_runs
 pub mod Reached_worlds

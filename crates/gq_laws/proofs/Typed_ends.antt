@@ -79,7 +79,7 @@ released_hand name (c ∷ cs) (leaf ∷ leaves) k zero = refl
 released_hand name (c ∷ cs) (leaf ∷ leaves) k (suc y) = released_hand name cs leaves k y
 
 -- a leaf that is there was there, in a phase from which it was released, if it waited for this name
-released_there : (name : List ℕ) (cs : List Component) (leaves : List Leaf) (y : ℕ) (c : Component) (leaf : Leaf) → slice_get cs y ≡ Some c → slice_get (all_released name cs leaves) y ≡ Some leaf
+pub released_there : (name : List ℕ) (cs : List Component) (leaves : List Leaf) (y : ℕ) (c : Component) (leaf : Leaf) → slice_get cs y ≡ Some c → slice_get (all_released name cs leaves) y ≡ Some leaf
     → (old : Leaf) × (slice_get leaves y ≡ Some old) × (leaf ≡ record old { phase = released name c.node.after old.phase })
 released_there name [] leaves y c leaf placed there = absurd (none_some placed)
 released_there name (b ∷ cs) [] y c leaf placed there = absurd (none_some there)
