@@ -44,14 +44,12 @@ place_within (b ∷ items) (suc i) a e = let rest = place_within items i a e in 
 pub steps_kept : (s : Scenario) → IsSound s → (w : World) → IsReached s w → (x : ℕ) (c : Component) (leaf : Leaf) → slice_get (components s) x ≡ Some c → slice_get w.leaves x ≡ Some leaf → leaf.steps ≤ step_budget (system s) x c
 steps_kept s sound = steps_within s sound (counts_bounded (system s) (resolved_acyclic s (is_resolved s sound.accepted)))
 
-module _ (s : Scenario) (sound : IsSound s)
-    (held_step : (promised : ℕ → Option Kind) (d : Doing) → IsSure d.system → (takes : Takes d) → ((n : ℕ) × (d.leaf ≡ record takes.old { steps = n })) → IsLinkedWorld d.system d.world → IsTypedBy promised (IsBounded d.system) d.system d.world → slice_get d.system.components d.x ≡ Some d.component
-        → IsHeld d.system d.world → (w : World) → IsLinkedWorld d.system w → Outcome promised (IsBounded d.system) d w → ((p : ℕ → Option Kind) × IsTypedBy p (IsBounded d.system) d.system w) × IsHeld d.system w) where
+module _ (s : Scenario) (sound : IsSound s) where
   abbrev real : System
   real = system s
 
   Good : World → Type 0
-  Good = Stands s sound held_step
+  Good = Stands s sound
 
   -- NO STEP OF A RUN IS WRONG
 
@@ -61,8 +59,8 @@ module _ (s : Scenario) (sound : IsSound s)
 
   right_step : (ran : Ran) (x : ℕ) (r : Stepped) → next real ran.world x ≡ r → IsRight ran → IsRight (after_step real x ran r)
   unfolding Good
-  right_step ran x (Ok p) e h = record { none = refl; good = stands_on s sound held_step ran.world x p.0 p.1 h.good (step_same real ran.world x p.0 p.1 e) }
-  right_step ran x (Err wrong) e h = absurd (no (sym (goes_on s sound held_step ran.world h.good x).1 ∙ e))
+  right_step ran x (Ok p) e h = record { none = refl; good = stands_on s sound ran.world x p.0 p.1 h.good (step_same real ran.world x p.0 p.1 e) }
+  right_step ran x (Err wrong) e h = absurd (no (sym (goes_on s sound ran.world h.good x).1 ∙ e))
     where
       no : {p : World × Event} → ◌≡◌ {A = Stepped} (Ok p) (Err wrong) → ⊥
       no e = cc
@@ -80,7 +78,7 @@ module _ (s : Scenario) (sound : IsSound s)
 
   right_run : (turns : List (ℕ × ℕ)) → IsRight (run real turns)
   unfolding Good
-  right_run turns = right_list _ turns (record { none = refl; good = stands_first s sound held_step })
+  right_run turns = right_list _ turns (record { none = refl; good = stands_first s sound })
 
   -- BUDGETS
 
@@ -99,12 +97,12 @@ module _ (s : Scenario) (sound : IsSound s)
         bytes_and_caps = each_by (StaysWithin s w x c leaf.0) real.counted (λ r among. stays_within r among leaf.0 leaf.1);
       }
     where
-      good : Stands s sound held_step w
-      good = reached_stands s sound held_step w reached
+      good : Stands s sound w
+      good = reached_stands s sound w reached
 
       stays_within : (r : Resource) → IsAmong r real.counted → (leaf : Leaf) → slice_get w.leaves x ≡ Some leaf → StaysWithin s w x c leaf r
       stays_within r among leaf there =
-          let a = within_own _ real.counted w good.linked (interfaces s sound held_step w good) good.held.leaves good.held.sessions r among x c leaf placed there in
+          let a = within_own _ real.counted w good.linked (interfaces s sound w good) good.held.leaves good.held.sessions r among x c leaf placed there in
           let is = of_each (λ r. part r (budget_of s x c).own ≡ own r (subject real c)) real.counted (own_is s x c) r among in
           let pays = own_pays s x c placed sound.accepted r in
           let holds = a.0 in
@@ -115,10 +113,10 @@ module _ (s : Scenario) (sound : IsSound s)
 
   pub reached_upheld : (w : World) → IsReached s w → IsUpheld s w
   reached_upheld w reached =
-      let good = reached_stands s sound held_step w reached in
+      let good = reached_stands s sound w reached in
       record {
-        goes_on = goes_on s sound held_step w good;
-        is_paid = stands_paid s sound held_step w good;
+        goes_on = goes_on s sound w good;
+        is_paid = stands_paid s sound w good;
         keeps_budgets = keeps_budget w reached;
         quotas_sum = reached_sums s w (record { differ = sound.formed.differ; fits = is_resolved s sound.accepted }) reached;
         closes = reached_closes s w sound.formed.differ reached;

@@ -41,9 +41,10 @@ use Rattle.gq_laws.proofs.Sound_systems.{sure_of, good_of, is_resolved}
 use Rattle.gq_laws.proofs.Own_costs.{own_pays, own_is}
 use Rattle.gq_laws.proofs.Uncounted.{step_paid, step_same, never_short}
 use Rattle.gq_laws.proofs.Typed_start.{nothing, start_typed}
-use Rattle.gq_laws.proofs.Typed_steps.{Outcome, outcome}
+use Rattle.gq_laws.proofs.Typed_steps.{outcome}
 use Rattle.gq_laws.proofs.Typed_runs.{counted}
 use Rattle.gq_laws.proofs.Bounded_typed.{bounded_start}
+use Rattle.gq_laws.proofs.Held_outcomes.{typed_then, held_after}
 use Rattle.gq_laws.proofs.Held_paid.{IsAmong, of_each, HaveInterfaces, within_own, held_paid}
 use Rattle.gq_laws.proofs.Endings.{gives}
 
@@ -96,9 +97,7 @@ start_held system =
 
 -- EACH STEP
 
-module _ (s : Scenario) (sound : IsSound s)
-    (held_step : (promised : ℕ → Option Kind) (d : Doing) → IsSure d.system → (takes : Takes d) → ((n : ℕ) × (d.leaf ≡ record takes.old { steps = n })) → IsLinkedWorld d.system d.world → IsTypedBy promised (IsBounded d.system) d.system d.world → slice_get d.system.components d.x ≡ Some d.component
-        → IsHeld d.system d.world → (w : World) → IsLinkedWorld d.system w → Outcome promised (IsBounded d.system) d w → ((p : ℕ → Option Kind) × IsTypedBy p (IsBounded d.system) d.system w) × IsHeld d.system w) where
+module _ (s : Scenario) (sound : IsSound s) where
   abbrev real : System
   real = system s
 
@@ -145,8 +144,8 @@ module _ (s : Scenario) (sound : IsSound s)
           let good = all_good_same real c leaf.todo (h.left x c leaf f g).todo in
           let stands = counted h.promised (IsBounded u) u w x c leaf (suc leaf.steps) leaf.phase (h.typed.leaves x c leaf f g) in
           let o = (outcome h.promised (IsBounded u) d sure taken h.linked h.typed f good stands).ends new event k in
-          let n = held_step h.promised d sure taken (suc leaf.steps, refl) h.linked h.typed f h.held new linked_new o in
-          record { linked = linked_new; left = left_new; promised = n.0.0; typed = n.0.1; held = n.1 }
+          let n = typed_then h.promised d sure taken refl h.linked h.typed f h.held new linked_new o in
+          record { linked = linked_new; left = left_new; promised = n.0; typed = n.1; held = held_after h.promised d sure taken refl h.linked h.typed f h.held new linked_new o }
 
   -- only want of quota could be wrong with a step, and where nothing is counted there is none
   never : (w : World) (x : ℕ) (wrong : Wrong) → Stands w → next u w x ≡ Err wrong → ⊥

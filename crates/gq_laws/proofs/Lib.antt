@@ -89,7 +89,14 @@ pub mod Peaks_kept
 pub mod Held_own
 pub mod Held_sums
 pub mod Held_leaves
-pub mod Held_steps
+pub mod Held_by_leaves
+pub mod Held_banks
+pub mod Held_parts
+pub mod Held_sessions
+pub mod Held_gifts
+pub mod Held_asked
+pub mod Held_by_sessions
+pub mod Held_outcomes
 pub mod Held_paid
 pub mod Held_runs
 pub mod Reached_worlds
