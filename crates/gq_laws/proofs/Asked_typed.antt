@@ -14,10 +14,9 @@ use Rattle.gq_model.specs.Use.{subject}
 use Rattle.gq_model.specs.Kept.{level_then, kind_replied, within, Continues}
 use Rattle.gq_laws.specs.Links.{IsLinkedWorld}
 use Rattle.gq_laws.specs.Typed.{Meets}
-use Rattle.gq_laws.specs.Statements.{IsSafe, Takes, Grants}
+use Rattle.gq_laws.specs.Statements.{Takes, Grants}
 use Rattle.gq_laws.specs.Asking.{promised_anew, TellsLinks, IsServed, IsWithin, Awaits}
-use Rattle.gq_laws.specs.Typing.{Extra, Carries, section_of, IsTypedBy, IsTyped}
-use Rattle.gq_laws.proofs.Asking_steps.{asks_ruled}
+use Rattle.gq_laws.specs.Typing.{Extra, Carries, section_of, IsTypedBy}
 use Rattle.gq_laws.proofs.Asked_worlds.{asks_asked}
 use Rattle.gq_laws.proofs.Asked_services.{knows_service, resumes_at}
 use Rattle.gq_laws.proofs.Asked_tells.{asked_tells}

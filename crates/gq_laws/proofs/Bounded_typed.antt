@@ -1,5 +1,5 @@
 -- The world after a step is typed, and each leaf in a section is at one of the section's points with a covered session at its hand.
-use Rattle.std.proofs.Common.{◌≡◌, ◌≢◌, ◌≤◌, ℕ, false, List, [], Option, Some, Ok, refl, ap, sym, ◌∙◌, subst, arith, None}
+use Rattle.std.proofs.Common.{◌≡◌, ◌≤◌, ℕ, false, List, [], Option, Some, Ok, refl, sym, ◌∙◌, subst, arith, None}
 use Rattle.std.specs.Prelude.{slice_get}
 use Rattle.gq_model.specs.declared.program.Instruction.{Instruction}
 use Rattle.gq_model.specs.declared.program.Section.{Section}
@@ -7,12 +7,12 @@ use Rattle.gq_model.specs.declared.phase.Phase.TheVariants.{Serving}
 use Rattle.gq_model.specs.Lists.{greatest}
 use Rattle.gq_model.specs.Program.{Statements, Do, section_in}
 use Rattle.gq_model.specs.Scenario.{System, Component}
-use Rattle.gq_model.specs.World.{Session, Request, Round, World, session_at}
+use Rattle.gq_model.specs.World.{Request, Round, World}
 use Rattle.gq_model.specs.Doing.{Doing, Event}
 use Rattle.gq_model.specs.Step.{oldest, accept, section_ended, section_for, instruct}
 use Rattle.gq_model.specs.Kinds.{Kind, State, Context, Subject, in_main, level_of}
 use Rattle.gq_model.specs.Rules.{judged}
-use Rattle.gq_model.specs.Flow.{flow, points, context, body, start_of, section_end, chosen_from}
+use Rattle.gq_model.specs.Flow.{points, context, body, start_of, section_end}
 use Rattle.gq_model.specs.Verdict.{program_fault}
 use Rattle.gq_model.specs.Use.{subject}
 use Rattle.gq_model.specs.Kept.{level_then, within, Continues}

@@ -1,33 +1,24 @@
 -- Every run of an accepted scenario keeps all that is promised of it.
-use Rattle.std.proofs.Common.{◌≡◌, ◌≤◌, ◌<◌, ◌+◌, ℕ, zero, suc, List, [], ◌∷◌, length, Option, Some, None, Ok, Err, refl, ap, sym, ◌∙◌, subst, arith}
+use Rattle.std.proofs.Common.{◌≡◌, ◌≤◌, ◌<◌, ℕ, zero, suc, List, [], ◌∷◌, length, Some, None, Ok, Err, refl, ap, sym, ◌∙◌, subst, arith}
 use Rattle.std.specs.Prelude.{slice_get}
 use Rattle.gq_model.specs.Amounts.{Resource, part}
-use Rattle.gq_model.specs.declared.fault.Wrong.{Wrong}
 use Rattle.gq_model.specs.Scenario.{Scenario, System, Component, components, system}
-use Rattle.gq_model.specs.World.{Leaf, World, start}
-use Rattle.gq_model.specs.Doing.{Doing, Event, Stepped}
+use Rattle.gq_model.specs.World.{Leaf, World}
+use Rattle.gq_model.specs.Doing.{Event, Stepped}
 use Rattle.gq_model.specs.Step.{next}
 use Rattle.gq_model.specs.Run.{Ran, after_step, turn_from, turns_of, run_on, run}
-use Rattle.gq_model.specs.Kinds.{Kind}
 use Rattle.gq_model.specs.Budgets.{own}
 use Rattle.gq_model.specs.Use.{subject, step_budget}
 use Rattle.gq_model.specs.Accept.{budgets, step_budgets}
-use Rattle.gq_model.specs.Accounts.{account_lines, accounts, text_of, whole}
+use Rattle.gq_model.specs.Accounts.{text_of}
 use Rattle.gq_model.specs.Promises.{budget_of, StaysWithin, KeepsBudget, IsUpheld, Upholds}
 use Rattle.gq_laws.specs.Reached.{IsReached}
-use Rattle.gq_laws.specs.Resolved.{IsResolved}
-use Rattle.gq_laws.specs.Links.{IsLinkedWorld}
 use Rattle.gq_laws.specs.Sound.{IsSound}
-use Rattle.gq_laws.specs.Statements.{Takes}
-use Rattle.gq_laws.specs.Typing.{IsTypedBy}
-use Rattle.gq_laws.specs.Holding.{IsBounded, IsHeld}
 use Rattle.gq_laws.proofs.Linking.{none_some}
 use Rattle.gq_laws.proofs.Statement_numbers.{get_within}
-use Rattle.gq_laws.proofs.Sure.{IsSure}
 use Rattle.gq_laws.proofs.Sound_systems.{is_resolved}
 use Rattle.gq_laws.proofs.Own_costs.{told_is, steps_limited, own_pays, own_is}
 use Rattle.gq_laws.proofs.Uncounted.{step_same}
-use Rattle.gq_laws.proofs.Typed_steps.{Outcome}
 use Rattle.gq_laws.proofs.Held_paid.{IsAmong, of_each, each_by, within_own}
 use Rattle.gq_laws.proofs.Held_runs.{Stands, stands_on, stands_first, interfaces, stands_paid, goes_on, reached_stands}
 use Rattle.gq_laws.proofs.Use_chains.{resolved_acyclic}

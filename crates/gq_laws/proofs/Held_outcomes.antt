@@ -1,5 +1,5 @@
 -- After a step of a typed world all is held within what was verified, and the world is typed.
-use Rattle.std.proofs.Common.{◌≡◌, ℕ, Option, Some, refl, ap, sym, subst}
+use Rattle.std.proofs.Common.{◌≡◌, ℕ, Option, Some, sym, subst}
 use Rattle.std.specs.Prelude.{slice_get}
 use Rattle.gq_model.specs.World.{World}
 use Rattle.gq_model.specs.Doing.{Doing}

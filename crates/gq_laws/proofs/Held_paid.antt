@@ -1,5 +1,5 @@
 -- Where leaves and sessions hold and have lent within what was verified, each leaf stays within its budget, and is paid for.
-use Rattle.std.proofs.Common.{◌≡◌, ◌≤◌, ◌⊎◌, ◌+◌, ◌*◌, ◌/◌, ◌==◌, ℕ, zero, suc, inl, inr, cond, nat_le, max, Bool, true, false, ◌&&◌, List, [], ◌∷◌, length, replicate, Option, Some, None, refl, ap, sym, ◌∙◌, subst, arith}
+use Rattle.std.proofs.Common.{◌≡◌, ◌≤◌, ◌⊎◌, ◌+◌, ◌*◌, ◌==◌, ℕ, zero, suc, inl, inr, cond, Bool, true, false, List, [], ◌∷◌, replicate, Option, Some, None, refl, ap, sym, ◌∙◌, subst, arith}
 use Rattle.std.specs.Prelude.{slice_get, sum_by}
 use Rattle.std.proofs.lemmas.Bool.{le-leb, and_from}
 use Rattle.gq_tariff.specs.Prices.{up, classes}
@@ -9,16 +9,15 @@ use Rattle.gq_model.specs.Lists.{greatest}
 use Rattle.gq_model.specs.declared.phase.Phase.{Phase}
 use Rattle.gq_model.specs.declared.phase.Phase.TheVariants.{Pending, Running, Blocked, Serving, Handling, Exited}
 use Rattle.gq_model.specs.Scenario.{Interface, System, Component, interface_in}
-use Rattle.gq_model.specs.World.{Slot, Empty, Session, Leaf, World, joined, session_at}
+use Rattle.gq_model.specs.World.{Empty, Session, Leaf, World, joined, session_at}
 use Rattle.gq_model.specs.Sums.{slot_price, bank_price, donated, to_leaf, held, lent, received, handed, is_paid, are_paid, all_paid, paid}
-use Rattle.gq_model.specs.Kinds.{State, Subject, need_of, kind_places, kinds_cost}
+use Rattle.gq_model.specs.Kinds.{State, need_of, kind_places}
 use Rattle.gq_model.specs.Budgets.{heap_cost, own}
 use Rattle.gq_model.specs.Use.{subject}
 use Rattle.gq_model.specs.Promises.{EachOf, need_at, needed}
 use Rattle.gq_laws.specs.Links.{IsLinkedWorld}
 use Rattle.gq_laws.specs.Lending.{slot_given}
-use Rattle.gq_laws.specs.Holding.{own_part, bank_part, main_points, PeaksWithin, HoldsNone, HoldsWithin, AllHold, AllCost}
-use Rattle.gq_laws.proofs.Linking.{some_same, none_some}
+use Rattle.gq_laws.specs.Holding.{own_part, bank_part, main_points, PeaksWithin, HoldsNone, AllHold, AllCost}
 use Rattle.gq_laws.proofs.Statement_numbers.{divided}
 use Rattle.gq_laws.proofs.Number_sums.{sum_add, sum_same}
 use Rattle.gq_laws.proofs.Donations.{lent_slots}

@@ -1,35 +1,31 @@
 -- No step of an accepted scenario is wrong: in each world that it comes to, all is held within what was verified, and so each step is paid for.
-use Rattle.std.proofs.Common.{◌≡◌, ◌≢◌, ◌≤◌, ◌+◌, true, ℕ, zero, suc, List, [], ◌∷◌, replicate, Option, Some, None, Ok, Err, refl, ap, sym, ◌∙◌, subst, arith}
+use Rattle.std.proofs.Common.{◌≡◌, ◌≤◌, ◌+◌, true, ℕ, zero, suc, List, [], ◌∷◌, replicate, Option, Some, None, Ok, Err, refl, ap, sym, ◌∙◌, subst, arith}
 use Rattle.std.specs.Prelude.{slice_get, sum_by}
 use Rattle.gq_tariff.specs.Prices.{classes}
-use Rattle.gq_model.specs.Amounts.{Resource, Ram, Caps, part, counted_in}
-use Rattle.gq_model.specs.Lists.{greatest}
-use Rattle.gq_model.specs.declared.phase.Phase.{Phase}
+use Rattle.gq_model.specs.Amounts.{Resource, Ram, Caps, part}
 use Rattle.gq_model.specs.declared.fault.Wrong.{Wrong}
-use Rattle.gq_model.specs.declared.fault.Wrong.TheVariants.{ExceededQuota}
 use Rattle.gq_model.specs.declared.program.Instruction.{Instruction}
 use Rattle.gq_model.specs.declared.program.Instruction.TheVariants.{Open}
 use Rattle.gq_model.specs.declared.program.Section.TheVariants.{Main}
 use Rattle.gq_model.specs.Program.{Statements, Done, Do, If, Loop, section_in}
-use Rattle.gq_model.specs.Scenario.{Interface, Scenario, System, Component, components, system, interface_in}
-use Rattle.gq_model.specs.World.{Empty, Session, Leaf, World, session_at, first_phase, start_leaf, start_leaves, start}
+use Rattle.gq_model.specs.Scenario.{Scenario, System, Component, system}
+use Rattle.gq_model.specs.World.{Empty, Leaf, World, first_phase, start_leaf, start_leaves, start}
 use Rattle.gq_model.specs.Sums.{slot_price, paid}
 use Rattle.gq_model.specs.Doing.{Doing, Event, Idle, Stepped}
 use Rattle.gq_model.specs.Step.{step_of, next}
-use Rattle.gq_model.specs.Kinds.{Kind, State, Subject, kind_places, kinds_cost}
+use Rattle.gq_model.specs.Kinds.{Kind, State}
 use Rattle.gq_model.specs.Flow.{flow, context, body, start_of}
 use Rattle.gq_model.specs.Budgets.{own}
 use Rattle.gq_model.specs.Use.{subject}
-use Rattle.gq_model.specs.Promises.{EachOf, budget_of}
+use Rattle.gq_model.specs.Promises.{budget_of}
 use Rattle.gq_laws.specs.Reached.{IsReached}
-use Rattle.gq_laws.specs.Shapes.{Each}
 use Rattle.gq_laws.specs.Links.{IsLinkedWorld}
 use Rattle.gq_laws.specs.Sound.{IsSound}
-use Rattle.gq_laws.specs.Left.{AllAre, AreLeft, Leads, IsGood}
-use Rattle.gq_laws.specs.Statements.{IsSafe, Takes}
-use Rattle.gq_laws.specs.Typing.{StandsBy, IsTypedBy}
+use Rattle.gq_laws.specs.Left.{AllAre, AreLeft, IsGood}
+use Rattle.gq_laws.specs.Statements.{Takes}
+use Rattle.gq_laws.specs.Typing.{IsTypedBy}
 use Rattle.gq_laws.specs.Lending.{slot_given}
-use Rattle.gq_laws.specs.Holding.{IsBounded, own_part, main_points, PeaksWithin, HoldsNone, HoldsWithin, IsHeld}
+use Rattle.gq_laws.specs.Holding.{IsBounded, main_points, PeaksWithin, HoldsNone, HoldsWithin, IsHeld}
 use Rattle.gq_laws.specs.Uncounted.{uncounted}
 use Rattle.gq_laws.proofs.Linking.{none_some, some_same}
 use Rattle.gq_laws.proofs.Reaching.{in_reached}
@@ -37,7 +33,7 @@ use Rattle.gq_laws.proofs.Linked_worlds.{kept_linked, start_linked}
 use Rattle.gq_laws.proofs.Left_worlds.{start_left, kept_left}
 use Rattle.gq_laws.proofs.Accepted_programs.{main_there, section_flows}
 use Rattle.gq_laws.proofs.Sure.{IsSure}
-use Rattle.gq_laws.proofs.Sound_systems.{sure_of, good_of, is_resolved}
+use Rattle.gq_laws.proofs.Sound_systems.{sure_of, good_of}
 use Rattle.gq_laws.proofs.Own_costs.{own_pays, own_is}
 use Rattle.gq_laws.proofs.Uncounted.{step_paid, step_same, never_short}
 use Rattle.gq_laws.proofs.Typed_start.{nothing, start_typed}
@@ -45,7 +41,7 @@ use Rattle.gq_laws.proofs.Typed_steps.{outcome}
 use Rattle.gq_laws.proofs.Typed_runs.{counted}
 use Rattle.gq_laws.proofs.Bounded_typed.{bounded_start}
 use Rattle.gq_laws.proofs.Held_outcomes.{typed_then, held_after}
-use Rattle.gq_laws.proofs.Held_paid.{IsAmong, of_each, HaveInterfaces, within_own, held_paid}
+use Rattle.gq_laws.proofs.Held_paid.{IsAmong, of_each, HaveInterfaces, held_paid}
 use Rattle.gq_laws.proofs.Endings.{gives}
 
 -- what is good in a system is good where nothing is counted

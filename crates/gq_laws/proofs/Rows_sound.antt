@@ -1,10 +1,10 @@
 -- What is taken for granted of scenarios holds of a worked one, and budgets are met exactly in worked runs. By computation.
-use Rattle.std.proofs.Common.{◌≡◌, ◌≤◌, ◌+◌, ℕ, zero, suc, cond, Bool, true, false, List, [], ◌∷◌, length, map, codes, Option, Some, None, refl, ap, sym, ◌∙◌, subst, arith}
+use Rattle.std.proofs.Common.{◌≡◌, ◌≤◌, ◌+◌, ℕ, zero, suc, cond, Bool, true, false, List, [], ◌∷◌, length, map, codes, Some, None, refl, ap, sym, ◌∙◌, subst, arith}
 use Rattle.std.specs.Prelude.{slice_get, slice_index}
-use Rattle.gq_model.specs.Amounts.{Ram, counted_in}
+use Rattle.gq_model.specs.Amounts.{Ram}
 use Rattle.gq_model.specs.declared.program.Place.TheVariants.{Own}
 use Rattle.gq_model.specs.declared.program.Form.TheVariants.{Space}
-use Rattle.gq_model.specs.declared.program.Instruction.TheVariants.{Push, Drop, Make}
+use Rattle.gq_model.specs.declared.program.Instruction.TheVariants.{Make}
 use Rattle.gq_model.specs.Code.{IsProgram}
 use Rattle.gq_model.specs.Program.{text_eq}
 use Rattle.gq_model.specs.Scenario.{Interface, Scenario, Component, components, system, interface_in}
@@ -14,7 +14,7 @@ use Rattle.gq_model.specs.Run.{run}
 use Rattle.gq_model.specs.Accept.{Budget, budgets, refusal}
 use Rattle.gq_model.proofs.Samples.{one, echo, echo_of, echo_turns}
 use Rattle.gq_laws.specs.Names.{NamesDiffer}
-use Rattle.gq_laws.specs.Sound.{IsWellFormed, IsSound}
+use Rattle.gq_laws.specs.Sound.{IsSound}
 use Rattle.gq_laws.proofs.Linking.{none_some, some_same}
 
 -- A SCENARIO OF A SERVER AND ITS CLIENT

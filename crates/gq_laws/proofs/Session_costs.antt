@@ -10,7 +10,7 @@ use Rattle.gq_model.specs.declared.program.Instruction.{Instruction}
 use Rattle.gq_model.specs.declared.program.Instruction.TheVariants.{Open, Upgrade}
 use Rattle.gq_model.specs.Program.{Statements, size, section_in}
 use Rattle.gq_model.specs.Scenario.{Interface, interface_in}
-use Rattle.gq_model.specs.Kinds.{Kind, State, Subject, Context, in_main, level_of, kind_at, need_of, session_cost}
+use Rattle.gq_model.specs.Kinds.{State, Subject, Context, in_main, level_of, kind_at, need_of, session_cost}
 use Rattle.gq_model.specs.Rules.{Judged, and_then, is_empty_kind, may_change, link_kind, covered, within_need, judge, judged}
 use Rattle.gq_model.specs.Flow.{at, flow_then, flow, context, body, bank_at, bank_before, start_of, section_end, section_flow}
 use Rattle.gq_model.specs.Verdict.{program_fault}

@@ -11,11 +11,10 @@ use Rattle.gq_model.specs.World.{Session, Hand, Leaf, World, session_at, Round}
 use Rattle.gq_model.specs.Doing.{Doing, Event, Quiet, Finished, standing}
 use Rattle.gq_model.specs.Step.{is_name, released, all_released, exited, exit_of, serving, main_ended}
 use Rattle.gq_model.specs.Kinds.{Kind, State, Context, Subject}
-use Rattle.gq_model.specs.Flow.{flow, context, body, start_of, section_end, state_or, own_after}
+use Rattle.gq_model.specs.Flow.{flow, context, body, start_of, state_or, own_after}
 use Rattle.gq_model.specs.Use.{subject}
 use Rattle.gq_model.specs.Kept.{section_waiting, section_if, section_at_hand, section_asked}
 use Rattle.gq_laws.specs.Shapes.{Each}
-use Rattle.gq_laws.specs.Links.{IsLinkedWorld}
 use Rattle.gq_laws.specs.Typed.{AreKinds, HandMeets, Meets}
 use Rattle.gq_laws.specs.Statements.{Takes}
 use Rattle.gq_laws.specs.Typing.{Extra, Carries, kind_then, section_of, IsAwaited, IsInSection, StandsBy, StandAll, FitsService, FitsRequest, IsTypedBy}
@@ -24,7 +23,6 @@ use Rattle.gq_laws.proofs.Linking.{some_same, none_some}
 use Rattle.gq_laws.proofs.Link_events.{each_map}
 use Rattle.gq_laws.proofs.Link_worlds.{set_here, set_else}
 use Rattle.gq_laws.proofs.Typed_worlds.{stands_else}
-use Rattle.gq_laws.proofs.Sure.{IsSure}
 use Rattle.gq_model.specs.declared.program.Section.{Section}
 use Rattle.gq_model.specs.Program.{Statements}
 

@@ -1,5 +1,5 @@
 -- A step inside a section that asks nothing of a session keeps worlds typed.
-use Rattle.std.proofs.Common.{◌≡◌, ◌≢◌, ◌≤◌, ◌⊎◌, ℕ, inl, inr, true, length, Option, Some, None, Ok, refl, ap, sym, ◌∙◌, subst, List}
+use Rattle.std.proofs.Common.{◌≡◌, ◌≢◌, ◌≤◌, ◌⊎◌, ℕ, inl, inr, true, length, Option, Some, None, Ok, refl, ap, sym, ◌∙◌, subst}
 use Rattle.std.specs.Prelude.{slice_get}
 use Rattle.std.proofs.lemmas.Bool.Decides.{eqb_tells}
 use Rattle.gq_model.specs.declared.program.Form.TheVariants.{Slice}
@@ -7,7 +7,7 @@ use Rattle.gq_model.specs.declared.phase.Phase.{Phase}
 use Rattle.gq_model.specs.declared.phase.Phase.TheVariants.{Running, Handling}
 use Rattle.gq_model.specs.Program.{Statements, section_in}
 use Rattle.gq_model.specs.Scenario.{System, Component, interface_in, number_of}
-use Rattle.gq_model.specs.World.{Session, Request, Hand, Leaf, World, session_at, Round}
+use Rattle.gq_model.specs.World.{Session, Request, Hand, Leaf, World, session_at}
 use Rattle.gq_model.specs.Doing.{Doing}
 use Rattle.gq_model.specs.Step.{section_for}
 use Rattle.gq_model.specs.Kinds.{Kind, Memory, State}
@@ -28,7 +28,6 @@ use Rattle.gq_laws.proofs.Statement_others.{stays_kind, stay_kinds}
 use Rattle.gq_laws.proofs.Statement_frame.{stand_else}
 use Rattle.gq_laws.proofs.Typed_worlds.{kind_same, asked_same, if_here, stands_else}
 use Rattle.gq_laws.proofs.Typed_links.{stood}
-use Rattle.gq_model.specs.declared.program.Section.{Section}
 
 -- a leaf that takes a step
 abbrev pub IsActive : Phase → Type 0

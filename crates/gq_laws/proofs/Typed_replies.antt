@@ -1,5 +1,5 @@
 -- The end of a section for a session keeps worlds typed: its server waits for a request, and its client goes on with the reply.
-use Rattle.std.proofs.Common.{◌≡◌, ◌≢◌, ◌≤◌, ◌==◌, ℕ, inl, inr, cond, Bool, true, false, length, Option, Some, None, Ok, refl, ap, sym, ◌∙◌, subst, arith, List}
+use Rattle.std.proofs.Common.{◌≡◌, ◌≢◌, ◌≤◌, ◌==◌, ℕ, inl, inr, cond, Bool, true, false, length, Option, Some, None, Ok, refl, ap, sym, ◌∙◌, subst, arith}
 use Rattle.std.specs.Prelude.{slice_get, slice_set}
 use Rattle.std.proofs.lemmas.Bool.Decides.{eqb_tells}
 use Rattle.gq_model.specs.Lists.{or_first}
@@ -8,7 +8,7 @@ use Rattle.gq_model.specs.declared.program.Section.{Section}
 use Rattle.gq_model.specs.declared.program.Section.TheVariants.{Main, Opening, Upgrading, Calling, Closing}
 use Rattle.gq_model.specs.declared.phase.Phase.TheVariants.{Blocked, Handling}
 use Rattle.gq_model.specs.Scenario.{Component, interface_in, number_of}
-use Rattle.gq_model.specs.World.{Slot, Spot, In_leaf, In_session, In_object, Session, Request, Hand, Leaf, World, session_at, Round}
+use Rattle.gq_model.specs.World.{Slot, Spot, In_leaf, In_session, In_object, Session, Request, Hand, Leaf, World, session_at}
 use Rattle.gq_model.specs.Doing.{Doing, Event}
 use Rattle.gq_model.specs.Step.{section_for, serving, resumed, section_ended}
 use Rattle.gq_model.specs.Kinds.{Kind, Memory, Link_kind, State, Context, Subject, no_kinds}
@@ -31,7 +31,6 @@ use Rattle.gq_laws.proofs.Sure.{IsSure}
 use Rattle.gq_laws.proofs.Typed_worlds.{kind_same, asked_same, waiting_none, none_asked, if_here, stands_else}
 use Rattle.gq_laws.proofs.Typed_links.{stood}
 use Rattle.gq_laws.proofs.Typed_inside.{IsActive, stands_active, hand_else}
-use Rattle.gq_model.specs.Program.{Statements}
 
 -- a section of a session that stays open leaves its slots so at this level
 abbrev pub LeavesBank : Subject → Section → State → ℕ → Type 0

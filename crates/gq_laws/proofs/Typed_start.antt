@@ -8,7 +8,7 @@ use Rattle.gq_model.specs.World.{Leaf, first_phase, start_leaf, start_leaves, st
 use Rattle.gq_model.specs.Kinds.{Kind, State}
 use Rattle.gq_model.specs.Flow.{flow, context, body, start_of}
 use Rattle.gq_model.specs.Use.{subject}
-use Rattle.gq_laws.specs.Typing.{Extra, StandsBy, IsTyped, IsTypedBy}
+use Rattle.gq_laws.specs.Typing.{Extra, StandsBy, IsTypedBy}
 use Rattle.gq_laws.proofs.Linking.{some_same, none_some}
 use Rattle.gq_laws.proofs.Statement_frame.{starts}
 use Rattle.gq_laws.proofs.Sure.{IsSure}
@@ -37,11 +37,11 @@ module _ (extra : Extra) (system : System) (sure : IsSure system) where
 pub start_typed : (extra : Extra) (system : System) → IsSure system → (main_flows : (x : ℕ) (c : Component) → slice_get system.components x ≡ Some c → (end : State) × (flow (context (subject system c) Main) (start_of (subject system c) Main) (body (subject system c) Main) ≡ Ok end))
     → (main_listed : (x : ℕ) (c : Component) → slice_get system.components x ≡ Some c → (list : Statements) × (section_in Main c.node.program.sections ≡ Some list)) → ((x : ℕ) (c : Component) → slice_get system.components x ≡ Some c → extra x Main (start_of (subject system c) Main) (body (subject system c) Main) []) → IsTypedBy nothing extra system (start system)
 start_typed extra system sure main_flows main_listed also =
-  record {
-    tells = λ k s there. absurd (none_some there);
-    leaves = λ x c leaf placed there.
-        let f = main_flows x c placed in
-        subst (λ l. StandsBy nothing extra system (start system) x c l l.phase) (sym (start_at system.components x c leaf placed there)) (start_stands extra system sure x c placed f.0 f.1 (main_listed x c placed) (also x c placed) c.node.after);
-    sessions = λ k s there. absurd (none_some there);
-    requests = tt;
-  }
+    record {
+      tells = λ k s there. absurd (none_some there);
+      leaves = λ x c leaf placed there.
+          let f = main_flows x c placed in
+          subst (λ l. StandsBy nothing extra system (start system) x c l l.phase) (sym (start_at system.components x c leaf placed there)) (start_stands extra system sure x c placed f.0 f.1 (main_listed x c placed) (also x c placed) c.node.after);
+      sessions = λ k s there. absurd (none_some there);
+      requests = tt;
+    }

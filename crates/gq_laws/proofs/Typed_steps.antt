@@ -1,5 +1,5 @@
 -- What a step of an accepted scenario does in a typed world, and that only want of quota is wrong with it.
-use Rattle.std.proofs.Common.{◌≡◌, ◌≢◌, ℕ, zero, suc, inl, inr, true, false, List, [], ◌∷◌, Option, Some, None, Ok, Err, refl, ap, sym, ◌∙◌, subst}
+use Rattle.std.proofs.Common.{◌≡◌, ◌≢◌, ℕ, zero, suc, inl, inr, true, false, List, [], ◌∷◌, Option, Some, None, Ok, refl, ap, sym, ◌∙◌, subst}
 use Rattle.std.specs.Prelude.{slice_get}
 use Rattle.gq_model.specs.declared.program.Instruction.{Instruction}
 use Rattle.gq_model.specs.declared.program.Instruction.TheVariants.{Open, Upgrade, Call, Close}
@@ -7,8 +7,6 @@ use Rattle.gq_model.specs.declared.program.Section.{Section}
 use Rattle.gq_model.specs.declared.program.Section.TheVariants.{Main, Opening, Upgrading, Calling, Closing}
 use Rattle.gq_model.specs.declared.phase.Phase.{Phase}
 use Rattle.gq_model.specs.declared.phase.Phase.TheVariants.{Pending, Running, Blocked, Serving, Handling, Exited}
-use Rattle.gq_model.specs.declared.fault.Wrong.{Wrong}
-use Rattle.gq_model.specs.declared.fault.Wrong.TheVariants.{ExceededQuota}
 use Rattle.gq_model.specs.Program.{Statements, Done, Do, If, Loop, section_in}
 use Rattle.gq_model.specs.Code.{is_section}
 use Rattle.gq_model.specs.World.{Request, Hand, Round, session_at, Session, World}
@@ -23,7 +21,7 @@ use Rattle.gq_laws.specs.Typed.{IsAtHand, Meets}
 use Rattle.gq_laws.specs.Left.{AllAre, IsGood}
 use Rattle.gq_laws.specs.Statements.{IsSafe, IsInside, Takes, LeadsOn, LeavesOthers}
 use Rattle.gq_laws.specs.Asking.{IsServed, Awaits, promised_anew}
-use Rattle.gq_laws.specs.Typing.{section_of, StandsBy, IsTypedBy, IsTyped, Extra, no_extra, Carries, IsInSection}
+use Rattle.gq_laws.specs.Typing.{section_of, StandsBy, IsTypedBy, IsTyped, Extra, no_extra, Carries}
 use Rattle.gq_laws.proofs.Statement_rules.{safe_gives}
 use Rattle.gq_laws.proofs.Statement_others.{keeps_to_itself}
 use Rattle.gq_laws.proofs.Statement_control.{leads_on}

@@ -6,7 +6,7 @@ use Rattle.gq_model.specs.Lists.{or_first}
 use Rattle.gq_model.specs.declared.program.Section.{Section}
 use Rattle.gq_model.specs.Program.{Statements, section_in}
 use Rattle.gq_model.specs.Scenario.{Interface, Component, interface_in, number_of}
-use Rattle.gq_model.specs.World.{Session, Request, Hand, Leaf, World, session_at, Round}
+use Rattle.gq_model.specs.World.{Session, Request, Hand, Leaf, World, session_at}
 use Rattle.gq_model.specs.Doing.{Doing}
 use Rattle.gq_model.specs.Kinds.{Kind, State, Context, Subject}
 use Rattle.gq_model.specs.Flow.{flow, context, body, start_of}

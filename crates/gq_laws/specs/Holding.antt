@@ -3,13 +3,11 @@ use Rattle.std.specs.Prelude.{◌≡◌, ◌≤◌, false, ℕ, suc, ◌+◌, Li
 use Rattle.gq_tariff.specs.Prices.{classes}
 use Rattle.gq_model.specs.declared.phase.Phase.{Phase}
 use Rattle.gq_model.specs.declared.phase.Phase.TheVariants.{Pending, Running, Blocked, Serving, Handling, Exited}
-use Rattle.gq_model.specs.declared.program.Section.{Section}
 use Rattle.gq_model.specs.declared.program.Section.TheVariants.{Main}
 use Rattle.gq_model.specs.Amounts.{Resource, part}
 use Rattle.gq_model.specs.Lists.{greatest}
-use Rattle.gq_model.specs.Program.{Statements}
 use Rattle.gq_model.specs.Scenario.{Interface, System, Component, interface_in}
-use Rattle.gq_model.specs.World.{Empty, Session, Ask, Ask_open, Ask_upgrade, Ask_close, Ask_call, Request, Round, Leaf, World, session_at}
+use Rattle.gq_model.specs.World.{Empty, Session, Ask, Ask_open, Ask_upgrade, Ask_close, Ask_call, Leaf, World, session_at}
 use Rattle.gq_model.specs.Sums.{slot_price, bank_price}
 use Rattle.gq_model.specs.Kinds.{Kind, State, Subject, in_main, level_of, session_cost, kinds_cost, kind_places, need_of}
 use Rattle.gq_model.specs.Flow.{points, context, body, start_of}
