@@ -2,14 +2,13 @@
 use Rattle.std.proofs.Common.{◌≡◌, ℕ, zero, suc, ◌<◌, ◌≤◌, ◌&&◌, ◌||◌, nat_lt, Bool, true, false, cond, List, [], ◌∷◌, length, replicate, Option, Some, None, Ok, Err, refl, ap, sym, ◌∙◌, subst, arith}
 use Rattle.std.specs.Prelude.{nat_le, is_some, slice_get}
 use Rattle.std.proofs.lemmas.Bool.{eqb-true, leb-true, le-leb, lt-ltb}
-use Rattle.std.proofs.lemmas.List.{length-replicate}
 use Rattle.gq_model.specs.declared.program.Form.TheVariants.{Block, Slice, Space}
 use Rattle.gq_model.specs.declared.program.Section.{Section}
 use Rattle.gq_model.specs.declared.program.Section.TheVariants.{Main, Opening, Upgrading, Calling, Closing}
 use Rattle.gq_model.specs.Program.{Statements, size, same_section, all_sections, section_in}
 use Rattle.gq_model.specs.Scenario.{Interface, number_of}
 use Rattle.gq_model.specs.Lists.{or_first, any_of}
-use Rattle.gq_model.specs.Kinds.{Kind, Empty_kind, Memory, Pool_kind, Link_kind, State, Subject, in_main, same_kinds, no_kinds}
+use Rattle.gq_model.specs.Kinds.{Kind, Empty_kind, Memory, Pool_kind, Link_kind, State, Subject, in_main, same_kinds}
 use Rattle.gq_model.specs.Rules.{Judged, and_then, is_empty_kind, within_need}
 use Rattle.gq_model.specs.Flow.{Flowed, at, flow_then, is_nil, none_left, flow, state_or, context, body, own_after, own_before, bank_at, start_of, is_space_kind, bank_is_empty, opening_end, section_end, section_flow}
 use Rattle.gq_model.specs.Verdict.{is_wanted, same_truth, first_unwanted, fault_of, first_fault, walked, program_fault}
@@ -187,12 +186,6 @@ then_there : (j : Judged) (go : State → Judged) (t : State) → and_then j go 
 then_there (Ok u) go t e = (u, refl, e)
 then_there (Err rule) go t e = cc
 
-pub bank_closed : (v : Subject) (l : ℕ) (end last : State) → section_end v (Closing l) end ≡ Ok last → bank_is_empty end.bank ≡ true
-bank_closed v l end last e =
-    let left = then_there (none_left end) _ last e in
-    let same = (none_left_ok end left.0 left.1).1 in
-    subst (λ (u : State). bank_is_empty u.bank ≡ true) same (must_holds (bank_is_empty left.0.bank) _ _ last left.2).0
-
 both_true : (a b : Bool) → (a && b) ≡ true → (a ≡ true) × (b ≡ true)
 both_true true b e = (refl, e)
 both_true false b e = absurd (false_true e)
@@ -206,9 +199,6 @@ empty_is (Link_kind service level given) e = absurd (false_true e)
 all_empty : (kinds : List Kind) → bank_is_empty kinds ≡ true → kinds ≡ replicate (length kinds) Empty_kind
 all_empty [] e = refl
 all_empty (kind ∷ kinds) e = let b = both_true (is_empty_kind kind) (bank_is_empty kinds) e in λ i. empty_is kind b.0 i ∷ all_empty kinds b.1 i
-
-pub bank_none : (kinds : List Kind) → bank_is_empty kinds ≡ true → length kinds ≡ 8 → kinds ≡ no_kinds
-bank_none kinds e eight = all_empty kinds e ∙ ap (λ n. replicate n Empty_kind) eight
 
 -- BUFFERS
 
@@ -280,10 +270,3 @@ own_kept v section s = by (flow (context v section) s (body v section)) refl
     by : (r : Flowed) → flow (context v section) s (body v section) ≡ r → length (state_or s r).own ≡ length s.own
     by (Ok t) e = (banks_long (context v section) s t (body v section) e).0
     by (Err fault) e = refl
-
-pub bank_long : (v : Subject) (l : ℕ) → length (bank_at v l) ≡ 8
-bank_long v zero = bank_kept v Opening (start_of v Opening) ∙ length-replicate 8 Empty_kind
-bank_long v (suc l) = bank_kept v (Upgrading (suc l)) (start_of v (Upgrading (suc l))) ∙ bank_long v l
-
-pub own_long : (v : Subject) → length (own_after v) ≡ 64
-own_long v = own_kept v Main (start_of v Main) ∙ length-replicate 64 Empty_kind

@@ -15,12 +15,12 @@ use Rattle.gq_model.specs.World.{Slot, Empty, Waiting, Bytes, Pool, Link, In_lea
 use Rattle.gq_model.specs.Sums.{slot_places, to_leaf, places}
 use Rattle.gq_model.specs.Kinds.{Kind, State, Subject, Context, in_main, inside, no_kinds, kind_places, kinds_cost}
 use Rattle.gq_model.specs.Rules.{Judged, judged}
-use Rattle.gq_model.specs.Flow.{at, state_or, flow, points, context, body, start_of, own_after, bank_at}
+use Rattle.gq_model.specs.Flow.{at, state_or, flow, points, context, body, start_of, bank_at}
 use Rattle.gq_model.specs.Kept.{section_if, section_at_hand, within, bank_kinds}
 use Rattle.gq_model.specs.Use.{subject}
 use Rattle.gq_laws.specs.Shapes.{Each}
 use Rattle.gq_laws.specs.Links.{Waits, Belongs, Stance, stance_in, naming_in, links, IsLinkedWorld}
-use Rattle.gq_laws.specs.Typed.{AreKinds, HandMeets}
+use Rattle.gq_laws.specs.Typed.{HandMeets}
 use Rattle.gq_laws.specs.Typing.{GoesOnFrom, Tells, FitsService, IsInSection, IsTypedBy}
 use Rattle.gq_laws.specs.Replies.{once_replied}
 use Rattle.gq_laws.specs.Holding.{main_points, IsBounded, own_part}
@@ -188,13 +188,6 @@ module _ (promised : ℕ → Option Kind) (system : System) (sure : IsSure syste
       pub places_bounded : places w x leaf k ≤ greatest (λ (u : State). sum_by (kind_places k) u.own) (main_points v)
       places_bounded =
           let own = own_places k in let none = to_none x (λ q. sum_by (slot_places k) q.slots) w session_light in omega (arith, own, none)
-
-  -- a leaf that serves has what `main` left
-  pub rest_bounded : (leaf : Leaf) → AreKinds promised leaf.slots (own_after v) → Each (NoClose w) leaf.slots → (r : Resource) → own_part r w leaf ≤ greatest (λ (u : State). kinds_cost r u.own) (main_points v)
-  rest_bounded leaf are each r =
-      let cost = slots_cost r promised w t.tells leaf.slots (own_after v) are each in
-      let under = own_after_under (kinds_cost r) v (sure.faultless x c at_place) in
-      omega (arith, cost, under)
 
 -- SLOTS THAT WAIT
 

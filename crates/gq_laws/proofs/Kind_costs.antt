@@ -190,13 +190,6 @@ module _ (r : Resource) where
     slots_cost slots kinds are each =
         let price = slots_price slots kinds are (named_each slots each) in let lent = slots_lent slots kinds are each in omega (arith, price, lent)
 
-    -- while a session is being closed, no less than that
-    pub slots_cost_least : (slots : List Slot) (kinds : List Kind) → AreKinds promised slots kinds → Each (IsNamed w) slots → kinds_cost r kinds ≤ sum_by (slot_price r) slots + sum_by (slot_given r w) slots
-    slots_cost_least slots kinds are each =
-        let price = slots_price slots kinds are each in
-        let lent = sum_over promised (IsNamed w) (slot_given r w) (kind_lent r) lent_least slots kinds are each in
-        omega (arith, price, lent)
-
 -- PLACES OF THE HEAP
 
 -- the heap has no places for any of these
@@ -242,8 +235,3 @@ module _ (promised : ℕ → Option Kind) (c : ℕ) where
   kinds_none [] h = refl
   kinds_none (kind ∷ kinds) h =
       let here = heap_none kind h.0 in let further = kinds_none kinds h.1 in omega (arith, here, further, sum_by-cons (kind_places c) kind kinds)
-
-  -- slots of which none is of the heap's kinds have none of its places in use
-  pub no_heap_places : (slots : List Slot) (kinds : List Kind) → AreKinds promised slots kinds → NoHeap kinds → sum_by (slot_places c) slots ≡ 0
-  no_heap_places slots kinds are each =
-      let fit = places_fit slots kinds are in let none = kinds_none kinds each in omega (arith, fit, none)

@@ -1,7 +1,6 @@
 -- Each move of a section asks for no more than what it takes from the requests that are left.
 use Rattle.std.proofs.Common.{◌≡◌, ℕ, suc, ◌+◌, ◌-◌, ◌*◌, ◌<◌, ◌≤◌, List, [], ◌∷◌, refl, sym, ap, subst, arith}
 use Rattle.std.specs.Prelude.{max, Ok}
-use Rattle.std.proofs.Math.Path.{transport}
 use Rattle.gq_model.specs.declared.program.Instruction.{Instruction}
 use Rattle.gq_model.specs.declared.program.Section.{Section}
 use Rattle.gq_model.specs.Program.{Statements, Done, Do, If, Loop, ◌then◌}
@@ -11,7 +10,7 @@ use Rattle.gq_model.specs.Rules.{judged}
 use Rattle.gq_model.specs.Flow.{at, chosen_from, flow, state_or}
 use Rattle.gq_model.specs.Budgets.{asks, requests}
 use Rattle.gq_model.specs.Kept.{within, Continues}
-use Rattle.gq_laws.specs.Moves.{Moves, Does, Chooses, Enters, Repeats, Leaves, round_requests, left_requests}
+use Rattle.gq_laws.specs.Moves.{Moves, round_requests, left_requests}
 use Rattle.gq_laws.proofs.Loops.{loop_ok, flow_append}
 use Rattle.gq_laws.proofs.Move_cases.{chosen_is, do_ok, arms_ok, ended_ok, by_move}
 use Rattle.gq_laws.proofs.Left_costs.{HasRound, one_more}
@@ -144,26 +143,3 @@ requests_moves service section c s t end todo left loops around has h m =
     (λ s r outer again p g. repeats service section c s end r outer again g)
     (λ s r outer p g. leaves service section c s end r outer g)
     s t todo left loops around m has h
-
--- the requests of a move: those of its instruction, if it is one
-abbrev pub move_asks : (service : List ℕ) (section : Section) (c : Context) (s t : State) (todo left : Statements) (loops around : List Round) → Moves c s todo loops t left around → ℕ
-move_asks service section c s t todo left loops around (Does i rest is judges goes_on same) = asks service section (within c loops) s i
-move_asks service section c s t todo left loops around (Chooses arm other rest is from goes_on same) = 0
-move_asks service section c s t todo left loops around (Enters n body rest is stays goes_on more) = 0
-move_asks service section c s t todo left loops around (Repeats r outer is inside stays again goes_on more) = 0
-move_asks service section c s t todo left loops around (Leaves r outer is inside stays goes_on out) = 0
-
--- what a move asks for and what it leaves is no more than what was left before it
-pub requests_move : (service : List ℕ) (section : Section) (c : Context) (s t end : State) (todo left : Statements) (loops around : List Round) → HasRound todo → Continues c s todo loops end → (m : Moves c s todo loops t left around)
-    → move_asks service section c s t todo left loops around m + left_requests service section c t left around ≤ left_requests service section c s todo loops
-requests_move service section c s t end todo left loops around has h (Does i rest is judges goes_on same) =
-    let most = requests_does service section c s t end i rest loops (subst (λ x. Continues c s x loops end) is h) judges in
-    transport (λ j. asks service section (within c loops) s i + left_requests service section c t (sym goes_on j) (sym same j) ≤ left_requests service section c s (sym is j) loops) most
-requests_move service section c s t end todo left loops around has h (Chooses arm other rest is from goes_on same) =
-    let most = requests_moves service section c s t end todo left loops around has h (Chooses arm other rest is from goes_on same) in omega (arith, most)
-requests_move service section c s t end todo left loops around has h (Enters n body rest is stays goes_on more) =
-    let most = requests_moves service section c s t end todo left loops around has h (Enters n body rest is stays goes_on more) in omega (arith, most)
-requests_move service section c s t end todo left loops around has h (Repeats r outer is inside stays again goes_on more) =
-    let most = requests_moves service section c s t end todo left loops around has h (Repeats r outer is inside stays again goes_on more) in omega (arith, most)
-requests_move service section c s t end todo left loops around has h (Leaves r outer is inside stays goes_on out) =
-    let most = requests_moves service section c s t end todo left loops around has h (Leaves r outer is inside stays goes_on out) in omega (arith, most)

@@ -44,14 +44,6 @@ pub record IsNoDearer (w v : World) : Type 0 where
 pub same_price : (w : World) → IsNoDearer w w
 same_price w = record { banks = λ r x. omega arith; lends = λ r x. omega arith; receives = λ r x. omega arith; leaves = λ x leaf e. (leaf, e, record { own = λ r. omega arith; phase = λ q. omega arith }) }
 
--- prices and phase as they were
-pub same_leaf_price : (old leaf : Leaf) → leaf.slots ≡ old.slots → leaf.peaks ≡ old.peaks → leaf.phase ≡ old.phase → IsNoDearerLeaf old leaf
-same_leaf_price old leaf slots peaks phase =
-    record {
-      own = λ r. (let same : sum_by (slot_price r) leaf.slots + heap r leaf.peaks ≡ sum_by (slot_price r) old.slots + heap r old.peaks = (λ i. sum_by (slot_price r) (slots i) + heap r (peaks i)) in omega (arith, same));
-      phase = λ q. (let same : handed leaf.phase q ≡ handed old.phase q = ap (λ p. handed p q) phase in omega (arith, same));
-    }
-
 module _ (w : World) where
   pub leaf_no_dearer : (v : World) (x : ℕ) (old leaf : Leaf) → slice_get v.leaves x ≡ Some old → IsNoDearerLeaf old leaf → IsNoDearer w v → IsNoDearer w (with_leaf v x leaf)
   leaf_no_dearer v x old leaf there cheap h = record { banks = h.banks; lends = h.lends; receives = h.receives; leaves = each }

@@ -1,7 +1,7 @@
 -- What the rules say of a session's costs: they stay within its need, no kind of the heap's comes into its bank, and who opens or upgrades a session pays its need.
 use Rattle.std.proofs.Common.{◌≡◌, ℕ, zero, suc, ◌+◌, ◌<◌, ◌≤◌, true, false, List, [], ◌∷◌, length, take, Some, None, Ok, Err, refl, ap, sym, ◌∙◌, subst, arith}
 use Rattle.std.specs.Prelude.{nat_le, nat_lt, slice_index_or}
-use Rattle.std.proofs.lemmas.Bool.{leb-true, le-leb}
+use Rattle.std.proofs.lemmas.Bool.{leb-true}
 use Rattle.gq_model.specs.Amounts.{Resource, Ram, Caps, Amount, amount, part, plus, total}
 use Rattle.gq_model.specs.declared.program.Section.{Section}
 use Rattle.gq_model.specs.declared.program.Section.TheVariants.{Main, Opening, Upgrading, Calling, Closing}
@@ -12,13 +12,13 @@ use Rattle.gq_model.specs.Program.{Statements, size, section_in}
 use Rattle.gq_model.specs.Scenario.{Interface, interface_in}
 use Rattle.gq_model.specs.Kinds.{State, Subject, Context, in_main, level_of, kind_at, need_of, session_cost}
 use Rattle.gq_model.specs.Rules.{Judged, and_then, is_empty_kind, may_change, link_kind, covered, within_need, judge, judged}
-use Rattle.gq_model.specs.Flow.{at, flow_then, flow, context, body, bank_at, bank_before, start_of, section_end, section_flow}
+use Rattle.gq_model.specs.Flow.{at, flow_then, flow, context, body, bank_before, start_of, section_end, section_flow}
 use Rattle.gq_model.specs.Verdict.{program_fault}
 use Rattle.gq_model.specs.Promises.{EachOf}
 use Rattle.gq_laws.proofs.Linking.{some_same}
 use Rattle.gq_laws.proofs.Loops.{then_ok, at_ok}
 use Rattle.gq_laws.proofs.Statement_rules.{must_holds, given_there, within_same, judged_alone}
-use Rattle.gq_laws.proofs.Accepted_programs.{accepted, passes, section_there}
+use Rattle.gq_laws.proofs.Accepted_programs.{accepted, passes}
 use Rattle.gq_laws.specs.Holding.{Covers}
 
 true_false : true ≡ false → ⊥
@@ -65,12 +65,6 @@ start_covers v section list e there outside =
 
 calling_never : (level l : ℕ) → Calling level ≡ Upgrading l → 0 < l
 calling_never level l e = absurd cc
-
--- and between two requests
-pub rests_cover : (v : Subject) (i : Interface) (level : ℕ) → program_fault v ≡ None → v.provided ≡ Some i → length i.upgrades ≤ 3 → level ≤ length i.upgrades → Covers v level (bank_at v level)
-rests_cover v i level e provided few within =
-    let there = section_there v i (Calling level) e provided few (le-leb level (length i.upgrades) within) (calling_never level) in
-    start_covers v (Calling level) there.0 e there.1 refl
 
 -- NEEDS
 

@@ -1,10 +1,8 @@
 -- Each world that an accepted scenario comes to is typed, and no step in it is wrong but for want of quota.
-use Rattle.std.proofs.Common.{◌≡◌, ℕ, suc, Option, Some, None, Ok, Err, refl}
+use Rattle.std.proofs.Common.{◌≡◌, ℕ, suc, Option, Some, None, Ok, refl}
 use Rattle.std.specs.Prelude.{slice_get}
 use Rattle.gq_model.specs.declared.phase.Phase.{Phase}
 use Rattle.gq_model.specs.declared.phase.Phase.TheVariants.{Pending, Running, Blocked, Serving, Handling, Exited}
-use Rattle.gq_model.specs.declared.fault.Wrong.{Wrong}
-use Rattle.gq_model.specs.declared.fault.Wrong.TheVariants.{ExceededQuota}
 use Rattle.gq_model.specs.declared.program.Section.TheVariants.{Main}
 use Rattle.gq_model.specs.Program.{Statements, section_in}
 use Rattle.gq_model.specs.Scenario.{Scenario, System, Component, components, system}
@@ -73,12 +71,6 @@ module _ (s : Scenario) (sound : IsSound s) where
   sure : IsSure (system s)
   sure = sure_of s sound
 
-  pub reached_left : (w : World) → IsReached s w → AreLeft (IsGood (system s)) (system s) w
-  reached_left = in_reached s (AreLeft (IsGood (system s)) (system s)) (kept_left (IsGood (system s)) (system s) (good_of s sound)) (start_left (IsGood (system s)) (system s) (good_of s sound))
-
-  pub reached_linked : (w : World) → IsReached s w → IsLinkedWorld (system s) w
-  reached_linked = in_reached s (IsLinkedWorld (system s)) (kept_linked (system s)) (start_linked (system s))
-
   main_listed : (x : ℕ) (c : Component) → slice_get (components s) x ≡ Some c → (list : Statements) × (section_in Main c.node.program.sections ≡ Some list)
   main_listed x c there = main_there (subject (system s) c) (sure.faultless x c there)
 
@@ -116,7 +108,3 @@ module _ (s : Scenario) (sound : IsSound s) where
   -- each world is typed
   pub reached_typed : (w : World) → IsReached s w → IsTyped (system s) w
   reached_typed w r = (reached_stands w r).typed
-
-  -- and only want of quota is wrong with a step
-  pub only_short : (w : World) → IsReached s w → (x : ℕ) (wrong : Wrong) → next (system s) w x ≡ Err wrong → wrong ≡ ExceededQuota
-  only_short w r x wrong e = let h = reached_stands w r in (next_typed (system s) sure w h.linked h.left h.typed x).short wrong e

@@ -211,10 +211,6 @@ step_paid system w x new event = (both system w x).pays new event
 pub step_same : (system : System) (w : World) (x : ℕ) (new : World) (event : Event) → next system w x ≡ Ok (new, event) → next (uncounted system) w x ≡ Ok (new, event)
 step_same system w x new event = (both system w x).same new event
 
--- what else is wrong is wrong in both
-pub step_short : (system : System) (w : World) (x : ℕ) (wrong : Wrong) → next system w x ≡ Err wrong → wrong ≢ ExceededQuota → next (uncounted system) w x ≡ Err wrong
-step_short system w x wrong = (both system w x).short wrong
-
 -- where nothing is counted no quota is exceeded
 pub never_short : (system : System) (w : World) (x : ℕ) (wrong : Wrong) → next (uncounted system) w x ≡ Err wrong → wrong ≢ ExceededQuota
 never_short system w x wrong = (both system w x).never wrong
