@@ -15,7 +15,7 @@ use Rattle.gq_model.specs.Verdict.{is_wanted, same_truth, first_unwanted, fault_
 use Rattle.gq_laws.proofs.Linking.{none_some}
 use Rattle.gq_laws.proofs.Loops.{then_ok, at_ok, none_left_ok}
 use Rattle.gq_laws.proofs.Statement_rules.{must_holds, top_there, within_same}
-use Rattle.gq_laws.proofs.Flow_banks.{same_kinds_are, own_stays, buffer_stays, banks_long}
+use Rattle.gq_laws.proofs.Flow_banks.{same_kinds_are, own_stays, buffer_stays}
 
 false_true : false ≡ true → ⊥
 false_true e = cc
@@ -254,19 +254,3 @@ buffer_at v i (suc l) e provided few positive within =
     let before = buffer_at v i l e provided few positive (omega (arith, within)) in
     ap (λ bank. slice_get bank 0) (sym (bank_upgraded v l f.0 f.2))
     ∙ buffer_stays (context v (Upgrading (suc l))) (start_of v (Upgrading (suc l))) f.0 i.buffer (body v (Upgrading (suc l))) refl shared before f.2
-
--- LENGTHS
-
-bank_kept : (v : Subject) (section : Section) (s : State) → length (state_or s (flow (context v section) s (body v section))).bank ≡ length s.bank
-bank_kept v section s = by (flow (context v section) s (body v section)) refl
-  where
-    by : (r : Flowed) → flow (context v section) s (body v section) ≡ r → length (state_or s r).bank ≡ length s.bank
-    by (Ok t) e = (banks_long (context v section) s t (body v section) e).1
-    by (Err fault) e = refl
-
-own_kept : (v : Subject) (section : Section) (s : State) → length (state_or s (flow (context v section) s (body v section))).own ≡ length s.own
-own_kept v section s = by (flow (context v section) s (body v section)) refl
-  where
-    by : (r : Flowed) → flow (context v section) s (body v section) ≡ r → length (state_or s r).own ≡ length s.own
-    by (Ok t) e = (banks_long (context v section) s t (body v section) e).0
-    by (Err fault) e = refl

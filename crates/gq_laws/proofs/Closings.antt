@@ -1,5 +1,5 @@
 -- The reply to a close gives back the whole donation, and no other step ends a session.
-use Rattle.std.proofs.Common.{◌≡◌, ◌≢◌, ℕ, ◌+◌, ◌-◌, ◌≤◌, inl, inr, true, cond, List, [], ◌∷◌, Option, Some, None, refl, ap, sym, ◌∙◌, arith}
+use Rattle.std.proofs.Common.{◌≡◌, ◌≢◌, ℕ, ◌+◌, inl, inr, true, cond, List, [], ◌∷◌, Option, Some, None, refl, ap, sym, ◌∙◌, arith}
 use Rattle.std.specs.Prelude.{slice_get, slice_set, sum_by}
 use Rattle.std.proofs.lemmas.Bool.{leb-true}
 use Rattle.std.proofs.lemmas.Bool.Decides.{eqb_tells}
@@ -83,14 +83,6 @@ handed_resumes (Some g) q = refl
 -- the x-th leaf and its component, as a quota names them
 quota_there : (r : Resource) (s : Scenario) (w : World) (x : ℕ) (c : Component) (leaf : Leaf) → slice_get (components s) x ≡ Some c → slice_get w.leaves x ≡ Some leaf → quota_at r s w x ≡ quota r w x c leaf
 quota_there r s w x c leaf e f = (λ i. quota_of r w x (e i) (f i))
-
--- a leaf that was handed q and has received n, of which it has lent m, and then d less
-lends_less : (q n m less d : ℕ) → less + d ≡ m → m ≤ q + n → q + n - less ≡ q + n - m + d
-lends_less q n m less d e le = omega (arith, e, le)
-
--- and one that has received d less
-receives_less : (q n less m d : ℕ) → less + d ≡ n → m ≤ q + less → q + less - m + d ≡ q + n - m
-receives_less q n less m d e le = omega (arith, e, le)
 
 module _ (s : Scenario) (d : Doing) (of : d.system ≡ system s) (t : Takes d) (h : AreLinked d.system (links d.world)) (component : slice_get d.system.components d.x ≡ Some d.component) (pays : paid d.system d.world ≡ true)
     (handles : d.leaf.phase ≡ Handling) (g : Hand) (hand : d.leaf.hand ≡ Some g) (u : Session) (there : session_at d.world g.session ≡ Some u) where

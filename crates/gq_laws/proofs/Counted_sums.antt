@@ -57,10 +57,6 @@ module _ (f g : Section → ℕ) where
   from_add v service section [] = refl
   from_add v service section (p ∷ rest) = let further = from_add v service section rest in let here = times_plus (f p.0) (g p.0) (section_requests v p.0 service section) in omega (arith, further, here)
 
-  pub from_below : ((q : Section) → f q ≤ g q) → (v : Subject) (service : List ℕ) (section : Section) (sections : List (Section × Statements)) → from_sections f v service section sections ≤ from_sections g v service section sections
-  from_below h v service section [] = omega arith
-  from_below h v service section (p ∷ rest) = let further = from_below h v service section rest in let here = times_below (f p.0) (g p.0) (section_requests v p.0 service section) (h p.0) in omega (arith, further, here)
-
 -- one section of a leaf that is asked for once
 pub one_here : (x : ℕ) (section : Section) → one_at x section x section ≡ 1
 one_here x section = (λ i. cond (equal_self x i && section_self section i) 1 0)

@@ -99,16 +99,6 @@ sum_under promised P f g h (slot ∷ slots) (kind ∷ kinds) are each =
     let further = sum_under promised P f g h slots kinds are.1 each.1 in
     omega (arith, here, further, sum_by-cons f slot slots, sum_by-cons g kind kinds)
 
-sum_over : (promised : ℕ → Option Kind) (P : Slot → Type 0) (f : Slot → ℕ) (g : Kind → ℕ) → ((slot : Slot) (kind : Kind) → IsKind promised slot kind → P slot → g kind ≤ f slot)
-    → (slots : List Slot) (kinds : List Kind) → AreKinds promised slots kinds → Each P slots → sum_by g kinds ≤ sum_by f slots
-sum_over promised P f g h [] [] are each = omega arith
-sum_over promised P f g h [] (kind ∷ kinds) are each = absurd are
-sum_over promised P f g h (slot ∷ slots) [] are each = absurd are
-sum_over promised P f g h (slot ∷ slots) (kind ∷ kinds) are each =
-    let here = h slot kind are.0 each.0 in
-    let further = sum_over promised P f g h slots kinds are.1 each.1 in
-    omega (arith, here, further, sum_by-cons f slot slots, sum_by-cons g kind kinds)
-
 -- PRICES
 
 module _ (r : Resource) where
@@ -157,21 +147,6 @@ module _ (r : Resource) where
         ap (given_by r) h.1 ∙ sym (ap (kind_lent r) (kind_is k h.0 kind h.1 is) ∙ lent_then h.0 (section_asked w k h.0) h.2)
     lent_is (Waiting k) kind is h =
         ap (given_by r) h.1 ∙ sym (ap (kind_lent r) (kind_is k h.0 kind h.1 is) ∙ lent_then h.0 (section_asked w k h.0) h.2)
-
-    lent_least : (slot : Slot) (kind : Kind) → IsKind promised slot kind → IsNamed w slot → kind_lent r kind ≤ slot_given r w slot
-    lent_least Empty kind is h = let e = ap (kind_lent r) is in omega (arith, e)
-    lent_least (Bytes form n bytes) kind is h = let e = ap (kind_lent r) is.0 in omega (arith, e)
-    lent_least (Pool n entries) kind is h = let e = ap (kind_lent r) is.0 in omega (arith, e)
-    lent_least (Link k) kind is h =
-        let given = ap (given_by r) h.1 in
-        let lent = ap (kind_lent r) (kind_is k h.0 kind h.1 is) in
-        let under = lent_under h.0 (section_asked w k h.0) in
-        omega (arith, given, lent, under)
-    lent_least (Waiting k) kind is h =
-        let given = ap (given_by r) h.1 in
-        let lent = ap (kind_lent r) (kind_is k h.0 kind h.1 is) in
-        let under = lent_under h.0 (section_asked w k h.0) in
-        omega (arith, given, lent, under)
 
     -- slots hold what their kinds hold
     pub slots_price : (slots : List Slot) (kinds : List Kind) → AreKinds promised slots kinds → Each (IsNamed w) slots → sum_by (slot_price r) slots ≡ sum_by (kind_price r) kinds

@@ -34,10 +34,6 @@ module _ (system : System) (l m : Links) (y k : ℕ) (s : Session) (g : Hand) (p
   server : s.server ≡ y
   server = at_server system l h k s a.was y Handling g a.handling a.session_at_hand
 
-  -- the client is not the server
-  not_itself : s.client ≢ y
-  not_itself same = handling_ne (same_phase (sym a.handling ∙ ap l.stances (sym same) ∙ a.waiting))
-
   hand_there : at_hand k (l.stances s.server) ≡ 1
   hand_there = ap (λ y. at_hand k (l.stances y)) server ∙ ap (at_hand k) a.handling ∙ one_one g.session k a.session_at_hand
 

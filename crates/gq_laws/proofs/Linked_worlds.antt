@@ -118,9 +118,6 @@ module _ (d : Doing) (t : Takes d) (active : d.leaf.phase ≢ Blocked) (h : AreL
     abbrev left : World
     left = standing d (exited d.leaf)
 
-    left_hand : left.leaves ≡ left.leaves
-    left_hand = refl
-
     exit_slots : no_link d.leaf.slots ≡ true → (r : Spot) → naming_in (slot_at (exit_of d) r) ≡ naming_in (slot_at d.world r)
     exit_slots none (In_leaf y i) = ap naming_in (released_slot d.component.node.name d.system.components left.leaves y i) ∙ (elim (eqb_tells y d.x) [ inl e ↦ here e.1 | inr e ↦ ap (λ o. naming_in (leaf_slot o i)) (set_else d.world.leaves d.x y (exited d.leaf) e.1) ])
       where

@@ -63,9 +63,6 @@ pub start_covers : (v : Subject) (section : Section) (list : Statements) → pro
 start_covers v section list e there outside =
     let p = passes v section list v.program.sections (accepted v e).1 there in flow_covers v section p.0 outside p.1
 
-calling_never : (level l : ℕ) → Calling level ≡ Upgrading l → 0 < l
-calling_never level l e = absurd cc
-
 -- NEEDS
 
 part_plus : (r : Resource) (a b : Amount) → part r (plus a b) ≡ part r a + part r b

@@ -9,8 +9,8 @@ use Rattle.gq_model.specs.Program.{Statements, text_eq}
 use Rattle.gq_model.specs.Scenario.{System, Component}
 use Rattle.gq_model.specs.Routes.{server_of}
 use Rattle.gq_model.specs.Kinds.{in_main}
-use Rattle.gq_model.specs.Budgets.{section_cost, section_requests}
-use Rattle.gq_model.specs.Use.{steps_of, subject, services, is_there, from_sections, from_leaves, asked_of, provided_by, times}
+use Rattle.gq_model.specs.Budgets.{section_requests}
+use Rattle.gq_model.specs.Use.{subject, services, is_there, from_sections, from_leaves, asked_of, provided_by, times}
 use Rattle.gq_model.specs.Resolve.{cycle_fault}
 use Rattle.gq_laws.proofs.Number_sums.{plain, next}
 use Rattle.gq_laws.proofs.Servers.{text_is}
@@ -102,10 +102,3 @@ module _ (system : System) where
         by None e (Upgrading l) least = nowhere (length system.components) x (Upgrading l) (least refl)
         by None e (Calling l) least = nowhere (length system.components) x (Calling l) (least refl)
         by None e (Closing l) least = nowhere (length system.components) x (Closing l) (least refl)
-
--- sections that run less often take fewer steps
-pub steps_less : (often more : Section → ℕ) (sections : List (Section × Statements)) → ((section : Section) → often section ≤ more section) → steps_of often sections ≤ steps_of more sections
-steps_less often more [] less = omega arith
-steps_less often more (p ∷ rest) less =
-    let here = mul-le-mul_right (section_cost p.0 p.1) (less p.0) in
-    let further = steps_less often more rest less in omega (arith, here, further)
