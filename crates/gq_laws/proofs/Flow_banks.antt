@@ -1,7 +1,6 @@
 -- What the rules let a list of statements change of the two banks: outside `main` no own slot, never their lengths, and not the first slot of a session with a buffer.
 use Rattle.std.proofs.Common.{◌≡◌, ◌≢◌, ℕ, zero, suc, ◌+◌, ◌&&◌, nat_lt, Bool, true, false, cond, not, List, length, Option, Some, None, Ok, refl, ap, sym, ◌∙◌, subst}
 use Rattle.std.specs.Prelude.{nat_le, slice_get, slice_index_or}
-use Rattle.std.proofs.lemmas.List.{length-set}
 use Rattle.gq_model.specs.Amounts.{Amount, amount, plus}
 use Rattle.gq_model.specs.declared.program.Form.TheVariants.{Space}
 use Rattle.gq_model.specs.declared.program.Place.{Place}
@@ -209,12 +208,3 @@ buffer_stays c s t n todo later buffer there e =
     flow_keeps c (λ own bank. slice_get bank 0 ≡ Some (Memory Space n)) (λ u place old kind at may unkept h. buffer_set c n u place old kind later buffer at unkept h) s t todo e there
 
 -- LENGTHS
-
-long_set : (s : State) (place : Place) (kind : Kind) → (length (with_kind s place kind).own ≡ length s.own) × (length (with_kind s place kind).bank ≡ length s.bank)
-long_set s (Own i) kind = (length-set s.own i kind, refl)
-long_set s (Shared i) kind = (refl, length-set s.bank i kind)
-long_set s Object kind = (refl, refl)
-
-pub banks_long : (c : Context) (s t : State) (todo : Statements) → flow c s todo ≡ Ok t → (length t.own ≡ length s.own) × (length t.bank ≡ length s.bank)
-banks_long c s t todo e =
-    flow_keeps c (λ own bank. (length own ≡ length s.own) × (length bank ≡ length s.bank)) (λ u place old kind there may unkept h. let l = long_set u place kind in (l.0 ∙ h.0, l.1 ∙ h.1)) s t todo e (refl, refl)

@@ -119,14 +119,6 @@ module _ (r : Resource) where
   lent_then s (Some (Calling l)) h = refl
   lent_then s (Some (Closing l)) h = absurd h
 
-  lent_under : (s : Session) (o : Option Section) → kind_lent r (kind_then s o) ≤ part r s.donation
-  lent_under s None = omega arith
-  lent_under s (Some Main) = omega arith
-  lent_under s (Some Opening) = omega arith
-  lent_under s (Some (Upgrading l)) = omega arith
-  lent_under s (Some (Calling l)) = omega arith
-  lent_under s (Some (Closing l)) = omega arith
-
   module _ (promised : ℕ → Option Kind) (w : World) (tells : Tells promised w) where
     -- the kind of a slot that names this session
     kind_is : (k : ℕ) (s : Session) (kind : Kind) → session_at w k ≡ Some s → promised k ≡ Some kind → kind ≡ kind_then s (section_asked w k s)
