@@ -1,4 +1,4 @@
--- What the rules let a list of statements change of the two banks: outside `main` no own slot, never their lengths, and not the first slot of a session with a buffer.
+-- What the rules let a list of statements change of the two banks: outside `main` no own slot, and not the first slot of a session with a buffer.
 use Rattle.std.proofs.Common.{◌≡◌, ◌≢◌, ℕ, zero, suc, ◌+◌, ◌&&◌, nat_lt, Bool, true, false, cond, not, List, length, Option, Some, None, Ok, refl, ap, sym, ◌∙◌, subst}
 use Rattle.std.specs.Prelude.{nat_le, slice_get, slice_index_or}
 use Rattle.gq_model.specs.Amounts.{Amount, amount, plus}
@@ -206,5 +206,3 @@ buffer_set c n s (Shared zero) old kind later buffer there unkept h =
 pub buffer_stays : (c : Context) (s t : State) (n : ℕ) (todo : Statements) → is_later c.section ≡ true → nat_lt 0 (number_of c.subject.provided (λ i. i.buffer)) ≡ true → slice_get s.bank 0 ≡ Some (Memory Space n) → flow c s todo ≡ Ok t → slice_get t.bank 0 ≡ Some (Memory Space n)
 buffer_stays c s t n todo later buffer there e =
     flow_keeps c (λ own bank. slice_get bank 0 ≡ Some (Memory Space n)) (λ u place old kind at may unkept h. buffer_set c n u place old kind later buffer at unkept h) s t todo e there
-
--- LENGTHS
