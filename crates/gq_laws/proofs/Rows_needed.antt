@@ -1,5 +1,5 @@
 -- Each rule of the verifier is needed: a scenario that it refuses by this rule, and a run of it that comes to a wrong step. By computation.
-use Rattle.std.proofs.Common.{◌≡◌, ℕ, List, [], ◌∷◌, replicate, codes, Option, Some, None, refl}
+use Rattle.std.proofs.Common.{◌≡◌, ℕ, List, [], ◌∷◌, map, replicate, codes, Option, Some, None, refl}
 use Rattle.gq_model.specs.Amounts.{Ram, Caps}
 use Rattle.gq_model.specs.Program.{Statements, Done, Do, If, Loop, Program}
 use Rattle.gq_model.specs.declared.program.Place.TheVariants.{Own, Shared}
@@ -14,7 +14,7 @@ use Rattle.gq_model.specs.declared.fault.Rule.TheVariants as rule
 use Rattle.gq_model.specs.declared.fault.Wrong.{Wrong}
 use Rattle.gq_model.specs.declared.fault.Wrong.TheVariants as wrong
 use Rattle.gq_model.specs.Run.{run}
-use Rattle.gq_model.specs.Accept.{Refusal, Bad_program, Not_resolved, Over_own, Over_steps, refusal}
+use Rattle.gq_model.specs.Accept.{Refusal, Bad_program, Not_resolved, Over_own, Over_steps, Budget, budgets, refusal}
 use Rattle.gq_model.proofs.Samples.{all_do, program, main_of, leaf, server, leaves, scenario, served, one, echo, echo_client, log_of, echo_with_caps, two_blocks}
 
 -- the rule that refuses a program
@@ -127,3 +127,15 @@ over_quantum = refl
 
 over_own_caps : refusal_and_wrong two_blocks ((0, 2) ∷ []) ≡ (Some (Over_own Caps (codes "a") 2 1), Some (0, wrong.ExceededQuota))
 over_own_caps = refl
+
+-- STEPS
+
+-- no run is long enough to come to a wrong step by the steps alone: without the rule a budget would be above the greatest one
+abbrev long : Scenario
+long = with_main (Loop 65535 (Loop 65535 (Loop 65535 Done Done) Done) Done)
+
+budget_too_large : rule_of (refusal long) ≡ Some rule.BudgetTooLarge
+budget_too_large = refl
+
+above_the_greatest : map (λ (b : Budget). b.steps) (budgets long) ≡ 281470681808897 ∷ []
+above_the_greatest = refl
