@@ -57,7 +57,7 @@ program_good p e =
 
 -- SERVERS
 
-text_same : (a : List ℕ) → text_eq a a ≡ true
+pub text_same : (a : List ℕ) → text_eq a a ≡ true
 text_same [] = refl
 text_same (x ∷ xs) = and_from (x == x) (text_eq xs xs) (eq-eqb x x refl) (text_same xs)
 

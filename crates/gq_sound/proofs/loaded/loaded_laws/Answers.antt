@@ -1,0 +1,9 @@
+use Rattle.gq_laws.proofs.Gathered.{run_upholds}
+use Rattle.gq_sound.proofs.Sound_texts.{loaded_sound}
+use Rattle.gq_sound.proofs.loaded.loaded_laws.Goals as goal
+
+pub returns-clause-sound : goal.returns-clause-sound
+returns-clause-sound c text s e = loaded_sound text s e
+
+pub returns-clause-runs : goal.returns-clause-runs
+returns-clause-runs c text s turns e = run_upholds s (loaded_sound text s e) turns

@@ -1,0 +1,18 @@
+// Laws of the scenarios that texts are loaded as.
+ghost use Rattle.std.specs.Prelude.{◌≡◌, ℕ, List, Ok};
+ghost use Rattle.gq_model.specs.Scenario.{Scenario};
+ghost use Rattle.gq_model.specs.Promises.{Upholds};
+ghost use Rattle.gq_laws.specs.Sound.{IsSound};
+ghost use Rattle.gq_load.specs.Load.{loaded};
+
+/// What holds of every scenario that a text is loaded as (`loaded`, the definition that `check` answers by).
+///
+/// `sound`: it is as the readers give scenarios, and accepted. No two leaves have the same name; programs are programs; each service
+/// counts the resources that the scenario counts, and has at most 3 upgrades.
+///
+/// `runs`: so every run of it, over any turns, keeps what is promised: no step is wrong, every leaf keeps its budgets of steps, RAM and
+/// capabilities, the quotas sum to their totals, and each close gives back its whole donation.
+pub fn loaded_laws()
+    ensures sound { (text : List ℕ) (s : Scenario) → loaded text ≡ Ok s → IsSound s }
+    ensures runs { (text : List ℕ) (s : Scenario) (turns : List (ℕ × ℕ)) → loaded text ≡ Ok s → Upholds s turns }
+{}
