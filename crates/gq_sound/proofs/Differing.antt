@@ -1,5 +1,5 @@
 -- Where no name of a tree stands twice, no two of its leaves have the same name.
-use Rattle.std.proofs.Common.{◌≡◌, ℕ, zero, suc, ◌||◌, cond, Bool, true, false, List, [], ◌∷◌, ◌++◌, map, Some, None, refl, ap, sym, ◌∙◌, subst}
+use Rattle.std.proofs.Common.{◌≡◌, ℕ, zero, suc, cond, Bool, true, false, List, [], ◌∷◌, ◌++◌, map, Some, None, refl, ap, sym, ◌∙◌, subst}
 use Rattle.std.specs.Prelude.{slice_get}
 use Rattle.gq_model.specs.Lists.{any_of}
 use Rattle.gq_model.specs.Program.{text_eq}
@@ -12,6 +12,7 @@ use Rattle.gq_laws.specs.Shapes.{Each}
 use Rattle.gq_laws.specs.Names.{NamesDiffer}
 use Rattle.gq_laws.proofs.Linking.{none_some, some_same}
 use Rattle.gq_laws.proofs.Left_programs.{text_same}
+use Rattle.gq_laws.proofs.Linkless_flows.{or_neither}
 
 -- each of these is another than the ones before it
 abbrev Other : List ℕ → List ℕ → Type 0
@@ -24,10 +25,6 @@ Differ (name ∷ rest) = Each (Other name) rest × Differ rest
 some_none : {A : Type 0} (a : A) → Some a ≡ None → ⊥
 some_none a e = absurd (none_some (sym e))
 
-neither : (a b : Bool) → (a || b) ≡ false → (a ≡ false) × (b ≡ false)
-neither false b e = (refl, e)
-neither true b e = cc
-
 -- where none stands twice, they differ, and none was seen before
 differ_by : (seen names : List (List ℕ)) → name_twice seen names ≡ None → Differ names × Each (λ n. any_of (text_eq n) seen ≡ false) names
 differ_by seen [] e = (tt, tt)
@@ -35,7 +32,7 @@ differ_by seen (name ∷ rest) e = by (any_of (text_eq name) seen) refl e (λ f.
   where
     split : (ns : List (List ℕ)) → Each (λ n. any_of (text_eq n) (name ∷ seen) ≡ false) ns → Each (Other name) ns × Each (λ n. any_of (text_eq n) seen ≡ false) ns
     split [] h = (tt, tt)
-    split (n ∷ ns) h = let p = neither (text_eq n name) (any_of (text_eq n) seen) h.0 in let r = split ns h.1 in ((p.0, r.0), (p.1, r.1))
+    split (n ∷ ns) h = let p = or_neither (text_eq n name) (any_of (text_eq n) seen) h.0 in let r = split ns h.1 in ((p.0, r.0), (p.1, r.1))
 
     by : (b : Bool) → any_of (text_eq name) seen ≡ b → cond b (Some (NameTwice name)) (name_twice (name ∷ seen) rest) ≡ None
         → (name_twice (name ∷ seen) rest ≡ None → Differ rest × Each (λ n. any_of (text_eq n) (name ∷ seen) ≡ false) rest) → Differ (name ∷ rest) × Each (λ n. any_of (text_eq n) seen ≡ false) (name ∷ rest)
