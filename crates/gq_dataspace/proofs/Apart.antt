@@ -2,7 +2,7 @@
 use Rattle.std.proofs.Common.{◌≡◌, ℕ, ◌+◌, ◌<◌, ◌⊎◌, inl, inr, List, [], ◌∷◌, ◌++◌, length, set, get_or, replicate, refl, sym, ap, ◌∙◌, arith, length-append}
 use Rattle.std.proofs.lemmas.Bool.{cases_lt, cases_eq}
 use Rattle.std.proofs.lemmas.List.{get_or-set_same, get_or-set_other, get_or_append_left, get_or_at, length-replicate, get_or-replicate}
-use Rattle.gq_dataspace.specs.Lists.{Lists, list_at, AreApart, IsOwn}
+use Rattle.gq_dataspace.specs.internal.Lists.{Lists, list_at, AreApart, IsOwn}
 use Rattle.gq_dataspace.proofs.Tables.{past}
 
 -- no list has the number f
@@ -22,9 +22,14 @@ pub grown_entry : (ls : Lists) (r f g i : ℕ) → r < length ls → i < length 
 grown_entry ls r f g i lt h =
     let xs : List ℕ = list_at ls r in let zs : List ℕ = xs ++ f ∷ [] in let n : length zs ≡ length xs + 1 = length-append xs (f ∷ []) in
     elim (cases_eq g r) [
-      | inl e ↦ let is : list_at (set ls r zs) g ≡ zs = rw e (list_at_same ls r zs lt) in let long : length (list_at (set ls r zs) g) ≡ length zs = ap length is in
+      | inl e ↦ let is : list_at (set ls r zs) g ≡ zs = rw e (list_at_same ls r zs lt) in let long : length (list_at (set ls r zs) g) ≡ length zs =
+          ap length is in
           elim (cases_lt i (length xs)) [
-            | inl front ↦ inl (rw e front, ap (λ (ys : List ℕ). get_or ys i 0) is ∙ get_or_append_left xs (f ∷ []) 0 i front ∙ ap (λ (a : ℕ). get_or (list_at ls a) i 0) (sym e))
+            | inl front ↦ inl (
+              rw e front,
+              ap (λ (ys : List ℕ). get_or ys i 0) is ∙ get_or_append_left xs (f ∷ []) 0 i front
+                  ∙ ap (λ (a : ℕ). get_or (list_at ls a) i 0) (sym e),
+            )
             | inr back ↦ let last : length xs ≡ i = omega (arith, h, long, n) in
                 inr (e, sym last, ap (λ (ys : List ℕ). get_or ys i 0) is ∙ get_or_at xs f [] 0 i last)
           ]
@@ -32,7 +37,8 @@ grown_entry ls r f g i lt h =
           inl (omega (arith, h, ap length is), ap (λ (ys : List ℕ). get_or ys i 0) is)
     ]
 
-pub apart_grown : (ls : Lists) (r f : ℕ) → AreApart ls → r < length ls → IsNew ls f → (0 ≡ length (list_at ls r) → f ≡ r) → AreApart (set ls r (list_at ls r ++ f ∷ []))
+pub apart_grown : (ls : Lists) (r f : ℕ) → AreApart ls → r < length ls → IsNew ls f → (0 ≡ length (list_at ls r) → f ≡ r)
+    → AreApart (set ls r (list_at ls r ++ f ∷ []))
 apart_grown ls r f apart lt new head = record {
   heads = λ g h. elim (grown_entry ls r f g 0 lt h) [ inl old ↦ old.1 ∙ apart.heads g old.0 | inr last ↦ last.2 ∙ head last.1 ∙ sym last.0 ];
   once = λ g k i j h h' e. elim (grown_entry ls r f g i lt h) [
@@ -53,8 +59,12 @@ pub shrunk_entry : (ls : Lists) (r f g i : ℕ) (ys : List ℕ) → r < length l
 shrunk_entry ls r f g i ys lt was h =
     elim (cases_eq g r) [
       | inl e ↦ let is : list_at (set ls r ys) g ≡ ys = rw e (list_at_same ls r ys lt) in let front : i < length ys = omega (arith, h, ap length is) in
-          let old : list_at ls g ≡ ys ++ f ∷ [] = rw e was in
-          (omega (arith, front, ap length old, length-append ys (f ∷ [])), ap (λ (zs : List ℕ). get_or zs i 0) is ∙ sym (get_or_append_left ys (f ∷ []) 0 i front) ∙ ap (λ (zs : List ℕ). get_or zs i 0) (sym old), λ same. front)
+          let old : list_at ls g ≡ ys ++ f ∷ [] = rw e was in (
+            omega (arith, front, ap length old, length-append ys (f ∷ [])),
+            ap (λ (zs : List ℕ). get_or zs i 0) is
+                ∙ sym (get_or_append_left ys (f ∷ []) 0 i front) ∙ ap (λ (zs : List ℕ). get_or zs i 0) (sym old),
+            λ same. front,
+          )
       | inr other ↦ let is : list_at (set ls r ys) g ≡ list_at ls g = list_at_other ls r g ys other in
           (omega (arith, h, ap length is), ap (λ (zs : List ℕ). get_or zs i 0) is, λ same. absurd (other same))
     ]
@@ -62,7 +72,8 @@ shrunk_entry ls r f g i ys lt was h =
 pub apart_shrunk : (ls : Lists) (r f : ℕ) (ys : List ℕ) → AreApart ls → r < length ls → list_at ls r ≡ ys ++ f ∷ [] → AreApart (set ls r ys)
 apart_shrunk ls r f ys apart lt was = record {
   heads = λ g h. let old = shrunk_entry ls r f g 0 ys lt was h in old.1 ∙ apart.heads g old.0;
-  once = λ g k i j h h' e. let old = shrunk_entry ls r f g i ys lt was h in let old' = shrunk_entry ls r f k j ys lt was h' in apart.once g k i j old.0 old'.0 (sym old.1 ∙ e ∙ old'.1);
+  once = λ g k i j h h' e. let old = shrunk_entry ls r f g i ys lt was h in let old' = shrunk_entry ls r f k j ys lt was h' in
+      apart.once g k i j old.0 old'.0 (sym old.1 ∙ e ∙ old'.1);
 }
 
 -- a list that has an entry has its first one alone
@@ -73,7 +84,8 @@ pub own_new : (ls : Lists) (r : ℕ) → IsNew ls r → IsOwn ls r
 own_new ls r new g i h e = absurd (new g i h e)
 
 -- what is left of such a table has not the one that was taken off
-pub left : (ls : Lists) (r f g i : ℕ) (ys : List ℕ) → AreApart ls → r < length ls → list_at ls r ≡ ys ++ f ∷ [] → i < length (list_at (set ls r ys) g) → get_or (list_at (set ls r ys) g) i 0 ≡ f → ⊥
+pub left : (ls : Lists) (r f g i : ℕ) (ys : List ℕ) → AreApart ls → r < length ls → list_at ls r ≡ ys ++ f ∷ [] → i < length (list_at (set ls r ys) g)
+    → get_or (list_at (set ls r ys) g) i 0 ≡ f → ⊥
 left ls r f g i ys apart lt was h e =
     let old = shrunk_entry ls r f g i ys lt was h in let n : ℕ = length ys in
     let long : length (list_at ls r) ≡ n + 1 = ap length was ∙ length-append ys (f ∷ []) in

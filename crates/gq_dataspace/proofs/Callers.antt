@@ -3,6 +3,8 @@ use Rattle.std.proofs.Common.{◌≡◌, ℕ, ◌<◌, List, length, set, get_or
 use Rattle.std.proofs.lemmas.List.{get_or-set_other}
 use Rattle.gq_pages.specs.Frames.{its_bytes, has_bytes}
 use Rattle.gq_dataspace.specs.Dataspaces.{Contents, IsLive, IsVacant, content_of}
+pub use Rattle.gq_dataspace.proofs.Bytes.{length-zeros, length-with_bytes}
+pub use Rattle.gq_dataspace.proofs.Edits.{content_there, content_set}
 
 pub content_other : (ss : Contents) (r k : ℕ) (v : Option (List ℕ)) → (k ≡ r → ⊥) → content_of (set ss r v) k ≡ content_of ss k
 content_other ss r k v other = ap its_bytes (get_or-set_other ss r k v None other)

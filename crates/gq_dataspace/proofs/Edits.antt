@@ -1,5 +1,6 @@
 -- Dataspaces that are set more than once.
-use Rattle.std.proofs.Common.{◌≡◌, ℕ, zero, suc, ◌+◌, ◌-◌, ◌*◌, ◌<◌, ◌≤◌, inl, inr, List, [], ◌∷◌, ◌++◌, length, take, set, get_or, Option, Some, None, IsTrue, refl, sym, ap, subst, ◌∙◌, arith, length-append, length-take}
+use Rattle.std.proofs.Common.{◌≡◌, ℕ, zero, suc, ◌+◌, ◌-◌, ◌*◌, ◌<◌, ◌≤◌, inl, inr, List, [], ◌∷◌, ◌++◌, length, take, set, get_or, Option, Some, None, IsTrue}
+use Rattle.std.proofs.Common.{refl, sym, ap, subst, ◌∙◌, arith, length-append, length-take}
 use Rattle.std.proofs.lemmas.Bool.{cases_lt}
 use Rattle.std.proofs.lemmas.Bool.Decides.{nat_tests}
 use Rattle.std.proofs.lemmas.Grind.{same_number_lists}
@@ -11,7 +12,11 @@ use Rattle.gq_dataspace.proofs.Tables.{past}
 use Rattle.gq_dataspace.proofs.Bytes.{length-zeros, get_or-zeros}
 
 pub live_there : (ss : Contents) (r : ℕ) → IsLive ss r → r < length ss
-live_there ss r live = elim (cases_lt r (length ss)) [ inl lt ↦ lt | inr ge ↦ let no : IsTrue (has_bytes None) = subst (λ (o : Option (List ℕ)). IsTrue (has_bytes o)) (past ss r None ge) live in cc ]
+live_there ss r live = elim (cases_lt r (length ss)) [
+  | inl lt ↦ lt
+  | inr ge ↦ let no : IsTrue (has_bytes None) =
+      subst (λ (o : Option (List ℕ)). IsTrue (has_bytes o)) (past ss r None ge) live in cc
+]
 
 some_there : (o : Option (List ℕ)) → 0 < length (its_bytes o) → IsTrue (has_bytes o)
 some_there None h = absurd (omega (arith, h))
@@ -27,8 +32,10 @@ pub live_set : (ss : Contents) (r : ℕ) (bs : List ℕ) → r < length ss → I
 live_set ss r bs lt = ap has_bytes (get_or-set_same ss r (Some bs) None lt)
 
 -- a second byte is written
-pub stored_again : (ss : Contents) (r : ℕ) (bs : List ℕ) (o v : ℕ) → r < length ss → set (set ss r (Some bs)) r (Some (set (content_of (set ss r (Some bs)) r) o v)) ≡ set ss r (Some (set bs o v))
-stored_again ss r bs o v lt = set-set ss r (Some bs) (Some (set (content_of (set ss r (Some bs)) r) o v)) ∙ ap (λ (xs : List ℕ). set ss r (Some (set xs o v))) (content_set ss r bs lt)
+pub stored_again : (ss : Contents) (r : ℕ) (bs : List ℕ) (o v : ℕ) → r < length ss
+    → set (set ss r (Some bs)) r (Some (set (content_of (set ss r (Some bs)) r) o v)) ≡ set ss r (Some (set bs o v))
+stored_again ss r bs o v lt = set-set ss r (Some bs) (Some (set (content_of (set ss r (Some bs)) r) o v))
+    ∙ ap (λ (xs : List ℕ). set ss r (Some (set xs o v))) (content_set ss r bs lt)
 
 -- ---- a page of zeros more
 get_or-zeros_both : (a b i : ℕ) → get_or (zeros a ++ zeros b) i 0 ≡ 0
@@ -38,14 +45,23 @@ get_or-zeros_both a b i = elim (cases_lt i a) [
 ]
 
 zeros_add : (a b : ℕ) → zeros a ++ zeros b ≡ zeros (a + b)
-zeros_add a b = same_number_lists (zeros a ++ zeros b) (zeros (a + b)) (omega (arith, length-append (zeros a) (zeros b), length-zeros a, length-zeros b, length-zeros (a + b)))
+zeros_add a b = same_number_lists (zeros a ++ zeros b) (zeros (a + b)) (omega (
+  arith,
+  length-append (zeros a) (zeros b),
+  length-zeros a,
+  length-zeros b,
+  length-zeros (a + b),
+))
     (λ i h. get_or-zeros_both a b i ∙ sym (get_or-zeros (a + b) i))
 
-pub zeros_again : (ss : Contents) (r k : ℕ) → r < length ss → set (set ss r (Some (zeros (4096 * k)))) r (Some (content_of (set ss r (Some (zeros (4096 * k)))) r ++ zeros 4096)) ≡ set ss r (Some (zeros (4096 * (k + 1))))
+pub zeros_again : (ss : Contents) (r k : ℕ) → r < length ss
+    → set (set ss r (Some (zeros (4096 * k)))) r (Some (content_of (set ss r (Some (zeros (4096 * k)))) r ++ zeros 4096)) ≡ set ss r
+    (Some (zeros (4096 * (k + 1))))
 zeros_again ss r k lt =
     let m : 4096 * k + 4096 ≡ 4096 * (k + 1) = omega arith in
     set-set ss r (Some (zeros (4096 * k))) (Some (content_of (set ss r (Some (zeros (4096 * k)))) r ++ zeros 4096))
-    ∙ ap (λ (xs : List ℕ). set ss r (Some (xs ++ zeros 4096))) (content_set ss r (zeros (4096 * k)) lt) ∙ ap (λ (xs : List ℕ). set ss r (Some xs)) (zeros_add (4096 * k) 4096 ∙ ap zeros m)
+    ∙ ap (λ (xs : List ℕ). set ss r (Some (xs ++ zeros 4096))) (content_set ss r (zeros (4096 * k)) lt)
+    ∙ ap (λ (xs : List ℕ). set ss r (Some xs)) (zeros_add (4096 * k) 4096 ∙ ap zeros m)
 
 -- ---- pages are taken off one after the other
 -- the first m pages, none where there are none
@@ -61,7 +77,8 @@ same_space (x ∷ ss) (suc r) h = ap (λ (ys : Contents). x ∷ ys) (same_space 
 
 pub all_pages : (ss : Contents) (r n : ℕ) → IsLive ss r → 0 < n → length (content_of ss r) ≡ 4096 * n → set ss r (first_pages (content_of ss r) n) ≡ ss
 all_pages ss r zero live some long = absurd (omega (arith, some))
-all_pages ss r (suc m) live some long = ap (λ (xs : List ℕ). set ss r (Some xs)) (take_all (4096 * suc m) (content_of ss r) (omega (arith, long))) ∙ same_space ss r live
+all_pages ss r (suc m) live some long = ap (λ (xs : List ℕ). set ss r (Some xs)) (take_all (4096 * suc m) (content_of ss r) (omega (arith, long)))
+    ∙ same_space ss r live
 
 take_twice : (bs : List ℕ) (a b : ℕ) → a ≤ b → take a (take b bs) ≡ take a bs
 take_twice bs a b h = same_number_lists (take a (take b bs)) (take a bs) (omega (arith, length-take a (take b bs), length-take b bs, length-take a bs, h))
@@ -74,7 +91,8 @@ fewer_pages bs zero h = let long : length (take (4096 * 1) bs) ≡ 4096 = omega 
 fewer_pages bs (suc k) h =
     let all : List ℕ = take (4096 * suc (suc k)) bs in let long : length all ≡ 4096 * suc (suc k) = omega (arith, length-take (4096 * suc (suc k)) bs, h) in
     let more : 4096 < length all = omega (arith, long) in let m : length all - 4096 ≡ 4096 * suc k = omega (arith, long) in
-    let is : take (length all - 4096) all ≡ take (4096 * suc k) bs = ap (λ (n : ℕ). take n all) m ∙ take_twice bs (4096 * suc k) (4096 * suc (suc k)) (omega arith) in
+    let is : take (length all - 4096) all ≡ take (4096 * suc k) bs = ap (λ (n : ℕ). take n all) m
+    ∙ take_twice bs (4096 * suc k) (4096 * suc (suc k)) (omega arith) in
     grind (arith, nat_tests)
 
 pub page_fewer : (ss : Contents) (r m : ℕ) (bs : List ℕ) → r < length ss → 4096 * suc m ≤ length bs

@@ -1,5 +1,2 @@
 pub mod Dataspaces
-pub mod Holding
-pub mod Links
-pub mod Lists
-pub mod Trees
+pub mod internal

@@ -1,7 +1,7 @@
 // The frames of each dataspace, in two tables of a fixed size. Nothing here knows what the frames have in them.
 ghost use Rattle.std.specs.Prelude.{◌≡◌, [], ◌∷◌, ◌++◌, ◌+◌, ◌*◌, ◌<◌, ◌≤◌, ◌^◌, length, replicate, slice_index, slice_set, IfOk};
-ghost use Rattle.gq_dataspace.specs.Lists.{list_at, AreApart, IsOwn};
-ghost use Rattle.gq_dataspace.specs.Trees.{parent_at};
+ghost use Rattle.gq_dataspace.specs.internal.Lists.{list_at, AreApart, IsOwn};
+ghost use Rattle.gq_dataspace.specs.internal.Trees.{parent_at};
 
 use std::alloc::{AllocError, Global};
 use std::marker::Model;
@@ -22,7 +22,7 @@ impl Model for FrameTable {
 
     ghost Value = { List (List ℕ) };
 
-    ghost use Rattle.gq_dataspace.specs.Links.{table_view, IsTable};
+    ghost use Rattle.gq_dataspace.specs.internal.Links.{table_view, IsTable};
 
     ghost view = { table_view };
 
@@ -54,7 +54,7 @@ impl FrameTable {
         ensures value { result ≡ slice_index (list_at self.now first) index }
         ensures below { result < length self.now }
     {
-        let parent = self.parent(first, index);
+        let parent = self.near_parent(first, index);
         self.links[(LINKS * parent + index % LINKS) as usize]
     }
 
@@ -98,5 +98,35 @@ impl FrameTable {
         let above = index / LINKS;
         let parent = self.parent(first, above);
         self.links[(LINKS * parent + above % LINKS) as usize]
+    }
+
+    // The same, where no call is made for the first 256 frames.
+    #[inline(always)]
+    fn near_parent(&self, first: u32, index: u32) -> u32
+        requires there { first < length self.now }
+        requires within { index ≤ length (list_at self.now first) }
+        ensures value { result ≡ parent_at (list_at self.now first) first index }
+        ensures below { result < length self.now }
+    {
+        if index < LINKS {
+            return first;
+        }
+        let above = index / LINKS;
+        let parent = self.first_or_parent(first, above);
+        self.links[(LINKS * parent + above % LINKS) as usize]
+    }
+
+    // The same, where no call is made for the first 16 frames.
+    #[inline(always)]
+    fn first_or_parent(&self, first: u32, index: u32) -> u32
+        requires there { first < length self.now }
+        requires within { index ≤ length (list_at self.now first) }
+        ensures value { result ≡ parent_at (list_at self.now first) first index }
+        ensures below { result < length self.now }
+    {
+        if index < LINKS {
+            return first;
+        }
+        self.parent(first, index)
     }
 }

@@ -2,19 +2,20 @@
 ghost use Rattle.std.specs.Prelude.{◌≡◌, ◌+◌, ◌*◌, ◌%◌, ◌^◌, ◌<◌, ◌≤◌, ◌↔◌, ◌++◌, length, Some, None, slice_index, slice_set, IfOk, OnOk, OnErr, IsOk};
 ghost use Rattle.std.specs.Int.{w32, to_le_bytes};
 ghost use Rattle.gq_tariff.specs.Prices.{up};
-ghost use Rattle.gq_pages.specs.Bytes.{zeros, word_at, with_bytes};
-ghost use Rattle.gq_pages.specs.Frames.{all_free, count_free};
+ghost use Rattle.gq_pages.specs.Bytes.{zeros, zeroed, word_at, with_bytes};
+ghost use Rattle.gq_pages.specs.Frames.{all_free, count_free, zero_frame, IsFree};
 ghost use Rattle.gq_dataspace.specs.Dataspaces.{IsLive, IsVacant, content_of, shorter};
 
-use crate::frames::FrameTable;
+use crate::lists::FrameLists;
 use gq_pages::{FrameNo, Pages};
+use gq_tariff::price::PAGE;
 use gq_tariff::round_up;
 use std::alloc::{AllocError, Global};
 use std::marker::Model;
 use thiserror::Error;
 
-// The bytes of a frame.
-const FRAME_SIZE: u32 = 4096;
+// The bytes of a frame, which is a page, as an offset.
+const FRAME_SIZE: u32 = PAGE as u32;
 
 /// The number of a dataspace. It is that of its first frame, so no other dataspace has it while this one is there.
 #[derive(Clone, Copy, Debug, PartialEq, Eq)]
@@ -33,7 +34,7 @@ pub enum SpaceFault {
 #[derive(Drop)]
 pub struct Spaces {
     pages: Pages,
-    table: FrameTable,
+    table: FrameLists,
 }
 
 impl Model for Spaces {
@@ -41,7 +42,7 @@ impl Model for Spaces {
 
     ghost Value = { Dataspaces };
 
-    ghost use Rattle.gq_dataspace.specs.Holding.{spaces_view, IsSpaces};
+    ghost use Rattle.gq_dataspace.specs.internal.Holding.{spaces_view, IsSpaces};
 
     ghost view = { spaces_view };
 
@@ -49,13 +50,13 @@ impl Model for Spaces {
 }
 
 impl Spaces {
-    /// No dataspaces, over all these frames; those that are taken stay so. It makes tables of 17 numbers for each frame. `Err` where the host refuses
+    /// No dataspaces, over all these frames; those that are taken stay so. It makes tables of 18 numbers for each frame. `Err` where the host refuses
     /// memory for them; then the frames are dropped.
     pub fn new(alloc: Global, pages: Pages) -> Result<Spaces, AllocError>
         ensures none { IfOk result (λ s. s.spaces ≡ all_free (length pages)) }
         ensures free { IfOk result (λ s. s.free ≡ count_free pages) }
     {
-        let table = FrameTable::new(alloc, pages.frame_count())?;
+        let table = FrameLists::new(alloc, pages.frame_count())?;
         Ok(Spaces { pages, table })
     }
 
@@ -81,9 +82,10 @@ impl Spaces {
         if u64::from(self.free_frames()) < pages {
             return Err(SpaceFault::NoFrames);
         }
-        let ds = self.begin();
+        let new = self.has_run(pages);
+        let ds = self.begin(new);
         for _page in 1..pages {
-            self.extend(ds);
+            self.extend(ds, new);
         }
         Ok(ds)
     }
@@ -158,6 +160,37 @@ impl Spaces {
         self.store_across(ds, offset, word);
     }
 
+    /// Clears `size` bytes from `offset` on: each becomes 0.
+    pub fn clear(&mut self, ds: DsId, offset: u32, size: u32)
+        requires some { 1 ≤ size }
+        requires inside { offset + size ≤ length (content_of self.old.spaces ds.0) }
+        ensures written { self.new.spaces ≡ slice_set self.old.spaces ds.0 (Some (zeroed (content_of self.old.spaces ds.0) offset size)) }
+        ensures same_size { length (content_of self.new.spaces ds.0) ≡ length (content_of self.old.spaces ds.0) }
+        ensures as_many { self.new.free ≡ self.old.free }
+    {
+        let room = FRAME_SIZE - offset % FRAME_SIZE;
+        if size <= room {
+            self.clear_within(ds, offset, size);
+            return;
+        }
+        self.clear_within(ds, offset, room);
+        self.clear(ds, offset + room, size - room);
+    }
+
+    // Clears bytes of one page.
+    fn clear_within(&mut self, ds: DsId, offset: u32, size: u32)
+        requires some { 1 ≤ size }
+        requires inside { offset + size ≤ length (content_of self.old.spaces ds.0) }
+        requires within { offset % 4096 + size ≤ 4096 }
+        ensures written { self.new.spaces ≡ slice_set self.old.spaces ds.0 (Some (zeroed (content_of self.old.spaces ds.0) offset size)) }
+        ensures same_size { length (content_of self.new.spaces ds.0) ≡ length (content_of self.old.spaces ds.0) }
+        ensures few { offset + size ≤ 2 ^ 26 }
+        ensures as_many { self.new.free ≡ self.old.free }
+    {
+        let frame = self.table.frame(ds.0, offset / FRAME_SIZE);
+        self.pages.clear(FrameNo(frame), offset % FRAME_SIZE, size);
+    }
+
     // The number in four bytes of two frames, which is rare.
     #[cold]
     #[inline(never)]
@@ -191,31 +224,32 @@ impl Spaces {
         self.store(ds, offset + 3, d);
     }
 
+    // Whether so many frames that follow one another were never handed out; one page is the same anywhere.
+    fn has_run(&self, pages: u64) -> bool {
+        1 < pages && pages <= u64::from(self.pages.new_count())
+    }
+
     // Makes a dataspace of one page.
-    fn begin(&mut self) -> DsId
+    fn begin(&mut self, new: bool) -> DsId
         requires { 0 < self.old.free }
         ensures was_vacant { IsVacant self.old.spaces result.0 }
         ensures made { self.new.spaces ≡ slice_set self.old.spaces result.0 (Some (zeros 4096)) }
         ensures one_fewer { self.old.free ≡ self.new.free + 1 }
     {
-        let Ok(frame) = self.pages.take() else {
-            unreachable!();
-        };
+        let frame = next_frame(&mut self.pages, new);
         self.table.push(frame.0, frame.0);
         DsId(frame.0)
     }
 
     // Adds a page at the end of a dataspace.
-    fn extend(&mut self, ds: DsId)
+    fn extend(&mut self, ds: DsId, new: bool)
         requires live { IsLive self.old.spaces ds.0 }
         requires few { length (content_of self.old.spaces ds.0) < 16384 * 4096 }
         requires free { 0 < self.old.free }
         ensures longer { self.new.spaces ≡ slice_set self.old.spaces ds.0 (Some (content_of self.old.spaces ds.0 ++ zeros 4096)) }
         ensures one_fewer { self.old.free ≡ self.new.free + 1 }
     {
-        let Ok(frame) = self.pages.take() else {
-            unreachable!();
-        };
+        let frame = next_frame(&mut self.pages, new);
         self.table.push(ds.0, frame.0);
     }
 
@@ -228,4 +262,18 @@ impl Spaces {
         let frame = self.table.pop(ds.0);
         self.pages.give(FrameNo(frame));
     }
+}
+
+// Takes a frame, one that was never handed out where `new` says so and there is one.
+fn next_frame(pages: &mut Pages, new: bool) -> FrameNo
+    requires { 0 < count_free pages.old }
+    ensures was_free { IsFree pages.old result.0 }
+    ensures cleared { pages.new ≡ slice_set pages.old result.0 (Some zero_frame) }
+    ensures one_fewer { count_free pages.old ≡ count_free pages.new + 1 }
+{
+    let taken = if new { pages.take_new() } else { pages.take() };
+    let Ok(frame) = taken else {
+        unreachable!();
+    };
+    frame
 }

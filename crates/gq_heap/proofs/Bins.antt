@@ -1,5 +1,6 @@
 -- What taking and giving a place leaves of a bin.
-use Rattle.std.proofs.Common.{◌≡◌, ℕ, zero, suc, ◌+◌, ◌-◌, ◌*◌, ◌/◌, ◌%◌, ◌<◌, ◌≤◌, ◌↔◌, inl, inr, List, [], ◌∷◌, length, Option, Some, None, Result, Ok, Err, refl, sym, ap, subst, ◌∙◌, arith}
+use Rattle.std.proofs.Common.{◌≡◌, ℕ, zero, suc, ◌+◌, ◌-◌, ◌*◌, ◌/◌, ◌%◌, ◌<◌, ◌≤◌, ◌↔◌, inl, inr, List, [], ◌∷◌, length, Option, Some, None, Result, Ok, Err}
+use Rattle.std.proofs.Common.{refl, sym, ap, subst, ◌∙◌, arith}
 use Rattle.std.proofs.lemmas.Bool.{cases_eq}
 use Rattle.std.proofs.lemmas.Bool.Decides.{nat_tests}
 use Rattle.std.proofs.Math.Nat.{mul-le-mul}
@@ -7,8 +8,10 @@ use Rattle.std.proofs.lemmas.Nat.{div-mul-add}
 use Rattle.gq_tariff.specs.Prices.{up}
 use Rattle.gq_store.specs.Store.{Store, Writes, one_more, plus_caps}
 use Rattle.gq_heap.specs.declared.bin.Bin.{Bin}
-use Rattle.gq_heap.specs.Chain.{IsSize, times, place_byte, link, IsChain, descending, Places}
-use Rattle.gq_heap.specs.Bin.{KeepsBin, IsBin, bin_price, next_peak, Takes, Gives, HasPlace, Chains}
+use Rattle.gq_heap.specs.internal.Chain.{IsSize, place_byte, link, IsChain, descending, Places}
+use Rattle.gq_heap.specs.Counts.{times}
+use Rattle.gq_heap.specs.internal.Bin.{KeepsBin, IsBin, Takes, Gives, HasPlace, Chains}
+use Rattle.gq_heap.specs.Bins.{bin_price, next_peak}
 use Rattle.gq_heap.proofs.Sizes.{places_pos, places_few, full, up_between, up_next}
 use Rattle.gq_heap.proofs.Chains.{times_same, chain_head, chain_end, few, popped, pushed, grown}
 

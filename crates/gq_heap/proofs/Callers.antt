@@ -5,7 +5,7 @@ use Rattle.gq_store.specs.Store.{Store, SameChunk, AreThere}
 use Rattle.gq_store.specs.declared.GrowFault.{GrowFault}
 use Rattle.gq_heap.specs.declared.heap.Heap.{Heap}
 use Rattle.gq_heap.specs.declared.heap.Place.{Place}
-use Rattle.gq_heap.specs.Heap.{Keeps, Owns, Inserts, IsHeap, IsInUse, AreInUse, KeepsStill, Allocates, Frees, Sets, chunk_of, offset_of, room_of}
+use Rattle.gq_heap.specs.Heap.{Keeps, Owns, Inserts, IsHeap, IsInUse, AreInUse, KeepsStill, Allocates, Frees, Puts, chunk_of, offset_of, room_of}
 use Rattle.gq_heap.specs.declared.heap.Place.TheVariants.{Small, Large}
 use Rattle.gq_heap.specs.Classes.{index_of}
 use Rattle.gq_heap.proofs.ClassLaws.{sizes, index_below}
@@ -39,8 +39,9 @@ used_now (Err f) before after old new n h a = a
 pub heap_after : (before after : Heap) (old new : Store) (p : Place) → IsInUse before old p → Frees before after old new p → IsHeap after new
 heap_after before after old new p u f = record { places = u.rest; keeps = (f.keeps u.places u.rest u.keeps u.has).keeps }
 
-pub in_use_still : (heap : Heap) (old new : Store) (p : Place) (i b : ℕ) → IsInUse heap old p → Sets heap old new p i b → IsInUse heap new p
-in_use_still heap old new p i b u s = record { places = u.places; rest = u.rest; keeps = (s.keeps u.places u.rest u.keeps u.has).keeps; has = u.has }
+pub in_use_still : (heap : Heap) (old new : Store) (p : Place) (i : ℕ) (bytes : List ℕ) → IsInUse heap old p → Puts heap old new p i bytes
+    → IsInUse heap new p
+in_use_still heap old new p i bytes u s = record { places = u.places; rest = u.rest; keeps = (s.keeps u.places u.rest u.keeps u.has).keeps; has = u.has }
 
 -- a place in use has a byte
 pub room_there : (heap : Heap) (st : Store) (p : Place) → IsInUse heap st p → 0 < room_of p
@@ -77,9 +78,10 @@ pub fewer_in_use : (before after : Heap) (old new : Store) (p : Place) (rest pla
 fewer_in_use before after old new p rest places u ins f =
     record { others = u.others; keeps = (f.keeps (places ++ u.others) (rest ++ u.others) u.keeps (inserts_among p rest places u.others ins)).keeps }
 
-pub same_in_use : (heap : Heap) (old new : Store) (p : Place) (i b : ℕ) (rest places : List Place) → AreInUse heap old places → Inserts p rest places
-    → Sets heap old new p i b → AreInUse heap new places
-same_in_use heap old new p i b rest places u ins s =
+pub same_in_use : (heap : Heap) (old new : Store) (p : Place) (i : ℕ) (bytes : List ℕ) (rest places : List Place) → AreInUse heap old places
+    → Inserts p rest places
+    → Puts heap old new p i bytes → AreInUse heap new places
+same_in_use heap old new p i bytes rest places u ins s =
     record { others = u.others; keeps = (s.keeps (places ++ u.others) (rest ++ u.others) u.keeps (inserts_among p rest places u.others ins)).keeps }
 
 -- whatever `alloc` answers, these places stay in use

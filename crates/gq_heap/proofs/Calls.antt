@@ -1,11 +1,13 @@
 -- What a call of a heap changes, as its contract says it.
-use Rattle.std.proofs.Common.{◌≡◌, ℕ, ◌+◌, ◌-◌, ◌<◌, inl, inr, List, [], ◌∷◌, length, refl, sym, ap, subst, arith}
+use Rattle.std.proofs.Common.{◌≡◌, ℕ, suc, ◌∙◌, ◌+◌, ◌-◌, ◌≤◌, inl, inr, List, [], ◌∷◌, length, refl, sym, ap, subst, arith}
 use Rattle.gq_store.specs.Store.{Store}
 use Rattle.gq_heap.specs.declared.heap.Heap.{Heap}
 use Rattle.gq_heap.specs.declared.heap.Place.{Place}
 use Rattle.gq_heap.specs.declared.heap.Place.TheVariants.{Small, Large}
 use Rattle.gq_heap.specs.Classes.{index_of}
-use Rattle.gq_heap.specs.Heap.{large_chunks, Inserts, chunk_of, offset_of, room_of, Keeps, Owns, KeepsNow, KeepsWithin, SameBytes, Allocates, Frees, Sets}
+use Rattle.gq_heap.specs.declared.bin.Bin.{Bin}
+use Rattle.gq_heap.specs.Heap.{peaks_of, large_chunks, Inserts, chunk_of, offset_of, room_of, Keeps, Owns, KeepsNow, KeepsWithin, SameBytes, Allocates, Frees}
+use Rattle.gq_heap.specs.Heap.{Puts}
 use Rattle.gq_heap.proofs.Chains.{times_same}
 use Rattle.gq_heap.proofs.Lists.{large_adds}
 use Rattle.gq_heap.proofs.ClassLaws.{index_below}
@@ -19,6 +21,10 @@ pub block_owned : (heap : Heap) (st : Store) (places rest : List Place) (p : Pla
     → Owns heap st places k (chunk_of p)
 block_owned heap st places rest (Small c q) k ins = inl (index_of c, index_below c, (small_chunk heap st places rest c q k ins).1)
 block_owned heap st places rest (Large x n) k ins = inr (omega (arith, (large_adds x n rest places ins).each x, times_same x (large_chunks rest)))
+
+as_many : (bs : List Bin) → length (peaks_of bs) ≡ length bs
+as_many [] = refl
+as_many (b ∷ bs) = ap suc (as_many bs)
 
 module _ (before after : Heap) (old new : Store) (n : ℕ) (p : Place) (m : Made before after old new n p) where
   made_now : (places more : List Place) (k : Keeps before old places) → Inserts p places more → KeepsNow after old new more (Owns before old places k)
@@ -52,6 +58,7 @@ module _ (before after : Heap) (old new : Store) (n : ℕ) (p : Place) (m : Made
     paid = m.paid;
     caps = m.caps;
     peaks = m.peaks;
+    eight = (as_many before.bins ∙ eight, as_many after.bins ∙ still);
     charge = omega (arith, m.charge, charge_is before eight, charge_is after still);
     charge_caps = omega (arith, m.charge_caps, caps_are before eight, caps_are after still);
   }
@@ -87,7 +94,7 @@ module _ (before after : Heap) (old new : Store) (p : Place) (f : Freed before a
     peaks = f.peaks;
   }
 
-module _ (heap : Heap) (old new : Store) (p : Place) (i b : ℕ) (inside : i < room_of p) (w : Written heap old new p i b) where
+module _ (heap : Heap) (old new : Store) (p : Place) (i : ℕ) (bytes : List ℕ) (inside : i + length bytes ≤ room_of p) (w : Written heap old new p i bytes) where
   written_now : (places rest : List Place) (k : Keeps heap old places) → Inserts p rest places → KeepsWithin heap old new places (Owns heap old places k)
   written_now places rest k ins =
       let kept = w.keeps places rest k ins in
@@ -99,13 +106,15 @@ module _ (heap : Heap) (old new : Store) (p : Place) (i b : ℕ) (inside : i < r
             record { size = w.alone.size x; bytes = λ j. w.alone.elsewhere x j (λ e a b. apart e) };
       }
 
-  pub sets : Sets heap old new p i b
-  sets = record {
+  pub puts : Puts heap old new p i bytes
+  puts = record {
     keeps = written_now;
-    here = w.here;
-    rest = λ j ne. w.alone.elsewhere (chunk_of p) (offset_of p + j) (λ e x y. ne (omega arith));
+    put = record {
+      here = w.here;
+      rest = λ j out. w.alone.elsewhere (chunk_of p) (offset_of p + j) (λ e x y. out (omega arith) (omega arith));
+    };
     others = λ places rest k ins q others ins' j below. w.alone.elsewhere (chunk_of q) (offset_of q + j) (λ e x y.
-        blocks_apart heap old places rest p q others k ins ins' i j inside below (sym e) (omega arith));
+        blocks_apart heap old places rest p q others k ins ins' (offset_of q + j - offset_of p) j (omega arith) below (sym e) (omega arith));
     left = w.alone.left;
     caps = w.alone.caps;
   }

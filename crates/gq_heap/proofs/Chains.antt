@@ -1,11 +1,13 @@
 -- Chains of free places.
-use Rattle.std.proofs.Common.{◌≡◌, ℕ, zero, suc, ◌+◌, ◌-◌, ◌*◌, ◌/◌, ◌%◌, ◌<◌, ◌≤◌, ◌⊎◌, inl, inr, List, [], ◌∷◌, add-one, length, cond, eqb, refl, sym, ap, subst, ◌∙◌, arith}
+use Rattle.std.proofs.Common.{◌≡◌, ℕ, zero, suc, ◌+◌, ◌-◌, ◌*◌, ◌/◌, ◌%◌, ◌<◌, ◌≤◌, ◌⊎◌, inl, inr, List, [], ◌∷◌, add-one, length, cond, eqb, refl, sym, ap}
+use Rattle.std.proofs.Common.{subst, ◌∙◌, arith}
 use Rattle.std.proofs.Math.Nat.{mod-lt, div-add-mod, mul-le-mul_left}
 use Rattle.std.proofs.lemmas.Nat.{div-mul-add, mod-mul-add}
 use Rattle.std.proofs.lemmas.Bool.{cases_order, cases_lt, cases_eq}
 use Rattle.std.proofs.lemmas.Bool.Decides.{nat_tests}
 use Rattle.gq_store.specs.Store.{Store, word, Writes, Grows}
-use Rattle.gq_heap.specs.Chain.{IsSize, times, link, IsChain, descending, Places, Adds}
+use Rattle.gq_heap.specs.internal.Chain.{IsSize, link, IsChain, descending, Places, Adds}
+use Rattle.gq_heap.specs.Counts.{times}
 use Rattle.gq_heap.proofs.Sizes.{places_pos, places_apart}
 
 -- ---- how often a number stands in a list

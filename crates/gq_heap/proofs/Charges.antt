@@ -3,8 +3,8 @@ use Rattle.std.proofs.Common.{◌≡◌, ℕ, zero, suc, ◌+◌, ◌*◌, ◌<�
 use Rattle.std.proofs.lemmas.List.{drop_more}
 use Rattle.std.proofs.lemmas.Nat.{mul-le}
 use Rattle.gq_tariff.specs.Prices.{up, classes}
-use Rattle.gq_model.specs.Amounts.{Ram, Caps}
-use Rattle.gq_model.specs.Prices.{heap_of, heap as class_prices}
+use Rattle.gq_model.specs.machine.Amounts.{Ram, Caps}
+use Rattle.gq_model.specs.machine.Prices.{heap_of, heap as class_prices}
 use Rattle.gq_heap.specs.declared.bin.Bin.{Bin}
 use Rattle.gq_heap.specs.declared.heap.Heap.{Heap}
 use Rattle.gq_heap.specs.Classes.{size_at}

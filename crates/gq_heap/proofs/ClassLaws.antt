@@ -4,7 +4,7 @@ use Rattle.std.proofs.lemmas.Bool.Decides.{nat_tests}
 use Rattle.gq_tariff.specs.Prices.{classes, class_size, size_for}
 use Rattle.gq_tariff.specs.declared.class.Class.{Class}
 use Rattle.gq_tariff.specs.declared.class.Class.TheVariants.{Bytes16, Bytes32, Bytes64, Bytes128, Bytes256, Bytes512, Bytes1024, Bytes2048}
-use Rattle.gq_heap.specs.Chain.{IsSize}
+use Rattle.gq_heap.specs.internal.Chain.{IsSize}
 use Rattle.gq_heap.specs.Classes.{index_of, size_at, places_at, too_small, class_for}
 
 -- each class fills a chunk with its places

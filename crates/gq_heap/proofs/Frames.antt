@@ -2,8 +2,9 @@
 use Rattle.std.proofs.Common.{◌≡◌, ℕ, ◌*◌, ◌/◌, ◌%◌, ◌<◌, ◌≤◌, List, sym, subst, ◌∙◌, arith}
 use Rattle.gq_store.specs.Store.{Store, Writes}
 use Rattle.gq_heap.specs.declared.bin.Bin.{Bin}
-use Rattle.gq_heap.specs.Chain.{IsSize, times, link}
-use Rattle.gq_heap.specs.Bin.{KeepsBin}
+use Rattle.gq_heap.specs.internal.Chain.{IsSize, link}
+use Rattle.gq_heap.specs.Counts.{times}
+use Rattle.gq_heap.specs.internal.Bin.{KeepsBin}
 use Rattle.gq_heap.proofs.Chains.{chain_same, word_same, link_other}
 
 -- nothing that a bin has in its chunks changed

@@ -1,17 +1,21 @@
 -- What the calls leave of a heap.
-use Rattle.std.proofs.Common.{◌≡◌, ℕ, ◌+◌, ◌-◌, ◌*◌, ◌/◌, ◌%◌, ◌<◌, ◌≤◌, ◌⊎◌, inl, inr, List, length, max, get_or, set, sym, ap, subst, ◌∙◌, zero-add, arith, get_or-set_same, get_or-set_other}
+use Rattle.std.proofs.Common.{◌≡◌, ℕ, ◌+◌, ◌-◌, ◌*◌, ◌/◌, ◌%◌, ◌<◌, ◌≤◌, ◌⊎◌, inl, inr, List, length, max, get_or, set, sym, ap, subst, ◌∙◌, zero-add, arith}
+use Rattle.std.proofs.Common.{get_or-set_same, get_or-set_other}
 use Rattle.std.proofs.lemmas.Bool.{cases_lt, cases_eq}
 use Rattle.gq_tariff.specs.Prices.{class_size, size_for}
 use Rattle.gq_store.specs.Store.{Store, Writes}
+use Rattle.gq_store.specs.Bytes.{HasBytes}
 use Rattle.gq_tariff.specs.declared.class.Class.{Class}
 use Rattle.gq_heap.specs.declared.bin.Bin.{Bin}
 use Rattle.gq_heap.specs.declared.heap.Heap.{Heap}
 use Rattle.gq_heap.specs.declared.heap.Place.{Place}
 use Rattle.gq_heap.specs.declared.heap.Place.TheVariants.{Small, Large}
-use Rattle.gq_heap.specs.Chain.{times}
+use Rattle.gq_heap.specs.Counts.{times}
 use Rattle.gq_heap.specs.Classes.{index_of, size_at, places_at, class_for}
-use Rattle.gq_heap.specs.Bin.{KeepsBin, KeepsMore, Takes, Gives, HasPlace, bin_price, next_peak}
-use Rattle.gq_heap.specs.Heap.{no_bin, bin_at, numbers, large_chunks, Inserts, chunk_of, offset_of, room_of, byte_of, Keeps, Owns, IsInUse, rise, rise_caps, peaks_of, peak_of, count_of}
+use Rattle.gq_heap.specs.internal.Bin.{KeepsBin, KeepsMore, Takes, Gives, HasPlace}
+use Rattle.gq_heap.specs.Bins.{bin_price, next_peak}
+use Rattle.gq_heap.specs.Heap.{no_bin, bin_at, numbers, large_chunks, Inserts, chunk_of, offset_of, room_of, Keeps, Owns, IsInUse, rise, rise_caps, peaks_of}
+use Rattle.gq_heap.specs.Heap.{peak_of, count_of}
 use Rattle.gq_heap.proofs.Parts.{KeepsAlso, KeepsRest, Made, Freed, Written}
 use Rattle.gq_heap.proofs.Charges.{peaks_stay}
 use Rattle.gq_heap.proofs.ClassLaws.{sizes, index_below}
@@ -19,7 +23,8 @@ use Rattle.gq_heap.proofs.Rises.{charge_set, rise_small, cancel, plus_none, page
 use Rattle.gq_heap.proofs.Sizes.{price_mono, place_inside}
 use Rattle.gq_heap.proofs.Chains.{times_same}
 use Rattle.gq_heap.proofs.Frames.{frame_bin, frame_used}
-use Rattle.gq_heap.proofs.Lists.{put, put_same, put_other, small_same, small_other, small_large, small_price, small_are, less_are, large_exists, frame_large, times_other, large_adds, large_at, up_small}
+use Rattle.gq_heap.proofs.Lists.{put, put_same, put_other, small_same, small_other, small_large, small_price, small_are, less_are, large_exists, frame_large}
+use Rattle.gq_heap.proofs.Lists.{times_other, large_adds, large_at, up_small}
 
 -- ---- one class changes
 module _ (before after : Heap) (old new : Store) (c : Class) (s : Bin) (q : ℕ) (lt : index_of c < 8) (eight : length before.bins ≡ 8)
@@ -218,10 +223,10 @@ module _ (heap : Heap) (old new : Store) (places : List Place) (k : Keeps heap o
     owns = λ x o. o;
   }
 
-  pub sets_small : (c : Class) (q i b : ℕ) (rest : List Place) → Inserts (Small c q) rest places → i < size_at (index_of c)
-      → Writes old new (q / places_at (index_of c)) (q % places_at (index_of c) * size_at (index_of c) + i) 1
+  pub puts_small : (c : Class) (q i n : ℕ) (rest : List Place) → Inserts (Small c q) rest places → i + n ≤ size_at (index_of c)
+      → Writes old new (q / places_at (index_of c)) (q % places_at (index_of c) * size_at (index_of c) + i) n
       → KeepsRest heap new places (Owns heap old places k)
-  sets_small c q i b rest ins below w =
+  puts_small c q i n rest ins below w =
       let the = index_of c in
       let z = size_at the in
       let s = small_chunk heap old places rest c q k ins in
@@ -255,9 +260,9 @@ module _ (heap : Heap) (old new : Store) (places : List Place) (k : Keeps heap o
         owns = λ x o. o;
       }
 
-  pub sets_large : (c n i b : ℕ) (rest : List Place) → Inserts (Large c n) rest places → Writes old new c i 1
+  pub puts_large : (c n i m : ℕ) (rest : List Place) → Inserts (Large c n) rest places → Writes old new c i m
       → KeepsRest heap new places (Owns heap old places k)
-  sets_large c n i b rest ins w =
+  puts_large c n i m rest ins w =
       let t : 0 < times c (large_chunks places) = omega (arith, (large_adds c n rest places ins).each c, times_same c (large_chunks rest)) in
       record {
         keeps = record {
@@ -274,15 +279,22 @@ module _ (heap : Heap) (old new : Store) (places : List Place) (k : Keeps heap o
         owns = λ x o. o;
       }
 
-pub written : (heap : Heap) (old new : Store) (p : Place) (i b : ℕ) → i < room_of p → byte_of new p i ≡ b → Writes old new (chunk_of p) (offset_of p + i) 1
-    → Written heap old new p i b
-written heap old new (Small c q) i b below here w = record
-    { keeps = λ places rest k ins. sets_small heap old new places k c q i b rest ins below w; here = here; alone = w }
-written heap old new (Large c n) i b below here w = record {
-  keeps = λ places rest k ins. sets_large heap old new places k c n i b rest ins (subst (λ o. Writes old new c o 1) (zero-add i) w);
-  here = here;
-  alone =
-      w;
+has_block : (f : ℕ → ℕ) (o i : ℕ) (bytes : List ℕ) → HasBytes f (o + i) bytes → HasBytes (λ j. f (o + j)) i bytes
+has_block f o i bytes h j l = ap f (omega arith) ∙ h j l
+
+pub written : (heap : Heap) (old new : Store) (p : Place) (i : ℕ) (bytes : List ℕ) → i + length bytes ≤ room_of p
+    → HasBytes (new.byte (chunk_of p)) (offset_of p + i) bytes
+    → Writes old new (chunk_of p) (offset_of p + i) (length bytes) → Written heap old new p i bytes
+written heap old new (Small c q) i bytes below here w = record {
+  keeps = λ places rest k ins. puts_small heap old new places k c q i (length bytes) rest ins below w;
+  here = has_block (new.byte (chunk_of (Small c q))) (offset_of (Small c q)) i bytes here;
+  alone = w;
+}
+written heap old new (Large c n) i bytes below here w = record {
+  keeps = λ places rest k ins. puts_large heap old new places k c n i (length bytes) rest ins
+      (subst (λ o. Writes old new c o (length bytes)) (zero-add i) w);
+  here = has_block (new.byte c) 0 i bytes here;
+  alone = w;
 }
 
 -- ---- a place of a class is given back

@@ -6,16 +6,17 @@ use Rattle.gq_store.specs.Store.{Store, Grows, Shrinks, plus_caps}
 use Rattle.gq_heap.specs.declared.heap.Heap.{Heap}
 use Rattle.gq_heap.specs.declared.heap.Place.{Place}
 use Rattle.gq_heap.specs.declared.heap.Place.TheVariants.{Large}
-use Rattle.gq_heap.specs.Chain.{times}
+use Rattle.gq_heap.specs.Counts.{times}
 use Rattle.gq_heap.specs.Classes.{index_of, size_at, places_at}
-use Rattle.gq_heap.specs.Bin.{KeepsBin}
+use Rattle.gq_heap.specs.internal.Bin.{KeepsBin}
 use Rattle.gq_heap.specs.Heap.{no_bin, bin_at, numbers, large_chunks, Inserts, Keeps, Owns, IsInUse, class_rise, rise, peaks_of}
 use Rattle.gq_heap.proofs.Rises.{is_large, plus_one, caps_large}
 use Rattle.gq_heap.proofs.Parts.{price_from, KeepsAlso, KeepsRest, Made, Freed}
 use Rattle.gq_heap.proofs.ClassLaws.{index_below}
 use Rattle.gq_heap.proofs.Chains.{times_same, few}
 use Rattle.gq_heap.proofs.Frames.{frame_bin}
-use Rattle.gq_heap.proofs.Lists.{less_are, large_exists, frame_large, times_other, large_adds, large_more, large_numbers, large_at, large_are, large_price_few, large_below}
+use Rattle.gq_heap.proofs.Lists.{less_are, large_exists, frame_large, times_other, large_adds, large_more, large_numbers, large_at, large_are, large_price_few}
+use Rattle.gq_heap.proofs.Lists.{large_below}
 
 -- ---- a large block
 pub rise_large : (heap : Heap) (n : ℕ) → 2048 < n → rise heap n ≡ up n

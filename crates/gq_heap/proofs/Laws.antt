@@ -6,10 +6,11 @@ use Rattle.gq_heap.specs.declared.bin.Bin.{Bin}
 use Rattle.gq_heap.specs.declared.heap.Heap.{Heap}
 use Rattle.gq_heap.specs.declared.heap.Place.{Place}
 use Rattle.gq_heap.specs.declared.heap.Place.TheVariants.{Small, Large}
-use Rattle.gq_heap.specs.Chain.{times, Adds}
+use Rattle.gq_heap.specs.Counts.{times}
+use Rattle.gq_heap.specs.internal.Chain.{Adds}
 use Rattle.gq_heap.specs.Classes.{index_of, size_at, places_at}
 use Rattle.gq_tariff.specs.Prices.{up}
-use Rattle.gq_heap.specs.Bin.{KeepsBin}
+use Rattle.gq_heap.specs.internal.Bin.{KeepsBin}
 use Rattle.gq_heap.specs.Heap.{no_bin, numbers, large_chunks, Inserts, chunk_of, offset_of, room_of, Keeps}
 use Rattle.gq_heap.proofs.Sizes.{places_apart}
 use Rattle.gq_heap.proofs.Chains.{times_same}

@@ -12,3 +12,5 @@ pub mod Larges
 pub mod Laws
 pub mod Calls
 pub mod Callers
+pub mod Moved
+pub mod Contents

@@ -1,12 +1,14 @@
 -- Lists of places.
-use Rattle.std.proofs.Common.{◌≡◌, ℕ, ◌+◌, ◌*◌, ◌<◌, ◌≤◌, inl, inr, List, [], ◌∷◌, ◌++◌, length, length-append, cond, Bool, true, false, eqb, refl, sym, ap, subst, ◌∙◌, arith}
+use Rattle.std.proofs.Common.{◌≡◌, ℕ, ◌+◌, ◌*◌, ◌<◌, ◌≤◌, inl, inr, List, [], ◌∷◌, ◌++◌, length, length-append, cond, Bool, true, false, eqb, refl, sym, ap}
+use Rattle.std.proofs.Common.{subst, ◌∙◌, arith}
 use Rattle.std.proofs.lemmas.Bool.{cases_eq}
 use Rattle.std.proofs.lemmas.Bool.Decides.{nat_tests}
 use Rattle.gq_store.specs.Store.{Store}
 use Rattle.gq_tariff.specs.declared.class.Class.{Class}
 use Rattle.gq_heap.specs.declared.heap.Place.{Place}
 use Rattle.gq_heap.specs.declared.heap.Place.TheVariants.{Small, Large}
-use Rattle.gq_heap.specs.Chain.{times, Adds}
+use Rattle.gq_heap.specs.Counts.{times}
+use Rattle.gq_heap.specs.internal.Chain.{Adds}
 use Rattle.gq_heap.specs.Classes.{index_of}
 use Rattle.gq_tariff.specs.Prices.{up}
 use Rattle.gq_heap.specs.Heap.{numbers, large_chunks, large_price, AreLarge, Inserts}

@@ -1,11 +1,12 @@
 -- What a call leaves of a heap and the store, with the place that it worked on.
-use Rattle.std.proofs.Common.{◌≡◌, ℕ, ◌+◌, ◌/◌, ◌<◌, ◌≤◌, ◌⊎◌, List, [], ◌∷◌, max}
+use Rattle.std.proofs.Common.{◌≡◌, ℕ, ◌+◌, ◌/◌, ◌<◌, ◌≤◌, ◌⊎◌, List, [], ◌∷◌, length, max}
 use Rattle.gq_store.specs.Store.{Store, Writes, Leaves, plus_caps}
+use Rattle.gq_store.specs.Bytes.{HasBytes}
 use Rattle.gq_tariff.specs.declared.class.Class.{Class}
 use Rattle.gq_heap.specs.declared.bin.Bin.{Bin}
 use Rattle.gq_heap.specs.declared.heap.Heap.{Heap}
 use Rattle.gq_heap.specs.declared.heap.Place.{Place}
-use Rattle.gq_heap.specs.Bin.{bin_price}
+use Rattle.gq_heap.specs.Bins.{bin_price}
 use Rattle.gq_heap.specs.Classes.{size_at}
 use Rattle.gq_heap.specs.Heap.{Keeps, Owns, Inserts, IsFor, chunk_of, offset_of, room_of, byte_of, rise, rise_caps, price_of, caps_of, peaks, peak_of, count_of}
 
@@ -53,7 +54,7 @@ pub record Freed (before after : Heap) (old new : Store) (p : Place) : Type 0 wh
   pub charge_caps : caps_from after + caps_of p ≡ caps_from before
   pub peaks : peaks after ≡ peaks before
 
-pub record Written (heap : Heap) (old new : Store) (p : Place) (i b : ℕ) : Type 0 where
+pub record Written (heap : Heap) (old new : Store) (p : Place) (i : ℕ) (bytes : List ℕ) : Type 0 where
   pub keeps : (places rest : List Place) (k : Keeps heap old places) → Inserts p rest places → KeepsRest heap new places (Owns heap old places k)
-  pub here : byte_of new p i ≡ b
-  pub alone : Writes old new (chunk_of p) (offset_of p + i) 1
+  pub here : HasBytes (byte_of new p) i bytes
+  pub alone : Writes old new (chunk_of p) (offset_of p + i) (length bytes)

@@ -1,12 +1,13 @@
 -- How the charge rises.
-use Rattle.std.proofs.Common.{◌≡◌, ℕ, zero, suc, ◌+◌, ◌-◌, ◌/◌, ◌<◌, ◌≤◌, List, [], ◌∷◌, length, get_or, set, cond, true, false, ltb, Option, Some, None, refl, sym, ap, ◌∙◌, add-zero, zero-add, arith}
+use Rattle.std.proofs.Common.{◌≡◌, ℕ, zero, suc, ◌+◌, ◌-◌, ◌/◌, ◌<◌, ◌≤◌, List, [], ◌∷◌, length, get_or, set, cond, true, false, ltb, Option, Some, None, refl}
+use Rattle.std.proofs.Common.{sym, ap, ◌∙◌, add-zero, zero-add, arith}
 use Rattle.std.proofs.lemmas.Bool.Decides.{nat_tests}
 use Rattle.gq_tariff.specs.Prices.{up}
 use Rattle.gq_store.specs.Store.{one_more, plus_caps}
 use Rattle.gq_heap.specs.declared.bin.Bin.{Bin}
 use Rattle.gq_heap.specs.declared.heap.Heap.{Heap}
 use Rattle.gq_heap.specs.Classes.{size_at, class_for}
-use Rattle.gq_heap.specs.Bin.{bin_price, next_peak}
+use Rattle.gq_heap.specs.Bins.{bin_price, next_peak}
 use Rattle.gq_heap.specs.Heap.{no_bin, bin_at, class_rise, rise, rise_caps}
 use Rattle.gq_heap.proofs.Parts.{price_from, charge_from}
 

@@ -2,7 +2,7 @@
 use Rattle.std.proofs.Common.{◌≡◌, ℕ, zero, suc, ◌+◌, ◌*◌, ◌/◌, ◌%◌, ◌<◌, ◌≤◌, ◌⊎◌, inl, inr, sym, ap, ◌∙◌, arith}
 use Rattle.std.proofs.Math.Nat.{mul-le-mul_left, mul-le-mul_right, le_of_mul-le-mul_left, mul-mod_left, mod-lt, div-add-mod}
 use Rattle.std.proofs.lemmas.Bool.{cases_order}
-use Rattle.gq_heap.specs.Chain.{IsSize}
+use Rattle.gq_heap.specs.internal.Chain.{IsSize}
 use Rattle.gq_tariff.specs.Prices.{up}
 
 pub price_mono : (z m n : ℕ) → m ≤ n → up (z * m) ≤ up (z * n)

@@ -2,16 +2,18 @@
 use Rattle.std.specs.Prelude.{◌≡◌, ℕ, ◌+◌, ◌-◌, ◌*◌, ◌/◌, ◌%◌, ◌<◌, ◌≤◌, ◌⊎◌, List, [], ◌∷◌, ◌++◌, max, length, get_or, cond, nat_lt, ◌==◌, if◌then◌else◌}
 use Rattle.gq_tariff.specs.Prices.{up, class_size, size_for}
 use Rattle.gq_tariff.specs.declared.class.Class.{Class}
-use Rattle.gq_model.specs.Amounts.{Ram, Caps}
-use Rattle.gq_model.specs.Prices.{heap as class_prices}
+use Rattle.gq_model.specs.machine.Amounts.{Ram, Caps}
+use Rattle.gq_model.specs.machine.Prices.{heap as class_prices}
 use Rattle.gq_store.specs.Store.{Store, Spares, TakesNew, plus_caps}
+use Rattle.gq_store.specs.Bytes.{listed, PutsBytes}
 use Rattle.gq_heap.specs.declared.bin.Bin.{Bin}
 use Rattle.gq_heap.specs.declared.heap.Heap.{Heap}
 use Rattle.gq_heap.specs.declared.heap.Place.{Place}
 use Rattle.gq_heap.specs.declared.heap.Place.TheVariants.{Small, Large}
-use Rattle.gq_heap.specs.Chain.{times}
+use Rattle.gq_heap.specs.Counts.{times}
 use Rattle.gq_heap.specs.Classes.{index_of, size_at, places_at, class_for}
-use Rattle.gq_heap.specs.Bin.{KeepsBin, bin_price, next_peak}
+use Rattle.gq_heap.specs.internal.Bin.{KeepsBin}
+use Rattle.gq_heap.specs.Bins.{bin_price, next_peak}
 
 abbrev pub no_bin : Bin
 no_bin = record { head = 0; count = 0; peak = 0 }
@@ -66,6 +68,10 @@ room_of (Large k n) = up n
 -- the byte i of a block
 abbrev pub byte_of : Store → Place → ℕ → ℕ
 byte_of st p i = st.byte (chunk_of p) (offset_of p + i)
+
+-- the first n bytes of a block, as a list
+abbrev pub block_bytes : Store → Place → ℕ → List ℕ
+block_bytes st p n = listed n (byte_of st p)
 
 -- the place is one for a block of n bytes: of the class of n, or a chunk of its own
 abbrev pub IsFor : ℕ → Place → Type 0
@@ -186,6 +192,8 @@ pub record Allocates (before after : Heap) (old new : Store) (n : ℕ) (p : Plac
   pub others : (places : List Place) → Keeps before old places → SameBytes old new places
   pub paid : new.left + rise before n ≡ old.left
   pub caps : old.caps ≡ plus_caps (rise_caps before n) new.caps
+  -- there is a peak for each class
+  pub eight : (length (peaks before) ≡ 8) × (length (peaks after) ≡ 8)
   -- each peak is raised to what is in use now
   pub peaks : (places more : List Place) → Keeps before old places → Inserts p places more → (c : Class)
       → peak_of after c ≡ max (peak_of before c) (count_of c more)
@@ -202,11 +210,10 @@ pub record Frees (before after : Heap) (old new : Store) (p : Place) : Type 0 wh
   pub charge_caps : charge_caps after + caps_of p ≡ charge_caps before
   pub peaks : peaks after ≡ peaks before
 
--- The byte i of the block p is b now, and no other byte of a block changed.
-pub record Sets (heap : Heap) (old new : Store) (p : Place) (i b : ℕ) : Type 0 where
+-- These bytes stand in the block p from i on now, and no other byte of a block changed.
+pub record Puts (heap : Heap) (old new : Store) (p : Place) (i : ℕ) (bytes : List ℕ) : Type 0 where
   pub keeps : (places rest : List Place) (k : Keeps heap old places) → Inserts p rest places → KeepsWithin heap old new places (Owns heap old places k)
-  pub here : byte_of new p i ≡ b
-  pub rest : (j : ℕ) → (j ≡ i → ⊥) → byte_of new p j ≡ byte_of old p j
+  pub put : PutsBytes (byte_of old p) (byte_of new p) i bytes
   pub others : (places rest : List Place) → Keeps heap old places → Inserts p rest places → SameBytes old new rest
   pub left : new.left ≡ old.left
   pub caps : new.caps ≡ old.caps

@@ -1,4 +1,5 @@
-pub mod Chain
 pub mod Classes
+pub mod Counts
+pub mod Bins
 pub mod Heap
-pub mod Bin
+pub mod internal

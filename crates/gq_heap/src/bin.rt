@@ -1,8 +1,9 @@
 // The places of one class.
 ghost use Rattle.std.specs.Prelude.{◌≡◌, ℕ, ◌+◌, ◌-◌, ◌*◌, ◌/◌, ◌%◌, ◌<◌, ◌≤◌, ◌↔◌, Ok, Some, IfOk, OnErr, IsErrOf};
 ghost use Rattle.gq_store.specs.Store.{Store};
-ghost use Rattle.gq_heap.specs.Chain.{IsSize};
-ghost use Rattle.gq_heap.specs.Bin.{IsBin, HasPlace, Takes, Gives, Chains, bin_price, next_peak};
+ghost use Rattle.gq_heap.specs.internal.Chain.{IsSize};
+ghost use Rattle.gq_heap.specs.internal.Bin.{IsBin, HasPlace, Takes, Gives, Chains};
+ghost use Rattle.gq_heap.specs.Bins.{bin_price, next_peak};
 
 use crate::chain::{chain_all, pop, push};
 use gq_store::{ByteStore, GrowFault};
@@ -27,7 +28,7 @@ fn first_free<S: ByteStore>(
     ensures chained { head ≡ 0 → IfOk result (λ first. Chains size places first (S.state store.old) (S.state store.new)) }
     ensures exceeded { IsErrOf result GrowFault.Exceeded ↔ ((head ≡ 0) × ((S.state store.old).left < 4096)) }
     ensures caps { IsErrOf result GrowFault.CapsExceeded ↔ ((head ≡ 0) × (4096 ≤ (S.state store.old).left) × ((S.state store.old).caps ≡ Some 0)) }
-    ensures err { OnErr result (S.state store.new ≡ S.state store.old) }
+    ensures err { OnErr result (store.new ≡ store.old) }
     ensures rest { S.same_rest store.old store.new }
 {
     if head > 0 {
@@ -51,7 +52,7 @@ pub fn take<S: ByteStore>(
     ensures caps { IsErrOf result GrowFault.CapsExceeded ↔ ((bin_price size bin.old.peak < bin_price size (next_peak bin.old))
         × (bin_price size (next_peak bin.old) ≤ (S.state store.old).left + bin_price size bin.old.peak)
         × ((S.state store.old).caps ≡ Some 0)) }
-    ensures err { OnErr result ((bin.new ≡ bin.old) × (S.state store.new ≡ S.state store.old)) }
+    ensures err { OnErr result ((bin.new ≡ bin.old) × (store.new ≡ store.old)) }
     ensures rest { S.same_rest store.old store.new }
 {
     let head = first_free(store, size, places, bin.head)?;

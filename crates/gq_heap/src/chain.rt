@@ -1,23 +1,9 @@
 // Free places that are chained through their own first four bytes.
 ghost use Rattle.std.specs.Prelude.{◌≡◌, ℕ, ◌+◌, ◌-◌, ◌*◌, ◌/◌, ◌%◌, ◌<◌, ◌≤◌};
 ghost use Rattle.gq_store.specs.Store.{Store, word, Writes};
-ghost use Rattle.gq_heap.specs.Chain.{IsSize, IsChain, place_byte, link, descending};
+ghost use Rattle.gq_heap.specs.internal.Chain.{IsSize, IsChain, place_byte, link, descending};
 
 use gq_store::{ByteStore, ChunkNo};
-
-/// Sets `size` bytes of a chunk from `offset` on to 0.
-pub fn clear<S: ByteStore>(store: &mut S, chunk: ChunkNo, offset: u32, size: u32)
-    requires inside { offset + size ≤ (S.state store.old).size chunk }
-    requires small { offset + size ≤ 4096 }
-    requires words { (offset % 4 ≡ 0) × (size % 4 ≡ 0) }
-    ensures zero { (i : ℕ) → offset ≤ i → i < offset + size → (S.state store.new).byte chunk i ≡ 0 }
-    ensures alone { Writes (S.state store.old) (S.state store.new) chunk offset size }
-    ensures rest { S.same_rest store.old store.new }
-{
-    for i in 0..size / 4 {
-        store.store4(chunk, offset + 4 * i, 0);
-    }
-}
 
 /// Chains all places of a chunk, the last one first, and gives the head.
 pub fn chain_all<S: ByteStore>(store: &mut S, chunk: ChunkNo, size: u32, places: u32) -> u32
@@ -60,6 +46,6 @@ pub fn pop<S: ByteStore>(store: &mut S, size: u32, places: u32, place: u32) -> u
     let chunk = ChunkNo::new(place / places);
     let offset = place % places * size;
     let next = store.load4(chunk, offset);
-    clear(store, chunk, offset, size);
+    store.clear(chunk, offset, size);
     next
 }

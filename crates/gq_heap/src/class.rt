@@ -3,6 +3,7 @@ ghost use Rattle.std.specs.Prelude.{◌≡◌, ◌<◌, ◌≤◌};
 ghost use Rattle.gq_tariff.specs.Prices.{class_size, size_for};
 ghost use Rattle.gq_heap.specs.Classes.{index_of, size_at, places_at, class_for};
 
+use gq_tariff::price::PAGE;
 use gq_tariff::{Class, class_of};
 
 /// The number of a class, by size, from 0.
@@ -33,7 +34,7 @@ pub fn place_size(class: Class) -> u32
 pub fn places_per_chunk(class: Class) -> u32
     ensures { result ≡ places_at (index_of class) }
 {
-    4096 / place_size(class)
+    PAGE as u32 / place_size(class)
 }
 
 /// The class of a block of `size` bytes.

@@ -5,13 +5,8 @@ ghost use Rattle.gq_tariff.specs.Prices.{up};
 use crate::bin::{Bin, give, take};
 use crate::class::{class_for_size, class_index, place_size, places_per_chunk};
 use gq_store::{ByteStore, ChunkNo, GrowFault};
+use gq_tariff::price::{GREATEST_PLACE, PAGE};
 use gq_tariff::{Class, price_class, round_up};
-
-/// The bytes of a page.
-const PAGE: u64 = 4096;
-
-/// The greatest block that is a place of a class, in bytes.
-const GREATEST_PLACE: u32 = 2048;
 
 /// Where a block lies.
 #[derive(Clone, Copy, Debug, PartialEq, Eq)]
@@ -66,12 +61,13 @@ pub struct Heap {
 }
 
 impl Heap {
-    ghost use Rattle.std.specs.Prelude.{◌≡◌, ℕ, ◌+◌, ◌*◌, ◌/◌, ◌<◌, ◌≤◌, ◌↔◌, [], Some, IfOk, OnErr, IsErrOf};
-    ghost use Rattle.gq_model.specs.Amounts.{Ram};
-    ghost use Rattle.gq_model.specs.Prices.{heap as class_prices};
+    ghost use Rattle.std.specs.Prelude.{◌≡◌, ℕ, ◌+◌, ◌*◌, ◌/◌, ◌<◌, ◌≤◌, ◌↔◌, [], ◌∷◌, Some, IfOk, OnErr, IsErrOf};
+    ghost use Rattle.gq_model.specs.machine.Amounts.{Ram};
+    ghost use Rattle.gq_model.specs.machine.Prices.{heap as class_prices};
     ghost use Rattle.gq_tariff.specs.declared.class.Class.{Class};
-    ghost use Rattle.gq_store.specs.Store.{Store};
-    ghost use Rattle.gq_heap.specs.Heap.{Keeps, IsHeap, IsInUse, Allocates, Frees, Sets, peaks, peak_of, rise, charge, charge_caps, room_of, byte_of};
+    ghost use Rattle.gq_model.specs.machine.Program.{spelled};
+    ghost use Rattle.gq_store.specs.Store.{Store, word};
+    ghost use Rattle.gq_heap.specs.Heap.{Keeps, IsHeap, IsInUse, Allocates, Frees, Puts, peaks, peak_of, rise, charge, charge_caps, room_of, byte_of};
 
     /// A heap without a block, over any store.
     pub fn new() -> Heap
@@ -137,12 +133,12 @@ impl Heap {
         ensures exceeded { IsErrOf result GrowFault.Exceeded ↔ ((S.state store.old).left < rise self.old size) }
         ensures caps { IsErrOf result GrowFault.CapsExceeded
             ↔ ((0 < rise self.old size) × (rise self.old size ≤ (S.state store.old).left) × ((S.state store.old).caps ≡ Some 0)) }
-        ensures err { OnErr result ((self.new ≡ self.old) × (S.state store.new ≡ S.state store.old)) }
+        ensures err { OnErr result ((self.new ≡ self.old) × (store.new ≡ store.old)) }
         ensures kept { IsHeap self.new (S.state store.new) }
         ensures in_use { IfOk result (λ p. IsInUse self.new (S.state store.new) p) }
         ensures rest { S.same_rest store.old store.new }
     {
-        if size <= GREATEST_PLACE {
+        if u64::from(size) <= GREATEST_PLACE {
             self.alloc_small(store, size)
         } else {
             self.alloc_large(store, size)
@@ -156,7 +152,7 @@ impl Heap {
         ensures exceeded { IsErrOf result GrowFault.Exceeded ↔ ((S.state store.old).left < rise self.old size) }
         ensures caps { IsErrOf result GrowFault.CapsExceeded
             ↔ ((0 < rise self.old size) × (rise self.old size ≤ (S.state store.old).left) × ((S.state store.old).caps ≡ Some 0)) }
-        ensures err { OnErr result ((self.new ≡ self.old) × (S.state store.new ≡ S.state store.old)) }
+        ensures err { OnErr result ((self.new ≡ self.old) × (store.new ≡ store.old)) }
         ensures rest { S.same_rest store.old store.new }
     {
         let class = class_for_size(size);
@@ -173,7 +169,7 @@ impl Heap {
         ensures exceeded { IsErrOf result GrowFault.Exceeded ↔ ((S.state store.old).left < rise self.old size) }
         ensures caps { IsErrOf result GrowFault.CapsExceeded
             ↔ ((0 < rise self.old size) × (rise self.old size ≤ (S.state store.old).left) × ((S.state store.old).caps ≡ Some 0)) }
-        ensures err { OnErr result ((self.new ≡ self.old) × (S.state store.new ≡ S.state store.old)) }
+        ensures err { OnErr result ((self.new ≡ self.old) × (store.new ≡ store.old)) }
         ensures rest { S.same_rest store.old store.new }
     {
         let chunk = store.grow(pages_of(size))?;
@@ -234,11 +230,31 @@ impl Heap {
     pub fn store<S: ByteStore>(&self, store: &mut S, place: Place, index: u32, value: u8)
         requires kept { IsInUse self.now (S.state store.old) place }
         requires inside { index < room_of place }
-        ensures sets { Sets self.now (S.state store.old) (S.state store.new) place index value }
+        ensures puts { Puts self.now (S.state store.old) (S.state store.new) place index (value ∷ []) }
         ensures in_use { IsInUse self.now (S.state store.new) place }
         ensures rest { S.same_rest store.old store.new }
     {
         store.store(place.chunk(), place.offset() + index, value);
+    }
+
+    /// The number in the four bytes of a block from an index on, the lowest first.
+    pub fn load4<S: ByteStore>(&self, store: &S, place: Place, index: u32) -> u32
+        requires kept { IsInUse self.now (S.state store.now) place }
+        requires inside { index + 4 ≤ room_of place }
+        ensures { result ≡ word (byte_of (S.state store.now) place) index }
+    {
+        store.load4(place.chunk(), place.offset() + index)
+    }
+
+    /// Writes a number to the four bytes of a block from an index on, the lowest first.
+    pub fn store4<S: ByteStore>(&self, store: &mut S, place: Place, index: u32, value: u32)
+        requires kept { IsInUse self.now (S.state store.old) place }
+        requires inside { index + 4 ≤ room_of place }
+        ensures puts { Puts self.now (S.state store.old) (S.state store.new) place index (spelled 4 value) }
+        ensures in_use { IsInUse self.now (S.state store.new) place }
+        ensures rest { S.same_rest store.old store.new }
+    {
+        store.store4(place.chunk(), place.offset() + index, value);
     }
 }
 

@@ -1,5 +1,6 @@
 -- Slots of the list.
-use Rattle.std.proofs.Common.{◌≡◌, ℕ, zero, suc, ◌+◌, ◌-◌, ◌*◌, ◌/◌, ◌%◌, ◌<◌, ◌≤◌, ◌⊎◌, inl, inr, List, [], ◌∷◌, length, length-set, get_or, set, sum, cond, Bool, true, false, ltb, Option, Some, None, refl, sym, ap, subst, ◌∙◌, arith, get_or-set_same, get_or-set_other}
+use Rattle.std.proofs.Common.{◌≡◌, ℕ, zero, suc, ◌+◌, ◌-◌, ◌*◌, ◌/◌, ◌%◌, ◌<◌, ◌≤◌, ◌⊎◌, inl, inr, List, [], ◌∷◌, length, length-set, get_or, set, sum, cond}
+use Rattle.std.proofs.Common.{Bool, true, false, ltb, Option, Some, None, refl, sym, ap, subst, ◌∙◌, arith, get_or-set_same, get_or-set_other}
 use Rattle.std.proofs.Math.Nat.{mul-le-mul_right, div-div-eq-div-mul}
 use Rattle.std.proofs.lemmas.Bool.{cases_lt, cases_eq, cases_order}
 use Rattle.std.proofs.lemmas.Bool.Decides.{nat_tests}
@@ -60,6 +61,52 @@ module _ (bytes sizes : List ℕ) (stride left : ℕ) (caps : Option ℕ) (a : A
     few = a.few;
     caps_few =
         a.caps_few;
+  }
+
+  -- some bytes are cleared
+  pub slot_room : (c o n : ℕ) → 0 < n → o + n ≤ get_or sizes c 0 → c * stride + o + n ≤ length bytes
+  slot_room c o n some h = omega (arith, mul-le-mul_right stride (slot_there c (omega arith)), a.whole, a.fits c)
+
+  module _ (c o n : ℕ) (cleared : List ℕ) (inside : o + n ≤ get_or sizes c 0)
+      (zero_there : (i : ℕ) → c * stride + o ≤ i → i < c * stride + o + n → get_or cleared i 0 ≡ 0)
+      (others : (i : ℕ) → (i < c * stride + o) ⊎ (c * stride + o + n ≤ i) → get_or cleared i 0 ≡ get_or bytes i 0) where
+    outside : (k i : ℕ) → i < get_or sizes k 0 → (k ≡ c → o ≤ i → i < o + n → ⊥) → get_or cleared (k * stride + i) 0 ≡ get_or bytes (k * stride + i) 0
+    outside k i l out = elim (cases_order k c) [
+      | inl e ↦
+          let same : k * stride ≡ c * stride = ap (λ x. x * stride) e in
+          elim (cases_lt i o) [
+            | inl b ↦ others (k * stride + i) (inl (omega (arith, same)))
+            | inr b ↦ elim (cases_lt i (o + n)) [
+              | inl d ↦ absurd (out e b d)
+              | inr d ↦ others (k * stride + i) (inr (omega (arith, same)))
+            ]
+          ]
+      | inr (inl less) ↦ others (k * stride + i) (inl (omega (arith, mul-le-mul_right stride less, a.fits k)))
+      | inr (inr more) ↦ others (k * stride + i) (inr (omega (arith, mul-le-mul_right stride more, a.fits c)))
+    ]
+
+    pub clears : Writes (the_store bytes sizes stride left caps) (the_store cleared sizes stride left caps) c o n
+    clears = record {
+      elsewhere = λ k i out. cond_same (ltb i (get_or sizes k 0)) _ _ (λ e. outside k i (below i (get_or sizes k 0) e) out);
+      size = λ k. refl;
+      left = refl;
+      caps = refl;
+    }
+
+    pub is_clear : (i : ℕ) → o ≤ i → i < o + n → byte_at cleared sizes stride c i ≡ 0
+    is_clear i from to =
+        ap (λ b. cond b (get_or cleared (c * stride + i) 0) 0) (is_below i (get_or sizes c 0) (omega arith))
+        ∙ zero_there (c * stride + i) (omega arith) (omega arith)
+
+  pub has_cleared : (cleared : List ℕ) → length cleared ≡ length bytes → AreSlots cleared sizes stride left caps
+  has_cleared cleared long = record {
+    whole = long ∙ a.whole;
+    fits = a.fits;
+    pages = a.pages;
+    paid = a.paid;
+    room = a.room;
+    few = a.few;
+    caps_few = a.caps_few;
   }
 
   -- a chunk goes
@@ -130,6 +177,7 @@ module _ (bytes sizes : List ℕ) (stride left : ℕ) (caps : Option ℕ) (a : A
           ∙ cond_same (ltb i (get_or sizes j 0)) _ _ (λ e. apart j i ne (omega (arith, a.fits j, below i (get_or sizes j 0) e)));
       paid = omega arith;
       caps = e;
+      few = omega (arith, a.few, a.paid);
     }
 
     one_taken : (m : ℕ) (o p : Option ℕ) → o ≡ one_more p → caps_or_none o + m ≤ 81920 → m ≤ 16383 → caps_or_none p + suc m ≤ 81920

@@ -1,15 +1,28 @@
 //! A store of chunks in one plain list of bytes: for tests, and to compare other stores with.
+//!
+//! ```rust
+//! use gq_list_store::ListStore;
+//! use gq_store::ByteStore;
+//!
+//! let mut store = ListStore::new(rt.alloc(), 4, None)?;
+//! let chunk = store.grow(1)?;
+//! store.store4(chunk, 4092, 7);
+//! assert_eq!(rt; store.load4(chunk, 4092), 7);
+//! store.shrink(chunk);
+//! ```
 #![tactic(auto)]
 
-ghost use Rattle.std.specs.Prelude.{◌≡◌, ℕ, ◌+◌, ◌-◌, ◌*◌, ◌%◌, ◌<◌, ◌≤◌, ◌↔◌, ◌⊎◌, Option, Some, None, IfOk, OnErr, IsErrOf, MatchOption, IsTrue, length, slice_index};
+ghost use Rattle.std.specs.Prelude.{◌≡◌, ℕ, ◌+◌, ◌-◌, ◌*◌, ◌%◌, ◌<◌, ◌≤◌, ◌↔◌, ◌⊎◌, Option, Some, None, IfOk, OnErr, IsErrOf, MatchOption, IsTrue, length};
+ghost use Rattle.std.specs.Prelude.{slice_index};
 ghost use Rattle.gq_store.specs.Store.{one_more};
 ghost use Rattle.gq_list_store.specs.Slots.{AreSlots, caps_or_none};
 
 use gq_store::{ByteStore, ChunkNo, GrowFault};
+use gq_tariff::price;
 use std::alloc::{AllocError, Global};
 
-/// The bytes of a page.
-const PAGE: u32 = 4096;
+/// The bytes of a page, as a size of a chunk.
+const PAGE: u32 = price::PAGE as u32;
 
 /// Chunks in one list, up to a limit in bytes and in capabilities.
 ///
@@ -162,6 +175,11 @@ impl ByteStore for ListStore {
         self.store(chunk, offset + 1, (value / 256 % 256) as u8);
         self.store(chunk, offset + 2, (value / 65536 % 256) as u8);
         self.store(chunk, offset + 3, (value / 16777216) as u8);
+    }
+
+    fn clear(&mut self, chunk: ChunkNo, offset: u32, size: u32) {
+        let position = self.position(chunk, offset);
+        clear(&mut self.bytes, position, size as usize);
     }
 
     ghost rest_refl = { λ a. tt };

@@ -1,5 +1,6 @@
 -- The numbers of the frames, and the list of them.
-use Rattle.std.proofs.Common.{◌≡◌, ℕ, zero, suc, ◌+◌, ◌-◌, ◌<◌, ◌≤◌, inl, inr, List, [], ◌∷◌, ◌++◌, length, set, get_or, cond, Bool, true, false, not, ◌||◌, Option, Some, None, IsTrue, refl, sym, ap, subst, ◌∙◌, arith, length-set}
+use Rattle.std.proofs.Common.{◌≡◌, ℕ, zero, suc, ◌+◌, ◌-◌, ◌<◌, ◌≤◌, inl, inr, List, [], ◌∷◌, ◌++◌, length, set, get_or, cond, Bool, true, false, not, ◌||◌}
+use Rattle.std.proofs.Common.{Option, Some, None, IsTrue, refl, sym, ap, subst, ◌∙◌, arith, length-set}
 use Rattle.std.proofs.lemmas.Bool.{cases_lt, cases_eq}
 use Rattle.std.proofs.lemmas.Bool.Decides.{nat_tests}
 use Rattle.std.specs.List.{range_with_len}
@@ -8,7 +9,7 @@ use Rattle.std.proofs.lemmas.List.{get_or-set_same, get_or-set_other}
 use Rattle.std.proofs.lemmas.List.FromFn.{length-map-range_with_len, get_or-map-range_with_len, map-range_with_len_more, fill_by_all}
 use Rattle.gq_pages.specs.Bytes.{word_at}
 use Rattle.gq_pages.specs.Frames.{Frames, IsTaken, IsFree, bytes_of, count_free, has_bytes, its_bytes}
-use Rattle.gq_pages.specs.Layout.{chain, IsChain, is_listed, AreFrames, page, frame_at, frames_of}
+use Rattle.gq_pages.specs.internal.Layout.{chain, IsChain, is_listed, AreFrames, page, frame_at, frames_of}
 
 pub range_more : (a n : ℕ) → range_with_len a (n + 1) ≡ range_with_len a n ++ (a + n) ∷ []
 range_more a zero = grind arith
@@ -110,7 +111,8 @@ cell_says true bs h = cc
 cell_says false bs h = (refl, refl)
 
 -- what a taken frame is
-pub is_taken_says : (n : ℕ) (bs free : List ℕ) (k : ℕ) → IsTaken (frames_of n bs free) k → (k < n) × (is_listed free k ≡ false) × (bytes_of (frames_of n bs free) k ≡ page bs k)
+pub is_taken_says : (n : ℕ) (bs free : List ℕ) (k : ℕ) → IsTaken (frames_of n bs free) k → (k < n) × (is_listed free k ≡ false)
+    × (bytes_of (frames_of n bs free) k ≡ page bs k)
 unfolding frame_at
 is_taken_says n bs free k h = elim (cases_lt k n) [
   | inl lt ↦ let e : get_or (frames_of n bs free) k None ≡ frame_at bs free k = get_or-frames_of n bs free k lt in
@@ -139,9 +141,11 @@ unfolding frames_of frame_at
 count_free_below zero bs free = refl
 count_free_below (suc n) bs free =
     let m : suc n ≡ n + 1 = omega arith in
-    let e : frames_of (suc n) bs free ≡ frames_of n bs free ++ frame_at bs free n ∷ [] = ap (λ k. frames_of k bs free) m ∙ map-range_with_len_more (frame_at bs free) 0 n n (omega arith) in
+    let e : frames_of (suc n) bs free ≡ frames_of n bs free ++ frame_at bs free n ∷ [] = ap (λ k. frames_of k bs free) m
+    ∙ map-range_with_len_more (frame_at bs free) 0 n n (omega arith) in
     let f : one_if (not (has_bytes (frame_at bs free n))) ≡ one_if (is_listed free n) = cell_counts (is_listed free n) (page bs n) in
-    let g : count_free (frames_of n bs free ++ frame_at bs free n ∷ []) ≡ count_free (frames_of n bs free) + one_if (not (has_bytes (frame_at bs free n))) = count_free_push (frames_of n bs free) (frame_at bs free n) in
+    let g : count_free (frames_of n bs free ++ frame_at bs free n ∷ []) ≡ count_free (frames_of n bs free) + one_if (not (has_bytes (frame_at bs free n))) =
+    count_free_push (frames_of n bs free) (frame_at bs free n) in
     ap count_free e ∙ g ∙ omega (arith, count_free_below n bs free, f)
 
 pub count_free-frames_of : (n : ℕ) (bs free : List ℕ) → AreFrames n free → count_free (frames_of n bs free) ≡ length free
@@ -149,19 +153,23 @@ count_free-frames_of n bs free h = count_free_below n bs free ∙ listed_below_a
 
 -- ---- what the methods do to the list
 -- the bytes of a taken frame change
-pub frames_written : (n : ℕ) (bs bs' free : List ℕ) (k : ℕ) (xs : List ℕ) → k < n → is_listed free k ≡ false → page bs' k ≡ xs → ((j : ℕ) → (j ≡ k → ⊥) → page bs' j ≡ page bs j)
+pub frames_written : (n : ℕ) (bs bs' free : List ℕ) (k : ℕ) (xs : List ℕ) → k < n → is_listed free k ≡ false → page bs' k ≡ xs
+    → ((j : ℕ) → (j ≡ k → ⊥) → page bs' j ≡ page bs j)
     → frames_of n bs' free ≡ set (frames_of n bs free) k (Some xs)
 unfolding frame_at
 frames_written n bs bs' free k xs lt taken here there =
-    frames_of_set n bs free bs' free k (Some xs) lt (rw taken (ap Some here)) (λ j below other. ap (λ (ys : List ℕ). cond (is_listed free j) None (Some ys)) (there j other))
+    frames_of_set n bs free bs' free k (Some xs) lt (rw taken (ap Some here)) (λ j below other. ap (λ (ys : List ℕ). cond (is_listed free j) None (Some ys))
+    (there j other))
 
 -- the first of the free frames is taken
-pub frames_taken : (n : ℕ) (bs bs' free : List ℕ) (k : ℕ) (xs : List ℕ) → AreFrames n (k ∷ free) → page bs' k ≡ xs → ((j : ℕ) → (j ≡ k → ⊥) → page bs' j ≡ page bs j)
+pub frames_taken : (n : ℕ) (bs bs' free : List ℕ) (k : ℕ) (xs : List ℕ) → AreFrames n (k ∷ free) → page bs' k ≡ xs
+    → ((j : ℕ) → (j ≡ k → ⊥) → page bs' j ≡ page bs j)
     → frames_of n bs' free ≡ set (frames_of n bs (k ∷ free)) k (Some xs)
 unfolding frame_at
 frames_taken n bs bs' free k xs h here there =
     frames_of_set n bs (k ∷ free) bs' free k (Some xs) h.0 (rw h.1 (ap Some here))
-    (λ j below other. let e : is_listed (k ∷ free) j ≡ is_listed free j = grind (arith, nat_tests) in rw e (ap (λ (ys : List ℕ). cond (is_listed free j) None (Some ys)) (there j other)))
+    (λ j below other. let e : is_listed (k ∷ free) j ≡ is_listed free j = grind (arith, nat_tests) in
+    rw e (ap (λ (ys : List ℕ). cond (is_listed free j) None (Some ys)) (there j other)))
 
 pub first_was_free : (n : ℕ) (bs free : List ℕ) (k : ℕ) → k < n → IsFree (frames_of n bs (k ∷ free)) k
 unfolding frame_at
@@ -169,13 +177,52 @@ first_was_free n bs free k lt =
     let e : is_listed (k ∷ free) k ≡ true = grind (arith, nat_tests) in
     (omega (arith, length-frames_of n bs (k ∷ free)), get_or-frames_of n bs (k ∷ free) k lt ∙ rw e refl)
 
+-- the free frames with k among them
+listed_here : (xs ys : List ℕ) (k : ℕ) → is_listed (xs ++ k ∷ ys) k ≡ true
+listed_here [] ys k = grind (arith, nat_tests)
+listed_here (x ∷ xs) ys k = grind (arith, nat_tests, listed_here xs ys k)
+
+listed_other : (xs ys : List ℕ) (k j : ℕ) → (j ≡ k → ⊥) → is_listed (xs ++ k ∷ ys) j ≡ is_listed (xs ++ ys) j
+listed_other [] ys k j other = grind (arith, nat_tests)
+listed_other (x ∷ xs) ys k j other = grind (arith, nat_tests, listed_other xs ys k j other)
+
+pub frames_without : (n : ℕ) (xs ys : List ℕ) (k : ℕ) → AreFrames n (xs ++ k ∷ ys) → AreFrames n (xs ++ ys) × (k < n) × (is_listed (xs ++ ys) k ≡ false)
+frames_without n [] ys k h = (h.2, h.0, h.1)
+frames_without n (x ∷ xs) ys k h =
+    let ih : AreFrames n (xs ++ ys) × (k < n) × (is_listed (xs ++ ys) k ≡ false) = frames_without n xs ys k h.2 in
+    let other : x ≡ k → ⊥ = λ e. let t : is_listed (xs ++ k ∷ ys) x ≡ true = ap (is_listed (xs ++ k ∷ ys)) e ∙ listed_here xs ys k in
+    let f : true ≡ false = sym t ∙ h.1 in cc in
+    let b : is_listed (xs ++ ys) x ≡ false = sym (listed_other xs ys k x other) ∙ h.1 in
+    let c : is_listed (x ∷ (xs ++ ys)) k ≡ false = grind (arith, nat_tests) in
+    ((h.0, b, ih.0), ih.1, c)
+
+-- one of the free frames is taken
+pub frames_taken_within : (n : ℕ) (bs bs' xs ys : List ℕ) (k : ℕ) (zs : List ℕ) → AreFrames n (xs ++ k ∷ ys) → page bs' k ≡ zs
+    → ((j : ℕ) → (j ≡ k → ⊥) → page bs' j ≡ page bs j)
+    → frames_of n bs' (xs ++ ys) ≡ set (frames_of n bs (xs ++ k ∷ ys)) k (Some zs)
+unfolding frame_at
+frames_taken_within n bs bs' xs ys k zs h here there =
+    let w = frames_without n xs ys k h in
+    frames_of_set n bs (xs ++ k ∷ ys) bs' (xs ++ ys) k (Some zs) w.1 (rw w.2 (ap Some here))
+    (λ j below other. rw (listed_other xs ys k j other) (ap (λ (us : List ℕ). cond (is_listed (xs ++ ys) j) None (Some us)) (there j other)))
+
+pub was_free_within : (n : ℕ) (bs xs ys : List ℕ) (k : ℕ) → k < n → IsFree (frames_of n bs (xs ++ k ∷ ys)) k
+unfolding frame_at
+was_free_within n bs xs ys k lt = (
+  omega (arith, length-frames_of n bs (xs ++ k ∷ ys)),
+  get_or-frames_of n bs (xs ++ k ∷ ys) k lt
+      ∙ rw (listed_here xs ys k) refl,
+)
+
 -- a frame is given back, and its bytes may change
-pub frames_given : (n : ℕ) (bs bs' free : List ℕ) (k : ℕ) → k < n → ((j : ℕ) → (j ≡ k → ⊥) → page bs' j ≡ page bs j) → frames_of n bs' (k ∷ free) ≡ set (frames_of n bs free) k None
+pub frames_given : (n : ℕ) (bs bs' free : List ℕ) (k : ℕ) → k < n → ((j : ℕ) → (j ≡ k → ⊥) → page bs' j ≡ page bs j)
+    → frames_of n bs' (k ∷ free) ≡ set (frames_of n bs free) k None
 unfolding frame_at
 frames_given n bs bs' free k lt there =
     let e : is_listed (k ∷ free) k ≡ true = grind (arith, nat_tests) in
     frames_of_set n bs free bs' (k ∷ free) k None lt (rw e refl)
-    (λ j below other. let f : is_listed (k ∷ free) j ≡ is_listed free j = grind (arith, nat_tests) in rw f (ap (λ (ys : List ℕ). cond (is_listed free j) None (Some ys)) (there j other)))
+    (λ j below other. let f : is_listed (k ∷ free) j ≡ is_listed free j = grind (arith, nat_tests) in
+    rw f (ap (λ (ys : List ℕ). cond (is_listed free j) None (Some ys)) (there j other)))
 
 -- ---- the chain
 -- it reads the frames that are listed in it, and no other
@@ -193,7 +240,8 @@ chain_same (suc m) bs bs' link same =
 -- a change of a frame that is not listed
 pub chain_kept : (m : ℕ) (bs bs' : List ℕ) (link k : ℕ) → is_listed (chain m bs link) k ≡ false → ((j : ℕ) → (j ≡ k → ⊥) → page bs' j ≡ page bs j)
     → (chain m bs' link ≡ chain m bs link) × (IsChain m bs link → IsChain m bs' link)
-chain_kept m bs bs' link k out there = chain_same m bs bs' link (λ j h. there j (λ (e : j ≡ k). let x : is_listed (chain m bs link) k ≡ true = ap (is_listed (chain m bs link)) (sym e) ∙ h in let y : true ≡ false = sym x ∙ out in cc))
+chain_kept m bs bs' link k out there = chain_same m bs bs' link (λ j h. there j (λ (e : j ≡ k). let x : is_listed (chain m bs link) k ≡ true =
+    ap (is_listed (chain m bs link)) (sym e) ∙ h in let y : true ≡ false = sym x ∙ out in cc))
 
 pub length-chain : (m : ℕ) (bs : List ℕ) (link : ℕ) → length (chain m bs link) ≡ m
 length-chain zero bs link = refl
@@ -208,7 +256,8 @@ none_free zero bs link h e = refl
 none_free (suc m) bs link h e = absurd (omega (arith, h.0))
 
 -- a frame that is not listed is linked before the others
-pub links_one : (m : ℕ) (bs bs' : List ℕ) (link k : ℕ) → is_listed (chain m bs link) k ≡ false → word_at (page bs' k) 0 ≡ link → ((j : ℕ) → (j ≡ k → ⊥) → page bs' j ≡ page bs j)
+pub links_one : (m : ℕ) (bs bs' : List ℕ) (link k : ℕ) → is_listed (chain m bs link) k ≡ false → word_at (page bs' k) 0 ≡ link
+    → ((j : ℕ) → (j ≡ k → ⊥) → page bs' j ≡ page bs j)
     → (chain (suc m) bs' (k + 1) ≡ k ∷ chain m bs link) × (IsChain m bs link → IsChain (suc m) bs' (k + 1))
 links_one m bs bs' link k out here there =
     let kept : (chain m bs' link ≡ chain m bs link) × (IsChain m bs link → IsChain m bs' link) = chain_kept m bs bs' link k out there in

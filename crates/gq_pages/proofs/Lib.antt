@@ -6,4 +6,4 @@ mod Pairs
 mod Parts
 mod Values
 mod Walks
-mod Zeros
+pub mod Zeros

@@ -1,13 +1,16 @@
 -- What a frame that is given, or taken, does to the chain and to the list of the free frames.
-use Rattle.std.proofs.Common.{◌≡◌, ℕ, suc, ◌+◌, ◌-◌, ◌*◌, ◌<◌, ◌≤◌, List, ◌∷◌, ◌++◌, length, set, false, Some, None, refl, sym, ap, subst, ◌∙◌, arith, length-append}
+use Rattle.std.proofs.Common.{◌≡◌, ℕ, suc, ◌+◌, ◌-◌, ◌*◌, ◌<◌, ◌≤◌, List, ◌∷◌, ◌++◌, length, set, false, Some, None, sym, ap, subst, ◌∙◌, arith}
+use Rattle.std.proofs.Common.{length-append}
 use Rattle.std.specs.List.{range_with_len}
 use Rattle.std.specs.Int.{w32, to_le_bytes}
 use Rattle.gq_pages.specs.Bytes.{word_at, with_bytes, zeroed, zeros}
 use Rattle.gq_pages.specs.Frames.{IsFree, count_free, zero_frame}
-use Rattle.gq_pages.specs.Layout.{free_list, chain, IsChain, is_listed, AreFrames, page, frames_of}
-use Rattle.gq_pages.proofs.Frames.{first_small, links_one, frames_given, frames_taken, first_was_free, chain_kept, some_free, none_free}
+use Rattle.gq_pages.specs.internal.Layout.{free_list, chain, IsChain, is_listed, AreFrames, page, frames_of}
+use Rattle.gq_pages.proofs.Frames.{first_small, links_one, frames_given, frames_taken, frames_without, frames_taken_within, first_was_free, was_free_within}
+use Rattle.gq_pages.proofs.Frames.{chain_kept, some_free}
 use Rattle.gq_pages.proofs.Free.{beside, was_touched, count_free-free_list, front_frames}
-use Rattle.gq_pages.proofs.Parts.{word_written, word_at-page, length-page, length-with_bytes, page-with_bytes_same, page-with_bytes_other, page-zeroed_same, page-zeroed_other, page-appended_same, page-appended_other}
+use Rattle.gq_pages.proofs.Parts.{word_written, word_at-page, length-page, length-with_bytes, page-with_bytes_same, page-with_bytes_other, page-zeroed_same}
+use Rattle.gq_pages.proofs.Parts.{page-zeroed_other, page-appended_same, page-appended_other}
 use Rattle.gq_pages.proofs.Zeros.{length-zeroed, length-zeros}
 
 -- n frames, of which t were touched, with the bytes bs; in the frame k the link to the first free one is written
@@ -18,14 +21,18 @@ pub record Given (n t m : ℕ) (bs : List ℕ) (link k : ℕ) (after : List ℕ)
   pub view : frames_of n after (free_list n t (suc m) after (k + 1)) ≡ set (frames_of n bs (free_list n t m bs link)) k None
   pub count : count_free (frames_of n after (free_list n t (suc m) after (k + 1))) ≡ m + (n - t) + 1
 
-pub gives : (n t m : ℕ) (bs : List ℕ) (link k : ℕ) → n ≤ 16384 → length bs ≡ t * 4096 → IsChain m bs link → AreFrames n (free_list n t m bs link) → k < n → k < t → is_listed (free_list n t m bs link) k ≡ false
+pub gives : (n t m : ℕ) (bs : List ℕ) (link k : ℕ) → n ≤ 16384 → length bs ≡ t * 4096 → IsChain m bs link → AreFrames n (free_list n t m bs link) → k < n
+    → k < t → is_listed (free_list n t m bs link) k ≡ false
     → Given n t m bs link k (with_bytes bs (k * 4096) (to_le_bytes w32 link))
 gives n t m bs link k few size links all lt touched out =
-    let fresh = range_with_len t (n - t) in let ws : List ℕ = to_le_bytes w32 link in let o : (is_listed (chain m bs link) k ≡ false) × (is_listed fresh k ≡ false) = beside (chain m bs link) fresh k out in
+    let fresh = range_with_len t (n - t) in let ws : List ℕ = to_le_bytes w32 link in let o : (is_listed (chain m bs link) k ≡ false)
+    × (is_listed fresh k ≡ false) = beside (chain m bs link) fresh k out in
     let small : link ≤ n = first_small n m bs link links (front_frames n (chain m bs link) fresh all) in
-    let there : (j : ℕ) → (j ≡ k → ⊥) → page (with_bytes bs (k * 4096 + 0) ws) j ≡ page bs j = λ j other. page-with_bytes_other bs k 0 ws j (omega arith) other in
+    let there : (j : ℕ) → (j ≡ k → ⊥) → page (with_bytes bs (k * 4096 + 0) ws) j ≡ page bs j =
+    λ j other. page-with_bytes_other bs k 0 ws j (omega arith) other in
     let long : 4 ≤ length (page bs k) = omega (arith, length-page bs k) in
-    let here : word_at (page (with_bytes bs (k * 4096 + 0) ws) k) 0 ≡ link = ap (λ (xs : List ℕ). word_at xs 0) (page-with_bytes_same bs k 0 ws (omega arith)) ∙ word_written (page bs k) link long (omega arith) in
+    let here : word_at (page (with_bytes bs (k * 4096 + 0) ws) k) 0 ≡ link = ap (λ (xs : List ℕ). word_at xs 0) (page-with_bytes_same bs k 0 ws (omega arith))
+    ∙ word_written (page bs k) link long (omega arith) in
     let linked = links_one m bs (with_bytes bs (k * 4096 + 0) ws) link k o.0 here there in
     let same : free_list n t (suc m) (with_bytes bs (k * 4096 + 0) ws) (k + 1) ≡ k ∷ free_list n t m bs link = ap (λ (xs : List ℕ). xs ++ fresh) linked.0 in
     let free : AreFrames n (free_list n t (suc m) (with_bytes bs (k * 4096 + 0) ws) (k + 1)) = subst (AreFrames n) (sym same) (lt, out, all) in
@@ -76,31 +83,33 @@ pub takes_chained : (n t m : ℕ) (bs : List ℕ) (link : ℕ) → length bs ≡
     → (0 < m) × (link - 1 < t) × Taken n bs (free_list n t m bs link) t (m - 1) (zeroed bs ((link - 1) * 4096) 4096) (word_at bs ((link - 1) * 4096)) (link - 1)
 takes_chained n t m bs link size links all pos =
     let some : 0 < m = some_free m bs link links pos in let e : m ≡ suc (m - 1) = omega arith in
-    let first = first_of n t (m - 1) bs link size (subst (λ (j : ℕ). IsChain j bs link) e links) (subst (λ (j : ℕ). AreFrames n (free_list n t j bs link)) e all) in
-    (some, first.0, subst (λ (j : ℕ). Taken n bs (free_list n t j bs link) t (m - 1) (zeroed bs ((link - 1) * 4096) 4096) (word_at bs ((link - 1) * 4096)) (link - 1)) (sym e) first.1)
+    let first = first_of n t (m - 1) bs link size (subst (λ (j : ℕ). IsChain j bs link) e links)
+    (subst (λ (j : ℕ). AreFrames n (free_list n t j bs link)) e all) in (
+      some,
+      first.0,
+      subst (λ (j : ℕ). Taken n bs (free_list n t j bs link) t (m - 1) (zeroed bs ((link - 1) * 4096) 4096) (word_at bs ((link - 1) * 4096))
+          (link - 1)) (sym e) first.1,
+    )
 
 -- it was never handed out
-first_fresh : (n t : ℕ) (bs : List ℕ) → length bs ≡ t * 4096 → t < n → AreFrames n (free_list n t 0 bs 0)
-    → Taken n bs (free_list n t 0 bs 0) (t + 1) 0 (bs ++ zeros 4096) 0 t
-first_fresh n t bs size lt all =
-    let r : ℕ = n - (t + 1) in let e : n - t ≡ suc r = omega arith in let rest : List ℕ = range_with_len (t + 1) r in
-    let all' : AreFrames n (t ∷ rest) = subst (λ (m : ℕ). AreFrames n (range_with_len t m)) e all in
-    let here : page (bs ++ zeros 4096) t ≡ zero_frame = page-appended_same bs t size in
-    let there : (j : ℕ) → (j ≡ t → ⊥) → page (bs ++ zeros 4096) j ≡ page bs j = λ j other. page-appended_other bs t j size other in
-    let old : free_list n t 0 bs 0 ≡ t ∷ rest = ap (range_with_len t) e in
+pub takes_fresh : (n t m : ℕ) (bs : List ℕ) (link : ℕ) → length bs ≡ t * 4096 → t < n → IsChain m bs link → AreFrames n (free_list n t m bs link)
+    → Taken n bs (free_list n t m bs link) (t + 1) m (bs ++ zeros 4096) link t
+takes_fresh n t m bs link size lt links all =
+    let r : ℕ = n - (t + 1) in let e : n - t ≡ suc r = omega arith in let rest : List ℕ = range_with_len (t + 1) r in let cs : List ℕ = chain m bs link in
+    let bs' : List ℕ = bs ++ zeros 4096 in let old : free_list n t m bs link ≡ cs ++ t ∷ rest = ap (λ (j : ℕ). cs ++ range_with_len t j) e in
+    let all' : AreFrames n (cs ++ t ∷ rest) = subst (AreFrames n) old all in
+    let w : AreFrames n (cs ++ rest) × (t < n) × (is_listed (cs ++ rest) t ≡ false) = frames_without n cs rest t all' in
+    let here : page bs' t ≡ zero_frame = page-appended_same bs t size in
+    let there : (j : ℕ) → (j ≡ t → ⊥) → page bs' j ≡ page bs j = λ j other. page-appended_other bs t j size other in
+    let kept : (chain m bs' link ≡ cs) × (IsChain m bs link → IsChain m bs' link) = chain_kept m bs bs' link t (beside cs rest t w.2).0 there in
+    let same : free_list n (t + 1) m bs' link ≡ cs ++ rest = ap (λ (xs : List ℕ). xs ++ rest) kept.0 in
+    let free : AreFrames n (free_list n (t + 1) m bs' link) = subst (AreFrames n) (sym same) w.0 in
     record {
       size = length-append bs (zeros 4096) ∙ ap (λ (m : ℕ). length bs + m) (length-zeros 4096) ∙ omega arith;
-      links = refl;
-      free = all'.2;
-      was_free = subst (λ (free : List ℕ). IsFree (frames_of n bs free) t) (sym old) (first_was_free n bs rest t lt);
-      view = subst (λ (free : List ℕ). frames_of n (bs ++ zeros 4096) rest ≡ set (frames_of n bs free) t (Some zero_frame)) (sym old) (frames_taken n bs (bs ++ zeros 4096) rest t zero_frame all' here there);
-      count = count_free-free_list n (t + 1) 0 (bs ++ zeros 4096) 0 all'.2;
+      links = kept.1 links;
+      free = free;
+      was_free = subst (λ (free : List ℕ). IsFree (frames_of n bs free) t) (sym old) (was_free_within n bs cs rest t lt);
+      view = ap (frames_of n bs') same ∙ subst (λ (free : List ℕ). frames_of n bs' (cs ++ rest) ≡ set (frames_of n bs free) t (Some zero_frame)) (sym old)
+          (frames_taken_within n bs bs' cs rest t zero_frame all' here there);
+      count = count_free-free_list n (t + 1) m bs' link free;
     }
-
-pub takes_fresh : (n t m : ℕ) (bs : List ℕ) (link : ℕ) → length bs ≡ t * 4096 → t < n → IsChain m bs link → link ≡ 0 → AreFrames n (free_list n t m bs link)
-    → Taken n bs (free_list n t m bs link) (t + 1) m (bs ++ zeros 4096) link t
-takes_fresh n t m bs link size lt links e all =
-    let z : m ≡ 0 = none_free m bs link links e in
-    let all' : AreFrames n (free_list n t 0 bs 0) = subst (λ (l : ℕ). AreFrames n (free_list n t 0 bs l)) e (subst (λ (j : ℕ). AreFrames n (free_list n t j bs link)) z all) in
-    subst (λ (j : ℕ). Taken n bs (free_list n t j bs link) (t + 1) j (bs ++ zeros 4096) link t) (sym z)
-    (subst (λ (l : ℕ). Taken n bs (free_list n t 0 bs l) (t + 1) 0 (bs ++ zeros 4096) l t) (sym e) (first_fresh n t bs size lt all'))

@@ -1,5 +1,6 @@
 -- Bytes set to 0, one after another.
-use Rattle.std.proofs.Common.{◌≡◌, ℕ, zero, suc, ◌+◌, ◌<◌, ◌≤◌, ◌⊎◌, List, [], ◌∷◌, ◌++◌, ◌-◌, length, take, drop, set, get_or, replicate, refl, sym, ap, ◌∙◌, arith, length-take, length-drop, append-nil, append_assoc}
+use Rattle.std.proofs.Common.{◌≡◌, ℕ, zero, suc, ◌+◌, ◌<◌, ◌≤◌, ◌⊎◌, List, [], ◌∷◌, ◌++◌, ◌-◌, length, take, drop, set, get_or, replicate, refl, sym, ap, ◌∙◌}
+use Rattle.std.proofs.Common.{arith, length-take, length-drop, append-nil, append_assoc}
 use Rattle.std.proofs.lemmas.Grind.{common_steps, replicate_next, same_number_lists}
 use Rattle.std.proofs.lemmas.List.{length-replicate, get_or-replicate, get_or-take, get_or-drop, get_or-set_other}
 use Rattle.std.proofs.lemmas.List.Edits.{paste_none, length-paste, fill_from_more}
@@ -52,18 +53,33 @@ pub ruleset zeroed_steps = (zeroed_none, zeroed_more, length-zeroed)
 
 pub take-zeroed : (xs : List ℕ) (start n : ℕ) → start + n ≤ length xs → take n (drop start (zeroed xs start n)) ≡ zeros n
 take-zeroed xs start n h =
-    let long : length (take n (drop start (zeroed xs start n))) ≡ n = omega (arith, length-take n (drop start (zeroed xs start n)), length-drop start (zeroed xs start n), length-zeroed xs start n h) in
+    let long : length (take n (drop start (zeroed xs start n))) ≡ n = omega (
+      arith,
+      length-take n (drop start (zeroed xs start n)),
+      length-drop start (zeroed xs start n),
+      length-zeroed xs start n h,
+    ) in
     same_number_lists (take n (drop start (zeroed xs start n))) (zeros n) (long ∙ sym (length-zeros n))
     (λ i lt. let below : i < n = omega arith in
-    get_or-take n (drop start (zeroed xs start n)) i 0 below ∙ get_or-drop start (zeroed xs start n) i 0 ∙ get_or-zeroed_in xs start n (start + i) (omega arith) (omega arith) h ∙ sym (get_or-zeros n i below))
+    get_or-take n (drop start (zeroed xs start n)) i 0 below ∙ get_or-drop start (zeroed xs start n) i 0
+    ∙ get_or-zeroed_in xs start n (start + i) (omega arith) (omega arith) h ∙ sym (get_or-zeros n i below))
 
-pub take-zeroed_other : (xs : List ℕ) (start n a m : ℕ) → (a + m ≤ start) ⊎ (start + n ≤ a) → start + n ≤ length xs → take m (drop a (zeroed xs start n)) ≡ take m (drop a xs)
+pub take-zeroed_other : (xs : List ℕ) (start n a m : ℕ) → (a + m ≤ start) ⊎ (start + n ≤ a) → start + n ≤ length xs
+    → take m (drop a (zeroed xs start n)) ≡ take m (drop a xs)
 take-zeroed_other xs start n a m apart h =
     let zs = zeroed xs start n in
-    let long : length (take m (drop a zs)) ≡ length (take m (drop a xs)) = omega (arith, length-take m (drop a zs), length-drop a zs, length-take m (drop a xs), length-drop a xs, length-zeroed xs start n h) in
+    let long : length (take m (drop a zs)) ≡ length (take m (drop a xs)) = omega (
+      arith,
+      length-take m (drop a zs),
+      length-drop a zs,
+      length-take m (drop a xs),
+      length-drop a xs,
+      length-zeroed xs start n h,
+    ) in
     same_number_lists (take m (drop a zs)) (take m (drop a xs)) long
     (λ i lt. let below : i < m = omega (arith, length-take m (drop a zs)) in let beside : (a + i < start) ⊎ (start + n ≤ a + i) = grind arith in
-    get_or-take m (drop a zs) i 0 below ∙ get_or-drop a zs i 0 ∙ get_or-zeroed_out xs start n (a + i) beside h ∙ sym (get_or-drop a xs i 0) ∙ sym (get_or-take m (drop a xs) i 0 below))
+    get_or-take m (drop a zs) i 0 below ∙ get_or-drop a zs i 0 ∙ get_or-zeroed_out xs start n (a + i) beside h ∙ sym (get_or-drop a xs i 0)
+    ∙ sym (get_or-take m (drop a xs) i 0 below))
 
 -- more zeros behind what there was
 pub behind_none : (xs : List ℕ) (n : ℕ) → n ≡ 0 → xs ≡ xs ++ zeros n
@@ -72,4 +88,5 @@ behind_none xs n e = rw (e, zeros_none) (sym (append-nil xs))
 pub behind_more : (xs ys : List ℕ) (a k : ℕ) → a ≤ k → ys ≡ xs ++ zeros (k - a) → ys ++ 0 ∷ [] ≡ xs ++ zeros (k + 1 - a)
 behind_more xs ys a k h e =
     let m : k + 1 - a ≡ k - a + 1 = omega arith in
-    ap (λ (zs : List ℕ). zs ++ 0 ∷ []) e ∙ append_assoc xs (zeros (k - a)) (0 ∷ []) ∙ ap (λ (zs : List ℕ). xs ++ zs) (sym (zeros_more (k - a))) ∙ ap (λ (n : ℕ). xs ++ zeros n) (sym m)
+    ap (λ (zs : List ℕ). zs ++ 0 ∷ []) e ∙ append_assoc xs (zeros (k - a)) (0 ∷ []) ∙ ap (λ (zs : List ℕ). xs ++ zs) (sym (zeros_more (k - a)))
+    ∙ ap (λ (n : ℕ). xs ++ zeros n) (sym m)

@@ -1,7 +1,8 @@
 // The raw memory. Only the functions of this file follow a raw pointer.
-ghost use Rattle.std.specs.Prelude.{◌≡◌, ℕ, ◌+◌, ◌-◌, ◌^◌, ◌<◌, List, [], ◌∷◌, ◌++◌, length, slice_index, slice_set, IfSome};
+ghost use Rattle.std.specs.Prelude.{◌≡◌, ℕ, ◌+◌, ◌-◌, ◌^◌, ◌<◌, ◌≤◌, List, [], ◌∷◌, ◌++◌, length, slice_index, slice_set, IfSome};
 ghost use denote.RawPtr.{Ptr};
-ghost use Rattle.gq_pages.specs.Ownership.{cells_own, cells_lent, bytes_type};
+ghost use Rattle.gq_pages.specs.Bytes.{zeroed};
+ghost use Rattle.gq_pages.specs.internal.Ownership.{cells_own, cells_lent, bytes_type};
 
 use std::alloc::Allocator;
 use std::marker::{Model, PhantomData};
@@ -34,7 +35,8 @@ impl<A: Allocator> Model for Lease<A> {
 // A block of `size` bytes of host memory, all of it room, and the right to give it back. None where the host refuses it.
 pub(crate) fn allocate<A: Allocator>(alloc: &A, size: usize) -> Option<(*mut u8, (Cells, Lease<A>))>
     requires { size < 2 ^ 63 }
-    ensures { IfSome result (λ m. (m.1.0.at ≡ m.0) × (m.1.0.bytes ≡ []) × (m.1.0.room ≡ size) × (m.1.1.alloc ≡ alloc.now) × (m.1.1.at ≡ m.0) × (m.1.1.size ≡ size)) }
+    ensures { IfSome result (λ m. (m.1.0.at ≡ m.0) × (m.1.0.bytes ≡ []) × (m.1.0.room ≡ size) × (m.1.1.alloc ≡ alloc.now) × (m.1.1.at ≡ m.0)
+        × (m.1.1.size ≡ size)) }
 {
     match alloc.allocate(size, 1) {
         Ok(at) => {
@@ -47,7 +49,8 @@ pub(crate) fn allocate<A: Allocator>(alloc: &A, size: usize) -> Option<(*mut u8,
 
 // Gives the block back, whatever bytes it has.
 pub(crate) fn free<A: Allocator>(alloc: &A, at: *mut u8, size: usize, cells: Cells, lease: Lease<A>)
-    requires { (cells.at ≡ at) × (length cells.bytes + cells.room ≡ size) × (lease.alloc ≡ alloc.now) × (lease.at ≡ at) × (lease.size ≡ size) × (size < 2 ^ 63) }
+    requires { (cells.at ≡ at) × (length cells.bytes + cells.room ≡ size) × (lease.alloc ≡ alloc.now) × (lease.at ≡ at) × (lease.size ≡ size)
+        × (size < 2 ^ 63) }
 {
     let Cells {} = cells;
     let Lease { marker: _ } = lease;
@@ -77,5 +80,17 @@ impl Cells {
         ensures { (self.new.at ≡ at) × (self.new.bytes ≡ slice_set self.old.bytes index byte) × (self.new.room ≡ self.old.room) }
     {
         unsafe { *at.add(index) = byte };
+    }
+
+    // The `count` bytes from `start` on become 0. The pointer is no field here, so that the compiler makes one call of the loop.
+    #[tactic(auto, using(crate::proofs::Zeros::zeroed_steps))]
+    pub(crate) fn zero(&mut self, at: *mut u8, start: usize, count: usize)
+        requires { (self.old.at ≡ at) × (start + count ≤ length self.old.bytes) × (start + count < 2 ^ 64) }
+        ensures { (self.new.at ≡ at) × (self.new.bytes ≡ zeroed self.old.bytes start count) × (self.new.room ≡ self.old.room) }
+    {
+        let end = start + count;
+        for k in start..end {
+            self.set_byte(at, k, 0);
+        }
     }
 }

@@ -2,16 +2,17 @@
 // those that were never handed out are counted, so that making the frames touches none of them.
 ghost use Rattle.std.specs.Prelude.{◌≡◌, ◌+◌, ◌<◌, ◌≤◌, length, Some, None, slice_index, slice_set, IfOk, OnOk, OnErr, IsOk};
 ghost use Rattle.std.specs.Int.{w32, to_le_bytes};
-ghost use Rattle.gq_pages.specs.Bytes.{word_at, with_bytes};
+ghost use Rattle.gq_pages.specs.Bytes.{word_at, with_bytes, zeroed};
 ghost use Rattle.gq_pages.specs.Frames.{all_free, zero_frame, IsFree, IsTaken, bytes_of, count_free};
 
 use crate::region::Region;
+use gq_tariff::price::PAGE;
 use std::alloc::{AllocError, Global};
 use std::marker::Model;
 use thiserror::Error;
 
-// The bytes of a frame.
-const FRAME_SIZE: usize = 4096;
+// The bytes of a frame, which is a page, as an index.
+const FRAME_SIZE: usize = PAGE as usize;
 
 /// The number of a frame, from 0 on.
 #[derive(Clone, Copy, Debug, PartialEq, Eq)]
@@ -41,7 +42,7 @@ impl Model for Pages {
 
     ghost Value = { List (Option (List ℕ)) };
 
-    ghost use Rattle.gq_pages.specs.Pages.{pages_view, IsPages};
+    ghost use Rattle.gq_pages.specs.internal.Pages.{pages_view, IsPages};
 
     ghost view = { pages_view };
 
@@ -109,6 +110,32 @@ impl Pages {
         Ok(FrameNo(number))
     }
 
+    /// How many frames were never handed out. They follow one another, and `take_new` takes the first of them.
+    pub fn new_count(&self) -> u32
+        ensures { result ≤ count_free self.now }
+    {
+        let all = self.frames;
+        all - self.touched
+    }
+
+    /// Takes a frame as `take` does, but one that was never handed out where there is one: frames that are taken so follow one another.
+    pub fn take_new(&mut self) -> Result<FrameNo, NoFrame>
+        ensures was_free { IfOk result (λ frame. IsFree self.old frame.0) }
+        ensures cleared { IfOk result (λ frame. self.new ≡ slice_set self.old frame.0 (Some zero_frame)) }
+        ensures one_fewer { OnOk result (count_free self.old ≡ count_free self.new + 1) }
+        ensures succeeds { 0 < count_free self.old → IsOk result }
+        ensures none_free { OnErr result (count_free self.old ≡ 0) }
+        ensures unchanged { OnErr result (self.new ≡ self.old) }
+    {
+        if self.touched < self.frames {
+            let number = self.touched;
+            self.region.extend(number as usize * FRAME_SIZE, FRAME_SIZE);
+            self.touched = number + 1;
+            return Ok(FrameNo(number));
+        }
+        self.take()
+    }
+
     /// Frees a frame that is taken.
     pub fn give(&mut self, frame: FrameNo)
         requires { IsTaken self.old frame.0 }
@@ -166,5 +193,17 @@ impl Pages {
         ensures as_many { count_free self.new ≡ count_free self.old }
     {
         self.region.zero(frame.0 as usize * FRAME_SIZE, FRAME_SIZE);
+    }
+
+    /// Clears `size` bytes of a taken frame, from `offset` on: each becomes 0.
+    pub fn clear(&mut self, frame: FrameNo, offset: u32, size: u32)
+        requires { IsTaken self.old frame.0 × (offset + size ≤ 4096) }
+        ensures cleared { self.new ≡ slice_set self.old frame.0 (Some (zeroed (bytes_of self.old frame.0) offset size)) }
+        ensures as_many { count_free self.new ≡ count_free self.old }
+    {
+        self.region.zero(
+            frame.0 as usize * FRAME_SIZE + offset as usize,
+            size as usize,
+        );
     }
 }

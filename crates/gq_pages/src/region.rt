@@ -17,11 +17,11 @@ pub(crate) struct Region {
 }
 
 impl Model for Region {
-    ghost use Rattle.gq_pages.specs.Bytes.{Contents};
+    ghost use Rattle.gq_pages.specs.internal.Region.{Contents};
 
     ghost Value = { Contents };
 
-    ghost use Rattle.gq_pages.specs.Region.{contents, IsRegion};
+    ghost use Rattle.gq_pages.specs.internal.Region.{contents, IsRegion};
 
     ghost view = { contents };
 
@@ -102,31 +102,28 @@ impl Region {
         ])
     }
 
-    // Writes the four bytes from `index` on, the lowest first; one store, as in `word`.
+    // Writes the four bytes from `index` on, the lowest first; one store, as in `word`. The pointer is read once: a byte that is written could be one of
+    // its own, as far as the compiler sees, which made four stores.
     pub(crate) fn set_word(&mut self, index: usize, word: u32)
         requires { index + 4 ≤ length self.old.bytes }
         ensures bytes { self.new.bytes ≡ with_bytes self.old.bytes index (to_le_bytes w32 word) }
         ensures size { self.new.size ≡ self.old.size }
     {
         let _size = self.size;
+        let at = self.at;
         let [a, b, c, d] = word.to_le_bytes();
-        self.set_byte(index, a);
-        self.set_byte(index + 1, b);
-        self.set_byte(index + 2, c);
-        self.set_byte(index + 3, d);
+        self.cells.set_byte(at, index, a);
+        self.cells.set_byte(at, index + 1, b);
+        self.cells.set_byte(at, index + 2, c);
+        self.cells.set_byte(at, index + 3, d);
     }
 
     // The `count` bytes from `start` on become 0.
-    #[tactic(auto, using(crate::proofs::Zeros::zeroed_steps))]
     pub(crate) fn zero(&mut self, start: usize, count: usize)
         requires { start + count ≤ length self.old.bytes }
         ensures bytes { self.new.bytes ≡ zeroed self.old.bytes start count }
         ensures size { self.new.size ≡ self.old.size }
     {
-        let _size = self.size;
-        let end = start + count;
-        for k in start..end {
-            self.set_byte(k, 0);
-        }
+        self.cells.zero(self.at, start, count);
     }
 }

@@ -4,7 +4,7 @@ use Rattle.std.proofs.lemmas.Bool.{cases_eq}
 use Rattle.gq_store.specs.Store.{Store, word, one_more, Shrinks, SameChunk}
 use Rattle.gq_heap.specs.declared.heap.Heap.{Heap}
 use Rattle.gq_heap.specs.declared.heap.Place.{Place}
-use Rattle.gq_heap.specs.Heap.{Owns, SameBytes, peaks, charge, charge_caps, KeepsStill, Keeps as KeepsHeap}
+use Rattle.gq_heap.specs.Heap.{Owns, SameBytes, peaks, charge, charge_caps, KeepsStill, KeepsWithin as KeepsPlaces}
 use Rattle.gq_heap.proofs.Callers.{heap_stays}
 use Rattle.gq_pool.specs.declared.pool.Pool.{Pool}
 use Rattle.gq_pool.specs.Pools.{places_of, IsAbsent, Keeps, IsPool, OwnsBoth, KeepsWithin, Gives, Ends}
@@ -109,8 +109,9 @@ module _ (pool : Pool) (before after : Heap) (old mid new : Store) (n : ℕ) (al
         (subst (Owns after mid (places_of pool.class (cleared n held) ++ others) kept.keeps.blocks) e own) in
         record { size = s.sizes x ne; bytes = λ j. s.bytes x j ne })
 
-    end_keeps : KeepsHeap after new others
-    end_keeps = subst (λ ps. KeepsHeap after new (ps ++ others)) (places_cleared pool.class n held (all ∙ sym k.table.count)) still.keeps
+    still_others : KeepsStill after mid new others (Owns after mid (places_of pool.class (cleared n held) ++ others) kept.keeps.blocks)
+    still_others = subst (λ ps. KeepsStill after mid new (ps ++ others) (Owns after mid (places_of pool.class (cleared n held) ++ others) kept.keeps.blocks))
+        (places_cleared pool.class n held (all ∙ sym k.table.count)) still
 
     end_bytes : SameBytes old new others
     end_bytes p rest ins i below =
@@ -123,11 +124,13 @@ module _ (pool : Pool) (before after : Heap) (old mid new : Store) (n : ℕ) (al
         let first = kept.spares x there other in
         record { size = s.sizes x ne ∙ first.size; bytes = λ j. s.bytes x j ne ∙ first.bytes j }
 
+    end_keeps : KeepsPlaces after old new others (OwnsBoth pool before old held others k)
+    end_keeps = record { keeps = still_others.keeps; owns = λ x o. kept.owns x (inr (still_others.owns x o)); spares = end_spares }
+
   pub ends : IsPool pool before old → Ends pool before after old new
   ends p = record {
     keeps = end_keeps;
     bytes = end_bytes;
-    spares = end_spares;
     gone = s.gone;
     left = omega (arith, s.back, c.left, (c.keeps p.held p.others p.keeps).keeps.table.pages);
     caps = s.caps ∙ ap one_more c.caps;

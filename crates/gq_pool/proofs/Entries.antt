@@ -1,24 +1,27 @@
 -- What the calls of a pool change.
-use Rattle.std.proofs.Common.{◌≡◌, ℕ, zero, suc, ◌+◌, ◌-◌, ◌*◌, ◌/◌, ◌%◌, ◌<◌, ◌≤◌, inl, inr, List, [], ◌∷◌, ◌++◌, length, get_or, set, Option, Some, None, refl, sym, ap, subst, ◌∙◌, arith}
+use Rattle.std.proofs.Common.{◌≡◌, ℕ, zero, suc, ◌+◌, ◌-◌, ◌*◌, ◌/◌, ◌%◌, ◌<◌, ◌≤◌, inl, inr, List, [], ◌∷◌, ◌++◌, length, get_or, set, Option, Some, None}
+use Rattle.std.proofs.Common.{refl, sym, ap, subst, ◌∙◌, arith}
 use Rattle.std.proofs.lemmas.Bool.Decides.{nat_tests}
 use Rattle.gq_tariff.specs.Prices.{class_size, size_for}
 use Rattle.gq_tariff.specs.declared.class.Class.{Class}
 use Rattle.gq_tariff.specs.declared.class.Class.TheVariants.{Bytes16, Bytes32, Bytes64, Bytes128, Bytes256, Bytes512, Bytes1024, Bytes2048}
 use Rattle.gq_store.specs.Store.{Store, word, Writes, plus_caps}
+use Rattle.gq_store.specs.Bytes.{PutsBytes}
 use Rattle.gq_heap.specs.declared.heap.Heap.{Heap}
 use Rattle.gq_heap.specs.declared.heap.Place.{Place}
 use Rattle.gq_heap.specs.declared.heap.Place.TheVariants.{Small}
 use Rattle.gq_heap.specs.Classes.{index_of, size_at, places_at}
-use Rattle.gq_heap.specs.Heap.{Owns, Inserts, IsInUse, rise_caps, SameBytes, Keeps as KeepsHeap, Allocates, Frees as FreesBlock, Sets as SetsBlock, KeepsNow as HeapNow, KeepsWithin as HeapWithin}
+use Rattle.gq_heap.specs.Heap.{Owns, Inserts, IsInUse, rise_caps, SameBytes, Keeps as KeepsHeap, Allocates, Frees as FreesBlock, Puts as PutsBlock}
+use Rattle.gq_heap.specs.Heap.{KeepsNow as HeapNow, KeepsWithin as HeapWithin}
 use Rattle.std.proofs.Math.Nat.{mod-lt, div-add-mod}
 use Rattle.std.proofs.lemmas.Nat.{mul-le}
-use Rattle.gq_heap.specs.Chain.{IsSize}
+use Rattle.gq_heap.specs.internal.Chain.{IsSize}
 use Rattle.gq_heap.proofs.Sizes.{places_pos, places_few}
 use Rattle.gq_heap.proofs.ClassLaws.{sizes, index_below, size_is, number_is}
 use Rattle.gq_heap.proofs.Heaps.{small_chunk}
 use Rattle.gq_heap.proofs.Rises.{plus_none}
 use Rattle.gq_pool.specs.declared.pool.Pool.{Pool}
-use Rattle.gq_pool.specs.Pools.{places_of, entry_byte, IsAbsent, IsTable, Keeps, IsPool, OwnsBoth, KeepsNow, KeepsWithin, Adds, Removes, Sets}
+use Rattle.gq_pool.specs.Pools.{places_of, entry_byte, IsAbsent, IsTable, Keeps, IsPool, OwnsBoth, KeepsNow, KeepsWithin, Adds, Removes, Puts}
 use Rattle.gq_pool.proofs.Held.{comes, goes, none_at, some_at, table_stays}
 use Rattle.gq_pool.proofs.Steps.{table_there, word_inside, stepped, stepped_owns, spared, old_same, new_same}
 
@@ -172,6 +175,9 @@ module _ (pool : Pool) (before after : Heap) (old mid new : Store) (i q : ℕ) (
     bytes = added_bytes;
     paid = omega (arith, b.paid, w.left);
     caps = b.caps ∙ ap (plus_caps (rise_caps before pool.size)) (sym w.caps);
+    peaks = λ held others k d. b.peaks (places_of pool.class held ++ others) (places_of pool.class (set held i (Some q)) ++ others) k.blocks
+        (comes pool.class held i q others (omega (arith, l, k.table.count)) (absent_at pool before old held others i k l absent)) d;
+    eight = b.eight;
     charge = b.charge;
     charge_caps = b.charge_caps;
   }
@@ -220,9 +226,10 @@ module _ (pool : Pool) (before after : Heap) (old mid new : Store) (i n : ℕ) (
     charge_caps = omega (arith, f.charge_caps);
   }
 
--- ---- a byte of an entry
-module _ (pool : Pool) (heap : Heap) (old new : Store) (i n k b : ℕ) (l : i < pool.count) (is : n ≡ word (old.byte pool.table) (4 * i)) (pos : 0 < n)
-    (s : SetsBlock heap old new (Small pool.class (n - 1)) k b) where
+-- ---- bytes of an entry
+module _ (pool : Pool) (heap : Heap) (old new : Store) (i n k : ℕ) (bytes : List ℕ) (l : i < pool.count) (is : n ≡ word (old.byte pool.table) (4 * i))
+    (pos : 0 < n)
+    (s : PutsBlock heap old new (Small pool.class (n - 1)) k bytes) where
   module _ (held : List (Option ℕ)) (others : List Place) (kept : Keeps pool heap old held others) where
     at : get_or held i None ≡ Some (n - 1)
     at = there_at pool heap old held others i n kept l is pos
@@ -233,8 +240,8 @@ module _ (pool : Pool) (heap : Heap) (old new : Store) (i n k b : ℕ) (l : i < 
     written : HeapWithin heap old new (places_of pool.class held ++ others) (Owns heap old (places_of pool.class held ++ others) kept.blocks)
     written = s.keeps (places_of pool.class held ++ others) (places_of pool.class (set held i None) ++ others) kept.blocks has
 
-    set_keeps : KeepsWithin pool heap old new held others (OwnsBoth pool heap old held others kept)
-    set_keeps = record {
+    put_keeps : KeepsWithin pool heap old new held others (OwnsBoth pool heap old held others kept)
+    put_keeps = record {
       keeps = record {
         table = table_stays pool old new held (written.spares pool.table (table_there pool old held kept.table (omega arith)) kept.apart) kept.table;
         blocks = written.keeps;
@@ -244,32 +251,30 @@ module _ (pool : Pool) (heap : Heap) (old new : Store) (i n k b : ℕ) (l : i < 
       spares = λ x present other. written.spares x present (λ h. other (inr h));
     }
 
-    set_here : (q : ℕ) → get_or held i None ≡ Some q → entry_byte pool new (Some q) k ≡ b
-    set_here q e = let same : n - 1 ≡ q = some_same (n - 1) q (sym at ∙ e) in subst (λ x. entry_byte pool new (Some x) k ≡ b) same s.here
+    put_here : (q : ℕ) → get_or held i None ≡ Some q → PutsBytes (entry_byte pool old (Some q)) (entry_byte pool new (Some q)) k bytes
+    put_here q e =
+        let same : n - 1 ≡ q = some_same (n - 1) q (sym at ∙ e) in
+        subst (λ x. PutsBytes (entry_byte pool old (Some x)) (entry_byte pool new (Some x)) k bytes) same s.put
 
-    set_rest : (j : ℕ) → (j ≡ k → ⊥) → entry_byte pool new (get_or held i None) j ≡ entry_byte pool old (get_or held i None) j
-    set_rest j ne = subst (λ o. entry_byte pool new o j ≡ entry_byte pool old o j) (sym at) (s.rest j ne)
+    put_others : SameBytes old new (places_of pool.class (set held i None) ++ others)
+    put_others = s.others (places_of pool.class held ++ others) (places_of pool.class (set held i None) ++ others) kept.blocks has
 
-    set_others : SameBytes old new (places_of pool.class (set held i None) ++ others)
-    set_others = s.others (places_of pool.class held ++ others) (places_of pool.class (set held i None) ++ others) kept.blocks has
-
-  pub sets_there : Sets pool heap old new i k b
-  sets_there = record {
+  pub puts_there : Puts pool heap old new i k bytes
+  puts_there = record {
     absent = λ a. absurd (omega (arith, is, pos, a));
-    keeps = set_keeps;
-    here = set_here;
-    rest = set_rest;
-    others = set_others;
+    keeps = put_keeps;
+    put = put_here;
+    others = put_others;
     left = s.left;
     caps = s.caps;
   }
 
-pub sets_absent : (pool : Pool) (heap : Heap) (old : Store) (i k b : ℕ) → i < pool.count → IsAbsent pool old i → Sets pool heap old old i k b
-sets_absent pool heap old i k b l a = record {
+pub puts_absent : (pool : Pool) (heap : Heap) (old : Store) (i k : ℕ) (bytes : List ℕ) → i < pool.count → IsAbsent pool old i
+    → Puts pool heap old old i k bytes
+puts_absent pool heap old i k bytes l a = record {
   absent = λ _. refl;
   keeps = λ held others kept. record { keeps = kept; owns = λ x own. own; spares = λ x present other. record { size = refl; bytes = λ j. refl } };
-  here = λ held others kept q e. absurd (none_some q (sym (absent_at pool heap old held others i kept l a) ∙ e));
-  rest = λ held others kept j ne. refl;
+  put = λ held others kept q e. absurd (none_some q (sym (absent_at pool heap old held others i kept l a) ∙ e));
   others = λ held others kept p rest ins j below. refl;
   left = refl;
   caps = refl;

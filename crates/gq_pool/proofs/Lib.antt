@@ -3,3 +3,5 @@ pub mod Steps
 pub mod Entries
 pub mod Ending
 pub mod Callers
+pub mod Two
+pub mod Contents

@@ -1,12 +1,15 @@
 -- What pool, heap and store keep together, and what the calls of a pool change.
-use Rattle.std.specs.Prelude.{◌≡◌, ℕ, ◌+◌, ◌*◌, ◌<◌, ◌≤◌, ◌⊎◌, Bool, true, false, List, [], ◌∷◌, ◌++◌, length, get_or, set, replicate, Option, Some, None}
+use Rattle.std.specs.Prelude.{◌≡◌, ℕ, zero, suc, ◌+◌, ◌*◌, ◌<◌, ◌≤◌, ◌⊎◌, Bool, true, false, List, [], ◌∷◌, ◌++◌, length, map, get_or, set, max, replicate}
+use Rattle.std.specs.Prelude.{Option, Some, None}
 use Rattle.gq_tariff.specs.Prices.{up, class_size, size_for}
 use Rattle.gq_tariff.specs.declared.class.Class.{Class}
 use Rattle.gq_store.specs.Store.{Store, word, one_more, plus_caps, Spares, TakesNew}
+use Rattle.gq_store.specs.Bytes.{listed, PutsBytes}
 use Rattle.gq_heap.specs.declared.heap.Heap.{Heap}
 use Rattle.gq_heap.specs.declared.heap.Place.{Place}
 use Rattle.gq_heap.specs.declared.heap.Place.TheVariants.{Small}
-use Rattle.gq_heap.specs.Heap.{Owns, SameBytes, byte_of, peaks, rise, rise_caps, charge, charge_caps, Keeps as KeepsHeap}
+use Rattle.gq_heap.specs.Heap.{Owns, SameBytes, byte_of, peaks, peak_of, count_of as count_in, rise, rise_caps, charge, charge_caps, Keeps as KeepsHeap}
+use Rattle.gq_heap.specs.Heap.{KeepsWithin as KeepsPlaces}
 use Rattle.gq_pool.specs.declared.pool.Pool.{Pool}
 
 -- the bytes of an entry, and how many entries there are
@@ -36,6 +39,24 @@ abbrev pub entry_byte : Pool → Store → Option ℕ → ℕ → ℕ
 entry_byte pool st None k = 0
 entry_byte pool st (Some q) k = byte_of st (Small pool.class q) k
 
+-- what the table says of an entry whose word is n
+abbrev pub entry_of : ℕ → Option ℕ
+entry_of zero = None
+entry_of (suc q) = Some q
+
+-- the places of all entries, as the table has them
+abbrev pub held_of : Pool → Store → List (Option ℕ)
+held_of pool st = listed pool.count (λ i. entry_of (word (st.byte pool.table) (4 * i)))
+
+-- the bytes of an entry at a place, as a list
+abbrev pub entry_bytes : Pool → Store → Option ℕ → Option (List ℕ)
+entry_bytes pool st None = None
+entry_bytes pool st (Some q) = Some (listed pool.size (byte_of st (Small pool.class q)))
+
+-- all entries: the bytes of each that is there
+abbrev pub entries_of : Pool → Store → List (Option (List ℕ))
+entries_of pool st = map (entry_bytes pool st) (held_of pool st)
+
 -- The table of the pool has these places, one for each entry that is there.
 pub record IsTable (pool : Pool) (st : Store) (held : List (Option ℕ)) : Type 0 where
   pub pages : st.size pool.table ≡ up (4 * pool.count)
@@ -62,6 +83,24 @@ pub record IsPool (pool : Pool) (heap : Heap) (st : Store) : Type 0 where
 -- the chunks of pool and heap
 abbrev pub OwnsBoth : (pool : Pool) (heap : Heap) (st : Store) (held : List (Option ℕ)) (others : List Place) → Keeps pool heap st held others → ℕ → Type 0
 OwnsBoth pool heap st held others k x = (x ≡ pool.table) ⊎ Owns heap st (places_of pool.class held ++ others) k.blocks x
+
+-- Two pools on one heap in one store: each keeps its entries, beside those of the other and these other places, and the table of one is no chunk of the
+-- other's or of the heap's.
+pub record KeepsTwo (first second : Pool) (heap : Heap) (st : Store) (held more : List (Option ℕ)) (others : List Place) : Type 0 where
+  pub keeps : Keeps first heap st held (places_of second.class more ++ others)
+  pub table : IsTable second st more
+  pub apart : OwnsBoth first heap st held (places_of second.class more ++ others) keeps second.table → ⊥
+
+-- the chunks of both and of the heap
+abbrev pub OwnsTwo : (first second : Pool) (heap : Heap) (st : Store) (held more : List (Option ℕ)) (others : List Place)
+    → KeepsTwo first second heap st held more others → ℕ → Type 0
+OwnsTwo first second heap st held more others t x = OwnsBoth first heap st held (places_of second.class more ++ others) t.keeps x ⊎ (x ≡ second.table)
+
+-- Both keep these entries now, in chunks that were theirs or were not there.
+pub record KeepsTwoNow (first second : Pool) (after : Heap) (old new : Store) (held more : List (Option ℕ)) (others : List Place) (owned : ℕ → Type 0)
+    : Type 0 where
+  pub keeps : KeepsTwo first second after new held more others
+  pub owns : TakesNew owned (OwnsTwo first second after new held more others keeps) old
 
 -- CALLS
 
@@ -97,6 +136,10 @@ pub record Adds (pool : Pool) (before after : Heap) (old new : Store) (i : ℕ) 
   pub bytes : (held : List (Option ℕ)) (others : List Place) → Keeps pool before old held others → SameBytes old new (places_of pool.class held ++ others)
   pub paid : new.left + rise before pool.size ≡ old.left
   pub caps : old.caps ≡ plus_caps (rise_caps before pool.size) new.caps
+  pub eight : (length (peaks before) ≡ 8) × (length (peaks after) ≡ 8)
+  -- each peak is raised to what is in use now
+  pub peaks : (held : List (Option ℕ)) (others : List Place) → Keeps pool before old held others → (c : Class)
+      → peak_of after c ≡ max (peak_of before c) (count_in c (places_of pool.class (set held i (Some place)) ++ others))
   pub charge : charge after ≡ charge before + rise before pool.size
   pub charge_caps : charge_caps after ≡ charge_caps before + rise_caps before pool.size
 
@@ -126,15 +169,18 @@ pub record Gives (pool : Pool) (before after : Heap) (old new : Store) (i : ℕ)
 abbrev pub Reads : Pool → Heap → Store → ℕ → ℕ → ℕ → Type 0
 Reads pool heap st i k b = (held : List (Option ℕ)) (others : List Place) → Keeps pool heap st held others → b ≡ entry_byte pool st (get_or held i None) k
 
--- The byte k of the entry i is b now where the entry is there, and no other byte of a block changed; where it is absent nothing changed.
-pub record Sets (pool : Pool) (heap : Heap) (old new : Store) (i k b : ℕ) : Type 0 where
+-- The four bytes from k on of the entry i spell b.
+abbrev pub ReadsWord : Pool → Heap → Store → ℕ → ℕ → ℕ → Type 0
+ReadsWord pool heap st i k b = (held : List (Option ℕ)) (others : List Place) → Keeps pool heap st held others
+    → b ≡ word (entry_byte pool st (get_or held i None)) k
+
+-- These bytes stand in the entry i from k on now where the entry is there, and no other byte of a block changed; where it is absent nothing changed.
+pub record Puts (pool : Pool) (heap : Heap) (old new : Store) (i k : ℕ) (bytes : List ℕ) : Type 0 where
   pub absent : IsAbsent pool old i → new ≡ old
   pub keeps : (held : List (Option ℕ)) (others : List Place) (kept : Keeps pool heap old held others)
       → KeepsWithin pool heap old new held others (OwnsBoth pool heap old held others kept)
-  pub here : (held : List (Option ℕ)) (others : List Place) → Keeps pool heap old held others → (q : ℕ) → get_or held i None ≡ Some q
-      → entry_byte pool new (Some q) k ≡ b
-  pub rest : (held : List (Option ℕ)) (others : List Place) → Keeps pool heap old held others → (j : ℕ) → (j ≡ k → ⊥)
-      → entry_byte pool new (get_or held i None) j ≡ entry_byte pool old (get_or held i None) j
+  pub put : (held : List (Option ℕ)) (others : List Place) → Keeps pool heap old held others → (q : ℕ) → get_or held i None ≡ Some q
+      → PutsBytes (entry_byte pool old (Some q)) (entry_byte pool new (Some q)) k bytes
   pub others : (held : List (Option ℕ)) (others : List Place) → Keeps pool heap old held others
       → SameBytes old new (places_of pool.class (set held i None) ++ others)
   pub left : new.left ≡ old.left
@@ -142,9 +188,9 @@ pub record Sets (pool : Pool) (heap : Heap) (old new : Store) (i k b : ℕ) : Ty
 
 -- The entries and the table are gone: the heap keeps the other places, as they read before.
 pub record Ends (pool : Pool) (before after : Heap) (old new : Store) : Type 0 where
-  pub keeps : (held : List (Option ℕ)) (others : List Place) → Keeps pool before old held others → KeepsHeap after new others
+  pub keeps : (held : List (Option ℕ)) (others : List Place) (k : Keeps pool before old held others)
+      → KeepsPlaces after old new others (OwnsBoth pool before old held others k)
   pub bytes : (held : List (Option ℕ)) (others : List Place) → Keeps pool before old held others → SameBytes old new others
-  pub spares : (held : List (Option ℕ)) (others : List Place) (k : Keeps pool before old held others) → Spares (OwnsBoth pool before old held others k) old new
   pub gone : new.size pool.table ≡ 0
   pub left : new.left ≡ old.left + up (4 * pool.count)
   pub caps : new.caps ≡ one_more old.caps

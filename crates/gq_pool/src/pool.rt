@@ -6,13 +6,11 @@ ghost use Rattle.gq_heap.specs.Heap.{rise};
 
 use gq_heap::{Heap, Place};
 use gq_store::{ByteStore, ChunkNo, GrowFault};
+use gq_tariff::price::{PAGE, POOL_ENTRY};
 use gq_tariff::{Class, class_of};
 
-/// The bytes of a page.
-const PAGE: u32 = 4096;
-
-/// The bytes of an entry in the table.
-const ENTRY: u32 = 4;
+/// The bytes of an entry in the table, as an offset in its chunk.
+const ENTRY: u32 = POOL_ENTRY as u32;
 
 /// A pool of so many entries of so many bytes. Each entry is absent or there; at first all are absent.
 ///
@@ -30,8 +28,9 @@ pub struct Pool {
 }
 
 impl Pool {
-    ghost use Rattle.std.specs.Prelude.{◌≡◌, ℕ, ◌+◌, ◌*◌, ◌<◌, ◌≤◌, ◌↔◌, Some, IfOk, OnErr, IsErrOf, IsTrue};
-    ghost use Rattle.gq_pool.specs.Pools.{IsPool, IsAbsent, size_of, count_of, Makes, Takes, Gives, Reads, Sets, Ends};
+    ghost use Rattle.std.specs.Prelude.{◌≡◌, ℕ, ◌+◌, ◌*◌, ◌<◌, ◌≤◌, ◌↔◌, [], ◌∷◌, Some, IfOk, OnErr, IsErrOf, IsTrue};
+    ghost use Rattle.gq_model.specs.machine.Program.{spelled};
+    ghost use Rattle.gq_pool.specs.Pools.{IsPool, IsAbsent, size_of, count_of, Makes, Takes, Gives, Reads, ReadsWord, Puts, Ends};
 
     /// A pool of `count` entries of `size` bytes, each absent. It takes whole pages for its table, and one capability.
     ///
@@ -42,7 +41,7 @@ impl Pool {
         ensures ok { IfOk result (λ pool. Makes (S.state store.old) (S.state store.new) size count pool) }
         ensures exceeded { IsErrOf result GrowFault.Exceeded ↔ ((S.state store.old).left < up (4 * count)) }
         ensures caps { IsErrOf result GrowFault.CapsExceeded ↔ ((up (4 * count) ≤ (S.state store.old).left) × ((S.state store.old).caps ≡ Some 0)) }
-        ensures err { OnErr result (S.state store.new ≡ S.state store.old) }
+        ensures err { OnErr result (store.new ≡ store.old) }
         ensures rest { S.same_rest store.old store.new }
     {
         let chunk = store.grow(pages_of(count))?;
@@ -71,7 +70,7 @@ impl Pool {
             ↔ (IsAbsent self.now (S.state store.old) index × ((S.state store.old).left < rise heap.old (size_of self.now))) }
         ensures caps { IsErrOf result GrowFault.CapsExceeded ↔ (IsAbsent self.now (S.state store.old) index × (0 < rise heap.old (size_of self.now))
             × (rise heap.old (size_of self.now) ≤ (S.state store.old).left) × ((S.state store.old).caps ≡ Some 0)) }
-        ensures err { OnErr result ((heap.new ≡ heap.old) × (S.state store.new ≡ S.state store.old)) }
+        ensures err { OnErr result ((heap.new ≡ heap.old) × (store.new ≡ store.old)) }
         ensures kept { IsPool self.now heap.new (S.state store.new) }
         ensures rest { S.same_rest store.old store.new }
     {
@@ -128,13 +127,47 @@ impl Pool {
     )
         requires kept { IsPool self.now heap.now (S.state store.old) }
         requires inside { (index < count_of self.now) × (offset < size_of self.now) }
-        ensures sets { Sets self.now heap.now (S.state store.old) (S.state store.new) index offset value }
+        ensures puts { Puts self.now heap.now (S.state store.old) (S.state store.new) index offset (value ∷ []) }
         ensures kept { IsPool self.now heap.now (S.state store.new) }
         ensures rest { S.same_rest store.old store.new }
     {
         let word = self.word(store, index);
         if word > 0 {
             heap.store(store, Place::Small(self.class, word - 1), offset, value);
+        }
+    }
+
+    /// The number in the four bytes of an entry from an offset on, the lowest first, 0 where the entry is absent.
+    pub fn load4<S: ByteStore>(&self, store: &S, heap: &Heap, index: u32, offset: u32) -> u32
+        requires kept { IsPool self.now heap.now (S.state store.now) }
+        requires inside { (index < count_of self.now) × (offset + 4 ≤ size_of self.now) }
+        ensures { ReadsWord self.now heap.now (S.state store.now) index offset result }
+    {
+        let word = self.word(store, index);
+        if word == 0 {
+            return 0;
+        }
+        heap.load4(store, Place::Small(self.class, word - 1), offset)
+    }
+
+    /// Writes a number to the four bytes of an entry from an offset on, the lowest first; where the entry is absent nothing is done.
+    pub fn store4<S: ByteStore>(
+        &self,
+        store: &mut S,
+        heap: &Heap,
+        index: u32,
+        offset: u32,
+        value: u32,
+    )
+        requires kept { IsPool self.now heap.now (S.state store.old) }
+        requires inside { (index < count_of self.now) × (offset + 4 ≤ size_of self.now) }
+        ensures puts { Puts self.now heap.now (S.state store.old) (S.state store.new) index offset (spelled 4 value) }
+        ensures kept { IsPool self.now heap.now (S.state store.new) }
+        ensures rest { S.same_rest store.old store.new }
+    {
+        let word = self.word(store, index);
+        if word > 0 {
+            heap.store4(store, Place::Small(self.class, word - 1), offset, value);
         }
     }
 
@@ -166,5 +199,5 @@ fn pages_of(count: u32) -> u32
     ensures price { result * 4096 ≡ up (4 * count) }
     ensures few { (0 < result) × (result ≤ 16385) }
 {
-    (ENTRY * count).div_ceil(PAGE)
+    (ENTRY * count).div_ceil(PAGE as u32)
 }

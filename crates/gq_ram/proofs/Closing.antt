@@ -1,5 +1,6 @@
 -- What is left as the dataspaces of an account are removed one by one, and where an account leaves its quota.
-use Rattle.std.proofs.Common.{◌≡◌, ℕ, zero, suc, ◌+◌, ◌<◌, ◌≤◌, inl, inr, List, [], ◌∷◌, length, set, get_or, Option, Some, None, Bool, true, false, if◌then◌else◌, refl, sym, ap, subst, ◌∙◌, arith, length-set}
+use Rattle.std.proofs.Common.{◌≡◌, ℕ, zero, suc, ◌+◌, ◌<◌, ◌≤◌, inl, inr, List, [], ◌∷◌, length, set, get_or, Option, Some, None, Bool, true, false}
+use Rattle.std.proofs.Common.{if◌then◌else◌, refl, sym, ap, subst, ◌∙◌, arith, length-set}
 use Rattle.std.proofs.lemmas.Bool.{cases_eq}
 use Rattle.std.proofs.lemmas.List.{get_or-set_same, get_or-set_other, set-set}
 use Rattle.gq_ram.specs.declared.account.Account.{Account}
@@ -12,11 +13,13 @@ use Rattle.gq_ram.proofs.Opening.{closed_balanced}
 
 -- of the dataspaces below k those of the account a are removed, and all else is as in l
 pub record IsCleared (l m : Ledger) (a : AccountNo) (k : ℕ) : Type 0 where
-  pub paid : m.accounts ≡ set l.accounts a.0 (Some (with_use (account_at l.accounts a.0) (account_at m.accounts a.0).used (account_at m.accounts a.0).caps_used))
+  pub paid : m.accounts ≡ set l.accounts a.0 (Some (with_use (account_at l.accounts a.0) (account_at m.accounts a.0).used.ram
+      (account_at m.accounts a.0).used.caps))
   pub long : length m.owners ≡ length l.owners
   pub gone : (j : ℕ) → j < k → IsOf l.owners j a → (get_or m.spaces.spaces j None ≡ None) × (get_or m.owners j None ≡ None)
   pub rest : (j : ℕ) → k ≤ j → (get_or m.spaces.spaces j None ≡ get_or l.spaces.spaces j None) × (get_or m.owners j None ≡ get_or l.owners j None)
-  pub others : (j : ℕ) → (IsOf l.owners j a → ⊥) → (get_or m.spaces.spaces j None ≡ get_or l.spaces.spaces j None) × (get_or m.owners j None ≡ get_or l.owners j None)
+  pub others : (j : ℕ) → (IsOf l.owners j a → ⊥) → (get_or m.spaces.spaces j None ≡ get_or l.spaces.spaces j None)
+      × (get_or m.owners j None ≡ get_or l.owners j None)
   pub whole : IsSameWhole m l
 
 get_set_none : {A : Type 0} → (xs : List (Option A)) (k : ℕ) → get_or (set xs k None) k None ≡ None
@@ -65,25 +68,37 @@ pub cleared_more : (l m n : Ledger) (a : AccountNo) (k : ℕ) (u v : ℕ) → Is
     → n.spaces.spaces ≡ set m.spaces.spaces k None → n.owners ≡ set m.owners k None → IsSameWhole n m → IsCleared l n a (k + 1)
 cleared_more l m n a k u v c opened own paid gone of_none whole =
     let es : Entries = l.accounts in let x : Account = account_at es a.0 in let y : Account = account_at m.accounts a.0 in
-    let there : y ≡ with_use x y.used y.caps_used = ap (λ (fs : Entries). account_at fs a.0) c.paid ∙ put_at es a.0 (with_use x y.used y.caps_used) opened in
+    let there : y ≡ with_use x y.used.ram y.used.caps = ap (λ (fs : Entries). account_at fs a.0) c.paid
+    ∙ put_at es a.0 (with_use x y.used.ram y.used.caps) opened in
     let used : n.accounts ≡ set es a.0 (Some (with_use x u v)) =
-    paid ∙ ap (λ (fs : Entries). set fs a.0 (Some (with_use y u v))) c.paid ∙ set-set es a.0 (Some (with_use x y.used y.caps_used)) (Some (with_use y u v))
+    paid ∙ ap (λ (fs : Entries). set fs a.0 (Some (with_use y u v))) c.paid ∙ set-set es a.0 (Some (with_use x y.used.ram y.used.caps)) (Some (with_use y u v))
     ∙ ap (λ (z : Account). set es a.0 (Some (with_use z u v))) there in
     let now : account_at n.accounts a.0 ≡ with_use x u v = ap (λ (fs : Entries). account_at fs a.0) used ∙ put_at es a.0 (with_use x u v) opened in
-    let spaces_other : (j : ℕ) → (j ≡ k → ⊥) → get_or n.spaces.spaces j None ≡ get_or m.spaces.spaces j None = λ j o. ap (λ (ss : List (Option (List ℕ))). get_or ss j None) gone ∙ get_or-set_other m.spaces.spaces k j None None o in
-    let owners_other : (j : ℕ) → (j ≡ k → ⊥) → get_or n.owners j None ≡ get_or m.owners j None = λ j o. ap (λ (os : Owners). get_or os j None) of_none ∙ get_or-set_other m.owners k j None None o in
+    let spaces_other : (j : ℕ) → (j ≡ k → ⊥) → get_or n.spaces.spaces j None ≡ get_or m.spaces.spaces j None =
+    λ j o. ap (λ (ss : List (Option (List ℕ))). get_or ss j None) gone ∙ get_or-set_other m.spaces.spaces k j None None o in
+    let owners_other : (j : ℕ) → (j ≡ k → ⊥) → get_or n.owners j None ≡ get_or m.owners j None = λ j o. ap (λ (os : Owners). get_or os j None) of_none
+    ∙ get_or-set_other m.owners k j None None o in
     let spaces_here : get_or n.spaces.spaces k None ≡ None = ap (λ (ss : List (Option (List ℕ))). get_or ss k None) gone ∙ get_set_none m.spaces.spaces k in
     let owners_here : get_or n.owners k None ≡ None = ap (λ (os : Owners). get_or os k None) of_none ∙ get_set_none m.owners k in
     let own_first : IsOf l.owners k a = sym (c.rest k (omega arith)).1 ∙ own in
     record {
-      paid = used ∙ ap (λ (z : Account). set es a.0 (Some (with_use x z.used z.caps_used))) (sym now);
+      paid = used ∙ ap (λ (z : Account). set es a.0 (Some (with_use x z.used.ram z.used.caps))) (sym now);
       long = ap (λ (os : Owners). length os) of_none ∙ length-set m.owners k None ∙ c.long;
       gone = λ j lt its. elim (cases_eq j k) [
-        | inl e ↦ (subst (λ (i : ℕ). get_or n.spaces.spaces i None ≡ None) (sym e) spaces_here, subst (λ (i : ℕ). get_or n.owners i None ≡ None) (sym e) owners_here)
+        | inl e ↦ (
+          subst (λ (i : ℕ). get_or n.spaces.spaces i None ≡ None) (sym e) spaces_here,
+          subst (λ (i : ℕ). get_or n.owners i None ≡ None)
+              (sym e) owners_here,
+        )
         | inr o ↦ (spaces_other j o ∙ (c.gone j (omega (arith, lt, o)) its).0, owners_other j o ∙ (c.gone j (omega (arith, lt, o)) its).1)
       ];
-      rest = λ j le. let o : j ≡ k → ⊥ = λ e. omega (arith, e, le) in (spaces_other j o ∙ (c.rest j (omega (arith, le))).0, owners_other j o ∙ (c.rest j (omega (arith, le))).1);
-      others = λ j other. let o : j ≡ k → ⊥ = λ e. other (subst (λ (i : ℕ). IsOf l.owners i a) (sym e) own_first) in (spaces_other j o ∙ (c.others j other).0, owners_other j o ∙ (c.others j other).1);
+      rest = λ j le. let o : j ≡ k → ⊥ = λ e. omega (arith, e, le) in (
+        spaces_other j o ∙ (c.rest j (omega (arith, le))).0,
+        owners_other j o
+            ∙ (c.rest j (omega (arith, le))).1,
+      );
+      others = λ j other. let o : j ≡ k → ⊥ = λ e. other (subst (λ (i : ℕ). IsOf l.owners i a) (sym e) own_first) in
+          (spaces_other j o ∙ (c.others j other).0, owners_other j o ∙ (c.others j other).1);
       whole = (whole.0 ∙ c.whole.0, whole.1 ∙ c.whole.1, whole.2 ∙ c.whole.2);
     }
 
@@ -94,12 +109,15 @@ cleared_all l m a k c all j own =
     not_first (sym (c.others j not_first).1 ∙ own)
 
 -- so it uses nothing
-pub cleared_paid : (l m : Ledger) (a : AccountNo) (k : ℕ) → IsCleared l m a k → length l.owners ≤ k → IsBalanced m → m.accounts ≡ set l.accounts a.0 (Some (with_use (account_at l.accounts a.0) 0 0))
+pub cleared_paid : (l m : Ledger) (a : AccountNo) (k : ℕ) → IsCleared l m a k → length l.owners ≤ k → IsBalanced m
+    → m.accounts ≡ set l.accounts a.0 (Some (with_use (account_at l.accounts a.0) 0 0))
 cleared_paid l m a k c all b =
     let x : Account = account_at l.accounts a.0 in
-    let used : (account_at m.accounts a.0).used ≡ 0 = b.used a.0 ∙ owned_none length a m.spaces.spaces m.owners (cleared_all l m a k c all) in
-    let caps_used : (account_at m.accounts a.0).caps_used ≡ 0 = b.caps_used a.0 ∙ owned_none (λ _. m.price) a m.spaces.spaces m.owners (cleared_all l m a k c all) in
-    c.paid ∙ ap (λ (u : ℕ). set l.accounts a.0 (Some (with_use x u (account_at m.accounts a.0).caps_used))) used ∙ ap (λ (v : ℕ). set l.accounts a.0 (Some (with_use x 0 v))) caps_used
+    let used : (account_at m.accounts a.0).used.ram ≡ 0 = b.used a.0 ∙ owned_none length a m.spaces.spaces m.owners (cleared_all l m a k c all) in
+    let caps_used : (account_at m.accounts a.0).used.caps ≡ 0 = b.caps_used a.0
+    ∙ owned_none (λ _. m.price) a m.spaces.spaces m.owners (cleared_all l m a k c all) in
+    c.paid ∙ ap (λ (u : ℕ). set l.accounts a.0 (Some (with_use x u (account_at m.accounts a.0).used.caps))) used
+    ∙ ap (λ (v : ℕ). set l.accounts a.0 (Some (with_use x 0 v))) caps_used
 
 -- what an account leaves does not hang on what it used
 pub left_unused : (es : Entries) (a r : ℕ) → IsOpen es a → (r ≡ a → ⊥) → left_to (set es a (Some (with_use (account_at es a) 0 0))) a r ≡ left_to es a r
@@ -110,7 +128,8 @@ left_unused es a r opened other =
     let closed : set fs a None ≡ set es a None = set-set es a (Some z) None in
     rw (here, heir, closed) refl
 
-pub members_unused : (es : Entries) (k u v : ℕ) (a : AccountNo) → IsOpen es k → has_members (set es k (Some (with_use (account_at es k) u v))) a ≡ has_members es a
+pub members_unused : (es : Entries) (k u v : ℕ) (a : AccountNo) → IsOpen es k
+    → has_members (set es k (Some (with_use (account_at es k) u v))) a ≡ has_members es a
 members_unused [] k u v a opened = refl
 members_unused (None ∷ es) zero u v a opened = refl
 members_unused (Some x ∷ es) zero u v a opened = refl
@@ -126,7 +145,8 @@ pub record IsClosing (l m : Ledger) (a r : AccountNo) : Type 0 where
   pub closed : IsBalanced (with_accounts m (left_to m.accounts a.0 r.0))
   pub left : left_to m.accounts a.0 r.0 ≡ left_to l.accounts a.0 r.0
 
-pub closing : (l m : Ledger) (a r : AccountNo) → IsBalanced m → IsOpen l.accounts a.0 → (account_at l.accounts a.0).reference ≡ Some r → has_members l.accounts a ≡ false
+pub closing : (l m : Ledger) (a r : AccountNo) → IsBalanced m → IsOpen l.accounts a.0 → (account_at l.accounts a.0).reference ≡ Some r
+    → has_members l.accounts a ≡ false
     → m.accounts ≡ set l.accounts a.0 (Some (with_use (account_at l.accounts a.0) 0 0)) → IsClosing l m a r
 closing l m a r b opened its alone paid =
     let es : Entries = l.accounts in let z : Account = with_use (account_at es a.0) 0 0 in
@@ -141,6 +161,6 @@ closing l m a r b opened its alone paid =
       its = same;
       heir = heir.0;
       apart = heir.1;
-      closed = closed_balanced m a r b open_account same still (ap (λ (x : Account). x.used) now) (ap (λ (x : Account). x.caps_used) now);
+      closed = closed_balanced m a r b open_account same still (ap (λ (x : Account). x.used.ram) now) (ap (λ (x : Account). x.used.caps) now);
       left = ap (λ (fs : Entries). left_to fs a.0 r.0) paid ∙ left_unused es a.0 r.0 opened heir.1;
     }

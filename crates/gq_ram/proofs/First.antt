@@ -1,12 +1,13 @@
 -- What is balanced at first: the root account has all quota, and each frame is free.
-use Rattle.std.proofs.Common.{◌≡◌, ℕ, zero, suc, ◌+◌, ◌/◌, ◌%◌, ◌≤◌, List, [], ◌∷◌, length, replicate, get_or, Option, Some, None, not, cond, is_some, refl, sym, ap, ◌∙◌, arith, IfSome}
+use Rattle.std.proofs.Common.{◌≡◌, ℕ, zero, suc, ◌+◌, ◌/◌, ◌%◌, ◌≤◌, List, [], ◌∷◌, length, replicate, get_or, Option, Some, None, not, cond, is_some, refl}
+use Rattle.std.proofs.Common.{sym, ap, ◌∙◌, arith, IfSome}
 use Rattle.std.proofs.lemmas.List.{length-replicate}
 use Rattle.std.proofs.lemmas.List.Recursion.{is_count_by}
 use Rattle.gq_pages.specs.Frames.{Frames, all_free, count_free, has_bytes}
 use Rattle.gq_dataspace.specs.Dataspaces.{Contents}
 use Rattle.gq_ram.specs.declared.account.Account.{Account}
 use Rattle.gq_ram.specs.declared.account.AccountNo.{AccountNo}
-use Rattle.gq_ram.specs.Entries.{Entries, account_at, no_account}
+use Rattle.gq_ram.specs.Entries.{Entries, account_at, no_account, no_amount}
 use Rattle.gq_ram.specs.Owning.{Owners, owned}
 use Rattle.gq_ram.specs.Ledgers.{Ledger, IsBalanced, first_ledger, price_where, caps_where}
 use Rattle.gq_ram.proofs.Sums.{owned_none}
@@ -66,18 +67,20 @@ of_root : (P : ℕ → Account → Type 0) (x : Account) → ((a : ℕ) → P a 
 of_root P x its none zero = its zero
 of_root P x its none (suc a) = none (suc a)
 
-pub first_balanced : (total : ℕ) (caps : Option ℕ) → total ≤ 67108864 → total % 4096 ≡ 0 → IfSome caps (λ n. (1 ≤ n) × (n ≤ 65536)) → IsBalanced (first_ledger total caps)
+pub first_balanced : (total : ℕ) (caps : Option ℕ) → total ≤ 67108864 → total % 4096 ≡ 0 → IfSome caps (λ n. (1 ≤ n) × (n ≤ 65536))
+    → IsBalanced (first_ledger total caps)
 first_balanced total caps small whole few =
     let n : ℕ = total / 4096 in let ss : Contents = all_free n in let os : Owners = replicate n None in let es : Entries = (first_ledger total caps).accounts in
-    let x : Account = record { quota = total; used = 0; caps = caps_where caps; caps_used = 0; reference = None } in
+    let x : Account = record { quota = record { ram = total; caps = caps_where caps }; used = no_amount; reference = None } in
     record {
       quotas = omega arith;
       caps = omega arith;
       pages = omega (arith, whole);
-      used = of_root (λ a z. z.used ≡ owned length a ss os) x (λ a. sym (owned_first length a n ss)) (λ a. sym (owned_first length a n ss));
-      caps_used = of_root (λ a z. z.caps_used ≡ owned (λ _. price_where caps) a ss os) x (λ a. sym (owned_first (λ _. price_where caps) a n ss)) (λ a. sym (owned_first (λ _. price_where caps) a n ss));
-      within = of_root (λ a z. z.used ≤ z.quota) x (λ a. omega arith) (λ a. omega arith);
-      caps_within = of_root (λ a z. z.caps_used ≤ z.caps) x (λ a. omega arith) (λ a. omega arith);
+      used = of_root (λ a z. z.used.ram ≡ owned length a ss os) x (λ a. sym (owned_first length a n ss)) (λ a. sym (owned_first length a n ss));
+      caps_used = of_root (λ a z. z.used.caps ≡ owned (λ _. price_where caps) a ss os) x (λ a. sym (owned_first (λ _. price_where caps) a n ss))
+          (λ a. sym (owned_first (λ _. price_where caps) a n ss));
+      within = of_root (λ a z. z.used.ram ≤ z.quota.ram) x (λ a. omega arith) (λ a. omega arith);
+      caps_within = of_root (λ a z. z.used.caps ≤ z.quota.caps) x (λ a. omega arith) (λ a. omega arith);
       small = small;
       small_caps = caps_small caps few;
       priced = price_small caps;
@@ -88,9 +91,22 @@ first_balanced total caps small whole few =
       live = λ k. ap (λ (o : Option AccountNo). is_some o) (get_none n k) ∙ sym (ap has_bytes (free_at n k));
     }
 
-pub first_is : (l : Ledger) (total : ℕ) (caps : Option ℕ) → l.accounts ≡ Some (record { quota = total; used = 0; caps = l.total_caps; caps_used = 0; reference = None }) ∷ []
-    → l.spaces.spaces ≡ all_free (total / 4096) → l.spaces.free ≡ total / 4096 → l.owners ≡ replicate (total / 4096) None → l.price ≡ price_where caps → l.total ≡ total → l.total_caps ≡ caps_where caps
+pub first_is : (l : Ledger) (total : ℕ) (caps : Option ℕ) → l.accounts ≡ Some (record {
+  quota = record { ram = total; caps = l.total_caps };
+  used = no_amount;
+  reference = None;
+}) ∷ []
+    → l.spaces.spaces ≡ all_free (total / 4096) → l.spaces.free ≡ total / 4096 → l.owners ≡ replicate (total / 4096) None → l.price ≡ price_where caps
+    → l.total ≡ total → l.total_caps ≡ caps_where caps
     → l ≡ first_ledger total caps
 first_is l total caps accounts spaces free owners price whole its =
-    let all : l.accounts ≡ (first_ledger total caps).accounts = accounts ∙ ap (λ (n : ℕ). Some (record { quota = total; used = 0; caps = n; caps_used = 0; reference = None }) ∷ []) its in
-    λ i. record { accounts = all i; spaces = record { spaces = spaces i; free = free i }; owners = owners i; price = price i; total = whole i; total_caps = its i }
+    let all : l.accounts ≡ (first_ledger total caps).accounts = accounts
+    ∙ ap (λ (n : ℕ). Some (record { quota = record { ram = total; caps = n }; used = no_amount; reference = None }) ∷ []) its in
+    λ i. record {
+      accounts = all i;
+      spaces = record { spaces = spaces i; free = free i };
+      owners = owners i;
+      price = price i;
+      total = whole i;
+      total_caps = its i;
+    }

@@ -1,5 +1,6 @@
 -- Sums over accounts and over dataspaces, as one entry changes.
-use Rattle.std.proofs.Common.{◌≡◌, ℕ, zero, suc, ◌+◌, ◌<◌, ◌≤◌, ◌⊎◌, Result, Ok, Err, IsOk, inl, inr, List, [], ◌∷◌, ◌++◌, length, set, get_or, nat_eq, if◌then◌else◌, Option, Some, None, IsTrue, Bool, true, false, is_some, refl, sym, ap, subst, ◌∙◌, arith}
+use Rattle.std.proofs.Common.{◌≡◌, ℕ, zero, suc, ◌+◌, ◌<◌, ◌≤◌, ◌⊎◌, Result, Ok, Err, IsOk, inl, inr, List, [], ◌∷◌, length, set, get_or, nat_eq}
+use Rattle.std.proofs.Common.{if◌then◌else◌, Option, Some, None, IsTrue, Bool, true, false, is_some, refl, sym, ap, subst, ◌∙◌, arith}
 use Rattle.std.proofs.lemmas.Bool.{cases_eq}
 use Rattle.std.proofs.lemmas.Bool.Decides.{eqb_tells}
 use Rattle.std.proofs.lemmas.List.{get_or-set_same, get_or-set_other}
@@ -20,7 +21,8 @@ open_there [] k h = cc
 open_there (a ∷ es) zero h = omega arith
 open_there (a ∷ es) (suc k) h = omega (arith, open_there es k h)
 
-pub sum_set : (f : Account → ℕ) (es : Entries) (k : ℕ) (y : Option Account) → k < length es → sum_over f (set es k y) + amount f (get_or es k None) ≡ sum_over f es + amount f y
+pub sum_set : (f : Account → ℕ) (es : Entries) (k : ℕ) (y : Option Account) → k < length es
+    → sum_over f (set es k y) + amount f (get_or es k None) ≡ sum_over f es + amount f y
 sum_set f [] k y h = absurd (omega (arith, h))
 sum_set f (None ∷ es) zero None h = omega arith
 sum_set f (None ∷ es) zero (Some b) h = omega arith
@@ -55,7 +57,8 @@ amount_is f z None = sym z
 amount_is f z (Some a) = refl
 
 -- the sum as one account changes
-pub sum_put : (f : Account → ℕ) → f no_account ≡ 0 → (es : Entries) (k : ℕ) (o : Option Account) → k < length es → sum_over f (set es k o) + f (account_at es k) ≡ sum_over f es + f (its_account o)
+pub sum_put : (f : Account → ℕ) → f no_account ≡ 0 → (es : Entries) (k : ℕ) (o : Option Account) → k < length es
+    → sum_over f (set es k o) + f (account_at es k) ≡ sum_over f es + f (its_account o)
 sum_put f z es k o lt = omega (arith, sum_set f es k o lt, amount_is f z (get_or es k None), amount_is f z o)
 
 pub account_within : (f : Account → ℕ) → f no_account ≡ 0 → (es : Entries) (k : ℕ) → f (account_at es k) ≤ sum_over f es
@@ -63,12 +66,19 @@ account_within f z es k = omega (arith, one_within f es k, amount_is f z (get_or
 
 pub account_slack : (f g : Account → ℕ) → f no_account ≡ 0 → g no_account ≡ 0 → (es : Entries) (k : ℕ) → ((k : ℕ) → g (account_at es k) ≤ f (account_at es k))
     → sum_over g es + f (account_at es k) ≤ sum_over f es + g (account_at es k)
-account_slack f g zf zg es k h = omega (arith, slack f g es k (λ j. omega (arith, h j, amount_is f zf (get_or es j None), amount_is g zg (get_or es j None))), amount_is f zf (get_or es k None), amount_is g zg (get_or es k None))
+account_slack f g zf zg es k h = omega (
+  arith,
+  slack f g es k (λ j. omega (arith, h j, amount_is f zf (get_or es j None), amount_is g zg (get_or es j None))),
+  amount_is f zf (get_or es k None),
+  amount_is g zg (get_or es k None),
+)
 
 -- what holds of each account, as one changes
-pub each_set : (P : ℕ → Account → Type 0) (es : Entries) (k : ℕ) (o : Option Account) → k < length es → P k (its_account o) → ((a : ℕ) → P a (account_at es a)) → (a : ℕ) → P a (account_at (set es k o) a)
+pub each_set : (P : ℕ → Account → Type 0) (es : Entries) (k : ℕ) (o : Option Account) → k < length es → P k (its_account o) → ((a : ℕ) → P a (account_at es a))
+    → (a : ℕ) → P a (account_at (set es k o) a)
 each_set P es k o lt here each a = elim (cases_eq a k) [
-  | inl e ↦ subst (λ (b : ℕ). P b (account_at (set es k o) b)) (sym e) (subst (λ (x : Account). P k x) (sym (ap its_account (get_or-set_same es k o None lt))) here)
+  | inl e ↦ subst (λ (b : ℕ). P b (account_at (set es k o) b)) (sym e) (subst (λ (x : Account). P k x) (sym (ap its_account (get_or-set_same es k o None lt)))
+      here)
   | inr other ↦ subst (λ (x : Account). P a x) (sym (ap its_account (get_or-set_other es k a o None other))) (each a)
 ]
 
@@ -83,7 +93,8 @@ pub open_other : (es : Entries) (k : ℕ) (o : Option Account) (j : ℕ) → (j 
 open_other es k o j other h = subst (λ (x : Option Account). IsTrue (is_some x)) (sym (get_or-set_other es k j o None other)) h
 
 -- ---- dataspaces
-pub owned_set : (f : List ℕ → ℕ) (a : ℕ) (ss : Contents) (os : Owners) (k : ℕ) (s : Option (List ℕ)) (o : Option AccountNo) → k < length ss → length os ≡ length ss
+pub owned_set : (f : List ℕ → ℕ) (a : ℕ) (ss : Contents) (os : Owners) (k : ℕ) (s : Option (List ℕ)) (o : Option AccountNo) → k < length ss
+    → length os ≡ length ss
     → owned f a (set ss k s) (set os k o) + share f a (get_or ss k None) (get_or os k None) ≡ owned f a ss os + share f a s o
 owned_set f a [] os k s o h n = absurd (omega (arith, h))
 owned_set f a (x ∷ ss) [] k s o h n = absurd (omega (arith, n))
@@ -97,7 +108,8 @@ owned_rewritten f a (x ∷ ss) [] k s h n = absurd (omega (arith, n))
 owned_rewritten f a (x ∷ ss) (y ∷ os) zero s h n = omega arith
 owned_rewritten f a (x ∷ ss) (y ∷ os) (suc k) s h n = omega (arith, owned_rewritten f a ss os k s (omega (arith, h)) (omega (arith, n)))
 
-pub share_within : (f : List ℕ → ℕ) (a : ℕ) (ss : Contents) (os : Owners) (k : ℕ) → k < length ss → length os ≡ length ss → share f a (get_or ss k None) (get_or os k None) ≤ owned f a ss os
+pub share_within : (f : List ℕ → ℕ) (a : ℕ) (ss : Contents) (os : Owners) (k : ℕ) → k < length ss → length os ≡ length ss
+    → share f a (get_or ss k None) (get_or os k None) ≤ owned f a ss os
 share_within f a [] os k h n = absurd (omega (arith, h))
 share_within f a (x ∷ ss) [] k h n = absurd (omega (arith, n))
 share_within f a (x ∷ ss) (y ∷ os) zero h n = omega arith
@@ -126,7 +138,8 @@ cases_true : (b : Bool) → (b ≡ true) ⊎ (b ≡ false)
 cases_true true = inl refl
 cases_true false = inr refl
 
-pub related_apart : (es : Entries) (a b : AccountNo) → ((k : ℕ) (r : AccountNo) → (account_at es k).reference ≡ Some r → r.0 ≡ k → ⊥) → are_related es a b ≡ true → b.0 ≡ a.0 → ⊥
+pub related_apart : (es : Entries) (a b : AccountNo) → ((k : ℕ) (r : AccountNo) → (account_at es k).reference ≡ Some r → r.0 ≡ k → ⊥)
+    → are_related es a b ≡ true → b.0 ≡ a.0 → ⊥
 related_apart es a b h t e = elim (cases_true (is_it (account_at es a.0).reference b)) [
   | inl y ↦ it_same (account_at es a.0).reference a.0 b (h a.0) y e
   | inr n ↦ it_same (account_at es b.0).reference b.0 a (h b.0) (sym (rw n refl) ∙ t) (sym e)
@@ -158,48 +171,21 @@ pub err_no_ok : {A : Type 0} {E : Type 0} → (r : Result A E) (e : E) → r ≡
 err_no_ok (Ok x) e h t = cc
 err_no_ok (Err d) e h t = cc
 
-pub member_at : (es : Entries) (k : ℕ) (m : Account) (a : AccountNo) → get_or es k None ≡ Some m → is_it m.reference a ≡ true → has_members es a ≡ true
-member_at [] k m a e t = cc
-member_at (x ∷ es) zero m a e t = rw (e, t) refl
-member_at (x ∷ es) (suc k) m a e t = elim (cases_true (is_it (its_account x).reference a)) [
-  | inl y ↦ rw y refl
-  | inr n ↦ rw n (member_at es k m a e t)
-]
-
 -- where no dataspace is of the account, it owns nothing
 pub owned_none : (f : List ℕ → ℕ) (a : AccountNo) (ss : Contents) (os : Owners) → ((k : ℕ) → IsOf os k a → ⊥) → owned f a.0 ss os ≡ 0
 owned_none f a [] os h = refl
 owned_none f a (s ∷ ss) [] h = refl
 owned_none f a (None ∷ ss) (o ∷ os) h = omega (arith, owned_none f a ss os (λ k. h (suc k)))
 owned_none f a (Some bs ∷ ss) (None ∷ os) h = omega (arith, owned_none f a ss os (λ k. h (suc k)))
-owned_none f a (Some bs ∷ ss) (Some o ∷ os) h = omega (arith, owned_none f a ss os (λ k. h (suc k)), share_other f a.0 bs o (λ (e : o.0 ≡ a.0). h 0 (λ i. Some (record { 0 = e i }))))
+owned_none f a (Some bs ∷ ss) (Some o ∷ os) h =
+    omega (arith, owned_none f a ss os (λ k. h (suc k)), share_other f a.0 bs o (λ (e : o.0 ≡ a.0). h 0 (λ i. Some (record { 0 = e i }))))
 
 pub not_both : (b : Bool) → b ≡ true → b ≡ false → ⊥
 not_both true t f = cc
 not_both false t f = cc
 
-pub no_members : (es : Entries) (a : AccountNo) → ((k : ℕ) → k < length es → is_it (account_at es k).reference a ≡ false) → has_members es a ≡ false
-no_members [] a h = refl
-no_members (x ∷ es) a h = rw (h 0 (omega arith)) (no_members es a (λ k lt. h (suc k) (omega (arith, lt))))
-
-pub get_pushed : (es : Entries) (j : ℕ) → get_or (es ++ None ∷ []) j None ≡ get_or es j None
-get_pushed [] zero = refl
-get_pushed [] (suc j) = refl
-get_pushed (x ∷ es) zero = refl
-get_pushed (x ∷ es) (suc j) = get_pushed es j
-
-pub sum_pushed : (f : Account → ℕ) (es : Entries) → sum_over f (es ++ None ∷ []) ≡ sum_over f es
-sum_pushed f [] = refl
-sum_pushed f (None ∷ es) = sum_pushed f es
-sum_pushed f (Some a ∷ es) = ap (λ (n : ℕ). f a + n) (sum_pushed f es)
-
-pub each_pushed : (P : ℕ → Account → Type 0) (es : Entries) → ((a : ℕ) → P a (account_at es a)) → (a : ℕ) → P a (account_at (es ++ None ∷ []) a)
-each_pushed P es each a = subst (λ (x : Account). P a x) (sym (ap its_account (get_pushed es a))) (each a)
-
-pub open_pushed : (es : Entries) (j : ℕ) → IsOpen es j → IsOpen (es ++ None ∷ []) j
-open_pushed es j h = subst (λ (x : Option Account). IsTrue (is_some x)) (sym (get_pushed es j)) h
-
-pub no_member_rest : (x : Option Account) (es : Entries) (a : AccountNo) → is_it (its_account x).reference a ≡ false → ((k : ℕ) → is_it (account_at es k).reference a ≡ false) → (k : ℕ) → is_it (account_at (x ∷ es) k).reference a ≡ false
+pub no_member_rest : (x : Option Account) (es : Entries) (a : AccountNo) → is_it (its_account x).reference a ≡ false
+    → ((k : ℕ) → is_it (account_at es k).reference a ≡ false) → (k : ℕ) → is_it (account_at (x ∷ es) k).reference a ≡ false
 no_member_rest x es a n rest zero = n
 no_member_rest x es a n rest (suc k) = rest k
 
@@ -217,8 +203,3 @@ pub owner_default : (os : Owners) (k : ℕ) (d : Option AccountNo) → k < lengt
 owner_default [] k d lt = absurd (omega (arith, lt))
 owner_default (o ∷ os) zero d lt = refl
 owner_default (o ∷ os) (suc k) d lt = owner_default os k d (omega (arith, lt))
-
-pub get_default : (es : Entries) (k : ℕ) (d : Option Account) → k < length es → get_or es k d ≡ get_or es k None
-get_default [] k d lt = absurd (omega (arith, lt))
-get_default (x ∷ es) zero d lt = refl
-get_default (x ∷ es) (suc k) d lt = get_default es k d (omega (arith, lt))

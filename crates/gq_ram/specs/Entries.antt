@@ -2,6 +2,7 @@
 use Rattle.std.specs.Prelude.{ℕ, ◌+◌, ◌-◌, List, [], ◌∷◌, Option, Some, None, Bool, true, false}
 use Rattle.std.specs.Prelude.{nat_eq, nat_lt, if◌then◌else◌, get_or, slice_set, is_some, IsTrue}
 use Rattle.gq_tariff.specs.Prices.{up}
+use Rattle.gq_tariff.specs.declared.amount.Amount.{Amount}
 use Rattle.gq_ram.specs.declared.account.Account.{Account}
 use Rattle.gq_ram.specs.declared.account.AccountNo.{AccountNo}
 use Rattle.gq_ram.specs.declared.account.AccountFault.{AccountFault}
@@ -11,8 +12,11 @@ use Rattle.gq_ram.specs.declared.account.AccountFault.TheVariants.{NotRelated, E
 abbrev pub Entries : Type 0
 Entries = List (Option Account)
 
+abbrev pub no_amount : Amount
+no_amount = record { ram = 0; caps = 0 }
+
 abbrev pub no_account : Account
-no_account = record { quota = 0; used = 0; caps = 0; caps_used = 0; reference = None }
+no_account = record { quota = no_amount; used = no_amount; reference = None }
 
 abbrev pub its_account : Option Account → Account
 its_account None = no_account
@@ -20,7 +24,7 @@ its_account (Some a) = a
 
 -- an account as it is opened
 abbrev pub first_account : AccountNo → Account
-first_account r = record { quota = 0; used = 0; caps = 0; caps_used = 0; reference = Some r }
+first_account r = record { quota = no_amount; used = no_amount; reference = Some r }
 
 -- the account of that number
 abbrev pub account_at : Entries → ℕ → Account
@@ -36,41 +40,50 @@ sum_over f [] = 0
 sum_over f (None ∷ es) = sum_over f es
 sum_over f (Some a ∷ es) = f a + sum_over f es
 
+-- an account with another quota
+abbrev pub with_amount : Account → Amount → Account
+with_amount a q = record { quota = q; used = a.used; reference = a.reference }
+
 abbrev pub with_quota : Account → ℕ → Account
-with_quota a n = record { quota = n; used = a.used; caps = a.caps; caps_used = a.caps_used; reference = a.reference }
+with_quota a n = with_amount a (record { ram = n; caps = a.quota.caps })
 
 abbrev pub with_caps : Account → ℕ → Account
-with_caps a n = record { quota = a.quota; used = a.used; caps = n; caps_used = a.caps_used; reference = a.reference }
+with_caps a n = with_amount a (record { ram = a.quota.ram; caps = n })
 
 abbrev pub with_use : Account → ℕ → ℕ → Account
-with_use a n c = record { quota = a.quota; used = n; caps = a.caps; caps_used = c; reference = a.reference }
+with_use a n c = record { quota = a.quota; used = record { ram = n; caps = c }; reference = a.reference }
 
 -- an account uses n bytes and c capabilities more
 abbrev pub charged : Entries → ℕ → ℕ → ℕ → Entries
-charged es a n c = slice_set es a (Some (with_use (account_at es a) ((account_at es a).used + n) ((account_at es a).caps_used + c)))
+charged es a n c = slice_set es a (Some (with_use (account_at es a) ((account_at es a).used.ram + n) ((account_at es a).used.caps + c)))
 
 -- an account uses n bytes and c capabilities less
 abbrev pub relieved : Entries → ℕ → ℕ → ℕ → Entries
-relieved es a n c = slice_set es a (Some (with_use (account_at es a) ((account_at es a).used - n) ((account_at es a).caps_used - c)))
+relieved es a n c = slice_set es a (Some (with_use (account_at es a) ((account_at es a).used.ram - n) ((account_at es a).used.caps - c)))
+
+-- two accounts with these quotas
+abbrev pub quotas_set : Entries → ℕ → Amount → ℕ → Amount → Entries
+quotas_set es from less to more =
+    slice_set (slice_set es from (Some (with_amount (account_at es from) less))) to (Some (with_amount (account_at es to) more))
 
 -- n bytes of quota go from one account to another
 abbrev pub quota_moved : Entries → ℕ → ℕ → ℕ → Entries
 quota_moved es from to n =
-    let less : Entries = slice_set es from (Some (with_quota (account_at es from) ((account_at es from).quota - n))) in
-    slice_set less to (Some (with_quota (account_at es to) ((account_at es to).quota + n)))
+    let less : Entries = slice_set es from (Some (with_quota (account_at es from) ((account_at es from).quota.ram - n))) in
+    slice_set less to (Some (with_quota (account_at es to) ((account_at es to).quota.ram + n)))
 
 -- n capabilities of quota go from one account to another
 abbrev pub caps_moved : Entries → ℕ → ℕ → ℕ → Entries
 caps_moved es from to n =
-    let less : Entries = slice_set es from (Some (with_caps (account_at es from) ((account_at es from).caps - n))) in
-    slice_set less to (Some (with_caps (account_at es to) ((account_at es to).caps + n)))
+    let less : Entries = slice_set es from (Some (with_caps (account_at es from) ((account_at es from).quota.caps - n))) in
+    slice_set less to (Some (with_caps (account_at es to) ((account_at es to).quota.caps + n)))
 
 -- what an account can still pay
 abbrev pub available : Account → ℕ
-available a = a.quota - a.used
+available a = a.quota.ram - a.used.ram
 
 abbrev pub available_caps : Account → ℕ
-available_caps a = a.caps - a.caps_used
+available_caps a = a.quota.caps - a.used.caps
 
 -- WHEN CALLS ARE REFUSED
 
@@ -111,5 +124,5 @@ close_refusal es a = if is_some (account_at es a.0).reference then (if has_membe
 -- an account whose quota goes to its reference account
 abbrev pub left_to : Entries → ℕ → ℕ → Entries
 left_to es a r =
-    let more : Account = with_quota (account_at es r) ((account_at es r).quota + (account_at es a).quota) in
-    slice_set (slice_set es a None) r (Some (with_caps more ((account_at es r).caps + (account_at es a).caps)))
+    let more : Account = with_quota (account_at es r) ((account_at es r).quota.ram + (account_at es a).quota.ram) in
+    slice_set (slice_set es a None) r (Some (with_caps more ((account_at es r).quota.caps + (account_at es a).quota.caps)))

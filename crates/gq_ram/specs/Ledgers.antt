@@ -2,9 +2,8 @@
 use Rattle.std.specs.Prelude.{◌≡◌, ℕ, ◌+◌, ◌*◌, ◌/◌, ◌≤◌, List, [], ◌∷◌, Option, Some, None, replicate, length, get_or, slice_set, is_some}
 use Rattle.gq_pages.specs.Frames.{has_bytes, all_free}
 use Rattle.gq_dataspace.specs.Dataspaces.{Dataspaces}
-use Rattle.gq_ram.specs.declared.accounts.Accounts.TheInside.{Inside}
 use Rattle.gq_ram.specs.declared.account.AccountNo.{AccountNo}
-use Rattle.gq_ram.specs.Entries.{Entries, account_at, sum_over, IsOpen}
+use Rattle.gq_ram.specs.Entries.{Entries, no_amount, account_at, sum_over, IsOpen}
 use Rattle.gq_ram.specs.Owning.{Owners, owned}
 
 pub record Ledger : Type 0 where
@@ -37,7 +36,7 @@ caps_where (Some n) = n
 
 abbrev pub first_ledger : ℕ → Option ℕ → Ledger
 first_ledger total caps = record {
-  accounts = Some (record { quota = total; used = 0; caps = caps_where caps; caps_used = 0; reference = None }) ∷ [];
+  accounts = Some (record { quota = record { ram = total; caps = caps_where caps }; used = no_amount; reference = None }) ∷ [];
   spaces = record { spaces = all_free (total / 4096); free = total / 4096 };
   owners = replicate (total / 4096) None;
   price = price_where caps;
@@ -51,14 +50,14 @@ IsSameWhole l m = (l.price ≡ m.price) × (l.total ≡ m.total) × (l.total_cap
 
 -- what holds in each
 pub record IsBalanced (l : Ledger) : Type 0 where
-  pub quotas : sum_over (λ a. a.quota) l.accounts ≡ l.total
-  pub caps : sum_over (λ a. a.caps) l.accounts ≡ l.total_caps
-  pub pages : l.spaces.free * 4096 + sum_over (λ a. a.used) l.accounts ≡ l.total
+  pub quotas : sum_over (λ a. a.quota.ram) l.accounts ≡ l.total
+  pub caps : sum_over (λ a. a.quota.caps) l.accounts ≡ l.total_caps
+  pub pages : l.spaces.free * 4096 + sum_over (λ a. a.used.ram) l.accounts ≡ l.total
   -- what an account uses is what its dataspaces cost
-  pub used : (a : ℕ) → (account_at l.accounts a).used ≡ owned length a l.spaces.spaces l.owners
-  pub caps_used : (a : ℕ) → (account_at l.accounts a).caps_used ≡ owned (λ _. l.price) a l.spaces.spaces l.owners
-  pub within : (a : ℕ) → (account_at l.accounts a).used ≤ (account_at l.accounts a).quota
-  pub caps_within : (a : ℕ) → (account_at l.accounts a).caps_used ≤ (account_at l.accounts a).caps
+  pub used : (a : ℕ) → (account_at l.accounts a).used.ram ≡ owned length a l.spaces.spaces l.owners
+  pub caps_used : (a : ℕ) → (account_at l.accounts a).used.caps ≡ owned (λ _. l.price) a l.spaces.spaces l.owners
+  pub within : (a : ℕ) → (account_at l.accounts a).used.ram ≤ (account_at l.accounts a).quota.ram
+  pub caps_within : (a : ℕ) → (account_at l.accounts a).used.caps ≤ (account_at l.accounts a).quota.caps
   pub small : l.total ≤ 67108864
   pub small_caps : l.total_caps ≤ 65536
   pub priced : l.price ≤ 1
@@ -70,9 +69,3 @@ pub record IsBalanced (l : Ledger) : Type 0 where
   pub tables : length l.owners ≡ length l.spaces.spaces
   pub few : length l.owners ≤ 16384
   pub live : (k : ℕ) → is_some (get_or l.owners k None) ≡ has_bytes (get_or l.spaces.spaces k None)
-
-abbrev pub ledger_view : Inside → Ledger
-ledger_view s = record { accounts = s.accounts.items; spaces = s.spaces; owners = s.owners.items; price = s.price; total = s.total; total_caps = s.total_caps }
-
-abbrev pub IsAccounts : Inside → Type 0
-IsAccounts s = IsBalanced (ledger_view s)

@@ -1,3 +1,4 @@
 pub mod Entries
-pub mod Ledgers
 pub mod Owning
+pub mod Ledgers
+pub mod internal

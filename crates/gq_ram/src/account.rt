@@ -1,4 +1,5 @@
 // An account, and why a call is refused.
+use gq_tariff::Amount;
 use thiserror::Error;
 
 /// The number of an account.
@@ -31,9 +32,7 @@ pub enum AccountFault {
 // The quota of an account and what is used of it, in bytes and in capabilities. The root account has no reference account.
 #[derive(Clone, Copy)]
 pub(crate) struct Account {
-    pub(crate) quota: u64,
-    pub(crate) used: u64,
-    pub(crate) caps: u64,
-    pub(crate) caps_used: u64,
+    pub(crate) quota: Amount,
+    pub(crate) used: Amount,
     pub(crate) reference: Option<AccountNo>,
 }

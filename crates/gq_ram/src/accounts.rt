@@ -3,9 +3,9 @@ ghost use Rattle.std.specs.Prelude.{◌≡◌, [], ◌∷◌, ◌+◌, ◌-◌, 
 ghost use Rattle.std.specs.Prelude.{Some, None, Ok, Err, IfOk, IfErr, IfSome, OnOk, OnErr};
 ghost use Rattle.std.specs.Int.{w32, to_le_bytes};
 ghost use Rattle.gq_tariff.specs.Prices.{up};
-ghost use Rattle.gq_pages.specs.Bytes.{zeros, word_at, with_bytes};
+ghost use Rattle.gq_pages.specs.Bytes.{zeros, zeroed, word_at, with_bytes};
 ghost use Rattle.gq_dataspace.specs.Dataspaces.{IsVacant, content_of};
-ghost use Rattle.gq_ram.specs.Entries.{account_at, with_use, first_account, charged, relieved, quota_moved, caps_moved, left_to};
+ghost use Rattle.gq_ram.specs.Entries.{account_at, with_use, first_account, charged, relieved, quotas_set, quota_moved, caps_moved, left_to};
 ghost use Rattle.gq_ram.specs.Entries.{are_related, has_members, is_it, IsOpen};
 ghost use Rattle.gq_ram.specs.Entries.{transfer_refusal, transfer_caps_refusal, alloc_refusal, close_refusal};
 ghost use Rattle.gq_ram.specs.Owning.{IsOf};
@@ -14,19 +14,22 @@ ghost use Rattle.gq_ram.specs.Ledgers.{IsBalanced, IsSameWhole, with_accounts, w
 use crate::account::{Account, AccountFault, AccountNo};
 use gq_dataspace::{DsId, Spaces};
 use gq_pages::Pages;
-use gq_tariff::round_up;
+use gq_tariff::price::PAGE;
+use gq_tariff::{Amount, round_up};
+use slab::Slab;
 use std::alloc::{AllocError, Global};
 use std::marker::Model;
 
-// The bytes of a frame.
-const FRAME_SIZE: u64 = 4096;
+// Of neither kind.
+const NOTHING: Amount = Amount { ram: 0, caps: 0 };
 
 /// Accounts, each with a quota of bytes and one of capabilities, and the dataspaces that they pay for. A contract sees the table of accounts, the
 /// dataspaces, and which account each is of. The quotas of each kind always sum to their totals, and the bytes of the free frames and all that is
 /// used to the total. No call but `new` and `add` takes host memory.
 #[derive(Drop)]
 pub struct Accounts {
-    accounts: Vec<Option<Account>>,
+    // an account's number is its key
+    accounts: Slab<Account>,
     spaces: Spaces,
     owners: Vec<Option<AccountNo>>,
     price: u64,
@@ -39,7 +42,7 @@ impl Model for Accounts {
 
     ghost Value = { Ledger };
 
-    ghost use Rattle.gq_ram.specs.Ledgers.{ledger_view, IsAccounts};
+    ghost use Rattle.gq_ram.specs.internal.Fields.{ledger_view, IsAccounts};
 
     ghost view = { ledger_view };
 
@@ -56,7 +59,7 @@ impl Accounts {
         requires caps { IfSome caps (λ n. (1 ≤ n) × (n ≤ 65536)) }
         ensures { IfOk result (λ l. l ≡ first_ledger total caps) }
     {
-        let frames = (total / FRAME_SIZE) as u32;
+        let frames = (total / PAGE) as u32;
         let pages = Pages::new(alloc, frames)?;
         let spaces = Spaces::new(alloc, pages)?;
         let owners = no_owners(alloc, frames)?;
@@ -65,10 +68,11 @@ impl Accounts {
             None => (0, 0),
         };
         let root = Account {
-            quota: total,
-            used: 0,
-            caps: total_caps,
-            caps_used: 0,
+            quota: Amount {
+                ram: total,
+                caps: total_caps,
+            },
+            used: NOTHING,
             reference: None,
         };
         let accounts = root_alone(alloc, root)?;
@@ -91,57 +95,54 @@ impl Accounts {
         ensures same { self.new ≡ with_accounts self.old self.new.accounts }
         ensures unchanged { OnErr result (self.new ≡ self.old) }
     {
-        let place = self.reserve()?;
-        self.accounts[place] = Some(Account {
-            quota: 0,
-            used: 0,
-            caps: 0,
-            caps_used: 0,
+        let number = self.accounts.insert(Account {
+            quota: NOTHING,
+            used: NOTHING,
             reference: Some(reference),
-        });
-        Ok(AccountNo(place))
+        })?;
+        Ok(AccountNo(number))
     }
 
     /// The quota of an account in bytes.
     pub fn quota(&self, account: AccountNo) -> u64
         requires { IsOpen self.now.accounts account.0 }
-        ensures { result ≡ (account_at self.now.accounts account.0).quota }
+        ensures { result ≡ (account_at self.now.accounts account.0).quota.ram }
     {
-        self.account(account).quota
+        self.account(account).quota.ram
     }
 
     /// The bytes that its dataspaces cost.
     pub fn used(&self, account: AccountNo) -> u64
         requires { IsOpen self.now.accounts account.0 }
-        ensures { result ≡ (account_at self.now.accounts account.0).used }
+        ensures { result ≡ (account_at self.now.accounts account.0).used.ram }
     {
-        self.account(account).used
+        self.account(account).used.ram
     }
 
     /// The quota of an account in bytes, less what is used of it.
     pub fn avail(&self, account: AccountNo) -> u64
         requires { IsOpen self.now.accounts account.0 }
-        ensures { result ≡ (account_at self.now.accounts account.0).quota - (account_at self.now.accounts account.0).used }
+        ensures { result ≡ (account_at self.now.accounts account.0).quota.ram - (account_at self.now.accounts account.0).used.ram }
     {
         let _total = self.total;
         let account = self.account(account);
-        account.quota - account.used
+        account.quota.ram - account.used.ram
     }
 
     /// The quota of an account in capabilities.
     pub fn caps(&self, account: AccountNo) -> u64
         requires { IsOpen self.now.accounts account.0 }
-        ensures { result ≡ (account_at self.now.accounts account.0).caps }
+        ensures { result ≡ (account_at self.now.accounts account.0).quota.caps }
     {
-        self.account(account).caps
+        self.account(account).quota.caps
     }
 
     /// The capabilities that its dataspaces cost, one for each; 0 where capabilities are not counted.
     pub fn caps_used(&self, account: AccountNo) -> u64
         requires { IsOpen self.now.accounts account.0 }
-        ensures { result ≡ (account_at self.now.accounts account.0).caps_used }
+        ensures { result ≡ (account_at self.now.accounts account.0).used.caps }
     {
-        self.account(account).caps_used
+        self.account(account).used.caps
     }
 
     /// The account that its quota comes from; the root account has none.
@@ -193,6 +194,16 @@ impl Accounts {
         self.spaces.store4(ds, offset, word);
     }
 
+    /// Clears `size` bytes of a dataspace from `offset` on: each becomes 0.
+    pub fn clear(&mut self, ds: DsId, offset: u32, size: u32)
+        requires some { 1 ≤ size }
+        requires inside { offset + size ≤ length (content_of self.old.spaces.spaces ds.0) }
+        ensures written { self.new ≡ with_content self.old ds.0 (zeroed (content_of self.old.spaces.spaces ds.0) offset size) }
+        ensures same_size { length (content_of self.new.spaces.spaces ds.0) ≡ length (content_of self.old.spaces.spaces ds.0) }
+    {
+        self.spaces.clear(ds, offset, size);
+    }
+
     /// Moves `amount` bytes of quota from an account to its reference account, or the other way. `NotRelated` where neither is the other's
     /// reference account, then `Exceeded` where `from` has less that is not used.
     pub fn transfer(
@@ -208,22 +219,24 @@ impl Accounts {
         ensures refused { IfErr result (λ fault. transfer_refusal self.old.accounts from to amount ≡ Some fault) }
         ensures allowed { OnOk result (transfer_refusal self.old.accounts from to amount ≡ None) }
     {
+        let _total = self.total;
         if !self.are_related(from, to) {
             return Err(AccountFault::NotRelated);
         }
         let giver = self.account(from);
-        if giver.quota - giver.used < amount {
+        if giver.quota.ram - giver.used.ram < amount {
             return Err(AccountFault::Exceeded);
         }
         let taker = self.account(to);
-        self.accounts[from.0] = Some(Account {
-            quota: giver.quota - amount,
-            ..giver
-        });
-        self.accounts[to.0] = Some(Account {
-            quota: taker.quota + amount,
-            ..taker
-        });
+        let less = Amount {
+            ram: giver.quota.ram - amount,
+            caps: giver.quota.caps,
+        };
+        let more = Amount {
+            ram: taker.quota.ram + amount,
+            caps: taker.quota.caps,
+        };
+        self.set_quotas(from, less, to, more);
         Ok(())
     }
 
@@ -250,18 +263,19 @@ impl Accounts {
             return Ok(());
         }
         let giver = self.account(from);
-        if giver.caps - giver.caps_used < amount {
+        if giver.quota.caps - giver.used.caps < amount {
             return Err(AccountFault::CapsExceeded);
         }
         let taker = self.account(to);
-        self.accounts[from.0] = Some(Account {
-            caps: giver.caps - amount,
-            ..giver
-        });
-        self.accounts[to.0] = Some(Account {
-            caps: taker.caps + amount,
-            ..taker
-        });
+        let less = Amount {
+            ram: giver.quota.ram,
+            caps: giver.quota.caps - amount,
+        };
+        let more = Amount {
+            ram: taker.quota.ram,
+            caps: taker.quota.caps + amount,
+        };
+        self.set_quotas(from, less, to, more);
         Ok(())
     }
 
@@ -283,7 +297,7 @@ impl Accounts {
             return Err(AccountFault::ZeroSize);
         }
         let payer = self.account(account);
-        let avail = payer.quota - payer.used;
+        let avail = payer.quota.ram - payer.used.ram;
         if size > avail {
             return Err(AccountFault::Exceeded);
         }
@@ -291,18 +305,20 @@ impl Accounts {
         if cost > avail {
             return Err(AccountFault::Exceeded);
         }
-        if payer.caps - payer.caps_used < self.price {
+        if payer.quota.caps - payer.used.caps < self.price {
             return Err(AccountFault::CapsExceeded);
         }
         let Ok(ds) = self.spaces.create(size) else {
             unreachable!();
         };
         self.owners[ds.0 as usize] = Some(account);
-        self.accounts[account.0] = Some(Account {
-            used: payer.used + cost,
-            caps_used: payer.caps_used + self.price,
+        self.accounts[account.0] = Account {
+            used: Amount {
+                ram: payer.used.ram + cost,
+                caps: payer.used.caps + self.price,
+            },
             ..payer
-        });
+        };
         Ok(ds)
     }
 
@@ -319,20 +335,24 @@ impl Accounts {
         let size = self.spaces.size(ds);
         self.spaces.destroy(ds);
         self.owners[ds.0 as usize] = None;
-        self.accounts[account.0] = Some(Account {
-            used: payer.used - size,
-            caps_used: payer.caps_used - self.price,
+        self.accounts[account.0] = Account {
+            used: Amount {
+                ram: payer.used.ram - size,
+                caps: payer.used.caps - self.price,
+            },
             ..payer
-        });
+        };
     }
 
     /// Closes an account: its dataspaces are removed, and its quota of both kinds goes to its reference account. `IsRoot` for the root account,
     /// then `HasMembers` where it is the reference account of another one.
     pub fn close(&mut self, account: AccountNo) -> Result<(), AccountFault>
         requires { IsOpen self.old.accounts account.0 }
-        ensures left { OnOk result (IfSome (account_at self.old.accounts account.0).reference (λ r. self.new.accounts ≡ left_to self.old.accounts account.0 r.0)) }
+        ensures left { OnOk result (IfSome (account_at self.old.accounts account.0).reference
+            (λ r. self.new.accounts ≡ left_to self.old.accounts account.0 r.0)) }
         ensures gone { OnOk result ((k : ℕ) → IsOf self.old.owners k account → get_or self.new.spaces.spaces k None ≡ None) }
-        ensures others { OnOk result ((k : ℕ) → (IsOf self.old.owners k account → ⊥) → get_or self.new.spaces.spaces k None ≡ get_or self.old.spaces.spaces k None) }
+        ensures others { OnOk result ((k : ℕ) → (IsOf self.old.owners k account → ⊥)
+            → get_or self.new.spaces.spaces k None ≡ get_or self.old.spaces.spaces k None) }
         ensures other_owners { OnOk result ((k : ℕ) → (IsOf self.old.owners k account → ⊥) → get_or self.new.owners k None ≡ get_or self.old.owners k None) }
         ensures same_whole { IsSameWhole self.new self.old }
         ensures unchanged { OnErr result (self.new ≡ self.old) }
@@ -348,12 +368,14 @@ impl Accounts {
         }
         self.free_all(account);
         let heir = self.account(reference);
-        self.accounts[account.0] = None;
-        self.accounts[reference.0] = Some(Account {
-            quota: heir.quota + closing.quota,
-            caps: heir.caps + closing.caps,
+        self.accounts.remove(account.0);
+        self.accounts[reference.0] = Account {
+            quota: Amount {
+                ram: heir.quota.ram + closing.quota.ram,
+                caps: heir.quota.caps + closing.quota.caps,
+            },
             ..heir
-        });
+        };
         Ok(())
     }
 
@@ -386,6 +408,25 @@ impl Accounts {
         let _total = self.total;
     }
 
+    // Gives two accounts these quotas, of either kind.
+    fn set_quotas(&mut self, from: AccountNo, less: Amount, to: AccountNo, more: Amount)
+        requires from_open { IsOpen self.old.accounts from.0 }
+        requires to_open { IsOpen self.old.accounts to.0 }
+        requires balanced { IsBalanced (with_accounts self.old (quotas_set self.old.accounts from.0 less to.0 more)) }
+        ensures { self.new ≡ with_accounts self.old (quotas_set self.old.accounts from.0 less to.0 more) }
+    {
+        let giver = self.account(from);
+        let taker = self.account(to);
+        self.accounts[from.0] = Account {
+            quota: less,
+            ..giver
+        };
+        self.accounts[to.0] = Account {
+            quota: more,
+            ..taker
+        };
+    }
+
     // Whether one of the two is the other's reference account.
     fn are_related(&self, a: AccountNo, b: AccountNo) -> bool
         requires a_open { IsOpen self.now.accounts a.0 }
@@ -399,11 +440,9 @@ impl Accounts {
     fn has_members(&self, account: AccountNo) -> bool
         ensures { result ≡ has_members self.now.accounts account }
     {
-        for k in 0..self.accounts.len() {
-            if let Some(member) = self.accounts[k] {
-                if is_it(member.reference, account) {
-                    return true;
-                }
+        for (_, member) in self.accounts.iter() {
+            if is_it(member.reference, account) {
+                return true;
             }
         }
         false
@@ -416,30 +455,12 @@ impl Accounts {
         let _total = self.total;
     }
 
-    // Finds a number without an account.
-    fn reserve(&mut self) -> Result<usize, AllocError>
-        ensures there { IfOk result (λ place. place < length self.new.accounts) }
-        ensures closed { IfOk result (λ place. get_or self.new.accounts place None ≡ None) }
-        ensures others { (k : ℕ) → get_or self.new.accounts k None ≡ get_or self.old.accounts k None }
-        ensures same { self.new ≡ with_accounts self.old self.new.accounts }
-        ensures unchanged { OnErr result (self.new ≡ self.old) }
-    {
-        let place = first_closed(&self.accounts);
-        if place == self.accounts.len() {
-            self.accounts.push(None)?;
-        }
-        Ok(place)
-    }
-
     // The account of that number.
     fn account(&self, account: AccountNo) -> Account
         requires { IsOpen self.now.accounts account.0 }
         ensures { result ≡ account_at self.now.accounts account.0 }
     {
-        let Some(account) = self.accounts[account.0] else {
-            unreachable!();
-        };
-        account
+        self.accounts[account.0]
     }
 }
 
@@ -450,11 +471,14 @@ fn no_owners(alloc: Global, count: u32) -> Result<Vec<Option<AccountNo>>, AllocE
     Vec::from_elem(alloc, None, count as usize)
 }
 
-// The root account and no other.
-fn root_alone(alloc: Global, root: Account) -> Result<Vec<Option<Account>>, AllocError>
-    ensures { IfOk result (λ accounts. accounts.items ≡ Some root ∷ []) }
+// The root account and no other. What is inserted is told key by key; as the slab is shrunk, it is known to end with the root's place.
+fn root_alone(alloc: Global, root: Account) -> Result<Slab<Account>, AllocError>
+    ensures { IfOk result (λ accounts. accounts.slots ≡ Some root ∷ []) }
 {
-    Vec::from_elem(alloc, Some(root), 1)
+    let mut accounts = Slab::with_capacity(alloc, 1)?;
+    accounts.insert_reserved(root);
+    accounts.shrink_to_fit();
+    Ok(accounts)
 }
 
 // Whether there is that account, and it is `account`.
@@ -465,17 +489,4 @@ fn is_it(there: Option<AccountNo>, account: AccountNo) -> bool
         Some(there) => there.0 == account.0,
         None => false,
     }
-}
-
-// The first number without an account, or how many numbers there are.
-fn first_closed(accounts: &Vec<Option<Account>>) -> usize
-    ensures within { result ≤ length accounts.now.items }
-    ensures closed { get_or accounts.now.items result None ≡ None }
-{
-    for k in 0..accounts.len() {
-        if accounts[k].is_none() {
-            return k;
-        }
-    }
-    accounts.len()
 }

@@ -1,1 +1,2 @@
 mod Lowest
+pub mod Callers

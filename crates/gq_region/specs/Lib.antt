@@ -1,2 +1,2 @@
-pub mod Fields
 pub mod Places
+pub mod internal

@@ -39,7 +39,7 @@ impl Model for RegionMap {
 
     ghost Value = { Places };
 
-    ghost use Rattle.gq_region.specs.Fields.{IsMap};
+    ghost use Rattle.gq_region.specs.internal.Fields.{IsMap};
 
     ghost view = { λ m. m.places.items };
 

@@ -1,1 +1,3 @@
+mod Writing
 pub mod Callers
+pub mod Contents

@@ -1,12 +1,17 @@
 -- What a store keeps of a slice, and what the calls of a sliced heap change.
 -- A slice is a chunk by itself, so the relation is of the store and one slice; a caller with several has it of each.
-use Rattle.std.specs.Prelude.{◌≡◌, ℕ, ◌+◌, ◌<◌, ◌≤◌}
+use Rattle.std.specs.Prelude.{◌≡◌, ℕ, ◌+◌, ◌<◌, ◌≤◌, List}
 use Rattle.gq_tariff.specs.Prices.{up}
 use Rattle.gq_store.specs.Store.{Store, word, one_more, Spares}
+use Rattle.gq_store.specs.Bytes.{listed, PutsBytes}
 
 -- the byte i of a slice, after 32 bytes of bookkeeping
 abbrev pub slice_byte : Store → ℕ → ℕ → ℕ
 slice_byte st k i = st.byte k (32 + i)
+
+-- its n bytes, as a list
+abbrev pub slice_bytes : Store → ℕ → ℕ → List ℕ
+slice_bytes st k n = listed n (slice_byte st k)
 
 -- The chunk k is a slice of n bytes, with n at its front.
 pub record HasSize (st : Store) (k n : ℕ) : Type 0 where
@@ -25,6 +30,12 @@ pub record HasByte (st : Store) (k i : ℕ) : Type 0 where
   pub size : ℕ
   pub has : HasSize st k size
   pub inside : i < size
+
+-- It is a slice with four bytes from i on.
+pub record HasWord (st : Store) (k i : ℕ) : Type 0 where
+  pub size : ℕ
+  pub has : HasSize st k size
+  pub inside : i + 4 ≤ size
 
 -- The one chunk that a slice owns.
 abbrev pub Owns : ℕ → ℕ → Type 0
@@ -50,11 +61,10 @@ pub record Frees (old new : Store) (k : ℕ) : Type 0 where
   pub back : (n : ℕ) → HasSize old k n → new.left ≡ old.left + up (n + 32)
   pub caps : new.caps ≡ one_more old.caps
 
--- The byte i of the slice k is b now, and no other byte changed.
-pub record Sets (old new : Store) (k i b : ℕ) : Type 0 where
+-- These bytes stand in the slice k from i on now, and no other byte changed.
+pub record Puts (old new : Store) (k i : ℕ) (bytes : List ℕ) : Type 0 where
   pub keeps : (n : ℕ) → HasSize old k n → HasSize new k n
-  pub here : slice_byte new k i ≡ b
-  pub others : (j : ℕ) → (j ≡ i → ⊥) → slice_byte new k j ≡ slice_byte old k j
+  pub put : PutsBytes (slice_byte old k) (slice_byte new k) i bytes
   pub spares : Spares (Owns k) old new
   pub sizes : (x : ℕ) → new.size x ≡ old.size x
   pub left : new.left ≡ old.left

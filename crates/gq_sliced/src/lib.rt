@@ -1,19 +1,31 @@
 //! A sliced heap over any store of chunks: each slice is a chunk of its own, with its size at the front, and is gone whole when it is freed.
+//!
+//! ```rust
+//! use gq_list_store::ListStore;
+//! use gq_sliced::Sliced;
+//!
+//! let mut store = ListStore::new(rt.alloc(), 1, None)?;
+//! let sliced = Sliced::new();
+//! let slice = sliced.alloc(&mut store, 4064)?;
+//! sliced.store(&mut store, slice, 4063, 7);
+//! assert_eq!(rt; sliced.load(&store, slice, 4063), 7);
+//! sliced.free(&mut store, slice);
+//! ```
 #![tactic(auto)]
 
-ghost use Rattle.std.specs.Prelude.{◌≡◌, ◌+◌, ◌-◌, ◌*◌, ◌^◌, ◌<◌, ◌≤◌, ◌↔◌, Some, IfOk, OnErr, IsErrOf};
+ghost use Rattle.std.specs.Prelude.{◌≡◌, ◌+◌, ◌-◌, ◌*◌, ◌^◌, ◌<◌, ◌≤◌, ◌↔◌, [], ◌∷◌, Some, IfOk, OnErr, IsErrOf};
 ghost use Rattle.gq_tariff.specs.Prices.{up, price_bytes};
-ghost use Rattle.gq_sliced.specs.Slices.{slice_byte, IsInUse, HasSize, HasByte, Makes, Frees, Sets};
+ghost use Rattle.gq_model.specs.machine.Program.{spelled};
+ghost use Rattle.gq_store.specs.Store.{word};
+ghost use Rattle.gq_sliced.specs.Slices.{slice_byte, IsInUse, HasSize, HasByte, HasWord, Makes, Frees, Puts};
 
 use gq_store::{ByteStore, ChunkNo, GrowFault};
+use gq_tariff::price::{PAGE, SLICE_HEADER};
 use gq_tariff::{Held, price_slice};
 use std::marker::Model;
 
-/// The bytes of a page.
-const PAGE: u32 = 4096;
-
-/// The bytes of bookkeeping at the front of a slice.
-const FRONT: u32 = 32;
+/// The bytes of bookkeeping at the front of a slice, as an offset in its chunk.
+const FRONT: u32 = SLICE_HEADER as u32;
 
 /// The number of a slice: that of its chunk.
 #[derive(Clone, Copy, Debug, PartialEq, Eq)]
@@ -72,7 +84,7 @@ impl Sliced {
         ensures ok { IfOk result (λ slice. Makes (S.state store.old) (S.state store.new) size slice) }
         ensures exceeded { IsErrOf result GrowFault.Exceeded ↔ ((S.state store.old).left < up (size + 32)) }
         ensures caps { IsErrOf result GrowFault.CapsExceeded ↔ ((up (size + 32) ≤ (S.state store.old).left) × ((S.state store.old).caps ≡ Some 0)) }
-        ensures err { OnErr result (S.state store.new ≡ S.state store.old) }
+        ensures err { OnErr result (store.new ≡ store.old) }
         ensures rest { S.same_rest store.old store.new }
     {
         let chunk = store.grow(pages_of(size))?;
@@ -108,10 +120,27 @@ impl Sliced {
     /// Sets the byte of a slice at an index.
     pub fn store<S: ByteStore>(&self, store: &mut S, slice: SliceNo, index: u32, value: u8)
         requires { HasByte (S.state store.old) slice index }
-        ensures sets { Sets (S.state store.old) (S.state store.new) slice index value }
+        ensures puts { Puts (S.state store.old) (S.state store.new) slice index (value ∷ []) }
         ensures rest { S.same_rest store.old store.new }
     {
         store.store(slice.chunk(), FRONT + index, value);
+    }
+
+    /// The number in the four bytes of a slice from an index on, the lowest first.
+    pub fn load4<S: ByteStore>(&self, store: &S, slice: SliceNo, index: u32) -> u32
+        requires { HasWord (S.state store.now) slice index }
+        ensures { result ≡ word (slice_byte (S.state store.now) slice) index }
+    {
+        store.load4(slice.chunk(), FRONT + index)
+    }
+
+    /// Writes a number to the four bytes of a slice from an index on, the lowest first.
+    pub fn store4<S: ByteStore>(&self, store: &mut S, slice: SliceNo, index: u32, value: u32)
+        requires { HasWord (S.state store.old) slice index }
+        ensures puts { Puts (S.state store.old) (S.state store.new) slice index (spelled 4 value) }
+        ensures rest { S.same_rest store.old store.new }
+    {
+        store.store4(slice.chunk(), FRONT + index, value);
     }
 
     /// What a slice of `n` bytes costs more than its bytes, in bytes.
@@ -129,5 +158,5 @@ fn pages_of(size: u32) -> u32
     ensures price { result * 4096 ≡ up (size + 32) }
     ensures few { (0 < result) × (result ≤ 16385) }
 {
-    (size + FRONT).div_ceil(PAGE)
+    (size + FRONT).div_ceil(PAGE as u32)
 }

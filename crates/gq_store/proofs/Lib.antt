@@ -1,1 +1,4 @@
 pub mod Sharing
+pub mod Words
+pub mod Lists
+pub mod Results

@@ -51,6 +51,8 @@ pub record Grows (old new : Store) (c n : ℕ) : Type 0 where
   pub bytes : (k i : ℕ) → (k ≡ c → ⊥) → new.byte k i ≡ old.byte k i
   pub paid : new.left + n ≡ old.left
   pub caps : old.caps ≡ one_more new.caps
+  -- a chunk has at most 16384 pages
+  pub few : n ≤ 67108864
 
 -- The chunk c is gone, and what it cost is back.
 pub record Shrinks (old new : Store) (c : ℕ) : Type 0 where

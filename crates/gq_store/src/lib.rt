@@ -1,7 +1,7 @@
 //! Chunks of bytes that are paid for: what a heap, a sliced heap and a pool need of the memory that they lie in.
 #![tactic(auto)]
 
-ghost use Rattle.std.specs.Prelude.{◌≡◌, ℕ, ◌+◌, ◌*◌, ◌%◌, ◌<◌, ◌≤◌, ◌↔◌, Option, Some, IfOk, OnErr, IsErrOf};
+ghost use Rattle.std.specs.Prelude.{◌≡◌, ℕ, ◌+◌, ◌*◌, ◌<◌, ◌≤◌, ◌↔◌, Option, Some, IfOk, OnErr, IsErrOf};
 ghost use Rattle.gq_store.specs.Store.{Store, word, IsWord, Writes, Grows, Shrinks};
 
 use std::marker::Model;
@@ -62,16 +62,16 @@ pub trait ByteStore {
     /// What the store is beside its chunks is the same in both.
     ghost same_rest: { Self → Self → Type 0 };
 
-    /// Adds a chunk of so many pages whose bytes are 0. Its number was not in use.
+    /// Adds a chunk of so many pages, at most 16384, whose bytes are 0. Its number was not in use.
     ///
-    /// Refused as `Exceeded` where the bytes can't be paid, else as `CapsExceeded` where capabilities are counted and there is none left; then
-    /// nothing has changed.
+    /// Refused as `Exceeded` where the bytes can't be paid, as those of more pages never can, else as `CapsExceeded` where capabilities are counted
+    /// and there is none left; then the store is as it was.
     fn grow(&mut self, pages: u32) -> Result<ChunkNo, GrowFault>
         requires { (0 < pages) × (pages ≤ 16385) }
         ensures ok { IfOk result (λ c. Grows (state self.old) (state self.new) c (pages * 4096)) }
         ensures exceeded { IsErrOf result GrowFault.Exceeded ↔ ((state self.old).left < pages * 4096) }
         ensures caps { IsErrOf result GrowFault.CapsExceeded ↔ ((pages * 4096 ≤ (state self.old).left) × ((state self.old).caps ≡ Some 0)) }
-        ensures err { OnErr result (state self.new ≡ state self.old) }
+        ensures err { OnErr result (self.new ≡ self.old) }
         ensures rest { same_rest self.old self.new };
 
     /// Gives a chunk back, and with it what it cost.
@@ -92,19 +92,25 @@ pub trait ByteStore {
         ensures alone { Writes (state self.old) (state self.new) chunk offset 1 }
         ensures rest { same_rest self.old self.new };
 
-    /// The four bytes from an offset on, the lowest first.
+    /// The number in the four bytes from an offset on, the lowest first. Any offset will do.
     fn load4(&self, chunk: ChunkNo, offset: u32) -> u32
-        requires inside { offset + 4 ≤ (state self.now).size chunk }
-        requires aligned { offset % 4 ≡ 0 }
+        requires { offset + 4 ≤ (state self.now).size chunk }
         ensures { result ≡ word ((state self.now).byte chunk) offset };
 
-    /// Sets the four bytes from an offset on, the lowest first.
+    /// Writes a number to the four bytes from an offset on, the lowest first. Any offset will do.
     fn store4(&mut self, chunk: ChunkNo, offset: u32, value: u32)
-        requires inside { offset + 4 ≤ (state self.old).size chunk }
-        requires aligned { offset % 4 ≡ 0 }
+        requires { offset + 4 ≤ (state self.old).size chunk }
         ensures bytes { IsWord ((state self.new).byte chunk) offset value }
         ensures stored { word ((state self.new).byte chunk) offset ≡ value }
         ensures alone { Writes (state self.old) (state self.new) chunk offset 4 }
+        ensures rest { same_rest self.old self.new };
+
+    /// Clears `size` bytes of a chunk, from an offset on: each becomes 0.
+    fn clear(&mut self, chunk: ChunkNo, offset: u32, size: u32)
+        requires some { 0 < size }
+        requires inside { offset + size ≤ (state self.old).size chunk }
+        ensures zero { (i : ℕ) → offset ≤ i → i < offset + size → (state self.new).byte chunk i ≡ 0 }
+        ensures alone { Writes (state self.old) (state self.new) chunk offset size }
         ensures rest { same_rest self.old self.new };
 
     ghost rest_refl: { (a : Self) → same_rest a a };

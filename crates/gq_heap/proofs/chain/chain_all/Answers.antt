@@ -1,10 +1,7 @@
 use Rattle.std.proofs.Common.{◌+◌, ◌*◌, ◌≤◌, ap, arith}
-use Rattle.gq_heap.proofs.Sizes.{spot_aligned, spot_inside}
+use Rattle.gq_heap.proofs.Sizes.{spot_inside}
 use Rattle.gq_heap.proofs.Chains.{chained_more}
 use Rattle.gq_heap.proofs.chain.chain_all.Goals as goal
-
-pub store4-requires-clause-aligned : goal.store4-requires-clause-aligned
-store4-requires-clause-aligned g c = spot_aligned _ _ c.requires.size _
 
 pub loop-i-preserved : goal.loop-i-preserved
 loop-i-preserved g c =

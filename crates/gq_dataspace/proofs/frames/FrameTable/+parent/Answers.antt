@@ -1,7 +1,7 @@
 use Rattle.std.proofs.Common.{◌≡◌, ◌+◌, ◌<◌, ◌*◌, ◌/◌, ◌%◌, ℕ, length, slice_index, arith, sym, ap, ◌∙◌}
-use Rattle.gq_dataspace.specs.Trees.{parent_at}
-use Rattle.gq_dataspace.specs.Links.{table_view}
-use Rattle.gq_dataspace.specs.Lists.{Lists, list_at}
+use Rattle.gq_dataspace.specs.internal.Trees.{parent_at}
+use Rattle.gq_dataspace.specs.internal.Links.{table_view}
+use Rattle.gq_dataspace.specs.internal.Lists.{Lists, list_at}
 use Rattle.gq_dataspace.proofs.Tables.{length-lists_in, length-list_at, parent_first, parent_more, frame_is_linked, reads}
 use Rattle.gq_dataspace.proofs.frames.FrameTable.+parent.Goals as goal
 
@@ -26,12 +26,16 @@ index-requires t c =
 pub returns-clause-value : goal.returns-clause-value
 returns-clause-value t c =
     let s = c.self.inside in let r = c.args.first in let q : ℕ = c.args.index / 16 in let ls = table_view s in
-    let long : length (list_at c.args.self.now r) ≡ slice_index s.counts.items r = ap (λ (ls : Lists). length (list_at ls r)) (sym c.self.view_is) ∙ length-list_at s.links.items s.counts.items r in
+    let long : length (list_at c.args.self.now r) ≡ slice_index s.counts.items r = ap (λ (ls : Lists). length (list_at ls r)) (sym c.self.view_is)
+    ∙ length-list_at s.links.items s.counts.items r in
     let within : 16 * c.parent-parent.result + c.args.index / 16 % 16 < length s.links.items =
     omega (arith, c.parent-parent.ensures.below, ap length c.self.view_is, length-lists_in s.links.items s.counts.items, c.self.invariant.room) in
-    let up : c.parent-parent.result ≡ parent_at (list_at ls r) r q = c.parent-parent.ensures.value ∙ ap (λ (ls : Lists). parent_at (list_at ls r) r q) (sym c.self.view_is) in
-    rw (← c.self.view_is) (reads s.links.items (16 * c.parent-parent.result + c.args.index / 16 % 16) c.index.result.now within c.index.ensures ∙ ap (λ (m : ℕ). slice_index s.links.items (16 * m + q % 16)) up
-    ∙ sym (frame_is_linked s.links.items s.counts.items r q (omega (arith, long, c.requires.within, c.if-index-lt-LINKS.false))) ∙ sym (parent_more (list_at ls r) r c.args.index c.if-index-lt-LINKS.false))
+    let up : c.parent-parent.result ≡ parent_at (list_at ls r) r q = c.parent-parent.ensures.value
+    ∙ ap (λ (ls : Lists). parent_at (list_at ls r) r q) (sym c.self.view_is) in
+    rw (← c.self.view_is) (reads s.links.items (16 * c.parent-parent.result + c.args.index / 16 % 16) c.index.result.now within c.index.ensures
+    ∙ ap (λ (m : ℕ). slice_index s.links.items (16 * m + q % 16)) up
+    ∙ sym (frame_is_linked s.links.items s.counts.items r q (omega (arith, long, c.requires.within, c.if-index-lt-LINKS.false)))
+    ∙ sym (parent_more (list_at ls r) r c.args.index c.if-index-lt-LINKS.false))
 
 pub returns-clause-below : goal.returns-clause-below
 returns-clause-below t c =
@@ -40,7 +44,16 @@ returns-clause-below t c =
     let many : length (list_at ls r) ≡ slice_index s.counts.items r = length-list_at s.links.items s.counts.items r in
     let within : 16 * c.parent-parent.result + c.args.index / 16 % 16 < length s.links.items =
     omega (arith, c.parent-parent.ensures.below, ap length c.self.view_is, length-lists_in s.links.items s.counts.items, c.self.invariant.room) in
-    let up : c.parent-parent.result ≡ parent_at (list_at ls r) r q = c.parent-parent.ensures.value ∙ ap (λ (ls : Lists). parent_at (list_at ls r) r q) (sym c.self.view_is) in
-    let is : c.index.result.now ≡ slice_index (list_at ls r) q = reads s.links.items (16 * c.parent-parent.result + c.args.index / 16 % 16) c.index.result.now within c.index.ensures ∙ ap (λ (m : ℕ). slice_index s.links.items (16 * m + q % 16)) up
+    let up : c.parent-parent.result ≡ parent_at (list_at ls r) r q = c.parent-parent.ensures.value
+    ∙ ap (λ (ls : Lists). parent_at (list_at ls r) r q) (sym c.self.view_is) in
+    let is : c.index.result.now ≡ slice_index (list_at ls r) q =
+    reads s.links.items (16 * c.parent-parent.result + c.args.index / 16 % 16) c.index.result.now within c.index.ensures
+    ∙ ap (λ (m : ℕ). slice_index s.links.items (16 * m + q % 16)) up
     ∙ sym (frame_is_linked s.links.items s.counts.items r q (omega (arith, long, many, c.requires.within, c.if-index-lt-LINKS.false))) in
-    omega (arith, is, c.self.invariant.below r q (omega (arith, long, c.requires.within, c.if-index-lt-LINKS.false)), ap length c.self.view_is, length-lists_in s.links.items s.counts.items)
+    omega (
+      arith,
+      is,
+      c.self.invariant.below r q (omega (arith, long, c.requires.within, c.if-index-lt-LINKS.false)),
+      ap length c.self.view_is,
+      length-lists_in s.links.items s.counts.items,
+    )

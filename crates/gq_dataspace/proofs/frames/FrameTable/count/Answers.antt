@@ -9,5 +9,7 @@ index-requires c =
 
 pub returns : goal.returns
 returns c =
-    let t = c.self.inside in let within : c.args.first < length t.counts.items = omega (arith, c.requires, ap length c.self.view_is, length-lists_in t.links.items t.counts.items) in
-    rw (← c.self.view_is) (reads t.counts.items c.args.first c.index.result.now within c.index.ensures ∙ sym (length-list_at t.links.items t.counts.items c.args.first))
+    let t = c.self.inside in let within : c.args.first < length t.counts.items =
+    omega (arith, c.requires, ap length c.self.view_is, length-lists_in t.links.items t.counts.items) in
+    rw (← c.self.view_is) (reads t.counts.items c.args.first c.index.result.now within c.index.ensures
+    ∙ sym (length-list_at t.links.items t.counts.items c.args.first))

@@ -1,13 +1,14 @@
 use Rattle.std.proofs.Common.{◌≡◌, ℕ, List, [], length, replicate, arith, ap, ◌∙◌}
 use Rattle.std.proofs.lemmas.List.{length-replicate}
-use Rattle.gq_dataspace.specs.Holding.{spaces_in}
+use Rattle.gq_dataspace.specs.internal.Holding.{spaces_in}
 use Rattle.gq_dataspace.proofs.Apart.{none_apart, none_long}
 use Rattle.gq_dataspace.proofs.Changes.{no_spaces, none_whole}
 use Rattle.gq_dataspace.proofs.spaces.Spaces.new.Goals as goal
 
 pub returns-clause-none : goal.returns-clause-none
 returns-clause-none c =
-    let e : c.in_ok-table.table ≡ replicate (length c.args.pages) [] = c.in_ok-table.ensures ∙ ap (λ (n : ℕ). replicate {A = List ℕ} n []) c.frame_count.ensures.all in
+    let e : c.in_ok-table.table ≡ replicate (length c.args.pages) [] = c.in_ok-table.ensures
+    ∙ ap (λ (n : ℕ). replicate {A = List ℕ} n []) c.frame_count.ensures.all in
     ap (spaces_in c.args.pages) e ∙ no_spaces c.args.pages (length c.args.pages)
 
 pub invariant_of-result : goal.invariant_of-result

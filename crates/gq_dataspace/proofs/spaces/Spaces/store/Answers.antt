@@ -1,8 +1,8 @@
 use Rattle.std.proofs.Common.{◌≡◌, ◌*◌, ◌/◌, ◌%◌, ◌<◌, ℕ, List, Some, length, set, slice_index, arith, refl, sym, ap, ◌∙◌, length-set}
 use Rattle.gq_pages.specs.Frames.{bytes_of}
-use Rattle.gq_dataspace.specs.Lists.{list_at}
+use Rattle.gq_dataspace.specs.internal.Lists.{list_at}
 use Rattle.gq_dataspace.specs.Dataspaces.{Contents, Dataspaces, content_of}
-use Rattle.gq_dataspace.specs.Holding.{bytes_in, spaces_in}
+use Rattle.gq_dataspace.specs.internal.Holding.{bytes_in, spaces_in}
 use Rattle.gq_dataspace.proofs.Changes.{content_at, length-content, writes, whole_written}
 use Rattle.gq_dataspace.proofs.Bytes.{is_taken, one_written}
 use Rattle.gq_dataspace.proofs.Edits.{content_there, content_set}
@@ -11,24 +11,29 @@ use Rattle.gq_dataspace.proofs.spaces.Spaces.store.Goals as goal
 pub frame-frame-requires : goal.frame-frame-requires
 frame-frame-requires c =
     let s = c.self.inside in let r = c.args.ds.0 in
-    let long : length (content_of c.args.self.now.spaces r) ≡ 4096 * length (list_at s.table r) = ap (λ (d : Dataspaces). length (content_of d.spaces r)) (sym c.self.view_is) ∙ length-content s.pages s.table r in
+    let long : length (content_of c.args.self.now.spaces r) ≡ 4096 * length (list_at s.table r) = ap (λ (d : Dataspaces). length (content_of d.spaces r))
+    (sym c.self.view_is) ∙ length-content s.pages s.table r in
     omega (arith, c.requires, long)
 
 pub set_byte-requires : goal.set_byte-requires
 set_byte-requires c =
     let s = c.self.inside in let r = c.args.ds.0 in let o = c.args.offset in
-    let long : length (content_of c.args.self.now.spaces r) ≡ 4096 * length (list_at s.table r) = ap (λ (d : Dataspaces). length (content_of d.spaces r)) (sym c.self.view_is) ∙ length-content s.pages s.table r in
+    let long : length (content_of c.args.self.now.spaces r) ≡ 4096 * length (list_at s.table r) = ap (λ (d : Dataspaces). length (content_of d.spaces r))
+    (sym c.self.view_is) ∙ length-content s.pages s.table r in
     let below : o / 4096 < length (list_at s.table r) = omega (arith, c.requires, long) in
-    let whole : length (bytes_of s.pages c.frame-frame.result) ≡ 4096 = ap (λ (f : ℕ). length (bytes_of s.pages f)) c.frame-frame.ensures.value ∙ c.self.invariant.whole r (o / 4096) below in
+    let whole : length (bytes_of s.pages c.frame-frame.result) ≡ 4096 = ap (λ (f : ℕ). length (bytes_of s.pages f)) c.frame-frame.ensures.value
+    ∙ c.self.invariant.whole r (o / 4096) below in
     (is_taken s.pages c.frame-frame.result whole, omega arith)
 
 pub invariant_of-self : goal.invariant_of-self
 invariant_of-self c =
     let s = c.self.inside in let r = c.args.ds.0 in let o = c.args.offset in let i = c.self.invariant in let f = c.frame-frame.result in
-    let long : length (content_of c.args.self.now.spaces r) ≡ 4096 * length (list_at s.table r) = ap (λ (d : Dataspaces). length (content_of d.spaces r)) (sym c.self.view_is) ∙ length-content s.pages s.table r in
+    let long : length (content_of c.args.self.now.spaces r) ≡ 4096 * length (list_at s.table r) = ap (λ (d : Dataspaces). length (content_of d.spaces r))
+    (sym c.self.view_is) ∙ length-content s.pages s.table r in
     let below : o / 4096 < length (list_at s.table r) = omega (arith, c.requires, long) in
     let whole : length (bytes_of s.pages f) ≡ 4096 = ap (λ (f : ℕ). length (bytes_of s.pages f)) c.frame-frame.ensures.value ∙ i.whole r (o / 4096) below in
-    let bs : List ℕ = set (bytes_of s.pages f) (o % 4096) c.args.byte in let same : length (set s.pages f (Some bs)) ≡ length s.pages = length-set s.pages f (Some bs) in
+    let bs : List ℕ = set (bytes_of s.pages f) (o % 4096) c.args.byte in let same : length (set s.pages f (Some bs)) ≡ length s.pages =
+    length-set s.pages f (Some bs) in
     rw c.set_byte.ensures.written (record {
       same = i.same ∙ sym same;
       few = rw same i.few;
@@ -39,18 +44,23 @@ invariant_of-self c =
 
 pub returns-clause-written : goal.returns-clause-written
 returns-clause-written c =
-    let s = c.self.inside in let r = c.args.ds.0 in let o = c.args.offset in let i = c.self.invariant in let f = c.frame-frame.result in let v = c.args.byte in let xs : List ℕ = list_at s.table r in
-    let long : length (content_of c.args.self.now.spaces r) ≡ 4096 * length xs = ap (λ (d : Dataspaces). length (content_of d.spaces r)) (sym c.self.view_is) ∙ length-content s.pages s.table r in
+    let s = c.self.inside in let r = c.args.ds.0 in let o = c.args.offset in let i = c.self.invariant in let f = c.frame-frame.result in let v = c.args.byte in
+    let xs : List ℕ = list_at s.table r in
+    let long : length (content_of c.args.self.now.spaces r) ≡ 4096 * length xs = ap (λ (d : Dataspaces). length (content_of d.spaces r)) (sym c.self.view_is)
+    ∙ length-content s.pages s.table r in
     let below : o / 4096 < length xs = omega (arith, c.requires, long) in let at : slice_index xs (o / 4096) ≡ f = sym c.frame-frame.ensures.value in
     let whole : length (bytes_of s.pages f) ≡ 4096 = ap (λ (f : ℕ). length (bytes_of s.pages f)) (sym at) ∙ i.whole r (o / 4096) below in
     let bs : List ℕ = set (bytes_of s.pages f) (o % 4096) v in
     let is : bytes_in (set s.pages f (Some bs)) xs ≡ set (content_of (spaces_in s.pages s.table) r) o v =
-    one_written s.pages xs f o (o / 4096) (o % 4096) v (omega (arith, c.requires, long)) refl refl at whole (λ a lt e. (i.apart.once r r a (o / 4096) lt below (e ∙ sym at)).1)
+    one_written s.pages xs f o (o / 4096) (o % 4096) v (omega (arith, c.requires, long)) refl refl at whole
+    (λ a lt e. (i.apart.once r r a (o / 4096) lt below (e ∙ sym at)).1)
     ∙ ap (λ (ys : List ℕ). set ys o v) (sym (content_at s.pages s.table r)) in
-    rw (c.set_byte.ensures.written, ← c.self.view_is) (writes s.pages s.table r (o / 4096) f bs (set (content_of (spaces_in s.pages s.table) r) o v) i.apart below at is)
+    rw (c.set_byte.ensures.written, ← c.self.view_is) (writes s.pages s.table r (o / 4096) f bs (set (content_of (spaces_in s.pages s.table) r) o v) i.apart
+    below at is)
 
 pub returns-clause-same_size : goal.returns-clause-same_size
 returns-clause-same_size c =
     let ss = c.args.self.now.spaces in let r = c.args.ds.0 in let bs : List ℕ = content_of ss r in let now : List ℕ = set bs c.args.offset c.args.byte in
-    ap (λ (xs : Contents). length (content_of xs r)) (returns-clause-written c) ∙ ap length (content_set ss r now (content_there ss r (omega (arith, c.requires))))
+    ap (λ (xs : Contents). length (content_of xs r)) (returns-clause-written c)
+    ∙ ap length (content_set ss r now (content_there ss r (omega (arith, c.requires))))
     ∙ length-set bs c.args.offset c.args.byte

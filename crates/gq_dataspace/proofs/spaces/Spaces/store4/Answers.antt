@@ -2,35 +2,40 @@ use Rattle.std.proofs.Common.{◌≡◌, ◌+◌, ◌*◌, ◌/◌, ◌%◌, ◌
 use Rattle.std.specs.Int.{w32, to_le_bytes}
 use Rattle.gq_pages.specs.Bytes.{with_bytes}
 use Rattle.gq_pages.specs.Frames.{bytes_of}
-use Rattle.gq_dataspace.specs.Lists.{list_at}
+use Rattle.gq_dataspace.specs.internal.Lists.{list_at}
 use Rattle.gq_dataspace.specs.Dataspaces.{Contents, Dataspaces, content_of}
-use Rattle.gq_dataspace.specs.Holding.{bytes_in, spaces_in}
+use Rattle.gq_dataspace.specs.internal.Holding.{bytes_in, spaces_in}
 use Rattle.gq_dataspace.proofs.Changes.{content_at, length-content, writes, whole_written}
 use Rattle.gq_dataspace.proofs.Bytes.{is_taken, bytes_written, length-with_bytes}
-use Rattle.gq_dataspace.proofs.Edits.{content_there, content_set, stored_again}
+use Rattle.gq_dataspace.proofs.Edits.{content_there, content_set}
 use Rattle.gq_dataspace.proofs.spaces.Spaces.store4.Goals as goal
 
 pub frame-frame-requires : goal.frame-frame-requires
 frame-frame-requires c =
     let s = c.self.inside in let r = c.args.ds.0 in
-    let long : length (content_of c.args.self.now.spaces r) ≡ 4096 * length (list_at s.table r) = ap (λ (d : Dataspaces). length (content_of d.spaces r)) (sym c.self.view_is) ∙ length-content s.pages s.table r in
+    let long : length (content_of c.args.self.now.spaces r) ≡ 4096 * length (list_at s.table r) = ap (λ (d : Dataspaces). length (content_of d.spaces r))
+    (sym c.self.view_is) ∙ length-content s.pages s.table r in
     omega (arith, c.requires, long)
 
 pub set_word-requires : goal.set_word-requires
 set_word-requires c =
     let s = c.self.inside in let r = c.args.ds.0 in let o = c.args.offset in
-    let long : length (content_of c.args.self.now.spaces r) ≡ 4096 * length (list_at s.table r) = ap (λ (d : Dataspaces). length (content_of d.spaces r)) (sym c.self.view_is) ∙ length-content s.pages s.table r in
+    let long : length (content_of c.args.self.now.spaces r) ≡ 4096 * length (list_at s.table r) = ap (λ (d : Dataspaces). length (content_of d.spaces r))
+    (sym c.self.view_is) ∙ length-content s.pages s.table r in
     let below : o / 4096 < length (list_at s.table r) = omega (arith, c.requires, long) in
-    let whole : length (bytes_of s.pages c.frame-frame.result) ≡ 4096 = ap (λ (f : ℕ). length (bytes_of s.pages f)) c.frame-frame.ensures.value ∙ c.self.invariant.whole r (o / 4096) below in
+    let whole : length (bytes_of s.pages c.frame-frame.result) ≡ 4096 = ap (λ (f : ℕ). length (bytes_of s.pages f)) c.frame-frame.ensures.value
+    ∙ c.self.invariant.whole r (o / 4096) below in
     (is_taken s.pages c.frame-frame.result whole, omega (arith, c.if-offset.true))
 
 pub invariant_of-self : goal.invariant_of-self
 invariant_of-self c =
     let s = c.self.inside in let r = c.args.ds.0 in let o = c.args.offset in let i = c.self.invariant in let f = c.frame-frame.result in
-    let long : length (content_of c.args.self.now.spaces r) ≡ 4096 * length (list_at s.table r) = ap (λ (d : Dataspaces). length (content_of d.spaces r)) (sym c.self.view_is) ∙ length-content s.pages s.table r in
+    let long : length (content_of c.args.self.now.spaces r) ≡ 4096 * length (list_at s.table r) = ap (λ (d : Dataspaces). length (content_of d.spaces r))
+    (sym c.self.view_is) ∙ length-content s.pages s.table r in
     let below : o / 4096 < length (list_at s.table r) = omega (arith, c.requires, long) in
     let whole : length (bytes_of s.pages f) ≡ 4096 = ap (λ (f : ℕ). length (bytes_of s.pages f)) c.frame-frame.ensures.value ∙ i.whole r (o / 4096) below in
-    let ws : List ℕ = to_le_bytes w32 c.args.word in let bs : List ℕ = with_bytes (bytes_of s.pages f) (o % 4096) ws in let same : length (set s.pages f (Some bs)) ≡ length s.pages = length-set s.pages f (Some bs) in
+    let ws : List ℕ = to_le_bytes w32 c.args.word in let bs : List ℕ = with_bytes (bytes_of s.pages f) (o % 4096) ws in
+    let same : length (set s.pages f (Some bs)) ≡ length s.pages = length-set s.pages f (Some bs) in
     rw c.set_word.ensures.written (record {
       same = i.same ∙ sym same;
       few = rw same i.few;
@@ -41,16 +46,20 @@ invariant_of-self c =
 
 pub returns-then-offset-clause-written : goal.returns-then-offset-clause-written
 returns-then-offset-clause-written c =
-    let s = c.self.inside in let r = c.args.ds.0 in let o = c.args.offset in let i = c.self.invariant in let f = c.frame-frame.result in let xs : List ℕ = list_at s.table r in
-    let long : length (content_of c.args.self.now.spaces r) ≡ 4096 * length xs = ap (λ (d : Dataspaces). length (content_of d.spaces r)) (sym c.self.view_is) ∙ length-content s.pages s.table r in
+    let s = c.self.inside in let r = c.args.ds.0 in let o = c.args.offset in let i = c.self.invariant in let f = c.frame-frame.result in
+    let xs : List ℕ = list_at s.table r in
+    let long : length (content_of c.args.self.now.spaces r) ≡ 4096 * length xs = ap (λ (d : Dataspaces). length (content_of d.spaces r)) (sym c.self.view_is)
+    ∙ length-content s.pages s.table r in
     let below : o / 4096 < length xs = omega (arith, c.requires, long) in let at : slice_index xs (o / 4096) ≡ f = sym c.frame-frame.ensures.value in
     let whole : length (bytes_of s.pages f) ≡ 4096 = ap (λ (f : ℕ). length (bytes_of s.pages f)) (sym at) ∙ i.whole r (o / 4096) below in
     let ws : List ℕ = to_le_bytes w32 c.args.word in let bs : List ℕ = with_bytes (bytes_of s.pages f) (o % 4096) ws in
     let place : 4096 * (o / 4096) + o % 4096 ≡ o = omega arith in
     let is : bytes_in (set s.pages f (Some bs)) xs ≡ with_bytes (content_of (spaces_in s.pages s.table) r) o ws =
-    bytes_written s.pages xs f (o / 4096) (o % 4096) ws below at (omega (arith, c.if-offset.true)) whole (λ a lt e. (i.apart.once r r a (o / 4096) lt below (e ∙ sym at)).1)
+    bytes_written s.pages xs f (o / 4096) (o % 4096) ws below at (omega (arith, c.if-offset.true)) whole (λ a lt e. (i.apart.once r r a (o / 4096) lt below (e
+    ∙ sym at)).1)
     ∙ ap (λ (p : ℕ). with_bytes (bytes_in s.pages xs) p ws) place ∙ ap (λ (ys : List ℕ). with_bytes ys o ws) (sym (content_at s.pages s.table r)) in
-    rw (c.set_word.ensures.written, ← c.self.view_is) (writes s.pages s.table r (o / 4096) f bs (with_bytes (content_of (spaces_in s.pages s.table) r) o ws) i.apart below at is)
+    rw (c.set_word.ensures.written, ← c.self.view_is) (writes s.pages s.table r (o / 4096) f bs (with_bytes (content_of (spaces_in s.pages s.table) r) o ws)
+    i.apart below at is)
 
 pub returns-then-offset-clause-same_size : goal.returns-then-offset-clause-same_size
 returns-then-offset-clause-same_size c =
@@ -61,5 +70,6 @@ returns-then-offset-clause-same_size c =
 pub store_across-requires-clause-fits : goal.store_across-requires-clause-fits
 store_across-requires-clause-fits c =
     let s = c.self.inside in let r = c.args.ds.0 in
-    let long : length (content_of c.args.self.now.spaces r) ≡ 4096 * length (list_at s.table r) = ap (λ (d : Dataspaces). length (content_of d.spaces r)) (sym c.self.view_is) ∙ length-content s.pages s.table r in
+    let long : length (content_of c.args.self.now.spaces r) ≡ 4096 * length (list_at s.table r) = ap (λ (d : Dataspaces). length (content_of d.spaces r))
+    (sym c.self.view_is) ∙ length-content s.pages s.table r in
     omega (arith, c.requires, long, c.self.invariant.short r)

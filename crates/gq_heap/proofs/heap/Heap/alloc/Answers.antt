@@ -1,18 +1,21 @@
+use Rattle.gq_store.proofs.Results.{err_states}
 use Rattle.gq_heap.proofs.Callers.{heap_now, used_now}
 use Rattle.gq_heap.proofs.heap.Heap.alloc.Goals as goal
 
-pub returns-then-size-le-GREATEST_PLACE-clause-kept : goal.returns-then-size-le-GREATEST_PLACE-clause-kept
-returns-then-size-le-GREATEST_PLACE-clause-kept g c =
-    heap_now c.alloc_small.result _ _ _ _ c.args.size c.requires.kept c.alloc_small.ensures.ok c.alloc_small.ensures.err
+pub returns-then-from-le-GREATEST_PLACE-clause-kept : goal.returns-then-from-le-GREATEST_PLACE-clause-kept
+returns-then-from-le-GREATEST_PLACE-clause-kept g c =
+    heap_now c.alloc_small.result _ _ _ _ c.args.size c.requires.kept c.alloc_small.ensures.ok
+    (err_states g.S.ByteStore.state c.alloc_small.result _ _ _ _ c.alloc_small.ensures.err)
 
-pub returns-then-size-le-GREATEST_PLACE-clause-in_use : goal.returns-then-size-le-GREATEST_PLACE-clause-in_use
-returns-then-size-le-GREATEST_PLACE-clause-in_use g c =
+pub returns-then-from-le-GREATEST_PLACE-clause-in_use : goal.returns-then-from-le-GREATEST_PLACE-clause-in_use
+returns-then-from-le-GREATEST_PLACE-clause-in_use g c =
     used_now c.alloc_small.result _ _ _ _ c.args.size c.requires.kept c.alloc_small.ensures.ok
 
-pub returns-else-size-le-GREATEST_PLACE-clause-kept : goal.returns-else-size-le-GREATEST_PLACE-clause-kept
-returns-else-size-le-GREATEST_PLACE-clause-kept g c =
-    heap_now c.alloc_large.result _ _ _ _ c.args.size c.requires.kept c.alloc_large.ensures.ok c.alloc_large.ensures.err
+pub returns-else-from-le-GREATEST_PLACE-clause-kept : goal.returns-else-from-le-GREATEST_PLACE-clause-kept
+returns-else-from-le-GREATEST_PLACE-clause-kept g c =
+    heap_now c.alloc_large.result _ _ _ _ c.args.size c.requires.kept c.alloc_large.ensures.ok
+    (err_states g.S.ByteStore.state c.alloc_large.result _ _ _ _ c.alloc_large.ensures.err)
 
-pub returns-else-size-le-GREATEST_PLACE-clause-in_use : goal.returns-else-size-le-GREATEST_PLACE-clause-in_use
-returns-else-size-le-GREATEST_PLACE-clause-in_use g c =
+pub returns-else-from-le-GREATEST_PLACE-clause-in_use : goal.returns-else-from-le-GREATEST_PLACE-clause-in_use
+returns-else-from-le-GREATEST_PLACE-clause-in_use g c =
     used_now c.alloc_large.result _ _ _ _ c.args.size c.requires.kept c.alloc_large.ensures.ok

@@ -1,6 +1,8 @@
-use Rattle.std.proofs.Common.{arith}
+use Rattle.std.proofs.Common.{◌+◌, [], ◌∷◌, arith}
+use Rattle.gq_store.proofs.Words.{one_there}
+use Rattle.gq_heap.specs.Heap.{chunk_of, offset_of}
 use Rattle.gq_heap.proofs.Heaps.{block_inside, written}
-use Rattle.gq_heap.proofs.Calls.{sets}
+use Rattle.gq_heap.proofs.Calls.{puts}
 use Rattle.gq_heap.proofs.Callers.{in_use_still}
 use Rattle.gq_heap.proofs.heap.Heap.store.Goals as goal
 
@@ -14,16 +16,16 @@ store-requires g c =
     let i = block_inside c.args.self.now (g.S.ByteStore.state c.args.store.now) c.args.place c.requires.kept in
     rw (c.chunk.ensures, c.offset.ensures) (omega (arith, i.0, c.requires.inside))
 
-pub returns-clause-sets : goal.returns-clause-sets
-returns-clause-sets g c =
+pub returns-clause-puts : goal.returns-clause-puts
+returns-clause-puts g c =
+    let new = g.S.ByteStore.state c.store.new.self in
     let a = rw (c.chunk.ensures, c.offset.ensures) at c.store.ensures.stored in
     let b = rw (c.chunk.ensures, c.offset.ensures) at c.store.ensures.alone in
-    sets c.args.self.now (g.S.ByteStore.state c.args.store.now) (g.S.ByteStore.state c.store.new.self) c.args.place c.args.index c.args.value c.requires.inside
-    (written c.args.self.now (g.S.ByteStore.state c.args.store.now) (g.S.ByteStore.state c.store.new.self) c.args.place c.args.index c.args.value
-    c.requires.inside a b)
+    let h = one_there (new.byte (chunk_of c.args.place)) (offset_of c.args.place + c.args.index) c.args.value a in
+    puts c.args.self.now (g.S.ByteStore.state c.args.store.now) new c.args.place c.args.index (c.args.value ∷ []) (omega (arith, c.requires.inside))
+    (written c.args.self.now (g.S.ByteStore.state c.args.store.now) new c.args.place c.args.index (c.args.value ∷ []) (omega (arith, c.requires.inside)) h b)
 
 pub returns-clause-in_use : goal.returns-clause-in_use
 returns-clause-in_use g c =
-    in_use_still c.args.self.now (g.S.ByteStore.state c.args.store.now) (g.S.ByteStore.state c.store.new.self) c.args.place c.args.index c.args.value
-    c.requires.kept
-    (returns-clause-sets g c)
+    in_use_still c.args.self.now (g.S.ByteStore.state c.args.store.now) (g.S.ByteStore.state c.store.new.self) c.args.place c.args.index
+    (c.args.value ∷ []) c.requires.kept (returns-clause-puts g c)

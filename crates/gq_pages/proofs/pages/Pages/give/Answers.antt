@@ -1,6 +1,6 @@
 use Rattle.std.proofs.Common.{◌≡◌, suc, ◌+◌, ℕ, arith, sym, ap, ◌∙◌}
 use Rattle.gq_pages.specs.Frames.{count_free}
-use Rattle.gq_pages.specs.Pages.{free_frames}
+use Rattle.gq_pages.specs.internal.Pages.{free_frames}
 use Rattle.gq_pages.proofs.Frames.{is_taken_says, fewer_free}
 use Rattle.gq_pages.proofs.Free.{outside, length-free_list, count_free-free_list}
 use Rattle.gq_pages.proofs.Moves.{gives}
@@ -30,7 +30,14 @@ invariant_of-self c =
     let t = is_taken_says p.frames bs (free_frames p) k (rw c.self.view_is c.requires) in let out = outside p.frames p.touched p.chained bs p.first k t.0 t.1 in
     let given = gives p.frames p.touched p.chained bs p.first k i.few i.size i.links i.free t.0 out.0 t.1 in
     let m : p.chained + 1 ≡ suc p.chained = omega arith in
-    rw (c.set_word.ensures.bytes, m) (record { few = i.few; touched = i.touched; room = c.set_word.ensures.size ∙ i.room; size = given.size; links = given.links; free = given.free })
+    rw (c.set_word.ensures.bytes, m) (record {
+      few = i.few;
+      touched = i.touched;
+      room = c.set_word.ensures.size ∙ i.room;
+      size = given.size;
+      links = given.links;
+      free = given.free;
+    })
 
 pub returns : goal.returns
 returns c =
@@ -40,5 +47,6 @@ returns c =
     let m : p.chained + 1 ≡ suc p.chained = omega arith in
     record {
       freed = rw (c.set_word.ensures.bytes, m, ← c.self.view_is) given.view;
-      one_more = rw (c.set_word.ensures.bytes, m) (given.count ∙ ap (λ (n : ℕ). n + 1) (sym (count_free-free_list p.frames p.touched p.chained bs p.first i.free) ∙ ap count_free c.self.view_is));
+      one_more = rw (c.set_word.ensures.bytes, m) (given.count
+          ∙ ap (λ (n : ℕ). n + 1) (sym (count_free-free_list p.frames p.touched p.chained bs p.first i.free) ∙ ap count_free c.self.view_is));
     }

@@ -1,7 +1,7 @@
 use Rattle.std.proofs.Common.{ℕ, List, arith, sym, ap, ◌∙◌}
 use Rattle.gq_pages.specs.Bytes.{word_at}
 use Rattle.gq_pages.specs.Frames.{Frames, bytes_of}
-use Rattle.gq_pages.specs.Pages.{free_frames}
+use Rattle.gq_pages.specs.internal.Pages.{free_frames}
 use Rattle.gq_pages.proofs.Frames.{is_taken_says}
 use Rattle.gq_pages.proofs.Free.{outside}
 use Rattle.gq_pages.proofs.Parts.{word_at-page}
@@ -18,4 +18,5 @@ pub returns : goal.returns
 returns c =
     let p = c.self.inside in let k = c.args.frame.0 in let bs = p.region.bytes in let free = free_frames p in
     let t = is_taken_says p.frames bs free k (rw c.self.view_is c.requires.0) in
-    c.word.ensures ∙ word_at-page bs k c.args.offset c.requires.1 ∙ ap (λ (xs : List ℕ). word_at xs c.args.offset) (sym t.2 ∙ ap (λ (fs : Frames). bytes_of fs k) c.self.view_is)
+    c.word.ensures ∙ word_at-page bs k c.args.offset c.requires.1 ∙ ap (λ (xs : List ℕ). word_at xs c.args.offset) (sym t.2
+    ∙ ap (λ (fs : Frames). bytes_of fs k) c.self.view_is)

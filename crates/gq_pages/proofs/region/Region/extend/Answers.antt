@@ -1,5 +1,6 @@
 use Rattle.std.proofs.Common.{◌≡◌, ◌+◌, ◌-◌, ◌<◌, ◌∷◌, [], length, arith, ap, ◌∙◌, length-append}
-use Rattle.gq_pages.specs.Bytes.{Contents, zeros}
+use Rattle.gq_pages.specs.internal.Region.{Contents}
+use Rattle.gq_pages.specs.Bytes.{zeros}
 use Rattle.gq_pages.proofs.Zeros.{behind_none, behind_more, length-zeros}
 use Rattle.gq_pages.proofs.region.Region.extend.Goals as goal
 
@@ -13,7 +14,8 @@ loop-k-init c = record {
 pub push-requires : goal.push-requires
 push-requires c =
     let i = c.loop-k.invariant in let xs = c.args.self.now.bytes in let n = c.loop-k.k - c.args.len in
-    let long : length c.loop-k.self-inside.cells.bytes ≡ length xs + n = ap length i.bytes ∙ length-append xs (zeros n) ∙ ap (λ m. length xs + m) (length-zeros n) in
+    let long : length c.loop-k.self-inside.cells.bytes ≡ length xs + n = ap length i.bytes ∙ length-append xs (zeros n)
+    ∙ ap (λ m. length xs + m) (length-zeros n) in
     let here : length c.loop-k.self-inside.cells.bytes ≡ c.loop-k.k = omega (arith, long, c.requires.at_end) in
     (i.region.at, here, omega (arith, here, i.region.whole, i.size, c.requires.room))
 

@@ -1,6 +1,6 @@
 use Rattle.std.proofs.Common.{◌≡◌, ◌-◌, ◌++◌}
 use Rattle.gq_pages.specs.Bytes.{zeros}
-use Rattle.gq_pages.specs.Region.{IsRegion}
+use Rattle.gq_pages.specs.internal.Region.{IsRegion}
 use Rattle.gq_pages.proofs.region.Region.extend.Given as goal
 
 abbrev pub invariant-loop-k : goal.invariant-loop-k

@@ -7,8 +7,8 @@ pub free-requires : goal.free-requires
 free-requires g c =
     entry_in_use c.args.self.now c.args.heap.now _ c.args.index c.word-word.result c.requires.kept c.requires.inside c.word-word.ensures (omega arith)
 
-pub store4-requires-clause-inside : goal.store4-requires-clause-inside
-store4-requires-clause-inside g c =
+pub store4-requires : goal.store4-requires
+store4-requires g c =
     rw c.new.ensures (room_freed c.args.self.now c.args.heap.now _ _ _ c.args.index c.word-word.result c.requires.kept c.requires.inside c.word-word.ensures
     (omega arith) c.free.ensures.frees)
 

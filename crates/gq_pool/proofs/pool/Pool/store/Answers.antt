@@ -1,6 +1,6 @@
-use Rattle.std.proofs.Common.{arith}
-use Rattle.gq_pool.proofs.Entries.{entry_in_use, entry_room, sets_there, sets_absent}
-use Rattle.gq_pool.proofs.Callers.{after_sets}
+use Rattle.std.proofs.Common.{[], ◌∷◌, arith}
+use Rattle.gq_pool.proofs.Entries.{entry_in_use, entry_room, puts_there, puts_absent}
+use Rattle.gq_pool.proofs.Callers.{after_puts}
 use Rattle.gq_pool.proofs.pool.Pool.store.Goals as goal
 
 pub store-requires-clause-kept : goal.store-requires-clause-kept
@@ -10,15 +10,15 @@ store-requires-clause-kept g c =
 pub store-requires-clause-inside : goal.store-requires-clause-inside
 store-requires-clause-inside g c = omega (arith, c.requires.inside.1, entry_room c.args.self.now _ c.requires.kept.held c.requires.kept.keeps.table)
 
-pub returns-then-word-gt0-clause-sets : goal.returns-then-word-gt0-clause-sets
-returns-then-word-gt0-clause-sets g c =
-    sets_there c.args.self.now c.args.heap.now _ _ c.args.index c.word-word.result c.args.offset c.args.value c.requires.inside.0 c.word-word.ensures
-    (omega arith) c.store.ensures.sets
+pub returns-then-word-gt0-clause-puts : goal.returns-then-word-gt0-clause-puts
+returns-then-word-gt0-clause-puts g c =
+    puts_there c.args.self.now c.args.heap.now _ _ c.args.index c.word-word.result c.args.offset (c.args.value ∷ []) c.requires.inside.0 c.word-word.ensures
+    (omega arith) c.store.ensures.puts
 
-pub returns-else-word-gt0-clause-sets : goal.returns-else-word-gt0-clause-sets
-returns-else-word-gt0-clause-sets g c =
-    sets_absent c.args.self.now c.args.heap.now _ c.args.index c.args.offset c.args.value c.requires.inside.0 (omega (arith, c.word-word.ensures))
+pub returns-else-word-gt0-clause-puts : goal.returns-else-word-gt0-clause-puts
+returns-else-word-gt0-clause-puts g c =
+    puts_absent c.args.self.now c.args.heap.now _ c.args.index c.args.offset (c.args.value ∷ []) c.requires.inside.0 (omega (arith, c.word-word.ensures))
 
 pub returns-then-word-gt0-clause-kept : goal.returns-then-word-gt0-clause-kept
 returns-then-word-gt0-clause-kept g c =
-    after_sets c.args.self.now c.args.heap.now _ _ c.args.index c.args.offset c.args.value c.requires.kept (returns-then-word-gt0-clause-sets g c)
+    after_puts c.args.self.now c.args.heap.now _ _ c.args.index c.args.offset (c.args.value ∷ []) c.requires.kept (returns-then-word-gt0-clause-puts g c)

@@ -14,8 +14,8 @@ overflow_add-number g c =
     let few = place_few _ _ _ _ c.args.self.now.size c.in-Small.number _ (places_of c.args.self.now.class p.held ++ p.others) p.keeps.blocks a in
     omega (arith, few)
 
-pub store4-requires-clause-inside : goal.store4-requires-clause-inside
-store4-requires-clause-inside g c =
+pub store4-requires : goal.store4-requires
+store4-requires g c =
     rw c.new.ensures (room_made c.args.self.now c.args.heap.now _ _ _ c.args.index c.args.self.now.size _ c.requires.kept c.requires.inside
     c.in_ok-place.ensures.ok)
 

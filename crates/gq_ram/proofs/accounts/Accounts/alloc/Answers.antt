@@ -3,7 +3,8 @@ use Rattle.gq_tariff.specs.Prices.{up}
 use Rattle.gq_pages.specs.Bytes.{zeros}
 use Rattle.gq_ram.specs.declared.account.Account.{Account}
 use Rattle.gq_ram.specs.Entries.{account_at, IsOpen}
-use Rattle.gq_ram.specs.Ledgers.{Ledger, ledger_view}
+use Rattle.gq_ram.specs.Ledgers.{Ledger}
+use Rattle.gq_ram.specs.internal.Fields.{ledger_view}
 use Rattle.gq_ram.proofs.Sums.{err_no_ok, account_within, account_slack}
 use Rattle.gq_ram.proofs.Spending.{spent_balanced, length_zeros, of_fields}
 use Rattle.gq_ram.proofs.accounts.Accounts.alloc.Goals as goal
@@ -11,26 +12,45 @@ use Rattle.gq_ram.proofs.accounts.Accounts.alloc.Goals as goal
 pub round_up-cost-requires : goal.round_up-cost-requires
 round_up-cost-requires c =
     let l : Ledger = ledger_view c.self.inside in let a = c.args.account.0 in
-    let payer : c.account-payer.result ≡ account_at l.accounts a = c.account-payer.ensures ∙ ap (λ (m : Ledger). account_at m.accounts a) (sym c.self.view_is) in
-    omega (arith, c.if-size-avail.false, ap (λ (x : Account). x.quota) payer, account_within (λ x. x.quota) refl l.accounts a, c.self.invariant.quotas, c.self.invariant.small)
+    let payer : c.account-payer.result ≡ account_at l.accounts a = c.account-payer.ensures
+    ∙ ap (λ (m : Ledger). account_at m.accounts a) (sym c.self.view_is) in
+    omega (
+      arith,
+      c.if-size-avail.false,
+      ap (λ (x : Account). x.quota.ram) payer,
+      account_within (λ x. x.quota.ram) refl l.accounts a,
+      c.self.invariant.quotas,
+      c.self.invariant.small,
+    )
 
 pub create-requires : goal.create-requires
 create-requires c =
     let l : Ledger = ledger_view c.self.inside in let a = c.args.account.0 in
-    let payer : c.account-payer.result ≡ account_at l.accounts a = c.account-payer.ensures ∙ ap (λ (m : Ledger). account_at m.accounts a) (sym c.self.view_is) in
-    (omega (arith, c.if-size-eq0.false), omega (arith, c.if-size-avail.false, ap (λ (x : Account). x.quota) payer, account_within (λ x. x.quota) refl l.accounts a, c.self.invariant.quotas, c.self.invariant.small))
+    let payer : c.account-payer.result ≡ account_at l.accounts a = c.account-payer.ensures
+    ∙ ap (λ (m : Ledger). account_at m.accounts a) (sym c.self.view_is) in (
+      omega (arith, c.if-size-eq0.false),
+      omega (
+        arith,
+        c.if-size-avail.false,
+        ap (λ (x : Account). x.quota.ram) payer,
+        account_within (λ x. x.quota.ram) refl l.accounts a,
+        c.self.invariant.quotas,
+        c.self.invariant.small,
+      ),
+    )
 
 pub unreachable-requires : goal.unreachable-requires
 unreachable-requires c =
     let l : Ledger = ledger_view c.self.inside in let a = c.args.account.0 in let b = c.self.invariant in
-    let payer : c.account-payer.result ≡ account_at l.accounts a = c.account-payer.ensures ∙ ap (λ (m : Ledger). account_at m.accounts a) (sym c.self.view_is) in
+    let payer : c.account-payer.result ≡ account_at l.accounts a = c.account-payer.ensures
+    ∙ ap (λ (m : Ledger). account_at m.accounts a) (sym c.self.view_is) in
     let enough : up c.args.size ≤ c.self.inside.spaces.free * 4096 = omega (
       arith,
       c.round_up-cost.ensures.value,
       c.if-cost-avail.false,
-      ap (λ (x : Account). x.quota) payer,
-      ap (λ (x : Account). x.used) payer,
-      account_slack (λ x. x.quota) (λ x. x.used) refl refl l.accounts a b.within,
+      ap (λ (x : Account). x.quota.ram) payer,
+      ap (λ (x : Account). x.used.ram) payer,
+      account_slack (λ x. x.quota.ram) (λ x. x.used.ram) refl refl l.accounts a b.within,
       b.quotas,
       b.pages,
     ) in
@@ -39,12 +59,15 @@ unreachable-requires c =
 pub invariant_of-self : goal.invariant_of-self
 invariant_of-self c =
     let l : Ledger = ledger_view c.self.inside in let a = c.args.account.0 in let b = c.self.invariant in let n = c.args.size in let k = c.in-Ok.ds.0 in
-    let payer : c.account-payer.result ≡ account_at l.accounts a = c.account-payer.ensures ∙ ap (λ (m : Ledger). account_at m.accounts a) (sym c.self.view_is) in
+    let payer : c.account-payer.result ≡ account_at l.accounts a = c.account-payer.ensures
+    ∙ ap (λ (m : Ledger). account_at m.accounts a) (sym c.self.view_is) in
     let opened : IsOpen l.accounts a = subst (λ (m : Ledger). IsOpen m.accounts a) (sym c.self.view_is) c.requires in
     let long : length (zeros (up n)) ≡ up n = length_zeros (up n) in
     let cost : c.round_up-cost.result ≡ length (zeros (up n)) = c.round_up-cost.ensures.value ∙ sym long in
-    let made : c.create.new.self ≡ record { spaces = set l.spaces.spaces k (Some (zeros (up n))); free = c.create.new.self.free } = of_fields c.create.new.self (set l.spaces.spaces k (Some (zeros (up n)))) c.in-Ok.ensures.made in
+    let made : c.create.new.self ≡ record { spaces = set l.spaces.spaces k (Some (zeros (up n))); free = c.create.new.self.free } =
+    of_fields c.create.new.self (set l.spaces.spaces k (Some (zeros (up n)))) c.in-Ok.ensures.made in
     let vacant = c.in-Ok.ensures.was_vacant in
-    rw (payer, cost, made) (spent_balanced l c.args.account k (zeros (up n)) c.create.new.self.free b opened vacant.0 vacant.1 (omega (arith, c.in-Ok.ensures.paid, long))
-    (omega (arith, c.if-cost-avail.false, cost, ap (λ (x : Account). x.quota) payer, ap (λ (x : Account). x.used) payer))
-    (omega (arith, c.if-payer-self.false, ap (λ (x : Account). x.caps) payer, ap (λ (x : Account). x.caps_used) payer)))
+    rw (payer, cost, made) (spent_balanced l c.args.account k (zeros (up n)) c.create.new.self.free b opened vacant.0 vacant.1
+    (omega (arith, c.in-Ok.ensures.paid, long))
+    (omega (arith, c.if-cost-avail.false, cost, ap (λ (x : Account). x.quota.ram) payer, ap (λ (x : Account). x.used.ram) payer))
+    (omega (arith, c.if-payer-self.false, ap (λ (x : Account). x.quota.caps) payer, ap (λ (x : Account). x.used.caps) payer)))

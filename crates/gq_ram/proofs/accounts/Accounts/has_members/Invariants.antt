@@ -1,8 +1,9 @@
-use Rattle.std.proofs.Common.{◌≡◌, ◌<◌, ℕ, false}
-use Rattle.gq_ram.specs.Entries.{account_at, is_it}
+use Rattle.std.proofs.Common.{◌≡◌}
+use Rattle.gq_ram.specs.Entries.{has_members}
+use Rattle.gq_ram.proofs.Numbers.{refers}
 use Rattle.gq_ram.proofs.accounts.Accounts.has_members.Given as goal
 
-abbrev pub invariant-loop-k : goal.invariant-loop-k
-invariant-loop-k l = record {
-  none : (j : ℕ) → j < l.k → is_it (account_at l.fn.self.accounts j).reference l.account ≡ false;
+abbrev pub invariant-loop-member : goal.invariant-loop-member
+invariant-loop-member l = record {
+  left : refers l.member-iterator l.account ≡ has_members l.fn.self.accounts l.account;
 }

@@ -23,7 +23,8 @@ overflow_add-self c =
 
 pub invariant_of-self-2 : goal.invariant_of-self-2
 invariant_of-self-2 c =
-    let ps = c.self.inside.places.items in let k = c.first_free-place.result in let r : Range = record { ds = c.args.ds; size = c.args.size } in let n : length ps ≡ c.len-count.result = omega (arith, c.len-count.ensures) in
+    let ps = c.self.inside.places.items in let k = c.first_free-place.result in let r : Range = record { ds = c.args.ds; size = c.args.size } in
+    let n : length ps ≡ c.len-count.result = omega (arith, c.len-count.ensures) in
     let low : k < length ps = omega (arith, lowest_within ps, n, c.if-place-count.false, c.first_free-place.ensures) in
     let m : length (set ps k (Some r)) ≡ length ps = length-set ps k (Some r) in
     record {

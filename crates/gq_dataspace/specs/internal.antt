@@ -1,0 +1,5 @@
+pub mod Lists
+pub mod Trees
+pub mod Links
+pub mod Runs
+pub mod Holding

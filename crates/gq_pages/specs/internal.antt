@@ -1,0 +1,4 @@
+pub mod Layout
+pub mod Ownership
+pub mod Pages
+pub mod Region

@@ -1,0 +1,13 @@
+use Rattle.gq_heap.proofs.Callers.{room_there}
+use Rattle.gq_store_example.proofs.Steps.{block_laid, slice_laid, first_laid, second_laid}
+use Rattle.gq_store_example.proofs.sharing.lay.Goals as goal
+
+pub store-requires-clause-inside : goal.store-requires-clause-inside
+store-requires-clause-inside g c = room_there _ _ _ c.in_ok-block.ensures.in_use
+
+pub returns : goal.returns
+returns g c =
+    let begun = block_laid _ _ _ _ _ _ c.requires c.in_ok-block.ensures.ok c.store.ensures.puts in
+    let sliced = slice_laid _ _ _ _ _ _ _ begun c.in_ok-slice.ensures.ok c.store-2.ensures.puts in
+    let first = first_laid _ _ _ _ _ _ _ sliced c.in_ok-first.ensures.ok in
+    second_laid _ _ _ _ _ _ _ _ first (c.in_ok-first.ensures.ok.count_is, c.in_ok-first.ensures.ok.size_is) c.in_ok-second.ensures.ok
