@@ -1,0 +1,4 @@
+pub mod Views
+mod Growing
+mod Writing
+pub mod Donating

@@ -1,0 +1,99 @@
+// Values by their numbers.
+ghost use Rattle.std.specs.Prelude.{◌≡◌, ◌<◌, ◌≤◌, [], ℕ, Some, None, length, slice_set, get_or, IfOk, take};
+ghost use Rattle.gq_numbered.specs.Numbers.{added, free_number, IsTaken};
+
+use std::alloc::{AllocError, Global};
+use std::marker::Model;
+
+/// Values by their numbers. A new one takes the lowest number that is free: in constant time where none was freed below the last one that was
+/// taken, else by a search from there. No call but `new` takes host memory.
+#[derive(Drop)]
+pub struct Numbered<T: Copy> {
+    places: Vec<Option<T>>,
+    // How many of them have been used.
+    count: usize,
+    // No place below is free.
+    low: usize,
+}
+
+impl<T: Copy> Model for Numbered<T> {
+    ghost use Rattle.gq_numbered.specs.Numbers.{Numbers};
+    ghost use Rattle.gq_numbered.specs.internal.Fields.{IsNumbered, numbers_of};
+
+    ghost Value = { Numbers T };
+
+    ghost view = { λ n. numbers_of n.places.items n.count };
+
+    ghost invariant = { λ n. IsNumbered n.places.items n.count n.low };
+}
+
+impl<T: Copy> Numbered<T> {
+    /// No values, with room for so many. `Err` where the host refuses memory for them.
+    pub fn new(alloc: Global, room: u32) -> Result<Numbered<T>, AllocError>
+        ensures { IfOk result (λ numbers. numbers ≡ record { values = []; room = room }) }
+    {
+        let places = Vec::from_elem(alloc, None, room as usize)?;
+        Ok(Numbered {
+            places,
+            count: 0,
+            low: 0,
+        })
+    }
+
+    /// Puts a value at the lowest free number, and tells that.
+    pub fn add(&mut self, value: T) -> usize
+        requires room { free_number self.old.values < self.old.room }
+        ensures number { result ≡ free_number self.old.values }
+        ensures added { self.new.values ≡ added value self.old.values }
+        ensures same_room { self.new.room ≡ self.old.room }
+    {
+        let number = first_free(&self.places, self.low, self.count);
+        self.places[number] = Some(value);
+        self.low = number + 1;
+        self.count = self.count.max(self.low);
+        number
+    }
+
+    /// The value of a number that is taken.
+    pub fn get(&self, number: usize) -> T
+        requires { IsTaken self.now.values number }
+        ensures { get_or self.now.values number None ≡ Some result }
+    {
+        let Some(value) = self.places[number] else {
+            unreachable!();
+        };
+        value
+    }
+
+    /// Puts another value at a number that is taken.
+    pub fn set(&mut self, number: usize, value: T)
+        requires { IsTaken self.old.values number }
+        ensures { self.new ≡ record { values = slice_set self.old.values number (Some value); room = self.old.room } }
+    {
+        self.places[number] = Some(value);
+    }
+
+    /// Makes a number that is taken free.
+    pub fn remove(&mut self, number: usize)
+        requires { IsTaken self.old.values number }
+        ensures { self.new ≡ record { values = slice_set self.old.values number None; room = self.old.room } }
+    {
+        self.places[number] = None;
+        self.low = self.low.min(number);
+    }
+}
+
+// The first of so many places from `low` on that is free, or how many they are where none is.
+fn first_free<T: Copy>(places: &Vec<Option<T>>, low: usize, count: usize) -> usize
+    requires some { count ≤ length places.now.items }
+    requires within { low ≤ count }
+    requires below { (k : ℕ) → k < low → IsTaken (take count places.now.items) k }
+    ensures { result ≡ free_number (take count places.now.items) }
+{
+    for k in low..count {
+        if places[k].is_none() {
+            return k;
+        }
+    }
+    count
+}

@@ -1,0 +1,10 @@
+pub mod Lists
+pub mod Frames
+pub mod Beside
+pub mod Calls
+pub mod PoolCalls
+pub mod Paying
+pub mod Counting
+pub mod Peaks
+pub mod Entries
+pub mod Callers

@@ -1,0 +1,3 @@
+pub mod Things
+pub mod Kept
+pub mod Paid

@@ -1,0 +1,4 @@
+mod Inside
+pub mod Kept
+pub mod Paying
+pub mod Sessions
