@@ -1,11 +1,12 @@
 -- The pieces of a text, by what stands at its front.
-use Rattle.std.proofs.Common.{◌≡◌, ◌<◌, ◌≤◌, ◌-◌, ℕ, ◌==◌, suc, if◌then◌else◌, Bool, true, false, List, [], ◌∷◌, ◌++◌, length, get_or, take, drop, Option, Some, None, zero, drop-cons, append-nil, ◌+◌, add-one, refl, sym, ◌∙◌, ap, arith}
+use Rattle.std.proofs.Common.{◌≡◌, ◌<◌, ◌≤◌, ◌-◌, ℕ, ◌==◌, suc, if◌then◌else◌, Bool, true, false, List, [], ◌∷◌, ◌++◌, length, get_or, take, drop}
+use Rattle.std.proofs.Common.{Option, Some, None, zero, drop-cons, append-nil, ◌+◌, add-one, refl, sym, ◌∙◌, ap, arith}
 use Rattle.std.proofs.lemmas.Bool.{eqb-true, eqb-false}
 use Rattle.std.proofs.Math.Seq.{take-suc, drop-length}
-use Rattle.gq_model.specs.Lists.{all_of}
-use Rattle.gq_model.specs.Letters.{is_blank, onto_first, pieces, non_empty, words, unindented, past_word, lines, without_return, without_returns}
-use Rattle.gq_model.specs.Spelling.{before, quoted}
-use Rattle.gq_asm.specs.Pieces.{front_word, NextWord, front_line, past_feed, size_left, onto}
+use Rattle.gq_model.specs.machine.Lists.{all_of}
+use Rattle.gq_model.specs.texts.Letters.{is_blank, onto_first, pieces, non_empty, words, unindented, past_word, lines, without_return, without_returns}
+use Rattle.gq_model.specs.texts.Spelling.{before, quoted}
+use Rattle.gq_asm.specs.internal.Pieces.{front_word, NextWord, front_line, past_feed, size_left, onto}
 
 -- by the truth of a test
 pub by_test : {P : Type 0} (b : Bool) → (b ≡ true → P) → (b ≡ false → P) → P
@@ -40,12 +41,16 @@ words-past [] = refl
 words-past (c ∷ rest) = by_test (is_blank c) (λ e. rw e (rw e refl)) (λ e. rw e (words-past rest))
 
 -- the words of a text, by its first
-pub next : (text : List ℕ) → (unindented text ≡ [] → words text ≡ []) × (0 < length (unindented text) → NextWord text (front_word (unindented text)) (past_word (unindented text)))
+pub next : (text : List ℕ) →
+    (unindented text ≡ [] → words text ≡ []) × (0 < length (unindented text) → NextWord text (front_word (unindented text)) (past_word (unindented text)))
 next [] = (λ _. refl, λ h. absurd (omega arith))
 next (c ∷ rest) =
     by_test (is_blank c)
     (λ e. rw e ((next rest).0, λ h. record { all = rw e ((next rest).1 h).all; rest = rw e refl }))
-    (λ e. rw e (λ h. absurd (cc), λ h. record { all = rw e (rw (pieces-word rest) (ap (λ ws. (c ∷ front_word rest) ∷ ws) (words-past rest))); rest = rw e (rw e refl) }))
+    (λ e. rw e (
+      λ h. absurd (cc),
+      λ h. record { all = rw e (rw (pieces-word rest) (ap (λ ws. (c ∷ front_word rest) ∷ ws) (words-past rest))); rest = rw e (rw e refl) },
+    ))
 
 -- LINES
 
@@ -113,20 +118,26 @@ onto_append [] more text = refl
 onto_append (c ∷ rest) more text = ap (before c) (onto_append rest more text)
 
 -- at a quotation mark
-pub quoted_mark : (text : List ℕ) (i : ℕ) → i < length text → get_or text i 0 ≡ 34 → onto (take i text) (quoted (drop i text)) ≡ onto (take i text) (if all_of is_blank (drop (suc i) text) then Some [] else None)
+pub quoted_mark : (text : List ℕ) (i : ℕ) → i < length text → get_or text i 0 ≡ 34 →
+    onto (take i text) (quoted (drop i text)) ≡ onto (take i text) (if all_of is_blank (drop (suc i) text) then Some [] else None)
 quoted_mark text i h e = rw (drop-cons text i 0) (rw e refl)
 
-pub quoted_found : (text : List ℕ) (i : ℕ) → i < length text → get_or text i 0 ≡ 34 → all_of is_blank (drop (i + 1) text) ≡ true → onto (take i text) (quoted (drop i text)) ≡ Some (take i text)
+pub quoted_found : (text : List ℕ) (i : ℕ) → i < length text → get_or text i 0 ≡ 34 → all_of is_blank (drop (i + 1) text) ≡ true →
+    onto (take i text) (quoted (drop i text)) ≡ Some (take i text)
 quoted_found text i h e blank =
     let b : all_of is_blank (drop (suc i) text) ≡ true = rw (← add-one i) blank in
     quoted_mark text i h e ∙ rw b (onto_some (take i text) [] ∙ ap Some (append-nil (take i text)))
 
-pub quoted_more : (text : List ℕ) (i : ℕ) → i < length text → get_or text i 0 ≡ 34 → all_of is_blank (drop (i + 1) text) ≡ false → onto (take i text) (quoted (drop i text)) ≡ None
-quoted_more text i h e more = let b : all_of is_blank (drop (suc i) text) ≡ false = rw (← add-one i) more in quoted_mark text i h e ∙ rw b (onto_none (take i text))
+pub quoted_more : (text : List ℕ) (i : ℕ) → i < length text → get_or text i 0 ≡ 34 → all_of is_blank (drop (i + 1) text) ≡ false →
+    onto (take i text) (quoted (drop i text)) ≡ None
+quoted_more text i h e more =
+    let b : all_of is_blank (drop (suc i) text) ≡ false = rw (← add-one i) more in quoted_mark text i h e ∙ rw b (onto_none (take i text))
 
-pub quoted_step : (text : List ℕ) (i : ℕ) → i < length text → (get_or text i 0 ≡ 34 → ⊥) → onto (take (i + 1) text) (quoted (drop (i + 1) text)) ≡ onto (take i text) (quoted (drop i text))
+pub quoted_step : (text : List ℕ) (i : ℕ) → i < length text → (get_or text i 0 ≡ 34 → ⊥) →
+    onto (take (i + 1) text) (quoted (drop (i + 1) text)) ≡ onto (take i text) (quoted (drop i text))
 quoted_step text i h e =
-    rw (add-one i, drop-cons text i 0, take-suc text i 0) (rw (ne_test (get_or text i 0) 34 e) (onto_append (take i text) (get_or text i 0 ∷ []) (quoted (drop (suc i) text))))
+    rw (add-one i, drop-cons text i 0, take-suc text i 0)
+    (rw (ne_test (get_or text i 0) 34 e) (onto_append (take i text) (get_or text i 0 ∷ []) (quoted (drop (suc i) text))))
 
 pub quoted_end : (text : List ℕ) → onto (take (length text) text) (quoted (drop (length text) text)) ≡ None
 quoted_end text = rw (drop-length text) (onto_none (take (length text) text))

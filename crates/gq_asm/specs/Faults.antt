@@ -1,6 +1,6 @@
 -- What an answer of the assembler says.
 use Rattle.std.specs.Prelude.{◌≡◌, ℕ, alloc_error, Result, Ok, Err}
-use Rattle.gq_model.specs.Program.{Program}
+use Rattle.gq_model.specs.machine.Program.{Program}
 use Rattle.gq_model.specs.declared.fault.TextFault.{TextFault}
 use Rattle.gq_asm.specs.declared.faults.AssembleError.{AssembleError}
 use Rattle.gq_asm.specs.declared.faults.AssembleError.TheVariants.{Memory, Fault}

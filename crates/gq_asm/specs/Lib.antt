@@ -1,5 +1,2 @@
-pub mod Pieces
-pub mod Operands
-pub mod State
 pub mod Faults
-pub mod Order
+pub mod internal

@@ -1,17 +1,17 @@
 // Lines outside sections.
 ghost use Rattle.std.specs.Prelude.{◌≡◌, is_some};
-ghost use Rattle.gq_model.specs.Program.{same_section, section_in};
-ghost use Rattle.gq_model.specs.Letters.{words};
-ghost use Rattle.gq_model.specs.Text.{numbered, limit_of, heading, local, outside};
-ghost use Rattle.gq_asm.specs.State.{Gives, reading_of};
+ghost use Rattle.gq_model.specs.machine.Program.{same_section, section_in};
+ghost use Rattle.gq_model.specs.texts.Letters.{words};
+ghost use Rattle.gq_model.specs.texts.Text.{numbered, limit_of, heading, local, outside};
+ghost use Rattle.gq_asm.specs.internal.State.{Gives, reading_of};
 
 use crate::faults::LineError;
 use crate::operands::{at_end, next_number};
 use crate::reading::{BlockKind, Reading};
-use gq_code::Body;
-use gq_code::spelling::same_text;
 use gq_model::fault::TextFault;
 use gq_model::program::Section;
+use gq_program::Body;
+use gq_program::spelling::same_text;
 use std::alloc::Global;
 
 /// Whether two sections are the same.
@@ -85,7 +85,8 @@ impl Reading {
 
     /// `up`.
     fn upgrading(&mut self, alloc: Global, line: u64, after: &[u8]) -> Result<(), LineError>
-        ensures { Gives (λ _. reading_of self.new) result (numbered 1 3 (words after.now) (λ l more. heading (reading_of self.old) line (Section.Upgrading l) more)) }
+        ensures { Gives (λ _. reading_of self.new) result
+            (numbered 1 3 (words after.now) (λ l more. heading (reading_of self.old) line (Section.Upgrading l) more)) }
     {
         let (level, rest) = next_number(after, 1, 3)?;
         self.heading(alloc, line, Section::Upgrading(level as u8), rest)
@@ -93,7 +94,8 @@ impl Reading {
 
     /// `call`.
     fn calling(&mut self, alloc: Global, line: u64, after: &[u8]) -> Result<(), LineError>
-        ensures { Gives (λ _. reading_of self.new) result (numbered 0 3 (words after.now) (λ l more. heading (reading_of self.old) line (Section.Calling l) more)) }
+        ensures { Gives (λ _. reading_of self.new) result
+            (numbered 0 3 (words after.now) (λ l more. heading (reading_of self.old) line (Section.Calling l) more)) }
     {
         let (level, rest) = next_number(after, 0, 3)?;
         self.heading(alloc, line, Section::Calling(level as u8), rest)
@@ -101,7 +103,8 @@ impl Reading {
 
     /// `close`.
     fn closing(&mut self, alloc: Global, line: u64, after: &[u8]) -> Result<(), LineError>
-        ensures { Gives (λ _. reading_of self.new) result (numbered 0 3 (words after.now) (λ l more. heading (reading_of self.old) line (Section.Closing l) more)) }
+        ensures { Gives (λ _. reading_of self.new) result
+            (numbered 0 3 (words after.now) (λ l more. heading (reading_of self.old) line (Section.Closing l) more)) }
     {
         let (level, rest) = next_number(after, 0, 3)?;
         self.heading(alloc, line, Section::Closing(level as u8), rest)

@@ -1,14 +1,14 @@
 // Statements by the shape of their operands. Each function takes what follows the statement's word on its line.
 ghost use Rattle.std.specs.Prelude.{◌≡◌};
-ghost use Rattle.gq_model.specs.Letters.{words};
-ghost use Rattle.gq_model.specs.Spelling.{instruction_in};
-ghost use Rattle.gq_code.specs.Spelling.{shape_of};
+ghost use Rattle.gq_model.specs.texts.Letters.{words};
+ghost use Rattle.gq_model.specs.texts.Spelling.{instruction_in};
+ghost use Rattle.gq_program.specs.Spelling.{shape_of};
 
 use crate::operands::{at_end, next_name, next_number, next_slot, next_slot_or_object};
 use crate::says::said_in;
-use gq_code::spelling::{Bare, Shape, WithAmount, WithBytes, WithNumber, WithSlot};
 use gq_model::fault::TextFault;
 use gq_model::program::Instruction;
+use gq_program::spelling::{Bare, Shape, WithAmount, WithBytes, WithNumber, WithSlot};
 
 /// Without operands.
 fn plain(statement: Bare, after: &[u8]) -> Result<Instruction, TextFault>

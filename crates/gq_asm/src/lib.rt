@@ -1,4 +1,11 @@
 //! The assembler of program text.
+//!
+//! ```rust
+//! use gq_asm::assemble;
+//!
+//! let program = assemble(rt.alloc(), b"main\nsay \"hello\"\nend\n")?;
+//! assert_eq!(rt; program.sections().len(), 1);
+//! ```
 #![tactic(auto)]
 
 mod faults;
@@ -16,6 +23,3 @@ mod words;
 
 pub use faults::AssembleError;
 pub use text::assemble;
-
-#[cfg(test)]
-mod tests;

@@ -1,7 +1,7 @@
 // The lines of a text.
 ghost use Rattle.std.specs.Prelude.{◌≡◌, ◌≤◌, ◌∷◌, length, option_copied};
-ghost use Rattle.gq_model.specs.Letters.{lines, without_return};
-ghost use Rattle.gq_asm.specs.Pieces.{front_line, past_feed, lines_left, size_left};
+ghost use Rattle.gq_model.specs.texts.Letters.{lines, without_return};
+ghost use Rattle.gq_asm.specs.internal.Pieces.{front_line, past_feed, lines_left, size_left};
 
 /// A line without the carriage return at its end.
 fn without_return(line: &[u8]) -> &[u8]

@@ -1,7 +1,7 @@
 // Numbers of a text.
 ghost use Rattle.std.specs.Prelude.{◌≡◌, ◌≤◌, if◌then◌else◌, length, Some, None, IfSome};
-ghost use Rattle.gq_model.specs.Lists.{all_of};
-ghost use Rattle.gq_model.specs.Letters.{is_digit, spelled_on, number_in};
+ghost use Rattle.gq_model.specs.machine.Lists.{all_of};
+ghost use Rattle.gq_model.specs.texts.Letters.{is_digit, spelled_on, number_in};
 
 use gq_model::letters::is_digit;
 

@@ -1,7 +1,7 @@
 // The operands at the front of what follows a word on its line.
 ghost use Rattle.std.specs.Prelude.{◌≤◌, IfOk, true, false};
-ghost use Rattle.gq_model.specs.Letters.{words};
-ghost use Rattle.gq_asm.specs.Operands.{Answers, nothing_at, number_at, slot_at, name_at};
+ghost use Rattle.gq_model.specs.texts.Letters.{words};
+ghost use Rattle.gq_asm.specs.internal.Operands.{Answers, nothing_at, number_at, slot_at, name_at};
 
 use crate::numbers::number_in;
 use crate::slots::{numbered_slot, slot_or_object};

@@ -1,24 +1,19 @@
 // What has been read of a text: the limits of locals, the closed sections, and the open blocks.
 ghost use Rattle.std.specs.Prelude.{◌≡◌, ◌∷◌, [], Ok};
-ghost use Rattle.gq_model.specs.Letters.{words};
-ghost use Rattle.gq_model.specs.Text.{opening, close_block, ended, other_arm};
-ghost use Rattle.gq_code.specs.Trees.{tree_of};
-ghost use Rattle.gq_asm.specs.Operands.{Answers};
-ghost use Rattle.gq_asm.specs.State.{Gives, kind_of, blocks_of, reading_of, counted_at, nested_in, with_added};
+ghost use Rattle.gq_model.specs.texts.Letters.{words};
+ghost use Rattle.gq_model.specs.texts.Text.{opening, close_block, ended, other_arm};
+ghost use Rattle.gq_program.specs.Trees.{tree_of};
+ghost use Rattle.gq_asm.specs.internal.Operands.{Answers};
+ghost use Rattle.gq_asm.specs.internal.State.{Gives, kind_of, blocks_of, reading_of, counted_at, nested_in, with_added};
 
 use crate::faults::LineError;
 use crate::operands::at_end;
-use gq_code::{Body, Statement};
 use gq_model::fault::TextFault;
+use gq_model::limits::{GREATEST_DEPTH, GREATEST_STATEMENTS};
 use gq_model::program::Section;
+use gq_program::{Body, Statement};
 use std::alloc::Global;
 use std::collections::VecDeque;
-
-/// The most statements of a text.
-const GREATEST_STATEMENTS: u16 = 4096;
-
-/// The most open blocks: a section, and four in it.
-const GREATEST_DEPTH: usize = 5;
 
 /// What a block is.
 #[derive(Drop)]
@@ -85,7 +80,7 @@ impl Reading {
     pub fn find_room(&self) -> Result<(), TextFault>
         ensures { Answers (λ _. reading_of self.now) result (nested_in (reading_of self.now)) }
     {
-        if self.blocks.iter().count() >= GREATEST_DEPTH {
+        if self.blocks.iter().count() > GREATEST_DEPTH {
             return Err(TextFault::TooLong);
         }
         Ok(())
@@ -113,7 +108,8 @@ impl Reading {
 
     /// Makes a closed block a part of what is around it.
     fn close(&mut self, alloc: Global, block: OpenBlock) -> Result<(), LineError>
-        ensures { Gives (λ _. reading_of self.new) result (Ok (close_block (reading_of self.old) (kind_of block.kind) block.before (blocks_of self.old.blocks.items))) }
+        ensures { Gives (λ _. reading_of self.new) result
+            (Ok (close_block (reading_of self.old) (kind_of block.kind) block.before (blocks_of self.old.blocks.items))) }
     {
         let OpenBlock {
             kind,

@@ -1,6 +1,6 @@
 // The text of `say`.
 ghost use Rattle.std.specs.Prelude.{◌≡◌, option_copied};
-ghost use Rattle.gq_model.specs.Spelling.{quoted, said_in};
+ghost use Rattle.gq_model.specs.texts.Spelling.{quoted, said_in};
 
 use crate::words::{is_all_blank, unindented};
 use gq_model::program::Text;

@@ -1,10 +1,11 @@
 // Slots.
 ghost use Rattle.std.specs.Prelude.{◌≡◌, true};
-ghost use Rattle.gq_model.specs.Spelling.{slot_number, numbered_slot, slot_in};
+ghost use Rattle.gq_model.specs.texts.Spelling.{slot_number, numbered_slot, slot_in};
 
 use crate::numbers::number_in;
-use gq_code::spelling::same_text;
+use gq_model::limits::{OWN_SLOTS, SESSION_SLOTS};
 use gq_model::program::Place;
+use gq_program::spelling::same_text;
 
 /// The number of a slot, up to high, without a leading zero.
 fn slot_number(text: &[u8], high: u8) -> Option<u8>
@@ -21,8 +22,8 @@ pub fn numbered_slot(word: &[u8]) -> Option<Place>
     ensures { result ≡ numbered_slot word.now }
 {
     match word {
-        [b'o', number @ ..] => Some(Place::Own(slot_number(number, 63)?)),
-        [b's', number @ ..] => Some(Place::Shared(slot_number(number, 7)?)),
+        [b'o', number @ ..] => Some(Place::Own(slot_number(number, OWN_SLOTS as u8 - 1)?)),
+        [b's', number @ ..] => Some(Place::Shared(slot_number(number, SESSION_SLOTS as u8 - 1)?)),
         _ => None,
     }
 }

@@ -1,18 +1,18 @@
 // Lines in a section.
 ghost use Rattle.std.specs.Prelude.{Ok};
-ghost use Rattle.gq_model.specs.Letters.{words};
-ghost use Rattle.gq_model.specs.Spelling.{spellings, shape_of_word, found, instruction_in};
+ghost use Rattle.gq_model.specs.texts.Letters.{words};
+ghost use Rattle.gq_model.specs.texts.Spelling.{spellings, shape_of_word, found, instruction_in};
 ghost use Rattle.gq_model.specs.declared.fault.TextFault.TheVariants.{UnknownWord};
-ghost use Rattle.gq_model.specs.Text.{First_arm, Loop_body, at_end, numbered, opening, counted, nested, put, statement};
-ghost use Rattle.gq_asm.specs.State.{Gives, reading_of};
+ghost use Rattle.gq_model.specs.texts.Text.{First_arm, Loop_body, at_end, numbered, opening, counted, nested, put, statement};
+ghost use Rattle.gq_asm.specs.internal.State.{Gives, reading_of};
 
 use crate::faults::LineError;
 use crate::instructions::instruction;
 use crate::operands::{at_end, next_number};
 use crate::reading::{BlockKind, Reading};
-use gq_code::Statement;
-use gq_code::spelling::{same_text, shape_of_word};
 use gq_model::fault::TextFault;
+use gq_program::Statement;
+use gq_program::spelling::{same_text, shape_of_word};
 use std::alloc::Global;
 
 impl Reading {
@@ -28,7 +28,8 @@ impl Reading {
 
     /// `loop`: opens its body.
     fn open_loop(&mut self, alloc: Global, line: u64, after: &[u8]) -> Result<(), LineError>
-        ensures { Gives (λ _. reading_of self.new) result (nested (reading_of self.old) (λ s. numbered 1 65535 (words after.now) (λ n more. at_end more (Ok (opening s (Loop_body n) line))))) }
+        ensures { Gives (λ _. reading_of self.new) result
+            (nested (reading_of self.old) (λ s. numbered 1 65535 (words after.now) (λ n more. at_end more (Ok (opening s (Loop_body n) line))))) }
     {
         self.count_statement()?;
         self.find_room()?;
@@ -39,7 +40,9 @@ impl Reading {
 
     /// A statement of the table.
     fn plain(&mut self, word: &[u8], after: &[u8]) -> Result<(), LineError>
-        ensures { Gives (λ _. reading_of self.new) result (found (shape_of_word word.now spellings) UnknownWord (λ shape. counted (reading_of self.old) (λ s. put s (instruction_in after.now shape (words after.now))))) }
+        ensures { Gives (λ _. reading_of self.new) result
+            (found (shape_of_word word.now spellings) UnknownWord
+            (λ shape. counted (reading_of self.old) (λ s. put s (instruction_in after.now shape (words after.now))))) }
     {
         let Some(shape) = shape_of_word(word) else {
             return Err(LineError::Fault(TextFault::UnknownWord));

@@ -1,41 +1,24 @@
 // A text, line by line.
 ghost use Rattle.std.specs.Prelude.{◌≡◌, ◌∷◌, [], IsTrue, Ok, IfOk, MatchOption};
-ghost use Rattle.gq_model.specs.Program as model;
-ghost use Rattle.gq_model.specs.Program.{section_in};
-ghost use Rattle.gq_model.specs.Code.{IsProgram};
-ghost use Rattle.gq_model.specs.Letters.{words};
-ghost use Rattle.gq_model.specs.Text.{limit_of, limit_or_greatest, limits_from, in_order, finished, line_read, is_comment, assembled};
-ghost use Rattle.gq_asm.specs.State.{Gives, reading_of};
+ghost use Rattle.gq_model.specs.machine.Program as model;
+ghost use Rattle.gq_model.specs.machine.Program.{section_in};
+ghost use Rattle.gq_model.specs.texts.Code.{IsProgram};
+ghost use Rattle.gq_model.specs.texts.Letters.{words};
+ghost use Rattle.gq_model.specs.texts.Text.{limit_of, limit_or_greatest, limits_from, in_order, finished, line_read, is_comment, assembled};
+ghost use Rattle.gq_asm.specs.internal.State.{Gives, reading_of};
 ghost use Rattle.gq_asm.specs.Faults.{Assembles};
-ghost use Rattle.gq_asm.specs.Order.{without, IsFirstAt, IsAbsent, is_distinct};
+ghost use Rattle.gq_asm.specs.internal.Order.{without, IsFirstAt, IsAbsent, is_distinct};
 
 use crate::faults::{AssembleError, LineError};
 use crate::headings::{limit_of, same_section};
 use crate::lines::first_line;
 use crate::reading::Reading;
 use crate::words::next_word;
-use gq_code::program::LOCALS;
-use gq_code::{Body, Program};
 use gq_model::fault::TextFault;
+use gq_model::limits::LOCALS;
 use gq_model::program::Section;
+use gq_program::{Body, Program};
 use std::alloc::{AllocError, Global};
-
-/// The sections in their order.
-const ALL_SECTIONS: [Section; 13] = [
-    Section::Main,
-    Section::Opening,
-    Section::Upgrading(1),
-    Section::Upgrading(2),
-    Section::Upgrading(3),
-    Section::Calling(0),
-    Section::Calling(1),
-    Section::Calling(2),
-    Section::Calling(3),
-    Section::Closing(0),
-    Section::Closing(1),
-    Section::Closing(2),
-    Section::Closing(3),
-];
 
 /// Whether the first word of a line begins a comment.
 fn is_comment(word: &[u8]) -> bool
@@ -149,7 +132,7 @@ impl Reading {
             });
         }
         let locals = greatest_values(&limits);
-        let sections = in_order(alloc, sections, &ALL_SECTIONS)?;
+        let sections = in_order(alloc, sections, &Section::ALL)?;
         Ok(Program::from_parts(sections, locals))
     }
 }

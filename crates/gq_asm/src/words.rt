@@ -1,8 +1,8 @@
 // The words of a line.
 ghost use Rattle.std.specs.Prelude.{◌≡◌, [], MatchOption};
-ghost use Rattle.gq_model.specs.Lists.{all_of};
-ghost use Rattle.gq_model.specs.Letters.{is_blank, words, unindented, past_word};
-ghost use Rattle.gq_asm.specs.Pieces.{front_word, NextWord};
+ghost use Rattle.gq_model.specs.machine.Lists.{all_of};
+ghost use Rattle.gq_model.specs.texts.Letters.{is_blank, words, unindented, past_word};
+ghost use Rattle.gq_asm.specs.internal.Pieces.{front_word, NextWord};
 
 /// Whether a byte is a blank: a space or a tab.
 pub fn is_blank(byte: u8) -> bool

@@ -1,13 +1,9 @@
 -- Leaves, and whose routes lead to them.
 use Rattle.std.specs.Prelude.{ℕ, suc, Bool, false, List, [], ◌∷◌, Option, Some, None}
-use Rattle.gq_model.specs.Program.{Statements}
-use Rattle.gq_model.specs.declared.program.Section.{Section}
-use Rattle.gq_model.specs.Scenario.{System, Component}
-use Rattle.gq_model.specs.Routes.{server_of}
-use Rattle.gq_model.specs.Kinds.{Subject}
-use Rattle.gq_model.specs.Budgets.{section_cost, section_requests}
-use Rattle.gq_model.specs.Use.{subject, is_there}
-use Rattle.gq_verify.specs.Counting.{saturated}
+use Rattle.gq_model.specs.machine.Scenario.{System, Component}
+use Rattle.gq_model.specs.machine.Routes.{server_of}
+use Rattle.gq_model.specs.rules.Kinds.{Subject}
+use Rattle.gq_model.specs.rules.Use.{subject, is_there}
 
 -- what a leaf's program is judged by, and the service that it provides
 pub record Leaf : Type 0 where
@@ -39,13 +35,3 @@ leads_from system x (c ∷ rest) = leads_for system x c.node.provides system.com
 -- for each leaf, which leaves' routes for its service lead to it
 abbrev pub leads_of : System → List (List Bool)
 leads_of system = leads_from system 0 system.components
-
--- the requests of each of these sections of a leaf for a section of a service
-abbrev pub requests_of : Subject → List ℕ → Section → List (Section × Statements) → List ℕ
-requests_of v service section [] = []
-requests_of v service section (p ∷ rest) = saturated (section_requests v p.0 service section) ∷ requests_of v service section rest
-
--- the steps of each of these sections
-abbrev pub costs_of : List (Section × Statements) → List ℕ
-costs_of [] = []
-costs_of (p ∷ rest) = saturated (section_cost p.0 p.1) ∷ costs_of rest

@@ -1,4 +1,3 @@
-pub mod Sums
 pub mod Leaves
-pub mod Rounds
 pub mod Budgets
+pub mod internal

@@ -1,10 +1,10 @@
 // How often sections ask for sections.
 ghost use Rattle.std.specs.Prelude.{◌≡◌, IfOk, map, option_copied};
-ghost use Rattle.gq_budget.specs.Rounds.{asked_of, asked_by, asks_for, asks_of, all_asks, often, leaf_round};
+ghost use Rattle.gq_budget.specs.internal.Rounds.{asked_of, asked_by, asks_for, asks_of, all_asks, often, leaf_round};
 
 use crate::leaf::Leaf;
 use crate::numbers::{Numbers, table_products};
-use gq_code::Section;
+use gq_program::Section;
 use std::alloc::{AllocError, Global};
 use std::marker::Model;
 
@@ -16,7 +16,7 @@ pub(crate) struct Asks {
 }
 
 impl Model for Asks {
-    ghost use Rattle.gq_budget.specs.Rounds.{Asks};
+    ghost use Rattle.gq_budget.specs.internal.Rounds.{Asks};
 
     ghost Value = { Asks };
 
@@ -101,7 +101,7 @@ pub(crate) struct LeafAsks {
 
 impl Model for LeafAsks {
     ghost use Rattle.std.specs.Prelude.{List};
-    ghost use Rattle.gq_budget.specs.Rounds.{Asks};
+    ghost use Rattle.gq_budget.specs.internal.Rounds.{Asks};
 
     ghost Value = { List Asks };
 

@@ -1,8 +1,9 @@
 // The step budgets of leaves.
 ghost use Rattle.std.specs.Prelude.{◌≡◌, IfOk, map};
-ghost use Rattle.gq_model.specs.Scenario.{System};
+ghost use Rattle.gq_model.specs.machine.Scenario.{System};
 ghost use Rattle.gq_budget.specs.Leaves.{leaves_of, leads_of};
-ghost use Rattle.gq_budget.specs.Budgets.{budgets_of, budgets_by};
+ghost use Rattle.gq_budget.specs.Budgets.{budgets_of};
+ghost use Rattle.gq_budget.specs.internal.Counted.{budgets_by};
 
 use crate::asks::all_asks;
 use crate::leaf::Leaf;
@@ -29,7 +30,8 @@ pub fn step_budgets(
     leaves: &[Leaf<'_>],
     leads: &[Vec<bool>],
 ) -> Result<Vec<u64>, AllocError>
-    ensures { (system : System) → leaves.now ≡ leaves_of system → map (λ v. v.items) leads.now ≡ leads_of system → IfOk result (λ steps. steps.items ≡ budgets_of system) }
+    ensures { (system : System) → leaves.now ≡ leaves_of system → map (λ v. v.items) leads.now ≡ leads_of system →
+        IfOk result (λ steps. steps.items ≡ budgets_of system) }
 {
     let asks = all_asks(alloc, leaves, leads)?;
     let often = rounds(alloc, &asks, leaves.len())?;

@@ -1,11 +1,11 @@
 // Leaves.
 ghost use Rattle.std.specs.Prelude.{◌≡◌, IfOk, IsTrue, option_copied};
-ghost use Rattle.gq_model.specs.Lists.{all_of};
-ghost use Rattle.gq_model.specs.Code.{is_section};
-ghost use Rattle.gq_budget.specs.Leaves.{requests_of, costs_of};
+ghost use Rattle.gq_model.specs.machine.Lists.{all_of};
+ghost use Rattle.gq_model.specs.texts.Code.{is_section};
+ghost use Rattle.gq_budget.specs.internal.Counted.{requests_of, costs_of};
 
 use crate::numbers::Numbers;
-use gq_code::{Body, Name, Program, Section};
+use gq_program::{Body, Name, Program, Section};
 use gq_verify::{Verified, section_cost};
 use std::alloc::{AllocError, Global};
 use std::marker::Model;
@@ -21,7 +21,7 @@ pub struct Leaf<'a> {
 
 impl<'a> Model for Leaf<'a> {
     ghost use Rattle.std.specs.Prelude.{◌≡◌, option_copied};
-    ghost use Rattle.gq_model.specs.Stored.{statements_code};
+    ghost use Rattle.gq_model.specs.internal.Stored.{statements_code};
     ghost use Rattle.std.specs.Coded.{codes};
     ghost use Rattle.gq_budget.specs.Leaves.{Leaf};
 

@@ -1,7 +1,7 @@
 // Lists of numbers, and sums of products.
 ghost use Rattle.std.specs.Prelude.{◌≡◌};
 ghost use Rattle.gq_verify.specs.Counting.{saturated};
-ghost use Rattle.gq_budget.specs.Sums.{products, table_products};
+ghost use Rattle.gq_budget.specs.internal.Sums.{products, table_products};
 
 use std::marker::Model;
 

@@ -1,6 +1,6 @@
 // How often sections run, round by round.
 ghost use Rattle.std.specs.Prelude.{◌≡◌, IfOk, [], suc};
-ghost use Rattle.gq_budget.specs.Rounds.{round, rounds};
+ghost use Rattle.gq_budget.specs.internal.Rounds.{round, rounds};
 
 use crate::asks::LeafAsks;
 use crate::numbers::Numbers;

@@ -1,2 +1,4 @@
 pub mod Links
 pub mod Known
+pub mod Measured
+pub mod internal

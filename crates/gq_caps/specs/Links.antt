@@ -1,13 +1,8 @@
 -- What is known of a link.
 use Rattle.std.specs.Prelude.{ℕ, List, take}
-use Rattle.gq_model.specs.Amounts as model
-use Rattle.gq_model.specs.Kinds as kinds
-use Rattle.gq_caps.specs.declared.link.Amount.{Amount}
+use Rattle.gq_model.specs.machine.Amounts as model
+use Rattle.gq_model.specs.rules.Kinds as kinds
 use Rattle.gq_caps.specs.declared.link.Link.{Link}
-
--- how much there is of each resource
-abbrev pub amount_of : Amount → model.Amount
-amount_of a = model.amount a.ram a.caps
 
 -- the name of the service
 abbrev pub service_of : Link → List ℕ

@@ -1,13 +1,21 @@
 // Banks of slots.
-ghost use Rattle.std.specs.Prelude.{◌≡◌, ◌<◌, replicate, length, slice_get, slice_set, Some, OnSome};
+ghost use Rattle.std.specs.Prelude.{◌≡◌, ◌<◌, ◌≤◌, ◌^◌, replicate, length, slice_get, slice_set, Some, OnSome};
+ghost use Rattle.gq_model.specs.machine.Amounts.{Ram, Caps};
+ghost use Rattle.gq_model.specs.rules.Kinds.{kinds_cost};
+ghost use Rattle.gq_caps.specs.Known.{all_known};
+ghost use Rattle.gq_caps.specs.declared.totals.Measure.{Measure};
+ghost use Rattle.gq_caps.specs.Measured.{total_of, measured, AreFew};
 
 use crate::kind::Kind;
+use crate::totals::Totals;
+use gq_tariff::Amount;
 use std::marker::Model;
 
-/// So many slots, by their kinds.
-#[derive(Clone, Copy)]
+/// So many slots, by their kinds, with the sums of what is measured of them.
+#[derive(Drop)]
 pub struct Bank<const N: usize> {
     kinds: [Kind; N],
+    totals: Totals,
 }
 
 impl<const N: usize> Model for Bank<N> {
@@ -18,17 +26,53 @@ impl<const N: usize> Model for Bank<N> {
 
     ghost view = { λ b. b.kinds };
 
-    ghost inverse = { λ kinds. record { kinds = kinds } };
+    ghost use Rattle.gq_caps.specs.internal.Totalled.{IsTotalled};
+
+    ghost invariant = { λ b. IsTotalled b.kinds b.totals };
 }
 
 impl<const N: usize> Bank<N> {
     /// All slots are empty.
     pub fn new() -> Bank<N>
+        requires { N ≤ 64 }
         ensures { result ≡ replicate N Kind.Empty }
     {
         Bank {
             kinds: [Kind::Empty; N],
+            totals: Totals::none(),
         }
+    }
+
+    /// The same once more.
+    pub fn copy(&self) -> Bank<N>
+        ensures { result ≡ self.now }
+    {
+        Bank {
+            kinds: self.kinds,
+            totals: self.totals,
+        }
+    }
+
+    /// What these slots hold and have lent. Places of the heap are not among it.
+    pub fn cost(&self) -> Amount
+        ensures ram { result.ram ≡ kinds_cost Ram (all_known self.now) }
+        ensures caps { result.caps ≡ kinds_cost Caps (all_known self.now) }
+        ensures small { result.ram ≤ 2 ^ 41 }
+        ensures few { result.caps ≤ 2 ^ 41 }
+    {
+        let totals = self.totals();
+        Amount {
+            ram: totals.ram,
+            caps: totals.caps,
+        }
+    }
+
+    /// All that is measured of these slots.
+    pub fn totals(&self) -> &Totals
+        ensures sums { (m : Measure) → total_of result.now m ≡ measured m (all_known self.now) }
+        ensures small { AreFew result.now }
+    {
+        &self.totals
     }
 
     /// The kinds of its slots, in their order.
@@ -63,8 +107,12 @@ impl<const N: usize> Bank<N> {
     pub fn set(&mut self, slot: u8, kind: Kind)
         ensures { self.new ≡ slice_set self.old slot kind }
     {
-        if usize::from(slot) < N {
-            self.kinds[usize::from(slot)] = kind;
+        let index = usize::from(slot);
+        if index < N {
+            let gone = self.kinds[index].weights();
+            let come = kind.weights();
+            self.totals = self.totals.moved(&gone, &come);
+            self.kinds[index] = kind;
         }
     }
 

@@ -1,14 +1,20 @@
 // The kinds of slots.
-ghost use Rattle.std.specs.Prelude.{◌≡◌, ◌+◌, ◌^◌, ◌≤◌};
-ghost use Rattle.gq_tariff.specs.Prices.{size_for};
-ghost use Rattle.gq_model.specs.Amounts.{Ram, Caps};
-ghost use Rattle.gq_model.specs.Kinds.{Memory, same_kind, kind_price, kind_lent, kind_places};
+ghost use Rattle.std.specs.Prelude.{◌≡◌, ◌+◌, ◌^◌, ◌≤◌, ◌==◌, if◌then◌else◌};
+ghost use Rattle.gq_tariff.specs.Prices.{size_for, class_size};
+ghost use Rattle.gq_tariff.specs.declared.class.Class.{Class};
+ghost use Rattle.gq_model.specs.machine.Amounts.{Ram, Caps};
+ghost use Rattle.gq_model.specs.rules.Kinds.{Memory, same_kind, kind_price, kind_lent, kind_places};
 ghost use Rattle.gq_caps.specs.Known.{known};
+ghost use Rattle.gq_caps.specs.declared.totals.Measure.{Measure};
+ghost use Rattle.gq_caps.specs.Measured.{total_of};
+ghost use Rattle.gq_caps.specs.internal.Totalled.{weight, IsSmall};
 
-use crate::link::{Amount, Link};
+use crate::link::Link;
+use crate::totals::Totals;
 use gq_model::program::Form;
+use gq_tariff::Amount;
 use gq_tariff::class::class_of;
-use gq_tariff::price::{price_block, price_pool_table, price_slice, round_up};
+use gq_tariff::price::{GREATEST_PLACE, price_block, price_pool_table, price_slice, round_up};
 
 /// What a slot is known to hold. Sizes are in bytes.
 #[derive(Clone, Copy)]
@@ -70,7 +76,7 @@ impl Kind {
             Kind::Empty | Kind::Waiting | Kind::Link(_) => Amount { ram: 0, caps: 0 },
             Kind::Block(size) => Amount {
                 ram: price_block(u64::from(*size)),
-                caps: u64::from(*size > GREATEST_PLACE),
+                caps: u64::from(u64::from(*size) > GREATEST_PLACE),
             },
             Kind::Slice(size) => Amount {
                 ram: price_slice(u64::from(*size)),
@@ -112,10 +118,32 @@ impl Kind {
             _ => 0,
         }
     }
-}
 
-/// The greatest block that is a place of the heap, in bytes.
-const GREATEST_PLACE: u32 = 2048;
+    /// What is measured of the slot.
+    pub(crate) fn weights(&self) -> Totals
+        ensures weights { (m : Measure) → total_of result m ≡ weight m (known self.now) }
+        ensures small { IsSmall (known self.now) }
+    {
+        let price = self.price();
+        let lent = self.lent();
+        let ram = price.ram + lent.ram;
+        let caps = price.caps + lent.caps;
+        let (size, count) = self.heap_places();
+        Totals::of_class(ram, caps, size, count)
+    }
+
+    /// The size of the class of the heap's places that it may take, and how many; 0 and none where it takes none.
+    fn heap_places(&self) -> (u64, u64)
+        ensures places { (class : Class) → kind_places (class_size class) (known self.now) ≡ (if result.0 == class_size class then result.1 else 0) }
+        ensures small { result.1 ≤ 65535 }
+    {
+        match self {
+            Kind::Block(n) => (class_size(u64::from(*n)), 1),
+            Kind::Pool(n, count) => (class_size(u64::from(*n)), u64::from(*count)),
+            Kind::Empty | Kind::Waiting | Kind::Slice(_) | Kind::Space(_) | Kind::Link(_) => (0, 0),
+        }
+    }
+}
 
 /// The size of the class of a block of `n` bytes; 0 where it has none.
 fn class_size(n: u64) -> u64
@@ -123,7 +151,7 @@ fn class_size(n: u64) -> u64
 {
     match n {
         0 => 16,
-        1..=2048 => class_of(n).size(),
+        1..=GREATEST_PLACE => class_of(n).size(),
         _ => 0,
     }
 }

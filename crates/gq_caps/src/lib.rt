@@ -1,4 +1,13 @@
 //! What slots hold, as far as it is known before a program runs: kinds, and banks of slots.
+//!
+//! ```rust
+//! use gq_caps::{Bank, Kind};
+//! use gq_model::program::Form;
+//!
+//! let mut bank = Bank::<64>::new();
+//! bank.set(3, Kind::memory(Form::Space, 4097));
+//! assert_eq!(rt; bank.cost().ram, 8192);
+//! ```
 #![tactic(auto)]
 
 mod bank;
@@ -6,11 +15,10 @@ mod kind;
 mod kinds;
 mod link;
 mod links;
+mod totals;
 
 pub use bank::Bank;
 pub use kind::Kind;
-pub use kinds::{are_same, cost, places};
-pub use link::{Amount, Link};
-
-#[cfg(test)]
-mod tests;
+pub use kinds::are_same;
+pub use link::Link;
+pub use totals::{Measure, Totals};

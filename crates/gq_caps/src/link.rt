@@ -3,13 +3,6 @@ ghost use Rattle.std.specs.Prelude.{◌+◌, ◌*◌, ◌^◌, ◌≤◌};
 
 use gq_model::program::GREATEST_NAME;
 
-/// How much of each resource: bytes of RAM, and capabilities.
-#[derive(Clone, Copy, Debug, PartialEq, Eq)]
-pub struct Amount {
-    pub ram: u64,
-    pub caps: u64,
-}
-
 /// A link to a session, by what is known of the session: its service, its level, 0 to 3, and what was given for it so far.
 #[derive(Clone, Copy)]
 pub struct Link {

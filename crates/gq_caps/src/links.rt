@@ -1,12 +1,13 @@
 // How links are made, and what they tell.
 ghost use Rattle.std.specs.Prelude.{◌≡◌, ◌+◌, ◌*◌, ◌^◌, ◌≤◌, ◌<◌, length};
-ghost use Rattle.gq_model.specs.Amounts.{amount, plus};
-ghost use Rattle.gq_model.specs.Kinds.{same_kind};
-ghost use Rattle.gq_caps.specs.Links.{amount_of, service_of, level_of, given_of, link_known};
+ghost use Rattle.gq_model.specs.machine.Amounts.{amount, plus};
+ghost use Rattle.gq_model.specs.rules.Kinds.{same_kind};
+ghost use Rattle.gq_caps.specs.Links.{service_of, level_of, given_of, link_known};
 
-use crate::link::{Amount, Link};
-use gq_code::spelling::same_text;
+use crate::link::Link;
 use gq_model::program::{GREATEST_NAME, Name};
+use gq_program::spelling::same_text;
+use gq_tariff::Amount;
 
 impl Link {
     /// The link to a session of this service at level 0, for which so many bytes and capabilities were given.
@@ -63,7 +64,7 @@ impl Link {
 
     /// What was given for its session so far: at most 2^34 bytes and 2^18 capabilities.
     pub fn given(&self) -> Amount
-        ensures given { amount_of result ≡ given_of self.now }
+        ensures given { result ≡ given_of self.now }
         ensures ram { result.ram ≤ 2 ^ 34 }
         ensures caps { result.caps ≤ 2 ^ 18 }
     {

@@ -1,19 +1,22 @@
 -- Bodies as bytes spell them: a statement and what follows it, whatever the fuel.
-use Rattle.std.proofs.Common.{◌≡◌, ◌≤◌, ◌<◌, ◌-◌, take, drop, get_or, ℕ, zero, suc, arith, ◌==◌, if◌then◌else◌, Bool, true, false, Option, Some, None, List, [], ◌∷◌, length, Ok, Err, refl, ap, sym, ◌∙◌}
+use Rattle.std.proofs.Common.{◌≡◌, ◌≤◌, ◌<◌, ◌-◌, take, drop, get_or, ℕ, zero, suc, arith, ◌==◌, if◌then◌else◌, Bool, true, false, Option, Some, None}
+use Rattle.std.proofs.Common.{List, [], ◌∷◌, length, Ok, Err, refl, ap, sym, ◌∙◌}
 use Rattle.std.specs.Prelude.{nat_lt}
 use Rattle.gq_model.specs.declared.program.Instruction.{Instruction}
 use Rattle.gq_model.specs.declared.fault.CodeFault.{CodeFault}
 use Rattle.gq_model.specs.declared.fault.CodeFault.TheVariants.{BadNesting, BadOperand, TooLong}
-use Rattle.gq_model.specs.Lists.{all_of, between}
-use Rattle.gq_model.specs.Letters.{is_name_byte, is_said_byte}
-use Rattle.gq_model.specs.Program.{Statements, Done, Do, If, Loop, ◌then◌}
-use Rattle.gq_model.specs.Code.{greatest_statements}
-use Rattle.gq_model.specs.Spelling.{Shape, Made, Number, Slot, Service, Said, spellings, shape_of_opcode}
-use Rattle.gq_model.specs.Decode.{Decoded, decoded_then, first_onto, cut, number_at, checked, place_of, found, text_at, operands_at, Body, one_more, one_deeper, plain, body_at}
-use Rattle.gq_code.specs.Bodies.{body_in, opened_at, arms_at, round_at, plain_at, choice_with, round_with, statement_with, continued, Fails}
+use Rattle.gq_model.specs.machine.Lists.{all_of, between}
+use Rattle.gq_model.specs.texts.Letters.{is_name_byte, is_said_byte}
+use Rattle.gq_model.specs.machine.Program.{Statements, Done, Do, If, Loop, ◌then◌}
+use Rattle.gq_model.specs.texts.Code.{greatest_statements}
+use Rattle.gq_model.specs.texts.Spelling.{Shape, Made, Number, Slot, Service, Said, spellings, shape_of_opcode}
+use Rattle.gq_model.specs.texts.Decode.{Decoded, decoded_then, first_onto, cut, number_at, checked, place_of, found, text_at, operands_at, Body}
+use Rattle.gq_model.specs.texts.Decode.{one_more, one_deeper, plain, body_at}
+use Rattle.gq_code.specs.internal.Bodies.{body_in, opened_at, arms_at, round_at, plain_at, choice_with, round_with, statement_with, continued, Fails}
 use Rattle.gq_code.specs.declared.decode.DecodeError.{DecodeError}
 use Rattle.gq_code.specs.declared.decode.DecodeError.TheVariants.{Memory, Fault}
 use Rattle.gq_code.proofs.Decoding.{front}
+use Rattle.gq_model.proofs.Results.{Holds, holds_then}
 
 -- LISTS OF STATEMENTS
 
@@ -36,58 +39,72 @@ continued_twice a b (Err f) = refl
 -- STEPS
 
 -- where each way on has a part that comes first, so has the whole
-pub through : {A B C : Type 0} (x : Decoded A) (f : A → Decoded B) (g : B → Decoded C) (h : A → Decoded C) → ((a : A) → h a ≡ decoded_then (f a) g) → decoded_then x h ≡ decoded_then (decoded_then x f) g
+pub through : {A B C : Type 0} (x : Decoded A) (f : A → Decoded B) (g : B → Decoded C) (h : A → Decoded C) → ((a : A) → h a ≡ decoded_then (f a) g) →
+    decoded_then x h ≡ decoded_then (decoded_then x f) g
 through (Ok a) f g h e = e a
 through (Err fault) f g h e = refl
 
-through_if : {A C : Type 0} (b : Bool) (fault : CodeFault) (x : Decoded A) (y : Decoded C) (g : A → Decoded C) → y ≡ decoded_then x g → (if b then y else Err fault) ≡ decoded_then (if b then x else Err fault) g
+through_if : {A C : Type 0} (b : Bool) (fault : CodeFault) (x : Decoded A) (y : Decoded C) (g : A → Decoded C) → y ≡ decoded_then x g →
+    (if b then y else Err fault) ≡ decoded_then (if b then x else Err fault) g
 through_if true fault x y g e = e
 through_if false fault x y g e = refl
 
-opened_if : {B C : Type 0} (b : Bool) (d m : ℕ) (f : ℕ × ℕ → Decoded B) (g : B → Decoded C) (y : Decoded C) → y ≡ decoded_then (f (d, m)) g → (if b then y else Err TooLong) ≡ decoded_then (decoded_then (if b then Ok (d, m) else Err TooLong) f) g
+opened_if : {B C : Type 0} (b : Bool) (d m : ℕ) (f : ℕ × ℕ → Decoded B) (g : B → Decoded C) (y : Decoded C) → y ≡ decoded_then (f (d, m)) g →
+    (if b then y else Err TooLong) ≡ decoded_then (decoded_then (if b then Ok (d, m) else Err TooLong) f) g
 opened_if true d m f g y e = e
 opened_if false d m f g y e = refl
 
-through_opened : {B C : Type 0} (n k : ℕ) (f : ℕ × ℕ → Decoded B) (g : B → Decoded C) (h : ℕ → ℕ → Decoded C) → ((d m : ℕ) → h d m ≡ decoded_then (f (d, m)) g) → one_deeper n (λ d. one_more k (λ m. h d m)) ≡ decoded_then (decoded_then (opened_at n k) f) g
+through_opened : {B C : Type 0} (n k : ℕ) (f : ℕ × ℕ → Decoded B) (g : B → Decoded C) (h : ℕ → ℕ → Decoded C) →
+    ((d m : ℕ) → h d m ≡ decoded_then (f (d, m)) g) → one_deeper n (λ d. one_more k (λ m. h d m)) ≡ decoded_then (decoded_then (opened_at n k) f) g
 through_opened zero k f g h e = refl
 through_opened (suc d) k f g h e = opened_if (nat_lt k greatest_statements) d (suc k) f g (h d (suc k)) (e d (suc k))
 
-plain_through : (o : Option Shape) (k : ℕ) (bytes : List ℕ) (go : Instruction × List ℕ → ℕ → Decoded Body) → plain o k bytes go ≡ decoded_then (plain_at o k bytes) (λ p. go (p.0, p.1.1) p.1.0)
+plain_through : (o : Option Shape) (k : ℕ) (bytes : List ℕ) (go : Instruction × List ℕ → ℕ → Decoded Body) →
+    plain o k bytes go ≡ decoded_then (plain_at o k bytes) (λ p. go (p.0, p.1.1) p.1.0)
 plain_through None k bytes go = refl
 plain_through (Some shape) k bytes go = through_if (nat_lt k greatest_statements) _ _ _ _ (through (operands_at shape bytes) _ _ _ (λ p. refl))
 
-arms_through : {C : Type 0} (bytes : List ℕ) (g : List ℕ × (List ℕ × List ℕ) → Decoded C) → decoded_then (number_at 4 BadNesting bytes) (λ a. decoded_then (number_at 4 BadNesting a.1) (λ b. decoded_then (cut a.0 BadNesting b.1) (λ arm. decoded_then (cut b.0 BadNesting arm.1) (λ other. g (arm.0, (other.0, other.1)))))) ≡ decoded_then (arms_at bytes) g
-arms_through bytes g = through (number_at 4 BadNesting bytes) _ _ _ (λ a. through (number_at 4 BadNesting a.1) _ _ _ (λ b. through (cut a.0 BadNesting b.1) _ _ _ (λ arm. through (cut b.0 BadNesting arm.1) _ _ _ (λ other. refl))))
+arms_through : {C : Type 0} (bytes : List ℕ) (g : List ℕ × (List ℕ × List ℕ) → Decoded C) →
+    decoded_then (number_at 4 BadNesting bytes) (λ a.
+    decoded_then (number_at 4 BadNesting a.1) (λ b.
+    decoded_then (cut a.0 BadNesting b.1) (λ arm.
+    decoded_then (cut b.0 BadNesting arm.1) (λ other. g (arm.0, (other.0, other.1)))))) ≡ decoded_then (arms_at bytes) g
+arms_through bytes g =
+    through (number_at 4 BadNesting bytes) _ _ _ (λ a.
+    through (number_at 4 BadNesting a.1) _ _ _ (λ b. through (cut a.0 BadNesting b.1) _ _ _ (λ arm. through (cut b.0 BadNesting arm.1) _ _ _ (λ other. refl))))
 
-round_through : {C : Type 0} (bytes : List ℕ) (g : ℕ × (List ℕ × List ℕ) → Decoded C) → decoded_then (number_at 2 BadNesting bytes) (λ c. decoded_then (checked (nat_lt 0 c.0) BadOperand c) (λ c. decoded_then (number_at 4 BadNesting c.1) (λ b. decoded_then (cut b.0 BadNesting b.1) (λ body. g (c.0, (body.0, body.1)))))) ≡ decoded_then (round_at bytes) g
-round_through bytes g = through (number_at 2 BadNesting bytes) _ _ _ (λ c. through (checked (nat_lt 0 c.0) BadOperand c) _ _ _ (λ c. through (number_at 4 BadNesting c.1) _ _ _ (λ b. through (cut b.0 BadNesting b.1) _ _ _ (λ body. refl))))
+round_through : {C : Type 0} (bytes : List ℕ) (g : ℕ × (List ℕ × List ℕ) → Decoded C) →
+    decoded_then (number_at 2 BadNesting bytes) (λ c.
+    decoded_then (checked (nat_lt 0 c.0) BadOperand c) (λ c.
+    decoded_then (number_at 4 BadNesting c.1) (λ b.
+    decoded_then (cut b.0 BadNesting b.1) (λ body. g (c.0, (body.0, body.1)))))) ≡ decoded_then (round_at bytes) g
+round_through bytes g =
+    through (number_at 2 BadNesting bytes) _ _ _ (λ c.
+    through (checked (nat_lt 0 c.0) BadOperand c) _ _ _ (λ c.
+    through (number_at 4 BadNesting c.1) _ _ _ (λ b. through (cut b.0 BadNesting b.1) _ _ _ (λ body. refl))))
 
 -- a statement of any of the three kinds
-if_through : {A C : Type 0} (b c : Bool) (x y z : Decoded A) (u v w : Decoded C) (g : A → Decoded C) → u ≡ decoded_then x g → v ≡ decoded_then y g → w ≡ decoded_then z g → (if b then u else (if c then v else w)) ≡ decoded_then (if b then x else (if c then y else z)) g
+if_through : {A C : Type 0} (b c : Bool) (x y z : Decoded A) (u v w : Decoded C) (g : A → Decoded C) → u ≡ decoded_then x g → v ≡ decoded_then y g →
+    w ≡ decoded_then z g → (if b then u else (if c then v else w)) ≡ decoded_then (if b then x else (if c then y else z)) g
 if_through true c x y z u v w g e f h = e
 if_through false true x y z u v w g e f h = f
 if_through false false x y z u v w g e f h = h
 
 -- the first statement, then what follows it
-body-step : (fuel n k op : ℕ) (bytes : List ℕ) → body_at (suc fuel) n k (op ∷ bytes) ≡ decoded_then (statement_with (body_at fuel) op n k bytes) (λ s. continued s.0 (body_at fuel n s.1.0 s.1.1))
+body-step : (fuel n k op : ℕ) (bytes : List ℕ) →
+    body_at (suc fuel) n k (op ∷ bytes) ≡ decoded_then (statement_with (body_at fuel) op n k bytes) (λ s. continued s.0 (body_at fuel n s.1.0 s.1.1))
 body-step fuel n k op bytes =
     if_through (op == 0x40) (op == 0x41) _ _ _ _ _ _ _
-    (through_opened n k _ _ _ (λ d m. arms_through bytes _ ∙ through (arms_at bytes) _ _ _ (λ a. through (body_at fuel d m a.0) _ _ _ (λ x. through (body_at fuel d x.1 a.1.0) _ _ _ (λ y. refl)))))
+    (through_opened n k _ _ _
+    (λ d m. arms_through bytes _ ∙
+    through (arms_at bytes) _ _ _ (λ a. through (body_at fuel d m a.0) _ _ _ (λ x. through (body_at fuel d x.1 a.1.0) _ _ _ (λ y. refl)))))
     (through_opened n k _ _ _ (λ d m. round_through bytes _ ∙ through (round_at bytes) _ _ _ (λ r. through (body_at fuel d m r.1.0) _ _ _ (λ x. refl))))
     (plain_through (shape_of_opcode op spellings) k bytes _ ∙ through (plain_at (shape_of_opcode op spellings) k bytes) _ _ _ (λ p. refl))
 
 -- LENGTHS
 
--- where there is something, it is so
-abbrev Holds : {A : Type 0} → (A → Type 0) → Decoded A → Type 0
-Holds P (Ok a) = P a
-Holds P (Err fault) = Unit {0}
-
-holds_then : {A B : Type 0} {P : A → Type 0} (Q : B → Type 0) (x : Decoded A) (f : A → Decoded B) → Holds P x → ((a : A) → P a → Holds Q (f a)) → Holds Q (decoded_then x f)
-holds_then Q (Ok a) f h go = go a h
-holds_then Q (Err fault) f h go = tt
-
-same_then : {A B : Type 0} {P : A → Type 0} (x : Decoded A) {f g : A → Decoded B} → Holds P x → ((a : A) → P a → f a ≡ g a) → decoded_then x f ≡ decoded_then x g
+same_then : {A B : Type 0} {P : A → Type 0} (x : Decoded A) {f g : A → Decoded B} → Holds P x → ((a : A) → P a → f a ≡ g a) →
+    decoded_then x f ≡ decoded_then x g
 same_then (Ok a) h e = e a h
 same_then (Err fault) h e = refl
 
@@ -179,7 +196,8 @@ IsAfter n s = length s.1.1 ≤ n
 
 plain_rest : (o : Option Shape) (k : ℕ) (bytes : List ℕ) → Holds (IsAfter (length bytes)) (plain_at o k bytes)
 plain_rest None k bytes = tt
-plain_rest (Some shape) k bytes = holds_if (IsAfter (length bytes)) (nat_lt k greatest_statements) _ _ (holds_then _ (operands_at shape bytes) _ (operands_rest shape bytes) (λ p h. h))
+plain_rest (Some shape) k bytes =
+    holds_if (IsAfter (length bytes)) (nat_lt k greatest_statements) _ _ (holds_then _ (operands_at shape bytes) _ (operands_rest shape bytes) (λ p h. h))
 
 -- nothing is known
 abbrev Anything : {A : Type 0} → A → Type 0
@@ -226,7 +244,8 @@ if_same true c x y z u v e f = e
 if_same false true x y z u v e f = f
 if_same false false x y z u v e f = refl
 
-statement_same : (one other : ℕ → ℕ → List ℕ → Decoded Body) (op n k : ℕ) (bytes : List ℕ) → Agree (length bytes) one other → statement_with one op n k bytes ≡ statement_with other op n k bytes
+statement_same : (one other : ℕ → ℕ → List ℕ → Decoded Body) (op n k : ℕ) (bytes : List ℕ) → Agree (length bytes) one other →
+    statement_with one op n k bytes ≡ statement_with other op n k bytes
 statement_same one other op n k bytes e =
     if_same (op == 0x40) (op == 0x41) _ _ _ _ _
     (same_then (opened_at n k) (anyhow (opened_at n k)) (λ o _.
@@ -245,36 +264,44 @@ fuel_same (suc f) zero n k (op ∷ bytes) h l = absurd (omega (arith, l))
 fuel_same (suc f) (suc g) n k (op ∷ bytes) h l =
     body-step f n k op bytes
     ∙ (then_along _ (statement_same (body_at f) (body_at g) op n k bytes (λ n k b s. fuel_same f g n k b (omega (arith, h, s)) (omega (arith, l, s))))
-    ∙ (same_then (statement_with (body_at g) op n k bytes) (statement_rest (body_at g) op n k bytes) (λ s r. ap (continued s.0) (fuel_same f g n s.1.0 s.1.1 (omega (arith, h, r)) (omega (arith, l, r))))
+    ∙ (same_then (statement_with (body_at g) op n k bytes) (statement_rest (body_at g) op n k bytes) (λ s r.
+    ap (continued s.0) (fuel_same f g n s.1.0 s.1.1 (omega (arith, h, r)) (omega (arith, l, r))))
     ∙ sym (body-step g n k op bytes)))
 
 -- the first statement of a body, then what follows it
-pub body_in-cons : (n k op : ℕ) (bytes : List ℕ) → body_in n k (op ∷ bytes) ≡ decoded_then (statement_with body_in op n k bytes) (λ s. continued s.0 (body_in n s.1.0 s.1.1))
+pub body_in-cons : (n k op : ℕ) (bytes : List ℕ) →
+    body_in n k (op ∷ bytes) ≡ decoded_then (statement_with body_in op n k bytes) (λ s. continued s.0 (body_in n s.1.0 s.1.1))
 body_in-cons n k op bytes =
     let f = length bytes in
     body-step f n k op bytes
     ∙ (then_along _ (statement_same (body_at f) body_in op n k bytes (λ n k b s. fuel_same f (length b) n k b s (omega arith)))
-    ∙ same_then (statement_with body_in op n k bytes) (statement_rest body_in op n k bytes) (λ s r. ap (continued s.0) (fuel_same f (length s.1.1) n s.1.0 s.1.1 r (omega arith))))
+    ∙ same_then (statement_with body_in op n k bytes) (statement_rest body_in op n k bytes) (λ s r.
+    ap (continued s.0) (fuel_same f (length s.1.1) n s.1.0 s.1.1 r (omega arith))))
 
 -- READING
 
 -- one statement more
-body_turn : (made : Statements) (n k op m : ℕ) (bytes rest : List ℕ) (s : Statements) → statement_with body_in op n k bytes ≡ Ok (s, (m, rest)) → continued (made then s) (body_in n m rest) ≡ continued made (body_in n k (op ∷ bytes))
+body_turn : (made : Statements) (n k op m : ℕ) (bytes rest : List ℕ) (s : Statements) → statement_with body_in op n k bytes ≡ Ok (s, (m, rest)) →
+    continued (made then s) (body_in n m rest) ≡ continued made (body_in n k (op ∷ bytes))
 body_turn made n k op m bytes rest s e =
     continued_twice made s (body_in n m rest)
     ∙ ap (continued made) (sym (body_in-cons n k op bytes ∙ then_along _ e))
 
-pub loop_turn : (made s pushed : Statements) (n k m : ℕ) (left after : List ℕ) (all : Decoded Body) → 1 ≤ length left → continued made (body_in n k left) ≡ all → statement_with body_in (get_or left 0 0) n k (take (length left - 1) (drop 1 left)) ≡ Ok (s, (m, after)) → pushed ≡ made then s → continued pushed (body_in n m after) ≡ all
+pub loop_turn : (made s pushed : Statements) (n k m : ℕ) (left after : List ℕ) (all : Decoded Body) → 1 ≤ length left →
+    continued made (body_in n k left) ≡ all → statement_with body_in (get_or left 0 0) n k (take (length left - 1) (drop 1 left)) ≡ Ok (s, (m, after)) →
+    pushed ≡ made then s → continued pushed (body_in n m after) ≡ all
 loop_turn made s pushed n k m left after all h inv e p =
     ap (λ t. continued t (body_in n m after)) p
     ∙ (body_turn made n k (get_or left 0 0) m (take (length left - 1) (drop 1 left)) after s e
     ∙ (ap (λ l. continued made (body_in n k l)) (sym (front left h)) ∙ inv))
 
 -- a statement that has a fault
-body_stop : (made : Statements) (n k op : ℕ) (bytes : List ℕ) (fault : CodeFault) → statement_with body_in op n k bytes ≡ Err fault → continued made (body_in n k (op ∷ bytes)) ≡ Err fault
+body_stop : (made : Statements) (n k op : ℕ) (bytes : List ℕ) (fault : CodeFault) → statement_with body_in op n k bytes ≡ Err fault →
+    continued made (body_in n k (op ∷ bytes)) ≡ Err fault
 body_stop made n k op bytes fault e = ap (continued made) (body_in-cons n k op bytes ∙ then_along _ e)
 
-pub loop_stop : (e : DecodeError) (made : Statements) (n k : ℕ) (left : List ℕ) (all : Decoded Body) → 1 ≤ length left → continued made (body_in n k left) ≡ all → Fails e (statement_with body_in (get_or left 0 0) n k (take (length left - 1) (drop 1 left))) → Fails e all
+pub loop_stop : (e : DecodeError) (made : Statements) (n k : ℕ) (left : List ℕ) (all : Decoded Body) → 1 ≤ length left →
+    continued made (body_in n k left) ≡ all → Fails e (statement_with body_in (get_or left 0 0) n k (take (length left - 1) (drop 1 left))) → Fails e all
 loop_stop (Memory error) made n k left all h inv e = tt
 loop_stop (Fault fault) made n k left all h inv e =
     sym inv
@@ -282,6 +309,7 @@ loop_stop (Fault fault) made n k left all h inv e =
     ∙ body_stop made n k (get_or left 0 0) (take (length left - 1) (drop 1 left)) fault e)
 
 -- no more statements
-pub loop_end : (made : Statements) (n k : ℕ) (left : List ℕ) (all : Decoded Body) → length left < 1 → continued made (body_in n k left) ≡ all → all ≡ Ok (made, k)
+pub loop_end : (made : Statements) (n k : ℕ) (left : List ℕ) (all : Decoded Body) → length left < 1 → continued made (body_in n k left) ≡ all →
+    all ≡ Ok (made, k)
 loop_end made n k [] all h inv = sym inv ∙ ap (λ s. Ok (s, k)) (then_done made)
 loop_end made n k (b ∷ left) all h inv = absurd (omega (arith, h))

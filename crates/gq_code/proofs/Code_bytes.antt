@@ -1,31 +1,31 @@
 -- The code of a program is a list of bytes.
-use Rattle.std.proofs.Common.{◌≡◌, ℕ, zero, suc, ◌+◌, ◌-◌, ◌/◌, ◌^◌, ◌<◌, ◌≤◌, List, [], ◌∷◌, ◌++◌, length, true, if◌then◌else◌, ◌==◌, ap, arith, inl, inr}
+use Rattle.std.proofs.Common.{◌≡◌, ℕ, ◌+◌, ◌-◌, ◌^◌, ◌<◌, ◌≤◌, List, [], ◌∷◌, ◌++◌, length, true, if◌then◌else◌, ◌==◌, ap, arith, inl, inr}
 use Rattle.std.specs.Prelude.{nat_lt, nat_le, ◌&&◌, ◌||◌, not}
 use Rattle.std.proofs.lemmas.Bool.{and_parts, or_cases, leb-true, ltb-true, eqb-true, cond_both}
 use Rattle.gq_model.specs.declared.program.Place.{Place}
 use Rattle.gq_model.specs.declared.program.Place.TheVariants.{Own, Shared, Object}
 use Rattle.gq_model.specs.declared.program.Instruction.{Instruction}
-use Rattle.gq_model.specs.declared.program.Instruction.TheVariants.{Say, Out, Drop, Dup, Push, Divide, Modulo, Get, Set, Index, Combine, Make, MakePool, Load, Store, Free, Take, Give, Peek, Poke, Open, Upgrade, Call, Close}
+use Rattle.gq_model.specs.declared.program.Instruction.TheVariants.{Say, Out, Drop, Dup, Push, Divide, Modulo, Get, Set, Index, Combine, Make}
+use Rattle.gq_model.specs.declared.program.Instruction.TheVariants.{MakePool, Load, Store, Free, Take, Give, Peek, Poke, Open, Upgrade, Call, Close}
 use Rattle.gq_model.specs.declared.program.Operator.TheVariants.{Add, Subtract, Multiply, And, Equal, Less}
 use Rattle.gq_model.specs.declared.program.Form.TheVariants.{Block, Slice, Space}
 use Rattle.gq_model.specs.declared.program.Width.TheVariants.{Byte, Word}
-use Rattle.gq_model.specs.Program.{Program, Statements, Done, Do, If, Loop, spelled}
-use Rattle.gq_model.specs.Lists.{all_of, between}
-use Rattle.gq_model.specs.Letters.{is_name_byte, is_said_byte, is_digit}
-use Rattle.gq_model.specs.Operands.{Operand, Number, Slot, Bytes, Text, Service, opcode, operands, in_range, is_slot, is_slot_or_object, slot_code, operand_code, operands_code}
-use Rattle.gq_model.specs.Code.{IsProgram, is_body, body_code, body_length, section_number, are_sections, has_limit, limits_code, section_bits, sections_code, code_of}
-use Rattle.gq_model.proofs.Bytes.{AreBytes}
+use Rattle.gq_model.specs.machine.Program.{Program, Statements, Done, Do, If, Loop, spelled}
+use Rattle.gq_model.specs.machine.Lists.{all_of, between}
+use Rattle.gq_model.specs.texts.Letters.{is_name_byte, is_said_byte, is_digit}
+use Rattle.gq_model.specs.texts.Operands.{Operand, Number, Slot, Bytes, Text, Service, opcode, operands, in_range, is_slot_or_object}
+use Rattle.gq_model.specs.texts.Operands.{slot_code, operand_code, operands_code}
+use Rattle.gq_model.specs.texts.Code.{IsProgram, is_body, body_code, body_length, section_number, are_sections, has_limit, limits_code, section_bits}
+use Rattle.gq_model.specs.texts.Code.{sections_code, code_of}
+use Rattle.gq_model.proofs.Bytes.{AreBytes, spelled_bytes}
 use Rattle.gq_code.proofs.Programs.{Sections, first_of}
 use Rattle.gq_code.proofs.Limits_back.{local_bits_below}
 use Rattle.gq_code.proofs.Programs_back.{parts_of}
+use Rattle.gq_model.proofs.Assembled_instructions.{or_object}
 
 bytes_then : (a b : List ℕ) → AreBytes a → AreBytes b → AreBytes (a ++ b)
 bytes_then [] b h k = k
 bytes_then (x ∷ a) b h k = (h.0, bytes_then a b h.1 k)
-
-spelled_bytes : (k n : ℕ) → AreBytes (spelled k n)
-spelled_bytes zero n = tt
-spelled_bytes (suc k) n = (omega arith, spelled_bytes k (n / 256))
 
 -- OPERANDS
 
@@ -33,11 +33,6 @@ slot_byte : (p : Place) → is_slot_or_object p ≡ true → slot_code p < 256
 slot_byte (Own i) h = let k = ltb-true i 64 h in omega (arith, k)
 slot_byte (Shared i) h = let k = ltb-true i 8 h in omega (arith, k)
 slot_byte Object h = omega arith
-
-or_object : (p : Place) → is_slot p ≡ true → is_slot_or_object p ≡ true
-or_object (Own i) h = h
-or_object (Shared i) h = h
-or_object Object h = cc
 
 below : (low high c : ℕ) → between low high c ≡ true → c ≤ high
 below low high c h = leb-true c high ((and_parts (nat_le low c) (nat_le c high) h).1)
@@ -60,7 +55,11 @@ name_byte c h =
             | inl h ↦
                 elim (or_cases (letters || capitals) (is_digit c) h) [
                   | inr e ↦ let k = below 48 57 c e in omega (arith, k)
-                  | inl h ↦ elim (or_cases letters capitals h) [ inl e ↦ let k = below 97 122 c e in omega (arith, k) | inr e ↦ let k = below 65 90 c e in omega (arith, k) ]
+                  | inl h ↦ elim (or_cases letters capitals h) [
+                    | inl e ↦ let k = below 97 122 c e in omega (arith, k)
+                    | inr e ↦ let k = below 65 90 c e in
+                        omega (arith, k)
+                  ]
                 ]
           ]
     ]
@@ -74,13 +73,18 @@ operand_bytes (Number width low high n) h = spelled_bytes width n
 operand_bytes (Slot p) h = (slot_byte p (or_object p h), tt)
 operand_bytes (Bytes p) h = (slot_byte p h, tt)
 operand_bytes (Text text) h =
-    let p = and_parts (nat_le (length text) 64) (all_of is_said_byte text) h in let short = leb-true (length text) 64 p.0 in (omega (arith, short), said_bytes text p.1)
+    let p =
+    and_parts (nat_le (length text) 64) (all_of is_said_byte text) h in let short =
+    leb-true (length text) 64 p.0 in (omega (arith, short), said_bytes text p.1)
 operand_bytes (Service name) h =
-    let p = and_parts (between 1 16 (length name)) (all_of is_name_byte name) h in let short = below 1 16 (length name) p.0 in (omega (arith, short), name_bytes name p.1)
+    let p =
+    and_parts (between 1 16 (length name)) (all_of is_name_byte name) h in let short =
+    below 1 16 (length name) p.0 in (omega (arith, short), name_bytes name p.1)
 
 operands_bytes : (ops : List Operand) → all_of in_range ops ≡ true → AreBytes (operands_code ops)
 operands_bytes [] h = tt
-operands_bytes (o ∷ rest) h = let p = and_parts (in_range o) (all_of in_range rest) h in bytes_then (operand_code o) (operands_code rest) (operand_bytes o p.0) (operands_bytes rest p.1)
+operands_bytes (o ∷ rest) h =
+    let p = and_parts (in_range o) (all_of in_range rest) h in bytes_then (operand_code o) (operands_code rest) (operand_bytes o p.0) (operands_bytes rest p.1)
 
 opcode_byte : (i : Instruction) → opcode i < 256
 opcode_byte (Say text) = omega arith
@@ -131,28 +135,39 @@ body_bytes n (If arm other rest) h =
     let y = body_code other in
     let z = body_code rest in
     let a = body_bytes (n - 1) arm ((and_parts (nat_lt 0 n) (is_body (n - 1) arm) q.0).1) in
-    let lengths = bytes_then (body_length x) (body_length y) (spelled_bytes 4 (length x)) (spelled_bytes 4 (length y)) in
-    (omega arith, bytes_then (body_length x ++ body_length y ++ x ++ y) z (bytes_then (body_length x ++ body_length y ++ x) y (bytes_then (body_length x ++ body_length y) x lengths a) (body_bytes (n - 1) other q.1)) (body_bytes n rest p.1))
+    let lengths = bytes_then (body_length x) (body_length y) (spelled_bytes 4 (length x)) (spelled_bytes 4 (length y)) in (
+      omega arith,
+      bytes_then (body_length x ++ body_length y ++ x ++
+          y) z (bytes_then (body_length x ++ body_length y ++
+          x) y (bytes_then (body_length x ++ body_length y) x lengths a) (body_bytes (n - 1) other q.1)) (body_bytes n rest p.1),
+    )
 body_bytes n (Loop count body rest) h =
     let p = and_parts (nat_lt 0 n && between 1 65535 count && is_body (n - 1) body) (is_body n rest) h in
     let x = body_code body in
     let z = body_code rest in
-    let a = body_bytes (n - 1) body ((and_parts (nat_lt 0 n && between 1 65535 count) (is_body (n - 1) body) p.0).1) in
-    (omega arith, bytes_then (spelled 2 count ++ body_length x ++ x) z (bytes_then (spelled 2 count ++ body_length x) x (bytes_then (spelled 2 count) (body_length x) (spelled_bytes 2 count) (spelled_bytes 4 (length x))) a) (body_bytes n rest p.1))
+    let a = body_bytes (n - 1) body ((and_parts (nat_lt 0 n && between 1 65535 count) (is_body (n - 1) body) p.0).1) in (
+      omega arith,
+      bytes_then (spelled 2 count ++ body_length x ++
+          x) z (bytes_then (spelled 2 count ++
+          body_length x) x (bytes_then (spelled 2 count) (body_length x) (spelled_bytes 2 count) (spelled_bytes 4 (length x))) a) (body_bytes n rest p.1),
+    )
 
 -- PROGRAMS
 
 limits_bytes : (locals : List ℕ) → AreBytes (limits_code locals)
 limits_bytes [] = tt
 limits_bytes (n ∷ rest) =
-    bytes_then (if has_limit n then spelled 4 n else []) (limits_code rest) (cond_both (has_limit n) (spelled 4 n) [] AreBytes (λ _. spelled_bytes 4 n) (λ _. tt)) (limits_bytes rest)
+    bytes_then (if has_limit n then spelled 4 n else []) (limits_code rest) (cond_both (has_limit n) (spelled 4 n) [] AreBytes (λ _. spelled_bytes 4 n) (λ _.
+    tt)) (limits_bytes rest)
 
 sections_bytes : (n : ℕ) (sections : Sections) → are_sections n sections ≡ true → AreBytes (sections_code sections)
 sections_bytes n [] h = tt
 sections_bytes n (p ∷ rest) h =
     let f = first_of n p rest h in
     let x = body_code p.1 in
-    bytes_then (body_length x ++ x) (sections_code rest) (bytes_then (body_length x) x (spelled_bytes 4 (length x)) (body_bytes 4 p.1 f.body)) (sections_bytes (1 + section_number p.0) rest f.rest)
+    bytes_then (body_length x ++
+    x) (sections_code rest) (bytes_then (body_length x) x (spelled_bytes 4 (length x)) (body_bytes 4 p.1 f.body)) (sections_bytes (1 +
+    section_number p.0) rest f.rest)
 
 pub code_bytes : (p : Program) → IsProgram p → AreBytes (code_of p)
 code_bytes p h =
@@ -160,5 +175,8 @@ code_bytes p h =
     let limits = limits_code p.locals in
     let bits = spelled 2 (section_bits p.sections) in
     let below = local_bits_below p.locals in
-    let eight = ap (λ n. 2 ^ n) parts.eight in
-    (omega (arith, below, eight), bytes_then (limits ++ bits) (sections_code p.sections) (bytes_then limits bits (limits_bytes p.locals) (spelled_bytes 2 (section_bits p.sections))) (sections_bytes 0 p.sections parts.sections))
+    let eight = ap (λ n. 2 ^ n) parts.eight in (
+      omega (arith, below, eight),
+      bytes_then (limits ++ bits) (sections_code p.sections) (bytes_then limits bits (limits_bytes p.locals) (spelled_bytes 2 (section_bits p.sections)))
+          (sections_bytes 0 p.sections parts.sections),
+    )

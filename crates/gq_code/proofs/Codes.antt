@@ -1,16 +1,17 @@
 -- The code of statements, one after the other.
-use Rattle.std.proofs.Common.{◌≡◌, ◌<◌, ◌≤◌, ℕ, zero, suc, arith, ◌+◌, ◌-◌, Bool, true, false, ◌&&◌, List, [], ◌∷◌, drop, length, get_or, refl, ap, sym, subst, ◌∙◌, add-one, IsTrue}
-use Rattle.std.proofs.Math.Seq.{drop-cons}
+use Rattle.std.proofs.Common.{◌≡◌, ◌<◌, ℕ, ◌+◌, ◌-◌, Bool, true, false, ◌&&◌, List, [], ◌∷◌, drop, length, get_or, refl}
+use Rattle.std.proofs.Common.{subst, IsTrue}
 use Rattle.std.specs.Prelude.{nat_lt}
-use Rattle.gq_model.specs.Lists.{all_of, between}
-use Rattle.gq_model.specs.Program.{Statements, size}
-use Rattle.gq_model.specs.Program as program
-use Rattle.gq_model.specs.Operands.{operands, in_range}
-use Rattle.gq_model.specs.Code.{is_body}
-use Rattle.gq_code.specs.Trees.{tree_of}
+use Rattle.gq_model.specs.machine.Lists.{all_of, between}
+use Rattle.gq_model.specs.machine.Program.{Statements}
+use Rattle.gq_model.specs.machine.Program as program
+use Rattle.gq_model.specs.texts.Operands.{operands, in_range}
+use Rattle.gq_model.specs.texts.Code.{is_body}
+use Rattle.gq_program.specs.Trees.{tree_of}
+use Rattle.gq_program.proofs.Sizes.{here_is}
 use Rattle.gq_code.specs.Codes.{has_code}
-use Rattle.gq_code.specs.declared.program.Statement.{Statement}
-use Rattle.gq_code.specs.declared.program.Statement.TheVariants.{Plain, If, Loop}
+use Rattle.gq_program.specs.declared.program.Statement.{Statement}
+use Rattle.gq_program.specs.declared.program.Statement.TheVariants.{Plain, If, Loop}
 
 pub parts : (a b : Bool) → IsTrue (a && b) → IsTrue a × IsTrue b
 parts true b h = (refl, h)
@@ -21,7 +22,8 @@ both true b h k = k
 both false b h k = cc
 
 -- where a list has a code, so has its first statement, and so have those after it
-first_has : (s : Statement) (rest : List Statement) → IsTrue (has_code (tree_of (s ∷ rest))) → IsTrue (has_code (tree_of (s ∷ []))) × IsTrue (has_code (tree_of rest))
+first_has : (s : Statement) (rest : List Statement) → IsTrue (has_code (tree_of (s ∷ rest))) →
+    IsTrue (has_code (tree_of (s ∷ []))) × IsTrue (has_code (tree_of rest))
 first_has (Plain i) rest h =
     let p = parts (all_of in_range (operands i)) (has_code (tree_of rest)) h in
     (both (all_of in_range (operands i)) true p.0 refl, p.1)
@@ -32,34 +34,10 @@ first_has (Loop count body) rest h =
     let p = parts (has_code body) (has_code (tree_of rest)) h in
     (both (has_code body) true p.0 refl, p.1)
 
--- the statement that stands there comes next
-here_is : (items : List Statement) (i : ℕ) (s : Statement) → i < length items → s ≡ get_or items i s → drop i items ≡ s ∷ drop (i + 1) items
-here_is items i s less e = drop-cons items i s less ∙ (ap (λ h. h ∷ drop (suc i) items) (sym e) ∙ ap (λ n. s ∷ drop n items) (sym (add-one i)))
-
 -- it has a code
-pub has_here : (items : List Statement) (i : ℕ) (s : Statement) → i < length items → s ≡ get_or items i s → IsTrue (has_code (tree_of (drop i items))) → IsTrue (has_code (tree_of (s ∷ [])))
+pub has_here : (items : List Statement) (i : ℕ) (s : Statement) → i < length items → s ≡ get_or items i s → IsTrue (has_code (tree_of (drop i items))) →
+    IsTrue (has_code (tree_of (s ∷ [])))
 has_here items i s less e h = (first_has s (drop (i + 1) items) (subst (λ l. IsTrue (has_code (tree_of l))) (here_is items i s less e) h)).0
-
--- and is no larger than all
-size_first : (s : Statement) (rest : List Statement) → size (tree_of (s ∷ [])) ≤ size (tree_of (s ∷ rest))
-size_first (Plain i) rest = omega arith
-size_first (If arm other) rest = omega arith
-size_first (Loop count body) rest = omega arith
-
-size_rest : (s : Statement) (rest : List Statement) → size (tree_of rest) ≤ size (tree_of (s ∷ rest))
-size_rest (Plain i) rest = omega arith
-size_rest (If arm other) rest = omega arith
-size_rest (Loop count body) rest = omega arith
-
-size_drop : (items : List Statement) (i : ℕ) → size (tree_of (drop i items)) ≤ size (tree_of items)
-size_drop items zero = omega arith
-size_drop [] (suc i) = omega arith
-size_drop (s ∷ items) (suc i) = let h = size_drop items i in let k = size_rest s items in omega (arith, h, k)
-
-pub size_here : (items : List Statement) (i : ℕ) (s : Statement) → i < length items → s ≡ get_or items i s → size (tree_of (s ∷ [])) ≤ size (tree_of items)
-size_here items i s less e =
-    let h = size_first s (drop (i + 1) items) in
-    let k = subst (λ l. size (tree_of l) ≤ size (tree_of items)) (here_is items i s less e) (size_drop items i) in omega (arith, h, k)
 
 -- whatever the depth, a body has a code
 pub body_has : (n : ℕ) (b : Statements) → IsTrue (is_body n b) → IsTrue (has_code b)
@@ -70,7 +48,8 @@ body_has n (program.If arm other rest) h =
     let p = parts (nat_lt 0 n && is_body (n - 1) arm && is_body (n - 1) other) (is_body n rest) h in
     let q = parts (nat_lt 0 n && is_body (n - 1) arm) (is_body (n - 1) other) p.0 in
     let a = parts (nat_lt 0 n) (is_body (n - 1) arm) q.0 in
-    both (has_code arm && has_code other) (has_code rest) (both (has_code arm) (has_code other) (body_has (n - 1) arm a.1) (body_has (n - 1) other q.1)) (body_has n rest p.1)
+    both (has_code arm && has_code other) (has_code rest) (both (has_code arm) (has_code other) (body_has (n - 1) arm a.1) (body_has (n - 1) other q.1))
+    (body_has n rest p.1)
 body_has n (program.Loop count body rest) h =
     let p = parts (nat_lt 0 n && between 1 65535 count && is_body (n - 1) body) (is_body n rest) h in
     let q = parts (nat_lt 0 n && between 1 65535 count) (is_body (n - 1) body) p.0 in

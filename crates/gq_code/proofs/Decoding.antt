@@ -3,7 +3,7 @@ use Rattle.std.proofs.Common.{◌≡◌, ◌<◌, ◌≤◌, ℕ, zero, suc, ari
 use Rattle.std.proofs.Math.Nat.{pow-le-pow_right}
 use Rattle.std.proofs.Math.Seq.{take-length}
 use Rattle.gq_model.specs.declared.fault.CodeFault.{CodeFault}
-use Rattle.gq_model.specs.Decode.{first_onto, cut}
+use Rattle.gq_model.specs.texts.Decode.{first_onto, cut}
 
 -- all of what follows
 pub rest-all : (n : ℕ) (bytes : List ℕ) → take (length bytes - n) (drop n bytes) ≡ drop n bytes

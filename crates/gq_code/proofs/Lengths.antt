@@ -3,26 +3,30 @@ use Rattle.std.proofs.Common.{◌≡◌, ℕ, ◌-◌, ◌*◌, ◌≤◌, List,
 use Rattle.std.specs.Prelude.{nat_le, nat_lt, ◌&&◌}
 use Rattle.std.proofs.lemmas.Bool.{and_parts, leb-true}
 use Rattle.gq_model.specs.declared.program.Instruction.{Instruction}
-use Rattle.gq_model.specs.declared.program.Instruction.TheVariants.{Say, Out, Drop, Dup, Push, Divide, Modulo, Get, Set, Index, Combine, Make, MakePool, Load, Store, Free, Take, Give, Peek, Poke, Open, Upgrade, Call, Close}
-use Rattle.gq_model.specs.Program.{Statements, Done, Do, If, Loop, size}
-use Rattle.gq_model.specs.Lists.{all_of, between}
-use Rattle.gq_model.specs.Letters.{is_name, is_said, is_name_byte, is_said_byte}
-use Rattle.gq_model.specs.Operands.{Service, number, operands, in_range, is_slot, operand_code, instruction_code}
-use Rattle.gq_model.specs.Code.{is_body, body_code}
+use Rattle.gq_model.specs.declared.program.Instruction.TheVariants.{Say, Out, Drop, Dup, Push, Divide, Modulo, Get, Set, Index, Combine, Make}
+use Rattle.gq_model.specs.declared.program.Instruction.TheVariants.{MakePool, Load, Store, Free, Take, Give, Peek, Poke, Open, Upgrade, Call, Close}
+use Rattle.gq_model.specs.machine.Program.{Statements, Done, Do, If, Loop, size}
+use Rattle.gq_model.specs.machine.Lists.{all_of, between}
+use Rattle.gq_model.specs.texts.Letters.{is_name, is_said, is_name_byte, is_said_byte}
+use Rattle.gq_model.specs.texts.Operands.{Service, number, operands, in_range, is_slot, operand_code, instruction_code}
+use Rattle.gq_model.specs.texts.Code.{is_body, body_code}
 
 text_short : (text : List ℕ) → is_said text ≡ true → length text ≤ 64
 text_short text h = leb-true (length text) 64 ((and_parts (nat_le (length text) 64) (all_of is_said_byte text) h).0)
 
 name_short : (name : List ℕ) → is_name name ≡ true → length name ≤ 16
 name_short name h =
-    let n = length name in let range = (and_parts (between 1 16 n) (all_of is_name_byte name) h).0 in leb-true n 16 ((and_parts (nat_le 1 n) (nat_le n 16) range).1)
+    let n =
+    length name in let range = (and_parts (between 1 16 n) (all_of is_name_byte name) h).0 in leb-true n 16 ((and_parts (nat_le 1 n) (nat_le n 16) range).1)
 
 -- at most 66 bytes, those of the longest text
 instruction_short : (i : Instruction) → all_of in_range (operands i) ≡ true → length (instruction_code i) ≤ 66
 instruction_short (Say text) h = let n = text_short text ((and_parts (is_said text) true h).0) in omega (arith, n, length-append text [])
 instruction_short (Open p name n) h =
     let parts = and_parts (is_slot p) (all_of in_range (Service name ∷ number n ∷ [])) h in
-    let k = name_short name ((and_parts (is_name name) (all_of in_range (number n ∷ [])) parts.1).0) in omega (arith, k, length-append name (operand_code (number n) ++ []))
+    let k =
+    name_short name ((and_parts (is_name name) (all_of in_range (number n ∷ [])) parts.1).0) in
+    omega (arith, k, length-append name (operand_code (number n) ++ []))
 instruction_short Out h = omega arith
 instruction_short Drop h = omega arith
 instruction_short Dup h = omega arith

@@ -1,4 +1,3 @@
-pub mod Lists
 pub mod Codes
 pub mod Programs
 pub mod Decoding

@@ -1,9 +1,9 @@
 -- The laws of programs and their code.
 use Rattle.std.proofs.Common.{◌≡◌, ℕ, List, [], ◌∷◌, ◌++◌, Ok, Err, refl, ap, sym, subst, ◌∙◌}
 use Rattle.std.specs.Prelude.{IsErr}
-use Rattle.gq_model.specs.Program.{Program}
-use Rattle.gq_model.specs.Code.{code_of}
-use Rattle.gq_model.specs.Decode.{Decoded, decoded}
+use Rattle.gq_model.specs.machine.Program.{Program}
+use Rattle.gq_model.specs.texts.Code.{code_of}
+use Rattle.gq_model.specs.texts.Decode.{Decoded, decoded}
 use Rattle.gq_model.proofs.Bytes.{AreBytes, test_of_bytes}
 use Rattle.gq_model.proofs.Decoded_programs.{decoded_is}
 use Rattle.gq_code.specs.Laws.{CodeIsBytes, OnlyCodeIsRead, CodeTellsPrograms, PartsAreRefused}

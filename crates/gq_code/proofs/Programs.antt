@@ -1,18 +1,20 @@
 -- Sections in their order, and their bits.
-use Rattle.std.proofs.Common.{◌≡◌, ◌<◌, ◌≤◌, ℕ, suc, arith, ◌+◌, ◌*◌, ◌^◌, ◌&&◌, List, [], ◌∷◌, drop, length, get_or, refl, ap, sym, ◌∙◌, add-one, IsTrue, Fits, w16}
+use Rattle.std.proofs.Common.{◌≡◌, ◌<◌, ◌≤◌, ℕ, suc, arith, ◌+◌, ◌*◌, ◌^◌, ◌&&◌, List, [], ◌∷◌, drop, length, get_or, refl, ap, sym, ◌∙◌, add-one}
+use Rattle.std.proofs.Common.{IsTrue, Fits, w16}
 use Rattle.std.proofs.Math.Seq.{drop-cons}
 use Rattle.std.proofs.Math.Pow.{pow_mono}
 use Rattle.std.proofs.Math.Nat.{pow-succ'}
 use Rattle.std.proofs.lemmas.Bool.{leb-true}
 use Rattle.std.proofs.lemmas.List.Sums.{sum_by-cons}
 use Rattle.std.specs.Prelude.{nat_le, ◌==◌, sum_by}
-use Rattle.gq_model.specs.Lists.{all_of, between}
-use Rattle.gq_model.specs.Program.{Statements, Program, size}
-use Rattle.gq_model.specs.Operands.{greatest_number}
+use Rattle.gq_model.specs.machine.Lists.{all_of, between}
+use Rattle.gq_model.specs.machine.Program.{Statements, Program, size}
+use Rattle.gq_model.specs.texts.Operands.{greatest_number}
 use Rattle.gq_model.specs.declared.program.Section.{Section}
 use Rattle.gq_model.specs.declared.program.Section.TheVariants.{Main, Opening, Upgrading, Calling, Closing}
-use Rattle.gq_model.specs.Code.{IsProgram, greatest_statements, is_body, is_section, section_number, are_sections, section_bits}
-use Rattle.gq_code.specs.Codes.{has_code, have_codes}
+use Rattle.gq_model.specs.texts.Code.{IsProgram, greatest_statements, is_body, is_section, section_number, are_sections, section_bits}
+use Rattle.gq_code.specs.Codes.{has_code}
+use Rattle.gq_code.specs.internal.Sections.{have_codes}
 use Rattle.gq_code.proofs.Codes.{parts, both, body_has}
 
 abbrev pub Sections : Type 0
@@ -66,7 +68,8 @@ here_is : (sections : Sections) (i : ℕ) (p : Section × Statements) → i < le
 here_is sections i p less e = drop-cons sections i p less ∙ (ap (λ h. h ∷ drop (suc i) sections) (sym e) ∙ ap (λ n. p ∷ drop n sections) (sym (add-one i)))
 
 -- one bit more is still below
-pub bits_fit : (sections : Sections) (i : ℕ) (p : Section × Statements) (bits bit : ℕ) → i < length sections → p ≡ get_or sections i p → bits + section_bits (drop i sections) ≡ section_bits sections → bit ≡ 2 ^ section_number p.0
+pub bits_fit : (sections : Sections) (i : ℕ) (p : Section × Statements) (bits bit : ℕ) → i < length sections → p ≡ get_or sections i p →
+    bits + section_bits (drop i sections) ≡ section_bits sections → bit ≡ 2 ^ section_number p.0
     → IsTrue (are_sections 0 sections) → Fits w16 (bits + bit)
 bits_fit sections i p bits bit less e sum b h =
     let all = bits_below 0 sections (omega arith) h in
@@ -76,5 +79,7 @@ bits_fit sections i p bits bit less e sum b h =
 -- a program's sections stand in their order
 pub sections_of : (p : Program) → IsProgram p → IsTrue (are_sections 0 p.sections)
 sections_of p h =
-    let a = parts (length p.locals == 8 && all_of (between 0 greatest_number) p.locals && are_sections 0 p.sections) (nat_le (sum_by (λ s. size s.1) p.sections) greatest_statements) h in
+    let a =
+    parts (length p.locals == 8 && all_of (between 0 greatest_number) p.locals && are_sections 0 p.sections)
+    (nat_le (sum_by (λ s. size s.1) p.sections) greatest_statements) h in
     (parts (length p.locals == 8 && all_of (between 0 greatest_number) p.locals) (are_sections 0 p.sections) a.0).1

@@ -1,13 +1,14 @@
 -- The code of a program is read back as that program, and nothing may follow it.
-use Rattle.std.proofs.Common.{◌≡◌, ℕ, ◌+◌, ◌*◌, ◌^◌, ◌<◌, ◌≤◌, List, [], ◌∷◌, ◌++◌, length, true, ◌==◌, Ok, Err, refl, ap, sym, ◌∙◌, arith, append_assoc, append-nil, inl, inr, ◌⊎◌}
+use Rattle.std.proofs.Common.{◌≡◌, ℕ, ◌+◌, ◌*◌, ◌^◌, ◌<◌, ◌≤◌, List, [], ◌∷◌, ◌++◌, length, true, ◌==◌, Ok, Err, refl, ap, sym, ◌∙◌, arith}
+use Rattle.std.proofs.Common.{append_assoc, append-nil, inl, inr, ◌⊎◌}
 use Rattle.std.specs.Prelude.{nat_le, sum_by, ◌&&◌}
 use Rattle.std.proofs.lemmas.Bool.{and_parts, leb-true, eqb-true}
 use Rattle.gq_model.specs.declared.fault.CodeFault.TheVariants.{Truncated, TrailingBytes}
-use Rattle.gq_model.specs.Program.{Program, all_sections, size, spelled}
-use Rattle.gq_model.specs.Lists.{all_of, between}
-use Rattle.gq_model.specs.Operands.{greatest_number}
-use Rattle.gq_model.specs.Code.{IsProgram, are_sections, local_bits, limits_code, section_bits, sections_code, code_of, greatest_statements}
-use Rattle.gq_model.specs.Decode.{Decoded, decoded_then, number_at, limits_at, decoded}
+use Rattle.gq_model.specs.machine.Program.{Program, all_sections, size, spelled}
+use Rattle.gq_model.specs.machine.Lists.{all_of, between}
+use Rattle.gq_model.specs.texts.Operands.{greatest_number}
+use Rattle.gq_model.specs.texts.Code.{IsProgram, are_sections, local_bits, limits_code, section_bits, sections_code, code_of, greatest_statements}
+use Rattle.gq_model.specs.texts.Decode.{Decoded, decoded_then, number_at, limits_at, decoded}
 use Rattle.gq_model.proofs.Code_laws.{number_at-spelled_2}
 use Rattle.gq_model.proofs.Decoded_programs.{all_in_order}
 use Rattle.gq_code.proofs.Programs.{Sections, bits_below}
@@ -20,7 +21,8 @@ abbrev closed : List ℕ → Program → Decoded Program
 closed [] p = Ok p
 closed (b ∷ rest) p = Err TrailingBytes
 
-closed_is : (rest limits : List ℕ) (sections : Sections) → decoded_then (ended rest sections) (λ sections. Ok (program limits sections)) ≡ closed rest (program limits sections)
+closed_is : (rest limits : List ℕ) (sections : Sections) →
+    decoded_then (ended rest sections) (λ sections. Ok (program limits sections)) ≡ closed rest (program limits sections)
 closed_is [] limits sections = refl
 closed_is (b ∷ rest) limits sections = refl
 
@@ -57,8 +59,11 @@ code_read p rest h =
     let eight : limits_at 8 b first ≡ Ok (p.locals, second) = ap (λ n. limits_at n b first) (sym h.eight) ∙ limits_back p.locals second h.limits in
     let head : number_at 1 Truncated (b ∷ first) ≡ Ok (b, first) = ap (λ n. Ok (n, first)) {x = b + 256 * 0} {y = b} (omega arith) in
     ap decoded (parts_code b limits (spelled 2 bits) (sections_code p.sections) rest)
-    ∙ (decoded_sections (b ∷ first) first second third p.locals b bits head eight (number_at-spelled_2 Truncated bits third (omega (arith, below))) (omega (arith, below))
-    ∙ (ap (λ x. decoded_then x (λ sections. Ok (program p.locals sections))) (sections_back all_sections 0 bits 0 p.sections rest all_in_order refl h.sections (omega arith) (let few = h.few in omega (arith, few)))
+    ∙ (decoded_sections (b ∷
+    first) first second third p.locals b bits head eight (number_at-spelled_2 Truncated bits third (omega (arith, below))) (omega (arith, below))
+    ∙ (ap (λ x. decoded_then x (λ sections.
+    Ok (program p.locals sections))) (sections_back all_sections 0 bits 0 p.sections rest all_in_order refl h.sections (omega arith) (let few =
+    h.few in omega (arith, few)))
     ∙ closed_is rest p.locals p.sections))
 
 -- the code of a program is decoded as that program

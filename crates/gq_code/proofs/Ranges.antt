@@ -2,7 +2,7 @@
 use Rattle.std.proofs.Common.{◌≡◌, ℕ, suc, ◌≤◌, List, [], ◌∷◌, get_or, true, refl, arith}
 use Rattle.std.specs.Prelude.{nat_le}
 use Rattle.std.proofs.lemmas.Bool.{and_from, le-leb}
-use Rattle.gq_model.specs.Lists.{all_of, between}
+use Rattle.gq_model.specs.machine.Lists.{all_of, between}
 
 pub all_between : (high : ℕ) (xs : List ℕ) → ((k : ℕ) → get_or xs k 0 ≤ high) → all_of (between 0 high) xs ≡ true
 all_between high [] h = refl

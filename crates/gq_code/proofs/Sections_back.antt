@@ -1,5 +1,6 @@
 -- The code of sections is read back as these sections.
-use Rattle.std.proofs.Common.{◌≡◌, ℕ, zero, suc, ◌+◌, ◌*◌, ◌/◌, ◌%◌, ◌^◌, ◌<◌, ◌≤◌, List, [], ◌∷◌, ◌++◌, get_or, ◌-◌, length, true, ◌==◌, Ok, Err, refl, ap, sym, ◌∙◌, arith, append_assoc, inl, inr}
+use Rattle.std.proofs.Common.{◌≡◌, ℕ, zero, suc, ◌+◌, ◌*◌, ◌/◌, ◌%◌, ◌^◌, ◌<◌, ◌≤◌, List, [], ◌∷◌, ◌++◌, get_or, ◌-◌, length, true, ◌==◌, Ok, Err}
+use Rattle.std.proofs.Common.{refl, ap, sym, ◌∙◌, arith, append_assoc, inl, inr}
 use Rattle.std.specs.Prelude.{nat_le, sum_by, ◌&&◌}
 use Rattle.std.proofs.lemmas.Bool.{and_parts, and_from, leb-true, le-leb, eq-eqb, ne_eqb, cases_lt}
 use Rattle.std.proofs.lemmas.Nat.{pow_pos, pow-add}
@@ -8,11 +9,12 @@ use Rattle.std.proofs.Math.Nat.{pow-succ', eq_of_mul-eq-mul_left}
 use Rattle.gq_model.specs.declared.fault.CodeFault.TheVariants.{TrailingBytes}
 use Rattle.gq_model.specs.declared.program.Section.{Section}
 use Rattle.gq_model.specs.declared.program.Section.TheVariants.{Main, Opening, Upgrading, Calling, Closing}
-use Rattle.gq_model.specs.Program.{Statements, all_sections, size}
-use Rattle.gq_model.specs.Code.{is_section, section_number, are_sections, section_bits, sections_code, body_code, body_length, is_body, greatest_statements}
-use Rattle.gq_model.specs.Decode.{Decoded, sections_at}
+use Rattle.gq_model.specs.machine.Program.{Statements, all_sections, size}
+use Rattle.gq_model.specs.texts.Code.{is_section, section_number, are_sections, section_bits, sections_code, body_code, body_length, is_body}
+use Rattle.gq_model.specs.texts.Code.{greatest_statements}
+use Rattle.gq_model.specs.texts.Decode.{Decoded, sections_at}
 use Rattle.gq_model.proofs.Decoded_programs.{InOrder}
-use Rattle.gq_code.specs.Bodies.{section_at, after_sections}
+use Rattle.gq_code.specs.internal.Bodies.{section_at, after_sections}
 use Rattle.gq_code.proofs.Bodies.{then_along}
 use Rattle.gq_code.proofs.Bodies_back.{section_back}
 use Rattle.gq_code.proofs.Programs.{Sections, first_of, number_below}
@@ -45,11 +47,14 @@ same_number : (s t : Section) → is_section s ≡ true → is_section t ≡ tru
 same_number s t h k e = sym (at_number s h) ∙ (ap (λ n. get_or all_sections n Main) e ∙ at_number t k)
 
 -- sections from the n-th place on, the first of which stands later
-later : (n : ℕ) (p : Section × Statements) (rest : Sections) → are_sections n (p ∷ rest) ≡ true → n < section_number p.0 → are_sections (suc n) (p ∷ rest) ≡ true
+later : (n : ℕ) (p : Section × Statements) (rest : Sections) → are_sections n (p ∷ rest) ≡ true → n < section_number p.0 →
+    are_sections (suc n) (p ∷ rest) ≡ true
 later n p rest h less =
     let f = first_of n p rest h in
     let k = section_number p.0 in
-    and_from (is_section p.0 && nat_le (suc n) k && is_body 4 p.1) (are_sections (1 + k) rest) (and_from (is_section p.0 && nat_le (suc n) k) (is_body 4 p.1) (and_from (is_section p.0) (nat_le (suc n) k) f.section (le-leb (suc n) k less)) f.body) f.rest
+    and_from (is_section p.0 && nat_le (suc n) k && is_body 4 p.1) (are_sections (1 + k) rest)
+    (and_from (is_section p.0 && nat_le (suc n) k) (is_body 4 p.1) (and_from (is_section p.0) (nat_le (suc n) k) f.section (le-leb (suc n) k less)) f.body)
+    f.rest
 
 -- BITS
 
@@ -61,8 +66,11 @@ multiple n (p ∷ rest) h =
     let k = section_number p.0 in
     let r = multiple (1 + k) rest f.rest in
     let at = power n k (leb-true n k f.after) in
-    let sum = sum_by-cons (λ (p : Section × Statements). 2 ^ section_number p.0) p rest in
-    (at.0 + 2 * at.0 * r.0, whole n (section_bits (p ∷ rest)) (section_bits rest) (2 ^ k) (2 ^ (1 + k)) at.0 r.0 sum r.1 at.1 (ap (λ m. 2 ^ m) {x = 1 + k} {y = suc k} (omega arith) ∙ pow-succ' 2 k))
+    let sum = sum_by-cons (λ (p : Section × Statements). 2 ^ section_number p.0) p rest in (
+      at.0 + 2 * at.0 * r.0,
+      whole n (section_bits (p ∷ rest)) (section_bits rest) (2 ^ k) (2 ^ (1 + k)) at.0 r.0 sum r.1 at.1
+          (ap (λ m. 2 ^ m) {x = 1 + k} {y = suc k} (omega arith) ∙ pow-succ' 2 k),
+    )
   where
     power : (n k : ℕ) → n ≤ k → (q : ℕ) × (2 ^ k ≡ 2 ^ n * q)
     power n k h = (2 ^ (k - n), ap (λ m. 2 ^ m) {x = k} {y = n + (k - n)} (omega (arith, h)) ∙ pow-add 2 n (k - n))
@@ -80,22 +88,29 @@ abbrev pub ended : List ℕ → Sections → Decoded Sections
 ended [] sections = Ok sections
 ended (b ∷ rest) sections = Err TrailingBytes
 
-ended_first : (rest : List ℕ) (s : Section) (p : Section × Statements) (sections : Sections) → s ≡ p.0 → after_sections ((s, p.1) ∷ []) (ended rest sections) ≡ ended rest (p ∷ sections)
+ended_first : (rest : List ℕ) (s : Section) (p : Section × Statements) (sections : Sections) → s ≡ p.0 →
+    after_sections ((s, p.1) ∷ []) (ended rest sections) ≡ ended rest (p ∷ sections)
 ended_first [] s p sections e = ap (λ s. Ok ((s, p.1) ∷ sections)) e
 ended_first (b ∷ rest) s p sections e = refl
 
 -- the section at this place is not there
-skipped : (s : Section) (order : List Section) (bits half k : ℕ) (bytes : List ℕ) → bits ≡ 2 * half → sections_at (s ∷ order) bits k bytes ≡ sections_at order half k bytes
+skipped : (s : Section) (order : List Section) (bits half k : ℕ) (bytes : List ℕ) → bits ≡ 2 * half →
+    sections_at (s ∷ order) bits k bytes ≡ sections_at order half k bytes
 skipped s order bits half k bytes e =
-    section_absent (bits % 2 == 1) s order bits k bytes (ne_eqb (bits % 2) 1 (λ f. omega (arith, e, f))) ∙ ap (λ h. sections_at order h k bytes) {x = bits / 2} {y = half} (omega (arith, e))
+    section_absent (bits % 2 == 1) s order bits k bytes (ne_eqb (bits % 2) 1 (λ f. omega (arith, e, f))) ∙
+    ap (λ h. sections_at order h k bytes) {x = bits / 2} {y = half} (omega (arith, e))
 
 -- it is there
-read_first : (s : Section) (order : List Section) (bits half k m : ℕ) (bytes rest : List ℕ) (body : Statements) (after : Decoded Sections) → bits ≡ 1 + 2 * half → section_at k bytes ≡ Ok (body, (m, rest)) → sections_at order half m rest ≡ after → sections_at (s ∷ order) bits k bytes ≡ after_sections ((s, body) ∷ []) after
+read_first : (s : Section) (order : List Section) (bits half k m : ℕ) (bytes rest : List ℕ) (body : Statements) (after : Decoded Sections) →
+    bits ≡ 1 + 2 * half → section_at k bytes ≡ Ok (body, (m, rest)) → sections_at order half m rest ≡ after →
+    sections_at (s ∷ order) bits k bytes ≡ after_sections ((s, body) ∷ []) after
 read_first s order bits half k m bytes rest body after e f g =
     section_given (bits % 2 == 1) s order bits k bytes (eq-eqb (bits % 2) 1 (omega (arith, e)))
     ∙ (then_along _ f ∙ ap (after_sections ((s, body) ∷ [])) (ap (λ h. sections_at order h m rest) {x = bits / 2} {y = half} (omega (arith, e)) ∙ g))
 
-pub sections_back : (order : List Section) (j bits k : ℕ) (sections : Sections) (rest : List ℕ) → InOrder j order → j + length order ≡ 13 → are_sections j sections ≡ true → 2 ^ j * bits ≡ section_bits sections → k + sum_by (λ s. size s.1) sections ≤ greatest_statements → sections_at order bits k (sections_code sections ++ rest) ≡ ended rest sections
+pub sections_back : (order : List Section) (j bits k : ℕ) (sections : Sections) (rest : List ℕ) → InOrder j order → j + length order ≡ 13 →
+    are_sections j sections ≡ true → 2 ^ j * bits ≡ section_bits sections → k + sum_by (λ s. size s.1) sections ≤ greatest_statements →
+    sections_at order bits k (sections_code sections ++ rest) ≡ ended rest sections
 sections_back [] j bits k [] [] o end h b few = refl
 sections_back [] j bits k [] (c ∷ rest) o end h b few = refl
 sections_back [] j bits k (p ∷ sections) rest o end h b few =
@@ -114,7 +129,8 @@ sections_back (s ∷ order) j bits k (p ∷ sections) rest o end h b few =
           let after = later j p sections h less in
           let q = multiple (suc j) (p ∷ sections) after in
           let half : bits ≡ 2 * q.0 = cancelled j bits (2 * q.0) (b ∙ (q.1 ∙ twice j q.0)) in
-          skipped s order bits q.0 k (sections_code (p ∷ sections) ++ rest) half ∙ sections_back order (suc j) q.0 k (p ∷ sections) rest o.2 (omega (arith, end)) after (sym q.1) few
+          skipped s order bits q.0 k (sections_code (p ∷ sections) ++ rest) half ∙
+          sections_back order (suc j) q.0 k (p ∷ sections) rest o.2 (omega (arith, end)) after (sym q.1) few
       | inr more ↦
           let at : n ≡ j = let low = leb-true j n f.after in omega (arith, low, more) in
           let next : are_sections (suc j) sections ≡ true = ap (λ m. are_sections m sections) {x = suc j} {y = 1 + n} (omega (arith, at)) ∙ f.rest in
@@ -126,7 +142,9 @@ sections_back (s ∷ order) j bits k (p ∷ sections) rest o end h b few =
           let few_here : k + size p.1 ≤ greatest_statements = omega (arith, few, sum) in
           let few_after : k + size p.1 + sum_by (λ s. size s.1) sections ≤ greatest_statements = omega (arith, few, sum) in
           ap (λ l. sections_at (s ∷ order) bits k (body_length code ++ l)) (append_assoc code (sections_code sections) rest)
-          ∙ (read_first s order bits q.0 k (k + size p.1) (body_length code ++ (code ++ more)) more p.1 (ended rest sections) half (section_back p.1 k more f.body few_here) (sections_back order (suc j) q.0 (k + size p.1) sections rest o.2 (omega (arith, end)) next (sym q.1) few_after)
+          ∙ (read_first s order bits q.0 k (k + size p.1) (body_length code ++
+          (code ++ more)) more p.1 (ended rest sections) half (section_back p.1 k more f.body few_here) (sections_back order (suc j) q.0 (k +
+          size p.1) sections rest o.2 (omega (arith, end)) next (sym q.1) few_after)
           ∙ ended_first rest s p sections (same_number s p.0 o.0 f.section (o.1 ∙ sym at)))
     ]
   where

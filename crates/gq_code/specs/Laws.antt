@@ -1,9 +1,9 @@
 -- What programs and their code are to each other.
 use Rattle.std.specs.Prelude.{◌≡◌, ℕ, List, ◌∷◌, ◌++◌, Ok, IsErr, IsTrue}
-use Rattle.gq_model.specs.Lists.{all_of, between}
-use Rattle.gq_model.specs.Program.{Program}
-use Rattle.gq_model.specs.Code.{IsProgram, code_of}
-use Rattle.gq_model.specs.Decode.{decoded}
+use Rattle.gq_model.specs.machine.Lists.{all_of, between}
+use Rattle.gq_model.specs.machine.Program.{Program}
+use Rattle.gq_model.specs.texts.Code.{IsProgram, code_of}
+use Rattle.gq_model.specs.texts.Decode.{decoded}
 
 -- a list of bytes
 abbrev pub AreBytes : List ℕ → Type 0

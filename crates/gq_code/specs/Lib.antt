@@ -1,8 +1,4 @@
-pub mod Trees
-pub mod Falls
-pub mod Spelling
 pub mod Codes
-pub mod Decoding
-pub mod Bodies
+pub mod Decoded
 pub mod Laws
-pub mod Interfaces
+pub mod internal

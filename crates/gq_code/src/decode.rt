@@ -1,19 +1,20 @@
 // The program that bytes spell.
 ghost use Rattle.std.specs.Prelude.{◌≡◌, ◌≤◌, ◌∷◌, [], IfOk, Ok, alloc_error, length};
-ghost use Rattle.gq_model.specs.Decode.{one_more, limits_at, sections_at, decoded};
-ghost use Rattle.gq_model.specs.Spelling.{spellings, shape_of_opcode};
-ghost use Rattle.gq_code.specs.Trees.{tree_of};
-ghost use Rattle.gq_code.specs.Decoding.{Answers, limit_at};
-ghost use Rattle.gq_code.specs.Bodies.{Reads, body_in, opened_at, arms_at, round_at, plain_at, choice_with, round_with, statement_with, section_at, IsDecoded};
+ghost use Rattle.gq_model.specs.texts.Decode.{one_more, limits_at, sections_at, decoded};
+ghost use Rattle.gq_model.specs.texts.Spelling.{spellings, shape_of_opcode};
+ghost use Rattle.gq_program.specs.Trees.{tree_of};
+ghost use Rattle.gq_code.specs.internal.Decoding.{Answers, limit_at};
+ghost use Rattle.gq_code.specs.internal.Bodies.{Reads, body_in, opened_at, arms_at, round_at, plain_at, choice_with, round_with, statement_with, section_at};
+ghost use Rattle.gq_code.specs.Decoded.{IsDecoded};
 ghost use Rattle.gq_code.specs.declared.decode.DecodeError.TheVariants.{Memory, Fault};
 
-use crate::check::{GREATEST_DEPTH, GREATEST_STATEMENTS};
 use crate::operands::{cut, number, operands};
-use crate::program::{Body, LOCALS, Program, Statement};
 use crate::program_code::NO_LIMIT;
-use crate::spelling::shape_of_opcode;
 use gq_model::fault::CodeFault;
+use gq_model::limits::{GREATEST_DEPTH, GREATEST_STATEMENTS, LOCALS};
 use gq_model::program::{Instruction, Section};
+use gq_program::program::{Body, Program, Statement};
+use gq_program::spelling::shape_of_opcode;
 use std::alloc::{AllocError, AllocFailed, Global};
 use thiserror::Error;
 
@@ -52,28 +53,11 @@ impl From<CodeFault> for DecodeError {
     }
 }
 
-/// The sections in the order of their bits.
-const SECTIONS: [Section; 13] = [
-    Section::Main,
-    Section::Opening,
-    Section::Upgrading(1),
-    Section::Upgrading(2),
-    Section::Upgrading(3),
-    Section::Calling(0),
-    Section::Calling(1),
-    Section::Calling(2),
-    Section::Calling(3),
-    Section::Closing(0),
-    Section::Closing(1),
-    Section::Closing(2),
-    Section::Closing(3),
-];
-
 /// How many statements there are with one more.
 fn one_more(before: u32) -> Result<u32, CodeFault>
     ensures { Answers (λ m. m) result (one_more before (λ m. Ok m)) }
 {
-    if before < GREATEST_STATEMENTS {
+    if before < u32::from(GREATEST_STATEMENTS) {
         Ok(before + 1)
     } else {
         Err(CodeFault::TooLong)
@@ -247,7 +231,7 @@ fn section(alloc: Global, bytes: &[u8], before: u32) -> Result<(Body, u32, &[u8]
 {
     let (length, rest) = number(bytes, 4, CodeFault::Truncated)?;
     let (body, rest) = cut(rest, length as usize, CodeFault::Truncated)?;
-    let (body, count) = read_body(alloc, body, GREATEST_DEPTH, before)?;
+    let (body, count) = read_body(alloc, body, GREATEST_DEPTH as u8, before)?;
     Ok((body, count, rest))
 }
 
@@ -287,90 +271,9 @@ pub fn decode(alloc: Global, bytes: &[u8]) -> Result<Program, DecodeError>
     let (bits, rest) = number(bytes, 1, CodeFault::Truncated)?;
     let (limits, rest) = limits(bits, rest)?;
     let (present, rest) = number(rest, 2, CodeFault::Truncated)?;
-    if present >= 1 << SECTIONS.len() {
+    if present >= 1 << Section::ALL.len() {
         return Err(DecodeError::Fault(CodeFault::BadOperand));
     }
-    let sections = sections(alloc, &SECTIONS, present, rest)?;
+    let sections = sections(alloc, &Section::ALL, present, rest)?;
     Ok(Program::from_parts(sections, limits))
-}
-
-#[cfg(test)]
-mod tests {
-    use super::*;
-    use crate::program_code::encode;
-    use std::test::Fail;
-
-    /// `main` says "hello".
-    const HELLO: &[u8] = b"\x00\x01\x00\x07\x00\x00\x00\x01\x05hello";
-
-    /// Whether these bytes are refused with this fault.
-    fn is_refused(alloc: Global, bytes: &[u8], fault: CodeFault) -> bool {
-        match decode(alloc, bytes) {
-            Err(DecodeError::Fault(found)) => found == fault,
-            Ok(_) | Err(DecodeError::Memory(_)) => false,
-        }
-    }
-
-    /// The code of the program that these bytes spell.
-    fn again(alloc: Global, bytes: &[u8]) -> Result<Vec<u8>, Fail> {
-        match decode(alloc, bytes) {
-            Ok(program) => Ok(encode(alloc, &program)?),
-            Err(_) => Err(Fail::from("a program")),
-        }
-    }
-
-    #[test]
-    fn reads_a_text(rt: HostRuntime) -> Result<(), Fail> {
-        let code = again(rt.alloc(), HELLO)?;
-        assert!(rt; code.as_slice() == HELLO);
-        Ok(())
-    }
-
-    #[test]
-    fn reads_blocks_and_limits(rt: HostRuntime) -> Result<(), Fail> {
-        let code =
-            b"\x02\xe8\x03\x00\x00\x01\x00\x19\x00\x00\x00\x41\x02\x00\x03\x00\x00\x00\x01\x01x\x40\x06\x00\x00\x00\x00\x00\x00\x00\x03\x01\x00\x00\x00\x02".as_slice();
-        assert!(rt; again(rt.alloc(), code)?.as_slice() == code);
-        Ok(())
-    }
-
-    #[test]
-    fn reads_operands(rt: HostRuntime) -> Result<(), Fail> {
-        let code =
-            b"\x00\x00\x10\x15\x00\x00\x00\x23\x43\x10\x00\x00\x04\x10\x03\x25\x48\x30\x05\x04echo\x00\x20\x00\x00".as_slice();
-        assert!(rt; again(rt.alloc(), code)?.as_slice() == code);
-        Ok(())
-    }
-
-    #[test]
-    fn refuses_what_is_cut_off(rt: HostRuntime) {
-        for end in 0..HELLO.len() {
-            assert!(rt; is_refused(rt.alloc(), &HELLO[..end], CodeFault::Truncated));
-        }
-    }
-
-    #[test]
-    fn refuses_bytes_after_the_last_section(rt: HostRuntime) -> Result<(), Fail> {
-        let mut longer = Vec::new(rt.alloc());
-        longer.extend_from_slice(HELLO)?;
-        longer.push(0)?;
-        assert!(rt; is_refused(rt.alloc(), longer.as_slice(), CodeFault::TrailingBytes));
-        Ok(())
-    }
-
-    #[test]
-    fn refuses_an_arm_past_its_section(rt: HostRuntime) {
-        let code =
-            b"\x00\x01\x00\x0e\x00\x00\x00\x03\x01\x00\x00\x00\x40\xff\x00\x00\x00\x00\x00\x00\x00".as_slice();
-        assert!(rt; is_refused(rt.alloc(), code, CodeFault::BadNesting));
-    }
-
-    #[test]
-    fn tells_why(rt: HostRuntime) -> Result<(), Fail> {
-        let memory = format!(in rt.alloc(); "{}", DecodeError::Memory(AllocError))?;
-        assert_eq!(rt; memory.as_str(), "host memory refused");
-        let fault = format!(in rt.alloc(); "{}", DecodeError::Fault(CodeFault::TrailingBytes))?;
-        assert_eq!(rt; fault.as_str(), "C6 TrailingBytes");
-        Ok(())
-    }
 }

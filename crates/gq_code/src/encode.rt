@@ -1,14 +1,15 @@
 // Programs as bytes.
 ghost use Rattle.std.specs.Prelude.{◌≡◌, ℕ, ◌+◌, ◌<◌, OnOk, IfOk, IsTrue, length, ◌++◌, ◌∷◌, []};
-ghost use Rattle.gq_model.specs.Program.{spelled};
-ghost use Rattle.gq_model.specs.Operands.{opcode, operator_code, slot_code, is_slot, is_slot_or_object, operands, in_range, operands_code, instruction_code};
-ghost use Rattle.gq_model.specs.Lists.{all_of};
-ghost use Rattle.gq_model.specs.Code.{body_code, body_length};
-ghost use Rattle.gq_code.specs.Trees.{tree_of};
+ghost use Rattle.gq_model.specs.machine.Program.{spelled};
+ghost use Rattle.gq_model.specs.texts.Operands.{opcode, operator_code, slot_code, is_slot, is_slot_or_object, operands, in_range, operands_code};
+ghost use Rattle.gq_model.specs.texts.Operands.{instruction_code};
+ghost use Rattle.gq_model.specs.machine.Lists.{all_of};
+ghost use Rattle.gq_model.specs.texts.Code.{body_code, body_length};
+ghost use Rattle.gq_program.specs.Trees.{tree_of};
 ghost use Rattle.gq_code.specs.Codes.{has_code};
 
-use crate::program::{Body, Statement};
 use gq_model::program::{Form, Instruction, Operator, Place, Width};
+use gq_program::program::{Body, Statement};
 use std::alloc::{AllocError, Global};
 
 /// Puts a number at the end, in so many bytes, the least first.

@@ -1,19 +1,21 @@
-//! Programs: as trees, and as bytes.
+//! The code of programs: a program as bytes, and back.
+//!
+//! ```rust
+//! use gq_code::decode::decode;
+//! use gq_code::program_code::encode;
+//!
+//! let program = decode(rt.alloc(), b"\x00\x01\x00\x07\x00\x00\x00\x01\x05hello")?;
+//! let code = encode(rt.alloc(), &program)?;
+//! ```
 #![tactic(auto)]
 
-pub mod check;
 pub mod decode;
 pub mod encode;
-pub mod interface;
 pub mod laws;
 mod operands;
-pub mod program;
 pub mod program_code;
-pub mod spelling;
 
-pub use gq_model::program::{Form, Instruction, Name, Operator, Place, Section, Text, Width};
-pub use interface::{Interface, Interfaces, Upgrade};
-pub use program::{Body, Program, Statement};
-
-#[cfg(test)]
-mod tests;
+pub use gq_program::{
+    Body, Form, Instruction, Interface, Interfaces, Name, Operator, Place, Program, Section,
+    Statement, Text, Upgrade, Width, interface, program, spelling,
+};

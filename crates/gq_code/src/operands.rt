@@ -1,14 +1,15 @@
 // Operands, as bytes spell them. Each function gives what bytes begin with, and what follows it.
 ghost use Rattle.std.specs.Prelude.{◌≡◌, ◌≤◌, ◌<◌, ◌+◌, ◌^◌, IfOk, length};
-ghost use Rattle.gq_model.specs.Letters.{is_name_byte, is_said_byte};
-ghost use Rattle.gq_model.specs.Program.{little};
-ghost use Rattle.gq_model.specs.Decode.{cut, number_at, place_of, text_at, operands_at};
-ghost use Rattle.gq_code.specs.Spelling.{shape_of};
-ghost use Rattle.gq_code.specs.Decoding.{Answers, ranged_at, place_at, counted_at};
+ghost use Rattle.gq_model.specs.texts.Letters.{is_name_byte, is_said_byte};
+ghost use Rattle.gq_model.specs.machine.Program.{little};
+ghost use Rattle.gq_model.specs.texts.Decode.{cut, number_at, place_of, text_at, operands_at};
+ghost use Rattle.gq_program.specs.Spelling.{shape_of};
+ghost use Rattle.gq_code.specs.internal.Decoding.{Answers, ranged_at, place_at, counted_at};
 
-use crate::spelling::{Shape, WithAmount, WithBytes, WithNumber, WithSlot};
 use gq_model::fault::CodeFault;
-use gq_model::program::{Instruction, Name, Place, Text};
+use gq_model::program::{GREATEST_NAME, GREATEST_TEXT, Instruction, Name, Place, Text};
+use gq_program::spelling::{Shape, WithAmount, WithBytes, WithNumber, WithSlot};
+use gq_tariff::price::GREATEST_PLACE;
 
 /// The first `count` bytes; if there are fewer, this fault.
 pub(crate) fn cut(bytes: &[u8], count: usize, fault: CodeFault) -> Result<(&[u8], &[u8]), CodeFault>
@@ -109,7 +110,7 @@ fn service(bytes: &[u8]) -> Result<(Name, &[u8]), CodeFault>
     ensures name { Answers (λ p. (p.0, p.1.now)) result (text_at 1 16 is_name_byte bytes.now) }
     ensures rest { IfOk result (λ p. length p.1.now ≤ length bytes.now) }
 {
-    let (name, rest) = counted(bytes, 1, 16)?;
+    let (name, rest) = counted(bytes, 1, GREATEST_NAME as u32)?;
     match Name::new(name) {
         Some(name) => Ok((name, rest)),
         None => Err(CodeFault::BadOperand),
@@ -121,7 +122,7 @@ fn said(bytes: &[u8]) -> Result<(Text, &[u8]), CodeFault>
     ensures text { Answers (λ p. (p.0, p.1.now)) result (text_at 0 64 is_said_byte bytes.now) }
     ensures rest { IfOk result (λ p. length p.1.now ≤ length bytes.now) }
 {
-    let (text, rest) = counted(bytes, 0, 64)?;
+    let (text, rest) = counted(bytes, 0, GREATEST_TEXT as u32)?;
     match Text::new(text) {
         Some(text) => Ok((text, rest)),
         None => Err(CodeFault::BadOperand),
@@ -165,16 +166,16 @@ fn with_amount(statement: WithAmount, bytes: &[u8]) -> Result<(Instruction, &[u8
     Ok((statement.instruction(place, number), rest))
 }
 
-/// `pool`: a slot, how many entries, and the bytes of each.
+/// `pool`: a slot, the bytes of an entry, and how many entries there are at most.
 fn pool(bytes: &[u8]) -> Result<(Instruction, &[u8]), CodeFault>
     ensures read { Answers (λ p. (p.0, p.1.now)) result (operands_at (shape_of Shape.Pool) bytes.now) }
     ensures rest { IfOk result (λ p. length p.1.now ≤ length bytes.now) }
 {
     let (place, rest) = place(false, bytes)?;
-    let (entries, rest) = ranged(rest, 2, 1, 2048)?;
-    let (size, rest) = ranged(rest, 2, 1, 1024)?;
+    let (size, rest) = ranged(rest, 2, 1, GREATEST_PLACE as u32)?;
+    let (count, rest) = ranged(rest, 2, 1, 1024)?;
     Ok((
-        Instruction::MakePool(place, entries as u16, size as u16),
+        Instruction::MakePool(place, size as u16, count as u16),
         rest,
     ))
 }

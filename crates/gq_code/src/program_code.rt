@@ -1,11 +1,11 @@
 // Whole programs as bytes.
 ghost use Rattle.std.specs.Prelude.{◌≡◌, ◌≤◌, ◌<◌, ◌^◌, ◌++◌, OnOk, IfOk, IsTrue, length};
-ghost use Rattle.gq_model.specs.Code.{is_section, are_sections, section_number, section_bits, local_bits, limits_code, sections_code, code_of};
-ghost use Rattle.gq_code.specs.Codes.{have_codes};
+ghost use Rattle.gq_model.specs.texts.Code.{is_section, are_sections, section_number, section_bits, local_bits, limits_code, sections_code, code_of};
+ghost use Rattle.gq_code.specs.internal.Sections.{have_codes};
 
 use crate::encode::{encode_body, write_number};
-use crate::program::{Body, Program};
 use gq_model::program::Section;
+use gq_program::program::{Body, Program};
 use std::alloc::{AllocError, Global};
 
 /// The number of a local without a limit.
@@ -101,68 +101,4 @@ pub fn encode(alloc: Global, program: &Program) -> Result<Vec<u8>, AllocError>
     write_number(&mut code, 2, u64::from(section_bits(sections)))?;
     write_sections(alloc, &mut code, sections)?;
     Ok(code)
-}
-
-#[cfg(test)]
-mod tests {
-    use super::*;
-    use crate::program::Statement;
-    use gq_model::program::{Instruction, Text};
-    use std::alloc::Global;
-    use std::test::Fail;
-
-    /// A text to say.
-    fn said(text: &[u8]) -> Result<Statement, Fail> {
-        match Text::new(text) {
-            Some(text) => Ok(Statement::Plain(Instruction::Say(text))),
-            None => Err(Fail::from("a text")),
-        }
-    }
-
-    /// These statements in a list.
-    fn listed(alloc: Global, statements: Vec<Statement>) -> Result<Body, AllocError> {
-        let mut body = Body::new(alloc);
-        for statement in statements {
-            body.push(statement)?;
-        }
-        Ok(body)
-    }
-
-    /// The code of a program.
-    fn code_of(alloc: Global, main: Body, locals: [u32; 8]) -> Result<Vec<u8>, Fail> {
-        let sections = vec![in alloc; (Section::Main, main)]?;
-        let program = Program::new(sections, locals).ok_or("a program")?;
-        Ok(encode(alloc, &program)?)
-    }
-
-    #[test]
-    fn spells_a_text(rt: HostRuntime) -> Result<(), Fail> {
-        let alloc = rt.alloc();
-        let main = listed(alloc, vec![in alloc; said(b"hello")?]?)?;
-        let code = code_of(alloc, main, [NO_LIMIT; 8])?;
-        assert!(rt; code.as_slice() == b"\x00\x01\x00\x07\x00\x00\x00\x01\x05hello".as_slice());
-        Ok(())
-    }
-
-    #[test]
-    fn spells_blocks_and_limits(rt: HostRuntime) -> Result<(), Fail> {
-        let alloc = rt.alloc();
-        let round = listed(alloc, vec![in alloc; said(b"x")?]?)?;
-        let push = Statement::Plain(Instruction::Push(1));
-        let out = Statement::Plain(Instruction::Out);
-        let arm = listed(alloc, vec![in alloc; push, out]?)?;
-        let choice = Statement::If(arm, Body::new(alloc));
-        let main = listed(alloc, vec![in alloc; Statement::Loop(2, round), choice]?)?;
-        let mut locals = [NO_LIMIT; 8];
-        locals[1] = 1000;
-        let code = code_of(alloc, main, locals)?;
-        let head = b"\x02\xe8\x03\x00\x00\x01\x00\x19\x00\x00\x00".as_slice();
-        let looped = b"\x41\x02\x00\x03\x00\x00\x00\x01\x01x".as_slice();
-        let chosen = b"\x40\x06\x00\x00\x00\x00\x00\x00\x00\x03\x01\x00\x00\x00\x02".as_slice();
-        assert!(rt; code.len() == 36);
-        assert!(rt; &code[..11] == head);
-        assert!(rt; &code[11..21] == looped);
-        assert!(rt; &code[21..] == chosen);
-        Ok(())
-    }
 }

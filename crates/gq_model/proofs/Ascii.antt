@@ -2,8 +2,8 @@
 use Rattle.std.proofs.Common.{◌≡◌, ℕ, zero, suc, ◌<◌, true, List, [], ◌∷◌, length, slice_index, arith}
 use Rattle.std.proofs.lemmas.Bool.{and_parts}
 use Rattle.std.proofs.lemmas.Bool.Decides.{nat_tests}
-use Rattle.gq_model.specs.Lists.{all_of, between}
-use Rattle.gq_model.specs.Letters.{is_name_byte, is_name}
+use Rattle.gq_model.specs.machine.Lists.{all_of, between}
+use Rattle.gq_model.specs.texts.Letters.{is_name_byte, is_name}
 
 ascii_byte : (c : ℕ) → is_name_byte c ≡ true → c < 128
 ascii_byte c e = grind (arith, nat_tests)

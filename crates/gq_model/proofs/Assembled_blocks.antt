@@ -2,11 +2,11 @@
 use Rattle.std.proofs.Common.{◌≡◌, ℕ, ◌+◌, ◌-◌, ◌<◌, ◌≤◌, List, [], ◌∷◌, length, true, refl, arith}
 use Rattle.std.specs.Prelude.{nat_lt, ◌&&◌}
 use Rattle.std.proofs.lemmas.Bool.{and_parts, and_from, lt-ltb}
-use Rattle.gq_model.specs.Program.{Statements, Done, Do, If, Loop, ◌then◌, size}
-use Rattle.gq_model.specs.Lists.{all_of, between}
-use Rattle.gq_model.specs.Operands.{operands, in_range}
-use Rattle.gq_model.specs.Code.{is_body, is_section, greatest_statements}
-use Rattle.gq_model.specs.Text.{BlockKind, Section_block, First_arm, Second_arm, Loop_body, OpenBlock, Reading, add_to, close_block}
+use Rattle.gq_model.specs.machine.Program.{Statements, Done, Do, If, Loop, ◌then◌, size}
+use Rattle.gq_model.specs.machine.Lists.{all_of, between}
+use Rattle.gq_model.specs.texts.Operands.{operands, in_range}
+use Rattle.gq_model.specs.texts.Code.{is_body, is_section, greatest_statements}
+use Rattle.gq_model.specs.texts.Text.{BlockKind, Section_block, First_arm, Second_arm, Loop_body, OpenBlock, Reading, add_to, close_block}
 use Rattle.gq_model.proofs.Assembled_sections.{AreLimits, AreGiven, sections_size}
 
 -- ONE LIST AFTER ANOTHER
@@ -14,7 +14,8 @@ use Rattle.gq_model.proofs.Assembled_sections.{AreLimits, AreGiven, sections_siz
 pub body_then : (n : ℕ) (a b : Statements) → is_body n a ≡ true → is_body n b ≡ true → is_body n (a then b) ≡ true
 body_then n Done b h k = k
 body_then n (Do i rest) b h k =
-    let p = and_parts (all_of in_range (operands i)) (is_body n rest) h in and_from (all_of in_range (operands i)) (is_body n (rest then b)) p.0 (body_then n rest b p.1 k)
+    let p = and_parts (all_of in_range (operands i)) (is_body n rest) h in
+    and_from (all_of in_range (operands i)) (is_body n (rest then b)) p.0 (body_then n rest b p.1 k)
 body_then n (If arm other rest) b h k =
     let p = and_parts (nat_lt 0 n && is_body (n - 1) arm && is_body (n - 1) other) (is_body n rest) h in
     and_from (nat_lt 0 n && is_body (n - 1) arm && is_body (n - 1) other) (is_body n (rest then b)) p.0 (body_then n rest b p.1 k)
@@ -79,11 +80,14 @@ block_size_then First_arm before new = omega (arith, size_then before new)
 block_size_then (Second_arm arm) before new = omega (arith, size_then before new)
 block_size_then (Loop_body c) before new = omega (arith, size_then before new)
 
-open_then : (kind : BlockKind) (before new : Statements) (outer : List OpenBlock) → IsOpen kind before outer → is_body (room outer) new ≡ true → IsOpen kind (before then new) outer
+open_then : (kind : BlockKind) (before new : Statements) (outer : List OpenBlock) → IsOpen kind before outer → is_body (room outer) new ≡ true
+    → IsOpen kind (before then new) outer
 open_then kind before new outer h k = record { kind_is = h.kind_is; body = body_then (room outer) before new h.body k; few = h.few }
 
 -- with these statements at the end of the innermost block
-pub added : (r : Reading) (new : Statements) (b : OpenBlock) (outer : List OpenBlock) (count : ℕ) → AreLimits r.limits → AreGiven r.sections → AreOpen (b ∷ outer) → is_body (room outer) new ≡ true → sections_size r.sections + (block_size b.kind b.before + blocks_size outer) + size new ≡ count → count ≤ greatest_statements → IsReading (record r { count = count; blocks = add_to new (b ∷ outer) })
+pub added : (r : Reading) (new : Statements) (b : OpenBlock) (outer : List OpenBlock) (count : ℕ) → AreLimits r.limits → AreGiven r.sections
+    → AreOpen (b ∷ outer) → is_body (room outer) new ≡ true → sections_size r.sections + (block_size b.kind b.before + blocks_size outer) + size new ≡ count
+    → count ≤ greatest_statements → IsReading (record r { count = count; blocks = add_to new (b ∷ outer) })
 added r new b outer count l s o k c f = record {
   limits = l;
   sections = s;
@@ -100,14 +104,18 @@ if_body : (n m : ℕ) (arm other : Statements) → n - 1 ≡ m → 0 < n → is_
 if_body n m arm other e some h k =
     let a : is_body (n - 1) arm ≡ true = rw e h in
     let b : is_body (n - 1) other ≡ true = rw e k in
-    and_from (nat_lt 0 n && is_body (n - 1) arm && is_body (n - 1) other) true (and_from (nat_lt 0 n && is_body (n - 1) arm) (is_body (n - 1) other) (and_from (nat_lt 0 n) (is_body (n - 1) arm) (lt-ltb 0 n some) a) b) refl
+    and_from (nat_lt 0 n && is_body (n - 1) arm && is_body (n - 1) other) true
+    (and_from (nat_lt 0 n && is_body (n - 1) arm) (is_body (n - 1) other) (and_from (nat_lt 0 n) (is_body (n - 1) arm) (lt-ltb 0 n some) a) b) refl
 
 loop_body : (n m c : ℕ) (body : Statements) → n - 1 ≡ m → 0 < n → between 1 65535 c ≡ true → is_body m body ≡ true → is_body n (Loop c body Done) ≡ true
 loop_body n m c body e some t h =
     let b : is_body (n - 1) body ≡ true = rw e h in
-    and_from (nat_lt 0 n && between 1 65535 c && is_body (n - 1) body) true (and_from (nat_lt 0 n && between 1 65535 c) (is_body (n - 1) body) (and_from (nat_lt 0 n) (between 1 65535 c) (lt-ltb 0 n some) t) b) refl
+    and_from (nat_lt 0 n && between 1 65535 c && is_body (n - 1) body) true
+    (and_from (nat_lt 0 n && between 1 65535 c) (is_body (n - 1) body) (and_from (nat_lt 0 n) (between 1 65535 c) (lt-ltb 0 n some) t) b) refl
 
-pub closed : (r : Reading) (kind : BlockKind) (before : Statements) (outer : List OpenBlock) → AreLimits r.limits → AreGiven r.sections → IsOpen kind before outer → AreOpen outer → sections_size r.sections + (block_size kind before + blocks_size outer) ≡ r.count → r.count ≤ greatest_statements → IsReading (close_block r kind before outer)
+pub closed : (r : Reading) (kind : BlockKind) (before : Statements) (outer : List OpenBlock) → AreLimits r.limits → AreGiven r.sections
+    → IsOpen kind before outer → AreOpen outer → sections_size r.sections + (block_size kind before + blocks_size outer) ≡ r.count
+    → r.count ≤ greatest_statements → IsReading (close_block r kind before outer)
 closed r (Section_block s) before [] l g h o c f = record { limits = l; sections = (h.kind_is, h.body, g); blocks = tt; count = omega (arith, c); few = f }
 closed r First_arm before (b ∷ outer) l g h o c f =
     let less = room_less b outer h.few in

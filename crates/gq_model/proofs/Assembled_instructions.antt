@@ -2,18 +2,20 @@
 use Rattle.std.proofs.Common.{◌≡◌, ℕ, ◌≤◌, List, [], ◌∷◌, ◌++◌, length, true, false, Option, Some, None, Result, refl, arith}
 use Rattle.std.specs.Prelude.{nat_le, nat_lt, ◌==◌, ◌&&◌, if◌then◌else◌, codes}
 use Rattle.std.proofs.lemmas.Bool.{and_parts, leb-true, lt-ltb, cond_both}
-use Rattle.gq_model.specs.Program.{Place, Own, Shared, Object, Instruction, text_eq}
-use Rattle.gq_model.specs.Lists.{all_of, between}
-use Rattle.gq_model.specs.Letters.{is_name, is_said, is_digit, is_short, spelled_on, number_in, unindented}
-use Rattle.gq_model.specs.Operands
-use Rattle.gq_model.specs.Operands.{Operand, operands, in_range, is_slot, is_slot_or_object}
-use Rattle.gq_model.specs.Spelling
-use Rattle.gq_model.specs.Spelling.{TextFault, BadNumber, BadSlot, BadText, Shape, Made, found, slot_number, numbered_slot, slot_in, name_in, sayable, opened_quote, said_in, instruction_in}
+use Rattle.gq_model.specs.machine.Program.{Place, Own, Shared, Object, Instruction, text_eq}
+use Rattle.gq_model.specs.machine.Lists.{all_of, between}
+use Rattle.gq_model.specs.texts.Letters.{is_name, is_said, is_digit, is_short, spelled_on, number_in, unindented}
+use Rattle.gq_model.specs.texts.Operands
+use Rattle.gq_model.specs.texts.Operands.{Operand, operands, in_range, is_slot, is_slot_or_object}
+use Rattle.gq_model.specs.texts.Spelling
+use Rattle.gq_model.specs.texts.Spelling.{TextFault, BadNumber, BadSlot, BadText, Shape, Made, found, slot_number, numbered_slot, slot_in, name_in, sayable}
+use Rattle.gq_model.specs.texts.Spelling.{opened_quote, said_in, instruction_in}
 use Rattle.gq_model.proofs.Results.{Holds}
 use Rattle.gq_model.proofs.Shapes.{Fills}
 use Rattle.gq_model.proofs.Decoded_operands.{one_more}
 
-pub found_holds : {A B : Type 0} (P : B → Type 0) (o : Option A) (fault : TextFault) (go : A → Result B TextFault) → ((a : A) → o ≡ Some a → Holds P (go a)) → Holds P (found o fault go)
+pub found_holds : {A B : Type 0} (P : B → Type 0) (o : Option A) (fault : TextFault) (go : A → Result B TextFault) → ((a : A) → o ≡ Some a → Holds P (go a))
+    → Holds P (found o fault go)
 found_holds P None fault go h = tt
 found_holds P (Some a) fault go h = h a refl
 
@@ -49,7 +51,8 @@ shared_is (Some n) p h e =
 numbered_is : (word : List ℕ) (p : Place) → numbered_slot word ≡ Some p → is_slot p ≡ true
 numbered_is [] p e = cc
 numbered_is (c ∷ rest) p e =
-    cond_both (c == 111) (Spelling.named Own (slot_number 63 rest)) (if c == 115 then Spelling.named Shared (slot_number 7 rest) else None) (λ o. o ≡ Some p → is_slot p ≡ true)
+    cond_both (c == 111) (Spelling.named Own (slot_number 63 rest)) (if c == 115 then Spelling.named Shared (slot_number 7 rest) else None) (λ o. o ≡ Some p
+    → is_slot p ≡ true)
     (λ _ own. own_is (slot_number 63 rest) p (slot_below 63 rest) own)
     (λ _ other.
     cond_both (c == 115) (Spelling.named Shared (slot_number 7 rest)) None (λ o. o ≡ Some p → is_slot p ≡ true)
@@ -61,7 +64,7 @@ numbered_is (c ∷ rest) p e =
 slot_is : (word : List ℕ) (p : Place) → slot_in false word ≡ Some p → is_slot p ≡ true
 slot_is word p e = numbered_is word p e
 
-or_object : (p : Place) → is_slot p ≡ true → is_slot_or_object p ≡ true
+pub or_object : (p : Place) → is_slot p ≡ true → is_slot_or_object p ≡ true
 or_object (Own i) h = h
 or_object (Shared i) h = h
 or_object Object h = refl
@@ -95,7 +98,8 @@ sayable_is (Some t) text e =
 abbrev InRange : Instruction → Type 0
 InRange i = all_of in_range (operands i) ≡ true
 
-pub instruction_holds : (after : List ℕ) (shape : Shape) (op : ℕ) (before : List Operand) (words : List (List ℕ)) → Fills op before shape → all_of in_range before ≡ true → Holds InRange (instruction_in after shape words)
+pub instruction_holds : (after : List ℕ) (shape : Shape) (op : ℕ) (before : List Operand) (words : List (List ℕ)) → Fills op before shape
+    → all_of in_range before ≡ true → Holds InRange (instruction_in after shape words)
 instruction_holds after (Made i) op before [] f h = rw f.1 h
 instruction_holds after (Made i) op before (word ∷ rest) f h = tt
 instruction_holds after (Spelling.Number width low high go) op before [] f h = tt

@@ -2,13 +2,15 @@
 use Rattle.std.proofs.Common.{◌≡◌, ℕ, suc, ◌+◌, ◌<◌, ◌≤◌, List, [], ◌∷◌, length, true, Option, Some, None, Result, Ok, Err, refl, arith}
 use Rattle.std.specs.Prelude.{nat_lt, nat_le, ◌==◌, ◌&&◌, if◌then◌else◌, codes, sum_by}
 use Rattle.std.proofs.lemmas.Bool.{and_parts, and_from, ltb-true, le-leb, cond_both}
-use Rattle.gq_model.specs.Program.{Done, Do, Section, Main, Opening, Upgrading, Calling, Closing, all_sections, section_in, Program, size, text_eq}
-use Rattle.gq_model.specs.Lists.{all_of, between}
-use Rattle.gq_model.specs.Letters.{lines, words, unindented, past_word, number_in}
-use Rattle.gq_model.specs.Operands.{operands, in_range, greatest_number}
-use Rattle.gq_model.specs.Code.{is_section, are_sections, greatest_statements, IsProgram}
-use Rattle.gq_model.specs.Spelling.{TextFault, UnknownWord, BadNumber, TooLong, spellings, shape_of_word, Spelled, instruction_in}
-use Rattle.gq_model.specs.Text.{Section_block, First_arm, Second_arm, Loop_body, BlockKind, OpenBlock, Reading, Read, at_end, numbered, opening, close_block, ended, turned_over, other_arm, counted, nested, put, statement, limit_of, once, heading, local, outside, is_comment, in_place, line_read, on_line, limits_from, in_order, finished, lines_read, assembled}
+use Rattle.gq_model.specs.machine.Program.{Done, Do, Section, Main, Opening, Upgrading, Calling, Closing, all_sections, section_in, Program, size, text_eq}
+use Rattle.gq_model.specs.machine.Lists.{all_of, between}
+use Rattle.gq_model.specs.texts.Letters.{lines, words, unindented, past_word, number_in}
+use Rattle.gq_model.specs.texts.Operands.{operands, in_range, greatest_number}
+use Rattle.gq_model.specs.texts.Code.{is_section, are_sections, greatest_statements, IsProgram}
+use Rattle.gq_model.specs.texts.Spelling.{TextFault, UnknownWord, BadNumber, TooLong, spellings, shape_of_word, Spelled, instruction_in}
+use Rattle.gq_model.specs.texts.Text.{Section_block, First_arm, Second_arm, Loop_body, BlockKind, OpenBlock, Reading, Read, at_end, numbered, opening}
+use Rattle.gq_model.specs.texts.Text.{close_block, ended, turned_over, other_arm, counted, nested, put, statement, limit_of, once, heading, local, outside}
+use Rattle.gq_model.specs.texts.Text.{is_comment, in_place, line_read, on_line, limits_from, in_order, finished, lines_read, assembled}
 use Rattle.gq_model.proofs.Results.{Holds, holds_at}
 use Rattle.gq_model.proofs.Shapes.{word_fills}
 use Rattle.gq_model.proofs.Decoded_programs.{all_in_order}
@@ -22,31 +24,38 @@ at_end_holds : (words : List (List ℕ)) (next : Read) → Holds IsReading next 
 at_end_holds [] next h = h
 at_end_holds (word ∷ rest) next h = tt
 
-numbered_holds : (low high : ℕ) (words : List (List ℕ)) (go : ℕ → List (List ℕ) → Read) → ((n : ℕ) (more : List (List ℕ)) → between low high n ≡ true → Holds IsReading (go n more)) → Holds IsReading (numbered low high words go)
+numbered_holds : (low high : ℕ) (words : List (List ℕ)) (go : ℕ → List (List ℕ) → Read)
+    → ((n : ℕ) (more : List (List ℕ)) → between low high n ≡ true → Holds IsReading (go n more)) → Holds IsReading (numbered low high words go)
 numbered_holds low high [] go h = tt
-numbered_holds low high (word ∷ rest) go h = found_holds IsReading (number_in 10 low high word) BadNumber (λ n. go n rest) (λ n e. h n rest (number_between 10 low high word n e))
+numbered_holds low high (word ∷ rest) go h = found_holds IsReading (number_in 10 low high word) BadNumber (λ n. go n rest)
+    (λ n e. h n rest (number_between 10 low high word n e))
 
 -- one statement more was counted
 abbrev one_more : Reading → Reading
 one_more r = record r { count = suc r.count }
 
 counted_holds : (r : Reading) (go : Reading → Read) → (r.count < greatest_statements → Holds IsReading (go (one_more r))) → Holds IsReading (counted r go)
-counted_holds r go h = cond_both (nat_lt r.count greatest_statements) (go (one_more r)) (Err TooLong) (Holds IsReading) (λ t. h (ltb-true r.count greatest_statements t)) (λ _. tt)
+counted_holds r go h = cond_both (nat_lt r.count greatest_statements) (go (one_more r)) (Err TooLong) (Holds IsReading)
+    (λ t. h (ltb-true r.count greatest_statements t)) (λ _. tt)
 
-nested_holds : (r : Reading) (go : Reading → Read) → (r.count < greatest_statements → length r.blocks ≤ 4 → Holds IsReading (go (one_more r))) → Holds IsReading (nested r go)
+nested_holds : (r : Reading) (go : Reading → Read) → (r.count < greatest_statements → length r.blocks ≤ 4 → Holds IsReading (go (one_more r)))
+    → Holds IsReading (nested r go)
 nested_holds r go h =
     counted_holds r (λ s. if nat_lt (length s.blocks) 5 then go s else Err TooLong) (λ less.
-    cond_both (nat_lt (length r.blocks) 5) (go (one_more r)) (Err TooLong) (Holds IsReading) (λ t. let few = ltb-true (length r.blocks) 5 t in h less (omega (arith, few))) (λ _. tt))
+    cond_both (nat_lt (length r.blocks) 5) (go (one_more r)) (Err TooLong) (Holds IsReading) (λ t. let few = ltb-true (length r.blocks) 5 t in
+    h less (omega (arith, few))) (λ _. tt))
 
 -- STATEMENTS
 
-ended_holds : (r : Reading) (b : OpenBlock) (outer : List OpenBlock) (rest : List (List ℕ)) → IsReading r → r.blocks ≡ b ∷ outer → Holds IsReading (ended r r.blocks rest)
+ended_holds : (r : Reading) (b : OpenBlock) (outer : List OpenBlock) (rest : List (List ℕ)) → IsReading r → r.blocks ≡ b ∷ outer
+    → Holds IsReading (ended r r.blocks rest)
 ended_holds r b outer rest h e =
     let blocks : AreOpen (b ∷ outer) = rw e at h.blocks in
     let count : sections_size r.sections + blocks_size (b ∷ outer) ≡ r.count = rw e at h.count in
     rw e (at_end_holds rest (Ok (close_block r b.kind b.before outer)) (closed r b.kind b.before outer h.limits h.sections blocks.0 blocks.1 count h.few))
 
-turned_holds : (r : Reading) (kind : BlockKind) (b : OpenBlock) (outer : List OpenBlock) (rest : List (List ℕ)) → IsReading r → r.blocks ≡ record b { kind = kind } ∷ outer → Holds IsReading (turned_over r kind b outer rest)
+turned_holds : (r : Reading) (kind : BlockKind) (b : OpenBlock) (outer : List OpenBlock) (rest : List (List ℕ)) → IsReading r
+    → r.blocks ≡ record b { kind = kind } ∷ outer → Holds IsReading (turned_over r kind b outer rest)
 turned_holds r (Section_block s) b outer rest h e = tt
 turned_holds r (Second_arm arm) b outer rest h e = tt
 turned_holds r (Loop_body c) b outer rest h e = tt
@@ -62,10 +71,12 @@ turned_holds r First_arm b (o ∷ outer) rest h e =
       few = h.few;
     })
 
-arm_holds : (r : Reading) (b : OpenBlock) (outer : List OpenBlock) (rest : List (List ℕ)) → IsReading r → r.blocks ≡ b ∷ outer → Holds IsReading (other_arm r r.blocks rest)
+arm_holds : (r : Reading) (b : OpenBlock) (outer : List OpenBlock) (rest : List (List ℕ)) → IsReading r → r.blocks ≡ b ∷ outer
+    → Holds IsReading (other_arm r r.blocks rest)
 arm_holds r b outer rest h e = rw e (turned_holds r b.kind b outer rest h e)
 
-opened_arm : (r : Reading) (b : OpenBlock) (outer : List OpenBlock) (k : ℕ) → IsReading r → r.blocks ≡ b ∷ outer → r.count < greatest_statements → length r.blocks ≤ 4 → IsReading (opening (one_more r) First_arm k)
+opened_arm : (r : Reading) (b : OpenBlock) (outer : List OpenBlock) (k : ℕ) → IsReading r → r.blocks ≡ b ∷ outer → r.count < greatest_statements
+    → length r.blocks ≤ 4 → IsReading (opening (one_more r) First_arm k)
 opened_arm r b outer k h e less few = record {
   limits = h.limits;
   sections = h.sections;
@@ -74,7 +85,8 @@ opened_arm r b outer k h e less few = record {
   few = less;
 }
 
-opened_loop : (r : Reading) (b : OpenBlock) (outer : List OpenBlock) (n k : ℕ) → IsReading r → r.blocks ≡ b ∷ outer → r.count < greatest_statements → length r.blocks ≤ 4 → between 1 65535 n ≡ true → IsReading (opening (one_more r) (Loop_body n) k)
+opened_loop : (r : Reading) (b : OpenBlock) (outer : List OpenBlock) (n k : ℕ) → IsReading r → r.blocks ≡ b ∷ outer → r.count < greatest_statements
+    → length r.blocks ≤ 4 → between 1 65535 n ≡ true → IsReading (opening (one_more r) (Loop_body n) k)
 opened_loop r b outer n k h e less few t = record {
   limits = h.limits;
   sections = h.sections;
@@ -83,14 +95,17 @@ opened_loop r b outer n k h e less few t = record {
   few = less;
 }
 
-put_holds : (r : Reading) (b : OpenBlock) (outer : List OpenBlock) (x : Spelled) → IsReading r → r.blocks ≡ b ∷ outer → r.count < greatest_statements → Holds (λ i. all_of in_range (operands i) ≡ true) x → Holds IsReading (put (one_more r) x)
+put_holds : (r : Reading) (b : OpenBlock) (outer : List OpenBlock) (x : Spelled) → IsReading r → r.blocks ≡ b ∷ outer → r.count < greatest_statements
+    → Holds (λ i. all_of in_range (operands i) ≡ true) x → Holds IsReading (put (one_more r) x)
 put_holds r b outer (Err fault) h e less i = tt
 put_holds r b outer (Ok i) h e less fits =
     let blocks : AreOpen (b ∷ outer) = rw e at h.blocks in
     let count : sections_size r.sections + blocks_size (b ∷ outer) ≡ r.count = rw e at h.count in
-    rw e (added r (Do i Done) b outer (suc r.count) h.limits h.sections blocks (and_from (all_of in_range (operands i)) true fits refl) (omega (arith, count)) less)
+    rw e (added r (Do i Done) b outer (suc r.count) h.limits h.sections blocks (and_from (all_of in_range (operands i)) true fits refl)
+    (omega (arith, count)) less)
 
-statement_holds : (r : Reading) (b : OpenBlock) (outer : List OpenBlock) (k : ℕ) (word : List ℕ) (rest : List (List ℕ)) (after : List ℕ) → IsReading r → r.blocks ≡ b ∷ outer → Holds IsReading (statement r k word rest after)
+statement_holds : (r : Reading) (b : OpenBlock) (outer : List OpenBlock) (k : ℕ) (word : List ℕ) (rest : List (List ℕ)) (after : List ℕ) → IsReading r
+    → r.blocks ≡ b ∷ outer → Holds IsReading (statement r k word rest after)
 statement_holds r b outer k word rest after h e =
     cond_both (text_eq word (codes "end")) _ _ (Holds IsReading) (λ _. ended_holds r b outer rest h e) (λ _.
     cond_both (text_eq word (codes "else")) _ _ (Holds IsReading) (λ _. arm_holds r b outer rest h e) (λ _.
@@ -98,11 +113,13 @@ statement_holds r b outer k word rest after h e =
     (λ _. nested_holds r (λ s. at_end rest (Ok (opening s First_arm k))) (λ less few. at_end_holds rest _ (opened_arm r b outer k h e less few))) (λ _.
     cond_both (text_eq word (codes "loop")) _ _ (Holds IsReading)
     (λ _. nested_holds r (λ s. numbered 1 65535 rest (λ n more. at_end more (Ok (opening s (Loop_body n) k)))) (λ less few.
-    numbered_holds 1 65535 rest (λ n more. at_end more (Ok (opening (one_more r) (Loop_body n) k))) (λ n more t. at_end_holds more _ (opened_loop r b outer n k h e less few t))))
+    numbered_holds 1 65535 rest (λ n more. at_end more (Ok (opening (one_more r) (Loop_body n) k)))
+    (λ n more t. at_end_holds more _ (opened_loop r b outer n k h e less few t))))
     (λ _.
     found_holds IsReading (shape_of_word word spellings) UnknownWord (λ shape. counted r (λ s. put s (instruction_in after shape rest))) (λ shape is.
     counted_holds r (λ s. put s (instruction_in after shape rest)) (λ less.
-    let row = word_fills word shape is in put_holds r b outer (instruction_in after shape rest) h e less (instruction_holds after shape row.0 [] rest row.1 refl)))))))
+    let row = word_fills word shape is in put_holds r b outer (instruction_in after shape rest) h e less
+    (instruction_holds after shape row.0 [] rest row.1 refl)))))))
 
 -- OUTSIDE SECTIONS
 
@@ -110,7 +127,8 @@ once_holds : {A : Type 0} (o : Option A) (next : Read) → Holds IsReading next 
 once_holds None next h = h
 once_holds (Some a) next h = tt
 
-heading_holds : (r : Reading) (k : ℕ) (s : Section) (rest : List (List ℕ)) → IsReading r → r.blocks ≡ [] → is_section s ≡ true → Holds IsReading (heading r k s rest)
+heading_holds : (r : Reading) (k : ℕ) (s : Section) (rest : List (List ℕ)) → IsReading r → r.blocks ≡ [] → is_section s ≡ true
+    → Holds IsReading (heading r k s rest)
 heading_holds r k s rest h e is =
     once_holds (section_in s r.sections) (at_end rest (Ok (opening r (Section_block s) k))) (at_end_holds rest _ (record {
       limits = h.limits;
@@ -123,7 +141,8 @@ heading_holds r k s rest h e is =
 local_holds : (r : Reading) (rest : List (List ℕ)) → IsReading r → Holds IsReading (local r rest)
 local_holds r rest h =
     numbered_holds 0 7 rest _ (λ i more _.
-    once_holds (limit_of i r.limits) _ (numbered_holds 0 greatest_number more (λ n last. at_end last (Ok (record r { limits = (i, n) ∷ r.limits }))) (λ n last t.
+    once_holds (limit_of i r.limits) _ (numbered_holds 0 greatest_number more (λ n last. at_end last (Ok (record r { limits = (i, n) ∷ r.limits })))
+    (λ n last t.
     at_end_holds last _ (record { limits = (t, h.limits); sections = h.sections; blocks = h.blocks; count = h.count; few = h.few }))))
 
 outside_holds : (r : Reading) (k : ℕ) (word : List ℕ) (rest : List (List ℕ)) → IsReading r → r.blocks ≡ [] → Holds IsReading (outside r k word rest)
@@ -145,14 +164,16 @@ outside_holds r k word rest h e =
 
 -- TEXTS
 
-place_holds : (r : Reading) (blocks : List OpenBlock) (k : ℕ) (word : List ℕ) (rest : List (List ℕ)) (after : List ℕ) → IsReading r → r.blocks ≡ blocks → Holds IsReading (in_place r blocks k word rest after)
+place_holds : (r : Reading) (blocks : List OpenBlock) (k : ℕ) (word : List ℕ) (rest : List (List ℕ)) (after : List ℕ) → IsReading r → r.blocks ≡ blocks
+    → Holds IsReading (in_place r blocks k word rest after)
 place_holds r [] k word rest after h e = outside_holds r k word rest h e
 place_holds r (b ∷ outer) k word rest after h e = statement_holds r b outer k word rest after h e
 
 line_holds : (r : Reading) (k : ℕ) (line : List ℕ) (words : List (List ℕ)) → IsReading r → Holds IsReading (line_read r k line words)
 line_holds r k line [] h = h
 line_holds r k line (word ∷ rest) h =
-    cond_both (is_comment word) (Ok r) (in_place r r.blocks k word rest (past_word (unindented line))) (Holds IsReading) (λ _. h) (λ _. place_holds r r.blocks k word rest (past_word (unindented line)) h refl)
+    cond_both (is_comment word) (Ok r) (in_place r r.blocks k word rest (past_word (unindented line))) (Holds IsReading) (λ _. h)
+    (λ _. place_holds r r.blocks k word rest (past_word (unindented line)) h refl)
 
 finished_holds : (r : Reading) (blocks : List OpenBlock) → IsReading r → r.blocks ≡ blocks → Holds IsProgram (finished r blocks)
 finished_holds r (b ∷ outer) h e = tt
@@ -162,19 +183,24 @@ finished_holds r [] h e =
     let size_fits = ordered_size r.sections h.sections in
     let count : sections_size r.sections + 0 ≡ r.count = rw e at h.count in
     let few = h.few in
-    and_from (length locals == 8 && all_of (between 0 greatest_number) locals && are_sections 0 sections) (nat_le (sum_by (λ s. size s.1) sections) greatest_statements)
-    (and_from (length locals == 8 && all_of (between 0 greatest_number) locals) (are_sections 0 sections) (limits_fit (0 ∷ 1 ∷ 2 ∷ 3 ∷ 4 ∷ 5 ∷ 6 ∷ 7 ∷ []) r.limits h.limits) (ordered all_sections 0 r.sections all_in_order h.sections))
+    and_from (length locals == 8 && all_of (between 0 greatest_number) locals && are_sections 0 sections)
+    (nat_le (sum_by (λ s. size s.1) sections) greatest_statements)
+    (and_from (length locals == 8 && all_of (between 0 greatest_number) locals) (are_sections 0 sections)
+    (limits_fit (0 ∷ 1 ∷ 2 ∷ 3 ∷ 4 ∷ 5 ∷ 6 ∷ 7 ∷ []) r.limits h.limits) (ordered all_sections 0 r.sections all_in_order h.sections))
     (le-leb (sum_by (λ s. size s.1) sections) greatest_statements (omega (arith, size_fits, count, few)))
 
-on_line_holds : (k : ℕ) (x : Read) (go : Reading → Result Program (TextFault × ℕ)) → Holds IsReading x → ((r : Reading) → IsReading r → Holds IsProgram (go r)) → Holds IsProgram (on_line k x go)
+on_line_holds : (k : ℕ) (x : Read) (go : Reading → Result Program (TextFault × ℕ)) → Holds IsReading x → ((r : Reading) → IsReading r → Holds IsProgram (go r))
+    → Holds IsProgram (on_line k x go)
 on_line_holds k (Ok r) go h next = next r h
 on_line_holds k (Err fault) go h next = tt
 
 lines_hold : (r : Reading) (k : ℕ) (lines : List (List ℕ)) → IsReading r → Holds IsProgram (lines_read r k lines)
 lines_hold r k [] h = finished_holds r r.blocks h refl
-lines_hold r k (line ∷ rest) h = on_line_holds k (line_read r k line (words line)) (λ s. lines_read s (suc k) rest) (line_holds r k line (words line) h) (λ s g. lines_hold s (suc k) rest g)
+lines_hold r k (line ∷ rest) h = on_line_holds k (line_read r k line (words line)) (λ s. lines_read s (suc k) rest) (line_holds r k line (words line) h)
+    (λ s g. lines_hold s (suc k) rest g)
 
 -- whatever a text is assembled to is a program
 pub assembled_is : (text : List ℕ) (p : Program) → assembled text ≡ Ok p → IsProgram p
 assembled_is text p e =
-    holds_at IsProgram (assembled text) p (lines_hold (record { limits = []; sections = []; count = 0; blocks = [] }) 1 (lines text) (record { limits = tt; sections = tt; blocks = tt; count = refl; few = omega arith })) e
+    holds_at IsProgram (assembled text) p (lines_hold (record { limits = []; sections = []; count = 0; blocks = [] }) 1 (lines text)
+    (record { limits = tt; sections = tt; blocks = tt; count = refl; few = omega arith })) e

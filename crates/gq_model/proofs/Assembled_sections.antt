@@ -3,11 +3,11 @@ use Rattle.std.proofs.Common.{◌≡◌, ℕ, zero, suc, ◌+◌, ◌*◌, ◌�
 use Rattle.std.specs.Prelude.{nat_le, ◌==◌, ◌&&◌, if◌then◌else◌, sum_by}
 use Rattle.std.proofs.lemmas.Bool.{and_parts, and_from, leb-true, le-leb, cond_both}
 use Rattle.std.proofs.lemmas.List.Sums.{sum_by-cons}
-use Rattle.gq_model.specs.Program.{Statements, Section, Main, Opening, Upgrading, Calling, Closing, same_section, all_sections, section_in, size}
-use Rattle.gq_model.specs.Lists.{all_of, between}
-use Rattle.gq_model.specs.Operands.{greatest_number}
-use Rattle.gq_model.specs.Code.{is_body, is_section, section_number, are_sections}
-use Rattle.gq_model.specs.Text.{limit_of, limit_or_greatest, limits_from, section_entry, in_order}
+use Rattle.gq_model.specs.machine.Program.{Statements, Section, Main, Opening, Upgrading, Calling, Closing, same_section, all_sections, section_in, size}
+use Rattle.gq_model.specs.machine.Lists.{all_of, between}
+use Rattle.gq_model.specs.texts.Operands.{greatest_number}
+use Rattle.gq_model.specs.texts.Code.{is_body, is_section, section_number, are_sections}
+use Rattle.gq_model.specs.texts.Text.{limit_of, limit_or_greatest, limits_from, section_entry, in_order}
 use Rattle.gq_model.proofs.Decoded_programs.{Sections, InOrder, sections_later}
 
 -- LIMITS
@@ -19,11 +19,13 @@ AreLimits (p ∷ rest) = (between 0 greatest_number p.1 ≡ true) × AreLimits r
 
 limit_fits : (i : ℕ) (limits : List (ℕ × ℕ)) → AreLimits limits → between 0 greatest_number (limit_or_greatest (limit_of i limits)) ≡ true
 limit_fits i [] h = refl
-limit_fits i (p ∷ rest) h = cond_both (p.0 == i) (Some p.1) (limit_of i rest) (λ o. between 0 greatest_number (limit_or_greatest o) ≡ true) (λ _. h.0) (λ _. limit_fits i rest h.1)
+limit_fits i (p ∷ rest) h = cond_both (p.0 == i) (Some p.1) (limit_of i rest) (λ o. between 0 greatest_number (limit_or_greatest o) ≡ true) (λ _. h.0)
+    (λ _. limit_fits i rest h.1)
 
 pub limits_fit : (locals : List ℕ) (limits : List (ℕ × ℕ)) → AreLimits limits → all_of (between 0 greatest_number) (limits_from limits locals) ≡ true
 limits_fit [] limits h = refl
-limits_fit (i ∷ rest) limits h = and_from (between 0 greatest_number (limit_or_greatest (limit_of i limits))) (all_of (between 0 greatest_number) (limits_from limits rest)) (limit_fits i limits h) (limits_fit rest limits h)
+limits_fit (i ∷ rest) limits h = and_from (between 0 greatest_number (limit_or_greatest (limit_of i limits)))
+    (all_of (between 0 greatest_number) (limits_from limits rest)) (limit_fits i limits h) (limits_fit rest limits h)
 
 -- ORDER
 
@@ -41,17 +43,20 @@ given_body : (s : Section) (given : Sections) → AreGiven given → IsBodyOf (s
 given_body s [] h = tt
 given_body s (p ∷ rest) h = cond_both (same_section s p.0) (Some p.1) (section_in s rest) IsBodyOf (λ _. h.1) (λ _. given_body s rest h.2)
 
-next_section : (s : Section) (j : ℕ) (body : Option Statements) (rest : Sections) → is_section s ≡ true → section_number s ≡ j → IsBodyOf body → are_sections (suc j) rest ≡ true → are_sections j (section_entry s body ++ rest) ≡ true
+next_section : (s : Section) (j : ℕ) (body : Option Statements) (rest : Sections) → is_section s ≡ true → section_number s ≡ j → IsBodyOf body
+    → are_sections (suc j) rest ≡ true → are_sections j (section_entry s body ++ rest) ≡ true
 next_section s j None rest is number b r = sections_later j rest r
 next_section s j (Some body) rest is number b r =
     let n = section_number s in
     let here : nat_le j n ≡ true = le-leb j n (omega (arith, number)) in
     let next : are_sections (1 + n) rest ≡ true = ap (λ m. are_sections m rest) {x = 1 + n} {y = suc j} (omega (arith, number)) ∙ r in
-    and_from (is_section s && nat_le j n && is_body 4 body) (are_sections (1 + n) rest) (and_from (is_section s && nat_le j n) (is_body 4 body) (and_from (is_section s) (nat_le j n) is here) b) next
+    and_from (is_section s && nat_le j n && is_body 4 body) (are_sections (1 + n) rest)
+    (and_from (is_section s && nat_le j n) (is_body 4 body) (and_from (is_section s) (nat_le j n) is here) b) next
 
 pub ordered : (order : List Section) (j : ℕ) (given : Sections) → InOrder j order → AreGiven given → are_sections j (in_order given order) ≡ true
 ordered [] j given o h = refl
-ordered (s ∷ order) j given o h = next_section s j (section_in s given) (in_order given order) o.0 o.1 (given_body s given h) (ordered order (suc j) given o.2 h)
+ordered (s ∷ order) j given o h = next_section s j (section_in s given) (in_order given order) o.0 o.1 (given_body s given h)
+    (ordered order (suc j) given o.2 h)
 
 -- SIZES
 
@@ -68,13 +73,15 @@ abbrev taken : Sections → List Section → ℕ
 taken given [] = 0
 taken given (s ∷ order) = size_of (section_in s given) + taken given order
 
-entry_size : (s : Section) (body : Option Statements) (rest : Sections) → sum_by (λ p. size p.1) (section_entry s body ++ rest) ≡ size_of body + sum_by (λ p. size p.1) rest
+entry_size : (s : Section) (body : Option Statements) (rest : Sections)
+    → sum_by (λ p. size p.1) (section_entry s body ++ rest) ≡ size_of body + sum_by (λ p. size p.1) rest
 entry_size s None rest = omega arith
 entry_size s (Some body) rest = sum_by-cons (λ (p : Section × Statements). size p.1) (s, body) rest
 
 in_order_size : (given : Sections) (order : List Section) → sum_by (λ p. size p.1) (in_order given order) ≡ taken given order
 in_order_size given [] = refl
-in_order_size given (s ∷ order) = entry_size s (section_in s given) (in_order given order) ∙ ap (λ n. size_of (section_in s given) + n) (in_order_size given order)
+in_order_size given (s ∷ order) = entry_size s (section_in s given) (in_order given order)
+    ∙ ap (λ n. size_of (section_in s given) + n) (in_order_size given order)
 
 -- how often a section stands in the order
 abbrev places : Section → List Section → ℕ
@@ -107,7 +114,8 @@ taken_first : (p : Section × Statements) (given : Sections) (order : List Secti
 taken_first p given [] = omega arith
 taken_first p given (s ∷ order) =
     let rest = taken_first p given order in
-    cond_both (same_section s p.0) 1 0 (λ n. size_of (if same_section s p.0 then Some p.1 else section_in s given) + taken (p ∷ given) order ≤ (n + places p.0 order) * size p.1 + (size_of (section_in s given) + taken given order))
+    cond_both (same_section s p.0) 1 0 (λ n. size_of (if same_section s p.0 then Some p.1 else section_in s given) + taken (p ∷ given) order
+    ≤ (n + places p.0 order) * size p.1 + (size_of (section_in s given) + taken given order))
     (λ t. rw t (omega (arith, rest)))
     (λ t. rw t (omega (arith, rest)))
 

@@ -1,9 +1,9 @@
 -- Lists of bytes, and the numbers that they spell.
-use Rattle.std.proofs.Common.{◌≡◌, ℕ, ◌+◌, ◌*◌, ◌/◌, ◌%◌, ◌<◌, ◌≤◌, List, [], ◌∷◌, length, true, refl, ap, arith, IsTrue}
+use Rattle.std.proofs.Common.{◌≡◌, ℕ, zero, suc, ◌+◌, ◌*◌, ◌/◌, ◌%◌, ◌<◌, ◌≤◌, List, [], ◌∷◌, length, true, refl, ap, arith, IsTrue}
 use Rattle.std.proofs.lemmas.Bool.{and_parts, and_from, leb-true, le-leb}
 use Rattle.std.specs.Prelude.{nat_le}
-use Rattle.gq_model.specs.Lists.{all_of, between}
-use Rattle.gq_model.specs.Program.{spelled, little}
+use Rattle.gq_model.specs.machine.Lists.{all_of, between}
+use Rattle.gq_model.specs.machine.Program.{spelled, little}
 
 abbrev pub AreBytes : List ℕ → Type 0
 AreBytes [] = Unit {0}
@@ -22,6 +22,11 @@ test_of_bytes (b ∷ bytes) h =
     let low : nat_le 0 b ≡ true = le-leb 0 b (omega arith) in
     let high : nat_le b 255 ≡ true = le-leb b 255 (omega (arith, h.0)) in
     and_from (between 0 255 b) (all_of (between 0 255) bytes) (and_from (nat_le 0 b) (nat_le b 255) low high) (test_of_bytes bytes h.1)
+
+-- a number is spelled by bytes
+pub spelled_bytes : (k n : ℕ) → AreBytes (spelled k n)
+spelled_bytes zero n = tt
+spelled_bytes (suc k) n = (omega arith, spelled_bytes k (n / 256))
 
 -- they are spelled by the number that they spell
 pub spelled-little : (bytes : List ℕ) → AreBytes bytes → spelled (length bytes) (little bytes) ≡ bytes

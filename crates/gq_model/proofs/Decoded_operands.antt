@@ -1,15 +1,16 @@
 -- What is decoded as operands stands in the bytes as it is spelled.
-use Rattle.std.proofs.Common.{◌≡◌, ℕ, zero, suc, ◌%◌, ◌-◌, ◌<◌, ◌≤◌, List, [], ◌∷◌, ◌++◌, length, Bool, true, false, Option, Some, None, Ok, Err, refl, sym, ap, ◌∙◌, arith, append_assoc, append-nil}
+use Rattle.std.proofs.Common.{◌≡◌, ℕ, zero, suc, ◌%◌, ◌-◌, ◌<◌, ◌≤◌, List, [], ◌∷◌, ◌++◌, length, Bool, true, false, Option, Some, None, Ok, Err, refl, sym, ap}
+use Rattle.std.proofs.Common.{◌∙◌, arith, append_assoc, append-nil}
 use Rattle.std.specs.Prelude.{nat_lt, nat_le, ◌==◌, ◌&&◌, if◌then◌else◌}
 use Rattle.std.proofs.lemmas.Bool.{and_parts, and_from, ltb-true, ltb-false, lt-ltb, eqb-true, cond_both}
-use Rattle.gq_model.specs.Program.{Place, Own, Shared, Object, Instruction, spelled, little}
-use Rattle.gq_model.specs.Lists.{all_of, between}
-use Rattle.gq_model.specs.Letters.{is_name_byte, is_said_byte}
-use Rattle.gq_model.specs.Operands
-use Rattle.gq_model.specs.Operands.{Operand, opcode, operands, in_range, is_slot, is_slot_or_object, slot_code, operand_code, operands_code}
-use Rattle.gq_model.specs.Spelling
-use Rattle.gq_model.specs.Spelling.{Shape, Made}
-use Rattle.gq_model.specs.Decode.{CodeFault, BadNesting, BadOperand, Decoded, first_onto, cut, number_at, checked, place_of, found, text_at, operands_at}
+use Rattle.gq_model.specs.machine.Program.{Place, Own, Shared, Object, Instruction, spelled, little}
+use Rattle.gq_model.specs.machine.Lists.{all_of, between}
+use Rattle.gq_model.specs.texts.Letters.{is_name_byte, is_said_byte}
+use Rattle.gq_model.specs.texts.Operands
+use Rattle.gq_model.specs.texts.Operands.{Operand, opcode, operands, in_range, is_slot, is_slot_or_object, slot_code, operand_code, operands_code}
+use Rattle.gq_model.specs.texts.Spelling
+use Rattle.gq_model.specs.texts.Spelling.{Shape, Made}
+use Rattle.gq_model.specs.texts.Decode.{CodeFault, BadNesting, BadOperand, Decoded, first_onto, cut, number_at, checked, place_of, found, text_at, operands_at}
 use Rattle.gq_model.proofs.Results.{Holds, holds_then}
 use Rattle.gq_model.proofs.Bytes.{AreBytes, spelled-little}
 use Rattle.gq_model.proofs.Shapes.{Fills}
@@ -76,7 +77,8 @@ pub text_holds : (low high : ℕ) (test : ℕ → Bool) (bytes : List ℕ) → A
 text_holds low high test bytes h =
     let P = IsText low high test bytes in
     holds_then P (number_at 1 BadNesting bytes) _ (number_holds 1 BadNesting bytes h) (λ p n.
-    holds_then {P = λ q. (q ≡ p) × (between low high q.0 ≡ true)} P (checked (between low high p.0) BadOperand p) _ (checked_holds _ (between low high p.0) BadOperand p (λ t. (refl, t))) (λ q k.
+    holds_then {P = λ q. (q ≡ p) × (between low high q.0 ≡ true)} P (checked (between low high p.0) BadOperand p) _
+    (checked_holds _ (between low high p.0) BadOperand p (λ t. (refl, t))) (λ q k.
     let more : AreBytes q.1 = rw k.0 n.rest in
     holds_then P (cut q.0 BadNesting q.1) _ (cut_holds q.0 BadNesting q.1 more) (λ r c.
     checked_holds P (all_of test r.0) BadOperand r (λ t.
@@ -109,12 +111,16 @@ object_fits true e = refl
 object_fits false e = cc
 
 -- past the own slots
-past_own : (object : Bool) (n : ℕ) (p : Place) → 64 ≤ n → (if nat_lt n 72 then Some (Shared (n - 64)) else (if object && n == 72 then Some Object else None)) ≡ Some p → IsPlace object n p
+past_own : (object : Bool) (n : ℕ) (p : Place) → 64 ≤ n
+    → (if nat_lt n 72 then Some (Shared (n - 64)) else (if object && n == 72 then Some Object else None)) ≡ Some p → IsPlace object n p
 past_own object n p above e =
     cond_both (nat_lt n 72) (Some (Shared (n - 64))) (if object && n == 72 then Some Object else None) (λ o. o ≡ Some p → IsPlace object n p)
     (λ t same.
     let below = ltb-true n 72 t in
-    let here : IsPlace object n (Shared (n - 64)) = record { code = omega (arith, above); fits = shared_fits object (n - 64) (lt-ltb (n - 64) 8 (omega (arith, above, below))) } in
+    let here : IsPlace object n (Shared (n - 64)) = record {
+      code = omega (arith, above);
+      fits = shared_fits object (n - 64) (lt-ltb (n - 64) 8 (omega (arith, above, below)));
+    } in
     let is : Shared (n - 64) ≡ p = cc in rw is at here)
     (λ _ last.
     cond_both (object && n == 72) (Some Object) None (λ o. o ≡ Some p → IsPlace object n p)
@@ -128,7 +134,8 @@ past_own object n p above e =
 
 place_is : (object : Bool) (n : ℕ) (p : Place) → place_of object n ≡ Some p → IsPlace object n p
 place_is object n p e =
-    cond_both (nat_lt n 64) (Some (Own n)) (if nat_lt n 72 then Some (Shared (n - 64)) else (if object && n == 72 then Some Object else None)) (λ o. o ≡ Some p → IsPlace object n p)
+    cond_both (nat_lt n 64) (Some (Own n)) (if nat_lt n 72 then Some (Shared (n - 64)) else (if object && n == 72 then Some Object else None)) (λ o. o ≡ Some p
+    → IsPlace object n p)
     (λ t same. let here : IsPlace object n (Own n) = record { code = refl; fits = own_fits object n t } in let is : Own n ≡ p = cc in rw is at here)
     (λ t more. past_own object n p (ltb-false n 64 t) more)
     e
@@ -144,27 +151,33 @@ pub record IsInstruction (op : ℕ) (before : List Operand) (bytes : List ℕ) (
 
 operands_code-append : (ops more : List Operand) → operands_code (ops ++ more) ≡ operands_code ops ++ operands_code more
 operands_code-append [] more = refl
-operands_code-append (o ∷ ops) more = ap (λ l. operand_code o ++ l) (operands_code-append ops more) ∙ sym (append_assoc (operand_code o) (operands_code ops) (operands_code more))
+operands_code-append (o ∷ ops) more = ap (λ l. operand_code o ++ l) (operands_code-append ops more)
+    ∙ sym (append_assoc (operand_code o) (operands_code ops) (operands_code more))
 
 pub all_of-append : {A : Type 0} (test : A → Bool) (xs ys : List A) → all_of test xs ≡ true → all_of test ys ≡ true → all_of test (xs ++ ys) ≡ true
 all_of-append test [] ys h k = k
-all_of-append test (x ∷ xs) ys h k = let p = and_parts (test x) (all_of test xs) h in and_from (test x) (all_of test (xs ++ ys)) p.0 (all_of-append test xs ys p.1 k)
+all_of-append test (x ∷ xs) ys h k = let p = and_parts (test x) (all_of test xs) h in
+    and_from (test x) (all_of test (xs ++ ys)) p.0 (all_of-append test xs ys p.1 k)
 
 pub one_more : (before : List Operand) (o : Operand) → all_of in_range before ≡ true → in_range o ≡ true → all_of in_range (before ++ o ∷ []) ≡ true
 one_more before o h k = all_of-append in_range before (o ∷ []) h (and_from (in_range o) true k refl)
 
 -- the next operand, and the others
-on_from : (op : ℕ) (before : List Operand) (o : Operand) (bytes rest : List ℕ) (x : Decoded (Instruction × List ℕ)) → bytes ≡ operand_code o ++ rest → Holds (IsInstruction op (before ++ o ∷ []) rest) x → Holds (IsInstruction op before bytes) x
+on_from : (op : ℕ) (before : List Operand) (o : Operand) (bytes rest : List ℕ) (x : Decoded (Instruction × List ℕ)) → bytes ≡ operand_code o ++ rest
+    → Holds (IsInstruction op (before ++ o ∷ []) rest) x → Holds (IsInstruction op before bytes) x
 on_from op before o bytes rest (Ok p) e i =
-    let code : operands_code (before ++ o ∷ []) ++ rest ≡ operands_code before ++ bytes = rw (operands_code-append, append_assoc, append-nil, e) refl in record { number = i.number; fits = i.fits; whole = sym code ∙ i.whole; rest = i.rest }
+    let code : operands_code (before ++ o ∷ []) ++ rest ≡ operands_code before ++ bytes = rw (operands_code-append, append_assoc, append-nil, e) refl in
+    record { number = i.number; fits = i.fits; whole = sym code ∙ i.whole; rest = i.rest }
 on_from op before o bytes rest (Err fault) e i = tt
 
-pub operands_holds : (shape : Shape) (op : ℕ) (before : List Operand) (bytes : List ℕ) → Fills op before shape → all_of in_range before ≡ true → AreBytes bytes → Holds (IsInstruction op before bytes) (operands_at shape bytes)
+pub operands_holds : (shape : Shape) (op : ℕ) (before : List Operand) (bytes : List ℕ) → Fills op before shape → all_of in_range before ≡ true → AreBytes bytes
+    → Holds (IsInstruction op before bytes) (operands_at shape bytes)
 operands_holds (Made i) op before bytes f fit h = record { number = f.0; fits = rw f.1 fit; whole = rw f.1 refl; rest = h }
 operands_holds (Spelling.Number width low high go) op before bytes f fit h =
     let P = IsInstruction op before bytes in
     holds_then P (number_at width BadNesting bytes) _ (number_holds width BadNesting bytes h) (λ p n.
-    holds_then {P = λ q. (q ≡ p) × (between low high q.0 ≡ true)} P (checked (between low high p.0) BadOperand p) _ (checked_holds _ (between low high p.0) BadOperand p (λ t. (refl, t))) (λ q k.
+    holds_then {P = λ q. (q ≡ p) × (between low high q.0 ≡ true)} P (checked (between low high p.0) BadOperand p) _
+    (checked_holds _ (between low high p.0) BadOperand p (λ t. (refl, t))) (λ q k.
     let o = Operands.Number width low high q.0 in
     on_from op before o bytes q.1 (operands_at (go q.0) q.1) (rw k.0 n.whole)
     (operands_holds (go q.0) op (before ++ o ∷ []) q.1 (f q.0) (one_more before o fit k.1) (rw k.0 n.rest))))
@@ -189,11 +202,13 @@ operands_holds (Spelling.Service go) op before bytes f fit h =
     holds_then P (text_at 1 16 is_name_byte bytes) _ (text_holds 1 16 is_name_byte bytes h) (λ p t.
     let o = Operands.Service p.0 in
     on_from op before o bytes p.1 (operands_at (go p.0) p.1) t.whole
-    (operands_holds (go p.0) op (before ++ o ∷ []) p.1 (f p.0) (one_more before o fit (and_from (between 1 16 (length p.0)) (all_of is_name_byte p.0) t.long t.fits)) t.rest))
+    (operands_holds (go p.0) op (before ++ o ∷ []) p.1 (f p.0)
+    (one_more before o fit (and_from (between 1 16 (length p.0)) (all_of is_name_byte p.0) t.long t.fits)) t.rest))
 operands_holds (Spelling.Said go) op before bytes f fit h =
     let P = IsInstruction op before bytes in
     holds_then P (text_at 0 64 is_said_byte bytes) _ (text_holds 0 64 is_said_byte bytes h) (λ p t.
     let o = Operands.Text p.0 in
     let short = (and_parts (nat_le 0 (length p.0)) (nat_le (length p.0) 64) t.long).1 in
     on_from op before o bytes p.1 (operands_at (go p.0) p.1) t.whole
-    (operands_holds (go p.0) op (before ++ o ∷ []) p.1 (f p.0) (one_more before o fit (and_from (nat_le (length p.0) 64) (all_of is_said_byte p.0) short t.fits)) t.rest))
+    (operands_holds (go p.0) op (before ++ o ∷ []) p.1 (f p.0)
+    (one_more before o fit (and_from (nat_le (length p.0) 64) (all_of is_said_byte p.0) short t.fits)) t.rest))

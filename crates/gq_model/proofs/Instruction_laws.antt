@@ -1,11 +1,13 @@
 -- The two tables of statements agree, so the code of an instruction is read back.
 use Rattle.std.proofs.Common.{◌≡◌, ℕ, List, ◌++◌, true, Some, refl, arith}
 use Rattle.std.specs.Prelude.{Ok}
-use Rattle.gq_model.specs.Program.{Block, Slice, Space, Byte, Word, Add, Subtract, Multiply, And, Equal, Less, Instruction, Say, Out, Drop, Dup, Push, Divide, Modulo, Get, Set, Index, Combine, Make, MakePool, Load, Store, Free, Take, Give, Peek, Poke, Open, Upgrade, Call, Close}
-use Rattle.gq_model.specs.Lists.{all_of}
-use Rattle.gq_model.specs.Operands.{opcode, operands, in_range, operands_code}
-use Rattle.gq_model.specs.Spelling.{Shape, spellings, shape_of_opcode}
-use Rattle.gq_model.specs.Decode.{operands_at}
+use Rattle.gq_model.specs.machine.Program.{Block, Slice, Space, Byte, Word, Add, Subtract, Multiply, And, Equal, Less, Instruction, Say, Out, Drop, Dup, Push}
+use Rattle.gq_model.specs.machine.Program.{Divide, Modulo, Get, Set, Index, Combine, Make, MakePool, Load, Store, Free, Take, Give, Peek, Poke, Open, Upgrade}
+use Rattle.gq_model.specs.machine.Program.{Call, Close}
+use Rattle.gq_model.specs.machine.Lists.{all_of}
+use Rattle.gq_model.specs.texts.Operands.{opcode, operands, in_range, operands_code}
+use Rattle.gq_model.specs.texts.Spelling.{Shape, spellings, shape_of_opcode}
+use Rattle.gq_model.specs.texts.Decode.{operands_at}
 use Rattle.gq_model.proofs.Operand_laws.{Takes, operands_at-code}
 
 -- the shape that code has for an instruction takes just its operands
@@ -48,5 +50,6 @@ each_spelled (Call place) = (_, refl, refl)
 each_spelled (Close place) = (_, refl, refl)
 
 -- an instruction's operands, if they are in range, give it back
-pub instruction_back : (i : Instruction) (rest : List ℕ) → all_of in_range (operands i) ≡ true → operands_at (each_spelled i).0 (operands_code (operands i) ++ rest) ≡ Ok (i, rest)
+pub instruction_back : (i : Instruction) (rest : List ℕ) → all_of in_range (operands i) ≡ true
+    → operands_at (each_spelled i).0 (operands_code (operands i) ++ rest) ≡ Ok (i, rest)
 instruction_back i rest e = operands_at-code (each_spelled i).0 (operands i) i rest (each_spelled i).2 e

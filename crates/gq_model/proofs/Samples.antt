@@ -1,9 +1,12 @@
 -- The scenarios of the worked rows.
 use Rattle.std.proofs.Common.{ℕ, List, [], ◌∷◌, Option, Some, None}
 use Rattle.std.specs.Prelude.{codes, replicate}
-use Rattle.gq_model.specs.Amounts.{Ram, Caps, amount}
-use Rattle.gq_model.specs.Program.{Own, Shared, Block, Slice, Space, Byte, Subtract, Multiply, Instruction, Say, Out, Drop, Push, Modulo, Index, Combine, Make, MakePool, Load, Store, Free, Take, Give, Open, Upgrade, Call, Close, Statements, Done, Do, Loop, Section, Main, Opening, Upgrading, Calling, Closing, Program}
-use Rattle.gq_model.specs.Scenario.{Scenario, Interface, Interfaces, Route, Target, Any_child, Parent, As_text, LeafNode, InitNode, Nodes, End, Leaf_node, Init_node}
+use Rattle.gq_model.specs.machine.Amounts.{Ram, Caps, amount}
+use Rattle.gq_model.specs.machine.Program.{Own, Shared, Block, Slice, Space, Byte, Subtract, Multiply, Instruction, Say, Out, Drop, Push, Modulo, Index}
+use Rattle.gq_model.specs.machine.Program.{Combine, Make, MakePool, Load, Store, Free, Take, Give, Open, Upgrade, Call, Close, Statements, Done, Do, Loop}
+use Rattle.gq_model.specs.machine.Program.{Section, Main, Opening, Upgrading, Calling, Closing, Program}
+use Rattle.gq_model.specs.machine.Scenario.{Scenario, Interface, Interfaces, Route, Target, Any_child, Parent, As_text, LeafNode, InitNode, Nodes, End}
+use Rattle.gq_model.specs.machine.Scenario.{Leaf_node, Init_node}
 
 -- PROGRAMS
 
@@ -106,7 +109,8 @@ front = record { arg = 1000; reply = 2000; need = amount 4096 0; object = 0; upg
 
 abbrev pub front_server : LeafNode
 front_server =
-    server (codes "mid") 8192 (codes "front") ((Main, all_do (Open (Own 0) (codes "echo") 8192 ∷ [])) ∷ (Opening, Done) ∷ (Calling 0, all_do (Call (Own 0) ∷ [])) ∷ (Closing 0, Done) ∷ [])
+    server (codes "mid") 8192 (codes "front") ((Main, all_do (Open (Own 0) (codes "echo") 8192 ∷ [])) ∷ (Opening, Done)
+    ∷ (Calling 0, all_do (Call (Own 0) ∷ [])) ∷ (Closing 0, Done) ∷ [])
 
 abbrev pub front_client : LeafNode
 front_client = leaf (codes "cli") 8192 (main_of (asking (codes "front") 4096 21))
@@ -121,7 +125,8 @@ log_interface = record { arg = 10; reply = 255; need = amount 8192 0; object = 0
 
 abbrev pub log_server : List Instruction → LeafNode
 log_server opening =
-    server (codes "srv") 0 (codes "log") ((Main, Done) ∷ (Opening, all_do opening) ∷ (Upgrading 1, all_do (Make Slice (Shared 1) 64 ∷ [])) ∷ (Calling 0, all_do (Load Byte (Shared 0) ∷ [])) ∷ (Calling 1, all_do (Load Byte (Shared 0) ∷ []))
+    server (codes "srv") 0 (codes "log") ((Main, Done) ∷ (Opening, all_do opening) ∷ (Upgrading 1, all_do (Make Slice (Shared 1) 64 ∷ []))
+    ∷ (Calling 0, all_do (Load Byte (Shared 0) ∷ [])) ∷ (Calling 1, all_do (Load Byte (Shared 0) ∷ []))
     ∷ (Closing 0, all_do (Free (Shared 0) ∷ [])) ∷ (Closing 1, all_do (Free (Shared 1) ∷ Free (Shared 0) ∷ [])) ∷ [])
 
 abbrev pub log_client : LeafNode
@@ -144,7 +149,8 @@ speaker name ram text after = record (leaf name ram (main_of (Say text ∷ [])))
 -- the second leaf's quantum, and what the first starts after
 abbrev pub row_of_leaves : ℕ → Option (List ℕ) → Scenario
 row_of_leaves ram first =
-    scenario 8192 (leaves (speaker (codes "one") 8192 (codes "a") first ∷ speaker (codes "two") ram (codes "b") (Some (codes "one")) ∷ speaker (codes "three") 4096 (codes "c") (Some (codes "two")) ∷ []))
+    scenario 8192 (leaves (speaker (codes "one") 8192 (codes "a") first ∷ speaker (codes "two") ram (codes "b") (Some (codes "one"))
+    ∷ speaker (codes "three") 4096 (codes "c") (Some (codes "two")) ∷ []))
 
 -- CAPABILITIES
 

@@ -2,11 +2,11 @@
 use Rattle.std.proofs.Common.{◌≡◌, ℕ, true, false, List, [], ◌∷◌, ◌++◌, Some, sym}
 use Rattle.std.proofs.lemmas.Bool.{cond_both, eqb-true}
 use Rattle.std.specs.Prelude.{◌==◌}
-use Rattle.gq_model.specs.Program.{Place, text_eq}
-use Rattle.gq_model.specs.Operands
-use Rattle.gq_model.specs.Operands.{Operand, opcode, operands}
-use Rattle.gq_model.specs.Spelling
-use Rattle.gq_model.specs.Spelling.{Shape, Made, Spelling, spellings, shape_of_word, shape_of_opcode}
+use Rattle.gq_model.specs.machine.Program.{Place, text_eq}
+use Rattle.gq_model.specs.texts.Operands
+use Rattle.gq_model.specs.texts.Operands.{Operand, opcode, operands}
+use Rattle.gq_model.specs.texts.Spelling
+use Rattle.gq_model.specs.texts.Spelling.{Shape, Made, Spelling, spellings, shape_of_word, shape_of_opcode}
 
 -- whatever is filled in after these operands, the instruction has this number and all of them
 abbrev pub Fills : ℕ → List Operand → Shape → Type 0

@@ -1,34 +1,10 @@
-pub mod Lists
-pub mod Amounts
-pub mod Program
-pub mod Prices
-pub mod Scenario
-pub mod Routes
-pub mod World
-pub mod Sums
-pub mod Doing
-pub mod Memory
-pub mod Requests
-pub mod Step
-pub mod Run
-pub mod Accounts
-pub mod Kinds
-pub mod Rules
-pub mod Flow
-pub mod Budgets
-pub mod Verdict
-pub mod Use
-pub mod Resolve
-pub mod Accept
-pub mod Fault_texts
-pub mod Letters
-pub mod Turns
-pub mod Operands
-pub mod Code
-pub mod Spelling
-pub mod Text
-pub mod Decode
-pub mod Sources
-pub mod Kept
-pub mod Stored
+-- the account machine
+pub mod machine
+-- what is known of scenarios before they run, and which are accepted
+pub mod rules
+-- what is promised of each world and each run of an accepted scenario
 pub mod Promises
+-- how all of this is written
+pub mod texts
+-- what only proofs and bodies speak of
+pub mod internal

@@ -1,6 +1,6 @@
 // The faults of programs, of turns and of steps, by the codes under which they are printed.
 ghost use Rattle.std.specs.Prelude.{◌≡◌, Some};
-ghost use Rattle.gq_model.specs.Fault_texts.{rule_word, text_fault_word, code_fault_word, turn_fault_word};
+ghost use Rattle.gq_model.specs.texts.Fault_texts.{rule_word, text_fault_word, code_fault_word, turn_fault_word};
 
 use std::fmt::{self, Display, Formatter, Write};
 use thiserror::Error;

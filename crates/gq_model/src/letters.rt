@@ -1,7 +1,7 @@
 // Bytes of texts and names.
 ghost use Rattle.std.specs.Prelude.{◌≡◌};
 ghost use Rattle.gq_tariff.specs.Tests.{is_digit};
-ghost use Rattle.gq_model.specs.Letters.{is_name_byte, is_name, is_said_byte, is_said};
+ghost use Rattle.gq_model.specs.texts.Letters.{is_name_byte, is_name, is_said_byte, is_said};
 
 /// Whether a byte is a digit.
 pub fn is_digit(byte: u8) -> bool

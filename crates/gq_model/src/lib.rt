@@ -4,6 +4,7 @@
 
 pub mod fault;
 pub mod letters;
+pub mod limits;
 pub mod phase;
 pub mod program;
 #[cfg(test)]

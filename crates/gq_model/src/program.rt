@@ -1,7 +1,7 @@
 // The parts of programs that hold no statements.
 ghost use Rattle.std.specs.Prelude.{◌≡◌, if◌then◌else◌, IsTrue, Some};
-ghost use Rattle.gq_model.specs.Fault_texts.{section_word};
-ghost use Rattle.gq_model.specs.Letters.{is_name, is_said};
+ghost use Rattle.gq_model.specs.texts.Fault_texts.{section_word};
+ghost use Rattle.gq_model.specs.texts.Letters.{is_name, is_said};
 
 use crate::letters::{is_name, is_said};
 use arrayvec::ArrayVec;
@@ -58,6 +58,25 @@ pub enum Section {
     Closing(u8),
 }
 
+impl Section {
+    /// The sections in the order in which a program's code has them, and in which they are judged.
+    pub const ALL: [Section; 13] = [
+        Section::Main,
+        Section::Opening,
+        Section::Upgrading(1),
+        Section::Upgrading(2),
+        Section::Upgrading(3),
+        Section::Calling(0),
+        Section::Calling(1),
+        Section::Calling(2),
+        Section::Calling(3),
+        Section::Closing(0),
+        Section::Closing(1),
+        Section::Closing(2),
+        Section::Closing(3),
+    ];
+}
+
 impl Display for Section {
     ghost output = { λ section. Some (section_word section) };
 
@@ -86,7 +105,7 @@ pub struct Text {
 
 impl Model for Text {
     ghost use Rattle.std.specs.Prelude.{ℕ, List, IsTrue};
-    ghost use Rattle.gq_model.specs.Letters.{is_said};
+    ghost use Rattle.gq_model.specs.texts.Letters.{is_said};
 
     ghost Value = { List ℕ };
 
@@ -127,7 +146,7 @@ pub struct Name {
 
 impl Model for Name {
     ghost use Rattle.std.specs.Prelude.{ℕ, List, IsTrue};
-    ghost use Rattle.gq_model.specs.Letters.{is_name};
+    ghost use Rattle.gq_model.specs.texts.Letters.{is_name};
 
     ghost Value = { List ℕ };
 

@@ -1,5 +1,6 @@
 -- What is past the greatest quantity stays past it, so a number may be saturated there.
-use Rattle.std.proofs.Common.{◌≡◌, ℕ, ◌+◌, ◌-◌, ◌*◌, ◌^◌, ◌<◌, ◌==◌, min, Bool, true, false, if◌then◌else◌, List, [], ◌∷◌, Result, Ok, refl, sym, ap, ◌∙◌, inl, inr, length, get_or, drop, arith}
+use Rattle.std.proofs.Common.{◌≡◌, ℕ, ◌+◌, ◌-◌, ◌*◌, ◌^◌, ◌<◌, ◌==◌, min, Bool, true, false, if◌then◌else◌, List, [], ◌∷◌, Result, Ok, refl, sym, ap, ◌∙◌, inl}
+use Rattle.std.proofs.Common.{inr, length, get_or, drop, arith}
 use Rattle.std.proofs.lemmas.Bool.{cases_lt}
 use Rattle.std.proofs.lemmas.List.{at_drop_more}
 use Rattle.std.proofs.lemmas.Bool.Decides.{nat_tests}
@@ -7,7 +8,8 @@ use Rattle.gq_tariff.specs.declared.quantity.QuantityFault.{QuantityFault}
 use Rattle.gq_tariff.specs.Tests.{is_digit}
 use Rattle.gq_tariff.specs.Quantities.{scaled, quantity_on, at_most_40_bits}
 
-if-at_most : (b : Bool) (x y u v : Result ℕ QuantityFault) → at_most_40_bits x ≡ at_most_40_bits u → at_most_40_bits y ≡ at_most_40_bits v → at_most_40_bits (if b then x else y) ≡ at_most_40_bits (if b then u else v)
+if-at_most : (b : Bool) (x y u v : Result ℕ QuantityFault) → at_most_40_bits x ≡ at_most_40_bits u → at_most_40_bits y ≡ at_most_40_bits v
+    → at_most_40_bits (if b then x else y) ≡ at_most_40_bits (if b then u else v)
 if-at_most true x y u v xu yv = xu
 if-at_most false x y u v xu yv = yv
 
@@ -46,7 +48,9 @@ quantity_on-digit : (c : ℕ) (rest : List ℕ) (n : ℕ) → is_digit c ≡ tru
 quantity_on-digit c rest n digit = rw digit refl
 
 -- the next digit of a text, read into a number that saturates
-pub quantity_on-step : (text : List ℕ) (i n saturated : ℕ) → i < length text → is_digit (get_or text i 0) ≡ true → saturated ≡ min (min (n * 10) (2 ^ 64 - 1) + (get_or text i 0 - 48)) (2 ^ 64 - 1) → at_most_40_bits (quantity_on saturated (drop (i + 1) text)) ≡ at_most_40_bits (quantity_on n (drop i text))
+pub quantity_on-step : (text : List ℕ) (i n saturated : ℕ) → i < length text → is_digit (get_or text i 0) ≡ true
+    → saturated ≡ min (min (n * 10) (2 ^ 64 - 1) + (get_or text i 0 - 48)) (2 ^ 64 - 1)
+    → at_most_40_bits (quantity_on saturated (drop (i + 1) text)) ≡ at_most_40_bits (quantity_on n (drop i text))
 quantity_on-step text i n saturated inside digit is =
     let c = get_or text i 0 in
     let rest = drop (i + 1) text in

@@ -20,16 +20,16 @@ pub enum Held {
 }
 
 /// The bytes of a page.
-const PAGE: u64 = 4096;
+pub const PAGE: u64 = 4096;
 
 /// The bytes of bookkeeping at the front of a slice.
-const SLICE_HEADER: u64 = 32;
+pub const SLICE_HEADER: u64 = 32;
 
 /// The greatest block that is a place of the heap, in bytes.
-const GREATEST_PLACE: u64 = 2048;
+pub const GREATEST_PLACE: u64 = 2048;
 
 /// The bytes of an entry in the table of a pool.
-const POOL_ENTRY: u64 = 4;
+pub const POOL_ENTRY: u64 = 4;
 
 /// `n` bytes in whole pages, as bytes: the least multiple of 4096 that is at least `n`.
 pub fn round_up(n: u64) -> u64

@@ -1,5 +1,4 @@
-pub mod Flows
-pub mod Programs
-pub mod Counts
-pub mod Points
 pub mod Costs
+pub mod Counts
+pub mod Mains
+pub mod Rights

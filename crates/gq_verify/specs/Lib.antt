@@ -1,9 +1,4 @@
-pub mod Judging
-pub mod Flowing
-pub mod Starting
+pub mod Subjects
 pub mod Counting
 pub mod Faults
-pub mod Pointing
-pub mod Requesting
-pub mod Subjects
-pub mod Keeping
+pub mod internal

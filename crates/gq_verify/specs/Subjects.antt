@@ -1,10 +1,10 @@
 -- What a program is judged by.
 use Rattle.std.specs.Prelude.{ℕ, List, Option, Some, None, if◌then◌else◌, ◌∷◌, []}
-use Rattle.gq_model.specs.Program.{Program, Statements, same_section}
+use Rattle.gq_model.specs.machine.Program.{Program, Statements, same_section}
 use Rattle.gq_model.specs.declared.program.Section.{Section}
-use Rattle.gq_model.specs.Scenario.{Interfaces, service_in}
-use Rattle.gq_model.specs.Kinds.{Subject}
-use Rattle.gq_model.specs.Budgets.{section_cost}
+use Rattle.gq_model.specs.machine.Scenario.{Interfaces, service_in}
+use Rattle.gq_model.specs.rules.Kinds.{Subject}
+use Rattle.gq_model.specs.rules.Budgets.{section_cost}
 
 -- a program, the interface of the service that it provides, and all interfaces
 abbrev pub subject_of : Program → Option (List ℕ) → Interfaces → Subject

@@ -1,19 +1,19 @@
 // The rules for the ends of sections.
 ghost use Rattle.std.specs.Prelude.{◌≡◌, ◌≤◌, IsTrue};
-ghost use Rattle.gq_model.specs.Code.{is_section};
-ghost use Rattle.gq_model.specs.Flow.{has_link, bank_is_empty, main_end, opening_end, calling_end, section_end, bank_at};
+ghost use Rattle.gq_model.specs.texts.Code.{is_section};
+ghost use Rattle.gq_model.specs.rules.Flow.{has_link, bank_is_empty, main_end, opening_end, calling_end, section_end, bank_at};
 ghost use Rattle.gq_caps.specs.Known.{all_known};
-ghost use Rattle.gq_verify.specs.Judging.{after};
-ghost use Rattle.gq_verify.specs.Starting.{IsStarts};
+ghost use Rattle.gq_rules.specs.Judging.{after};
+ghost use Rattle.gq_verify.specs.internal.Starting.{IsStarts};
 
-use crate::memory::is_empty;
-use crate::operands::must;
 use crate::starts::Starts;
-use crate::state::{SESSION_SLOTS, State};
-use crate::subject::Subject;
 use gq_caps::{Bank, Kind, are_same};
-use gq_code::Section;
 use gq_model::fault::Rule;
+use gq_model::limits::SESSION_SLOTS;
+use gq_program::Section;
+use gq_rules::memory::is_empty;
+use gq_rules::operands::must;
+use gq_rules::{State, Subject};
 
 /// Whether one of these slots is a link.
 fn has_link(kinds: &[Kind]) -> bool
@@ -50,6 +50,14 @@ fn main_end(subject: &Subject<'_>, state: &State) -> Result<(), Rule>
     }
 }
 
+/// What holds at the end of `main`.
+pub(crate) fn main_section_end(subject: &Subject<'_>, state: &State) -> Result<(), Rule>
+    ensures { after result state.now ≡ section_end subject.now Section.Main state.now }
+{
+    state.none_left()?;
+    main_end(subject, state)
+}
+
 /// A buffer is a space of just its size in the first slot.
 fn opening_end(buffer: u32, state: &State) -> Result<(), Rule>
     ensures { after result state.now ≡ opening_end buffer state.now }
@@ -72,7 +80,7 @@ fn calling_end(
     ensures { after result state.new ≡ calling_end subject.now.provided (all_known before.now) state.old }
 {
     let reply = state.pop()?;
-    must(state.bounds().is_empty(), Rule::LeftoverOperand)?;
+    must(state.is_spent(), Rule::LeftoverOperand)?;
     must(reply <= subject.reply(), Rule::ValueTooLarge)?;
     must(
         are_same(state.bank().kinds(), before.kinds()),
@@ -92,10 +100,7 @@ pub(crate) fn section_end(
     ensures { after result state.new ≡ section_end subject.now section state.old }
 {
     match section {
-        Section::Main => {
-            state.none_left()?;
-            main_end(subject, state)
-        }
+        Section::Main => main_section_end(subject, state),
         Section::Opening => {
             state.none_left()?;
             opening_end(subject.buffer(), state)

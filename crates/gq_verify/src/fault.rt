@@ -1,7 +1,7 @@
 // Why a program is refused.
 
-use gq_code::Section;
 use gq_model::fault::Rule;
+use gq_program::Section;
 use thiserror::Error;
 
 /// The rule that a program breaks first: the section, and the number of the statement there, from 1; 0 is the section's start, and the

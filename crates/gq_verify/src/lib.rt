@@ -1,23 +1,22 @@
 //! What is known of a program before it runs: whether it breaks a rule, and what it uses at most.
+//!
+//! ```rust
+//! use gq_verify::verify;
+//!
+//! // A program from `gq_asm` or `gq_code`, the service that it provides, if any, and the interfaces of its scenario.
+//! let verified = verify(&program, None, &interfaces)?;
+//! assert_eq!(rt; verified.own(), 8192);
+//! ```
 #![tactic(auto)]
 
-mod broken;
-mod context;
 mod ends;
 mod fault;
-mod flow;
-mod judge;
-mod memory;
 mod next;
-mod operands;
 mod own;
 mod requests;
 mod sections;
-mod sessions;
 mod starts;
-mod state;
 mod steps;
-mod subject;
 mod verified;
 
 pub use fault::Fault;

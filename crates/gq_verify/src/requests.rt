@@ -1,23 +1,22 @@
 // How many requests sections make at most.
-ghost use Rattle.std.specs.Prelude.{◌≡◌, ◌≤◌, ◌-◌, ◌∷◌, [], IsTrue, length};
-ghost use Rattle.gq_model.specs.Program.{size};
-ghost use Rattle.gq_model.specs.Code.{is_section};
-ghost use Rattle.gq_model.specs.Budgets.{is_one, by_link, asks, requests, section_requests};
-ghost use Rattle.gq_model.specs.Kinds.{kind_at};
-ghost use Rattle.gq_model.specs.Rules.{link_kind};
-ghost use Rattle.gq_code.specs.Trees.{tree_of};
-ghost use Rattle.gq_verify.specs.Flowing.{few_loops};
+ghost use Rattle.std.specs.Prelude.{◌≡◌, None, ◌≤◌, ◌-◌, ◌∷◌, [], IsTrue, length};
+ghost use Rattle.gq_model.specs.machine.Program.{size};
+ghost use Rattle.gq_model.specs.texts.Code.{is_section};
+ghost use Rattle.gq_model.specs.rules.Verdict.{program_fault};
+ghost use Rattle.gq_model.specs.rules.Budgets.{is_one, by_link, asks, requests, section_requests};
+ghost use Rattle.gq_model.specs.rules.Kinds.{kind_at};
+ghost use Rattle.gq_model.specs.rules.Rules.{link_kind};
+ghost use Rattle.gq_program.specs.Trees.{tree_of};
+ghost use Rattle.gq_rules.specs.Flowing.{few_loops};
 ghost use Rattle.gq_verify.specs.Counting.{saturated};
-ghost use Rattle.gq_verify.specs.Requesting.{requests_in, section_by};
-ghost use Rattle.gq_verify.specs.Starting.{IsStarts};
+ghost use Rattle.gq_verify.specs.internal.Requesting.{IsRight, requests_in, section_by};
+ghost use Rattle.gq_verify.specs.internal.Starting.{IsStarts};
 
-use crate::context::Context;
 use crate::next::next;
 use crate::starts::Starts;
-use crate::state::State;
-use crate::subject::Subject;
-use gq_code::spelling::same_text;
-use gq_code::{Body, Instruction, Place, Section, Statement};
+use gq_program::spelling::same_text;
+use gq_program::{Body, Instruction, Place, Section, Statement};
+use gq_rules::{Context, State, Subject};
 
 /// What is counted: the requests for a section of a service.
 #[derive(Clone, Copy)]
@@ -88,6 +87,7 @@ fn section_by(of: ByLevel, level: u8) -> Section
 fn requests(context: &Context<'_>, state: &State, asked: &Asked<'_>, body: &Body) -> u64
     requires few { size body.now ≤ 4096 }
     requires loops { IsTrue (few_loops (4 - length context.now.counts) body.now) }
+    requires right { IsRight context.now state.now body.now }
     ensures { result ≡ saturated (requests asked.now.service.now asked.now.section context.now state.now body.now) }
 {
     let mut sum = 0_u64;
@@ -109,6 +109,7 @@ fn requests_in(
 ) -> u64
     requires few { size (tree_of (statement.now ∷ [])) ≤ 4096 }
     requires loops { IsTrue (few_loops (4 - length context.now.counts) (tree_of (statement.now ∷ []))) }
+    requires right { IsRight context.now state.now (tree_of (statement.now ∷ [])) }
     ensures { result ≡ saturated (requests_in asked.now.service.now asked.now.section context.now state.now statement.now) }
 {
     match statement {
@@ -134,6 +135,7 @@ pub(crate) fn section_requests(
 ) -> u64
     requires starts { IsStarts subject.now starts.now }
     requires section { IsTrue (is_section from) }
+    requires right { program_fault subject.now ≡ None }
     ensures { result ≡ saturated (section_requests subject.now from asked.now.service.now asked.now.section) }
 {
     match subject.body(from) {

@@ -1,42 +1,22 @@
 // The rules for sections and for programs.
 ghost use Rattle.std.specs.Prelude.{◌≡◌, ◌≤◌, option_map, option_copied, IsTrue};
-ghost use Rattle.gq_model.specs.Program.{all_sections, size};
-ghost use Rattle.gq_model.specs.Code.{is_section};
-ghost use Rattle.gq_model.specs.Flow.{section_flow};
-ghost use Rattle.gq_model.specs.Verdict.{is_wanted, first_unwanted, cost_fault, fault_of, first_fault, program_fault};
-ghost use Rattle.gq_verify.specs.Starting.{IsStarts};
-ghost use Rattle.gq_verify.specs.Faults.{known_fault, reached};
+ghost use Rattle.gq_model.specs.machine.Program.{all_sections, size};
+ghost use Rattle.gq_model.specs.texts.Code.{is_section};
+ghost use Rattle.gq_model.specs.rules.Flow.{section_flow};
+ghost use Rattle.gq_model.specs.rules.Verdict.{is_wanted, first_unwanted, cost_fault, fault_of, first_fault, program_fault};
+ghost use Rattle.gq_verify.specs.internal.Starting.{IsStarts};
+ghost use Rattle.gq_verify.specs.Faults.{known_fault};
+ghost use Rattle.gq_verify.specs.internal.Walks.{reached};
 
-use crate::broken::{Broken, at};
-use crate::context::Context;
 use crate::ends::section_end;
 use crate::fault::Fault;
 use crate::starts::{Starts, walk};
-use crate::state::State;
 use crate::steps::{count, section_cost};
-use crate::subject::Subject;
-use gq_code::{Body, Interface, Section};
+use gq_caps::Totals;
 use gq_model::fault::Rule;
-
-/// The sections that a program may have, in their order.
-const ALL_SECTIONS: [Section; 13] = [
-    Section::Main,
-    Section::Opening,
-    Section::Upgrading(1),
-    Section::Upgrading(2),
-    Section::Upgrading(3),
-    Section::Calling(0),
-    Section::Calling(1),
-    Section::Calling(2),
-    Section::Calling(3),
-    Section::Closing(0),
-    Section::Closing(1),
-    Section::Closing(2),
-    Section::Closing(3),
-];
-
-/// The greatest number of steps of a section.
-const GREATEST_COST: u64 = 1_000_000_000_000;
+use gq_model::limits::GREATEST_STEPS;
+use gq_program::{Body, Interface, Section};
+use gq_rules::{Broken, Context, State, Subject, at};
 
 /// Walks through a section from its start to its end.
 fn section_flow(subject: &Subject<'_>, starts: &Starts, section: Section) -> Result<State, Broken>
@@ -46,7 +26,8 @@ fn section_flow(subject: &Subject<'_>, starts: &Starts, section: Section) -> Res
 {
     let mut state = starts.start_of(subject, section);
     at(0, Context::new(subject, section).within_need(&state))?;
-    let count = walk(subject, section, &mut state)?;
+    let mut peaks = Totals::none();
+    let count = walk(subject, section, &mut state, &mut peaks)?;
     at(count + 1, section_end(subject, starts, section, &mut state))?;
     Ok(state)
 }
@@ -83,7 +64,7 @@ fn cost_fault(section: Section, body: &Body) -> Option<Fault>
     requires { size body.now ≤ 4096 }
     ensures { option_map known_fault result ≡ cost_fault section body.now }
 {
-    if section_cost(section, body) <= GREATEST_COST {
+    if section_cost(section, body) <= GREATEST_STEPS {
         None
     } else {
         Some(Fault {
@@ -91,6 +72,22 @@ fn cost_fault(section: Section, body: &Body) -> Option<Fault>
             section,
             place: count(body) + 1,
         })
+    }
+}
+
+/// The first fault of `main`, which has been walked through.
+fn main_fault(subject: &Subject<'_>, starts: &Starts, body: &Body) -> Option<Fault>
+    requires starts { IsStarts subject.now starts.now }
+    requires few { size body.now ≤ 4096 }
+    ensures { option_map known_fault result ≡ fault_of Section.Main body.now (section_flow subject.now Section.Main) }
+{
+    match starts.main {
+        Ok(()) => cost_fault(Section::Main, body),
+        Err(broken) => Some(Fault {
+            rule: broken.rule,
+            section: Section::Main,
+            place: broken.place,
+        }),
     }
 }
 
@@ -106,6 +103,9 @@ fn section_fault(
     requires few { size body.now ≤ 4096 }
     ensures { option_map known_fault result ≡ fault_of section body.now (section_flow subject.now section) }
 {
+    if section == Section::Main {
+        return main_fault(subject, starts, body);
+    }
     match section_flow(subject, starts, section) {
         Ok(_) => cost_fault(section, body),
         Err(Broken { rule, place }) => Some(Fault {
@@ -117,12 +117,12 @@ fn section_fault(
 }
 
 /// The first fault of the sections.
-fn first_fault(subject: &Subject<'_>) -> Option<Fault>
+fn first_fault(subject: &Subject<'_>, starts: &Starts) -> Option<Fault>
+    requires { IsStarts subject.now starts.now }
     ensures { option_map known_fault result ≡ first_fault subject.now subject.now.program.sections }
 {
-    let starts = Starts::new(subject);
     for (section, body) in subject.sections() {
-        if let Some(fault) = section_fault(subject, &starts, *section, body) {
+        if let Some(fault) = section_fault(subject, starts, *section, body) {
             return Some(fault);
         }
     }
@@ -131,15 +131,16 @@ fn first_fault(subject: &Subject<'_>) -> Option<Fault>
 
 /// The first fault of a program, if it has one. Sections are looked for before any is walked through. It goes over the statements a
 /// few times, and takes no host memory.
-pub(crate) fn program_fault(subject: &Subject<'_>) -> Option<Fault>
+pub(crate) fn program_fault(subject: &Subject<'_>, starts: &Starts) -> Option<Fault>
+    requires { IsStarts subject.now starts.now }
     ensures { option_map known_fault result ≡ program_fault subject.now }
 {
-    match first_unwanted(subject, &ALL_SECTIONS) {
+    match first_unwanted(subject, &Section::ALL) {
         Some(section) => Some(Fault {
             rule: Rule::MissingSection,
             section,
             place: 0,
         }),
-        None => first_fault(subject),
+        None => first_fault(subject, starts),
     }
 }

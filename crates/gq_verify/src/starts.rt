@@ -1,34 +1,42 @@
 // What is known where sections start.
 ghost use Rattle.std.specs.Prelude.{◌≡◌, ◌≤◌, [], ◌∷◌, IfOk, IsTrue};
-ghost use Rattle.gq_model.specs.Program.{size};
-ghost use Rattle.gq_model.specs.Code.{is_section};
-ghost use Rattle.gq_model.specs.Flow.{context, flow, body, first_bounds, own_after, bank_by, bank_at, start_of};
+ghost use Rattle.gq_caps.specs.Measured.{AreFew};
+ghost use Rattle.gq_flow.specs.Peaks.{Peaks};
+ghost use Rattle.gq_verify.specs.internal.Mains.{MostWhereRight};
+ghost use Rattle.gq_model.specs.machine.Program.{size};
+ghost use Rattle.gq_model.specs.texts.Code.{is_section};
+ghost use Rattle.gq_model.specs.rules.Flow.{context, flow, body, first_bounds, own_after, bank_by, bank_at, start_of, points};
 ghost use Rattle.gq_caps.specs.Known.{all_known};
-ghost use Rattle.gq_verify.specs.Flowing.{flowed};
-ghost use Rattle.gq_verify.specs.Starting.{IsStarts};
+ghost use Rattle.gq_rules.specs.Flowing.{flowed};
+ghost use Rattle.gq_verify.specs.internal.Mains.{MainAnswers};
+ghost use Rattle.gq_verify.specs.internal.Starting.{IsStarts};
 
-use crate::broken::Broken;
-use crate::context::Context;
-use crate::flow::flow;
-use crate::state::{OWN_SLOTS, SESSION_SLOTS, State};
-use crate::subject::Subject;
-use gq_caps::Bank;
-use gq_code::Section;
+use crate::ends::main_section_end;
+use gq_caps::{Bank, Totals};
+use gq_flow::flow::flow;
+use gq_model::limits::{OWN_SLOTS, SESSION_SLOTS};
+use gq_program::Section;
+use gq_rules::{Broken, Context, State, Subject, at};
 
 /// Walks through the statements of a section, and answers how many there are.
 pub(crate) fn walk(
     subject: &Subject<'_>,
     section: Section,
     state: &mut State,
+    peaks: &mut Totals,
 ) -> Result<u64, Broken>
+    requires { AreFew peaks.old }
     ensures flowed { flowed result state.new ≡ flow (context subject.now section) state.old (body subject.now section) }
     ensures count { IfOk result (λ n. n ≡ size (body subject.now section)) }
     ensures few { IfOk result (λ n. n ≤ 4096) }
+    ensures peaks { IfOk result (λ n. Peaks peaks.new peaks.old (points (context subject.now section) state.old (body subject.now section))) }
+    ensures small { AreFew peaks.new }
 {
     let context = Context::new(subject, section);
     let mut place = 0;
-    if let Some(body) = subject.body(section) {
-        flow(&context, state, &mut place, body)?;
+    match subject.body(section) {
+        Some(body) => flow(&context, state, &mut place, peaks, body)?,
+        None => peaks.raise(state.own().totals()),
     }
     Ok(place)
 }
@@ -37,25 +45,49 @@ pub(crate) fn walk(
 fn first(
     subject: &Subject<'_>,
     section: Section,
-    own: Bank<OWN_SLOTS>,
-    bank: Bank<SESSION_SLOTS>,
+    own: &Bank<OWN_SLOTS>,
+    bank: &Bank<SESSION_SLOTS>,
 ) -> State
-    ensures { result ≡ record { own = all_known own; bank = all_known bank; bounds = first_bounds subject.now.provided section } }
+    ensures { result ≡ record { own = all_known own.now; bank = all_known bank.now; bounds = first_bounds subject.now.provided section } }
 {
     match section {
-        Section::Calling(_) => State::with_operand(own, bank, subject.arg()),
-        _ => State::new(own, bank),
+        Section::Calling(_) => State::with_operand(own.copy(), bank.copy(), subject.arg()),
+        _ => State::new(own.copy(), bank.copy()),
     }
 }
 
-/// The kinds of the own slots as `main` leaves them.
-fn own_after(subject: &Subject<'_>) -> Bank<OWN_SLOTS>
-    ensures { all_known result ≡ own_after subject.now }
+/// What a walk through `main` to its end leaves, measures and answers.
+#[derive(Drop)]
+struct MainWalked {
+    own: Bank<OWN_SLOTS>,
+    peaks: Totals,
+    answer: Result<(), Broken>,
+}
+
+/// Walks through `main`: the kinds of the own slots as it leaves them, with the greatest of what is measured at its points, where it
+/// breaks no rule, and the rule that it breaks first.
+fn walk_main(subject: &Subject<'_>) -> MainWalked
+    ensures own { all_known result.own ≡ own_after subject.now }
+    ensures peaks { MostWhereRight subject.now result.peaks }
+    ensures small { AreFew result.peaks }
+    ensures answer { MainAnswers subject.now result.answer }
 {
     let mut state = State::new(Bank::new(), Bank::new());
-    match walk(subject, Section::Main, &mut state) {
-        Ok(_) => *state.own(),
-        Err(_) => Bank::new(),
+    let mut peaks = Totals::none();
+    match walk(subject, Section::Main, &mut state, &mut peaks) {
+        Ok(count) => {
+            let own = state.own().copy();
+            let answer = at(count + 1, main_section_end(subject, &state));
+            MainWalked { own, peaks, answer }
+        }
+        Err(broken) => {
+            let own = Bank::new();
+            MainWalked {
+                own,
+                peaks,
+                answer: Err(broken),
+            }
+        }
     }
 }
 
@@ -63,16 +95,17 @@ fn own_after(subject: &Subject<'_>) -> Bank<OWN_SLOTS>
 fn bank_by(
     subject: &Subject<'_>,
     section: Section,
-    own: Bank<OWN_SLOTS>,
-    bank: Bank<SESSION_SLOTS>,
+    own: &Bank<OWN_SLOTS>,
+    bank: &Bank<SESSION_SLOTS>,
 ) -> Bank<SESSION_SLOTS>
-    requires { all_known own ≡ own_after subject.now }
-    ensures { all_known result ≡ bank_by subject.now section (all_known bank) }
+    requires { all_known own.now ≡ own_after subject.now }
+    ensures { all_known result ≡ bank_by subject.now section (all_known bank.now) }
 {
     let mut state = first(subject, section, own, bank);
-    match walk(subject, section, &mut state) {
-        Ok(_) => *state.bank(),
-        Err(_) => bank,
+    let mut peaks = Totals::none();
+    match walk(subject, section, &mut state, &mut peaks) {
+        Ok(_) => state.bank().copy(),
+        Err(_) => bank.copy(),
     }
 }
 
@@ -80,6 +113,8 @@ fn bank_by(
 #[derive(Drop)]
 pub(crate) struct Starts {
     pub(crate) own: Bank<OWN_SLOTS>,
+    pub(crate) peaks: Totals,
+    pub(crate) main: Result<(), Broken>,
     pub(crate) at_0: Bank<SESSION_SLOTS>,
     pub(crate) at_1: Bank<SESSION_SLOTS>,
     pub(crate) at_2: Bank<SESSION_SLOTS>,
@@ -91,13 +126,15 @@ impl Starts {
     pub fn new(subject: &Subject<'_>) -> Starts
         ensures { IsStarts subject.now result }
     {
-        let own = own_after(subject);
-        let at_0 = bank_by(subject, Section::Opening, own, Bank::new());
-        let at_1 = bank_by(subject, Section::Upgrading(1), own, at_0);
-        let at_2 = bank_by(subject, Section::Upgrading(2), own, at_1);
-        let at_3 = bank_by(subject, Section::Upgrading(3), own, at_2);
+        let MainWalked { own, peaks, answer } = walk_main(subject);
+        let at_0 = bank_by(subject, Section::Opening, &own, &Bank::new());
+        let at_1 = bank_by(subject, Section::Upgrading(1), &own, &at_0);
+        let at_2 = bank_by(subject, Section::Upgrading(2), &own, &at_1);
+        let at_3 = bank_by(subject, Section::Upgrading(3), &own, &at_2);
         Starts {
             own,
+            peaks,
+            main: answer,
             at_0,
             at_1,
             at_2,
@@ -127,12 +164,22 @@ impl Starts {
     {
         match section {
             Section::Main => State::new(Bank::new(), Bank::new()),
-            Section::Opening => State::new(self.own, Bank::new()),
-            Section::Upgrading(level) => State::new(self.own, *self.bank_at(subject, level - 1)),
+            Section::Opening => State::new(self.own.copy(), Bank::new()),
+            Section::Upgrading(level) => State::new(
+                self.own.copy(),
+                self.bank_at(subject, level - 1).copy(),
+            ),
             Section::Calling(level) => {
-                State::with_operand(self.own, *self.bank_at(subject, level), subject.arg())
+                State::with_operand(
+                    self.own.copy(),
+                    self.bank_at(subject, level).copy(),
+                    subject.arg(),
+                )
             }
-            Section::Closing(level) => State::new(self.own, *self.bank_at(subject, level)),
+            Section::Closing(level) => State::new(
+                self.own.copy(),
+                self.bank_at(subject, level).copy(),
+            ),
         }
     }
 }

@@ -1,11 +1,11 @@
 // How many steps sections take at most.
 ghost use Rattle.std.specs.Prelude.{◌≡◌, ◌≤◌, ◌∷◌, []};
-ghost use Rattle.gq_model.specs.Program.{size};
-ghost use Rattle.gq_model.specs.Budgets.{cost, section_cost};
-ghost use Rattle.gq_code.specs.Trees.{tree_of};
+ghost use Rattle.gq_model.specs.machine.Program.{size};
+ghost use Rattle.gq_model.specs.rules.Budgets.{cost, section_cost};
+ghost use Rattle.gq_program.specs.Trees.{tree_of};
 ghost use Rattle.gq_verify.specs.Counting.{saturated};
 
-use gq_code::{Body, Section, Statement};
+use gq_program::{Body, Section, Statement};
 
 /// The greatest number of steps of a list of statements; 2^64 - 1 where there are more.
 #[cycle(costs)]

@@ -1,9 +1,9 @@
 // What is said of a program before it runs.
 ghost use Rattle.std.specs.Prelude.{◌≡◌, IfOk, IfErr, IsTrue, None, Ok, Err, option_copied};
-ghost use Rattle.gq_model.specs.Amounts.{Ram, Caps};
-ghost use Rattle.gq_model.specs.Code.{is_section};
-ghost use Rattle.gq_model.specs.Budgets.{own, section_requests};
-ghost use Rattle.gq_model.specs.Verdict.{verdict, verified, program_fault};
+ghost use Rattle.gq_model.specs.machine.Amounts.{Ram, Caps};
+ghost use Rattle.gq_model.specs.texts.Code.{is_section};
+ghost use Rattle.gq_model.specs.rules.Budgets.{own, section_requests};
+ghost use Rattle.gq_model.specs.rules.Verdict.{verdict, verified, program_fault};
 ghost use Rattle.gq_verify.specs.Counting.{saturated};
 ghost use Rattle.gq_verify.specs.Faults.{known_fault};
 ghost use Rattle.gq_verify.specs.Subjects.{subject_of, cost_in};
@@ -14,9 +14,9 @@ use crate::requests::{Asked, section_requests};
 use crate::sections::program_fault;
 use crate::starts::Starts;
 use crate::steps::section_cost;
-use crate::subject::Subject;
-use gq_caps::Amount;
-use gq_code::{Interfaces, Name, Program, Section};
+use gq_program::{Interfaces, Name, Program, Section};
+use gq_rules::Subject;
+use gq_tariff::Amount;
 use std::marker::Model;
 
 /// A program that breaks no rule, with what it uses at most. Contracts see it as what it was judged by.
@@ -28,15 +28,15 @@ pub struct Verified<'a> {
 }
 
 impl<'a> Model for Verified<'a> {
-    ghost use Rattle.gq_model.specs.Kinds.{Subject};
-    ghost use Rattle.gq_model.specs.Stored.{statements_code};
+    ghost use Rattle.gq_model.specs.rules.Kinds.{Subject};
+    ghost use Rattle.gq_model.specs.internal.Stored.{statements_code};
     ghost use Rattle.std.specs.Coded.{codes};
 
     ghost Value = { Subject };
 
     ghost coded = { Prim.hlevel (codes, statements_code (Prim.hlevel codes)) };
 
-    ghost use Rattle.gq_verify.specs.Keeping.{IsKept};
+    ghost use Rattle.gq_verify.specs.internal.Keeping.{IsKept};
 
     ghost view = { λ v. v.subject };
 
@@ -83,6 +83,7 @@ impl<'a> Verified<'a> {
         requires { IsTrue (is_section from) }
         ensures { result ≡ saturated (section_requests self.now from service.now section) }
     {
+        self.laws();
         let subject = &self.subject;
         let starts = &self.starts;
         section_requests(subject, starts, from, &Asked { service, section })
@@ -106,11 +107,11 @@ pub fn verify<'a>(
         None => None,
     };
     let subject = Subject::new(program, provided, interfaces);
-    if let Some(fault) = program_fault(&subject) {
+    let starts = Starts::new(&subject);
+    if let Some(fault) = program_fault(&subject, &starts) {
         return Err(fault);
     }
-    let starts = Starts::new(&subject);
-    let own = own(&subject);
+    let own = own(&subject, &starts.peaks);
     Ok(Verified {
         subject,
         starts,

@@ -1,5 +1,5 @@
 use Rattle.std.proofs.Common.{◌≡◌, drop}
-use Rattle.gq_model.specs.Program.{section_in}
+use Rattle.gq_model.specs.machine.Program.{section_in}
 use Rattle.gq_asm.proofs.headings.is_given.Given as goal
 
 abbrev pub invariant-loop-given : goal.invariant-loop-given

@@ -1,5 +1,5 @@
 use Rattle.std.proofs.Common.{◌≡◌, drop}
-use Rattle.gq_model.specs.Text.{limit_of}
+use Rattle.gq_model.specs.texts.Text.{limit_of}
 use Rattle.gq_asm.proofs.headings.limit_of.Given as goal
 
 abbrev pub invariant-loop-given : goal.invariant-loop-given

@@ -1,9 +1,10 @@
 use Rattle.std.proofs.lemmas.Result.{err_from_is_err_and}
-use Rattle.gq_model.specs.Letters.{words}
+use Rattle.gq_model.specs.texts.Letters.{words}
 use Rattle.gq_asm.proofs.Statement_reads.{pool_err}
 use Rattle.gq_asm.proofs.instructions.pool.Goals as goal
 
 pub returns-in_err-bytes : goal.returns-in_err-bytes
 returns-in_err-bytes c =
     let p = err_from_is_err_and c.from_residual-in_err-bytes.result c.from_residual-in_err-bytes.ensures.1 in
-    rw (p.1, p.2) (pool_err c.args.after.now (words c.args.after.now) (words c.in_ok-place.rest.now) (words c.in_ok-entries.rest.now) c.in_ok-place.place c.in_ok-entries.entries c.in_err-bytes.field-0.0 c.in_ok-place.ensures c.in_ok-entries.ensures.read c.in_err-bytes.ensures.read)
+    rw (p.1, p.2) (pool_err c.args.after.now (words c.args.after.now) (words c.in_ok-place.rest.now) (words c.in_ok-entries.rest.now) c.in_ok-place.place
+    c.in_ok-entries.entries c.in_err-bytes.field-0.0 c.in_ok-place.ensures c.in_ok-entries.ensures.read c.in_err-bytes.ensures.read)

@@ -1,5 +1,5 @@
 use Rattle.std.proofs.lemmas.Result.{err_from_is_err_and}
-use Rattle.gq_model.specs.Letters.{words}
+use Rattle.gq_model.specs.texts.Letters.{words}
 use Rattle.gq_asm.proofs.Statement_reads.{bytes_err}
 use Rattle.gq_asm.proofs.instructions.with_bytes.Goals as goal
 

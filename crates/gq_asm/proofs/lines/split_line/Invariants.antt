@@ -1,5 +1,5 @@
 use Rattle.std.proofs.Common.{◌≡◌, ◌++◌, take, drop}
-use Rattle.gq_asm.specs.Pieces.{front_line, past_feed}
+use Rattle.gq_asm.specs.internal.Pieces.{front_line, past_feed}
 use Rattle.gq_asm.proofs.lines.split_line.Given as goal
 
 abbrev pub invariant-loop-i : goal.invariant-loop-i

@@ -1,6 +1,6 @@
 use Rattle.std.proofs.Common.{◌≡◌, take, drop}
-use Rattle.gq_model.specs.Spelling.{quoted}
-use Rattle.gq_asm.specs.Pieces.{onto}
+use Rattle.gq_model.specs.texts.Spelling.{quoted}
+use Rattle.gq_asm.specs.internal.Pieces.{onto}
 use Rattle.gq_asm.proofs.says.quoted.Given as goal
 
 abbrev pub invariant-loop-i : goal.invariant-loop-i

@@ -1,6 +1,6 @@
 use Rattle.std.proofs.Common.{◌≡◌, ◌++◌, take, drop}
-use Rattle.gq_model.specs.Letters.{past_word}
-use Rattle.gq_asm.specs.Pieces.{front_word}
+use Rattle.gq_model.specs.texts.Letters.{past_word}
+use Rattle.gq_asm.specs.internal.Pieces.{front_word}
 use Rattle.gq_asm.proofs.words.split_word.Given as goal
 
 abbrev pub invariant-loop-i : goal.invariant-loop-i

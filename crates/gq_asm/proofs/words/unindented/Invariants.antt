@@ -1,5 +1,5 @@
 use Rattle.std.proofs.Common.{◌≡◌, drop}
-use Rattle.gq_model.specs.Letters.{unindented}
+use Rattle.gq_model.specs.texts.Letters.{unindented}
 use Rattle.gq_asm.proofs.words.unindented.Given as goal
 
 abbrev pub invariant-loop-i : goal.invariant-loop-i

@@ -3,9 +3,9 @@ use Rattle.std.proofs.lemmas.Slice.Zip.{Zip-more, either_empty_from_Zip}
 use Rattle.std.specs.Slice.Iter.{iter_rest}
 use Rattle.std.specs.Iterator.Adapters.{zip_first, zip_second}
 use Rattle.gq_verify.specs.Counting.{saturated}
-use Rattle.gq_budget.specs.Sums.{products}
-use Rattle.gq_budget.specs.Leaves.{costs_of}
-use Rattle.gq_budget.specs.Budgets.{budgets_by}
+use Rattle.gq_budget.specs.internal.Sums.{products}
+use Rattle.gq_budget.specs.internal.Counted.{costs_of}
+use Rattle.gq_budget.specs.internal.Counted.{budgets_by}
 use Rattle.gq_budget.proofs.Lists.{one_more, none_left, budgets_none, budgets_first}
 use Rattle.gq_budget.proofs.budgets.budgets.Goals as goal
 
@@ -19,8 +19,10 @@ loop-leaf-preserved c =
     let xs' = iter_rest (zip_first t) in
     let ys' = iter_rest (zip_second t) in
     let x = c.in-Some.leaf.now in
-    one_more c.loop-leaf.steps.items c.push.new.self.items (budgets_by xs ys) (budgets_by xs' ys') (budgets_by c.args.leaves.now c.args.often.now) c.products.result (saturated (products (costs_of x.subject.program.sections) c.in-Some.often.now))
-    c.in_ok-push.ensures.items (c.products.ensures ∙ ap (λ l. saturated (products l c.in-Some.often.now)) c.in_ok-costs.ensures) (budgets_first xs xs' ys ys' x c.in-Some.often.now m.0 m.1) c.loop-leaf.invariant
+    one_more c.loop-leaf.steps.items c.push.new.self.items (budgets_by xs ys) (budgets_by xs' ys') (budgets_by c.args.leaves.now c.args.often.now)
+    c.products.result (saturated (products (costs_of x.subject.program.sections) c.in-Some.often.now))
+    c.in_ok-push.ensures.items (c.products.ensures ∙ ap (λ l. saturated (products l c.in-Some.often.now)) c.in_ok-costs.ensures)
+    (budgets_first xs xs' ys ys' x c.in-Some.often.now m.0 m.1) c.loop-leaf.invariant
 
 pub returns : goal.returns
 returns c =

@@ -1,6 +1,6 @@
 use Rattle.std.proofs.Common.{map, ap, ◌∙◌, suc, [], length, refl}
-use Rattle.gq_budget.specs.Rounds.{rounds}
-use Rattle.gq_budget.specs.Budgets.{budgets_by}
+use Rattle.gq_budget.specs.internal.Rounds.{rounds}
+use Rattle.gq_budget.specs.internal.Counted.{budgets_by}
 use Rattle.gq_budget.proofs.Kept.{budgets_kept}
 use Rattle.gq_budget.proofs.budgets.step_budgets.Goals as goal
 

@@ -3,7 +3,7 @@ use Rattle.std.proofs.lemmas.Slice.Zip.{Zip-more, either_empty_from_Zip}
 use Rattle.std.specs.Slice.Iter.{iter_rest}
 use Rattle.std.specs.Iterator.Adapters.{zip_first, zip_second}
 use Rattle.gq_verify.specs.Counting.{saturated}
-use Rattle.gq_budget.specs.Sums.{products}
+use Rattle.gq_budget.specs.internal.Sums.{products}
 use Rattle.gq_budget.proofs.Sums.{products_more, products_end}
 use Rattle.gq_budget.proofs.numbers.products.Goals as goal
 
@@ -17,7 +17,9 @@ loop-count-preserved c =
     let y = c.in-Some.times.now in
     let next : c.saturating_add-sum.result ≡ min (l.sum + min (x * y) (2 ^ 64 - 1)) (2 ^ 64 - 1) = omega arith in
     record {
-      summed = products_more (2 ^ 64 - 1) l.sum (min (x * y) (2 ^ 64 - 1)) c.saturating_add-sum.result x y (saturated (products c.args.counts.now c.args.often.now)) (iter_rest (zip_first s)) (iter_rest (zip_second s)) (iter_rest (zip_first t)) (iter_rest (zip_second t)) m.0 m.1 refl next l.invariant.summed;
+      summed =
+          products_more (2 ^ 64 - 1) l.sum (min (x * y) (2 ^ 64 - 1)) c.saturating_add-sum.result x y (saturated (products c.args.counts.now c.args.often.now))
+          (iter_rest (zip_first s)) (iter_rest (zip_second s)) (iter_rest (zip_first t)) (iter_rest (zip_second t)) m.0 m.1 refl next l.invariant.summed;
       fits = omega arith;
     }
 
@@ -26,4 +28,5 @@ returns c =
     let l = c.loop-count in
     let s = l.count-iterator in
     let m = either_empty_from_Zip s c.next.new.self c.next.result c.in-None.is c.next.ensures.steps in
-    products_end (2 ^ 64 - 1) l.sum (products c.args.counts.now c.args.often.now) (iter_rest (zip_first s)) (iter_rest (zip_second s)) m l.invariant.fits l.invariant.summed
+    products_end (2 ^ 64 - 1) l.sum (products c.args.counts.now c.args.often.now) (iter_rest (zip_first s)) (iter_rest (zip_second s)) m l.invariant.fits
+    l.invariant.summed

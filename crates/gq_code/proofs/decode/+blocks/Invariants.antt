@@ -1,5 +1,5 @@
 use Rattle.std.proofs.Common.{◌≡◌, ◌≤◌, ◌+◌, ◌*◌, length}
-use Rattle.gq_code.specs.Bodies.{body_in, continued}
+use Rattle.gq_code.specs.internal.Bodies.{body_in, continued}
 use Rattle.gq_code.proofs.decode.+blocks.Given as goal
 
 abbrev pub decreases-read_body : goal.decreases-read_body

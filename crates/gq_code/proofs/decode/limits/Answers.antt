@@ -1,6 +1,6 @@
 use Rattle.std.proofs.Common.{◌∙◌, refl, length-set}
 use Rattle.std.proofs.lemmas.Result.{err_from_is_err_and}
-use Rattle.gq_model.specs.Decode.{limits_at}
+use Rattle.gq_model.specs.texts.Decode.{limits_at}
 use Rattle.gq_code.proofs.Sections.{limits_turn, limits_stop, limits_end, limits_start}
 use Rattle.gq_code.proofs.decode.limits.Goals as goal
 
@@ -11,13 +11,16 @@ pub returns-in_err-limit : goal.returns-in_err-limit
 returns-in_err-limit c =
     let l = c.loop-i in
     let p = err_from_is_err_and c.from_residual.result c.from_residual.ensures.1 in
-    rw (p.1, p.2) (limits_stop l.limits l.i l.bits l.left.now c.in_err-limit.field-0.0 (limits_at 8 c.args.given c.args.bytes.now) c.loop-i-test.true l.invariant.read c.in_err-limit.ensures)
+    rw (p.1, p.2) (limits_stop l.limits l.i l.bits l.left.now c.in_err-limit.field-0.0 (limits_at 8 c.args.given c.args.bytes.now) c.loop-i-test.true
+    l.invariant.read c.in_err-limit.ensures)
 
 pub loop-i-preserved : goal.loop-i-preserved
 loop-i-preserved c =
     let l = c.loop-i in
     record {
-      read = limits_turn l.limits l.i l.bits c.in_ok-limit.limit l.left.now c.in_ok-limit.rest.now (limits_at 8 c.args.given c.args.bytes.now) c.loop-i-test.true l.invariant.eight l.invariant.read c.in_ok-limit.ensures;
+      read =
+          limits_turn l.limits l.i l.bits c.in_ok-limit.limit l.left.now c.in_ok-limit.rest.now (limits_at 8 c.args.given c.args.bytes.now) c.loop-i-test.true
+          l.invariant.eight l.invariant.read c.in_ok-limit.ensures;
       eight = length-set l.limits l.i c.in_ok-limit.limit ∙ l.invariant.eight;
     }
 

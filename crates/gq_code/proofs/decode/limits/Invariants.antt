@@ -1,6 +1,6 @@
 use Rattle.std.proofs.Common.{◌≡◌, ◌-◌, take, length}
-use Rattle.gq_model.specs.Decode.{limits_at}
-use Rattle.gq_code.specs.Decoding.{after_limits}
+use Rattle.gq_model.specs.texts.Decode.{limits_at}
+use Rattle.gq_code.specs.internal.Decoding.{after_limits}
 use Rattle.gq_code.proofs.decode.limits.Given as goal
 
 -- the values so far, with those that are left, are all

@@ -1,5 +1,5 @@
 use Rattle.std.proofs.Common.{◌≡◌, ℕ, ◌+◌, ◌-◌, ◌<◌, ◌/◌, ◌%◌, suc, ◌∷◌, ◌++◌, ap, sym, ◌∙◌, arith, append_assoc}
-use Rattle.gq_model.specs.Program.{spelled}
+use Rattle.gq_model.specs.machine.Program.{spelled}
 use Rattle.gq_code.proofs.encode.write_number.Goals as goal
 
 -- the next byte, and what is left

@@ -1,5 +1,5 @@
 use Rattle.std.proofs.Common.{◌≡◌, ◌-◌, ◌++◌}
-use Rattle.gq_model.specs.Program.{spelled}
+use Rattle.gq_model.specs.machine.Program.{spelled}
 use Rattle.gq_code.proofs.encode.write_number.Given as goal
 
 abbrev pub invariant-loop-i : goal.invariant-loop-i

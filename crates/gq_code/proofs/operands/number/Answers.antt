@@ -3,4 +3,5 @@ use Rattle.gq_code.proofs.Decoding.{below_4}
 use Rattle.gq_code.proofs.operands.number.Goals as goal
 
 pub overflow_cast-result : goal.overflow_cast-result
-overflow_cast-result c = below_4 c.little.result (length c.in_ok-spelled.spelled.now) c.little.ensures.small (omega (arith, c.in_ok-spelled.ensures.first, c.requires))
+overflow_cast-result c =
+    below_4 c.little.result (length c.in_ok-spelled.spelled.now) c.little.ensures.small (omega (arith, c.in_ok-spelled.ensures.first, c.requires))

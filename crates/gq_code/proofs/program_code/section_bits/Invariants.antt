@@ -1,5 +1,5 @@
 use Rattle.std.proofs.Common.{◌≡◌, ◌+◌, ℕ, drop, IsTrue}
-use Rattle.gq_model.specs.Code.{are_sections, section_bits}
+use Rattle.gq_model.specs.texts.Code.{are_sections, section_bits}
 use Rattle.gq_code.proofs.program_code.section_bits.Given as goal
 
 -- the bits so far, with those of the sections that are left, are all; these stand in their order

@@ -1,5 +1,5 @@
 use Rattle.std.proofs.Common.{◌≡◌, ◌++◌, drop}
-use Rattle.gq_model.specs.Code.{limits_code}
+use Rattle.gq_model.specs.texts.Code.{limits_code}
 use Rattle.gq_code.proofs.program_code.write_limits.Given as goal
 
 -- the bytes so far, with those of the locals that are left, are all

@@ -1,5 +1,5 @@
 use Rattle.std.proofs.Common.{◌≡◌, drop}
-use Rattle.gq_model.specs.Flow.{bank_is_empty}
+use Rattle.gq_model.specs.rules.Flow.{bank_is_empty}
 use Rattle.gq_caps.specs.Known.{all_known}
 use Rattle.gq_verify.proofs.ends.are_empty.Given as goal
 

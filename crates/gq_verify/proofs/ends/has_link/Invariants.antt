@@ -1,5 +1,5 @@
 use Rattle.std.proofs.Common.{◌≡◌, drop}
-use Rattle.gq_model.specs.Flow.{has_link}
+use Rattle.gq_model.specs.rules.Flow.{has_link}
 use Rattle.gq_caps.specs.Known.{all_known}
 use Rattle.gq_verify.proofs.ends.has_link.Given as goal
 

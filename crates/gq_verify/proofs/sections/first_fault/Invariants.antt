@@ -1,9 +1,9 @@
 use Rattle.std.proofs.Common.{◌≡◌, drop, IsTrue}
 use Rattle.std.specs.Prelude.{nat_le}
-use Rattle.gq_model.specs.Program.{size}
-use Rattle.gq_model.specs.Lists.{all_of}
-use Rattle.gq_model.specs.Code.{is_section}
-use Rattle.gq_model.specs.Verdict.{first_fault}
+use Rattle.gq_model.specs.machine.Program.{size}
+use Rattle.gq_model.specs.machine.Lists.{all_of}
+use Rattle.gq_model.specs.texts.Code.{is_section}
+use Rattle.gq_model.specs.rules.Verdict.{first_fault}
 use Rattle.gq_verify.proofs.sections.first_fault.Given as goal
 
 -- none of the sections so far has a fault

@@ -1,5 +1,5 @@
 use Rattle.std.proofs.Common.{◌≡◌, drop}
-use Rattle.gq_model.specs.Verdict.{first_unwanted}
+use Rattle.gq_model.specs.rules.Verdict.{first_unwanted}
 use Rattle.gq_verify.proofs.sections.first_unwanted.Given as goal
 
 -- none of the sections so far is unwanted

@@ -1,7 +1,7 @@
 use Rattle.std.proofs.Common.{◌≡◌, ◌≤◌, ◌+◌, ◌-◌, ◌*◌, ◌^◌, ◌∷◌, [], drop}
-use Rattle.gq_model.specs.Program.{size}
-use Rattle.gq_model.specs.Budgets.{cost}
-use Rattle.gq_code.specs.Trees.{tree_of}
+use Rattle.gq_model.specs.machine.Program.{size}
+use Rattle.gq_model.specs.rules.Budgets.{cost}
+use Rattle.gq_program.specs.Trees.{tree_of}
 use Rattle.gq_verify.specs.Counting.{saturated}
 use Rattle.gq_verify.proofs.steps.+costs.Given as goal
 

@@ -1,7 +1,7 @@
 use Rattle.std.proofs.Common.{◌∷◌, [], ap, ◌∙◌}
-use Rattle.gq_model.specs.Program.{Program}
-use Rattle.gq_model.specs.Text.{limits_from}
-use Rattle.gq_asm.specs.State.{blocks_of, reading_of}
+use Rattle.gq_model.specs.machine.Program.{Program}
+use Rattle.gq_model.specs.texts.Text.{limits_from}
+use Rattle.gq_asm.specs.internal.State.{blocks_of, reading_of}
 use Rattle.gq_asm.proofs.Finishing.{none_first, finished_none}
 use Rattle.gq_asm.proofs.reading.Reading.finish.Goals as goal
 

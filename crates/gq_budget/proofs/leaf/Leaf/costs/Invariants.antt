@@ -1,5 +1,5 @@
 use Rattle.std.proofs.Common.{◌≡◌, ◌++◌, drop}
-use Rattle.gq_budget.specs.Leaves.{costs_of}
+use Rattle.gq_budget.specs.internal.Counted.{costs_of}
 use Rattle.gq_budget.proofs.leaf.Leaf.costs.Given as goal
 
 -- the costs so far, with those of the sections that are left, are those of all

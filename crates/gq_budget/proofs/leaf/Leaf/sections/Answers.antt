@@ -1,4 +1,4 @@
-use Rattle.gq_verify.proofs.Programs.{each_section}
+use Rattle.gq_rules.proofs.Programs.{each_section}
 use Rattle.gq_budget.proofs.leaf.Leaf.sections.Goals as goal
 
 pub returns-clause-each : goal.returns-clause-each

@@ -1,0 +1,25 @@
+-- What is counted of a leaf's sections.
+use Rattle.std.specs.Prelude.{ℕ, List, [], ◌∷◌}
+use Rattle.gq_model.specs.machine.Program.{Statements}
+use Rattle.gq_model.specs.declared.program.Section.{Section}
+use Rattle.gq_model.specs.rules.Kinds.{Subject}
+use Rattle.gq_model.specs.rules.Budgets.{section_cost, section_requests}
+use Rattle.gq_verify.specs.Counting.{saturated}
+use Rattle.gq_budget.specs.Leaves.{Leaf}
+use Rattle.gq_budget.specs.internal.Sums.{products}
+
+-- the requests of each of these sections of a leaf for a section of a service
+abbrev pub requests_of : Subject → List ℕ → Section → List (Section × Statements) → List ℕ
+requests_of v service section [] = []
+requests_of v service section (p ∷ rest) = saturated (section_requests v p.0 service section) ∷ requests_of v service section rest
+
+-- the steps of each of these sections
+abbrev pub costs_of : List (Section × Statements) → List ℕ
+costs_of [] = []
+costs_of (p ∷ rest) = saturated (section_cost p.0 p.1) ∷ costs_of rest
+
+-- what the sections of each of these leaves cost, where they run so often
+abbrev pub budgets_by : List Leaf → List (List ℕ) → List ℕ
+budgets_by (leaf ∷ leaves) (often ∷ more) = saturated (products (costs_of leaf.subject.program.sections) often) ∷ budgets_by leaves more
+budgets_by [] often = []
+budgets_by (leaf ∷ leaves) [] = []

@@ -1,5 +1,0 @@
-use Rattle.std.proofs.Common.{length}
-use Rattle.gq_code.proofs.interface.+is_rising.Given as goal
-
-abbrev pub decreases-is_rising : goal.decreases-is_rising
-decreases-is_rising l = length l.entries.now

@@ -1,7 +1,0 @@
-use Rattle.std.proofs.Common.{◌≡◌, drop}
-use Rattle.gq_model.specs.Scenario.{interface_in}
-use Rattle.gq_code.proofs.interface.Interfaces.named.Given as goal
-
--- what is left has what all have
-abbrev pub invariant-loop-service : goal.invariant-loop-service
-invariant-loop-service l = interface_in l.name (drop l.service-index l.service-items) ≡ interface_in l.name l.service-items

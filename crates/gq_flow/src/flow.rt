@@ -1,0 +1,194 @@
+// The rules for lists of statements.
+ghost use Rattle.std.specs.Prelude.{◌≡◌, ◌+◌, ◌-◌, ◌<◌, ◌^◌, ◌∷◌, [], ◌++◌, ◌&&◌, true, OnOk, IsTrue, length};
+ghost use Rattle.gq_model.specs.machine.Program.{size, Done, If, Loop};
+ghost use Rattle.gq_model.specs.rules.Kinds.{inside};
+ghost use Rattle.gq_model.specs.rules.Flow.{later, flow, points};
+ghost use Rattle.gq_program.specs.Trees.{tree_of};
+ghost use Rattle.gq_caps.specs.Measured.{AreFew};
+ghost use Rattle.gq_rules.specs.Flowing.{flowed, few_loops};
+ghost use Rattle.gq_flow.specs.internal.Steps.{chosen, points_in};
+ghost use Rattle.gq_flow.specs.Peaks.{Peaks};
+ghost use Rattle.gq_flow.specs.internal.Stillness.{is_still};
+
+use crate::still::is_still;
+use gq_caps::Totals;
+use gq_program::{Body, Statement};
+use gq_rules::{Broken, Context, State, at};
+
+/// Walks through a list of statements, from what is known before it to what is known after it. Statements are counted on from
+/// `place`. A join is judged after what is inside of the arms or the loop. What is measured of the own slots, at the greatest, is kept in
+/// `peaks`.
+#[cycle(flows)]
+pub fn flow(
+    context: &Context<'_>,
+    state: &mut State,
+    place: &mut u64,
+    peaks: &mut Totals,
+    body: &Body,
+) -> Result<(), Broken>
+    requires places { place.old + size body.now < 2 ^ 64 }
+    requires loops { IsTrue (few_loops (4 - length context.now.counts) body.now) }
+    requires small { AreFew peaks.old }
+    ensures flowed { flowed result state.new ≡ later place.old (flow context.now state.old body.now) }
+    ensures places { OnOk result (place.new ≡ place.old + size body.now) }
+    ensures peaks { OnOk result (Peaks peaks.new peaks.old (points context.now state.old body.now)) }
+    ensures small { AreFew peaks.new }
+{
+    for statement in body.statements() {
+        flow_statement(context, state, place, peaks, statement)?;
+    }
+    peaks.raise(state.own().totals());
+    Ok(())
+}
+
+/// Walks through a statement and those in it.
+#[cycle(flows)]
+fn flow_statement(
+    context: &Context<'_>,
+    state: &mut State,
+    place: &mut u64,
+    peaks: &mut Totals,
+    statement: &Statement,
+) -> Result<(), Broken>
+    requires places { place.old + size (tree_of (statement.now ∷ [])) < 2 ^ 64 }
+    requires loops { IsTrue (few_loops (4 - length context.now.counts) (tree_of (statement.now ∷ []))) }
+    requires small { AreFew peaks.old }
+    ensures flowed { flowed result state.new ≡ later place.old (flow context.now state.old (tree_of (statement.now ∷ []))) }
+    ensures places { OnOk result (place.new ≡ place.old + size (tree_of (statement.now ∷ []))) }
+    ensures peaks { OnOk result (Peaks peaks.new peaks.old (points_in context.now state.old statement.now)) }
+    ensures small { AreFew peaks.new }
+{
+    peaks.raise(state.own().totals());
+    match statement {
+        Statement::Plain(instruction) => {
+            *place += 1;
+            at(*place, context.judged(state, instruction))
+        }
+        Statement::If(arm, other) => {
+            if is_still(arm) && is_still(other) {
+                flow_still_if(context, state, place, peaks, arm, other)
+            } else {
+                flow_if(context, state, place, peaks, arm, other)
+            }
+        }
+        Statement::Loop(count, body) => {
+            if is_still(body) {
+                flow_still_loop(context, state, place, peaks, *count, body)
+            } else {
+                flow_loop(context, state, place, peaks, *count, body)
+            }
+        }
+    }
+}
+
+/// Walks through both arms of an `if`. It stands alone, so that only an `if` pays for room for a state.
+#[cycle(flows)]
+#[inline(never)]
+fn flow_if(
+    context: &Context<'_>,
+    state: &mut State,
+    place: &mut u64,
+    peaks: &mut Totals,
+    arm: &Body,
+    other: &Body,
+) -> Result<(), Broken>
+    requires places { place.old + (1 + size arm.now + size other.now) < 2 ^ 64 }
+    requires loops { IsTrue (few_loops (4 - length context.now.counts) (If arm.now other.now Done)) }
+    requires small { AreFew peaks.old }
+    ensures flowed { flowed result state.new ≡ later place.old (flow context.now state.old (If arm.now other.now Done)) }
+    ensures places { OnOk result (place.new ≡ place.old + (1 + size arm.now + size other.now)) }
+    ensures peaks { OnOk result (Peaks peaks.new peaks.old (points context.now (chosen state.old) arm.now ++ points context.now (chosen state.old) other.now)) }
+    ensures small { AreFew peaks.new }
+{
+    *place += 1;
+    let number = *place;
+    at(number, state.choose())?;
+    let mut second = state.copy();
+    flow(context, state, place, peaks, arm)?;
+    flow(context, &mut second, place, peaks, other)?;
+    at(number, state.join(&second))
+}
+
+/// Walks through the body of a loop. It stands alone, so that only a loop pays for room for a state.
+#[cycle(flows)]
+#[inline(never)]
+fn flow_loop(
+    context: &Context<'_>,
+    state: &mut State,
+    place: &mut u64,
+    peaks: &mut Totals,
+    count: u16,
+    body: &Body,
+) -> Result<(), Broken>
+    requires places { place.old + (1 + size body.now) < 2 ^ 64 }
+    requires loops { IsTrue (few_loops (4 - length context.now.counts) (Loop count body.now Done)) }
+    requires small { AreFew peaks.old }
+    ensures flowed { flowed result state.new ≡ later place.old (flow context.now state.old (Loop count body.now Done)) }
+    ensures places { OnOk result (place.new ≡ place.old + (1 + size body.now)) }
+    ensures peaks { OnOk result (Peaks peaks.new peaks.old (points (inside context.now count) state.old body.now)) }
+    ensures small { AreFew peaks.new }
+{
+    *place += 1;
+    let number = *place;
+    at(number, state.none_left())?;
+    let before = state.copy();
+    flow(&context.inside(count), state, place, peaks, body)?;
+    at(number, before.join(state))?;
+    *state = before;
+    Ok(())
+}
+
+/// Walks through both arms of an `if` that change no slot: the second starts with the slots as the first leaves them.
+#[cycle(flows)]
+fn flow_still_if(
+    context: &Context<'_>,
+    state: &mut State,
+    place: &mut u64,
+    peaks: &mut Totals,
+    arm: &Body,
+    other: &Body,
+) -> Result<(), Broken>
+    requires places { place.old + (1 + size arm.now + size other.now) < 2 ^ 64 }
+    requires loops { IsTrue (few_loops (4 - length context.now.counts) (If arm.now other.now Done)) }
+    requires still { (is_still arm.now && is_still other.now) ≡ true }
+    requires small { AreFew peaks.old }
+    ensures flowed { flowed result state.new ≡ later place.old (flow context.now state.old (If arm.now other.now Done)) }
+    ensures places { OnOk result (place.new ≡ place.old + (1 + size arm.now + size other.now)) }
+    ensures peaks { OnOk result (Peaks peaks.new peaks.old (points context.now (chosen state.old) arm.now ++ points context.now (chosen state.old) other.now)) }
+    ensures small { AreFew peaks.new }
+{
+    *place += 1;
+    let number = *place;
+    at(number, state.choose())?;
+    flow(context, state, place, peaks, arm)?;
+    let is_spent = state.is_spent();
+    state.drop_operands();
+    flow(context, state, place, peaks, other)?;
+    at(number, state.none_left_of_both(is_spent))
+}
+
+/// Walks through the body of a loop that changes no slot, and so leaves all as it was but for operands.
+#[cycle(flows)]
+fn flow_still_loop(
+    context: &Context<'_>,
+    state: &mut State,
+    place: &mut u64,
+    peaks: &mut Totals,
+    count: u16,
+    body: &Body,
+) -> Result<(), Broken>
+    requires places { place.old + (1 + size body.now) < 2 ^ 64 }
+    requires loops { IsTrue (few_loops (4 - length context.now.counts) (Loop count body.now Done)) }
+    requires still { is_still body.now ≡ true }
+    requires small { AreFew peaks.old }
+    ensures flowed { flowed result state.new ≡ later place.old (flow context.now state.old (Loop count body.now Done)) }
+    ensures places { OnOk result (place.new ≡ place.old + (1 + size body.now)) }
+    ensures peaks { OnOk result (Peaks peaks.new peaks.old (points (inside context.now count) state.old body.now)) }
+    ensures small { AreFew peaks.new }
+{
+    *place += 1;
+    let number = *place;
+    at(number, state.none_left())?;
+    flow(&context.inside(count), state, place, peaks, body)?;
+    at(number, state.none_left())
+}

@@ -1,0 +1,2 @@
+-- What only proofs and bodies speak of.
+pub mod Stored

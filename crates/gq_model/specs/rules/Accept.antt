@@ -1,0 +1,97 @@
+-- Which scenarios are accepted, and the budgets of their leaves.
+use Rattle.std.specs.Prelude.{◌≡◌, ℕ, suc, nat_le, ◌==◌, if◌then◌else◌, List, [], ◌∷◌, ◌++◌, Option, Some, None, codes}
+use Rattle.gq_model.specs.machine.Amounts.{Resource, Ram, Caps, Amount, amount, part}
+use Rattle.gq_model.specs.machine.Scenario.{Scenario, System, Component, system}
+use Rattle.gq_model.specs.machine.Accounts.{entry, told}
+use Rattle.gq_model.specs.machine.Lists.{or_first}
+use Rattle.gq_model.specs.rules.Budgets.{own}
+use Rattle.gq_model.specs.rules.Verdict.{Fault, program_fault, greatest_cost}
+use Rattle.gq_model.specs.rules.Use.{subject, step_budget}
+use Rattle.gq_model.specs.rules.Resolve.{Unresolved, unresolved}
+
+-- why a scenario is refused
+pub data Refusal : Type 0 where
+  Bad_program : (leaf : List ℕ) (fault : Fault) → Refusal
+  Not_resolved : (fault : Unresolved) → Refusal
+  Over_own : (resource : Resource) (leaf : List ℕ) (own quantum : ℕ) → Refusal
+  Over_steps : (leaf : List ℕ) → Refusal
+
+-- what a leaf uses at most: bytes and capabilities of its own account, and steps
+pub record Budget : Type 0 where
+  pub own : Amount
+  pub steps : ℕ
+
+-- capabilities are 0 in version 1
+abbrev pub budget : ℕ → System → ℕ → Component → Budget
+budget version system x c =
+    let v = subject system c in record { own = amount (own Ram v) (if version == 2 then own Caps v else 0); steps = step_budget system x c }
+
+-- the budgets of the leaves from the x-th on
+abbrev pub budgets_from : ℕ → System → ℕ → List Component → List Budget
+budgets_from version system x [] = []
+budgets_from version system x (c ∷ rest) = budget version system x c ∷ budgets_from version system (suc x) rest
+
+abbrev pub budgets : Scenario → List Budget
+budgets s = let all = system s in budgets_from s.version all 0 all.components
+
+abbrev pub step_budgets : List Budget → List ℕ
+step_budgets [] = []
+step_budgets (b ∷ rest) = b.steps ∷ step_budgets rest
+
+-- REFUSALS
+
+abbrev pub bad_program : List ℕ → Option Fault → Option Refusal
+bad_program leaf None = None
+bad_program leaf (Some fault) = Some (Bad_program leaf fault)
+
+-- the first leaf whose program is refused
+abbrev pub program_refusal : System → List Component → Option Refusal
+program_refusal system [] = None
+program_refusal system (c ∷ rest) = or_first (bad_program c.node.name (program_fault (subject system c))) (program_refusal system rest)
+
+abbrev pub not_resolved : Option Unresolved → Option Refusal
+not_resolved None = None
+not_resolved (Some fault) = Some (Not_resolved fault)
+
+-- the first leaf whose own budget is above its quantum
+abbrev pub own_refusal : Resource → List Component → List Budget → Option Refusal
+own_refusal r (c ∷ rest) (b ∷ budgets) =
+    let own = part r b.own in
+    let quantum = part r c.node.quantum in
+    if nat_le own quantum then own_refusal r rest budgets else Some (Over_own r c.node.name own quantum)
+own_refusal r [] budgets = None
+own_refusal r (c ∷ rest) [] = None
+
+-- the first leaf with a greater budget of steps than there is
+abbrev pub steps_refusal : List Component → List Budget → Option Refusal
+steps_refusal (c ∷ rest) (b ∷ budgets) = if nat_le b.steps greatest_cost then steps_refusal rest budgets else Some (Over_steps c.node.name)
+steps_refusal [] budgets = None
+steps_refusal (c ∷ rest) [] = None
+
+-- the first reason to refuse a scenario, in this order
+abbrev pub refusal : Scenario → Option Refusal
+refusal s =
+    let all = system s in
+    or_first (program_refusal all all.components)
+    (or_first (not_resolved (unresolved s))
+    (let budgets = budgets s in
+    or_first (own_refusal Ram all.components budgets) (or_first (steps_refusal all.components budgets) (own_refusal Caps all.components budgets))))
+
+-- a scenario is accepted where there is none
+abbrev pub IsAccepted : Scenario → Type 0
+IsAccepted s = refusal s ≡ None
+
+-- BUDGET LINES
+
+abbrev pub budget_line : ℕ → Component → Budget → List ℕ
+budget_line version c b =
+    codes "budget " ++ c.label ++ entry (codes "own") b.own.ram ++ told version (entry (codes "caps") b.own.caps) ++ entry (codes "steps") b.steps ++ 10 ∷ []
+
+abbrev pub budget_lines_of : ℕ → List Component → List Budget → List ℕ
+budget_lines_of version (c ∷ rest) (b ∷ budgets) = budget_line version c b ++ budget_lines_of version rest budgets
+budget_lines_of version [] budgets = []
+budget_lines_of version (c ∷ rest) [] = []
+
+-- one line for each leaf in preorder
+abbrev pub budget_lines : Scenario → List ℕ
+budget_lines s = budget_lines_of s.version (system s).components (budgets s)

@@ -1,0 +1,4 @@
+pub mod Trees
+pub mod Spelling
+pub mod Interfaces
+pub mod internal

@@ -1,0 +1,15 @@
+-- A statement's bodies are smaller than the list that it stands in.
+use Rattle.std.specs.Prelude.{◌≤◌, List, [], ◌∷◌}
+use Rattle.std.proofs.Common.{arith}
+use denote.Param.Weighed.{most}
+use Rattle.gq_model.specs.machine.Program.{size}
+use Rattle.gq_program.specs.Trees.{tree_of}
+use Rattle.gq_program.specs.declared.program.Statement.{Statement}
+use Rattle.gq_program.specs.declared.program.Statement.TheVariants.{Plain, If, Loop}
+use Rattle.gq_program.specs.declared.program.Body.TheDeep.{deep-Statement}
+
+pub falls : (items : List Statement) → most deep-Statement items ≤ size (tree_of items)
+falls [] = omega arith
+falls (Plain i ∷ rest) = omega (arith, falls rest)
+falls (If arm other ∷ rest) = omega (arith, falls rest)
+falls (Loop n body ∷ rest) = omega (arith, falls rest)

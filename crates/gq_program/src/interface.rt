@@ -1,0 +1,263 @@
+// What services ask of their clients, and give them.
+ghost use Rattle.std.specs.Prelude.{◌≡◌, ◌≤◌, ◌<◌, ◌++◌, ◌∷◌, [], length, if◌then◌else◌, IsTrue, Some, None, option_copied};
+ghost use Rattle.gq_model.specs.machine.Amounts.{Ram, Caps, amount};
+ghost use Rattle.gq_model.specs.machine.Scenario.{interface_in};
+ghost use Rattle.gq_program.specs.Interfaces.{interface_of, or_none, need_caps, is_before, is_rising, are_interfaces};
+
+use crate::spelling::same_text;
+use arrayvec::ArrayVec;
+pub use gq_model::limits::{GREATEST_INTERFACES, GREATEST_LEVEL};
+use gq_model::program::Name;
+use std::marker::Model;
+
+/// What a client gives more for the next level: bytes of RAM, and capabilities (0 in version 1).
+#[derive(Clone, Copy, Debug, Default, PartialEq, Eq)]
+pub struct Upgrade {
+    ram: u32,
+    caps: u32,
+}
+
+impl Model for Upgrade {
+    ghost use Rattle.std.specs.Prelude.{◌≤◌};
+    ghost use Rattle.gq_model.specs.machine.Amounts.{Amount, amount};
+
+    ghost Value = { Amount };
+
+    ghost view = { λ u. amount u.ram u.caps };
+
+    ghost invariant = { λ u. u.caps ≤ 65536 };
+
+    ghost inverse = { λ a. record { ram = a.ram; caps = a.caps } };
+}
+
+impl Upgrade {
+    /// So many bytes, and so many capabilities.
+    pub fn new(ram: u32, caps: u32) -> Upgrade
+        requires { caps ≤ 65536 }
+        ensures { result ≡ amount ram caps }
+    {
+        Upgrade { ram, caps }
+    }
+
+    /// The bytes.
+    pub fn ram(&self) -> u32
+        ensures { result ≡ self.now.ram }
+    {
+        self.ram
+    }
+
+    /// The capabilities, at most 65536.
+    pub fn caps(&self) -> u32
+        ensures caps { result ≡ self.now.caps }
+        ensures small { result ≤ 65536 }
+    {
+        self.caps
+    }
+}
+
+/// What a service asks of its clients, and gives them.
+#[derive(Drop)]
+pub struct Interface {
+    arg: u32,
+    reply: u32,
+    need_ram: u32,
+    need_caps: Option<u32>,
+    object: u32,
+    upgrades: ArrayVec<Upgrade, GREATEST_LEVEL>,
+    buffer: u32,
+}
+
+impl Model for Interface {
+    ghost use Rattle.std.specs.Prelude.{◌≤◌};
+    ghost use Rattle.gq_model.specs.machine.Scenario.{Interface};
+    ghost use Rattle.gq_program.specs.Interfaces.{interface_of, or_none};
+
+    ghost Value = { Interface };
+
+    ghost view = { λ i. interface_of i.arg i.reply i.need_ram i.need_caps i.object i.upgrades.items i.buffer };
+
+    ghost invariant = { λ i. (or_none i.need_caps ≤ 65536) × (i.object ≤ 65536) × (i.buffer ≤ 1048576) };
+}
+
+impl Interface {
+    /// An interface without object, upgrades and buffer: the greatest argument and reply of a call, and the bytes and, in version 2
+    /// alone, the capabilities that a session needs.
+    pub fn new(arg: u32, reply: u32, need: u32, need_caps: Option<u32>) -> Interface
+        requires { or_none need_caps ≤ 65536 }
+        ensures { result ≡ interface_of arg reply need need_caps 0 [] 0 }
+    {
+        Interface {
+            arg,
+            reply,
+            need_ram: need,
+            need_caps,
+            object: 0,
+            upgrades: ArrayVec::new(),
+            buffer: 0,
+        }
+    }
+
+    /// The same with an object of so many bytes in each session.
+    pub fn with_object(self, object: u32) -> Interface
+        requires { object ≤ 65536 }
+        ensures { result ≡ record self { object = object } }
+    {
+        Interface { object, ..self }
+    }
+
+    /// The same with a buffer of so many bytes; 0 is none.
+    pub fn with_buffer(self, buffer: u32) -> Interface
+        requires { buffer ≤ 1048576 }
+        ensures { result ≡ record self { buffer = buffer } }
+    {
+        Interface { buffer, ..self }
+    }
+
+    /// The same with one level more.
+    pub fn with_upgrade(mut self, upgrade: Upgrade) -> Interface
+        requires { length self.upgrades < 3 }
+        ensures { result ≡ record self { upgrades = self.upgrades ++ upgrade ∷ [] } }
+    {
+        self.upgrades.push(upgrade);
+        self
+    }
+
+    /// The greatest argument of a call.
+    pub fn arg(&self) -> u32
+        ensures { result ≡ self.now.arg }
+    {
+        self.arg
+    }
+
+    /// The greatest reply of a call.
+    pub fn reply(&self) -> u32
+        ensures { result ≡ self.now.reply }
+    {
+        self.reply
+    }
+
+    /// The bytes that a client gives at least.
+    pub fn need(&self) -> u32
+        ensures { result ≡ self.now.need.ram }
+    {
+        self.need_ram
+    }
+
+    /// The capabilities that a client gives at least, at most 65536; `None` in version 1, which counts none.
+    pub fn need_caps(&self) -> Option<u32>
+        ensures caps { result ≡ need_caps self.now }
+        ensures small { or_none result ≤ 65536 }
+    {
+        self.need_caps
+    }
+
+    /// The capabilities that are given with a request to open, at most 65536; 0 in version 1.
+    pub fn given_caps(&self) -> u32
+        ensures caps { result ≡ self.now.need.caps }
+        ensures small { result ≤ 65536 }
+    {
+        self.need_caps.unwrap_or(0)
+    }
+
+    /// Whether capabilities are counted, as version 2 alone does.
+    pub fn counts_caps(&self) -> bool
+        ensures { self.now.counted ≡ Ram ∷ (if result then Caps ∷ [] else []) }
+    {
+        self.need_caps.is_some()
+    }
+
+    /// The bytes of the object of a session, at most 65536.
+    pub fn object(&self) -> u32
+        ensures object { result ≡ self.now.object }
+        ensures small { result ≤ 65536 }
+    {
+        self.object
+    }
+
+    /// What is given more for each level after the first, at most three.
+    pub fn upgrades(&self) -> &[Upgrade]
+        ensures upgrades { result.now ≡ self.now.upgrades }
+        ensures few { length result.now ≤ 3 }
+    {
+        self.upgrades.as_slice()
+    }
+
+    /// The bytes of the buffer, at most 1048576; 0 is none.
+    pub fn buffer(&self) -> u32
+        ensures buffer { result ≡ self.now.buffer }
+        ensures small { result ≤ 1048576 }
+    {
+        self.buffer
+    }
+}
+
+/// Whether a name comes before those of these.
+fn is_before(name: &Name, entries: &[(Name, Interface)]) -> bool
+    ensures { result ≡ is_before name.now entries.now }
+{
+    match entries {
+        [(first, _), ..] => name.as_bytes().cmp(first.as_bytes()).is_lt(),
+        [] => true,
+    }
+}
+
+/// Whether the names rise in byte order.
+fn is_rising(entries: &[(Name, Interface)]) -> bool
+    ensures { result ≡ is_rising entries.now }
+{
+    match entries {
+        [(first, _), rest @ ..] => is_before(first, rest) && is_rising(rest),
+        [] => true,
+    }
+}
+
+/// Interfaces by the names of their services: at most 64, in the byte order of the names.
+#[derive(Drop)]
+pub struct Interfaces {
+    entries: Vec<(Name, Interface)>,
+}
+
+impl Model for Interfaces {
+    ghost use Rattle.std.specs.Prelude.{IsTrue};
+    ghost use Rattle.gq_model.specs.machine.Scenario as scenario;
+    ghost use Rattle.gq_program.specs.Interfaces.{are_interfaces};
+
+    ghost Value = { scenario.Interfaces };
+
+    ghost view = { λ i. i.entries.items };
+
+    ghost invariant = { λ i. IsTrue (are_interfaces i.entries.items) };
+}
+
+impl Interfaces {
+    /// These interfaces, where they are at most 64 and stand in the order of their names, each name once.
+    pub fn new(entries: Vec<(Name, Interface)>) -> Option<Interfaces>
+        ensures { result ≡ (if are_interfaces entries.items then Some entries.items else None) }
+    {
+        if entries.len() <= GREATEST_INTERFACES && is_rising(&entries) {
+            Some(Interfaces { entries })
+        } else {
+            None
+        }
+    }
+
+    /// Each with the name of its service, in the order of the names.
+    pub fn entries(&self) -> &[(Name, Interface)]
+        ensures entries { result.now ≡ self.now }
+        ensures in_order { IsTrue (are_interfaces self.now) }
+    {
+        self.entries.as_slice()
+    }
+
+    /// The interface of the service with this name, if there is one.
+    pub fn named(&self, name: &[u8]) -> Option<&Interface>
+        ensures { option_copied result ≡ interface_in name.now self.now }
+    {
+        for (service, interface) in self.entries() {
+            if same_text(name, service.as_bytes()) {
+                return Some(interface);
+            }
+        }
+        None
+    }
+}

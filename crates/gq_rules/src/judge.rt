@@ -1,0 +1,57 @@
+// The rules for one statement.
+ghost use Rattle.std.specs.Prelude.{◌≡◌};
+ghost use Rattle.gq_model.specs.rules.Rules.{judge, judged};
+ghost use Rattle.gq_rules.specs.Judging.{after};
+
+use crate::context::Context;
+use crate::state::State;
+use gq_caps::Kind;
+use gq_model::fault::Rule;
+use gq_program::Instruction;
+
+impl<'a> Context<'a> {
+    /// What is known after an instruction, by the rules for it alone.
+    fn judge(&self, state: &mut State, instruction: &Instruction) -> Result<(), Rule>
+        ensures { after result state.new ≡ judge self.now state.old instruction.now }
+    {
+        match instruction {
+            Instruction::Say(_) => Ok(()),
+            Instruction::Out | Instruction::Drop => {
+                state.pop()?;
+                Ok(())
+            }
+            Instruction::Dup => state.duplicate(),
+            Instruction::Push(number) => state.push(*number),
+            Instruction::Divide(by) => self.divide(state, *by),
+            Instruction::Modulo(by) => self.modulo(state, *by),
+            Instruction::Get(local) => state.push(self.local(*local)),
+            Instruction::Set(local) => self.set_local(state, *local),
+            Instruction::Index(depth) => self.index(state, *depth),
+            Instruction::Combine(operator) => self.combine(state, *operator),
+            Instruction::Make(form, place, size) => {
+                self.fill(state, *place, Kind::memory(*form, *size))
+            }
+            Instruction::MakePool(place, size, count) => {
+                self.fill(state, *place, Kind::Pool(*size, *count))
+            }
+            Instruction::Load(width, place) => self.load(state, *width, *place),
+            Instruction::Store(width, place) => self.store(state, *width, *place),
+            Instruction::Free(place) => self.free(state, *place),
+            Instruction::Take(place) | Instruction::Give(place) => self.take_or_give(state, *place),
+            Instruction::Peek(place) => self.peek(state, *place),
+            Instruction::Poke(place) => self.poke(state, *place),
+            Instruction::Open(place, service, given) => self.open(state, *place, service, *given),
+            Instruction::Upgrade(place, given) => self.upgrade(state, *place, *given),
+            Instruction::Call(place) => self.call(state, *place),
+            Instruction::Close(place) => self.close(state, *place),
+        }
+    }
+
+    /// What is known after an instruction, by the rules for it and for what the session at hand costs after it.
+    pub fn judged(&self, state: &mut State, instruction: &Instruction) -> Result<(), Rule>
+        ensures { after result state.new ≡ judged self.now state.old instruction.now }
+    {
+        self.judge(state, instruction)?;
+        self.within_need(state)
+    }
+}

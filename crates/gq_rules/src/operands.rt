@@ -1,0 +1,95 @@
+// The rules for operands.
+ghost use Rattle.std.specs.Prelude.{◌≡◌};
+ghost use Rattle.gq_model.specs.machine.Program.{bytes_of};
+ghost use Rattle.gq_model.specs.rules.Rules.{bound_of, loaded_bound, judge};
+ghost use Rattle.gq_rules.specs.Judging.{after, answered};
+
+use crate::context::Context;
+use crate::state::State;
+use gq_model::fault::Rule;
+use gq_program::{Instruction, Operator, Width};
+
+/// Whether the condition holds, or else the rule that is broken.
+pub fn must(condition: bool, rule: Rule) -> Result<(), Rule>
+    ensures { answered result condition rule }
+{
+    if condition { Ok(()) } else { Err(rule) }
+}
+
+/// The greatest value that an operator makes of numbers up to these.
+pub(crate) fn bound_of(operator: Operator, a: u32, b: u32) -> u32
+    ensures { result ≡ bound_of operator a b }
+{
+    match operator {
+        Operator::Add => a.saturating_add(b),
+        Operator::Subtract => u32::MAX,
+        Operator::Multiply => a.saturating_mul(b),
+        Operator::And => a.min(b),
+        Operator::Equal | Operator::Less => 1,
+    }
+}
+
+/// The greatest value that is loaded.
+pub(crate) fn loaded_bound(width: Width) -> u32
+    ensures { result ≡ loaded_bound width }
+{
+    match width {
+        Width::Byte => 255,
+        Width::Word => u32::MAX,
+    }
+}
+
+/// The bytes that are read or written at once.
+pub(crate) fn bytes_of(width: Width) -> u64
+    ensures { result ≡ bytes_of width }
+{
+    match width {
+        Width::Byte => 1,
+        Width::Word => 4,
+    }
+}
+
+impl<'a> Context<'a> {
+    /// An operator makes one operand of two.
+    pub(crate) fn combine(&self, state: &mut State, operator: Operator) -> Result<(), Rule>
+        ensures { after result state.new ≡ judge self.now state.old (Instruction.Combine operator) }
+    {
+        let b = state.pop()?;
+        let a = state.pop()?;
+        state.push(bound_of(operator, a, b))
+    }
+
+    /// The top operand is divided by a number.
+    pub(crate) fn divide(&self, state: &mut State, by: u32) -> Result<(), Rule>
+        ensures { after result state.new ≡ judge self.now state.old (Instruction.Divide by) }
+    {
+        let a = state.pop()?;
+        state.push(a.checked_div(by).unwrap_or(0))
+    }
+
+    /// The remainder of the top operand by a number.
+    pub(crate) fn modulo(&self, state: &mut State, by: u32) -> Result<(), Rule>
+        ensures { after result state.new ≡ judge self.now state.old (Instruction.Modulo by) }
+    {
+        let a = state.pop()?;
+        state.push(a.min(by.saturating_sub(1)))
+    }
+
+    /// A local takes the top operand.
+    pub(crate) fn set_local(&self, state: &mut State, local: u8) -> Result<(), Rule>
+        ensures { after result state.new ≡ judge self.now state.old (Instruction.Set local) }
+    {
+        let a = state.pop()?;
+        must(a <= self.local(local), Rule::ValueTooLarge)
+    }
+
+    /// The round of a loop becomes an operand.
+    pub(crate) fn index(&self, state: &mut State, depth: u8) -> Result<(), Rule>
+        ensures { after result state.new ≡ judge self.now state.old (Instruction.Index depth) }
+    {
+        match self.count(depth) {
+            Some(count) => state.push(u32::from(count).saturating_sub(1)),
+            None => Err(Rule::MissingOperand),
+        }
+    }
+}

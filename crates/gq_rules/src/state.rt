@@ -1,0 +1,203 @@
+// What is known before a statement.
+ghost use Rattle.std.specs.Prelude.{◌≡◌, [], ◌∷◌, ◌&&◌, IfOk, IfErr, OnOk, Ok, option_map, slice_get};
+ghost use Rattle.gq_model.specs.rules.Kinds.{with_kind};
+ghost use Rattle.gq_model.specs.rules.Rules.{popped, pushed};
+ghost use Rattle.gq_model.specs.rules.Rules as Rules;
+ghost use Rattle.gq_model.specs.rules.Flow.{is_nil, none_left, chosen_from, join};
+ghost use Rattle.gq_caps.specs.Known.{known, all_known};
+ghost use Rattle.gq_rules.specs.Judging.{after, with_operand};
+
+use crate::operands::must;
+use arrayvec::ArrayVec;
+use gq_caps::{Bank, Kind, are_same};
+use gq_model::fault::Rule;
+use gq_model::limits::{OPERANDS, OWN_SLOTS, SESSION_SLOTS};
+use gq_model::program::Place;
+use std::marker::Model;
+
+/// What is known before a statement: the kinds of the own slots and of the session's, and the greatest value of each operand, of
+/// which the first is the top one. The fields have the top operand last.
+#[derive(Drop)]
+pub struct State {
+    own: Bank<OWN_SLOTS>,
+    bank: Bank<SESSION_SLOTS>,
+    bounds: ArrayVec<u32, OPERANDS>,
+}
+
+impl Model for State {
+    ghost use Rattle.std.specs.Prelude.{reverse};
+    ghost use Rattle.gq_model.specs.rules.Kinds.{State};
+    ghost use Rattle.gq_caps.specs.Known.{all_known};
+
+    ghost Value = { State };
+
+    ghost view = { λ s. record { own = all_known s.own; bank = all_known s.bank; bounds = reverse s.bounds.items } };
+}
+
+impl State {
+    /// No operand is there.
+    pub fn new(own: Bank<OWN_SLOTS>, bank: Bank<SESSION_SLOTS>) -> State
+        ensures { result ≡ record { own = all_known own; bank = all_known bank; bounds = [] } }
+    {
+        State {
+            own,
+            bank,
+            bounds: ArrayVec::new(),
+        }
+    }
+
+    /// One operand is there, of which this is the greatest value.
+    pub fn with_operand(own: Bank<OWN_SLOTS>, bank: Bank<SESSION_SLOTS>, bound: u32) -> State
+        ensures { result ≡ record { own = all_known own; bank = all_known bank; bounds = bound ∷ [] } }
+    {
+        let mut bounds = ArrayVec::new();
+        bounds.push(bound);
+        State { own, bank, bounds }
+    }
+
+    /// The same once more.
+    pub fn copy(&self) -> State
+        ensures { result ≡ self.now }
+    {
+        let mut bounds = ArrayVec::new();
+        match bounds.try_extend_from_slice(self.bounds.as_slice()) {
+            Ok(()) => State {
+                own: self.own.copy(),
+                bank: self.bank.copy(),
+                bounds,
+            },
+            Err(_) => unreachable!(),
+        }
+    }
+
+    /// The same without operands.
+    pub fn without_operands(&self) -> State
+        ensures { result ≡ record self.now { bounds = [] } }
+    {
+        State::new(self.own.copy(), self.bank.copy())
+    }
+
+    /// The kinds of the own slots.
+    pub fn own(&self) -> &Bank<OWN_SLOTS>
+        ensures { all_known result.now ≡ self.now.own }
+    {
+        &self.own
+    }
+
+    /// The kinds of the session's slots.
+    pub fn bank(&self) -> &Bank<SESSION_SLOTS>
+        ensures { all_known result.now ≡ self.now.bank }
+    {
+        &self.bank
+    }
+
+    /// The kind of an own slot, where there is one of this number.
+    pub fn own_kind(&self, slot: u8) -> Option<Kind>
+        ensures { option_map known result ≡ slice_get self.now.own slot }
+    {
+        self.own.get(slot)
+    }
+
+    /// The kind of a slot of the session, where there is one of this number.
+    pub fn shared_kind(&self, slot: u8) -> Option<Kind>
+        ensures { option_map known result ≡ slice_get self.now.bank slot }
+    {
+        self.bank.get(slot)
+    }
+
+    /// A slot that is there is of this kind from now on.
+    pub fn set(&mut self, place: Place, kind: Kind)
+        ensures { self.new ≡ with_kind self.old place (known kind) }
+    {
+        match place {
+            Place::Own(slot) => self.own.set(slot, kind),
+            Place::Shared(slot) => self.bank.set(slot, kind),
+            Place::Object => {}
+        }
+    }
+
+    /// Takes the top operand off, and answers its greatest value.
+    pub fn pop(&mut self) -> Result<u32, Rule>
+        ensures popped { IfOk result (λ a. self.old ≡ with_operand a self.new) }
+        ensures missing { IfErr result (λ rule. (rule ≡ Rule.MissingOperand) × (self.old.bounds ≡ [])) }
+    {
+        match self.bounds.pop() {
+            Some(bound) => Ok(bound),
+            None => Err(Rule::MissingOperand),
+        }
+    }
+
+    /// Puts an operand on top, of which this is the greatest value.
+    pub fn push(&mut self, bound: u32) -> Result<(), Rule>
+        ensures { after result self.new ≡ pushed bound self.old }
+    {
+        if self.bounds.len() < OPERANDS {
+            self.bounds.push(bound);
+            Ok(())
+        } else {
+            Err(Rule::StackTooDeep)
+        }
+    }
+
+    /// Puts the top operand on top once more.
+    pub fn duplicate(&mut self) -> Result<(), Rule>
+        ensures { after result self.new ≡ popped self.old (λ a t. pushed a self.old) }
+    {
+        let top = self.pop()?;
+        self.push(top)?;
+        self.push(top)
+    }
+
+    /// Whether no operand is left.
+    pub fn none_left(&self) -> Result<(), Rule>
+        ensures judged { after result self.now ≡ none_left self.now }
+        ensures none { OnOk result (self.now.bounds ≡ []) }
+    {
+        if self.is_spent() {
+            Ok(())
+        } else {
+            Err(Rule::LeftoverOperand)
+        }
+    }
+
+    /// Whether no operand is there.
+    pub fn is_spent(&self) -> bool
+        ensures { result ≡ is_nil self.now.bounds }
+    {
+        self.bounds.is_empty()
+    }
+
+    /// Whether no operand is left here, and none was left of another way that leads here.
+    pub fn none_left_of_both(&self, other_is_spent: bool) -> Result<(), Rule>
+        ensures { after result self.now ≡ Rules.must (other_is_spent && is_nil self.now.bounds) Rule.LeftoverOperand (Ok self.now) }
+    {
+        must(other_is_spent && self.is_spent(), Rule::LeftoverOperand)
+    }
+
+    /// No operand is there from now on.
+    pub fn drop_operands(&mut self)
+        ensures { self.new ≡ record self.old { bounds = [] } }
+    {
+        self.bounds.clear();
+    }
+
+    /// Takes the condition of an `if` off, which is to be the only operand.
+    pub fn choose(&mut self) -> Result<(), Rule>
+        ensures judged { after result self.new ≡ chosen_from self.old }
+        ensures none { OnOk result (self.new.bounds ≡ []) }
+    {
+        self.pop()?;
+        self.none_left()
+    }
+
+    /// Whether two ways that lead here leave the same kinds in all slots, and no operand.
+    pub fn join(&self, other: &State) -> Result<(), Rule>
+        ensures { after result self.now ≡ join self.now other.now }
+    {
+        let none_left = self.is_spent() && other.is_spent();
+        let is_same = are_same(self.own.kinds(), other.own.kinds())
+            && are_same(self.bank.kinds(), other.bank.kinds());
+        must(none_left, Rule::LeftoverOperand)?;
+        must(is_same, Rule::JoinDiffers)
+    }
+}

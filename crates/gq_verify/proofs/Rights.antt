@@ -1,0 +1,96 @@
+-- Statements that break no rule, one after the other.
+use Rattle.std.proofs.Common.{◌≡◌, ◌<◌, ◌+◌, ℕ, List, [], ◌∷◌, drop, length, get_or, refl, ap, sym, subst, ◌∙◌, Ok, Err, Some, None}
+use Rattle.std.proofs.Common.{◌-◌, ◌^◌, min, arith}
+use Rattle.gq_model.specs.machine.Program.{Statements, Done, Do, If, Loop, size, section_in}
+use Rattle.gq_model.specs.declared.program.Section.{Section}
+use Rattle.gq_model.specs.declared.program.Instruction.{Instruction}
+use Rattle.gq_model.specs.declared.fault.Rule.{Rule}
+use Rattle.gq_model.specs.declared.fault.Rule.TheVariants.{LeftoverOperand}
+use Rattle.gq_model.specs.rules.Kinds.{State, Context, Subject, inside}
+use Rattle.gq_model.specs.rules.Rules.{Judged, judged}
+use Rattle.gq_model.specs.rules.Flow.{Flowed, at, later, flow_then, is_nil, chosen_from, none_left, flow, context, start_of, body}
+use Rattle.gq_model.specs.rules.Verdict.{program_fault}
+use Rattle.gq_model.specs.machine.Program.{body_of}
+use Rattle.gq_program.specs.Trees.{tree_of}
+use Rattle.gq_program.specs.declared.program.Statement.{Statement}
+use Rattle.gq_flow.specs.internal.Steps.{chosen, next_state}
+use Rattle.gq_flow.proofs.Flows.{flow_here}
+use Rattle.gq_flow.proofs.Points.{then_ok, later_ok, must_ok, chosen_is, next_is}
+use Rattle.gq_verify.specs.internal.Requesting.{IsRight, requests_in}
+use Rattle.gq_verify.specs.Counting.{saturated}
+use Rattle.gq_model.specs.rules.Budgets.{requests}
+use Rattle.gq_program.specs.declared.program.Statement.TheVariants.{Plain}
+use Rattle.gq_program.specs.declared.program.Statement.TheVariants as statement
+use Rattle.gq_model.proofs.Rules_laws.{section_flows, at_ok}
+use Rattle.gq_program.proofs.Sizes.{here_is}
+
+-- the statement that stands there breaks none, nor do those after it
+pub right_here : (c : Context) (s : State) (items : List Statement) (i : ℕ) (st : Statement) → i < length items → st ≡ get_or items i st →
+    IsRight c s (tree_of (drop i items)) → IsRight c s (tree_of (st ∷ [])) × IsRight c (next_state c s st) (tree_of (drop (i + 1) items))
+right_here c s items i st less e (t, ok) =
+    let h = flow_here c s items i st 0 less e in
+    let k = λ (u : State). later (0 + size (tree_of (st ∷ []))) (flow c u (tree_of (drop (i + 1) items))) in
+    let p = then_ok (later 0 (flow c s (tree_of (st ∷ [])))) k t (sym (ap (later 0) ok) ∙ h) in
+    let here = later_ok 0 (flow c s (tree_of (st ∷ []))) p.0 (sym p.1) in
+    let rest = later_ok (0 + size (tree_of (st ∷ []))) (flow c p.0 (tree_of (drop (i + 1) items))) t p.2 in
+    ((p.0, here), subst (λ (u : State). IsRight c u (tree_of (drop (i + 1) items))) (next_is c s p.0 st 0 (sym p.1)) (t, rest))
+
+requests_first : (v : List ℕ) (r : Section) (c : Context) (s : State) (st : Statement) (rest : List Statement) →
+    requests v r c s (tree_of (st ∷ rest)) ≡ requests_in v r c s st + requests v r c (next_state c s st) (tree_of rest)
+requests_first v r c s (Plain i) rest = refl
+requests_first v r c s (statement.If arm other) rest = refl
+requests_first v r c s (statement.Loop count body) rest = refl
+
+-- what has been counted, with one statement more
+pub summed_on : (v : List ℕ) (r : Section) (c : Context) (s u : State) (items : List Statement) (i : ℕ) (st : Statement) (sum here next all : ℕ) →
+    i < length items → st ≡ get_or items i st → u ≡ next_state c s st → here ≡ saturated (requests_in v r c s st) → next ≡ min (sum + here) (2 ^ 64 - 1) →
+    saturated (sum + requests v r c s (tree_of (drop i items))) ≡ all → saturated (next + requests v r c u (tree_of (drop (i + 1) items))) ≡ all
+summed_on v r c s u items i st sum here next all less e at h p q =
+    let a = ap (λ l. requests v r c s (tree_of l)) (here_is items i st less e) in
+    let b = requests_first v r c s st (drop (i + 1) items) in
+    let d = ap (λ (u : State). requests v r c u (tree_of (drop (i + 1) items))) at in
+    omega (arith, a, b, d, h, p, q)
+
+-- an instruction that breaks a rule is not right
+pub plain_right : (c : Context) (s : State) (i : Instruction) (rule : Rule) (A : Type 0) → Err rule ≡ judged c s i → IsRight c s (Do i Done) → A
+plain_right c s i rule A e (t, ok) = by (judged c s i) e ok where
+  by : (j : Judged) → Err rule ≡ j → flow_then (at 1 j) (λ t. later 1 (Ok t)) ≡ Ok t → A
+  by (Ok u) e ok = cc
+  by (Err r) e ok = cc
+
+-- both arms of an `if` are right
+pub arms_right : (c : Context) (s : State) (arm other : Statements) → IsRight c s (If arm other Done) → IsRight c (chosen s) arm × IsRight c (chosen s) other
+arms_right c s arm other (t, ok) =
+    let p = then_ok (at 1 (chosen_from s)) _ t (sym ok) in
+    let u = chosen_is s p.0 (at_ok 1 (chosen_from s) p.0 p.1) in
+    let q = then_ok (later 1 (flow c p.0 arm)) _ t p.2 in
+    let r = then_ok (later (1 + size arm) (flow c p.0 other)) _ t q.2 in
+    let x = later_ok 1 (flow c p.0 arm) q.0 (sym q.1) in
+    let y = later_ok (1 + size arm) (flow c p.0 other) r.0 (sym r.1) in
+    (subst (λ (u : State). IsRight c u arm) u (q.0, x), subst (λ (u : State). IsRight c u other) u (r.0, y))
+
+-- and so is the body of a loop
+pub round_right : (c : Context) (s : State) (count : ℕ) (body : Statements) → IsRight c s (Loop count body Done) → IsRight (inside c count) s body
+round_right c s count body (t, ok) =
+    let p = then_ok (at 1 (none_left s)) _ t (sym ok) in
+    let u = must_ok (is_nil s.bounds) LeftoverOperand s p.0 (at_ok 1 (none_left s) p.0 p.1) in
+    let q = then_ok (later 1 (flow (inside c count) p.0 body)) _ t p.2 in
+    let x = later_ok 1 (flow (inside c count) p.0 body) q.0 (sym q.1) in
+    subst (λ (u : State). IsRight (inside c count) u body) u (q.0, x)
+
+-- a walk that breaks a rule is not right
+pub broken_right : (c : Context) (s : State) (b : Statements) (f : Rule × ℕ) (n : ℕ) (A : Type 0) → Err f ≡ later n (flow c s b) → IsRight c s b → A
+broken_right c s b f n A e (t, ok) = by (flow c s b) e ok where
+  by : (x : Flowed) → Err f ≡ later n x → x ≡ Ok t → A
+  by (Ok u) e ok = cc
+  by (Err g) e ok = cc
+
+-- SECTIONS OF A PROGRAM WITHOUT A FAULT
+
+-- no section of it breaks a rule
+pub section_right : (v : Subject) (section : Section) (b : Statements) (c : Context) (s : State) → program_fault v ≡ None →
+    section_in section v.program.sections ≡ Some b → c ≡ context v section → s ≡ start_of v section → IsRight c s b
+section_right v section b c s none is at start =
+    let f = section_flows v section b none is in
+    let here = subst (λ (b : Statements). IsRight (context v section) (start_of v section) b) (ap body_of is) (f.0, f.2) in
+    subst (λ (s : State). IsRight c s b) (sym start) (subst (λ (c : Context). IsRight c (start_of v section) b) (sym at) here)

@@ -1,0 +1,5 @@
+pub mod Walks
+pub mod Mains
+pub mod Starting
+pub mod Requesting
+pub mod Keeping
