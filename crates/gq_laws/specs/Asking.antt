@@ -3,14 +3,14 @@ use Rattle.std.specs.Prelude.{◌≡◌, ◌≤◌, ℕ, ◌==◌, if◌then◌e
 use Rattle.gq_model.specs.declared.program.Instruction.{Instruction}
 use Rattle.gq_model.specs.declared.program.Instruction.TheVariants.{Open, Upgrade, Call, Close}
 use Rattle.gq_model.specs.declared.phase.Phase.TheVariants.{Blocked}
-use Rattle.gq_model.specs.Scenario.{System, interface_in, number_of}
-use Rattle.gq_model.specs.Routes.{server_of}
-use Rattle.gq_model.specs.World.{Link, Spot, Session, Ask, Ask_open, Ask_upgrade, Ask_close, Ask_call, Leaf, World, session_at, slot_at}
-use Rattle.gq_model.specs.Doing.{Doing}
-use Rattle.gq_model.specs.Step.{section_for, instruct}
-use Rattle.gq_model.specs.Kinds.{Kind, Link_kind, State, Context}
-use Rattle.gq_model.specs.Rules.{judged}
-use Rattle.gq_model.specs.Kept.{level_then, kind_replied}
+use Rattle.gq_model.specs.machine.Scenario.{System, interface_in, number_of}
+use Rattle.gq_model.specs.machine.Routes.{server_of}
+use Rattle.gq_model.specs.machine.World.{Link, Spot, Session, Ask, Ask_open, Ask_upgrade, Ask_close, Ask_call, Leaf, World, session_at, slot_at}
+use Rattle.gq_model.specs.machine.Doing.{Doing}
+use Rattle.gq_model.specs.machine.Step.{section_for, instruct}
+use Rattle.gq_model.specs.rules.Kinds.{Kind, Link_kind, State, Context}
+use Rattle.gq_model.specs.rules.Rules.{judged}
+use Rattle.gq_laws.specs.Kept.{level_then, kind_replied}
 use Rattle.gq_laws.specs.Typed.{Meets}
 use Rattle.gq_laws.specs.Statements.{IsSafe}
 

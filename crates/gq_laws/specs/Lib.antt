@@ -1,19 +1,22 @@
-pub mod Turns
-pub mod Reached
-pub mod Shapes
-pub mod Links
+-- what is taken for granted of scenarios, and the worlds that they come to
 pub mod Names
 pub mod Resolved
+pub mod Sound
+pub mod Reached
+-- what holds of turns and worlds, whatever the rules of the verifier say
+pub mod Turns
+pub mod Shapes
+pub mod Links
+-- where leaves stand by the rules of the verifier, and what statements, requests and replies do then
+pub mod Kept
 pub mod Typed
+pub mod Moves
 pub mod Statements
 pub mod Asking
 pub mod Sections
 pub mod Replies
-pub mod Left
-pub mod Moves
-pub mod Uncounted
-pub mod Lending
-pub mod Holding
-pub mod Counting
-pub mod Sound
 pub mod Typing
+-- what stands in each world of a scenario that is accepted
+pub mod Stands
+-- what only proofs and invariants speak of
+pub mod internal

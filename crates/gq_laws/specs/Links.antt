@@ -2,9 +2,10 @@
 use Rattle.std.specs.Prelude.{◌≡◌, ℕ, ◌+◌, ◌==◌, ◌⊎◌, Bool, true, false, not, List, [], ◌∷◌, Option, Some, None, slice_get}
 use Rattle.gq_model.specs.declared.program.Section.{Section}
 use Rattle.gq_model.specs.declared.program.Section.TheVariants.{Main, Opening, Upgrading, Calling, Closing}
-use Rattle.gq_model.specs.Scenario.{System, Component}
-use Rattle.gq_model.specs.Routes.{server_of}
-use Rattle.gq_model.specs.World.{Slot, Empty, Waiting, Bytes, Pool, Link, Spot, In_leaf, In_session, In_object, Session, Ask, Ask_open, Ask_upgrade, Ask_close, Ask_call, Request, Hand, Leaf, World, session_at, slot_at}
+use Rattle.gq_model.specs.machine.Scenario.{System, Component}
+use Rattle.gq_model.specs.machine.Routes.{server_of}
+use Rattle.gq_model.specs.machine.World.{Slot, Empty, Waiting, Bytes, Pool, Link, Spot, In_leaf, In_session, In_object, Session, Ask, Ask_open, Ask_upgrade}
+use Rattle.gq_model.specs.machine.World.{Ask_close, Ask_call, Request, Hand, Leaf, World, session_at, slot_at}
 use Rattle.gq_model.specs.declared.phase.Phase.{Phase}
 use Rattle.gq_model.specs.declared.phase.Phase.TheVariants.{Pending, Running, Blocked, Serving, Handling, Exited}
 use Rattle.gq_laws.specs.Shapes.{Each}
@@ -164,9 +165,12 @@ pub record AreLinked (system : System) (l : Links) : Type 0 where
   pub handles : (x : ℕ) (phase : Phase) (hand : Hand) → l.stances x ≡ Some (stance phase (Some hand)) → Handles l x hand
   pub fits : (x : ℕ) (t : Stance) → l.stances x ≡ Some t → Fits t.phase t.hand
   -- a leaf is blocked just where a slot of its waits, and then one alone
-  pub waits : (k : ℕ) (s : Session) → l.sessions k ≡ Some s → l.slots s.spot ≡ Some (Waits k) → (hand : Option Hand) × (l.stances s.client ≡ Some (stance Blocked hand))
-  pub alone : (k m : ℕ) (s t : Session) → l.sessions k ≡ Some s → l.sessions m ≡ Some t → l.slots s.spot ≡ Some (Waits k) → l.slots t.spot ≡ Some (Waits m) → s.client ≡ t.client → k ≡ m
-  pub blocked : (x : ℕ) (hand : Option Hand) → l.stances x ≡ Some (stance Blocked hand) → (k : ℕ) × (s : Session) × (l.sessions k ≡ Some s) × (s.client ≡ x) × (l.slots s.spot ≡ Some (Waits k))
+  pub waits : (k : ℕ) (s : Session) → l.sessions k ≡ Some s → l.slots s.spot ≡ Some (Waits k)
+      → (hand : Option Hand) × (l.stances s.client ≡ Some (stance Blocked hand))
+  pub alone : (k m : ℕ) (s t : Session) → l.sessions k ≡ Some s → l.sessions m ≡ Some t → l.slots s.spot ≡ Some (Waits k) → l.slots t.spot ≡ Some (Waits m)
+      → s.client ≡ t.client → k ≡ m
+  pub blocked : (x : ℕ) (hand : Option Hand) → l.stances x ≡ Some (stance Blocked hand)
+      → (k : ℕ) × (s : Session) × (l.sessions k ≡ Some s) × (s.client ≡ x) × (l.slots s.spot ≡ Some (Waits k))
 
 -- in this world sessions, slots, requests and hands agree
 abbrev pub IsLinkedWorld : System → World → Type 0

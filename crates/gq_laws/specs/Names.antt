@@ -1,6 +1,6 @@
 -- What a reader of scenarios makes sure of.
 use Rattle.std.specs.Prelude.{◌≡◌, ℕ, Some, slice_get}
-use Rattle.gq_model.specs.Scenario.{Scenario, Component, components}
+use Rattle.gq_model.specs.machine.Scenario.{Scenario, Component, components}
 
 -- no two leaves have the same name
 abbrev pub NamesDiffer : Scenario → Type 0

@@ -1,8 +1,8 @@
 -- The worlds that a scenario comes to.
 use Rattle.std.specs.Prelude.{◌≡◌, ℕ, List}
-use Rattle.gq_model.specs.Scenario.{Scenario, system}
-use Rattle.gq_model.specs.World.{World}
-use Rattle.gq_model.specs.Run.{run}
+use Rattle.gq_model.specs.machine.Scenario.{Scenario, system}
+use Rattle.gq_model.specs.machine.World.{World}
+use Rattle.gq_model.specs.machine.Run.{run}
 
 -- a run over some turns ends in this world
 pub record IsReached (s : Scenario) (w : World) : Type 0 where

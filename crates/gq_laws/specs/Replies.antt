@@ -3,13 +3,13 @@ use Rattle.std.specs.Prelude.{◌≡◌, ◌≢◌, ◌≤◌, ℕ, ◌==◌, if
 use Rattle.gq_model.specs.declared.program.Section.{Section}
 use Rattle.gq_model.specs.declared.program.Section.TheVariants.{Main, Opening, Upgrading, Calling, Closing}
 use Rattle.gq_model.specs.declared.phase.Phase.TheVariants.{Blocked}
-use Rattle.gq_model.specs.Scenario.{number_of}
-use Rattle.gq_model.specs.World.{Slot, Empty, Waiting, Link, Spot, In_leaf, In_session, In_object, Session, Hand, Leaf, World, session_at, slot_at}
-use Rattle.gq_model.specs.Doing.{Doing, Event}
-use Rattle.gq_model.specs.Step.{serving, resumed, section_ended}
-use Rattle.gq_model.specs.Kinds.{Kind, State, Context}
-use Rattle.gq_model.specs.Flow.{section_end}
-use Rattle.gq_model.specs.Kept.{kind_replied}
+use Rattle.gq_model.specs.machine.Scenario.{number_of}
+use Rattle.gq_model.specs.machine.World.{Slot, Empty, Waiting, Link, Spot, In_leaf, In_session, In_object, Session, Hand, Leaf, World, session_at, slot_at}
+use Rattle.gq_model.specs.machine.Doing.{Doing, Event}
+use Rattle.gq_model.specs.machine.Step.{serving, resumed, section_ended}
+use Rattle.gq_model.specs.rules.Kinds.{Kind, State, Context}
+use Rattle.gq_model.specs.rules.Flow.{section_end}
+use Rattle.gq_laws.specs.Kept.{kind_replied}
 use Rattle.gq_laws.specs.Typed.{AreKinds, BankMeets, Meets}
 use Rattle.gq_laws.specs.Statements.{bare, StandElse}
 
@@ -114,7 +114,8 @@ KeepsBank promised k old new =
 -- the client stands where it stood, with the reply to a call, and so do all others
 pub record Resumes (promised : ℕ → Option Kind) (c : Context) (d : Doing) (hand : Hand) (s : Session) (w : World) : Type 0 where
   pub client : (e : Context) (state : State) (old : Leaf) → slice_get d.world.leaves s.client ≡ Some old → Meets promised e state d.world old
-      → (leaf : Leaf) × (slice_get w.leaves s.client ≡ Some leaf) × Meets promised e (once_replied (number_of c.subject.provided (λ i. i.reply)) hand.section state) w leaf
+      → (leaf : Leaf) × (slice_get w.leaves s.client ≡ Some leaf)
+      × Meets promised e (once_replied (number_of c.subject.provided (λ i. i.reply)) hand.section state) w leaf
   pub others : StandElse promised d w
   pub sessions : KeepsBank promised hand.session d.world w
 

@@ -1,7 +1,7 @@
 -- Scenarios whose quanta fit, whose leaves start after fitting siblings, and whose routes lead to leaves without cycle.
 use Rattle.std.specs.Prelude.{◌≡◌, None}
-use Rattle.gq_model.specs.Scenario.{Scenario}
-use Rattle.gq_model.specs.Resolve.{unresolved}
+use Rattle.gq_model.specs.machine.Scenario.{Scenario}
+use Rattle.gq_model.specs.rules.Resolve.{unresolved}
 use Rattle.gq_laws.specs.Names.{NamesDiffer}
 
 -- nothing of this is at fault, and no two leaves have the same name

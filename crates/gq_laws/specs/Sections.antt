@@ -3,17 +3,17 @@ use Rattle.std.specs.Prelude.{◌≡◌, ℕ, List, [], length, Option, Some, Ok
 use Rattle.gq_model.specs.declared.program.Form.TheVariants.{Slice}
 use Rattle.gq_model.specs.declared.program.Section.{Section}
 use Rattle.gq_model.specs.declared.phase.Phase.TheVariants.{Handling}
-use Rattle.gq_model.specs.Program.{Statements, section_in}
-use Rattle.gq_model.specs.Scenario.{interface_in, number_of}
-use Rattle.gq_model.specs.Use.{subject}
-use Rattle.gq_model.specs.World.{Slot, Session, Ask, Ask_open, Request, Leaf, World, session_at}
+use Rattle.gq_model.specs.machine.Program.{Statements, section_in}
+use Rattle.gq_model.specs.machine.Scenario.{interface_in, number_of}
+use Rattle.gq_model.specs.rules.Use.{subject}
+use Rattle.gq_model.specs.machine.World.{Slot, Session, Ask, Ask_open, Request, Leaf, World, session_at}
 use Rattle.gq_model.specs.declared.fault.Wrong.{Wrong}
 use Rattle.gq_model.specs.declared.fault.Wrong.TheVariants.{ExceededQuota}
-use Rattle.gq_model.specs.Doing.{Doing}
-use Rattle.gq_model.specs.Step.{section_for, accept, section_ended}
-use Rattle.gq_model.specs.Kinds.{Kind, Memory, State, Subject, Context}
-use Rattle.gq_model.specs.Flow.{context, body, own_after, bank_before, start_of, section_end}
-use Rattle.gq_model.specs.Kept.{level_then}
+use Rattle.gq_model.specs.machine.Doing.{Doing}
+use Rattle.gq_model.specs.machine.Step.{section_for, accept, section_ended}
+use Rattle.gq_model.specs.rules.Kinds.{Kind, Memory, State, Subject, Context}
+use Rattle.gq_model.specs.rules.Flow.{context, body, own_after, bank_before, start_of, section_end}
+use Rattle.gq_laws.specs.Kept.{level_then}
 use Rattle.gq_laws.specs.Typed.{IsKind, AreKinds, Meets}
 use Rattle.gq_laws.specs.Statements.{IsSafe}
 use Rattle.gq_laws.specs.Asking.{IsWithin}

@@ -1,7 +1,7 @@
 -- How many of each thing a world has.
 use Rattle.std.specs.Prelude.{◌≡◌, ℕ, ◌<◌, List, [], ◌∷◌, length, Option, Some, None}
-use Rattle.gq_model.specs.Scenario.{System}
-use Rattle.gq_model.specs.World.{Session, Leaf, World}
+use Rattle.gq_model.specs.machine.Scenario.{System}
+use Rattle.gq_model.specs.machine.World.{Session, Leaf, World}
 
 -- so it is for each of these
 abbrev pub Each : {A : Type 0} → (A → Type 0) → List A → Type 0

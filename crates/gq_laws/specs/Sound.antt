@@ -1,9 +1,9 @@
 -- Scenarios as the readers give them, and those of them that are accepted.
 use Rattle.std.specs.Prelude.{◌≡◌, ◌≤◌, ℕ, List, length, Some, slice_get}
-use Rattle.gq_model.specs.Amounts.{counted_in}
-use Rattle.gq_model.specs.Code.{IsProgram}
-use Rattle.gq_model.specs.Scenario.{Interface, Scenario, Component, components, interface_in}
-use Rattle.gq_model.specs.Accept.{IsAccepted}
+use Rattle.gq_model.specs.machine.Amounts.{counted_in}
+use Rattle.gq_model.specs.texts.Code.{IsProgram}
+use Rattle.gq_model.specs.machine.Scenario.{Interface, Scenario, Component, components, interface_in}
+use Rattle.gq_model.specs.rules.Accept.{IsAccepted}
 use Rattle.gq_laws.specs.Names.{NamesDiffer}
 
 -- what a reader of scenarios makes sure of

@@ -1,22 +1,22 @@
 -- Steps inside a section that ask nothing of a session: they do what the rules tell, only want of quota stops them, and others are left alone.
 use Rattle.std.specs.Prelude.{◌≡◌, ◌≢◌, ℕ, ◌<◌, true, List, [], ◌∷◌, length, Option, Some, None, Ok, Err, slice_get}
-use Rattle.gq_model.specs.Lists.{all_of}
+use Rattle.gq_model.specs.machine.Lists.{all_of}
 use Rattle.gq_model.specs.declared.program.Place.{Place}
 use Rattle.gq_model.specs.declared.program.Instruction.{Instruction}
 use Rattle.gq_model.specs.declared.program.Instruction.TheVariants.{Open, Upgrade, Call, Close}
 use Rattle.gq_model.specs.declared.program.Section.TheVariants.{Main}
 use Rattle.gq_model.specs.declared.fault.Wrong.{Wrong}
 use Rattle.gq_model.specs.declared.fault.Wrong.TheVariants.{ExceededQuota}
-use Rattle.gq_model.specs.Program.{Statements, Done, Do, If, Loop}
-use Rattle.gq_model.specs.Operands.{operands, in_range}
-use Rattle.gq_model.specs.Scenario.{Component, interface_in}
-use Rattle.gq_model.specs.World.{Empty, Waiting, Spot, Session, Hand, Round, Leaf, World, session_at, slot_at, spot_of, start_leaf}
-use Rattle.gq_model.specs.Doing.{Doing, Event, Stepped}
-use Rattle.gq_model.specs.Step.{instruct, perform}
-use Rattle.gq_model.specs.Kinds.{Kind, State, Context, Subject}
-use Rattle.gq_model.specs.Flow.{context, start_of}
-use Rattle.gq_model.specs.Rules.{judged}
-use Rattle.gq_model.specs.Kept.{within, Continues}
+use Rattle.gq_model.specs.machine.Program.{Statements, Done, Do, If, Loop}
+use Rattle.gq_model.specs.texts.Operands.{operands, in_range}
+use Rattle.gq_model.specs.machine.Scenario.{Component, interface_in}
+use Rattle.gq_model.specs.machine.World.{Empty, Waiting, Spot, Session, Hand, Round, Leaf, World, session_at, slot_at, spot_of, start_leaf}
+use Rattle.gq_model.specs.machine.Doing.{Doing, Event, Stepped}
+use Rattle.gq_model.specs.machine.Step.{instruct, perform}
+use Rattle.gq_model.specs.rules.Kinds.{Kind, State, Context, Subject}
+use Rattle.gq_model.specs.rules.Flow.{context, start_of}
+use Rattle.gq_model.specs.rules.Rules.{judged}
+use Rattle.gq_laws.specs.Kept.{within, Continues}
 use Rattle.gq_laws.specs.Moves.{Moves}
 use Rattle.gq_laws.specs.Typed.{StaysOfKind, StayOfKind, Meets, PromisesLinks, SharesBuffers}
 

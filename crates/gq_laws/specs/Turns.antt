@@ -1,11 +1,11 @@
 -- What a turn does to the leaf that takes it, and to no other.
 use Rattle.std.specs.Prelude.{◌≡◌, ℕ, suc, Bool, true, false, List, length, map, Option, Some, None, Ok, is_some, slice_get, slice_index, slice_set}
-use Rattle.gq_model.specs.Scenario.{System, Component}
-use Rattle.gq_model.specs.World.{Leaf, World}
+use Rattle.gq_model.specs.machine.Scenario.{System, Component}
+use Rattle.gq_model.specs.machine.World.{Leaf, World}
 use Rattle.gq_model.specs.declared.phase.Phase.{Phase}
 use Rattle.gq_model.specs.declared.phase.Phase.TheVariants.{Pending, Running, Blocked, Serving, Handling, Exited}
-use Rattle.gq_model.specs.Doing.{Event, Idle}
-use Rattle.gq_model.specs.Step.{oldest, next}
+use Rattle.gq_model.specs.machine.Doing.{Event, Idle}
+use Rattle.gq_model.specs.machine.Step.{oldest, next}
 
 -- a leaf that runs or handles a request can take a step, and one that serves if a request waits for it
 abbrev pub runs : World → ℕ → Phase → Bool
@@ -40,4 +40,5 @@ steps_of w = map (λ leaf. leaf.steps) w.leaves
 -- a step raises that leaf's number by one, and no other's
 abbrev pub CountsSteps : System → World → ℕ → Type 0
 CountsSteps system w x =
-    (new : World) (event : Event) → can_run system w x ≡ true → next system w x ≡ Ok (new, event) → steps_of new ≡ slice_set (steps_of w) x (suc (slice_index (steps_of w) x))
+    (new : World) (event : Event) → can_run system w x ≡ true → next system w x ≡ Ok (new, event)
+    → steps_of new ≡ slice_set (steps_of w) x (suc (slice_index (steps_of w) x))

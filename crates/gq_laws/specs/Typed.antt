@@ -2,12 +2,12 @@
 use Rattle.std.specs.Prelude.{◌≡◌, true, false, ℕ, ◌<◌, List, [], ◌∷◌, length, Option, Some, None, slice_get}
 use Rattle.gq_model.specs.declared.program.Form.TheVariants.{Slice, Space}
 use Rattle.gq_model.specs.declared.program.Section.{Section}
-use Rattle.gq_model.specs.Amounts.{Amount}
-use Rattle.gq_model.specs.Scenario.{System, number_of}
-use Rattle.gq_model.specs.World.{Slot, Empty, Waiting, Bytes, Pool, Link, Spot, Session, Hand, Round, Leaf, World, session_at, slot_at}
-use Rattle.gq_model.specs.Memory.{room, buffer_of}
-use Rattle.gq_model.specs.Kinds.{Kind, Empty_kind, Memory, Pool_kind, Link_kind, State, Context, in_main}
-use Rattle.gq_model.specs.Kept.{Under}
+use Rattle.gq_model.specs.machine.Amounts.{Amount}
+use Rattle.gq_model.specs.machine.Scenario.{System, number_of}
+use Rattle.gq_model.specs.machine.World.{Slot, Empty, Waiting, Bytes, Pool, Link, Spot, Session, Hand, Round, Leaf, World, session_at, slot_at}
+use Rattle.gq_model.specs.machine.Memory.{room, buffer_of}
+use Rattle.gq_model.specs.rules.Kinds.{Kind, Empty_kind, Memory, Pool_kind, Link_kind, State, Context, in_main}
+use Rattle.gq_laws.specs.Kept.{Under}
 use Rattle.gq_laws.specs.Shapes.{Each}
 
 -- SLOTS

@@ -1,19 +1,19 @@
 -- Worlds in which each leaf stands where the rules say, and each session with its slots as its last section left them.
-use Rattle.std.specs.Prelude.{◌≡◌, ◌≢◌, ◌≤◌, true, ℕ, length, replicate, Option, Some, None, Ok, slice_get, List}
+use Rattle.std.specs.Prelude.{◌≡◌, ◌≤◌, true, ℕ, length, replicate, Option, Some, None, Ok, slice_get, List}
 use Rattle.gq_model.specs.declared.program.Form.TheVariants.{Slice}
 use Rattle.gq_model.specs.declared.program.Section.{Section}
 use Rattle.gq_model.specs.declared.program.Section.TheVariants.{Main}
 use Rattle.gq_model.specs.declared.phase.Phase.{Phase}
 use Rattle.gq_model.specs.declared.phase.Phase.TheVariants.{Pending, Running, Blocked, Serving, Handling, Exited}
-use Rattle.gq_model.specs.Program.{Statements, section_in}
-use Rattle.gq_model.specs.Scenario.{Interface, System, Component, interface_in, number_of}
-use Rattle.gq_model.specs.World.{Empty, Session, Request, Hand, Round, Leaf, World, session_at}
-use Rattle.gq_model.specs.Step.{section_for}
-use Rattle.gq_model.specs.Kinds.{Kind, Memory, Link_kind, State}
-use Rattle.gq_model.specs.Flow.{flow, context, body, start_of, own_after}
-use Rattle.gq_model.specs.Kept.{level_then, section_at_hand, section_asked, kind_replied, within, Continues, bank_kinds}
-use Rattle.gq_model.specs.Verdict.{is_wanted}
-use Rattle.gq_model.specs.Use.{subject}
+use Rattle.gq_model.specs.machine.Program.{Statements, section_in}
+use Rattle.gq_model.specs.machine.Scenario.{Interface, System, Component, interface_in, number_of}
+use Rattle.gq_model.specs.machine.World.{Empty, Session, Request, Hand, Round, Leaf, World, session_at}
+use Rattle.gq_model.specs.machine.Step.{section_for}
+use Rattle.gq_model.specs.rules.Kinds.{Kind, Memory, Link_kind, State}
+use Rattle.gq_model.specs.rules.Flow.{flow, context, body, start_of, own_after}
+use Rattle.gq_laws.specs.Kept.{level_then, section_at_hand, section_asked, kind_replied, within, Continues, bank_kinds}
+use Rattle.gq_model.specs.rules.Verdict.{is_wanted}
+use Rattle.gq_model.specs.rules.Use.{subject}
 use Rattle.gq_laws.specs.Shapes.{Each}
 use Rattle.gq_laws.specs.Typed.{IsKind, AreKinds, Meets}
 use Rattle.gq_laws.specs.Asking.{IsWithin}
@@ -64,12 +64,9 @@ Extra = ℕ → Section → State → Statements → List Round → Type 0
 abbrev pub no_extra : Extra
 no_extra x section state todo loops = Unit {0}
 
--- what is known of another leaf than the x-th carries over
-abbrev pub Carries : ℕ → Extra → Extra → Type 0
-Carries x before after = (y : ℕ) (section : Section) (state : State) (todo : Statements) (loops : List Round) → y ≢ x → before y section state todo loops → after y section state todo loops
-
 -- the leaf stands in a section at a state from which what is left of the section leads to its end by the rules
-pub record IsInSection (promised : ℕ → Option Kind) (extra : Extra) (system : System) (w : World) (x : ℕ) (c : Component) (leaf : Leaf) (phase : Phase) (section : Section) : Type 0 where
+pub record IsInSection (promised : ℕ → Option Kind) (extra : Extra) (system : System) (w : World) (x : ℕ) (c : Component) (leaf : Leaf) (phase : Phase)
+    (section : Section) : Type 0 where
   pub state : State
   pub next : State
   pub end : State
@@ -91,7 +88,8 @@ StandsBy promised extra system w x c leaf Exited = leaf.slots ≡ replicate 64 E
 
 abbrev pub StandAll : (ℕ → Option Kind) → Extra → System → World → Type 0
 StandAll promised extra system w =
-    (x : ℕ) (c : Component) (leaf : Leaf) → slice_get system.components x ≡ Some c → slice_get w.leaves x ≡ Some leaf → StandsBy promised extra system w x c leaf leaf.phase
+    (x : ℕ) (c : Component) (leaf : Leaf) → slice_get system.components x ≡ Some c → slice_get w.leaves x ≡ Some leaf
+    → StandsBy promised extra system w x c leaf leaf.phase
 
 -- SESSIONS
 
@@ -105,12 +103,14 @@ pub record FitsService (promised : ℕ → Option Kind) (system : System) (w : W
   pub interface : Interface
   pub known : interface_in s.service system.interfaces ≡ Some interface
   pub level : s.level ≤ length interface.upgrades
-  pub rests : (server : Component) → slice_get system.components s.server ≡ Some server → section_at_hand k (slice_get w.leaves s.server) ≡ None → RestsAt promised system server s
+  pub rests : (server : Component) → slice_get system.components s.server ≡ Some server → section_at_hand k (slice_get w.leaves s.server) ≡ None
+      → RestsAt promised system server s
 
 -- a request is for a section that its service has, with an argument in the interface's bound
 abbrev pub FitsRequest : System → World → Request → Type 0
 FitsRequest system w r =
-    (s : Session) → session_at w r.session ≡ Some s → IsWithin system s.service r.ask × (is_wanted (interface_in s.service system.interfaces) (section_for r.ask (level_then r.ask s.level)) ≡ true)
+    (s : Session) → session_at w r.session ≡ Some s → IsWithin system s.service r.ask
+    × (is_wanted (interface_in s.service system.interfaces) (section_for r.ask (level_then r.ask s.level)) ≡ true)
 
 -- WORLDS
 

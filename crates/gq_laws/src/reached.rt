@@ -1,9 +1,9 @@
 // Laws of every world that a scenario comes to, accepted or not.
-ghost use Rattle.gq_model.specs.Scenario.{Scenario, system};
+ghost use Rattle.gq_model.specs.machine.Scenario.{Scenario, system};
 ghost use Rattle.std.specs.Prelude.{◌≡◌, true};
-ghost use Rattle.gq_model.specs.World.{World};
-ghost use Rattle.gq_model.specs.Sums.{paid};
-ghost use Rattle.gq_model.specs.Promises.{EachOf, SumsToTotal, ClosesWhole};
+ghost use Rattle.gq_model.specs.machine.World.{World};
+ghost use Rattle.gq_model.specs.machine.Sums.{paid};
+ghost use Rattle.gq_model.specs.Promises.{EachOf, SumsToTotal, ClosesWhole, EndsSessions};
 ghost use Rattle.gq_laws.specs.Reached.{IsReached};
 ghost use Rattle.gq_laws.specs.Shapes.{IsWholeWorld};
 ghost use Rattle.gq_laws.specs.Links.{IsLinkedWorld};
@@ -22,8 +22,10 @@ ghost use Rattle.gq_laws.specs.Resolved.{IsResolved};
 /// `paid`: where no two leaves have the same name, each leaf is paid for: what it holds and has lent is no more than it was handed
 /// and has received, of each resource that is counted.
 ///
-/// `closes`: then a session ends with the reply to its close alone, and in that step the client has its whole donation back, of each
-/// resource that is counted, and the server has it no more.
+/// `closes`: then a session ends with the reply to its close alone. Its slots are empty, and in that step the client has its whole donation
+/// back, of each resource that is counted, the server has it no more, and what the server holds falls by what the session's object cost.
+///
+/// `ends`: the reply to a close does end the session.
 ///
 /// `sums`: where the scenario is resolved, so that its quanta fit and who starts after another fits it, the quotas of all nodes sum
 /// to what the root was given, of each resource that is counted.
@@ -32,5 +34,6 @@ pub fn reached_laws()
     ensures linked { (s : Scenario) (w : World) → IsReached s w → IsLinkedWorld (system s) w }
     ensures paid { (s : Scenario) (w : World) → NamesDiffer s → IsReached s w → paid (system s) w ≡ true }
     ensures closes { (s : Scenario) (w : World) → NamesDiffer s → IsReached s w → ClosesWhole s w }
+    ensures ends { (s : Scenario) (w : World) → IsReached s w → EndsSessions s w }
     ensures sums { (s : Scenario) (w : World) → IsResolved s → IsReached s w → EachOf (system s).counted (SumsToTotal s w) }
 {}

@@ -1,15 +1,16 @@
 // Laws of statements, by the verifier's rules.
 ghost use Rattle.std.specs.Prelude.{◌≡◌, ◌≢◌, ℕ, Option};
-ghost use Rattle.gq_model.specs.World.{World};
-ghost use Rattle.gq_model.specs.Doing.{Doing};
-ghost use Rattle.gq_model.specs.Kinds.{Kind, Context, Subject};
+ghost use Rattle.gq_model.specs.machine.World.{World};
+ghost use Rattle.gq_model.specs.machine.Doing.{Doing};
+ghost use Rattle.gq_model.specs.rules.Kinds.{Kind, Context, Subject};
 ghost use Rattle.gq_model.specs.declared.phase.Phase.TheVariants.{Blocked, Handling};
 ghost use Rattle.gq_laws.specs.Links.{IsLinkedWorld};
-ghost use Rattle.gq_model.specs.Use.{subject};
+ghost use Rattle.gq_model.specs.rules.Use.{subject};
 ghost use Rattle.gq_laws.specs.Sections.{BeginsAsRuled, EndsAsRuled};
 ghost use Rattle.gq_laws.specs.Replies.{RepliesAsRuled, ResumesAsRuled};
 ghost use Rattle.gq_laws.specs.Asking.{TellsLinks, AsksAsRuled};
-ghost use Rattle.gq_laws.specs.Statements.{Takes, Grants, StartsAsRuled, GoesAsRuled, LeadsAsRuled, LeavesOthers, KeepsToItself, StandElse, KeepsPromises, IsAwake};
+ghost use Rattle.gq_laws.specs.Statements.{Takes, Grants, StartsAsRuled, GoesAsRuled, LeadsAsRuled, LeavesOthers, KeepsToItself, StandElse, KeepsPromises};
+ghost use Rattle.gq_laws.specs.Statements.{IsAwake};
 
 /// What statements do where the verifier's rules allow them. But for `asks` of one that asks nothing of a session: on operands, locals or
 /// memory, with its operands in range.
@@ -53,10 +54,14 @@ pub fn statement_laws()
     ensures others { (d : Doing) → KeepsToItself d }
     ensures stand { (promised : ℕ → Option Kind) (d : Doing) (w : World) → LeavesOthers d w → StandElse promised d w }
     ensures kept { (promised : ℕ → Option Kind) (d : Doing) → Takes d → IsLinkedWorld d.system d.world → KeepsPromises promised d }
-    ensures asks { (promised : ℕ → Option Kind) (c : Context) (d : Doing) → Takes d → IsLinkedWorld d.system d.world → TellsLinks promised d.world → Grants promised c d → AsksAsRuled promised c d }
+    ensures asks { (promised : ℕ → Option Kind) (c : Context) (d : Doing) → Takes d → IsLinkedWorld d.system d.world → TellsLinks promised d.world
+        → Grants promised c d → AsksAsRuled promised c d }
     ensures begins { (promised : ℕ → Option Kind) (d : Doing) → Takes d → BeginsAsRuled promised d }
-    ensures ends { (promised : ℕ → Option Kind) (c : Context) (d : Doing) → Takes d → Grants promised c d → c.subject ≡ subject d.system d.component → EndsAsRuled promised c d }
-    ensures replies { (promised : ℕ → Option Kind) (c : Context) (d : Doing) → Takes d → IsLinkedWorld d.system d.world → d.leaf.phase ≡ Handling → RepliesAsRuled promised c d }
-    ensures resumes { (promised : ℕ → Option Kind) (c : Context) (d : Doing) → Takes d → IsLinkedWorld d.system d.world → d.leaf.phase ≡ Handling → ResumesAsRuled promised c d }
+    ensures ends { (promised : ℕ → Option Kind) (c : Context) (d : Doing) → Takes d → Grants promised c d → c.subject ≡ subject d.system d.component
+        → EndsAsRuled promised c d }
+    ensures replies { (promised : ℕ → Option Kind) (c : Context) (d : Doing) → Takes d → IsLinkedWorld d.system d.world → d.leaf.phase ≡ Handling
+        → RepliesAsRuled promised c d }
+    ensures resumes { (promised : ℕ → Option Kind) (c : Context) (d : Doing) → Takes d → IsLinkedWorld d.system d.world → d.leaf.phase ≡ Handling
+        → ResumesAsRuled promised c d }
     ensures awake { (d : Doing) → Takes d → IsLinkedWorld d.system d.world → d.leaf.phase ≢ Blocked → IsAwake d }
 {}

@@ -1,7 +1,7 @@
 // Laws of every turn, whatever the scenario and the world.
 ghost use Rattle.std.specs.Prelude.{ℕ};
-ghost use Rattle.gq_model.specs.Scenario.{System};
-ghost use Rattle.gq_model.specs.World.{World};
+ghost use Rattle.gq_model.specs.machine.Scenario.{System};
+ghost use Rattle.gq_model.specs.machine.World.{World};
 ghost use Rattle.gq_laws.specs.Turns.{StandsStill, KeepsLeaves, CountsSteps};
 
 /// What a turn does to the leaf that takes it and to the others, whatever the scenario and the world: the turn of a leaf that can

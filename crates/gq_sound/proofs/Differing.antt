@@ -1,18 +1,18 @@
 -- Where no name of a tree stands twice, no two of its leaves have the same name.
 use Rattle.std.proofs.Common.{◌≡◌, ℕ, zero, suc, cond, Bool, true, false, List, [], ◌∷◌, ◌++◌, map, Some, None, refl, ap, sym, ◌∙◌, subst}
 use Rattle.std.specs.Prelude.{slice_get}
-use Rattle.gq_model.specs.Lists.{any_of}
-use Rattle.gq_model.specs.Program.{text_eq}
-use Rattle.gq_model.specs.Scenario.{LeafNode, Nodes, End, Leaf_node, Init_node, Scenario, Component, components}
-use Rattle.gq_init.specs.Document.{names_of, name_twice}
-use Rattle.gq_init.specs.Keys.{NameTwice}
-use Rattle.gq_init.specs.Sizes.{leaves_in}
-use Rattle.gq_init.proofs.Preorder.{components-leaves_in}
+use Rattle.gq_model.specs.machine.Lists.{any_of}
+use Rattle.gq_model.specs.machine.Program.{text_eq}
+use Rattle.gq_model.specs.machine.Scenario.{LeafNode, Nodes, End, Leaf_node, Init_node, Scenario, Component, components}
+use Rattle.gq_scenario.specs.Document.{names_of, name_twice}
+use Rattle.gq_scenario.specs.Keys.{NameTwice}
+use Rattle.gq_scenario.specs.Sizes.{leaves_in}
+use Rattle.gq_scenario.proofs.Preorder.{components-leaves_in}
 use Rattle.gq_laws.specs.Shapes.{Each}
 use Rattle.gq_laws.specs.Names.{NamesDiffer}
-use Rattle.gq_laws.proofs.Linking.{none_some, some_same}
-use Rattle.gq_laws.proofs.Left_programs.{text_same}
-use Rattle.gq_laws.proofs.Linkless_flows.{or_neither}
+use Rattle.gq_model.proofs.Small.{none_some, some_same}
+use Rattle.gq_model.proofs.Small.{text_self}
+use Rattle.std.proofs.lemmas.Bool.{or_parts, true≢false}
 
 -- each of these is another than the ones before it
 abbrev Other : List ℕ → List ℕ → Type 0
@@ -30,12 +30,14 @@ differ_by : (seen names : List (List ℕ)) → name_twice seen names ≡ None �
 differ_by seen [] e = (tt, tt)
 differ_by seen (name ∷ rest) e = by (any_of (text_eq name) seen) refl e (λ f. differ_by (name ∷ seen) rest f)
   where
-    split : (ns : List (List ℕ)) → Each (λ n. any_of (text_eq n) (name ∷ seen) ≡ false) ns → Each (Other name) ns × Each (λ n. any_of (text_eq n) seen ≡ false) ns
+    split : (ns : List (List ℕ)) → Each (λ n. any_of (text_eq n) (name ∷ seen) ≡ false) ns
+        → Each (Other name) ns × Each (λ n. any_of (text_eq n) seen ≡ false) ns
     split [] h = (tt, tt)
-    split (n ∷ ns) h = let p = or_neither (text_eq n name) (any_of (text_eq n) seen) h.0 in let r = split ns h.1 in ((p.0, r.0), (p.1, r.1))
+    split (n ∷ ns) h = let p = or_parts (text_eq n name) (any_of (text_eq n) seen) h.0 in let r = split ns h.1 in ((p.0, r.0), (p.1, r.1))
 
     by : (b : Bool) → any_of (text_eq name) seen ≡ b → cond b (Some (NameTwice name)) (name_twice (name ∷ seen) rest) ≡ None
-        → (name_twice (name ∷ seen) rest ≡ None → Differ rest × Each (λ n. any_of (text_eq n) (name ∷ seen) ≡ false) rest) → Differ (name ∷ rest) × Each (λ n. any_of (text_eq n) seen ≡ false) (name ∷ rest)
+        → (name_twice (name ∷ seen) rest ≡ None → Differ rest × Each (λ n. any_of (text_eq n) (name ∷ seen) ≡ false) rest)
+        → Differ (name ∷ rest) × Each (λ n. any_of (text_eq n) seen ≡ false) (name ∷ rest)
     by true same f further = absurd (some_none (NameTwice name) f)
     by false other f further = let r = further f in let p = split rest r.1 in ((p.0, r.0), (other, p.1))
 
@@ -80,7 +82,8 @@ leaves_each P End h = tt
 leaves_each P (Leaf_node node rest) h = (h.0, leaves_each P rest h.1)
 leaves_each P (Init_node node children rest) h =
     subst (Each P) (sym (names_append (leaves_in children) (leaves_in rest)))
-    (each_both P (names (leaves_in children)) (names (leaves_in rest)) (leaves_each P children (each_left P (names_of children) (names_of rest) h.1)) (leaves_each P rest (each_right P (names_of children) (names_of rest) h.1)))
+    (each_both P (names (leaves_in children)) (names (leaves_in rest)) (leaves_each P children (each_left P (names_of children) (names_of rest) h.1))
+    (leaves_each P rest (each_right P (names_of children) (names_of rest) h.1)))
 
 each_map : {P Q : List ℕ → Type 0} (xs : List (List ℕ)) → ((x : List ℕ) → P x → Q x) → Each P xs → Each Q xs
 each_map [] f h = tt
@@ -91,8 +94,10 @@ leaves_differ End h = tt
 leaves_differ (Leaf_node node rest) h = (leaves_each (Other node.name) rest h.0, leaves_differ rest h.1)
 leaves_differ (Init_node node children rest) h =
     let p = differ_parts (names_of children) (names_of rest) h.1 in
-    let apart : Apart (names (leaves_in children)) (names (leaves_in rest)) = leaves_each (λ x. Each (Other x) (names (leaves_in rest))) children (each_map (names_of children) (λ x g. leaves_each (Other x) rest g) p.2) in
-    subst Differ (sym (names_append (leaves_in children) (leaves_in rest))) (differ_both (names (leaves_in children)) (names (leaves_in rest)) (leaves_differ children p.0) (leaves_differ rest p.1) apart)
+    let apart : Apart (names (leaves_in children)) (names (leaves_in rest)) =
+    leaves_each (λ x. Each (Other x) (names (leaves_in rest))) children (each_map (names_of children) (λ x g. leaves_each (Other x) rest g) p.2) in
+    subst Differ (sym (names_append (leaves_in children) (leaves_in rest)))
+    (differ_both (names (leaves_in children)) (names (leaves_in rest)) (leaves_differ children p.0) (leaves_differ rest p.1) apart)
 
 -- PLACES
 
@@ -105,14 +110,10 @@ each_at P (y ∷ xs) (suc i) x h e = each_at P xs i x h.1 e
 one_place : (ns : List (List ℕ)) → Differ ns → (i j : ℕ) (a b : List ℕ) → slice_get ns i ≡ Some a → slice_get ns j ≡ Some b → a ≡ b → i ≡ j
 one_place [] h i j a b e f same = absurd (none_some e)
 one_place (n ∷ ns) h zero zero a b e f same = refl
-one_place (n ∷ ns) h zero (suc j) a b e f same = absurd (no (sym (text_same b) ∙ (ap (text_eq b) (sym (some_same e ∙ same)) ∙ each_at (Other n) ns j b h.0 f)))
-  where
-    no : true ≡ false → ⊥
-    no e = cc
-one_place (n ∷ ns) h (suc i) zero a b e f same = absurd (no (sym (text_same a) ∙ (ap (text_eq a) (same ∙ sym (some_same f)) ∙ each_at (Other n) ns i a h.0 e)))
-  where
-    no : true ≡ false → ⊥
-    no e = cc
+one_place (n ∷ ns) h zero (suc j) a b e f same =
+    absurd (true≢false (sym (text_self b) ∙ (ap (text_eq b) (sym (some_same e ∙ same)) ∙ each_at (Other n) ns j b h.0 f)))
+one_place (n ∷ ns) h (suc i) zero a b e f same =
+    absurd (true≢false (sym (text_self a) ∙ (ap (text_eq a) (same ∙ sym (some_same f)) ∙ each_at (Other n) ns i a h.0 e)))
 one_place (n ∷ ns) h (suc i) (suc j) a b e f same = ap suc (one_place ns h.1 i j a b e f same)
 
 name_at : (cs : List Component) (i : ℕ) (c : Component) → slice_get cs i ≡ Some c → slice_get (names (map (λ (c : Component). c.node) cs)) i ≡ Some c.node.name
@@ -124,4 +125,5 @@ pub names_differ : (s : Scenario) (seen : List (List ℕ)) → name_twice seen (
 names_differ s seen e x y c d there at same =
     let differ = leaves_differ s.nodes (differ_by seen (names_of s.nodes) e).0 in
     let is = components-leaves_in s in
-    one_place (names (leaves_in s.nodes)) differ x y c.node.name d.node.name (ap (λ l. slice_get (names l) x) (sym is) ∙ name_at (components s) x c there) (ap (λ l. slice_get (names l) y) (sym is) ∙ name_at (components s) y d at) same
+    one_place (names (leaves_in s.nodes)) differ x y c.node.name d.node.name (ap (λ l. slice_get (names l) x) (sym is) ∙ name_at (components s) x c there)
+    (ap (λ l. slice_get (names l) y) (sym is) ∙ name_at (components s) y d at) same

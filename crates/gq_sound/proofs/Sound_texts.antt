@@ -2,17 +2,16 @@
 use Rattle.std.proofs.Common.{◌≡◌, ℕ, List, [], ◌∷◌, Option, Some, None, Ok, Err, refl, sym, subst}
 use Rattle.std.specs.Prelude.{Result, codes}
 use Rattle.toml.specs.Data.{Members, get_member}
-use Rattle.gq_model.specs.Scenario.{Scenario, components}
-use Rattle.gq_model.specs.Accept.{Refusal, refusal}
-use Rattle.gq_init.specs.Keys.{DocumentFault, table_fault}
-use Rattle.gq_init.specs.Tables.{top_keys}
-use Rattle.gq_init.specs.Document.{table_of, list_at, described, interfaces_fault, walk_fault, names_of, name_twice, counts_fault, document_fault}
-use Rattle.gq_init.specs.Tables.{version_of}
-use Rattle.gq_init.specs.Reading.{ReadFault, Bad_document, described_or, read_from, document_in}
+use Rattle.gq_model.specs.machine.Scenario.{Scenario, components}
+use Rattle.gq_model.specs.rules.Accept.{Refusal, refusal}
+use Rattle.gq_scenario.specs.Keys.{DocumentFault, table_fault}
+use Rattle.gq_scenario.specs.Tables.{top_keys}
+use Rattle.gq_scenario.specs.Document.{table_of, list_at, described, interfaces_fault, walk_fault, names_of, name_twice, counts_fault, document_fault}
+use Rattle.gq_scenario.specs.Tables.{version_of}
+use Rattle.gq_scenario.specs.Reading.{ReadFault, Bad_document, described_or, read_from, document_in}
 use Rattle.gq_load.specs.Load.{Fault, Unread, sources_fault, refused, scenario_fault, loaded_or, loaded_from, loaded}
 use Rattle.gq_laws.specs.Sound.{IsSound}
-use Rattle.gq_laws.proofs.Linking.{none_some}
-use Rattle.gq_laws.proofs.Accepted_programs.{or_none}
+use Rattle.gq_model.proofs.Small.{none_some, or_first_none}
 use Rattle.gq_sound.proofs.Differing.{names_differ}
 use Rattle.gq_sound.proofs.Programs.{nodes_given, programs_are}
 use Rattle.gq_sound.proofs.Services.{services_fair}
@@ -28,15 +27,16 @@ no_refusal None e = refl
 no_refusal (Some why) e = absurd (none_some (sym e))
 
 -- a top table without fault describes a sound scenario, if that is accepted and its texts and codes are programs
-described_sound : (top : Members) → document_fault top ≡ None → sources_fault (components (described top)) ≡ None → refusal (described top) ≡ None → IsSound (described top)
+described_sound : (top : Members) → document_fault top ≡ None → sources_fault (components (described top)) ≡ None → refusal (described top) ≡ None
+    → IsSound (described top)
 described_sound top e sources accepted =
     let s = described top in
     let version = version_of top in
     let interfaces = table_of (get_member (codes "interface") top) in
-    let a = or_none (walk_fault top) _ e in
-    let b = or_none (counts_fault s) (name_twice (codes "init" ∷ []) (names_of s.nodes)) a.1 in
-    let w = or_none (table_fault (top_keys version) top) _ a.0 in
-    let i = or_none (interfaces_fault version interfaces) _ w.1 in
+    let a = or_first_none (walk_fault top) _ e in
+    let b = or_first_none (counts_fault s) (name_twice (codes "init" ∷ []) (names_of s.nodes)) a.1 in
+    let w = or_first_none (table_fault (top_keys version) top) _ a.0 in
+    let i = or_first_none (interfaces_fault version interfaces) _ w.1 in
     record {
       formed = record {
         differ = names_differ s (codes "init" ∷ []) b.1;
@@ -50,9 +50,10 @@ described_sound top e sources accepted =
 pub loaded_sound : (text : List ℕ) (s : Scenario) → loaded text ≡ Ok s → IsSound s
 loaded_sound text s e = from (document_in text) e
   where
-    last : (top : Members) → document_fault top ≡ None → (o : Option Fault) → scenario_fault (described top) ≡ o → loaded_or (described top) o ≡ Ok s → IsSound s
+    last : (top : Members) → document_fault top ≡ None → (o : Option Fault) → scenario_fault (described top) ≡ o → loaded_or (described top) o ≡ Ok s
+        → IsSound s
     last top whole None none f =
-        let p = or_none (sources_fault (components (described top))) (refused (refusal (described top))) none in
+        let p = or_first_none (sources_fault (components (described top))) (refused (refusal (described top))) none in
         subst IsSound (same_scenario (described top) s f) (described_sound top whole p.0 (no_refusal (refusal (described top)) p.1))
     last top whole (Some fault) none f = absurd (not_ok fault s f)
 

@@ -1,6 +1,6 @@
 // Laws of the scenarios that texts are loaded as.
 ghost use Rattle.std.specs.Prelude.{◌≡◌, ℕ, List, Ok};
-ghost use Rattle.gq_model.specs.Scenario.{Scenario};
+ghost use Rattle.gq_model.specs.machine.Scenario.{Scenario};
 ghost use Rattle.gq_model.specs.Promises.{Upholds};
 ghost use Rattle.gq_laws.specs.Sound.{IsSound};
 ghost use Rattle.gq_load.specs.Load.{loaded};

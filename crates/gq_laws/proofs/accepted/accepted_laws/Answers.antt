@@ -1,6 +1,20 @@
-use Rattle.gq_laws.proofs.Typed_runs.{reached_typed}
-use Rattle.gq_laws.proofs.Gathered.{reached_upheld, run_upholds}
+use Rattle.gq_laws.proofs.typing.Runs.{reached_typed}
+use Rattle.gq_laws.proofs.gathering.Standing.{stands_first, stands_next, stands_upheld}
+use Rattle.gq_laws.proofs.gathering.Accounts.{upheld_accounts}
+use Rattle.gq_laws.proofs.gathering.Runs.{reached_upheld, run_upholds}
 use Rattle.gq_laws.proofs.accepted.accepted_laws.Goals as goal
+
+pub returns-clause-first : goal.returns-clause-first
+returns-clause-first c = stands_first
+
+pub returns-clause-kept : goal.returns-clause-kept
+returns-clause-kept c = stands_next
+
+pub returns-clause-promises : goal.returns-clause-promises
+returns-clause-promises c = stands_upheld
+
+pub returns-clause-accounts : goal.returns-clause-accounts
+returns-clause-accounts c = upheld_accounts
 
 pub returns-clause-typed : goal.returns-clause-typed
 returns-clause-typed c s w sound reached = reached_typed s sound w reached

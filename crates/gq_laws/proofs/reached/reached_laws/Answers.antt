@@ -1,4 +1,4 @@
-use Rattle.gq_laws.proofs.Reached_worlds.{reached_whole, reached_linked, reached_paid, reached_closes, reached_sums}
+use Rattle.gq_laws.proofs.gathering.Worlds.{reached_whole, reached_linked, reached_paid, reached_closes, reached_ends, reached_sums}
 use Rattle.gq_laws.proofs.reached.reached_laws.Goals as goal
 
 pub returns-clause-whole : goal.returns-clause-whole
@@ -15,3 +15,6 @@ returns-clause-closes c = reached_closes
 
 pub returns-clause-sums : goal.returns-clause-sums
 returns-clause-sums c = reached_sums
+
+pub returns-clause-ends : goal.returns-clause-ends
+returns-clause-ends c = reached_ends

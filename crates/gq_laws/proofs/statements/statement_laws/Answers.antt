@@ -1,14 +1,14 @@
-use Rattle.gq_laws.proofs.Statement_control.{leads_on}
-use Rattle.gq_laws.proofs.Asking_steps.{asks_ruled}
-use Rattle.gq_laws.proofs.Section_ends.{ends_ruled}
-use Rattle.gq_laws.proofs.Section_starts.{begins_ruled}
-use Rattle.gq_laws.proofs.Reply_worlds.{replies_ruled}
-use Rattle.gq_laws.proofs.Reply_stands.{resumes_ruled}
-use Rattle.gq_laws.proofs.Statement_steps.{own_goes}
-use Rattle.gq_laws.proofs.Statement_others.{keeps_to_itself}
-use Rattle.gq_laws.proofs.Statement_awake.{is_awake}
-use Rattle.gq_laws.proofs.Statement_frame.{starts, stand_else}
-use Rattle.gq_laws.proofs.Statement_kept.{keeps_promises}
+use Rattle.gq_laws.proofs.stating.Control.{leads_on}
+use Rattle.gq_laws.proofs.asking.Steps.{asks_ruled}
+use Rattle.gq_laws.proofs.replying.Ends.{ends_ruled}
+use Rattle.gq_laws.proofs.replying.Starts.{begins_ruled}
+use Rattle.gq_laws.proofs.replying.Worlds.{replies_ruled}
+use Rattle.gq_laws.proofs.replying.Stands.{resumes_ruled}
+use Rattle.gq_laws.proofs.stating.Steps.{own_goes}
+use Rattle.gq_laws.proofs.stating.Others.{keeps_to_itself}
+use Rattle.gq_laws.proofs.stating.Awake.{is_awake}
+use Rattle.gq_laws.proofs.stating.Frame.{starts, stand_else}
+use Rattle.gq_laws.proofs.stating.Kept.{keeps_promises}
 use Rattle.gq_laws.proofs.statements.statement_laws.Goals as goal
 
 pub returns-clause-starts : goal.returns-clause-starts

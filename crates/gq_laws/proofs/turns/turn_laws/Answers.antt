@@ -1,4 +1,4 @@
-use Rattle.gq_laws.proofs.Steps.{stands_still, keeps_leaves, counts_steps}
+use Rattle.gq_laws.proofs.turning.Steps.{stands_still, keeps_leaves, counts_steps}
 use Rattle.gq_laws.proofs.turns.turn_laws.Goals as goal
 
 pub returns-clause-idle : goal.returns-clause-idle

@@ -1,4 +1,4 @@
-use Rattle.gq_laws.proofs.Gathered.{run_upholds}
+use Rattle.gq_laws.proofs.gathering.Runs.{run_upholds}
 use Rattle.gq_sound.proofs.Sound_texts.{loaded_sound}
 use Rattle.gq_sound.proofs.loaded.loaded_laws.Goals as goal
 

@@ -1,0 +1,338 @@
+-- Each statement on operands, locals and memory does what the rules tell, and only want of quota stops it.
+use Rattle.std.proofs.Common.{◌≡◌, ℕ, ◌+◌, ◌-◌, ◌/◌, ◌%◌, ◌≤◌, ◌&&◌, min, nat_lt, Bool, true, false, List, ◌∷◌, length, decimal, replicate, Option, Some, None}
+use Rattle.std.proofs.Common.{Ok, refl, ap, sym, ◌∙◌, subst, arith}
+use Rattle.std.specs.Prelude.{nat_le, slice_get, slice_index, slice_set, slice_range}
+use Rattle.std.proofs.lemmas.Bool.{leb-true, le-leb, ltb-true, lt-ltb}
+use Rattle.std.proofs.lemmas.List.{length-set}
+use Rattle.gq_model.specs.machine.Lists.{all_of, between}
+use Rattle.gq_model.specs.machine.Program.{little, bytes_of, combined}
+use Rattle.gq_model.specs.declared.program.Place.{Place}
+use Rattle.gq_model.specs.declared.program.Width.{Width}
+use Rattle.gq_model.specs.declared.program.Operator.{Operator}
+use Rattle.gq_model.specs.declared.program.Instruction.{Instruction}
+use Rattle.gq_model.specs.declared.program.Instruction.TheVariants.{Say, Out, Drop, Dup, Push, Divide, Modulo, Get, Set, Index, Combine, Make, MakePool, Load}
+use Rattle.gq_model.specs.declared.program.Instruction.TheVariants.{Store, Free, Take, Give, Peek, Poke, Open, Upgrade, Call, Close}
+use Rattle.gq_model.specs.declared.fault.Rule.TheVariants.{MissingOperand, WrongKind, OutOfRange, ValueTooLarge}
+use Rattle.gq_model.specs.declared.fault.Wrong.TheVariants.{UnmappedByte}
+use Rattle.gq_model.specs.texts.Operands.{greatest_number, operands, in_range, is_slot}
+use Rattle.gq_model.specs.machine.World.{Bytes, Pool, Spot, Leaf, World, slot_at, with_slot}
+use Rattle.gq_model.specs.machine.Doing.{Doing, Event, Stepped, Quiet, Line, need, when, pop, push, standing, with_operands, on_stack, settled}
+use Rattle.gq_model.specs.machine.Memory.{entry_byte, entry_with, if_absent, pool_at}
+use Rattle.gq_model.specs.machine.Step.{instruct, round_of}
+use Rattle.gq_model.specs.rules.Kinds.{Kind, Memory, Pool_kind, State, Context, kind_at}
+use Rattle.gq_model.specs.rules.Rules.{Judged, must, popped, pushed, pooled, reached, reach, pool_kind, bound_of, loaded_bound, judge}
+use Rattle.gq_laws.specs.Kept.{Under}
+use Rattle.gq_laws.specs.Typed.{AreBytes, IsEntry, Meets}
+use Rattle.gq_laws.specs.Statements.{IsSafe, IsOfOwn, Takes, Grants, StandsAt, GoesAsRuled}
+use Rattle.gq_laws.proofs.stating.Rules.{safe_gives, safe_need, safe_when, safe_pop, safe_push, given_there, popped_there, pushed_there}
+use Rattle.gq_laws.proofs.stating.Rules.{judged_alone}
+use Rattle.gq_laws.proofs.stating.Numbers.{divided, remains, combines, each_set, each_get, under_length, under_top, under_index, under_set}
+use Rattle.gq_model.proofs.Small.{get_within}
+use Rattle.gq_laws.proofs.stating.Numbers.{round_within, loads, stored, stored_count, stored_bytes, entry_below, entry_changed, fresh_entry}
+use Rattle.gq_laws.proofs.stating.Slots.{stands_with, safe_settled, put_alike}
+use Rattle.gq_laws.proofs.stating.Memory.{Reaches, HasPool, safe_bytes, safe_pool, reaches, pool_found, slots_kept, makes, fresh_bytes, fresh_pool, frees}
+use Rattle.gq_laws.proofs.stating.Memory.{reaches_there, pool_there}
+use Rattle.gq_model.proofs.Rules_laws.{ok_same, must_holds}
+
+and_left : (a b : Bool) → (a && b) ≡ true → a ≡ true
+and_left true b e = refl
+and_left false b e = e
+
+divides : (n high : ℕ) → (between 1 high n && true) ≡ true → 1 ≤ n
+divides n high e = leb-true 1 n (and_left (nat_le 1 n) (nat_le n high) (and_left (between 1 high n) true e))
+
+module _ (promised : ℕ → Option Kind) (c : Context) (d : Doing) (t : Takes d) (g : Grants promised c d) (state : State)
+    (h : Meets promised c state d.world d.leaf) where
+  abbrev At : List ℕ → World → Type 0
+  At bounds = StandsAt promised c (record state { bounds = bounds }) d
+
+  -- OPERANDS AND LOCALS
+
+  stands : (ops locs bounds : List ℕ) → Under ops bounds → Under locs c.subject.program.locals
+      → At bounds (standing d (record d.leaf { operands = ops; locals = locs }))
+  stands ops locs bounds u l =
+      let leaf : Leaf = record d.leaf { operands = ops; locals = locs } in
+      let m : Meets promised c (record state { bounds = bounds }) d.world leaf =
+      record { own = h.own; hand = h.hand; bank = h.bank; operands = u; locals = l; loops = h.loops } in
+      stands_with promised c d (record state { bounds = bounds }) d.world t.old leaf t.there m refl refl refl refl
+
+  Ends_at : State → Stepped → Type 0
+  Ends_at new r = IsSafe (StandsAt promised c new d) r
+
+  -- a statement takes the top operand, and the rules its bound
+  pops : (u : State) (rule : ℕ → State → Judged) (ops : List ℕ) (go : ℕ → List ℕ → Stepped) (new : State) → Under ops u.bounds → popped u rule ≡ Ok new
+      → ((a b : ℕ) (below rest : List ℕ) → a ≤ b → Under below rest → rule b (record u { bounds = rest }) ≡ Ok new → Ends_at new (go a below))
+      → Ends_at new (pop ops go)
+  unfolding Ends_at
+  pops u rule ops go new under e k =
+      let p = popped_there u rule new e in
+      let a = under_top ops p.0 p.1 (subst (Under ops) p.2 under) in
+      safe_pop ops go a.0 a.1 a.2 (k a.0 p.0 a.1 p.1 a.3 a.4 p.3)
+
+  -- the statement ends with these operands, and the rules with these bounds
+  ends : (ops bounds : List ℕ) (new : State) → Under ops bounds → record state { bounds = bounds } ≡ new → Ends_at new (on_stack d ops)
+  unfolding Ends_at
+  ends ops bounds new u e = subst (λ new. IsSafe (StandsAt promised c new d) (on_stack d ops)) e
+      (safe_gives (standing d (with_operands d ops)) Quiet (stands ops d.leaf.locals bounds u h.locals))
+
+  -- the rules add a bound, and so the statement an operand
+  adds : (a b : ℕ) (ops bounds : List ℕ) (new : State) → a ≤ b → Under ops bounds → pushed b (record state { bounds = bounds }) ≡ Ok new
+      → Ends_at new (on_stack d (a ∷ ops))
+  adds a b ops bounds new le u e = ends (a ∷ ops) (b ∷ bounds) new (le, u) (sym (pushed_there b (record state { bounds = bounds }) new e).1)
+
+  pushes : (a b : ℕ) (ops bounds : List ℕ) (new : State) → a ≤ b → Under ops bounds → pushed b (record state { bounds = bounds }) ≡ Ok new
+      → Ends_at new (push a ops (on_stack d))
+  unfolding Ends_at
+  pushes a b ops bounds new le u e =
+      safe_push a ops (on_stack d) (ap (λ n. nat_lt n 16) (under_length ops bounds u) ∙ (pushed_there b (record state { bounds = bounds }) new e).0)
+      (adds a b ops bounds new le u e)
+
+  -- the step ends in a world where the leaf stands at these bounds
+  gives_at : (w : World) (event : Event) (bounds : List ℕ) (new : State) → At bounds w → record state { bounds = bounds } ≡ new → Ends_at new (Ok (w, event))
+  unfolding Ends_at
+  gives_at w event bounds new s e = subst (λ new. IsSafe (StandsAt promised c new d) (Ok (w, event))) e (safe_gives w event s)
+
+  out_goes : (new : State) → judge c state Out ≡ Ok new → Ends_at new (instruct d Out)
+  out_goes new e =
+      pops state (λ a t. Ok t) d.leaf.operands _ new h.operands e (λ a b below rest le u e.
+      gives_at _ (Line (decimal a)) rest new (stands below d.leaf.locals rest u h.locals) (ok_same e))
+
+  drop_goes : (new : State) → judge c state Drop ≡ Ok new → Ends_at new (instruct d Drop)
+  drop_goes new e = pops state (λ a t. Ok t) d.leaf.operands _ new h.operands e (λ a b below rest le u e. ends below rest new u (ok_same e))
+
+  -- the rules look at the bound and leave it
+  dup_goes : (new : State) → judge c state Dup ≡ Ok new → Ends_at new (instruct d Dup)
+  unfolding Ends_at
+  dup_goes new e =
+      let p = popped_there state (λ a t. pushed a state) new e in
+      let a = under_top d.leaf.operands p.0 p.1 (subst (Under d.leaf.operands) p.2 h.operands) in
+      safe_pop d.leaf.operands _ a.0 a.1 a.2 (pushes a.0 p.0 (a.0 ∷ a.1) state.bounds new a.3 (subst (λ ops. Under ops state.bounds) a.2 h.operands) p.3)
+
+  divide_goes : (n : ℕ) → 1 ≤ n → (new : State) → judge c state (Divide n) ≡ Ok new → Ends_at new (instruct d (Divide n))
+  divide_goes n one new e =
+      pops state (λ a t. pushed (a / n) t) d.leaf.operands _ new h.operands e
+      (λ a b below rest le u e. adds (a / n) (b / n) below rest new (divided a b n le one) u e)
+
+  modulo_goes : (n : ℕ) → 1 ≤ n → (new : State) → judge c state (Modulo n) ≡ Ok new → Ends_at new (instruct d (Modulo n))
+  modulo_goes n one new e =
+      pops state (λ a t. pushed (min a (n - 1)) t) d.leaf.operands _ new h.operands e
+      (λ a b below rest le u e. adds (a % n) (min b (n - 1)) below rest new (remains a b n le one) u e)
+
+  get_goes : (i : ℕ) (new : State) → judge c state (Get i) ≡ Ok new → Ends_at new (instruct d (Get i))
+  get_goes i new e =
+      pushes (slice_index d.leaf.locals i) (slice_index c.subject.program.locals i) d.leaf.operands state.bounds new
+      (under_index d.leaf.locals c.subject.program.locals i h.locals) h.operands e
+
+  set_goes : (i : ℕ) (new : State) → judge c state (Set i) ≡ Ok new → Ends_at new (instruct d (Set i))
+  set_goes i new e =
+      pops state (λ a t. must (nat_le a (slice_index c.subject.program.locals i)) ValueTooLarge (Ok t)) d.leaf.operands _ new h.operands e
+      (λ a b below rest le u e.
+      let m = must_holds (nat_le b (slice_index c.subject.program.locals i)) ValueTooLarge _ new e in
+      let less = leb-true b (slice_index c.subject.program.locals i) m.0 in
+      gives_at _ Quiet rest new (stands below (slice_set d.leaf.locals i a) rest u
+      (under_set d.leaf.locals c.subject.program.locals i a h.locals (omega (arith, less, le)))) (ok_same m.1))
+
+  index_goes : (i : ℕ) (new : State) → judge c state (Index i) ≡ Ok new → Ends_at new (instruct d (Index i))
+  unfolding Ends_at
+  index_goes i new e =
+      let n = given_there (slice_get c.counts i) MissingOperand (λ n. pushed (n - 1) state) new e in
+      let f = round_within d.leaf.loops c.counts i n.0 h.loops n.1 in
+      let less = f.2 in
+      safe_need (round_of d.leaf.loops i) _ _ f.0 f.1 (pushes f.0 (n.0 - 1) d.leaf.operands state.bounds new (omega (arith, less)) h.operands n.2)
+
+  combine_goes : (f : Operator) (new : State) → judge c state (Combine f) ≡ Ok new → Ends_at new (instruct d (Combine f))
+  combine_goes f new e =
+      pops state (λ b t. popped t (λ a u. pushed (bound_of f a b) u)) d.leaf.operands _ new h.operands e (λ y top below rest y_le u e.
+      pops (record state { bounds = rest }) (λ a u. pushed (bound_of f a top) u) below _ new u e (λ x next under left x_le u e.
+      adds (combined f x y) (bound_of f next top) under left new (combines f x y next top x_le y_le) u e))
+
+  -- BYTES
+
+  -- the bytes that the rules reach
+  bytes_found : (place : Place) (i : ℕ) (width : Width) (next : Judged) (new : State) → reached c state place i width next ≡ Ok new
+      → (n : ℕ) × Reaches d d.world place n × (i + bytes_of width ≤ n) × (next ≡ Ok new)
+  bytes_found place i width next new e =
+      let n = given_there (reach c (kind_at c state place)) WrongKind (λ n. must (nat_le (i + bytes_of width) n) OutOfRange next) new e in
+      let m = must_holds (nat_le (i + bytes_of width) n.0) OutOfRange next new n.2 in
+      (n.0, reaches promised c d t g state h place n.0 n.1, leb-true (i + bytes_of width) n.0 m.0, m.1)
+
+  load_goes : (width : Width) (place : Place) (new : State) → judge c state (Load width place) ≡ Ok new → Ends_at new (instruct d (Load width place))
+  unfolding Ends_at
+  load_goes width place new e =
+      pops state (λ i t. reached c state place i width (pushed (loaded_bound width) t)) d.leaf.operands _ new h.operands e (λ i b below rest le u e.
+      let f = bytes_found place b width (pushed (loaded_bound width) (record state { bounds = rest })) new e in
+      let within = f.2 in
+      let count = f.1.count in
+      safe_bytes d d.world place f.0 f.1 _
+      (safe_when (nat_le (i + bytes_of width) (length f.1.bytes)) _ _ (le-leb (i + bytes_of width) (length f.1.bytes) (omega (arith, le, within, count)))
+      (adds (little (slice_range f.1.bytes i (i + bytes_of width))) (loaded_bound width) below rest new (loads width f.1.bytes i f.1.each) u f.3)))
+
+  -- other bytes, as many as there were
+  bytes_put : (ops bounds : List ℕ) (n : ℕ) (place : Place) (r : Reaches d (standing d (with_operands d ops)) place n) (bytes : List ℕ) → Under ops bounds
+      → length bytes ≡ length r.bytes → AreBytes bytes
+      → At bounds (with_slot (standing d (with_operands d ops)) r.q (Bytes r.form r.size bytes))
+  bytes_put ops bounds n place r bytes u count each =
+      put_alike promised c d (record state { bounds = bounds }) (standing d (with_operands d ops)) (stands ops d.leaf.locals bounds u h.locals) r.q
+      (Bytes r.form r.size r.bytes) (Bytes r.form r.size bytes) r.there
+      (λ kind is. (is.0, count ∙ is.1, each))
+
+  store_goes : (width : Width) (place : Place) (new : State) → judge c state (Store width place) ≡ Ok new → Ends_at new (instruct d (Store width place))
+  unfolding Ends_at
+  store_goes width place new e =
+      pops state (λ v t. popped t (λ i u. reached c state place i width (Ok u))) d.leaf.operands _ new h.operands e (λ v top below rest v_le u e.
+      pops (record state { bounds = rest }) (λ i u. reached c state place i width (Ok u)) below _ new u e (λ i b ops bounds le u e.
+      let f = bytes_found place b width (Ok (record state { bounds = bounds })) new e in
+      let w = standing d (with_operands d ops) in
+      let r = reaches_there d d.world w place f.0 (slots_kept promised c d t g state h (with_operands d ops) refl) (λ k. refl) f.1 in
+      let within = f.2 in
+      let count = r.count in
+      let fits : i + bytes_of width ≤ length r.bytes = omega (arith, le, within, count) in
+      safe_bytes d w place f.0 r _
+      (safe_when (nat_le (i + bytes_of width) (length r.bytes)) _ _ (le-leb (i + bytes_of width) (length r.bytes) fits)
+      (gives_at _ Quiet bounds new
+      (bytes_put ops bounds f.0 place r (stored r.bytes i (bytes_of width) v) u (stored_count r.bytes i (bytes_of width) v fits)
+      (stored_bytes r.bytes i (bytes_of width) v r.each)) (ok_same f.3)))))
+
+  -- POOLS
+
+  -- an entry of a pool that is there
+  record HasEntry (w : World) (place : Place) (i n : ℕ) : Type 0 where
+    pub m : ℕ
+    pub pool : HasPool d w place n m
+    pub entry : Option (List ℕ)
+    pub there : slice_get pool.entries i ≡ Some entry
+    pub is : IsEntry n entry
+
+  -- the entry that the rules find, for a number within the bound
+  entry_found : (w : World) → ((q : Spot) → slot_at w q ≡ slot_at d.world q) → (place : Place) (i b : ℕ) (rule : ℕ → Judged) (new : State) → i ≤ b
+      → pooled c state place b rule ≡ Ok new → (n : ℕ) × HasEntry w place i n × (rule n ≡ Ok new)
+  entry_found w same place i b rule new le e =
+      let p = given_there (pool_kind (kind_at c state place)) WrongKind (λ p. must (nat_lt b p.1) OutOfRange (rule p.0)) new e in
+      let m = must_holds (nat_lt b p.0.1) OutOfRange (rule p.0.0) new p.2 in
+      let pool = pool_there d d.world w place p.0.0 p.0.1 same (pool_found promised c d t g state h place p.0 p.1) in
+      let less = ltb-true b p.0.1 m.0 in
+      let count = pool.count in
+      let f = get_within pool.entries i (omega (arith, le, less, count)) in
+      (p.0.0, record { m = p.0.1; pool = pool; entry = f.0; there = f.1; is = each_get (IsEntry p.0.0) pool.entries i f.0 pool.each f.1 }, m.1)
+
+  safe_entry : {P : World → Type 0} (w : World) (place : Place) (i n : ℕ) (r : HasEntry w place i n) (go : ℕ → List (Option (List ℕ))
+      → (List (Option (List ℕ)) → World) → Option (List ℕ) → Stepped)
+      → IsSafe P (go n r.pool.entries (λ new. with_slot w r.pool.q (Pool n new)) r.entry)
+      → IsSafe P (pool_at d w place (λ n entries put. need (slice_get entries i) UnmappedByte (go n entries put)))
+  safe_entry w place i n r go k = safe_pool d w place n r.m r.pool _ (safe_need (slice_get r.pool.entries i) _ _ r.entry r.there k)
+
+  safe_absent : {P : World → Type 0} (entry : Option (List ℕ)) (a b : Stepped) → IsSafe P a → IsSafe P b → IsSafe P (if_absent entry a b)
+  safe_absent None a b x y = x
+  safe_absent (Some bytes) a b x y = y
+
+  same_slots : (ops : List ℕ) (q : Spot) → slot_at (standing d (with_operands d ops)) q ≡ slot_at d.world q
+  same_slots ops = slots_kept promised c d t g state h (with_operands d ops) refl
+
+  -- another entry
+  entry_put : (ops bounds : List ℕ) (n i : ℕ) (place : Place) (r : HasEntry (standing d (with_operands d ops)) place i n) (entry : Option (List ℕ))
+      → Under ops bounds → IsEntry n entry
+      → At bounds (with_slot (standing d (with_operands d ops)) r.pool.q (Pool n (slice_set r.pool.entries i entry)))
+  entry_put ops bounds n i place r entry u is =
+      put_alike promised c d (record state { bounds = bounds }) (standing d (with_operands d ops)) (stands ops d.leaf.locals bounds u h.locals) r.pool.q
+      (Pool n r.pool.entries) (Pool n (slice_set r.pool.entries i entry)) r.pool.there
+      (λ kind of. (of.0 ∙ ap (Pool_kind n) (sym (length-set r.pool.entries i entry)), each_set (IsEntry n) r.pool.entries i entry is r.pool.each))
+
+  settles : (w : World) (bounds : List ℕ) (new : State) → At bounds w → record state { bounds = bounds } ≡ new → Ends_at new (settled d.system d.x w)
+  unfolding Ends_at
+  settles w bounds new s e = subst (λ new. IsSafe (StandsAt promised c new d) (settled d.system d.x w)) e
+      (safe_settled promised c d (record state { bounds = bounds }) w s)
+
+  take_goes : (place : Place) (new : State) → judge c state (Take place) ≡ Ok new → Ends_at new (instruct d (Take place))
+  unfolding Ends_at
+  take_goes place new e =
+      pops state (λ i t. pooled c state place i (λ n. pushed 1 t)) d.leaf.operands _ new h.operands e (λ i b below rest le u e.
+      let ops = 1 ∷ below in
+      let w = standing d (with_operands d ops) in
+      let f = entry_found w (same_slots ops) place i b (λ n. pushed 1 (record state { bounds = rest })) new le e in
+      let x = pushed_there 1 (record state { bounds = rest }) new f.2 in
+      safe_entry w place i f.0 f.1 (λ n entries put entry.
+      if_absent entry (settled d.system d.x (put (slice_set entries i (Some (replicate n 0))))) (on_stack d (0 ∷ below)))
+      (safe_absent f.1.entry _ _
+      (settles _ (1 ∷ rest) new (entry_put ops (1 ∷ rest) f.0 i place f.1 (Some (replicate f.0 0)) (omega arith, u) (fresh_entry f.0)) (sym x.1))
+      (adds 0 1 below rest new (omega arith) u f.2)))
+
+  give_goes : (place : Place) (new : State) → judge c state (Give place) ≡ Ok new → Ends_at new (instruct d (Give place))
+  unfolding Ends_at
+  give_goes place new e =
+      pops state (λ i t. pooled c state place i (λ n. pushed 1 t)) d.leaf.operands _ new h.operands e (λ i b below rest le u e.
+      let ops = 1 ∷ below in
+      let w = standing d (with_operands d ops) in
+      let f = entry_found w (same_slots ops) place i b (λ n. pushed 1 (record state { bounds = rest })) new le e in
+      let x = pushed_there 1 (record state { bounds = rest }) new f.2 in
+      safe_entry w place i f.0 f.1 (λ n entries put entry. if_absent entry (on_stack d (0 ∷ below)) (Ok (put (slice_set entries i None), Quiet)))
+      (safe_absent f.1.entry _ _
+      (adds 0 1 below rest new (omega arith) u f.2)
+      (gives_at _ Quiet (1 ∷ rest) new (entry_put ops (1 ∷ rest) f.0 i place f.1 None (omega arith, u) tt) (sym x.1))))
+
+  peek_goes : (place : Place) (new : State) → judge c state (Peek place) ≡ Ok new → Ends_at new (instruct d (Peek place))
+  unfolding Ends_at
+  peek_goes place new e =
+      pops state (λ k t. popped t (λ i u. pooled c state place i (λ n. must (nat_lt k n) OutOfRange (pushed 255 u)))) d.leaf.operands _ new h.operands e
+      (λ k top below rest k_le u e.
+      pops (record state { bounds = rest }) (λ i u. pooled c state place i (λ n. must (nat_lt top n) OutOfRange (pushed 255 u))) below _ new u e
+      (λ i b ops bounds le u e.
+      let f = entry_found d.world (λ q. refl) place i b (λ n. must (nat_lt top n) OutOfRange (pushed 255 (record state { bounds = bounds }))) new le e in
+      let m = must_holds (nat_lt top f.0) OutOfRange (pushed 255 (record state { bounds = bounds })) new f.2 in
+      let less = ltb-true top f.0 m.0 in
+      safe_entry d.world place i f.0 f.1 (λ n entries put entry. when (nat_lt k n) UnmappedByte (on_stack d (entry_byte entry k ∷ ops)))
+      (safe_when (nat_lt k f.0) _ _ (lt-ltb k f.0 (omega (arith, less, k_le)))
+      (adds (entry_byte f.1.entry k) 255 ops bounds new (entry_below f.0 k f.1.entry f.1.is) u m.1))))
+
+  poke_goes : (place : Place) (new : State) → judge c state (Poke place) ≡ Ok new → Ends_at new (instruct d (Poke place))
+  unfolding Ends_at
+  poke_goes place new e =
+      pops state (λ b t. popped t (λ k u. popped u (λ i v. pooled c state place i (λ n. must (nat_lt k n) OutOfRange (Ok v))))) d.leaf.operands _ new h.operands
+      e (λ byte most under rest byte_le u e.
+      pops (record state { bounds = rest }) (λ k u. popped u (λ i v. pooled c state place i (λ n. must (nat_lt k n) OutOfRange (Ok v)))) under _ new u e
+      (λ k top below left k_le u e.
+      pops (record state { bounds = left }) (λ i v. pooled c state place i (λ n. must (nat_lt top n) OutOfRange (Ok v))) below _ new u e
+      (λ i b ops bounds le u e.
+      let w = standing d (with_operands d ops) in
+      let f = entry_found w (same_slots ops) place i b (λ n. must (nat_lt top n) OutOfRange (Ok (record state { bounds = bounds }))) new le e in
+      let m = must_holds (nat_lt top f.0) OutOfRange (Ok (record state { bounds = bounds })) new f.2 in
+      let less = ltb-true top f.0 m.0 in
+      safe_entry w place i f.0 f.1 (λ n entries put entry. when (nat_lt k n) UnmappedByte (Ok (put (slice_set entries i (entry_with k byte entry)), Quiet)))
+      (safe_when (nat_lt k f.0) _ _ (lt-ltb k f.0 (omega (arith, less, k_le)))
+      (gives_at _ Quiet bounds new (entry_put ops bounds f.0 i place f.1 (entry_with k byte f.1.entry) u (entry_changed f.0 k byte f.1.entry f.1.is))
+      (ok_same m.1))))))
+
+  -- ALL
+
+  goes : (new : State) (i : Instruction) → IsOfOwn i → all_of in_range (operands i) ≡ true → judge c state i ≡ Ok new → Ends_at new (instruct d i)
+  unfolding Ends_at
+  goes new (Say text) own ranged e = gives_at _ (Line text) state.bounds new (stands d.leaf.operands d.leaf.locals state.bounds h.operands h.locals) (ok_same e)
+  goes new Out own ranged e = out_goes new e
+  goes new Drop own ranged e = drop_goes new e
+  goes new Dup own ranged e = dup_goes new e
+  goes new (Push n) own ranged e = pushes n n d.leaf.operands state.bounds new (omega arith) h.operands e
+  goes new (Divide n) own ranged e = divide_goes n (divides n greatest_number ranged) new e
+  goes new (Modulo n) own ranged e = modulo_goes n (divides n greatest_number ranged) new e
+  goes new (Get i) own ranged e = get_goes i new e
+  goes new (Set i) own ranged e = set_goes i new e
+  goes new (Index i) own ranged e = index_goes i new e
+  goes new (Combine f) own ranged e = combine_goes f new e
+  goes new (Make form place n) own ranged e = makes promised c d t g state h place _ (Memory form n) new (and_left (is_slot place) _ ranged)
+      (fresh_bytes promised c d t g state h form n) e
+  goes new (MakePool place n m) own ranged e = makes promised c d t g state h place _ (Pool_kind n m) new (and_left (is_slot place) _ ranged)
+      (fresh_pool promised c d t g state h n m) e
+  goes new (Load width place) own ranged e = load_goes width place new e
+  goes new (Store width place) own ranged e = store_goes width place new e
+  goes new (Free place) own ranged e = frees promised c d t g state h place new (and_left (is_slot place) _ ranged) e
+  goes new (Take place) own ranged e = take_goes place new e
+  goes new (Give place) own ranged e = give_goes place new e
+  goes new (Peek place) own ranged e = peek_goes place new e
+  goes new (Poke place) own ranged e = poke_goes place new e
+  goes new (Open place service n) own ranged e = absurd own
+  goes new (Upgrade place n) own ranged e = absurd own
+  goes new (Call place) own ranged e = absurd own
+  goes new (Close place) own ranged e = absurd own
+
+-- each of them goes as the rules tell
+pub own_goes : (promised : ℕ → Option Kind) (c : Context) (d : Doing) → Takes d → Grants promised c d → GoesAsRuled promised c d
+unfolding Ends_at
+own_goes promised c d t g state new i own ranged h allowed = goes promised c d t g state h new i own ranged (judged_alone c state i new allowed)

@@ -1,0 +1,84 @@
+-- What the proofs say of sections at hand, of the statements that are left, and of the steps that they cost.
+use Rattle.std.specs.Prelude.{◌≡◌, ℕ, suc, ◌<◌, ◌≤◌, ◌==◌, if◌then◌else◌, List, [], ◌∷◌, Option, Some, None, Ok, slice_get}
+use Rattle.gq_model.specs.declared.program.Section.{Section}
+use Rattle.gq_model.specs.declared.program.Section.TheVariants.{Main, Opening, Upgrading, Calling, Closing}
+use Rattle.gq_model.specs.machine.Program.{Statements}
+use Rattle.gq_model.specs.machine.Lists.{or_first}
+use Rattle.gq_model.specs.machine.Scenario.{System, Component}
+use Rattle.gq_model.specs.machine.World.{Session, Ask, Ask_open, Ask_upgrade, Ask_close, Ask_call, Request, Hand, Round, Leaf, World}
+use Rattle.gq_model.specs.machine.Step.{section_for}
+use Rattle.gq_model.specs.rules.Kinds.{Kind, Empty_kind, Link_kind, State, Context, no_kinds}
+use Rattle.gq_model.specs.rules.Flow.{flow, bank_at}
+use Rattle.gq_model.specs.rules.Use.{subject}
+
+-- KINDS OF SLOTS
+
+-- the level that a session has once its request is at hand
+abbrev pub level_then : Ask → ℕ → ℕ
+level_then Ask_upgrade level = suc level
+level_then Ask_open level = level
+level_then Ask_close level = level
+level_then (Ask_call value) level = level
+
+-- the section that the first request of a session starts
+abbrev pub section_waiting : ℕ → Session → List Request → Option Section
+section_waiting k s [] = None
+section_waiting k s (r ∷ rest) = if r.session == k then Some (section_for r.ask (level_then r.ask s.level)) else section_waiting k s rest
+
+abbrev pub section_if : ℕ → Option Hand → Option Section
+section_if k None = None
+section_if k (Some hand) = if hand.session == k then Some hand.section else None
+
+-- the section at a leaf's hand, if it is for this session
+abbrev pub section_at_hand : ℕ → Option Leaf → Option Section
+section_at_hand k None = None
+section_at_hand k (Some leaf) = section_if k leaf.hand
+
+-- the section that a session waits for
+abbrev pub section_asked : World → ℕ → Session → Option Section
+section_asked w k s = or_first (section_waiting k s w.requests) (section_at_hand k (slice_get w.leaves s.server))
+
+-- what the reply makes of the client's slot
+abbrev pub kind_replied : Section → Session → Kind
+kind_replied Main s = Empty_kind
+kind_replied Opening s = Link_kind s.service 0 s.donation
+kind_replied (Upgrading l) s = Link_kind s.service l s.donation
+kind_replied (Calling l) s = Link_kind s.service l s.donation
+kind_replied (Closing l) s = Empty_kind
+
+-- OPERANDS
+
+-- as many operands as bounds, and none above its own
+abbrev pub Under : List ℕ → List ℕ → Type 0
+Under [] [] = Unit {0}
+Under (a ∷ operands) (b ∷ bounds) = (a ≤ b) × Under operands bounds
+Under [] (b ∷ bounds) = ⊥
+Under (a ∷ operands) [] = ⊥
+
+-- STATEMENTS LEFT
+
+-- the counts of the loops around
+abbrev pub counts_of : List Round → List ℕ
+counts_of [] = []
+counts_of (r ∷ loops) = r.count ∷ counts_of loops
+
+-- the context inside these loops
+abbrev pub within : Context → List Round → Context
+within c loops = record c { counts = counts_of loops }
+
+-- from the state at the end of the innermost block, the loops around lead to the section's end
+abbrev pub After : Context → List Round → State → State → Type 0
+After c [] u end = u ≡ end
+After c (r ∷ loops) u end =
+    (u.bounds ≡ []) × (r.round < r.count) × (flow (within c (r ∷ loops)) u r.body ≡ Ok u)
+    × ((v : State) × (flow (within c loops) u r.rest ≡ Ok v) × After c loops v end)
+
+-- the statements left lead, by the rules, from a state to the section's end
+abbrev pub Continues : Context → State → Statements → List Round → State → Type 0
+Continues c s todo loops end = (u : State) × (flow (within c loops) s todo ≡ Ok u) × After c loops u end
+
+-- SESSIONS
+
+-- its bank as the last section left it
+abbrev pub bank_kinds : System → Component → Session → List Kind
+bank_kinds system server s = if s.accepted then bank_at (subject system server) s.level else no_kinds
