@@ -1,10 +1,15 @@
 -- Inputs that were read, and what their run is to write.
-use Rattle.std.proofs.Common.{◌≡◌, List, ℕ, Option, Err, subst}
+use Rattle.std.proofs.Common.{◌≡◌, List, ℕ, Option, Err, Global, subst}
+use Rattle.std.specs.Prelude.{String, string_bytes}
 use Rattle.gq_world.specs.Outcomes.{IsCutShort}
 use Rattle.gq_cli.specs.declared.execute.Fault.{Fault}
-use Rattle.gq_cli.specs.declared.execute.Fault.TheVariants.{Write}
+use Rattle.gq_cli.specs.declared.execute.Fault.TheVariants.{Refused, Write}
 use Rattle.gq_cli.specs.Ends.{Ended, IsKnown}
-use Rattle.gq_cli.specs.Executed.{Asked, IsInput, RunsFiles, Run_of, written_of}
+use Rattle.gq_command.specs.declared.command.Command.{Command}
+use Rattle.gq_command.specs.declared.command.Command.TheVariants.{Check, Run, Asm, Stored, Help}
+use Rattle.gq_world.specs.declared.counted.Counted.{Counted}
+use Rattle.gq_command.specs.Stored.{parted}
+use Rattle.gq_cli.specs.Executed.{Asked, Check_of, Run_of, Asm_of, Text_of, Executes, IsInput, IsRefusal, IsTold, RunsFiles, written_of}
 
 module _ (scenario scenario_left turns turns_left : Option (List ℕ)) (holds : Asked → Type 0) where
   pub runs_files : (s t s' t' : List ℕ) → IsInput scenario scenario_left s → IsInput turns turns_left t → s' ≡ s → t' ≡ t → holds (Run_of s' t')
@@ -21,3 +26,31 @@ module _ (scenario scenario_left turns turns_left : Option (List ℕ)) (holds : 
 pub cut_short : (A : Type 0) (E : (Asked → Type 0) → Type 0) (f : Fault) (before after : Option (List ℕ)) → f ≡ Write
     → (IsKnown {A = A} (Err f) → E (Ended {A = A} (Err f) before after)) → E (λ asked. IsCutShort (written_of asked) before after)
 cut_short A E f before after e h = subst (λ x. IsKnown {A = A} (Err x) → E (Ended {A = A} (Err x) before after)) e h (tt {0})
+
+-- what holds of all that is asked holds of what a command asks
+pub executes_by : (command : Command) (scenario scenario_left turns turns_left : Option (List ℕ)) (P Q : Asked → Type 0) → ((asked : Asked) → P asked → Q asked)
+    → Executes command scenario scenario_left turns turns_left P → Executes command scenario scenario_left turns turns_left Q
+executes_by (Check s) scenario scenario_left turns turns_left P Q so h = record { text = h.text; read = h.read; so = so (Check_of h.text) h.so }
+executes_by (Run s t) scenario scenario_left turns turns_left P Q so h = record {
+  scenario_text = h.scenario_text;
+  turns_text = h.turns_text;
+  scenario_read = h.scenario_read;
+  turns_read = h.turns_read;
+  so = so (Run_of h.scenario_text h.turns_text) h.so;
+}
+executes_by (Asm s leaf) scenario scenario_left turns turns_left P Q so h =
+    record { text = h.text; read = h.read; so = so (Asm_of h.text (string_bytes leaf)) h.so }
+executes_by Stored scenario scenario_left turns turns_left P Q so h =
+    record { text = h.text; read = h.read; so = so (Run_of (parted h.text).0 (parted h.text).1) h.so }
+executes_by (Help text) scenario scenario_left turns turns_left P Q so h = so (Text_of (string_bytes text)) h
+
+-- where the texts are refused, the line that says why was told
+pub refused_told : (A : Type 0) {E : Type 0} (contents : E → Option (List ℕ)) (old new : Counted E) (command : Command)
+    (scenario scenario_left turns turns_left : Option (List ℕ)) (f : Fault) (line : String Global) (before after : Option (List ℕ)) → f ≡ Refused line
+    → (IsKnown {A = A} (Err f) → Executes command scenario scenario_left turns turns_left (Ended {A = A} (Err f) before after))
+    → IsTold contents old new (string_bytes line)
+    → Executes command scenario scenario_left turns turns_left (λ asked. IsRefusal contents asked old new)
+refused_told A contents old new command scenario scenario_left turns turns_left f line before after e h told =
+    executes_by command scenario scenario_left turns turns_left (Ended {A = A} (Err (Refused line)) before after) (λ asked. IsRefusal contents asked old new)
+    (λ asked r. record { line = string_bytes line; refused = r; told = told })
+    (subst (λ x. IsKnown {A = A} (Err x) → Executes command scenario scenario_left turns turns_left (Ended {A = A} (Err x) before after)) e h (tt {0}))

@@ -1,7 +1,7 @@
 -- How a command ends before anything is told of it.
-use Rattle.std.specs.Prelude.{◌≡◌, ℕ, List, Option, Result, Ok, Err, string_bytes}
+use Rattle.std.specs.Prelude.{ℕ, List, Option, Result, Ok, Err, string_bytes}
 use Rattle.gq_world.specs.Outcomes.{IsCutShort, IsWhole}
-use Rattle.gq_cli.specs.Executed.{Asked, stage_of, written_of}
+use Rattle.gq_cli.specs.Executed.{Asked, IsRefusedBy, written_of}
 use Rattle.gq_cli.specs.declared.execute.Fault.{Fault}
 use Rattle.gq_cli.specs.declared.execute.Fault.TheVariants.{Refused, Memory, Read, Write}
 
@@ -16,7 +16,7 @@ IsKnown (Err Write) = Unit {0}
 -- the text was written whole, or it is refused by this line, or a front of it was written
 abbrev pub Ended : {A : Type 0} → Result A Fault → (before after : Option (List ℕ)) → Asked → Type 0
 Ended (Ok u) before after asked = IsWhole (written_of asked) before after
-Ended (Err (Refused line)) before after asked = stage_of asked ≡ Err (string_bytes line)
+Ended (Err (Refused line)) before after asked = IsRefusedBy asked (string_bytes line)
 Ended (Err Memory) before after asked = ⊥
 Ended (Err Read) before after asked = ⊥
 Ended (Err Write) before after asked = IsCutShort (written_of asked) before after

@@ -4,14 +4,14 @@ use Rattle.std.specs.Io.KnownBytes.{Appends, Consumes, IsAtEnd}
 use Rattle.gq_world.specs.declared.counted.Counted.{Counted}
 use Rattle.gq_world.specs.Counts.{written_to, failures_of}
 use Rattle.gq_world.specs.Writes.{IsFront, IsRaised}
-use Rattle.gq_world.specs.Written.{Written, refused_with}
-use Rattle.gq_world.specs.Whole.{run_written, run_told, check_written, asm_written}
+use Rattle.gq_world.specs.Outcomes.{IsNotYet, not_yet_text}
+use Rattle.gq_world.specs.Whole.{Written, refused_with, run_written, check_written, asm_written}
 use Rattle.gq_world.specs.Headline.{WritesPromised}
-use Rattle.gq_cli.specs.Stored.{parted}
-use Rattle.gq_cli.specs.declared.command.Command.{Command}
-use Rattle.gq_cli.specs.declared.command.Command.TheVariants.{Check, Run, Asm, Stored, Help}
-use Rattle.gq_cli.specs.declared.status.Status.{Status}
-use Rattle.gq_cli.specs.declared.status.Status.TheVariants.{Done, Refused, BadCommandLine, HostMemory, FileFault}
+use Rattle.gq_command.specs.Stored.{parted}
+use Rattle.gq_command.specs.declared.command.Command.{Command}
+use Rattle.gq_command.specs.declared.command.Command.TheVariants.{Check, Run, Asm, Stored, Help}
+use Rattle.gq_command.specs.declared.status.Status.{Status}
+use Rattle.gq_command.specs.declared.status.Status.TheVariants.{Done, Refused, BadCommandLine, HostMemory, FileFault}
 
 -- READING
 
@@ -45,19 +45,19 @@ pub data Asked : Type 0 where
   Asm_of : (scenario leaf : List ℕ) → Asked
   Text_of : (text : List ℕ) → Asked
 
--- its text by the definition of the whole language, or the line that refuses it
+-- its text by the definition, or the line that refuses it
 abbrev pub written_of : Asked → Written
 written_of (Check_of scenario) = check_written scenario
 written_of (Run_of scenario turns) = run_written scenario turns
 written_of (Asm_of scenario leaf) = asm_written scenario leaf
 written_of (Text_of text) = Ok text
 
--- the same, a run by the definition of what the machine runs so far
-abbrev pub stage_of : Asked → Written
-stage_of (Check_of scenario) = check_written scenario
-stage_of (Run_of scenario turns) = run_told scenario turns
-stage_of (Asm_of scenario leaf) = asm_written scenario leaf
-stage_of (Text_of text) = Ok text
+-- the line that refuses it is the definition's, or, until the machine runs the whole language, it says of an accepted scenario that it is not run yet
+abbrev pub IsRefusedBy : Asked → List ℕ → Type 0
+IsRefusedBy (Check_of scenario) line = check_written scenario ≡ Err line
+IsRefusedBy (Run_of scenario turns) line = (run_written scenario turns ≡ Err line) ⊎ ((line ≡ refused_with not_yet_text) × IsNotYet scenario)
+IsRefusedBy (Asm_of scenario leaf) line = asm_written scenario leaf ≡ Err line
+IsRefusedBy (Text_of text) line = ⊥
 
 -- where it is a run, what was written is the text of one that upholds what is promised
 abbrev pub IsUpheldBy : Asked → (before after : Option (List ℕ)) → Type 0
@@ -111,7 +111,7 @@ IsTold contents old new line =
     ⊎ (IsFront (written_to contents old) (written_to contents new) line × IsRaised (failures_of old) (failures_of new))
 
 -- the texts are refused, and the line that says why was told
-pub record IsRefusal {E : Type 0} (contents : E → Option (List ℕ)) (w : Written) (old new : Counted E) : Type 0 where
+pub record IsRefusal {E : Type 0} (contents : E → Option (List ℕ)) (asked : Asked) (old new : Counted E) : Type 0 where
   pub line : List ℕ
-  pub refused : w ≡ Err line
+  pub refused : IsRefusedBy asked line
   pub told : IsTold contents old new line

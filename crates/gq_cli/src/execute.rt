@@ -4,19 +4,21 @@ ghost use Rattle.gq_world.specs.Counts.{written_to, failures_of};
 ghost use Rattle.gq_world.specs.Writes.{IsRaised};
 ghost use Rattle.gq_world.specs.Outcomes.{IsCutShort, IsWhole};
 ghost use Rattle.gq_world.specs.Headline.{WritesPromised};
-ghost use Rattle.gq_cli.specs.Input.{GivesAtMost};
+ghost use Rattle.gq_command.specs.Input.{GivesAtMost};
 ghost use Rattle.gq_cli.specs.Ends.{Ended, IsKnown, IsSilent};
-ghost use Rattle.gq_cli.specs.Executed.{Executes, IsRefusal, IsTold, IsUpheldBy, ReadsScenario, RunsFiles, RunsStored, Check_of, Run_of, Asm_of, Text_of, reads_scenario, reads_turns, stage_of, status_line, written_of};
+ghost use Rattle.gq_cli.specs.Executed.{Executes, IsRefusal, IsTold, IsUpheldBy, ReadsScenario, RunsFiles, RunsStored, Check_of, Run_of, Asm_of, Text_of};
+ghost use Rattle.gq_cli.specs.Executed.{reads_scenario, reads_turns, status_line, written_of};
 ghost use Rattle.gq_cli.specs.declared.execute.Fault.TheVariants as fault;
 
-use crate::command::Command;
-use crate::input::{InputError, read_input};
-use crate::status::Status;
-use crate::stored::parted;
-use gq_world::asm::{AsmFault, asm};
-use gq_world::check::{CheckFault, check};
+use gq_command::command::Command;
+use gq_command::input::{InputError, read_input};
+use gq_command::status::Status;
+use gq_command::stored::parted;
+use gq_world::asm::asm;
+use gq_world::check::check;
 use gq_world::counted::{Counted, put};
-use gq_world::run::{RunFault, run};
+use gq_world::fault::RunFault;
+use gq_world::run::run;
 use std::alloc::{AllocError, Global};
 use std::io::{Read, Write};
 
@@ -58,7 +60,8 @@ impl From<InputError> for Fault {
 
 /// Does what a command asks for, and tells on `err`, in one line, why it was not done.
 ///
-/// `Check` reads the scenario and writes the budget of each leaf; `Run` reads the scenario and then the turns, each whole; `Asm` reads the scenario and writes the code of a leaf; `Stored` reads both from `scenario`, parted by a line `%%`. The run's
+/// `Check` reads the scenario and writes the budget of each leaf; `Run` reads the scenario and then the turns, each whole; `Asm` reads the scenario and writes
+/// the code of a leaf; `Stored` reads both from `scenario`, parted by a line `%%`. The run's
 /// lines and accounts go to `out`. `Help` reads nothing and writes its text to `out`. Each reader is asked for 18 MiB and one byte
 /// at most; more, or a read that fails, is a file fault. Nothing goes to `out` where the scenario or the turns are refused, where
 /// host memory is, or where a read failed; after a failed write a front of the text went out. A failed write on `err` changes
@@ -72,20 +75,26 @@ pub fn execute<R: Read, T: Read, W: Write, E: Write>(
     err: &mut Counted<E>,
 ) -> Status
     // The whole text was written, that of a run which upholds what is promised, and nothing was told.
-    ensures done { result ≡ Status.Done → Executes command.now (R.remaining scenario.old) (R.remaining scenario.new) (T.remaining turns.old) (T.remaining turns.new) (λ asked. IsWhole (written_of asked) (written_to W.contents out.old) (written_to W.contents out.new)) }
-    ensures upheld { result ≡ Status.Done → Executes command.now (R.remaining scenario.old) (R.remaining scenario.new) (T.remaining turns.old) (T.remaining turns.new) (λ asked. IsUpheldBy asked (written_to W.contents out.old) (written_to W.contents out.new)) }
+    ensures done { result ≡ Status.Done → Executes command.now (R.remaining scenario.old) (R.remaining scenario.new) (T.remaining turns.old)
+        (T.remaining turns.new) (λ asked. IsWhole (written_of asked) (written_to W.contents out.old) (written_to W.contents out.new)) }
+    ensures upheld { result ≡ Status.Done → Executes command.now (R.remaining scenario.old) (R.remaining scenario.new) (T.remaining turns.old)
+        (T.remaining turns.new) (λ asked. IsUpheldBy asked (written_to W.contents out.old) (written_to W.contents out.new)) }
     ensures counted { result ≡ Status.Done → failures_of out.new ≡ failures_of out.old }
     ensures quiet { result ≡ Status.Done → err.new ≡ err.old }
 
     // The texts are refused by the line that was told.
-    ensures refused { result ≡ Status.Refused → Executes command.now (R.remaining scenario.old) (R.remaining scenario.new) (T.remaining turns.old) (T.remaining turns.new) (λ asked. IsRefusal E.contents (stage_of asked) err.old err.new) }
+    ensures refused { result ≡ Status.Refused → Executes command.now (R.remaining scenario.old) (R.remaining scenario.new) (T.remaining turns.old)
+        (T.remaining turns.new) (λ asked. IsRefusal E.contents asked err.old err.new) }
     ensures unwritten { result ≡ Status.Refused → out.new ≡ out.old }
 
     // Host memory was refused, and nothing was written.
     ensures silent { result ≡ Status.HostMemory → out.new ≡ out.old }
 
     // A read failed and nothing was written, or a write failed and a front of the text was written.
-    ensures cut { result ≡ Status.FileFault → ((reads_scenario command.now ≡ true) × (out.new ≡ out.old)) ⊎ (Executes command.now (R.remaining scenario.old) (R.remaining scenario.new) (T.remaining turns.old) (T.remaining turns.new) (λ asked. IsCutShort (written_of asked) (written_to W.contents out.old) (written_to W.contents out.new)) × IsRaised (failures_of out.old) (failures_of out.new)) }
+    ensures cut { result ≡ Status.FileFault → ((reads_scenario command.now ≡ true) × (out.new ≡ out.old))
+        ⊎ (Executes command.now (R.remaining scenario.old) (R.remaining scenario.new) (T.remaining turns.old) (T.remaining turns.new)
+        (λ asked. IsCutShort (written_of asked) (written_to W.contents out.old) (written_to W.contents out.new))
+        × IsRaised (failures_of out.old) (failures_of out.new)) }
 
     // Other refusals have the line of their status.
     ensures told { result ≢ Status.Refused → IsTold E.contents err.old err.new (status_line result) }
@@ -150,8 +159,10 @@ fn perform<R: Read, T: Read, W: Write>(
     turns: &mut T,
     out: &mut Counted<W>,
 ) -> Result<(), Fault>
-    ensures ended { IsKnown result → Executes command.now (R.remaining scenario.old) (R.remaining scenario.new) (T.remaining turns.old) (T.remaining turns.new) (Ended result (written_to W.contents out.old) (written_to W.contents out.new)) }
-    ensures upheld { OnOk result (Executes command.now (R.remaining scenario.old) (R.remaining scenario.new) (T.remaining turns.old) (T.remaining turns.new) (λ asked. IsUpheldBy asked (written_to W.contents out.old) (written_to W.contents out.new))) }
+    ensures ended { IsKnown result → Executes command.now (R.remaining scenario.old) (R.remaining scenario.new) (T.remaining turns.old) (T.remaining turns.new)
+        (Ended result (written_to W.contents out.old) (written_to W.contents out.new)) }
+    ensures upheld { OnOk result (Executes command.now (R.remaining scenario.old) (R.remaining scenario.new) (T.remaining turns.old) (T.remaining turns.new)
+        (λ asked. IsUpheldBy asked (written_to W.contents out.old) (written_to W.contents out.new))) }
     ensures counted { OnOk result (failures_of out.new ≡ failures_of out.old) }
     ensures silent { IfErr result (λ f. IsSilent f → out.new ≡ out.old) }
     ensures raised { result ≡ Err fault.Write → IsRaised (failures_of out.old) (failures_of out.new) }
@@ -177,8 +188,10 @@ fn run_files<R: Read, T: Read, W: Write>(
     turns: &mut T,
     out: &mut Counted<W>,
 ) -> Result<(), Fault>
-    ensures ended { IsKnown result → RunsFiles (R.remaining scenario.old) (R.remaining scenario.new) (T.remaining turns.old) (T.remaining turns.new) (Ended result (written_to W.contents out.old) (written_to W.contents out.new)) }
-    ensures upheld { OnOk result (RunsFiles (R.remaining scenario.old) (R.remaining scenario.new) (T.remaining turns.old) (T.remaining turns.new) (λ asked. IsUpheldBy asked (written_to W.contents out.old) (written_to W.contents out.new))) }
+    ensures ended { IsKnown result → RunsFiles (R.remaining scenario.old) (R.remaining scenario.new) (T.remaining turns.old) (T.remaining turns.new)
+        (Ended result (written_to W.contents out.old) (written_to W.contents out.new)) }
+    ensures upheld { OnOk result (RunsFiles (R.remaining scenario.old) (R.remaining scenario.new) (T.remaining turns.old) (T.remaining turns.new)
+        (λ asked. IsUpheldBy asked (written_to W.contents out.old) (written_to W.contents out.new))) }
     ensures counted { OnOk result (failures_of out.new ≡ failures_of out.old) }
     ensures silent { IfErr result (λ f. IsSilent f → out.new ≡ out.old) }
     ensures raised { result ≡ Err fault.Write → IsRaised (failures_of out.old) (failures_of out.new) }
@@ -196,8 +209,10 @@ fn run_stored<R: Read, W: Write>(
     stored: &mut R,
     out: &mut Counted<W>,
 ) -> Result<(), Fault>
-    ensures ended { IsKnown result → RunsStored (R.remaining stored.old) (R.remaining stored.new) (Ended result (written_to W.contents out.old) (written_to W.contents out.new)) }
-    ensures upheld { OnOk result (RunsStored (R.remaining stored.old) (R.remaining stored.new) (λ asked. IsUpheldBy asked (written_to W.contents out.old) (written_to W.contents out.new))) }
+    ensures ended { IsKnown result → RunsStored (R.remaining stored.old) (R.remaining stored.new)
+        (Ended result (written_to W.contents out.old) (written_to W.contents out.new)) }
+    ensures upheld { OnOk result (RunsStored (R.remaining stored.old) (R.remaining stored.new)
+        (λ asked. IsUpheldBy asked (written_to W.contents out.old) (written_to W.contents out.new))) }
     ensures counted { OnOk result (failures_of out.new ≡ failures_of out.old) }
     ensures silent { IfErr result (λ f. IsSilent f → out.new ≡ out.old) }
     ensures raised { result ≡ Err fault.Write → IsRaised (failures_of out.old) (failures_of out.new) }
@@ -236,7 +251,8 @@ fn write_code<R: Read, W: Write>(
     leaf: &str,
     out: &mut Counted<W>,
 ) -> Result<(), Fault>
-    ensures ended { IsKnown result → ReadsScenario (R.remaining scenario.old) (R.remaining scenario.new) (λ text. Asm_of text leaf.now) (Ended result (written_to W.contents out.old) (written_to W.contents out.new)) }
+    ensures ended { IsKnown result → ReadsScenario (R.remaining scenario.old) (R.remaining scenario.new) (λ text. Asm_of text leaf.now)
+        (Ended result (written_to W.contents out.old) (written_to W.contents out.new)) }
     ensures counted { OnOk result (failures_of out.new ≡ failures_of out.old) }
     ensures silent { IfErr result (λ f. IsSilent f → out.new ≡ out.old) }
     ensures raised { result ≡ Err fault.Write → IsRaised (failures_of out.old) (failures_of out.new) }
@@ -260,8 +276,8 @@ fn write_code_of<W: Write>(
 {
     match asm(alloc, scenario, leaf, out) {
         Ok(()) => Ok(()),
-        Err(AsmFault::Memory) => Err(Fault::Memory),
-        Err(AsmFault::Write) => Err(Fault::Write),
+        Err(RunFault::Memory) => Err(Fault::Memory),
+        Err(RunFault::Write) => Err(Fault::Write),
         Err(fault) => Err(Fault::Refused(format!(in alloc; "trade: {fault}\n")?)),
     }
 }
@@ -272,7 +288,8 @@ fn write_budgets<R: Read, W: Write>(
     scenario: &mut R,
     out: &mut Counted<W>,
 ) -> Result<(), Fault>
-    ensures ended { IsKnown result → ReadsScenario (R.remaining scenario.old) (R.remaining scenario.new) Check_of (Ended result (written_to W.contents out.old) (written_to W.contents out.new)) }
+    ensures ended { IsKnown result → ReadsScenario (R.remaining scenario.old) (R.remaining scenario.new) Check_of
+        (Ended result (written_to W.contents out.old) (written_to W.contents out.new)) }
     ensures counted { OnOk result (failures_of out.new ≡ failures_of out.old) }
     ensures silent { IfErr result (λ f. IsSilent f → out.new ≡ out.old) }
     ensures raised { result ≡ Err fault.Write → IsRaised (failures_of out.old) (failures_of out.new) }
@@ -295,8 +312,8 @@ fn write_budgets_of<W: Write>(
 {
     match check(alloc, scenario, out) {
         Ok(()) => Ok(()),
-        Err(CheckFault::Memory) => Err(Fault::Memory),
-        Err(CheckFault::Write) => Err(Fault::Write),
+        Err(RunFault::Memory) => Err(Fault::Memory),
+        Err(RunFault::Write) => Err(Fault::Write),
         Err(fault) => Err(Fault::Refused(format!(in alloc; "trade: {fault}\n")?)),
     }
 }

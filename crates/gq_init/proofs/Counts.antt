@@ -1,15 +1,16 @@
 -- The number of turns on a line.
-use Rattle.std.proofs.Common.{◌≡◌, ◌==◌, ℕ, ◌^◌, ◌<◌, ◌≤◌, ◌≢◌, Bool, true, false, ◌&&◌, cond, List, [], ◌∷◌, length, get_or, Option, Some, None, Result, Err, ◌⊎◌, inl, inr, refl, ap, sym, ◌∙◌, arith}
+use Rattle.std.proofs.Common.{◌≡◌, ◌==◌, ℕ, ◌^◌, ◌<◌, ◌≤◌, ◌≢◌, Bool, true, false, ◌&&◌, cond, List, [], ◌∷◌, length, get_or, Option, Some, None, Result, Err}
+use Rattle.std.proofs.Common.{◌⊎◌, inl, inr, refl, ap, sym, ◌∙◌, arith}
 use Rattle.std.proofs.lemmas.Bool.Decides.{nat_tests}
 use Rattle.std.proofs.Math.Nat.{pow-le-pow_right}
-use Rattle.gq_model.specs.Lists.{all_of, between}
+use Rattle.gq_model.specs.machine.Lists.{all_of, between}
 use Rattle.std.proofs.lemmas.Bool.{cases_Bool}
 use Rattle.gq_model.specs.declared.fault.TurnFault.{TurnFault}
 use Rattle.gq_model.specs.declared.fault.TurnFault.TheVariants.{BadLine}
-use Rattle.gq_model.specs.Scenario.{Component}
-use Rattle.gq_model.specs.Routes.{numbered}
-use Rattle.gq_model.specs.Letters.{is_name, pieces, is_digit, is_short, spelled_on}
-use Rattle.gq_model.specs.Turns.{turn_count, turn_in, turn_of}
+use Rattle.gq_model.specs.machine.Scenario.{Component}
+use Rattle.gq_model.specs.machine.Routes.{numbered}
+use Rattle.gq_model.specs.texts.Letters.{is_name, pieces, is_digit, is_short, spelled_on}
+use Rattle.gq_model.specs.texts.Turns.{turn_count, turn_in, turn_of}
 
 abbrev bad_line : Result (ℕ × ℕ) TurnFault
 bad_line = Err BadLine
@@ -59,7 +60,8 @@ cond_both false = refl
 pub power_below : (i k : ℕ) → i ≤ k → 10 ^ i ≤ 10 ^ k
 power_below i k h = pow-le-pow_right {n = 10} (omega arith) h
 
-pub turn_count-some : (text : List ℕ) (n : ℕ) → 0 < length text → length text ≤ 7 → get_or text 0 0 ≢ 48 → all_of is_digit text ≡ true → spelled_on 0 text ≡ n → 1 ≤ n → n < 10 ^ length text
+pub turn_count-some : (text : List ℕ) (n : ℕ) → 0 < length text → length text ≤ 7 → get_or text 0 0 ≢ 48 → all_of is_digit text ≡ true → spelled_on 0 text ≡ n
+    → 1 ≤ n → n < 10 ^ length text
     → turn_count text ≡ Some n
 turn_count-some text n some few first digits spelled low high =
     let fits : n ≤ 9999999 = omega (arith, high, power_below (length text) 7 few) in

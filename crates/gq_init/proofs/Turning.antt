@@ -1,10 +1,11 @@
 -- Turns of lines, one line after another.
-use Rattle.std.proofs.Common.{◌≡◌, ◌==◌, ℕ, suc, ◌+◌, nat_le, Bool, true, false, cond, List, [], ◌∷◌, ◌++◌, Option, Some, None, Result, Ok, Err, refl, ap, sym, add-one, append_assoc}
+use Rattle.std.proofs.Common.{◌≡◌, ◌==◌, ℕ, suc, ◌+◌, nat_le, Bool, true, false, cond, List, [], ◌∷◌, ◌++◌, Option, Some, None, Result, Ok, Err, refl, ap, sym}
+use Rattle.std.proofs.Common.{add-one, append_assoc}
 use Rattle.gq_model.specs.declared.fault.TurnFault.{TurnFault}
 use Rattle.gq_model.specs.declared.fault.TurnFault.TheVariants.{TooMany}
-use Rattle.gq_model.specs.Letters.{pieces}
-use Rattle.gq_model.specs.Scenario.{Component}
-use Rattle.gq_model.specs.Turns.{Turned, turns_from, turn_in, turn_onto, says_nothing, after_line, greatest_turns}
+use Rattle.gq_model.specs.texts.Letters.{pieces}
+use Rattle.gq_model.specs.machine.Scenario.{Component}
+use Rattle.gq_model.specs.texts.Turns.{Turned, turns_from, turn_in, turn_onto, says_nothing, after_line, greatest_turns}
 use Rattle.gq_init.specs.TurnLines.{turn_on, line_turn}
 
 -- these turns before others
@@ -45,11 +46,13 @@ pub turned_none : (components : List Component) (k n : ℕ) (line : List ℕ) (r
     → turns_from components k n (line ∷ rest) ≡ turns_from components (k + 1) n rest
 turned_none components k n line rest e = rw (turns_from-line components k n line rest, e, add-one) refl
 
-pub turned_some : (components : List Component) (k n : ℕ) (line : List ℕ) (rest : List (List ℕ)) (turns : List (ℕ × ℕ)) (turn : ℕ × ℕ) → line_turn components n line ≡ Ok (Some turn)
+pub turned_some : (components : List Component) (k n : ℕ) (line : List ℕ) (rest : List (List ℕ)) (turns : List (ℕ × ℕ)) (turn : ℕ × ℕ)
+    → line_turn components n line ≡ Ok (Some turn)
     → prepended turns (turns_from components k n (line ∷ rest)) ≡ prepended (turns ++ turn ∷ []) (turns_from components (k + 1) (n + turn.1) rest)
 turned_some components k n line rest turns turn e =
     rw (turns_from-line components k n line rest, e, add-one) (prepended-append turns turn (turns_from components (suc k) (n + turn.1) rest))
 
-pub turned_fault : (components : List Component) (k n : ℕ) (line : List ℕ) (rest : List (List ℕ)) (turns : List (ℕ × ℕ)) (fault : TurnFault) → line_turn components n line ≡ Err fault
+pub turned_fault : (components : List Component) (k n : ℕ) (line : List ℕ) (rest : List (List ℕ)) (turns : List (ℕ × ℕ)) (fault : TurnFault)
+    → line_turn components n line ≡ Err fault
     → prepended turns (turns_from components k n (line ∷ rest)) ≡ Err (fault, k)
 turned_fault components k n line rest turns fault e = rw (turns_from-line components k n line rest, e) refl

@@ -1,11 +1,11 @@
 -- Turns, line by line.
 use Rattle.std.specs.Prelude.{◌≡◌, ℕ, ◌+◌, nat_le, ◌==◌, if◌then◌else◌, Bool, true, false, List, Option, Some, None, Result, Ok, Err, Vec}
 use Rattle.std.specs.declared.alloc.Global.{Global}
-use Rattle.gq_model.specs.Letters.{pieces}
-use Rattle.gq_model.specs.Scenario.{Component}
+use Rattle.gq_model.specs.texts.Letters.{pieces}
+use Rattle.gq_model.specs.machine.Scenario.{Component}
 use Rattle.gq_model.specs.declared.fault.TurnFault.{TurnFault}
 use Rattle.gq_model.specs.declared.fault.TurnFault.TheVariants.{TooMany}
-use Rattle.gq_model.specs.Turns.{Turned, turn_in, says_nothing, greatest_turns}
+use Rattle.gq_model.specs.texts.Turns.{Turned, turn_in, says_nothing, greatest_turns}
 use Rattle.gq_init.specs.declared.turns.TurnsError.{TurnsError}
 use Rattle.gq_init.specs.declared.turns.TurnsError.TheVariants.{Memory, Fault}
 

@@ -1,28 +1,21 @@
-//! Scenarios and turns, as texts say them.
+//! Scenarios and turns: a scenario that is read and resolved becomes a table of its nodes, by which the turns of a text are read.
+//!
+//! ```rust
+//! use gq_init::{NodeTable, read_turns};
+//!
+//! // The table of an accepted scenario, from `gq_load`.
+//! let (table, _budgets) = accepted.into_parts();
+//! let turns = read_turns(alloc, b"hello 2\n", &table)?;
+//! ```
 #![tactic(auto)]
 
-pub mod document;
-pub mod fault;
-mod hexadecimal;
-mod interfaces;
-pub mod key;
-mod lines;
-pub mod node;
-mod places;
-pub mod reader;
-#[cfg(test)]
-mod reader_tests;
-pub mod resolve;
-#[cfg(test)]
-mod resolve_tests;
-mod rules;
-pub mod scenario;
-pub mod source;
-pub mod stage;
-mod tables;
-#[cfg(test)]
-mod tests;
-mod tree;
+pub mod table;
 pub mod turns;
-mod value;
-mod walk;
+
+pub use gq_reader::{read_scenario, reader};
+pub use gq_resolve::resolve;
+pub use gq_resolve::routes::Routes;
+pub use gq_scenario::scenario::Scenario;
+pub use gq_scenario::{fault, key, node, scenario, source};
+pub use table::NodeTable;
+pub use turns::read_turns;

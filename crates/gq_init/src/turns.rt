@@ -1,16 +1,17 @@
 // Turns, as texts say them.
 ghost use Rattle.std.specs.Prelude.{◌≡◌, ◌==◌, ◌≤◌, ◌^◌, ◌+◌, length, IfOk, IfSome, alloc_error};
-ghost use Rattle.gq_model.specs.Letters.{pieces};
-ghost use Rattle.gq_model.specs.Scenario.{components};
-ghost use Rattle.gq_model.specs.Turns.{turned, turns_from, turn_in, turn_count, says_nothing, greatest_turns};
-ghost use Rattle.gq_model.specs.Letters.{lines};
+ghost use Rattle.gq_model.specs.texts.Letters.{pieces};
+ghost use Rattle.gq_model.specs.machine.Scenario.{components};
+ghost use Rattle.gq_model.specs.texts.Turns.{turned, turns_from, turn_in, turn_count, says_nothing, greatest_turns};
+ghost use Rattle.gq_model.specs.texts.Letters.{lines};
 ghost use Rattle.gq_init.specs.TurnLines.{IsTurned, line_turn};
 
-use crate::lines::{next_line, next_piece};
-use crate::scenario::LeafNo;
-use crate::stage::scenario::Scenario;
+use crate::table::NodeTable;
 use gq_model::fault::TurnFault;
 use gq_model::letters::{is_digit, is_name};
+use gq_model::limits::{GREATEST_TURNS, GREATEST_TURNS_TEXT};
+use gq_scenario::lines::{next_line, next_piece};
+use gq_scenario::scenario::LeafNo;
 use std::alloc::{AllocError, AllocFailed, Global};
 use thiserror::Error;
 
@@ -34,12 +35,6 @@ impl<T: Drop> From<AllocFailed<T>> for TurnsError {
         TurnsError::Memory(AllocError)
     }
 }
-
-/// The greatest length of a text of turns, in bytes.
-pub const GREATEST_TEXT: usize = 1 << 24;
-
-/// The greatest number of turns.
-pub const GREATEST_TURNS: u32 = 1_000_000;
 
 // Whether a line says nothing: it is empty, or begins with `#`.
 fn says_nothing(line: &[u8]) -> bool
@@ -69,8 +64,8 @@ fn read_count(text: &[u8]) -> Option<u32>
 }
 
 // The leaf and the number of a line that says something.
-fn read_turn(line: &[u8], scenario: &Scenario) -> Result<(LeafNo, u32), TurnFault>
-    ensures { result ≡ turn_in (components scenario.now) (pieces (λ c. c == 32) line.now) }
+fn read_turn(line: &[u8], table: &NodeTable) -> Result<(LeafNo, u32), TurnFault>
+    ensures { result ≡ turn_in (components table.now) (pieces (λ c. c == 32) line.now) }
 {
     let (name, rest) = next_piece(line, b' ');
     let Some(count) = rest else {
@@ -82,26 +77,22 @@ fn read_turn(line: &[u8], scenario: &Scenario) -> Result<(LeafNo, u32), TurnFaul
     let Some(count) = read_count(count) else {
         return Err(TurnFault::BadLine);
     };
-    match scenario.leaf_named(name) {
+    match table.leaf_named(name) {
         Some(leaf) => Ok((leaf, count)),
         None => Err(TurnFault::NoSuchComponent),
     }
 }
 
 // What a line says after so many turns: nothing, or a turn, unless there are too many with it.
-fn read_line(
-    line: &[u8],
-    turns: u32,
-    scenario: &Scenario,
-) -> Result<Option<(LeafNo, u32)>, TurnFault>
+fn read_line(line: &[u8], turns: u32, table: &NodeTable) -> Result<Option<(LeafNo, u32)>, TurnFault>
     requires { turns ≤ greatest_turns }
-    ensures answer { result ≡ line_turn (components scenario.now) turns line.now }
+    ensures answer { result ≡ line_turn (components table.now) turns line.now }
     ensures few { IfOk result (λ turn. IfSome turn (λ t. turns + t.1 ≤ greatest_turns)) }
 {
     if says_nothing(line) {
         return Ok(None);
     }
-    let turn = match read_turn(line, scenario) {
+    let turn = match read_turn(line, table) {
         Ok(turn) => turn,
         Err(fault) => return Err(fault),
     };
@@ -115,10 +106,10 @@ fn read_line(
 fn read_lines(
     alloc: Global,
     text: &[u8],
-    scenario: &Scenario,
+    table: &NodeTable,
 ) -> Result<Vec<(LeafNo, u32)>, TurnsError>
     requires { length text.now ≤ 2 ^ 24 }
-    ensures { IsTurned result (turns_from (components scenario.now) 1 0 (lines text.now)) }
+    ensures { IsTurned result (turns_from (components table.now) 1 0 (lines text.now)) }
 {
     let mut turns = Vec::new(alloc);
     let mut total: u32 = 0;
@@ -128,7 +119,7 @@ fn read_lines(
         let (words, after) = next_line(rest);
         left = after;
         line += 1;
-        match read_line(words, total, scenario) {
+        match read_line(words, total, table) {
             Ok(None) => {}
             Ok(Some(turn)) => {
                 total += turn.1;
@@ -140,22 +131,22 @@ fn read_lines(
     Ok(turns)
 }
 
-/// The turns that a text says, in their order: each a leaf of the scenario and a number of turns from 1 to 9,999,999.
+/// The turns that a text says, in their order: each a leaf of the table's scenario and a number of turns from 1 to 9,999,999.
 ///
 /// Refused where memory runs out, and by the first fault of the text: a line of another form, a name that is no leaf's,
 /// more than 1,000,000 turns, or a text of more than 16 MiB, which is at line 0.
 pub fn read_turns(
     alloc: Global,
     text: &[u8],
-    scenario: &Scenario,
+    table: &NodeTable,
 ) -> Result<Vec<(LeafNo, u32)>, TurnsError>
-    ensures { IsTurned result (turned (components scenario.now) text.now) }
+    ensures { IsTurned result (turned (components table.now) text.now) }
 {
-    if text.len() > GREATEST_TEXT {
+    if text.len() > GREATEST_TURNS_TEXT {
         return Err(TurnsError::Fault {
             fault: TurnFault::TooMany,
             line: 0,
         });
     }
-    read_lines(alloc, text, scenario)
+    read_lines(alloc, text, table)
 }

@@ -2,23 +2,27 @@
 use Rattle.std.proofs.Common.{◌≡◌, ℕ, suc, ◌<◌, ◌≤◌, inl, inr, List, [], ◌∷◌, length, Some, None, map, refl, ap, ◌∙◌, sym, min, arith}
 use Rattle.std.specs.Prelude.{◌-◌, ◌^◌, nat_le, if◌then◌else◌}
 use Rattle.std.proofs.lemmas.Bool.Decides.{leb_tells}
-use Rattle.gq_model.specs.Amounts.{Resource, part}
-use Rattle.gq_model.specs.Scenario.{System, Interfaces, Component}
-use Rattle.gq_model.specs.Use.{step_budget}
-use Rattle.gq_model.specs.Verdict.{greatest_cost}
-use Rattle.gq_model.specs.Accept.{budget, budgets_from, own_refusal, steps_refusal, Over_own, Over_steps}
+use Rattle.gq_model.specs.machine.Amounts.{Resource, part}
+use Rattle.gq_model.specs.machine.Scenario.{System, Interfaces, Component}
+use Rattle.gq_model.specs.rules.Use.{step_budget}
+use Rattle.gq_model.specs.rules.Verdict.{greatest_cost}
+use Rattle.gq_model.specs.rules.Accept.{budget, budgets_from, own_refusal, steps_refusal, Over_own, Over_steps}
 use Rattle.gq_verify.specs.Counting.{saturated}
 use Rattle.gq_budget.specs.Budgets as steps
-use Rattle.gq_load.specs.Judged.{judged_by}
-use Rattle.gq_load.specs.Budgets.{budget_with, budgets_with, kept_from}
+use Rattle.gq_load.specs.internal.Judged.{judged_by}
+use Rattle.gq_load.specs.internal.Budgets.{budget_with, budgets_with, kept_from}
+use Rattle.gq_model.proofs.Small.{some_none}
 
 -- programs with their step budgets
-pub kept_same : (version : ℕ) (system : System) (x : ℕ) (cs : List Component) → budgets_with version (map (judged_by system.interfaces) cs) (steps.budgets_from system x cs) ≡ kept_from version system x cs
+pub kept_same : (version : ℕ) (system : System) (x : ℕ) (cs : List Component)
+    → budgets_with version (map (judged_by system.interfaces) cs) (steps.budgets_from system x cs) ≡ kept_from version system x cs
 kept_same version system x [] = refl
-kept_same version system x (c ∷ rest) = ap (λ l. budget_with version (judged_by system.interfaces c) (saturated (step_budget system x c)) ∷ l) (kept_same version system (suc x) rest)
+kept_same version system x (c ∷ rest) = ap (λ l. budget_with version (judged_by system.interfaces c) (saturated (step_budget system x c)) ∷ l)
+    (kept_same version system (suc x) rest)
 
 -- what leaves use of their own accounts is kept
-pub own_kept : (r : Resource) (version : ℕ) (system : System) (x : ℕ) (cs all : List Component) → own_refusal r cs (kept_from version system x all) ≡ own_refusal r cs (budgets_from version system x all)
+pub own_kept : (r : Resource) (version : ℕ) (system : System) (x : ℕ) (cs all : List Component)
+    → own_refusal r cs (kept_from version system x all) ≡ own_refusal r cs (budgets_from version system x all)
 own_kept r version system x [] all = refl
 own_kept r version system x (c ∷ cs) [] = refl
 own_kept r version system x (c ∷ cs) (d ∷ all) =
@@ -50,30 +54,32 @@ cost_kept : greatest_cost < 2 ^ 64 - 1
 cost_kept = omega arith
 
 -- leaves that may take too many steps are found
-pub steps_kept : (version : ℕ) (system : System) (x : ℕ) (cs all : List Component) → steps_refusal cs (kept_from version system x all) ≡ steps_refusal cs (budgets_from version system x all)
+pub steps_kept : (version : ℕ) (system : System) (x : ℕ) (cs all : List Component)
+    → steps_refusal cs (kept_from version system x all) ≡ steps_refusal cs (budgets_from version system x all)
 steps_kept version system x [] all = refl
 steps_kept version system x (c ∷ cs) [] = refl
 steps_kept version system x (c ∷ cs) (d ∷ all) =
     let n = step_budget system x d in
-    ap (λ b. if b then steps_refusal cs (kept_from version system (suc x) all) else Some (Over_steps c.node.name)) (le_kept (2 ^ 64 - 1) greatest_cost n cost_kept)
+    ap (λ b. if b then steps_refusal cs (kept_from version system (suc x) all) else Some (Over_steps c.node.name))
+    (le_kept (2 ^ 64 - 1) greatest_cost n cost_kept)
     ∙ ap (λ o. if nat_le n greatest_cost then o else Some (Over_steps c.node.name)) (steps_kept version system (suc x) cs all)
-
-some_none : {A : Type 0} {a : A} → Some a ≡ None → ⊥
-some_none e = cc
 
 kept_small : (m g n : ℕ) → g < m → n ≤ g → min n m ≡ n
 kept_small m g n less small = omega (arith, less, small)
 
 -- where no leaf may take too many steps, all are kept as they are
-pub all_kept : (version : ℕ) (system : System) (x : ℕ) (cs : List Component) → steps_refusal cs (budgets_from version system x cs) ≡ None → kept_from version system x cs ≡ budgets_from version system x cs
+pub all_kept : (version : ℕ) (system : System) (x : ℕ) (cs : List Component) → steps_refusal cs (budgets_from version system x cs) ≡ None
+    → kept_from version system x cs ≡ budgets_from version system x cs
 all_kept version system x [] none = refl
 all_kept version system x (c ∷ cs) none =
     let n = step_budget system x c in
     let rest = steps_refusal cs (budgets_from version system (suc x) cs) in
     elim (leb_tells n greatest_cost) [
       | inl h ↦
-          ap (λ n. budget_with version (judged_by system.interfaces c) n ∷ kept_from version system (suc x) cs) (kept_small (2 ^ 64 - 1) greatest_cost n cost_kept h.1)
-          ∙ ap (λ l. budget version system x c ∷ l) (all_kept version system (suc x) cs (ap (λ b. if b then rest else Some (Over_steps c.node.name)) (sym h.0) ∙ none))
+          ap (λ n. budget_with version (judged_by system.interfaces c) n ∷ kept_from version system (suc x) cs)
+          (kept_small (2 ^ 64 - 1) greatest_cost n cost_kept h.1)
+          ∙ ap (λ l. budget version system x c ∷ l) (all_kept version system (suc x) cs (ap (λ b. if b then rest else Some (Over_steps c.node.name)) (sym h.0)
+          ∙ none))
       | inr h ↦ absurd (some_none (ap (λ b. if b then rest else Some (Over_steps c.node.name)) (sym h.0) ∙ none))
     ]
 
@@ -85,10 +91,6 @@ steps_count system x (c ∷ rest) = ap suc (steps_count system (suc x) rest)
 pub kept_count : (version : ℕ) (system : System) (x : ℕ) (cs : List Component) → length (kept_from version system x cs) ≡ length cs
 kept_count version system x [] = refl
 kept_count version system x (c ∷ rest) = ap suc (kept_count version system (suc x) rest)
-
-pub budgets_count : (version : ℕ) (system : System) (x : ℕ) (cs : List Component) → length (budgets_from version system x cs) ≡ length cs
-budgets_count version system x [] = refl
-budgets_count version system x (c ∷ rest) = ap suc (budgets_count version system (suc x) rest)
 
 pub judged_count : (interfaces : Interfaces) (cs : List Component) → length (map (judged_by interfaces) cs) ≡ length cs
 judged_count interfaces [] = refl

@@ -1,10 +1,11 @@
 -- Whose routes lead to whom, as a system knows it.
 use Rattle.std.proofs.Common.{◌≡◌, ℕ, suc, List, [], ◌∷◌, Option, Some, None, refl, ap, ◌∙◌}
-use Rattle.gq_model.specs.Scenario.{System, Component}
+use Rattle.gq_model.specs.machine.Scenario.{System, Component}
 use Rattle.gq_budget.specs.Leaves.{leads_for, leads_from, leaf_of, leaves_from}
-use Rattle.gq_load.specs.Leads.{leads_to, leads_row, leads_rows, counted_leaves}
+use Rattle.gq_load.specs.internal.Leads.{leads_to, leads_row, leads_rows, counted_leaves}
 
-row_same : (system : System) (x : ℕ) (provides : Option (List ℕ)) (cs : List Component) → leads_row system.components x provides cs ≡ leads_for system x provides cs
+row_same : (system : System) (x : ℕ) (provides : Option (List ℕ)) (cs : List Component)
+    → leads_row system.components x provides cs ≡ leads_for system x provides cs
 row_same system x provides [] = refl
 row_same system x None (c ∷ rest) = ap (λ l. leads_to system.components x None c ∷ l) (row_same system x None rest)
 row_same system x (Some service) (c ∷ rest) = ap (λ l. leads_to system.components x (Some service) c ∷ l) (row_same system x (Some service) rest)

@@ -1,8 +1,8 @@
 -- Leaves one after the other.
 use Rattle.std.proofs.Common.{◌≡◌, ℕ, suc, ◌+◌, ◌<◌, List, ◌∷◌, length, drop, Option, Some, None, ap, sym, ◌∙◌, subst, add-one, get_or}
 use Rattle.std.proofs.Math.Seq.{drop-cons}
-use Rattle.gq_model.specs.Lists.{or_first}
-use Rattle.gq_model.specs.Scenario.{Component}
+use Rattle.gq_model.specs.machine.Lists.{or_first}
+use Rattle.gq_model.specs.machine.Scenario.{Component}
 use Rattle.gq_load.specs.Load.{Fault, source_fault, sources_fault}
 use Rattle.gq_load.specs.Faults.{Gives}
 use Rattle.gq_load.specs.declared.fault.LoadError.{LoadError}
@@ -20,7 +20,8 @@ gives_first (error.Fault f) None p h = absurd h
 gives_first (error.Fault f) (Some fault) p h = h
 
 -- the first leaf whose text or code is no program gives the fault
-pub refused_here : (cs : List Component) (i : ℕ) (c : Component) (e : LoadError) → i < length cs → c ≡ get_or cs i c → Gives e (source_fault c.node.name c.node.source)
+pub refused_here : (cs : List Component) (i : ℕ) (c : Component) (e : LoadError) → i < length cs → c ≡ get_or cs i c
+    → Gives e (source_fault c.node.name c.node.source)
     → sources_fault (drop i cs) ≡ sources_fault cs → Gives e (sources_fault cs)
 refused_here cs i c e less is h same =
     let rest = sources_fault (drop (i + 1) cs) in

@@ -1,15 +1,15 @@
 -- The first reason to refuse a scenario.
 use Rattle.std.proofs.Common.{◌≡◌, List, [], ◌∷◌, Option, Some, None, Err, refl, ap, ◌∙◌, sym, subst}
-use Rattle.gq_model.specs.Lists.{or_first}
-use Rattle.gq_model.specs.Amounts.{Ram, Caps}
-use Rattle.gq_model.specs.Scenario.{Scenario, System, Interfaces, Component, components, system}
-use Rattle.gq_model.specs.Resolve.{unresolved}
-use Rattle.gq_model.specs.Accept.{Refusal, Budget, not_resolved, program_refusal, own_refusal, steps_refusal, budgets, refusal}
-use Rattle.gq_init.specs.Resolved.{Finds}
-use Rattle.gq_init.specs.declared.resolve.fault.ResolveError.{ResolveError}
-use Rattle.gq_init.specs.declared.resolve.fault.ResolveError.TheVariants as resolve
-use Rattle.gq_load.specs.Judged.{leaf_refusal, first_refusal}
-use Rattle.gq_load.specs.Budgets.{kept_from, budget_refusal}
+use Rattle.gq_model.specs.machine.Lists.{or_first}
+use Rattle.gq_model.specs.machine.Amounts.{Ram, Caps}
+use Rattle.gq_model.specs.machine.Scenario.{Scenario, System, Interfaces, Component, components, system}
+use Rattle.gq_model.specs.rules.Resolve.{unresolved}
+use Rattle.gq_model.specs.rules.Accept.{Refusal, Budget, not_resolved, program_refusal, own_refusal, steps_refusal, budgets, refusal}
+use Rattle.gq_resolve.specs.Resolved.{Finds}
+use Rattle.gq_resolve.specs.declared.fault.ResolveError.{ResolveError}
+use Rattle.gq_resolve.specs.declared.fault.ResolveError.TheVariants as resolve
+use Rattle.gq_load.specs.internal.Judged.{leaf_refusal, first_refusal}
+use Rattle.gq_load.specs.internal.Budgets.{kept_from, budget_refusal}
 use Rattle.gq_load.specs.Load.{Fault, sources_fault, refused, scenario_fault}
 use Rattle.gq_load.specs.Faults.{Gives, load_error_of}
 use Rattle.gq_load.specs.declared.fault.LoadError.{LoadError}
@@ -42,13 +42,16 @@ programs_none : (s : Scenario) → first_refusal s.interfaces (components s) ≡
 programs_none s none = sym (first_same (system s) (components s)) ∙ none
 
 -- a scenario that is not resolved
-resolve_gives : (s : Scenario) (e : ResolveError) → Finds {A = Unit {0}} (Err e) (unresolved s) → Gives (load_error_of e) (refused (not_resolved (unresolved s)))
+resolve_gives : (s : Scenario) (e : ResolveError) → Finds {A = Unit {0}} (Err e) (unresolved s)
+    → Gives (load_error_of e) (refused (not_resolved (unresolved s)))
 resolve_gives s (resolve.Memory why) h = tt
 resolve_gives s (resolve.Fault why) h = rw h refl
 
-pub for_resolve : (s : Scenario) (e : ResolveError) → first_refusal s.interfaces (components s) ≡ None → Finds {A = Unit {0}} (Err e) (unresolved s) → Gives (load_error_of e) (refused (refusal s))
+pub for_resolve : (s : Scenario) (e : ResolveError) → first_refusal s.interfaces (components s) ≡ None → Finds {A = Unit {0}} (Err e) (unresolved s)
+    → Gives (load_error_of e) (refused (refusal s))
 for_resolve s e none h =
-    gives_next (load_error_of e) (program_refusal (system s) (components s)) _ (programs_none s none) (gives_here (load_error_of e) (not_resolved (unresolved s)) _ (resolve_gives s e h))
+    gives_next (load_error_of e) (program_refusal (system s) (components s)) _ (programs_none s none)
+    (gives_here (load_error_of e) (not_resolved (unresolved s)) _ (resolve_gives s e h))
 
 -- budgets are too great just where they are as far as they are kept
 budgets_same : (s : Scenario) → budget_refusal (components s) (kept_from s.version (system s) 0 (components s)) ≡ budget_refusal (components s) (budgets s)
@@ -59,15 +62,18 @@ budgets_same s =
     ∙ (ap (λ o. or_first (own_refusal Ram cs (budgets s)) (or_first o (own_refusal Caps cs kept))) (steps_kept s.version (system s) 0 cs cs)
     ∙ ap (λ o. or_first (own_refusal Ram cs (budgets s)) (or_first (steps_refusal cs (budgets s)) o)) (own_kept Caps s.version (system s) 0 cs cs))
 
-pub for_budgets : (s : Scenario) (e : LoadError) → first_refusal s.interfaces (components s) ≡ None → unresolved s ≡ None → Gives e (refused (budget_refusal (components s) (kept_from s.version (system s) 0 (components s)))) → Gives e (refused (refusal s))
+pub for_budgets : (s : Scenario) (e : LoadError) → first_refusal s.interfaces (components s) ≡ None → unresolved s ≡ None
+    → Gives e (refused (budget_refusal (components s) (kept_from s.version (system s) 0 (components s)))) → Gives e (refused (refusal s))
 for_budgets s e none resolved h =
     gives_next e (program_refusal (system s) (components s)) _ (programs_none s none)
     (gives_next e (not_resolved (unresolved s)) _ (ap not_resolved resolved) (subst (λ o. Gives e (refused o)) (budgets_same s) h))
 
 -- no reason at all
-pub accepted : (s : Scenario) → first_refusal s.interfaces (components s) ≡ None → unresolved s ≡ None → budget_refusal (components s) (kept_from s.version (system s) 0 (components s)) ≡ None → refusal s ≡ None
+pub accepted : (s : Scenario) → first_refusal s.interfaces (components s) ≡ None → unresolved s ≡ None
+    → budget_refusal (components s) (kept_from s.version (system s) 0 (components s)) ≡ None → refusal s ≡ None
 accepted s none resolved fit =
-    none_both (program_refusal (system s) (components s)) _ (programs_none s none) (none_both (not_resolved (unresolved s)) _ (ap not_resolved resolved) (sym (budgets_same s) ∙ fit))
+    none_both (program_refusal (system s) (components s)) _ (programs_none s none)
+    (none_both (not_resolved (unresolved s)) _ (ap not_resolved resolved) (sym (budgets_same s) ∙ fit))
 
 or_none : (a b : Option Refusal) → or_first a b ≡ None → (a ≡ None) × (b ≡ None)
 or_none None b e = (refl, e)
@@ -77,7 +83,8 @@ or_none (Some why) b e = absurd (some_none e)
     some_none e = cc
 
 -- then budgets are kept as they are
-pub kept_are : (s : Scenario) → budget_refusal (components s) (kept_from s.version (system s) 0 (components s)) ≡ None → kept_from s.version (system s) 0 (components s) ≡ budgets s
+pub kept_are : (s : Scenario) → budget_refusal (components s) (kept_from s.version (system s) 0 (components s)) ≡ None
+    → kept_from s.version (system s) 0 (components s) ≡ budgets s
 kept_are s fit =
     let cs = components s in
     let parts = or_none (own_refusal Ram cs (budgets s)) _ (sym (budgets_same s) ∙ fit) in
@@ -100,9 +107,11 @@ pub faultless : (s : Scenario) → sources_fault (components s) ≡ None → ref
 faultless s none accepted = ap (λ a. or_first a (refused (refusal s))) none ∙ ap refused accepted
 
 -- what is said of these interfaces and leaves is said of the scenario's
-pub of_scenario : (s : Scenario) (i : Interfaces) (cs : List Component) (P : Interfaces → List Component → Type 0) → i ≡ s.interfaces → cs ≡ components s → P i cs → P s.interfaces (components s)
+pub of_scenario : (s : Scenario) (i : Interfaces) (cs : List Component) (P : Interfaces → List Component → Type 0) → i ≡ s.interfaces → cs ≡ components s
+    → P i cs → P s.interfaces (components s)
 of_scenario s i cs P e f h = subst (P s.interfaces) f (subst (λ i. P i cs) e h)
 
 -- what is said of these leaves and budgets is said of those that are kept
-pub of_kept : (s : Scenario) (cs : List Component) (bs : List Budget) (P : List Component → List Budget → Type 0) → cs ≡ components s → bs ≡ kept_from s.version (system s) 0 cs → P cs bs → P (components s) (kept_from s.version (system s) 0 (components s))
+pub of_kept : (s : Scenario) (cs : List Component) (bs : List Budget) (P : List Component → List Budget → Type 0) → cs ≡ components s
+    → bs ≡ kept_from s.version (system s) 0 cs → P cs bs → P (components s) (kept_from s.version (system s) 0 (components s))
 of_kept s cs bs P e f h = subst (λ cs. P cs (kept_from s.version (system s) 0 cs)) e (subst (P cs) f h)

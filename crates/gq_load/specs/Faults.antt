@@ -1,11 +1,11 @@
 -- What a refusal to load says.
 use Rattle.std.specs.Prelude.{◌≡◌, ℕ, List, ◌++◌, Option, Some, None, Result, Ok, Err, codes, decimal}
-use Rattle.gq_model.specs.Scenario.{Scenario}
-use Rattle.gq_model.specs.Fault_texts.{text_fault_word, code_fault_word, program_text, unresolved_text}
-use Rattle.gq_init.specs.Words.{scenario_fault_text}
-use Rattle.gq_init.specs.Resolved.{fault_of}
-use Rattle.gq_init.specs.declared.resolve.fault.ResolveError.{ResolveError}
-use Rattle.gq_init.specs.declared.resolve.fault.ResolveError.TheVariants as resolve
+use Rattle.gq_model.specs.machine.Scenario.{Scenario}
+use Rattle.gq_model.specs.texts.Fault_texts.{text_fault_word, code_fault_word, program_text, unresolved_text}
+use Rattle.gq_scenario.specs.Words.{scenario_fault_text}
+use Rattle.gq_resolve.specs.Resolved.{fault_of}
+use Rattle.gq_resolve.specs.declared.fault.ResolveError.{ResolveError}
+use Rattle.gq_resolve.specs.declared.fault.ResolveError.TheVariants as resolve
 use Rattle.gq_load.specs.declared.fault.LoadFault.{LoadFault}
 use Rattle.gq_load.specs.declared.fault.LoadFault.TheVariants as load
 use Rattle.gq_load.specs.declared.fault.LoadError.{LoadError}

@@ -1,15 +1,15 @@
 -- The scenario of a text, or the first reason to refuse it.
 use Rattle.std.specs.Prelude.{ℕ, List, [], ◌∷◌, ◌++◌, Option, Some, None, Result, Ok, Err, codes, decimal}
-use Rattle.gq_model.specs.Program.{Program}
-use Rattle.gq_model.specs.Lists.{or_first}
+use Rattle.gq_model.specs.machine.Program.{Program}
+use Rattle.gq_model.specs.machine.Lists.{or_first}
 use Rattle.gq_model.specs.declared.fault.TextFault.{TextFault}
 use Rattle.gq_model.specs.declared.fault.CodeFault.{CodeFault}
-use Rattle.gq_model.specs.Scenario.{Source, As_text, As_code, Component, Scenario, components}
-use Rattle.gq_model.specs.Text.{assembled}
-use Rattle.gq_model.specs.Decode.{decoded}
-use Rattle.gq_model.specs.Accept.{Refusal, refusal}
-use Rattle.gq_model.specs.Fault_texts.{text_fault_word, code_fault_word, refusal_text}
-use Rattle.gq_init.specs.Reading.{ReadFault, read_text, scenario_in}
+use Rattle.gq_model.specs.machine.Scenario.{Source, As_text, As_code, Component, Scenario, components}
+use Rattle.gq_model.specs.texts.Text.{assembled}
+use Rattle.gq_model.specs.texts.Decode.{decoded}
+use Rattle.gq_model.specs.rules.Accept.{Refusal, refusal}
+use Rattle.gq_model.specs.texts.Fault_texts.{text_fault_word, code_fault_word, refusal_text}
+use Rattle.gq_scenario.specs.Reading.{ReadFault, read_text, scenario_in}
 
 -- why a text is refused: it is no scenario, a leaf's text or a leaf's code is no program, or the scenario is refused
 pub data Fault : Type 0 where

@@ -1,7 +1,7 @@
 -- Leaves by their names.
 use Rattle.std.specs.Prelude.{ℕ, if◌then◌else◌, List, [], ◌∷◌, Option, Some, None}
-use Rattle.gq_model.specs.Program.{text_eq}
-use Rattle.gq_model.specs.Scenario.{LeafNode, Component}
+use Rattle.gq_model.specs.machine.Program.{text_eq}
+use Rattle.gq_model.specs.machine.Scenario.{LeafNode, Component}
 
 -- the first leaf of that name
 abbrev pub leaf_named : List ℕ → List Component → Option LeafNode

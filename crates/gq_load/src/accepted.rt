@@ -1,14 +1,15 @@
 // Scenarios that the verifier accepts.
 ghost use Rattle.std.specs.Prelude.{◌≡◌, None, Ok, length, map, IfOk, IfErr, OnOk};
-ghost use Rattle.gq_model.specs.Scenario as model;
-ghost use Rattle.gq_model.specs.Scenario.{system};
-ghost use Rattle.gq_model.specs.Accept as accept;
-ghost use Rattle.gq_model.specs.Accept.{IsAccepted, refusal, budget_lines};
-ghost use Rattle.gq_init.specs.Served.{routes_of};
-ghost use Rattle.gq_load.specs.Accepted.{AreOfAccepted};
-ghost use Rattle.gq_load.specs.Budgets.{kept_from, budget_refusal};
+ghost use Rattle.gq_model.specs.machine.Scenario as model;
+ghost use Rattle.gq_model.specs.machine.Scenario.{system};
+ghost use Rattle.gq_model.specs.rules.Accept as accept;
+ghost use Rattle.gq_model.specs.rules.Accept.{IsAccepted, refusal, budget_lines};
+ghost use Rattle.gq_init.specs.NodeTables.{all_rows};
+ghost use Rattle.gq_resolve.specs.Served.{AreServers};
+ghost use Rattle.gq_load.specs.internal.Accepted.{AreOfAccepted};
+ghost use Rattle.gq_load.specs.internal.Budgets.{kept_from, budget_refusal};
 ghost use Rattle.gq_load.specs.Faults.{Gives, Prints, Refuses};
-ghost use Rattle.gq_load.specs.Judged.{programs_of, judged_by};
+ghost use Rattle.gq_load.specs.internal.Judged.{programs_of, judged_by};
 ghost use Rattle.gq_load.specs.Load.{loaded, scenario_fault, refused};
 
 use crate::budget::{Budget, budgets_of};
@@ -18,40 +19,39 @@ use crate::line;
 use crate::over::{check_caps, check_ram, check_steps};
 use crate::programs::read_programs;
 use crate::steps::steps_of;
-use gq_code::program::Program;
-use gq_init::fault::ScenarioError;
-use gq_init::reader::read_scenario;
-use gq_init::resolve::component::{Component, components};
-use gq_init::resolve::resolved::resolve;
-use gq_init::resolve::routes::Routes;
-use gq_init::scenario::Scenario;
+use gq_init::NodeTable;
+use gq_init::table::Entries;
+use gq_program::program::Program;
+use gq_reader::reader::read_scenario;
+use gq_resolve::component::{Component, components};
+use gq_resolve::resolve_components;
+use gq_resolve::routes::Routes;
+use gq_scenario::fault::ScenarioError;
+use gq_scenario::scenario::Scenario;
 use gq_verify::Verified;
 use std::alloc::{AllocError, Global};
 use std::marker::Model;
 
-/// A scenario that the verifier accepts, with the programs of its leaves, the routes of their services and their budgets, each in
-/// preorder.
+/// A scenario that the verifier accepts, as a table of its nodes, with the budgets of its leaves.
 #[derive(Drop)]
 pub struct Accepted {
-    scenario: Scenario,
-    programs: Vec<Program>,
-    routes: Routes,
+    table: NodeTable,
     budgets: Vec<Budget>,
 }
 
 impl Model for Accepted {
     ghost use Rattle.std.specs.Coded.{codes};
-    ghost use Rattle.gq_model.specs.Scenario.{Scenario};
-    ghost use Rattle.gq_model.specs.Stored.{statements_code, nodes_code};
-    ghost use Rattle.gq_load.specs.Accepted.{AreOfAccepted};
+    ghost use Rattle.gq_model.specs.machine.Scenario.{Scenario};
+    ghost use Rattle.gq_model.specs.internal.Stored.{statements_code, nodes_code};
+    ghost use Rattle.gq_load.specs.internal.Accepted.{AreOfAccepted};
 
     ghost Value = { Scenario };
 
     ghost coded = { Prim.hlevel (codes, nodes_code (Prim.hlevel (codes, statements_code (Prim.hlevel codes))) (Prim.hlevel codes)) };
 
-    ghost view = { λ a. a.scenario };
+    ghost view = { λ a. a.table };
 
-    ghost invariant = { λ a. AreOfAccepted a.scenario a.programs.items a.routes a.budgets.items };
+    ghost invariant = { λ a. AreOfAccepted a.table a.budgets.items };
 }
 
 // The budgets of a scenario's leaves, with steps of at most the greatest number of 64 bits.
@@ -93,45 +93,55 @@ fn judge(
 ) -> Result<(Routes, Vec<Budget>), LoadError>
     requires components { components.now ≡ model.components scenario.now }
     requires programs { programs.now ≡ programs_of components.now }
-    ensures routes { IfOk result (λ found. found.0 ≡ routes_of scenario.now) }
+    ensures servers { IfOk result (λ found. AreServers scenario.now found.0) }
     ensures budgets { IfOk result (λ found. found.1.items ≡ accept.budgets scenario.now) }
     ensures accepted { IfOk result (λ found. refusal scenario.now ≡ None) }
     ensures refused { IfErr result (λ e. Gives e (refused (refusal scenario.now))) }
 {
     let judged = judge_all(alloc, components, programs, scenario.interfaces())?;
-    let routes = resolve(alloc, scenario, programs)?;
+    let routes = resolve_components(alloc, scenario, components, programs)?;
     let budgets = kept_budgets(alloc, scenario, components, programs, judged.as_slice())?;
     check_budgets(components, budgets.as_slice())?;
     Ok((routes, budgets))
 }
 
-// The programs, the routes and the budgets of a scenario, or its first fault.
-fn judge_scenario(
-    alloc: Global,
-    scenario: &Scenario,
-) -> Result<(Vec<Program>, (Routes, Vec<Budget>)), LoadError>
-    ensures accepted { IfOk result (λ found. AreOfAccepted scenario.now found.0.items found.1.0 found.1.1.items) }
+// What there is of a scenario that is accepted.
+#[derive(Drop)]
+struct Judged {
+    programs: Vec<Program>,
+    entries: Entries,
+    budgets: Vec<Budget>,
+}
+
+// The programs, the nodes and the budgets of a scenario, or its first fault.
+fn judge_scenario(alloc: Global, scenario: &Scenario) -> Result<Judged, LoadError>
+    ensures programs { IfOk result (λ found. found.programs.items ≡ programs_of (model.components scenario.now)) }
+    ensures entries { IfOk result (λ found. found.entries ≡ all_rows scenario.now) }
+    ensures accepted { IfOk result (λ found. AreOfAccepted scenario.now found.budgets.items) }
     ensures faultless { IfOk result (λ found. scenario_fault scenario.now ≡ None) }
     ensures refused { IfErr result (λ e. Gives e (scenario_fault scenario.now)) }
 {
     let components = components(alloc, scenario)?;
     let programs = read_programs(alloc, components.as_slice())?;
-    let judged = judge(alloc, scenario, components.as_slice(), programs.as_slice())?;
-    Ok((programs, judged))
+    let (routes, budgets) = judge(alloc, scenario, components.as_slice(), programs.as_slice())?;
+    let entries = Entries::of(alloc, scenario, components.as_slice(), &routes)?;
+    Ok(Judged {
+        programs,
+        entries,
+        budgets,
+    })
 }
 
-// A scenario with its programs, routes and budgets, or its first fault.
+// A scenario with its table and its budgets, or its first fault.
 fn accept(alloc: Global, scenario: Scenario) -> Result<Accepted, LoadError>
     ensures scenario { IfOk result (λ a. a ≡ scenario) }
     ensures faultless { IfOk result (λ a. scenario_fault scenario ≡ None) }
     ensures refused { IfErr result (λ e. Gives e (scenario_fault scenario)) }
 {
-    let (programs, (routes, budgets)) = judge_scenario(alloc, &scenario)?;
+    let judged = judge_scenario(alloc, &scenario)?;
     Ok(Accepted {
-        scenario,
-        programs,
-        routes,
-        budgets,
+        table: NodeTable::new(scenario, judged.programs, judged.entries),
+        budgets: judged.budgets,
     })
 }
 
@@ -156,28 +166,14 @@ impl Accepted {
     pub fn laws(&self)
         ensures { IsAccepted self.now }
     {
-        let _scenario = &self.scenario;
+        let _table = &self.table;
     }
 
-    /// The scenario.
-    pub fn scenario(&self) -> &Scenario
+    /// Its nodes, and its leaves with their programs.
+    pub fn table(&self) -> &NodeTable
         ensures { result.now ≡ self.now }
     {
-        &self.scenario
-    }
-
-    /// The programs of its leaves, in preorder.
-    pub fn programs(&self) -> &[Program]
-        ensures { result.now ≡ programs_of (model.components self.now) }
-    {
-        self.programs.as_slice()
-    }
-
-    /// Which leaf serves each service that a leaf opens.
-    pub fn routes(&self) -> &Routes
-        ensures { result.now ≡ routes_of self.now }
-    {
-        &self.routes
+        &self.table
     }
 
     /// What each leaf uses at most, in preorder.
@@ -187,17 +183,18 @@ impl Accepted {
         self.budgets.as_slice()
     }
 
+    /// The table and the budgets, given away.
+    pub fn into_parts(self) -> (NodeTable, Vec<Budget>)
+        ensures table { result.0 ≡ self }
+        ensures budgets { result.1.items ≡ accept.budgets self }
+    {
+        (self.table, self.budgets)
+    }
+
     /// A line for each leaf's budget, in preorder. Refused only for want of host memory.
     pub fn budget_lines(&self, alloc: Global) -> Result<Vec<u8>, AllocError>
         ensures { IfOk result (λ text. text.items ≡ budget_lines self.now) }
     {
-        let components = components(alloc, &self.scenario)?;
-        let budgets = self.budgets.as_slice();
-        line::budget_lines(
-            alloc,
-            self.scenario.version(),
-            components.as_slice(),
-            budgets,
-        )
+        line::budget_lines(alloc, &self.table, self.budgets.as_slice())
     }
 }

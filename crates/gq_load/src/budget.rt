@@ -1,10 +1,10 @@
 // The budgets of leaves: what each uses at most.
 ghost use Rattle.std.specs.Prelude.{◌≡◌, length, IfOk};
-ghost use Rattle.gq_model.specs.Amounts.{amount};
-ghost use Rattle.gq_init.specs.Trees.{version_number};
-ghost use Rattle.gq_load.specs.Budgets.{budget_with, budgets_with};
+ghost use Rattle.gq_scenario.specs.Trees.{version_number};
+ghost use Rattle.gq_load.specs.internal.Budgets.{budget_with, budgets_with};
 
-use gq_init::scenario::Version;
+use gq_scenario::scenario::Version;
+use gq_tariff::Amount;
 use gq_verify::Verified;
 use std::alloc::{AllocError, Global};
 use std::marker::Model;
@@ -12,46 +12,40 @@ use std::marker::Model;
 /// What a leaf uses at most, whatever the turns.
 #[derive(Clone, Copy, Debug, PartialEq, Eq)]
 pub struct Budget {
-    own: u64,
-    own_caps: u64,
+    own: Amount,
     steps: u64,
 }
 
 impl Model for Budget {
-    ghost use Rattle.gq_model.specs.Amounts.{amount};
-    ghost use Rattle.gq_model.specs.Accept.{Budget};
+    ghost use Rattle.gq_model.specs.rules.Accept.{Budget};
 
     ghost Value = { Budget };
 
-    ghost view = { λ b. record { own = amount b.own b.own_caps; steps = b.steps } };
+    ghost view = { λ b. record { own = b.own; steps = b.steps } };
 
-    ghost inverse = { λ b. record { own = b.own.ram; own_caps = b.own.caps; steps = b.steps } };
+    ghost inverse = { λ b. record { own = b.own; steps = b.steps } };
 }
 
 impl Budget {
     /// So many bytes and capabilities of the own account, and so many steps.
-    pub fn new(own: u64, own_caps: u64, steps: u64) -> Budget
-        ensures { result ≡ record { own = amount own own_caps; steps = steps } }
+    pub fn new(own: Amount, steps: u64) -> Budget
+        ensures { result ≡ record { own = own; steps = steps } }
     {
-        Budget {
-            own,
-            own_caps,
-            steps,
-        }
+        Budget { own, steps }
     }
 
     /// The bytes of its own account that it holds or lends.
     pub fn own(&self) -> u64
         ensures { result ≡ self.now.own.ram }
     {
-        self.own
+        self.own.ram
     }
 
     /// The capabilities of its own account that it holds or lends; 0 in version 1.
     pub fn own_caps(&self) -> u64
         ensures { result ≡ self.now.own.caps }
     {
-        self.own_caps
+        self.own.caps
     }
 
     /// The steps that it takes.
@@ -66,11 +60,12 @@ impl Budget {
 fn budget_of(version: Version, verified: &Verified<'_>, steps: u64) -> Budget
     ensures { result ≡ budget_with (version_number version) verified.now steps }
 {
-    let own_caps = match version {
+    let caps = match version {
         Version::One => 0,
         Version::Two => verified.own_caps(),
     };
-    Budget::new(verified.own(), own_caps, steps)
+    let ram = verified.own();
+    Budget::new(Amount { ram, caps }, steps)
 }
 
 // The budgets of programs, each with so many steps.

@@ -2,10 +2,10 @@
 ghost use Rattle.std.specs.Prelude.{◌≡◌, Some};
 ghost use Rattle.gq_load.specs.Faults.{load_fault_text};
 
-use gq_init::fault::ScenarioFault;
-use gq_init::resolve::fault::{ResolveError, ResolveFault};
 use gq_model::fault::{CodeFault, Rule, TextFault};
 use gq_model::program::{Name, Section};
+use gq_resolve::fault::{ResolveError, ResolveFault};
+use gq_scenario::fault::ScenarioFault;
 use std::alloc::{AllocError, AllocFailed};
 use std::error::Error;
 use std::fmt::{self, Debug, Display, Formatter, Write};

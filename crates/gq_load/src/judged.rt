@@ -1,14 +1,14 @@
 // What the verifier says of the programs of a scenario's leaves.
 ghost use Rattle.std.specs.Prelude.{◌≡◌, None, IfOk, IfErr, map};
 ghost use Rattle.gq_load.specs.Faults.{Gives, Prints};
-ghost use Rattle.gq_load.specs.Judged.{programs_of, judged_by, leaf_refusal, first_refusal};
+ghost use Rattle.gq_load.specs.internal.Judged.{programs_of, judged_by, leaf_refusal, first_refusal};
 ghost use Rattle.gq_load.specs.Load.{refused};
 
 use crate::fault::{LoadError, LoadFault};
 use crate::programs::copied;
-use gq_code::Interfaces;
-use gq_code::program::Program;
-use gq_init::resolve::component::Component;
+use gq_program::Interfaces;
+use gq_program::program::Program;
+use gq_resolve::component::Component;
 use gq_verify::{Verified, verify};
 use std::alloc::Global;
 

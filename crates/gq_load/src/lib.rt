@@ -1,4 +1,12 @@
 //! Loading: from the text of a scenario to an accepted scenario with its programs, its routes and its budgets.
+//!
+//! ```rust
+//! use gq_load::accepted::Accepted;
+//!
+//! let accepted = Accepted::read(alloc, text)?;
+//! let lines = accepted.budget_lines(alloc)?;
+//! let (table, budgets) = accepted.into_parts();
+//! ```
 #![tactic(auto)]
 
 pub mod accepted;
@@ -10,5 +18,3 @@ pub mod named;
 mod over;
 pub mod programs;
 mod steps;
-#[cfg(test)]
-mod tests;

@@ -1,12 +1,13 @@
 // The lines of budgets.
 ghost use Rattle.std.specs.Prelude.{◌≡◌, ◌++◌, length, OnOk, IfOk};
-ghost use Rattle.gq_model.specs.Accounts.{entry};
-ghost use Rattle.gq_model.specs.Accept.{budget_line, budget_lines_of};
-ghost use Rattle.gq_init.specs.Trees.{version_number};
+ghost use Rattle.gq_model.specs.machine.Accounts.{entry};
+ghost use Rattle.gq_model.specs.machine.Scenario.{Component, components};
+ghost use Rattle.gq_model.specs.rules.Accept.{budget_line, budget_lines_of};
+ghost use Rattle.gq_scenario.specs.Trees.{version_number};
 
 use crate::budget::Budget;
-use gq_init::resolve::component::Component;
-use gq_init::scenario::Version;
+use gq_init::NodeTable;
+use gq_scenario::scenario::{LeafNo, Version};
 use itoa::Buffer;
 use std::alloc::{AllocError, Global};
 
@@ -21,17 +22,17 @@ fn push_entry(text: &mut Vec<u8>, word: &[u8], number: u64) -> Result<(), AllocE
     Ok(())
 }
 
-// Puts the line of a leaf's budget at the end of a text.
+// Puts the line of the budget of a leaf with this label at the end of a text.
 fn push_line(
     text: &mut Vec<u8>,
     version: Version,
-    component: &Component<'_>,
+    label: &[u8],
     budget: &Budget,
 ) -> Result<(), AllocError>
-    ensures { OnOk result (text.new.items ≡ text.old.items ++ budget_line (version_number version) component.now budget.now) }
+    ensures { OnOk result ((c : Component) → c.label ≡ label.now → text.new.items ≡ text.old.items ++ budget_line (version_number version) c budget.now) }
 {
     text.extend_from_slice(b"budget ")?;
-    text.extend_from_slice(component.label())?;
+    text.extend_from_slice(label)?;
     push_entry(text, b"own", budget.own())?;
     if let Version::Two = version {
         push_entry(text, b"caps", budget.own_caps())?;
@@ -41,19 +42,21 @@ fn push_line(
     Ok(())
 }
 
-// The lines of the budgets of these leaves.
+// The lines of the budgets of a scenario's leaves.
 pub(crate) fn budget_lines(
     alloc: Global,
-    version: Version,
-    components: &[Component<'_>],
+    table: &NodeTable,
     budgets: &[Budget],
 ) -> Result<Vec<u8>, AllocError>
-    requires { length budgets.now ≡ length components.now }
-    ensures { IfOk result (λ text. text.items ≡ budget_lines_of (version_number version) components.now budgets.now) }
+    requires { length budgets.now ≡ length (components table.now) }
+    ensures { IfOk result (λ text. text.items ≡ budget_lines_of table.now.version (components table.now) budgets.now) }
 {
+    let _leaves = table.leaf_count();
+    let version = table.scenario().version();
     let mut text = Vec::new(alloc);
-    for (place, component) in components.iter().enumerate() {
-        push_line(&mut text, version, component, &budgets[place])?;
+    for (place, budget) in budgets.iter().enumerate() {
+        let node = table.node(LeafNo::new(place as u32));
+        push_line(&mut text, version, table.label(node), budget)?;
     }
     Ok(text)
 }

@@ -1,10 +1,10 @@
 // Leaves by their names.
 ghost use Rattle.std.specs.Prelude.{◌≡◌, option_map};
-ghost use Rattle.gq_model.specs.Program.{text_eq};
+ghost use Rattle.gq_model.specs.machine.Program.{text_eq};
 ghost use Rattle.gq_load.specs.Named.{leaf_named};
 
-use gq_init::resolve::component::Component;
-use gq_init::scenario::Leaf;
+use gq_resolve::component::Component;
+use gq_scenario::scenario::Leaf;
 
 // Whether two texts have the same bytes.
 fn same_bytes(a: &[u8], b: &[u8]) -> bool

@@ -1,17 +1,15 @@
 // Leaves that use more than they are given, or may take too many steps.
 ghost use Rattle.std.specs.Prelude.{◌≡◌, None, length, IfErr, OnOk};
-ghost use Rattle.gq_model.specs.Amounts.{Ram, Caps};
-ghost use Rattle.gq_model.specs.Accept.{own_refusal, steps_refusal};
+ghost use Rattle.gq_model.specs.machine.Amounts.{Ram, Caps};
+ghost use Rattle.gq_model.specs.rules.Accept.{own_refusal, steps_refusal};
 ghost use Rattle.gq_load.specs.Faults.{Prints};
 ghost use Rattle.gq_load.specs.Load.{refused};
 
 use crate::budget::Budget;
 use crate::fault::LoadFault;
 use crate::programs::copied;
-use gq_init::resolve::component::Component;
-
-/// The greatest number of steps of a leaf.
-const GREATEST_STEPS: u64 = 1_000_000_000_000;
+use gq_model::limits::GREATEST_STEPS;
+use gq_resolve::component::Component;
 
 // Refuses the first leaf that uses more bytes of its own account than its quantum has.
 pub(crate) fn check_ram(components: &[Component<'_>], budgets: &[Budget]) -> Result<(), LoadFault>

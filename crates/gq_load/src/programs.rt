@@ -1,17 +1,17 @@
 // The programs of a scenario's leaves.
 ghost use Rattle.std.specs.Prelude.{◌≡◌, None, IfOk, IfErr};
 ghost use Rattle.gq_load.specs.Faults.{Gives};
-ghost use Rattle.gq_load.specs.Judged.{programs_of};
+ghost use Rattle.gq_load.specs.internal.Judged.{programs_of};
 ghost use Rattle.gq_load.specs.Load.{source_fault, sources_fault};
 
 use crate::fault::{LoadError, LoadFault};
 use gq_asm::{AssembleError, assemble};
 use gq_code::decode::{DecodeError, decode};
-use gq_code::program::Program;
-use gq_init::resolve::component::Component;
-use gq_init::scenario::Leaf;
-use gq_init::source::Source;
 use gq_model::program::Name;
+use gq_program::program::Program;
+use gq_resolve::component::Component;
+use gq_scenario::scenario::Leaf;
+use gq_scenario::source::Source;
 use std::alloc::Global;
 
 // The same name.

@@ -1,18 +1,18 @@
 // How many steps leaves may take, by who uses whom.
 ghost use Rattle.std.specs.Prelude.{◌≡◌, ◌<◌, ◌^◌, length, map, IfOk, option_copied};
-ghost use Rattle.gq_model.specs.Scenario as model;
-ghost use Rattle.gq_model.specs.Scenario.{system};
+ghost use Rattle.gq_model.specs.machine.Scenario as model;
+ghost use Rattle.gq_model.specs.machine.Scenario.{system};
 ghost use Rattle.gq_budget.specs.Budgets.{budgets_of};
-ghost use Rattle.gq_load.specs.Judged.{programs_of, judged_by};
-ghost use Rattle.gq_load.specs.Leads.{leads_to, leads_row, leads_rows, counted_leaves};
+ghost use Rattle.gq_load.specs.internal.Judged.{programs_of, judged_by};
+ghost use Rattle.gq_load.specs.internal.Leads.{leads_to, leads_row, leads_rows, counted_leaves};
 
 use gq_budget::{Leaf, step_budgets};
-use gq_code::Interfaces;
-use gq_code::program::Program;
-use gq_init::resolve::component::Component;
-use gq_init::resolve::routes::server_of;
-use gq_init::scenario::{LeafNo, Scenario};
 use gq_model::program::Name;
+use gq_program::Interfaces;
+use gq_program::program::Program;
+use gq_resolve::component::Component;
+use gq_resolve::routes::server_of;
+use gq_scenario::scenario::{LeafNo, Scenario};
 use gq_verify::Verified;
 use std::alloc::{AllocError, Global};
 

@@ -1,6 +1,6 @@
 -- What a step shows, and the text of its line.
 use Rattle.std.specs.Prelude.{ℕ, List}
-use Rattle.gq_model.specs.Doing as model
+use Rattle.gq_model.specs.machine.Doing as model
 use Rattle.gq_machine.specs.declared.event.Event.{Event}
 use Rattle.gq_machine.specs.declared.event.Event.TheVariants.{Idle, Quiet, Line, Finished}
 

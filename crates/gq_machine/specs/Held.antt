@@ -1,8 +1,8 @@
 -- What all leaves hold.
 use Rattle.std.specs.Prelude.{ℕ, suc, ◌+◌, List, [], ◌∷◌}
-use Rattle.gq_model.specs.Amounts.{Resource}
-use Rattle.gq_model.specs.World.{Leaf, World}
-use Rattle.gq_model.specs.Sums.{held}
+use Rattle.gq_model.specs.machine.Amounts.{Resource}
+use Rattle.gq_model.specs.machine.World.{Leaf, World}
+use Rattle.gq_model.specs.machine.Sums.{held}
 
 -- what these leaves hold, of which the first is the x-th
 abbrev pub held_from : Resource → World → ℕ → List Leaf → ℕ

@@ -2,10 +2,10 @@
 use Rattle.std.specs.Prelude.{◌≡◌, ℕ, ◌+◌, ◌≤◌, true, List, length, drop, reverse}
 use Rattle.gq_model.specs.declared.phase.Phase.{Phase}
 use Rattle.gq_model.specs.declared.phase.Phase.TheVariants.{Exited}
-use Rattle.gq_model.specs.Code.{body_code, is_body}
+use Rattle.gq_model.specs.texts.Code.{body_code, is_body}
 use Rattle.gq_machine.specs.Reading.{spelled_by, all_run}
 use Rattle.gq_machine.specs.Alone.{State}
-use Rattle.gq_machine.specs.Phases.{runs_or_exited}
+use Rattle.gq_machine.specs.internal.Phases.{runs_or_exited}
 use Rattle.gq_machine.specs.declared.leaf.Leaf.TheInside.{Inside}
 
 -- the code from the position on

@@ -1,10 +1,9 @@
 pub mod Events
 pub mod Reading
 pub mod Alone
-pub mod Fetched
-pub mod Phases
 pub mod Leaves
 pub mod Plain
 pub mod Machines
 pub mod Held
 pub mod Seen
+pub mod internal

@@ -1,11 +1,11 @@
 -- What the machine stands for.
 use Rattle.std.specs.Prelude.{ℕ, Bool, true, ◌&&◌, List, [], ◌∷◌, map}
-use Rattle.gq_model.specs.Scenario.{Component, Scenario, components}
-use Rattle.gq_model.specs.World.{World}
-use Rattle.gq_model.specs.Sums.{handed}
+use Rattle.gq_model.specs.machine.Scenario.{Component, Scenario, components}
+use Rattle.gq_model.specs.machine.World.{World}
+use Rattle.gq_model.specs.machine.Sums.{handed}
 use Rattle.gq_machine.specs.Reading.{all_run}
 use Rattle.gq_machine.specs.Alone.{State, leaf_of}
-use Rattle.gq_machine.specs.Phases.{runs_or_exited}
+use Rattle.gq_machine.specs.internal.Phases.{runs_or_exited}
 
 -- a scenario that runs, and the world between two steps
 pub record Machine : Type 0 where

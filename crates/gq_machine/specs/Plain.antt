@@ -1,11 +1,11 @@
 -- The scenarios that run so far: of leaves under the root that provide nothing and start at once, and whose programs are
 -- a `main` of plain statements.
-use Rattle.std.specs.Prelude.{◌≡◌, ℕ, Bool, true, false, ◌&&◌, List, [], ◌∷◌, is_none, map}
-use Rattle.gq_model.specs.Program.{Statements, Program, section_in, body_of}
+use Rattle.std.specs.Prelude.{◌≡◌, ◌==◌, ℕ, Bool, true, false, ◌&&◌, List, [], ◌∷◌, is_none, map}
+use Rattle.gq_model.specs.machine.Program.{Statements, Program, section_in, body_of}
 use Rattle.gq_model.specs.declared.program.Section.{Section}
 use Rattle.gq_model.specs.declared.program.Section.TheVariants.{Main}
-use Rattle.gq_model.specs.Code.{is_body}
-use Rattle.gq_model.specs.Scenario.{Component, Nodes, End, Leaf_node, Init_node, Scenario, components}
+use Rattle.gq_model.specs.texts.Code.{is_body}
+use Rattle.gq_model.specs.machine.Scenario.{Component, Nodes, End, Leaf_node, Init_node, Scenario, components}
 use Rattle.gq_machine.specs.Reading.{all_run}
 use Rattle.gq_machine.specs.Alone.{State, first}
 
@@ -52,6 +52,17 @@ programs_of = map (λ c. c.node.program)
 abbrev pub quanta_of : List Component → List ℕ
 quanta_of = map (λ c. c.node.quantum.ram)
 
+-- such leaves under the root
+abbrev pub are_plain_nodes : Nodes → Bool
+are_plain_nodes End = true
+are_plain_nodes (Leaf_node node rest) = is_none node.provides && (is_none node.after && are_plain_nodes rest)
+are_plain_nodes (Init_node node children rest) = false
+
+-- the scenarios that run so far
+abbrev pub is_plain : Scenario → Bool
+is_plain s = s.version == 1 && (are_plain_nodes s.nodes && are_plain_programs (programs_of (components s)))
+
+-- the same, part by part
 pub record IsPlain (s : Scenario) : Type 0 where
   pub version : s.version ≡ 1
   pub leaves : are_leaves s.nodes ≡ true

@@ -1,9 +1,9 @@
 // The statement at the front of code.
 ghost use Rattle.std.specs.Prelude.{◌≡◌, ◌<◌, ◌≤◌, suc, true, length, take, drop, slice_get, IfSome};
-ghost use Rattle.gq_model.specs.Program.{little};
-ghost use Rattle.gq_model.specs.Code.{body_code, is_body};
+ghost use Rattle.gq_model.specs.machine.Program.{little};
+ghost use Rattle.gq_model.specs.texts.Code.{body_code, is_body};
 ghost use Rattle.gq_machine.specs.Reading.{spelled_by, all_run};
-ghost use Rattle.gq_machine.specs.Fetched.{IsFetched};
+ghost use Rattle.gq_machine.specs.internal.Fetched.{IsFetched};
 
 /// The statement at the front of code.
 pub(crate) enum Fetched<'a> {

@@ -1,21 +1,19 @@
 // The state of a leaf, and its steps.
 ghost use Rattle.std.specs.Prelude.{◌≡◌, ◌≢◌, ◌≤◌, [], true, length, IfOk, IfErr, OnErr};
-ghost use Rattle.gq_model.specs.Code.{body_code, is_body};
+ghost use Rattle.gq_model.specs.texts.Code.{body_code, is_body};
 ghost use Rattle.gq_machine.specs.Events.{event_of};
 ghost use Rattle.gq_machine.specs.Reading.{spelled_by, all_run};
 ghost use Rattle.gq_machine.specs.Alone.{alone, performed, first};
-ghost use Rattle.gq_machine.specs.Phases.{runs_or_exited};
+ghost use Rattle.gq_machine.specs.internal.Phases.{runs_or_exited};
 
 use crate::event::Event;
 use crate::fetch::{Fetched, fetch};
 use arrayvec::ArrayVec;
 use gq_model::fault::Wrong;
+use gq_model::limits::OPERANDS;
 use gq_model::phase::Phase;
 use itoa::Buffer;
 use std::marker::Model;
-
-/// The greatest number of operands.
-pub(crate) const OPERANDS: usize = 16;
 
 /// The greatest number of bytes of a line's text.
 pub const LINE: usize = 64;
@@ -32,7 +30,7 @@ pub(crate) struct Leaf {
 
 impl Model for Leaf {
     ghost use Rattle.gq_machine.specs.Alone.{State};
-    ghost use Rattle.gq_model.specs.Stored.{statements_code};
+    ghost use Rattle.gq_model.specs.internal.Stored.{statements_code};
     ghost use Rattle.std.specs.Coded.{codes};
 
     ghost Value = { State };

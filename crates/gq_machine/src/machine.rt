@@ -1,33 +1,36 @@
 // The machine: the leaves of a scenario, and the balances of its accounts.
-ghost use Rattle.std.specs.Prelude.{◌≡◌, ◌≢◌, ◌≤◌, ◌<◌, ◌+◌, ◌*◌, [], true, map, sum, length, slice_get, IfOk, IfErr, IfSome, IsOk, OnErr, Ok, Err, ◌^◌};
-ghost use Rattle.gq_model.specs.Amounts.{Ram, Caps};
-ghost use Rattle.gq_model.specs.Scenario.{components, system};
-ghost use Rattle.gq_model.specs.World.{start};
-ghost use Rattle.gq_model.specs.Sums.{held};
-ghost use Rattle.gq_model.specs.Accounts.{accounts};
-ghost use Rattle.gq_model.specs.Resolve.{handed_out};
-ghost use Rattle.gq_model.specs.Step.{next};
+ghost use Rattle.std.specs.Prelude.{ℕ, List, ◌≡◌, ◌≢◌, ◌≤◌, ◌<◌, ◌+◌, ◌*◌, [], true, map, sum, length, slice_get, IfOk, IfErr, IfSome, IsOk, OnErr, Ok, Err};
+ghost use Rattle.std.specs.Prelude.{◌^◌};
+ghost use Rattle.gq_model.specs.machine.Amounts.{Ram, Caps};
+ghost use Rattle.gq_model.specs.machine.Scenario.{components, system};
+ghost use Rattle.gq_model.specs.machine.World.{start};
+ghost use Rattle.gq_model.specs.machine.Sums.{held};
+ghost use Rattle.gq_model.specs.machine.Accounts.{accounts};
+ghost use Rattle.gq_model.specs.rules.Resolve.{handed_out};
+ghost use Rattle.gq_model.specs.machine.Step.{next};
 ghost use Rattle.gq_machine.specs.Events.{event_of};
+ghost use Rattle.gq_init.specs.NodeTables.{node_rows};
 ghost use Rattle.gq_machine.specs.Held.{held_by_all};
-ghost use Rattle.gq_machine.specs.Plain.{is_plain_program, are_plain_programs, first_of, programs_of, quanta_of, IsPlain};
+ghost use Rattle.gq_machine.specs.Plain.{is_plain, is_plain_program, are_plain_programs, first_of, quanta_of};
 
 use crate::event::Event;
 use crate::leaf::{LINE, Leaf};
 use arrayvec::ArrayVec;
 use gq_code::encode::encode_body;
-use gq_code::program::Program;
-use gq_init::node::NodeNo;
-use gq_init::scenario::LeafNo;
-use gq_init::stage::scenario::Scenario;
+use gq_init::NodeTable;
 use gq_model::fault::Wrong;
 use gq_model::phase::Phase;
+use gq_program::program::Program;
+use gq_scenario::node::NodeNo;
+use gq_scenario::scenario::LeafNo;
+use gq_tariff::price::PAGE;
 use std::alloc::{AllocError, Global};
 use std::marker::Model;
 
 /// The leaves of a scenario between two steps, with what its accounts have.
 #[derive(Drop)]
 pub struct Machine {
-    scenario: Scenario,
+    table: NodeTable,
     leaves: Vec<Leaf>,
     quotas: Vec<u64>,
     root: u64,
@@ -35,12 +38,16 @@ pub struct Machine {
 
 impl Model for Machine {
     ghost use Rattle.gq_machine.specs.Machines.{Machine};
-    ghost use Rattle.gq_model.specs.Stored.{statements_code, nodes_code};
+    ghost use Rattle.gq_model.specs.internal.Stored.{statements_code, nodes_code};
     ghost use Rattle.std.specs.Coded.{codes};
 
     ghost Value = { Machine };
 
-    ghost coded = { Prim.hlevel (codes, statements_code (Prim.hlevel codes), nodes_code (Prim.hlevel (codes, statements_code (Prim.hlevel codes))) (Prim.hlevel codes)) };
+    ghost coded = { Prim.hlevel (
+      codes,
+      statements_code (Prim.hlevel codes),
+      nodes_code (Prim.hlevel (codes, statements_code (Prim.hlevel codes))) (Prim.hlevel codes),
+    ) };
 
     ghost use Rattle.gq_machine.specs.Seen.{machine_seen, Holds};
 
@@ -50,24 +57,18 @@ impl Model for Machine {
 }
 
 impl Machine {
-    /// The machine at the start of a scenario, whose programs these are, in preorder: each leaf has its quantum, and the
-    /// root what is left. Refused only for want of host memory.
-    pub fn new(
-        alloc: Global,
-        scenario: &Scenario,
-        programs: Vec<Program>,
-    ) -> Result<Machine, AllocError>
-        requires plain { IsPlain scenario.now }
-        requires programs { programs.items ≡ programs_of (components scenario.now) }
-        requires fits { handed_out Ram scenario.now.nodes ≤ scenario.now.total.ram }
-        ensures scenario { IfOk result (λ m. m.scenario ≡ scenario.now) }
-        ensures world { IfOk result (λ m. m.world ≡ start (system scenario.now)) }
+    /// The machine at the start of a scenario that it runs so far: each leaf has its quantum, and the root what is left. Refused only for want
+    /// of host memory.
+    pub fn new(alloc: Global, table: NodeTable) -> Result<Machine, AllocError>
+        requires plain { is_plain table ≡ true }
+        requires fits { handed_out Ram table.nodes ≤ table.total.ram }
+        ensures scenario { IfOk result (λ m. m.scenario ≡ table) }
+        ensures world { IfOk result (λ m. m.world ≡ start (system table)) }
     {
-        let leaves = first_leaves(alloc, programs.as_slice())?;
-        let (root, quotas) = hand_out(alloc, scenario)?;
-        let scenario = scenario.copy(alloc)?;
+        let leaves = first_leaves(alloc, table.programs())?;
+        let (root, quotas) = hand_out(alloc, &table)?;
         Ok(Machine {
-            scenario,
+            table,
             leaves,
             quotas,
             root,
@@ -117,11 +118,11 @@ impl Machine {
         }
     }
 
-    /// The scenario that runs.
-    pub fn scenario(&self) -> &Scenario
+    /// The nodes of the scenario that runs.
+    pub fn table(&self) -> &NodeTable
         ensures { result.now ≡ self.now.scenario }
     {
-        &self.scenario
+        &self.table
     }
 
     /// What a leaf does.
@@ -142,8 +143,8 @@ impl Machine {
 
     /// The RAM quota of a node, in bytes.
     pub fn quota(&self, node: NodeNo) -> u64
-        requires { node ≤ length (components self.now.scenario) }
-        ensures { IfSome (slice_get (accounts self.now.scenario self.now.world []) node) (λ a. result ≡ a.quota.ram) }
+        requires { node < length (node_rows self.now.scenario) }
+        ensures { (told : List ℕ) → IfSome (slice_get (accounts self.now.scenario self.now.world told) node) (λ a. result ≡ a.quota.ram) }
     {
         let place = node.index();
         if place == 0 {
@@ -154,8 +155,8 @@ impl Machine {
 
     /// The quota of capabilities of a node: none is counted in version 1.
     pub fn caps(&self, node: NodeNo) -> u64
-        requires { node ≤ length (components self.now.scenario) }
-        ensures { IfSome (slice_get (accounts self.now.scenario self.now.world []) node) (λ a. result ≡ a.quota.caps) }
+        requires { node < length (node_rows self.now.scenario) }
+        ensures { (told : List ℕ) → IfSome (slice_get (accounts self.now.scenario self.now.world told) node) (λ a. result ≡ a.quota.caps) }
     {
         // Opens the facts of the model.
         let _leaves = &self.leaves;
@@ -192,28 +193,39 @@ impl Machine {
     pub fn free_pages(&self) -> u64
         ensures { result * 4096 + held_by_all Ram self.now.world ≡ self.now.scenario.total.ram }
     {
-        self.scenario.ram() / 4096
+        let scenario = self.table.scenario();
+        scenario.laws();
+        scenario.total().ram() / PAGE
     }
 }
 
-/// What the root is left with, and what each leaf is handed: its quantum.
-fn hand_out(alloc: Global, scenario: &Scenario) -> Result<(u64, Vec<u64>), AllocError>
-    requires { sum (quanta_of (components scenario.now)) ≤ scenario.now.total.ram }
-    ensures quotas { IfOk result (λ p. p.1.items ≡ quanta_of (components scenario.now)) }
-    ensures root { IfOk result (λ p. p.0 + sum (quanta_of (components scenario.now)) ≡ scenario.now.total.ram) }
-    ensures bounded { IfOk result (λ _. scenario.now.total.ram < 2 ^ 64) }
+// The bytes that a leaf is given.
+fn quantum_of(table: &NodeTable, leaf: LeafNo) -> u64
+    requires { leaf < length (components table.now) }
+    ensures { IfSome (slice_get (components table.now) leaf) (λ c. result ≡ c.node.quantum.ram) }
 {
-    let mut root = scenario.ram();
+    let node = table.node(leaf);
+    table.quantum(node).ram()
+}
+
+// What the root is left with, and what each leaf is handed: its quantum.
+fn hand_out(alloc: Global, table: &NodeTable) -> Result<(u64, Vec<u64>), AllocError>
+    requires { sum (quanta_of (components table.now)) ≤ table.now.total.ram }
+    ensures quotas { IfOk result (λ p. p.1.items ≡ quanta_of (components table.now)) }
+    ensures root { IfOk result (λ p. p.0 + sum (quanta_of (components table.now)) ≡ table.now.total.ram) }
+    ensures bounded { IfOk result (λ _. table.now.total.ram < 2 ^ 64) }
+{
+    let mut root = table.scenario().total().ram();
     let mut quotas = Vec::new(alloc);
-    for number in 0..scenario.leaf_count() {
-        let quantum = scenario.quantum(LeafNo::new(number as u32));
+    for number in 0..table.leaf_count() {
+        let quantum = quantum_of(table, LeafNo::new(number as u32));
         root -= quantum;
         quotas.push(quantum)?;
     }
     Ok((root, quotas))
 }
 
-/// A leaf at the start of a program's `main`.
+// A leaf at the start of a program's `main`.
 fn first_leaf(alloc: Global, program: &Program) -> Result<Leaf, AllocError>
     requires { is_plain_program program.now ≡ true }
     ensures { IfOk result (λ leaf. leaf ≡ first_of program.now) }
@@ -223,7 +235,7 @@ fn first_leaf(alloc: Global, program: &Program) -> Result<Leaf, AllocError>
     Ok(Leaf::new(code))
 }
 
-/// The leaves at the start of these programs.
+// The leaves at the start of these programs.
 fn first_leaves(alloc: Global, programs: &[Program]) -> Result<Vec<Leaf>, AllocError>
     requires { are_plain_programs programs.now ≡ true }
     ensures { IfOk result (λ leaves. leaves.items ≡ map first_of programs.now) }

@@ -1,148 +1,276 @@
--- The accounts of a sound world, and their lines.
-use Rattle.std.proofs.Common.{◌≡◌, ◌<◌, ℕ, zero, suc, List, [], ◌∷◌, ◌++◌, drop, length, Option, Some, None, IfSome, refl, take, append_assoc, ap, sym, ◌∙◌, subst, arith}
+-- The accounts of a world, node by node, and their lines.
+use Rattle.std.proofs.Common.{◌≡◌, ◌<◌, ◌+◌, ℕ, zero, suc, List, [], ◌∷◌, ◌++◌, drop, length, Option, Some, None, IfSome, refl, take, length-append}
+use Rattle.std.proofs.Common.{get_or, ◌≤◌, append_assoc, append-nil, ap, sym, ◌∙◌, subst, arith, add-one, codes}
 use Rattle.std.specs.Prelude.{slice_get, slice_index}
-use Rattle.std.proofs.lemmas.List.{append-nil}
 use Rattle.std.proofs.Math.Logic.{∥∥₁_elim}
-use Rattle.std.specs.Coded.{Coded, Coded-set, coded_list, coded_ℕ, codes}
-use Rattle.gq_model.specs.Amounts.{Ram, Caps, Amount, amount}
-use Rattle.gq_model.specs.Scenario.{Scenario, Component, components}
-use Rattle.gq_model.specs.declared.phase.Phase.{Phase}
-use Rattle.gq_model.specs.World.{Leaf, World}
-use Rattle.gq_model.specs.Sums.{held}
-use Rattle.gq_model.specs.Accounts.{LeafAccount, Account, accounts, account_line, account_lines}
-use Rattle.gq_world.specs.Kept.{HoldsNothing, AreKept}
-use Rattle.gq_world.specs.Told.{plain_account, plain_accounts}
-use Rattle.gq_world.specs.Worlds.{IsSound}
-use Rattle.gq_world.proofs.Told.{accounts_are, held_none}
+use Rattle.std.specs.Coded.{Coded-set, coded_ℕ, le_prop}
+use Rattle.gq_model.specs.machine.Amounts.{Amount, amount}
+use Rattle.gq_model.specs.Promises as promises
+use Rattle.gq_model.specs.Promises.{KeepsAccount, AllKeep, KeepsAccounts, IsUpheld}
+use Rattle.gq_model.specs.machine.Scenario.{Route, Nodes, End, Leaf_node, Init_node, Level, level, below, Scenario, System, Component, components_of}
+use Rattle.gq_model.specs.machine.Scenario.{components, system}
+use Rattle.gq_model.specs.machine.World.{Leaf, World}
+use Rattle.gq_model.specs.machine.Accounts.{LeafAccount, Account, leaf_count, init_account, leaf_account, account_at, node_accounts, accounts, account_line}
+use Rattle.gq_model.specs.machine.Accounts.{account_lines}
+use Rattle.gq_model.specs.rules.Accept.{Budget, budgets_from, budgets, step_budgets}
+use Rattle.gq_scenario.specs.Sizes.{node_count}
+use Rattle.gq_init.specs.NodeTables.{NodeRow, leaf_node, init_node, rows_of, node_rows}
+use Rattle.gq_laws.specs.Stands.{Stands}
+use Rattle.gq_world.specs.Worlds as worlds
+use Rattle.gq_world.specs.Lines.{Told, TellsOf, all_accounts, told_of, with_label}
 
-leaf_accounts : Coded (Option LeafAccount)
-leaf_accounts = Prim.hlevel codes
+-- LEAVES
 
--- PLAIN ACCOUNTS
+-- there is a leaf for each component
+pub leaves_count : (s : Scenario) (w : World) → ∥ Stands s w ∥₁ → length w.leaves ≡ length (components s)
+leaves_count s w stands = ∥∥₁_elim stands (Coded-set coded_ℕ (length w.leaves) (length (components s))) (λ h. h.whole.count)
 
-index_next : (budgets : List ℕ) (x : ℕ) → slice_index (drop 1 budgets) x ≡ slice_index budgets (suc x)
-index_next [] x = refl
-index_next (n ∷ budgets) x = refl
+there_is : {A : Type 0} (xs : List A) (x : ℕ) → x < length xs → (a : A) × (slice_get xs x ≡ Some a)
+there_is [] x less = absurd (omega (arith, less))
+there_is (a ∷ xs) zero less = (a, refl)
+there_is (a ∷ xs) (suc x) less = there_is xs x (omega (arith, less))
 
--- the x-th of the plain accounts
-plain_at : (cs : List Component) (leaves : List Leaf) (budgets : List ℕ) (x : ℕ) (c : Component) (leaf : Leaf) → slice_get cs x ≡ Some c → slice_get leaves x ≡ Some leaf
-    → slice_get (plain_accounts cs leaves budgets) x ≡ Some (plain_account c leaf (slice_index budgets x))
-plain_at [] leaves budgets x c leaf e f = cc
-plain_at (d ∷ cs) [] budgets x c leaf e f = cc
-plain_at (d ∷ cs) (other ∷ leaves) budgets zero c leaf e f =
-    let same : d ≡ c = cc in
-    let also : other ≡ leaf = cc in
-    λ i. Some (plain_account (same i) (also i) (slice_index budgets 0))
-plain_at (d ∷ cs) (other ∷ leaves) budgets (suc x) c leaf e f =
-    plain_at cs leaves (drop 1 budgets) x c leaf e f ∙ ap (λ b. Some (plain_account c leaf b)) (index_next budgets x)
+within : {A : Type 0} (xs : List A) (x : ℕ) (a : A) → slice_get xs x ≡ Some a → x < length xs
+within [] x a e = cc
+within (b ∷ xs) zero a e = omega arith
+within (b ∷ xs) (suc x) a e = let h = within xs x a e in omega (arith, h)
 
--- a component and a kept leaf at the same place
-pub record Pair (cs : List Component) (leaves : List Leaf) (x : ℕ) : Type 0 where
-  pub component : Component
-  pub leaf : Leaf
-  pub has_component : slice_get cs x ≡ Some component
-  pub has_leaf : slice_get leaves x ≡ Some leaf
-  pub empty : HoldsNothing leaf
+pub leaf_there : (s : Scenario) (w : World) → length w.leaves ≡ length (components s) → (x : ℕ) (c : Component) → slice_get (components s) x ≡ Some c
+    → (leaf : Leaf) × (slice_get w.leaves x ≡ Some leaf)
+leaf_there s w count x c e = let less = within (components s) x c e in there_is w.leaves x (omega (arith, less, count))
 
-pub pair_at : (cs : List Component) (leaves : List Leaf) (x : ℕ) → AreKept cs leaves → x < length cs → Pair cs leaves x
-pair_at [] leaves x h less = absurd (omega (arith, less))
-pair_at (c ∷ cs) [] x h less = absurd h
-pair_at (c ∷ cs) (leaf ∷ leaves) zero h less = record { component = c; leaf = leaf; has_component = refl; has_leaf = refl; empty = h.0.empty }
-pair_at (c ∷ cs) (leaf ∷ leaves) (suc x) h less =
-    let p = pair_at cs leaves x h.1 (omega (arith, less)) in record { component = p.component; leaf = p.leaf; has_component = p.has_component; has_leaf = p.has_leaf; empty = p.empty }
+first_left : {A : Type 0} (xs : List A) (x : ℕ) (a : A) (rest : List A) → drop x xs ≡ a ∷ rest → (slice_get xs x ≡ Some a) × (drop (suc x) xs ≡ rest)
+first_left [] zero a rest e = cc
+first_left [] (suc x) a rest e = cc
+first_left (y ∷ ys) zero a rest e = (cc, cc)
+first_left (y ∷ ys) (suc x) a rest e = first_left ys x a rest e
 
--- READ ACCOUNTS
+drop_past : {A : Type 0} (front back xs : List A) (x : ℕ) → drop x xs ≡ front ++ back → drop (x + length front) xs ≡ back
+drop_past [] back xs x e = let same : x + 0 ≡ x = omega arith in ap (λ n. drop n xs) same ∙ e
+drop_past (a ∷ front) back xs x e =
+    let next = first_left xs x a (front ++ back) e in
+    let same : x + suc (length front) ≡ suc x + length front = omega arith in
+    ap (λ n. drop n xs) same ∙ drop_past front back xs (suc x) next.1
 
--- what was read of a leaf
-pub record IsRead (s : Scenario) (w : World) (x : ℕ) (used caps_used steps : ℕ) (phase : Phase) : Type 0 where
-  pub within : x < length (components s)
-  pub is_used : IfSome (slice_get w.leaves x) (λ l. used ≡ held Ram w x l)
-  pub is_caps_used : IfSome (slice_get w.leaves x) (λ l. caps_used ≡ held Caps w x l)
-  pub is_steps : IfSome (slice_get w.leaves x) (λ l. steps ≡ l.steps)
-  pub is_phase : IfSome (slice_get w.leaves x) (λ l. phase ≡ l.phase)
+count_leaves : (label : List ℕ) (routes : Option (List Route)) (siblings : Nodes) (above : List Level) (nodes : Nodes)
+    → length (components_of label routes siblings above nodes) ≡ leaf_count nodes
+count_leaves label routes siblings above End = refl
+count_leaves label routes siblings above (Leaf_node node rest) = ap suc (count_leaves label routes siblings above rest)
+count_leaves label routes siblings above (Init_node node children rest) =
+    let inner = components_of (below label node.name) node.default_routes children (level node.routes routes siblings ∷ above) children in
+    let later = components_of label routes siblings above rest in
+    length-append inner later
+    ∙ (λ i. count_leaves (below label node.name) node.default_routes children (level node.routes routes siblings ∷ above) children i
+    + count_leaves label routes siblings above rest i)
 
--- what is told of it
-abbrev pub told_leaf : ℕ → ℕ → ℕ → ℕ → Phase → LeafAccount
-told_leaf used caps_used steps budget phase = record { used = amount used caps_used; steps = steps; budget = budget; phase = phase }
+-- ACCOUNTS
 
-module _ (s : Scenario) (w : World) (x : ℕ) (budgets : List ℕ) where
-  abbrev pub account_here : Option Account
-  account_here = slice_get (accounts s w budgets) (suc x)
+module _ (s : Scenario) (w : World) (told : List ℕ) where
+  -- the account of an init has no leaf; that of the x-th leaf is this
+  abbrev pub Tells : Option ℕ → Account → Type 0
+  Tells None a = a.leaf ≡ None
+  Tells (Some x) a =
+      (c : Component) × (leaf : Leaf) × (slice_get (components s) x ≡ Some c) × (slice_get w.leaves x ≡ Some leaf)
+      × (a ≡ leaf_account s.version w x c leaf (slice_index told x))
 
-  -- the account of a leaf in a sound world
-  pub account_is : (h : IsSound s w) (p : Pair (components s) w.leaves x) → account_here ≡ Some (plain_account p.component p.leaf (slice_index budgets x))
-  account_is h p = ap (λ all. slice_get all (suc x)) (accounts_are s h.bare w h.kept budgets) ∙ plain_at (components s) w.leaves budgets x p.component p.leaf p.has_component p.has_leaf
+  pub record IsAccountOf (r : NodeRow) (a : Account) : Type 0 where
+    pub label : a.label ≡ r.label
+    pub tells : Tells r.leaf a
 
-  -- what is read is told of it
-  told_is : IsSound s w → (used caps_used steps : ℕ) (phase : Phase) → IsRead s w x used caps_used steps phase → IfSome account_here (λ a. a.leaf ≡ Some (told_leaf used caps_used steps (slice_index budgets x) phase))
-  told_is h used caps_used steps phase r =
-      let p = pair_at (components s) w.leaves x h.kept.leaves r.within in
-      let c = p.component in
-      let leaf = p.leaf in
-      let Q : Option Leaf → Type 0 = λ o. IfSome o (λ l. used ≡ held Ram w x l) in
-      let R : Option Leaf → Type 0 = λ o. IfSome o (λ l. caps_used ≡ held Caps w x l) in
-      let S : Option Leaf → Type 0 = λ o. IfSome o (λ l. steps ≡ l.steps) in
-      let T : Option Leaf → Type 0 = λ o. IfSome o (λ l. phase ≡ l.phase) in
-      let is_used : used ≡ 0 = subst Q p.has_leaf r.is_used ∙ held_none s w h.kept Ram x leaf p.empty in
-      let is_caps_used : caps_used ≡ 0 = subst R p.has_leaf r.is_caps_used ∙ held_none s w h.kept Caps x leaf p.empty in
-      let is_steps : steps ≡ leaf.steps = subst S p.has_leaf r.is_steps in
-      let is_phase : phase ≡ leaf.phase = subst T p.has_leaf r.is_phase in
-      let same : told_leaf 0 0 leaf.steps (slice_index budgets x) leaf.phase ≡ told_leaf used caps_used steps (slice_index budgets x) phase =
-      λ i. told_leaf (sym is_used i) (sym is_caps_used i) (sym is_steps i) (slice_index budgets x) (sym is_phase i) in
-      subst (λ (o : Option Account). IfSome o (λ a. a.leaf ≡ Some (told_leaf used caps_used steps (slice_index budgets x) phase))) (sym (account_is h p)) (ap Some same)
+  abbrev pub AreAccountsOf : List NodeRow → List Account → Type 0
+  AreAccountsOf [] [] = Unit {0}
+  AreAccountsOf (r ∷ rows) (a ∷ all) = IsAccountOf r a × AreAccountsOf rows all
+  AreAccountsOf [] (a ∷ all) = ⊥
+  AreAccountsOf (r ∷ rows) [] = ⊥
 
-  -- its label is the leaf's
-  label_is : IsSound s w → x < length (components s) → (label : List ℕ) → IfSome (slice_get (components s) x) (λ c. label ≡ c.label) → IfSome account_here (λ a. label ≡ a.label)
-  label_is h less label l =
-      let p = pair_at (components s) w.leaves x h.kept.leaves less in
-      subst (λ (o : Option Account). IfSome o (λ a. label ≡ a.label)) (sym (account_is h p)) (subst (λ (o : Option Component). IfSome o (λ c. label ≡ c.label)) p.has_component l)
+  both : (rows rows' : List NodeRow) (all all' : List Account) → AreAccountsOf rows all → AreAccountsOf rows' all' → AreAccountsOf (rows ++ rows') (all ++ all')
+  both [] rows' [] all' h k = k
+  both [] rows' (a ∷ all) all' h k = absurd h
+  both (r ∷ rows) rows' [] all' h k = absurd h
+  both (r ∷ rows) rows' (a ∷ all) all' h k = (h.0, both rows rows' all all' h.1 k)
 
-  -- so it is where no more is known than that the world is sound
-  told_once : (o : Option Account) (told : LeafAccount) (p q : IfSome o (λ a. a.leaf ≡ Some told)) → p ≡ q
-  told_once None told p q = refl
-  told_once (Some a) told p q = Coded-set leaf_accounts a.leaf (Some told) p q
+  module _ (there : (x : ℕ) (c : Component) → slice_get (components s) x ≡ Some c → (leaf : Leaf) × (slice_get w.leaves x ≡ Some leaf)) where
+    from_nodes : (label : List ℕ) (routes : Option (List Route)) (siblings : Nodes) (above : List Level) (parent n x : ℕ) (nodes : Nodes)
+        (more : List Component)
+        → drop x (components s) ≡ components_of label routes siblings above nodes ++ more
+        → AreAccountsOf (rows_of label parent n x nodes) (node_accounts s.version (system s) w told x label nodes)
+    from_nodes label routes siblings above parent n x End more e = tt
+    from_nodes label routes siblings above parent n x (Leaf_node node rest) more e =
+        let c : Component = record { label = below label node.name; node = node; levels = level node.routes routes siblings ∷ above } in
+        let at = first_left (components s) x c (components_of label routes siblings above rest ++ more) e in
+        let leaf = there x c at.0 in
+        let row = leaf_node (below label node.name) parent x node.quantum in
+        let account = leaf_account s.version w x c leaf.0 (slice_index told x) in
+        let here : account_at s.version w x (slice_get (components s) x) (slice_get w.leaves x) (slice_index told x) ≡ account ∷ [] =
+        (λ i. account_at s.version w x (at.0 i) (leaf.1 i) (slice_index told x)) in
+        let next = subst (λ (m : ℕ). AreAccountsOf (rows_of label parent (n + 1) m rest) (node_accounts s.version (system s) w told (suc x) label rest))
+        (sym (add-one x)) (from_nodes label routes siblings above parent (n + 1) (suc x) rest more at.1) in
+        let own : IsAccountOf row account = record { label = refl; tells = (c, leaf.0, at.0, leaf.1, refl) } in
+        subst (λ (l : List Account). AreAccountsOf (row ∷ rows_of label parent (n + 1) (x + 1) rest) (l
+        ++ node_accounts s.version (system s) w told (suc x) label rest))
+        (sym here) (own, next)
+    from_nodes label routes siblings above parent n x (Init_node node children rest) more e =
+        let inner = components_of (below label node.name) node.default_routes children (level node.routes routes siblings ∷ above) children in
+        let later = components_of label routes siblings above rest in
+        let split : drop x (components s) ≡ inner ++ (later ++ more) = e ∙ append_assoc inner later more in
+        let under = from_nodes (below label node.name) node.default_routes children (level node.routes routes siblings ∷ above) n (n + 1) x children (later
+        ++ more) split in
+        let counted = count_leaves (below label node.name) node.default_routes children (level node.routes routes siblings ∷ above) children in
+        let past : drop (x + leaf_count children) (components s) ≡ later ++ more =
+        ap (λ m. drop (x + m) (components s)) (sym counted) ∙ drop_past inner (later ++ more) (components s) x split in
+        let after = from_nodes label routes siblings above parent (n + 1 + node_count children) (x + leaf_count children) rest more past in (
+          record { label = refl; tells = refl },
+          both (rows_of (below label node.name) n (n + 1) x children) (rows_of label parent (n + 1 + node_count children) (x + leaf_count children) rest)
+              (node_accounts s.version (system s) w told x (below label node.name) children)
+              (node_accounts s.version (system s) w told (x + leaf_count children) label rest) under after,
+        )
 
-  label_once : (o : Option Account) (label : List ℕ) (p q : IfSome o (λ a. label ≡ a.label)) → p ≡ q
-  label_once None label p q = refl
-  label_once (Some a) label p q = Coded-set (coded_list coded_ℕ) label a.label p q
+    accounts_of : AreAccountsOf (node_rows s) (accounts s w told)
+    accounts_of = (
+      record { label = refl; tells = refl },
+      from_nodes (codes "init") s.default_routes s.nodes [] 0 1 0 s.nodes [] (sym (append-nil (components s))),
+    )
 
-  pub told_here : ∥ IsSound s w ∥₁ → (used caps_used steps : ℕ) (phase : Phase) → IsRead s w x used caps_used steps phase → IfSome account_here (λ a. a.leaf ≡ Some (told_leaf used caps_used steps (slice_index budgets x) phase))
-  told_here sound used caps_used steps phase r =
-      ∥∥₁_elim sound (told_once account_here (told_leaf used caps_used steps (slice_index budgets x) phase)) (λ h. told_is h used caps_used steps phase r)
+-- what is told of a node
+pub record AccountAt (s : Scenario) (w : World) (told : List ℕ) (rows : List NodeRow) (all : List Account) (n : ℕ) : Type 0 where
+  pub row : NodeRow
+  pub account : Account
+  pub row_there : slice_get rows n ≡ Some row
+  pub account_there : slice_get all n ≡ Some account
+  pub is : IsAccountOf s w told row account
 
-  pub label_here : ∥ IsSound s w ∥₁ → x < length (components s) → (label : List ℕ) → IfSome (slice_get (components s) x) (λ c. label ≡ c.label) → IfSome account_here (λ a. label ≡ a.label)
-  label_here sound less label l = ∥∥₁_elim sound (label_once account_here label) (λ h. label_is h less label l)
+at_place : (s : Scenario) (w : World) (told : List ℕ) (rows : List NodeRow) (all : List Account) (n : ℕ) → AreAccountsOf s w told rows all → n < length rows
+    → AccountAt s w told rows all n
+at_place s w told [] all n h less = absurd (omega (arith, less))
+at_place s w told (r ∷ rows) [] n h less = absurd h
+at_place s w told (r ∷ rows) (a ∷ all) zero h less = record { row = r; account = a; row_there = refl; account_there = refl; is = h.0 }
+at_place s w told (r ∷ rows) (a ∷ all) (suc n) h less =
+    let p = at_place s w told rows all n h.1 (omega (arith, less)) in
+    record { row = p.row; account = p.account; row_there = p.row_there; account_there = p.account_there; is = p.is }
 
-module _ (s : Scenario) (w : World) (x : ℕ) (budgets : List ℕ) (less : x < length (components s)) (part : Amount → ℕ) (n : ℕ) where
-  abbrev HasPart : Option Account → Type 0
-  HasPart o = IfSome o (λ a. n ≡ part a.quota)
+same_count : (s : Scenario) (w : World) (told : List ℕ) (rows : List NodeRow) (all : List Account) → AreAccountsOf s w told rows all → length all ≡ length rows
+same_count s w told [] [] h = refl
+same_count s w told [] (a ∷ all) h = absurd h
+same_count s w told (r ∷ rows) [] h = absurd h
+same_count s w told (r ∷ rows) (a ∷ all) h = ap suc (same_count s w told rows all h.1)
 
-  part_once : (o : Option Account) (p q : HasPart o) → p ≡ q
-  part_once None p q = refl
-  part_once (Some a) p q = Coded-set coded_ℕ n (part a.quota) p q
+-- the accounts of a world are those of its nodes
+module _ (w : worlds.World) (count : length w.world.leaves ≡ length (components w.scenario)) where
+  all_of_nodes : AreAccountsOf w.scenario w.world (step_budgets (budgets w.scenario)) (node_rows w.scenario)
+      (accounts w.scenario w.world (step_budgets (budgets w.scenario)))
+  all_of_nodes = accounts_of w.scenario w.world (step_budgets (budgets w.scenario)) (leaf_there w.scenario w.world count)
 
-  part_is : IsSound s w → HasPart (slice_get (accounts s w []) (suc x)) → HasPart (slice_get (accounts s w budgets) (suc x))
-  part_is h t =
-      let p = pair_at (components s) w.leaves x h.kept.leaves less in
-      subst HasPart (sym (account_is s w x budgets h p)) (subst HasPart (account_is s w x [] h p) t)
+  pub accounts_count : length (all_accounts w) ≡ length (node_rows w.scenario)
+  unfolding all_accounts
+  accounts_count =
+      same_count w.scenario w.world (step_budgets (budgets w.scenario)) (node_rows w.scenario)
+      (accounts w.scenario w.world (step_budgets (budgets w.scenario))) all_of_nodes
 
-  -- a quota does not hang on the budgets
-  pub part_here : ∥ IsSound s w ∥₁ → HasPart (slice_get (accounts s w []) (suc x)) → HasPart (slice_get (accounts s w budgets) (suc x))
-  part_here sound t = ∥∥₁_elim sound (part_once (slice_get (accounts s w budgets) (suc x))) (λ h. part_is h t)
+  pub account_of : (n : ℕ) → n < length (node_rows w.scenario)
+      → AccountAt w.scenario w.world (step_budgets (budgets w.scenario)) (node_rows w.scenario) (all_accounts w) n
+  unfolding all_accounts
+  account_of n less =
+      at_place w.scenario w.world (step_budgets (budgets w.scenario)) (node_rows w.scenario) (accounts w.scenario w.world (step_budgets (budgets w.scenario))) n
+      all_of_nodes less
 
--- ALL LINES
+-- what was found of a node's leaf
+abbrev pub LeafRead : worlds.World → Option ℕ → Option LeafAccount → Type 0
+LeafRead w None l = l ≡ None
+LeafRead w (Some x) l = (a : LeafAccount) × (l ≡ Some a) × TellsOf w x a
 
-plain_count : (cs : List Component) (leaves : List Leaf) (budgets : List ℕ) → AreKept cs leaves → length (plain_accounts cs leaves budgets) ≡ length cs
-plain_count [] [] budgets h = refl
-plain_count [] (leaf ∷ leaves) budgets h = absurd h
-plain_count (c ∷ cs) [] budgets h = absurd h
-plain_count (c ∷ cs) (leaf ∷ leaves) budgets h = ap suc (plain_count cs leaves (drop 1 budgets) h.1)
+module _ (w : worlds.World) (all : List Account) (n : ℕ)
+    (p : AccountAt w.scenario w.world (step_budgets (budgets w.scenario)) (node_rows w.scenario) all n) where
+  -- the leaf that its row names is there
+  named_there : (o : Option ℕ) (x : ℕ) (a : Account) → o ≡ Some x → Tells w.scenario w.world (step_budgets (budgets w.scenario)) o a
+      → x < length (components w.scenario)
+  named_there None x a e t = cc
+  named_there (Some y) x a e t = let same : y ≡ x = cc in subst (λ (m : ℕ). m < length (components w.scenario)) same (within (components w.scenario) y t.0 t.2)
 
--- an account for the root and for each leaf
-pub accounts_count : (s : Scenario) (w : World) → ∥ IsSound s w ∥₁ → (budgets : List ℕ) → length (accounts s w budgets) ≡ suc (length (components s))
-accounts_count s w sound budgets =
-    ∥∥₁_elim sound (Coded-set coded_ℕ (length (accounts s w budgets)) (suc (length (components s)))) (λ h.
-    ap length (accounts_are s h.bare w h.kept budgets) ∙ ap suc (plain_count (components s) w.leaves budgets h.kept.leaves))
+  row_leaf : (found : Option ℕ) → IfSome (slice_get (node_rows w.scenario) n) (λ r. found ≡ r.leaf) → found ≡ p.row.leaf
+  row_leaf found h = subst (λ (o : Option NodeRow). IfSome o (λ r. found ≡ r.leaf)) p.row_there h
+
+  pub leaf_within : (found : Option ℕ) (x : ℕ) → IfSome (slice_get (node_rows w.scenario) n) (λ r. found ≡ r.leaf) → found ≡ Some x
+      → x < length (components w.scenario)
+  leaf_within found x h e = named_there p.row.leaf x p.account (sym (row_leaf found h) ∙ e) p.is.tells
+
+  leaf_by : (o : Option ℕ) (a : Account) (l : Option LeafAccount) → Tells w.scenario w.world (step_budgets (budgets w.scenario)) o a → LeafRead w o l
+      → l ≡ a.leaf
+  leaf_by None a l t h = h ∙ sym t
+  leaf_by (Some x) a l t h = h.1 ∙ (sym (h.2 t.0 t.1 t.2 t.3) ∙ ap (λ b. b.leaf) (sym t.4))
+
+  leaf_is : (found : Option ℕ) (l : Option LeafAccount) → IfSome (slice_get (node_rows w.scenario) n) (λ r. found ≡ r.leaf) → LeafRead w found l
+      → l ≡ p.account.leaf
+  leaf_is found l h k = leaf_by p.row.leaf p.account l p.is.tells (subst (λ (o : Option ℕ). LeafRead w o l) (row_leaf found h) k)
+
+  at_account : (P : Account → Type 0) → IfSome (slice_get all n) P → P p.account
+  at_account P h = subst (λ (o : Option Account). IfSome o P) p.account_there h
+
+  -- what is told of it
+  pub told_is : (ram caps : ℕ) (found : Option ℕ) (l : Option LeafAccount) (told : Told) → told ≡ record { quota = amount ram caps; leaf = l }
+      → IfSome (slice_get all n) (λ a. ram ≡ a.quota.ram) → IfSome (slice_get all n) (λ a. caps ≡ a.quota.caps)
+      → IfSome (slice_get (node_rows w.scenario) n) (λ r. found ≡ r.leaf) → LeafRead w found l → IfSome (slice_get all n) (λ a. told ≡ told_of a)
+  told_is ram caps found l told e q k h r =
+      let quota = at_account (λ a. ram ≡ a.quota.ram) q in
+      let of_caps = at_account (λ a. caps ≡ a.quota.caps) k in
+      let leaf = leaf_is found l h r in
+      let same : told ≡ told_of p.account = e ∙ (λ i. record { quota = amount (quota i) (of_caps i); leaf = leaf i }) in
+      subst (λ (o : Option Account). IfSome o (λ a. told ≡ told_of a)) (sym p.account_there) same
+
+  -- its line
+  pub line_is : (label line : List ℕ) (told : Told) (version : ℕ) → version ≡ w.scenario.version → line ≡ account_line version (with_label label told)
+      → IfSome (slice_get (node_rows w.scenario) n) (λ r. label ≡ r.label) → IfSome (slice_get all n) (λ a. told ≡ told_of a)
+      → IfSome (slice_get all n) (λ a. line ≡ account_line w.scenario.version a)
+  line_is label line told version v e l t =
+      let named : label ≡ p.account.label = subst (λ (o : Option NodeRow). IfSome o (λ r. label ≡ r.label)) p.row_there l ∙ sym p.is.label in
+      let known = at_account (λ a. told ≡ told_of a) t in
+      let same : line ≡ account_line w.scenario.version p.account = e ∙ (λ i. account_line (v i) (with_label (named i) (known i))) in
+      subst (λ (o : Option Account). IfSome o (λ a. line ≡ account_line w.scenario.version a)) (sym p.account_there) same
+
+-- BUDGETS
+
+budgets_from_count : (version : ℕ) (all : System) (x : ℕ) (cs : List Component) → length (budgets_from version all x cs) ≡ length cs
+budgets_from_count version all x [] = refl
+budgets_from_count version all x (c ∷ cs) = ap suc (budgets_from_count version all (suc x) cs)
+
+-- as many budgets as leaves
+pub budgets_count : (s : Scenario) → length (budgets s) ≡ length (components s)
+budgets_count s = budgets_from_count s.version (system s) 0 (components s)
+
+pub steps_at : (all : List Budget) (x : ℕ) (b : Budget) → x < length all → b ≡ get_or all x b → slice_index (step_budgets all) x ≡ b.steps
+steps_at [] x b less e = absurd (omega (arith, less))
+steps_at (a ∷ all) zero b less e = ap (λ c. c.steps) (sym e)
+steps_at (a ∷ all) (suc x) b less e = steps_at all x b (omega (arith, less)) e
+
+-- WHAT ACCOUNTS KEEP
+
+module _ (low high : LeafAccount → Amount → ℕ) (by : (q : Amount) (l : LeafAccount) → KeepsAccount q l → low l q ≤ high l q) where
+  abbrev Fits : Amount → Option LeafAccount → Type 0
+  Fits q o = IfSome o (λ l. low l q ≤ high l q)
+
+  fits_once : (q : Amount) (o : Option LeafAccount) (a b : Fits q o) → a ≡ b
+  fits_once q None a b = refl
+  fits_once q (Some l) a b = le_prop a b
+
+  fits_by : (q : Amount) (o : Option LeafAccount) → promises.Keeps q o → Fits q o
+  fits_by q None h = tt
+  fits_by q (Some l) h = by q l h
+
+  fits_in : (all : List Account) (n : ℕ) (told : Told) → n < length all → AllKeep all → IfSome (slice_get all n) (λ a. told ≡ told_of a)
+      → Fits told.quota told.leaf
+  fits_in [] n told less h e = absurd (omega (arith, less))
+  fits_in (a ∷ all) zero told less h e = subst (λ (t : Told). Fits t.quota t.leaf) (sym e) (fits_by a.quota a.leaf h.0)
+  fits_in (a ∷ all) (suc n) told less h e = fits_in all n told (omega (arith, less)) h.1 e
+
+  -- so it is of each node
+  pub fits_at : ((s : Scenario) (v : World) → Stands s v → IsUpheld s v) → ((s : Scenario) (v : World) → IsUpheld s v → KeepsAccounts s v) → (w : worlds.World)
+      → ∥ Stands w.scenario w.world ∥₁ → (n : ℕ) (told : Told) → n < length (all_accounts w) → IfSome (slice_get (all_accounts w) n) (λ a. told ≡ told_of a)
+      → IfSome told.leaf (λ l. low l told.quota ≤ high l told.quota)
+  unfolding all_accounts
+  fits_at promised kept w stands n told less e =
+      ∥∥₁_elim stands (fits_once told.quota told.leaf) (λ h.
+      fits_in (accounts w.scenario w.world (step_budgets (budgets w.scenario))) n told less (kept w.scenario w.world (promised w.scenario w.world h)) e)
+
+-- LINES
 
 -- the lines up to the n-th, and one more
 pub lines_next : (version : ℕ) (all : List Account) (n : ℕ) (line : List ℕ) → n < length all → IfSome (slice_get all n) (λ a. line ≡ account_line version a)

@@ -1,13 +1,14 @@
 -- The turns of a text are of leaves that are there.
-use Rattle.std.proofs.Common.{◌≡◌, ℕ, suc, ◌+◌, ◌<◌, ◌^◌, ◌==◌, nat_le, Bool, true, false, cond, List, [], ◌∷◌, length, Option, Some, None, IfSome, Result, Ok, Err, sym, subst, arith}
+use Rattle.std.proofs.Common.{◌≡◌, ℕ, suc, ◌+◌, ◌<◌, ◌^◌, ◌==◌, nat_le, Bool, true, false, cond, List, [], ◌∷◌, length, Option, Some, None, IfSome, Result, Ok}
+use Rattle.std.proofs.Common.{Err, sym, subst, arith}
 use Rattle.gq_model.specs.declared.fault.TurnFault.{TurnFault}
 use Rattle.gq_model.specs.declared.fault.TurnFault.TheVariants.{TooMany, BadLine}
-use Rattle.gq_model.specs.Program.{text_eq}
-use Rattle.gq_model.specs.Letters.{is_name, pieces, lines}
-use Rattle.gq_model.specs.Routes.{numbered}
-use Rattle.gq_model.specs.Scenario.{Component}
-use Rattle.gq_model.specs.Turns.{Turned, turn_count, turn_of, turn_in, turns_from, turn_onto, says_nothing, after_line, greatest_turns, turned}
-use Rattle.gq_world.specs.Going.{AreBelow}
+use Rattle.gq_model.specs.machine.Program.{text_eq}
+use Rattle.gq_model.specs.texts.Letters.{is_name, pieces, lines}
+use Rattle.gq_model.specs.machine.Routes.{numbered}
+use Rattle.gq_model.specs.machine.Scenario.{Component}
+use Rattle.gq_model.specs.texts.Turns.{Turned, turn_count, turn_of, turn_in, turns_from, turn_onto, says_nothing, after_line, greatest_turns, turned}
+use Rattle.gq_world.specs.internal.Going.{AreBelow}
 
 abbrev IsBelow : ℕ → Result (ℕ × ℕ) TurnFault → Type 0
 IsBelow n (Ok turn) = turn.0 < n
@@ -31,7 +32,8 @@ place_by false x n o h = h
 numbered_below : (x : ℕ) (name : List ℕ) (all : List Component) → Place (x + length all) (numbered x name all)
 numbered_below x name [] = tt
 numbered_below x name (c ∷ rest) =
-    place_by (text_eq name c.node.name) x (length rest) (numbered (suc x) name rest) (place_later (numbered (suc x) name rest) x (length rest) (numbered_below (suc x) name rest))
+    place_by (text_eq name c.node.name) x (length rest) (numbered (suc x) name rest)
+    (place_later (numbered (suc x) name rest) x (length rest) (numbered_below (suc x) name rest))
 
 -- the leaf of a name is there
 pub all_below : (name : List ℕ) (all : List Component) → Place (length all) (numbered 0 name all)
@@ -50,7 +52,8 @@ named_below false n turn fault h f = f
 in_below : (all : List Component) (parts : List (List ℕ)) → IsBelow (length all) (turn_in all parts)
 in_below all [] = tt
 in_below all (name ∷ []) = tt
-in_below all (name ∷ count ∷ []) = named_below (is_name name) (length all) (turn_of (numbered 0 name all) (turn_count count)) (Err BadLine) (turn_below (length all) (numbered 0 name all) (turn_count count) (all_below name all)) tt
+in_below all (name ∷ count ∷ []) = named_below (is_name name) (length all) (turn_of (numbered 0 name all) (turn_count count)) (Err BadLine)
+    (turn_below (length all) (numbered 0 name all) (turn_count count) (all_below name all)) tt
 in_below all (name ∷ count ∷ more ∷ rest) = tt
 
 onto_below : (n : ℕ) (turn : ℕ × ℕ) (rest : Turned) → turn.0 < n → AreBelowIn n rest → AreBelowIn n (turn_onto turn rest)
@@ -61,7 +64,8 @@ limit_below : (b : Bool) (n : ℕ) (answer : Turned) (fault : TurnFault × ℕ) 
 limit_below true n answer fault h = h
 limit_below false n answer fault h = tt
 
-after_below : (n : ℕ) (b : Bool) (turn : Result (ℕ × ℕ) TurnFault) (k m : ℕ) (go : ℕ → Turned) → IsBelow n turn → ((m : ℕ) → AreBelowIn n (go m)) → AreBelowIn n (after_line b turn k m go)
+after_below : (n : ℕ) (b : Bool) (turn : Result (ℕ × ℕ) TurnFault) (k m : ℕ) (go : ℕ → Turned) → IsBelow n turn → ((m : ℕ) → AreBelowIn n (go m))
+    → AreBelowIn n (after_line b turn k m go)
 after_below n true turn k m go h g = g m
 after_below n false (Err fault) k m go h g = tt
 after_below n false (Ok turn) k m go h g =
@@ -70,10 +74,12 @@ after_below n false (Ok turn) k m go h g =
 from_below : (all : List Component) (k n : ℕ) (text : List (List ℕ)) → AreBelowIn (length all) (turns_from all k n text)
 from_below all k n [] = tt
 from_below all k n (line ∷ rest) =
-    after_below (length all) (says_nothing line) (turn_in all (pieces (λ c. c == 32) line)) k n (λ m. turns_from all (suc k) m rest) (in_below all (pieces (λ c. c == 32) line)) (λ m. from_below all (suc k) m rest)
+    after_below (length all) (says_nothing line) (turn_in all (pieces (λ c. c == 32) line)) k n (λ m. turns_from all (suc k) m rest)
+    (in_below all (pieces (λ c. c == 32) line)) (λ m. from_below all (suc k) m rest)
 
 pub turned_below : (all : List Component) (text : List ℕ) → AreBelowIn (length all) (turned all text)
-turned_below all text = limit_below (nat_le (length text) (2 ^ 24)) (length all) (turns_from all 1 0 (lines text)) (TooMany, 0) (from_below all 1 0 (lines text))
+turned_below all text = limit_below (nat_le (length text) (2 ^ 24)) (length all) (turns_from all 1 0 (lines text)) (TooMany, 0)
+    (from_below all 1 0 (lines text))
 
 -- so is one that was found
 pub leaf_there : (all : List Component) (name : List ℕ) (found : Option ℕ) → found ≡ numbered 0 name all → IfSome found (λ p. p < length all)

@@ -4,7 +4,7 @@ use Rattle.std.specs.Prelude.{slice_get}
 use Rattle.std.specs.Io.KnownBytes.{Appends}
 use Rattle.std.proofs.lemmas.List.{take-append-drop}
 use Rattle.std.proofs.Math.Seq.{take-append_seam, take-length}
-use Rattle.gq_model.specs.Accounts.{Account, account_line, account_lines}
+use Rattle.gq_model.specs.machine.Accounts.{Account, account_line, account_lines}
 use Rattle.gq_world.specs.Writes.{IsFront}
 use Rattle.gq_world.proofs.Known.{appends_both}
 use Rattle.gq_world.proofs.Accounts.{lines_next}
@@ -14,7 +14,8 @@ pub front_by : (old new : Option (List ℕ)) (begun rest text : List ℕ) → Ap
 front_by old new begun rest text h e = (length begun, subst (Appends old new) (sym (ap (take (length begun)) e ∙ take-append_seam begun rest)) h)
 
 -- a front of the next part, after what was written
-pub front_after : (old between new : Option (List ℕ)) (begun part rest text : List ℕ) → Appends old between begun → IsFront between new part → text ≡ begun ++ (part ++ rest) → IsFront old new text
+pub front_after : (old between new : Option (List ℕ)) (begun part rest text : List ℕ) → Appends old between begun → IsFront between new part → text ≡ begun
+    ++ (part ++ rest) → IsFront old new text
 front_after old between new begun part rest text h f e =
     let k = f.0 in
     let whole : begun ++ (part ++ rest) ≡ (begun ++ take k part) ++ (drop k part ++ rest) =
@@ -27,16 +28,19 @@ lines_split : (version n : ℕ) (all : List Account) → account_lines version (
 lines_split version zero all = refl
 lines_split version (suc n) [] = refl
 lines_split version (suc n) (a ∷ all) =
-    append_assoc (account_line version a) (account_lines version (take n all)) (account_lines version (drop n all)) ∙ ap (λ l. account_line version a ++ l) (lines_split version n all)
+    append_assoc (account_line version a) (account_lines version (take n all)) (account_lines version (drop n all))
+    ∙ ap (λ l. account_line version a ++ l) (lines_split version n all)
 
 -- a line more
-pub next_line : (version n : ℕ) (all : List Account) (line : List ℕ) → n < length all → IfSome (slice_get all n) (λ a. line ≡ account_line version a) → (old between new : Option (List ℕ))
+pub next_line : (version n : ℕ) (all : List Account) (line : List ℕ) → n < length all → IfSome (slice_get all n) (λ a. line ≡ account_line version a)
+    → (old between new : Option (List ℕ))
     → Appends old between (account_lines version (take n all)) → Appends between new line → Appends old new (account_lines version (take (suc n) all))
 next_line version n all line less h old between new w v =
     subst (Appends old new) (sym (lines_next version all n line less h)) (appends_both old between new (account_lines version (take n all)) line w v)
 
 -- a front of the next line
-pub next_front : (version n : ℕ) (all : List Account) (line : List ℕ) → n < length all → IfSome (slice_get all n) (λ a. line ≡ account_line version a) → (old between new : Option (List ℕ))
+pub next_front : (version n : ℕ) (all : List Account) (line : List ℕ) → n < length all → IfSome (slice_get all n) (λ a. line ≡ account_line version a)
+    → (old between new : Option (List ℕ))
     → Appends old between (account_lines version (take n all)) → IsFront between new line → IsFront old new (account_lines version all)
 next_front version n all line less h old between new w f =
     let begun = account_lines version (take n all) in

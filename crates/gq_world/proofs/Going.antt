@@ -1,19 +1,20 @@
 -- Turns, one after the other.
-use Rattle.std.proofs.Common.{◌≡◌, ℕ, zero, suc, ◌+◌, ◌-◌, ◌<◌, List, [], ◌∷◌, ◌++◌, take, drop, Option, Some, None, Ok, Err, length, get_or, refl, ap, sym, ◌∙◌, subst, arith, add-one, append_assoc, append-nil}
+use Rattle.std.proofs.Common.{◌≡◌, ℕ, zero, suc, ◌+◌, ◌-◌, ◌<◌, List, [], ◌∷◌, ◌++◌, take, drop, Option, Some, None, Ok, Err, length, get_or, refl, ap, sym}
+use Rattle.std.proofs.Common.{◌∙◌, subst, arith, add-one, append_assoc, append-nil}
 use Rattle.std.proofs.lemmas.List.{take-append-drop}
 use Rattle.std.proofs.Math.Seq.{drop-cons}
 use Rattle.std.specs.Prelude.{slice_get, false}
 use Rattle.std.specs.Io.KnownBytes.{Appends}
-use Rattle.gq_model.specs.Scenario.{Scenario, System, system}
-use Rattle.gq_model.specs.World as model
-use Rattle.gq_model.specs.Doing as doing
+use Rattle.gq_model.specs.machine.Scenario.{Scenario, System, system}
+use Rattle.gq_model.specs.machine.World as model
+use Rattle.gq_model.specs.machine.Doing as doing
 use Rattle.gq_model.specs.declared.fault.Wrong.{Wrong}
-use Rattle.gq_model.specs.Doing.{Stepped}
-use Rattle.gq_model.specs.Step.{next}
-use Rattle.gq_model.specs.Run.{Ran, label_at, line_of, after_step, turn_from, turns_of, run_on}
+use Rattle.gq_model.specs.machine.Doing.{Stepped}
+use Rattle.gq_model.specs.machine.Step.{next}
+use Rattle.gq_model.specs.machine.Run.{Ran, label_at, line_of, after_step, turn_from, turns_of, run_on}
 use Rattle.gq_machine.specs.declared.event.Event.{Event}
 use Rattle.gq_world.specs.Worlds.{World, IsTurn, StopsWriting, line_told}
-use Rattle.gq_world.specs.Going.{going, AreBelow, HasRun, HasLeft, IsCut}
+use Rattle.gq_world.specs.internal.Going.{going, AreBelow, HasRun, HasLeft, IsCut}
 use Rattle.gq_world.proofs.Known.{appends_nothing, appends_both}
 
 -- TEXTS GROW
@@ -81,7 +82,8 @@ module _ (s : Scenario) (x count i : ℕ) (less : i < count) (old now new : Worl
       record {
         text = h.text ++ line;
         written = appends_both before between after h.text line h.written (subst (Appends between after) (line_same t.step) t.written);
-        same = λ front. ap (λ l. left (count - (i + 1)) (going new.world l)) (sym (append_assoc front h.text line)) ∙ (sym (split t.step t.next (front ++ h.text)) ∙ h.same front);
+        same = λ front. ap (λ l. left (count - (i + 1)) (going new.world l)) (sym (append_assoc front h.text line))
+            ∙ (sym (split t.step t.next (front ++ h.text)) ∙ h.same front);
         running = r;
       }
 
@@ -89,12 +91,14 @@ module _ (s : Scenario) (x count i : ℕ) (less : i < count) (old now new : Worl
   is_cut h t =
       let line = line_told s x t.step in
       let k = t.written.0 in
-      let rest : (front : List ℕ) → (more : List ℕ) × ((left (count - (i + 1)) (going new.world ((front ++ h.text) ++ line))).text ≡ ((front ++ h.text) ++ line) ++ more) =
+      let rest : (front : List ℕ) → (more : List ℕ) × ((left (count - (i + 1)) (going new.world ((front ++ h.text) ++ line))).text ≡ ((front ++ h.text) ++ line)
+      ++ more) =
       λ front. turns_grow (system s) x (count - (i + 1)) (going new.world ((front ++ h.text) ++ line)) in
       record {
         text = h.text ++ take k line;
         more = λ front. drop k line ++ (rest front).0;
-        written = appends_both before between after h.text (take k line) h.written (subst (λ (l : List ℕ). Appends between after (take k l)) (line_same t.step) t.written.1);
+        written = appends_both before between after h.text (take k line) h.written
+            (subst (λ (l : List ℕ). Appends between after (take k l)) (line_same t.step) t.written.1);
         front = λ front.
             ap (λ (r : Ran). r.text) (sym (h.same front))
             ∙ (ap (λ (r : Ran). r.text) (split t.step t.next (front ++ h.text)) ∙ ((rest front).1 ∙ parted front h.text line (rest front).0 k));
@@ -102,12 +106,24 @@ module _ (s : Scenario) (x count i : ℕ) (less : i < count) (old now new : Worl
 
 -- at the start all is left
 pub starts : (all : Ran → Ran) (old : World) (before : Option (List ℕ)) → old.stopped ≡ false → HasLeft all all old old before before
-starts all old before r = record { text = []; written = appends_nothing before; same = λ front. ap (λ l. all (going old.world l)) (append-nil front); running = r }
+starts all old before r = record {
+  text = [];
+  written = appends_nothing before;
+  same = λ front. ap (λ l. all (going old.world l)) (append-nil front);
+  running =
+      r;
+}
 
 -- at the end nothing is
-pub ends : (s : Scenario) (x count left : ℕ) → left ≡ 0 → (all : Ran → Ran) (old new : World) (before after : Option (List ℕ)) → HasLeft (turns_of (system s) x left) all old new before after → HasRun all old new before after
+pub ends : (s : Scenario) (x count left : ℕ) → left ≡ 0 → (all : Ran → Ran) (old new : World) (before after : Option (List ℕ))
+    → HasLeft (turns_of (system s) x left) all old new before after → HasRun all old new before after
 ends s x count left e all old new before after h =
-    record { text = h.text; written = h.written; ran = λ front. sym (h.same front) ∙ ap (λ n. turns_of (system s) x n (going new.world (front ++ h.text))) e; running = h.running }
+    record {
+      text = h.text;
+      written = h.written;
+      ran = λ front. sym (h.same front) ∙ ap (λ n. turns_of (system s) x n (going new.world (front ++ h.text))) e;
+      running = h.running;
+    }
 
 -- ALL TURNS
 
@@ -121,17 +137,20 @@ runs_grow system (t ∷ turns) ran =
 joined : (front text cut more after : List ℕ) → (((front ++ text) ++ cut) ++ more) ++ after ≡ front ++ (text ++ cut) ++ (more ++ after)
 joined front text cut more after = append_assoc ((front ++ text) ++ cut) more after ∙ ap (λ l. l ++ (more ++ after)) (append_assoc front text cut)
 
-pub below_at : (n : ℕ) (turns : List (ℕ × ℕ)) (i : ℕ) (t : ℕ × ℕ) → drop i turns ≡ t ∷ drop (i + 1) turns → AreBelow n (drop i turns) → (t.0 < n) × AreBelow n (drop (i + 1) turns)
+pub below_at : (n : ℕ) (turns : List (ℕ × ℕ)) (i : ℕ) (t : ℕ × ℕ) → drop i turns ≡ t ∷ drop (i + 1) turns → AreBelow n (drop i turns) → (t.0 < n)
+    × AreBelow n (drop (i + 1) turns)
 below_at n turns i t e b = subst (AreBelow n) e b
 
-module _ (s : Scenario) (turns : List (ℕ × ℕ)) (i : ℕ) (t : ℕ × ℕ) (here : drop i turns ≡ t ∷ drop (i + 1) turns) (old now new : World) (same : now.scenario ≡ s) (before between after : Option (List ℕ)) where
+module _ (s : Scenario) (turns : List (ℕ × ℕ)) (i : ℕ) (t : ℕ × ℕ) (here : drop i turns ≡ t ∷ drop (i + 1) turns) (old now new : World)
+    (same : now.scenario ≡ s) (before between after : Option (List ℕ)) where
   abbrev rest : Ran → Ran
   rest = run_on (system s) (drop (i + 1) turns)
 
   abbrev one : Scenario → Ran → Ran
   one r = turns_of (system r) t.0 t.1
 
-  pub goes_on_all : HasLeft (run_on (system s) (drop i turns)) (run_on (system s) turns) old now before between → HasRun (one now.scenario) now new between after → HasLeft rest (run_on (system s) turns) old new before after
+  pub goes_on_all : HasLeft (run_on (system s) (drop i turns)) (run_on (system s) turns) old now before between
+      → HasRun (one now.scenario) now new between after → HasLeft rest (run_on (system s) turns) old new before after
   goes_on_all h ran =
       let r = subst (λ z. HasRun (one z) now new between after) same ran in
       record {
@@ -143,10 +162,12 @@ module _ (s : Scenario) (turns : List (ℕ × ℕ)) (i : ℕ) (t : ℕ × ℕ) (
         running = r.running;
       }
 
-  pub cut_all : HasLeft (run_on (system s) (drop i turns)) (run_on (system s) turns) old now before between → IsCut (one now.scenario) now between after → IsCut (run_on (system s) turns) old before after
+  pub cut_all : HasLeft (run_on (system s) (drop i turns)) (run_on (system s) turns) old now before between → IsCut (one now.scenario) now between after
+      → IsCut (run_on (system s) turns) old before after
   cut_all h cut =
       let k = subst (λ z. IsCut (one z) now between after) same cut in
-      let more : (front : List ℕ) → (more : List ℕ) × ((rest (one s (going now.world (front ++ h.text)))).text ≡ (one s (going now.world (front ++ h.text))).text ++ more) =
+      let more : (front : List ℕ) → (more : List ℕ) × ((rest (one s (going now.world (front ++ h.text)))).text
+      ≡ (one s (going now.world (front ++ h.text))).text ++ more) =
       λ front. runs_grow (system s) (drop (i + 1) turns) (one s (going now.world (front ++ h.text))) in
       record {
         text = h.text ++ k.text;

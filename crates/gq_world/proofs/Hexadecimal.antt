@@ -4,7 +4,7 @@ use Rattle.std.specs.Prelude.{slice_index}
 use Rattle.std.proofs.lemmas.Bool.{and_parts, cases_lt, eqb-true}
 use Rattle.std.proofs.Math.Facts.{Fits-lt-pow}
 use Rattle.hex.specs.Hex.{lower_digits, encode_with, encode_lower}
-use Rattle.gq_model.specs.Code.{hex_digit, hex_of}
+use Rattle.gq_model.specs.texts.Code.{hex_digit, hex_of}
 
 -- the digits of the library, tested one by one
 abbrev are_digits : ℕ → Bool

@@ -1,31 +1,47 @@
--- What a turn of a sound world leaves.
+-- What a turn of a world leaves.
 use Rattle.std.proofs.Common.{◌≡◌, ◌≢◌, ℕ, ◌<◌, List, [], ◌∷◌, length, Option, Some, IfSome, refl, ap, sym, ◌∙◌, subst, zero, suc, arith}
 use Rattle.std.specs.Prelude.{slice_get, Ok, IsOk, is_ok}
 use Rattle.std.proofs.Math.Logic.{∥∥₁_elim}
 use Rattle.std.specs.Coded.{Coded-set, coded_bool}
-use Rattle.gq_model.specs.Scenario.{Scenario, Component, system}
-use Rattle.gq_model.specs.World as model
-use Rattle.gq_model.specs.Doing as doing
-use Rattle.gq_model.specs.Doing.{Stepped}
-use Rattle.gq_model.specs.Step.{next}
-use Rattle.gq_model.specs.Run.{label_at, line_of}
+use Rattle.gq_model.specs.machine.Scenario.{Scenario, Component, system}
+use Rattle.gq_model.specs.machine.World as model
+use Rattle.gq_model.specs.machine.Doing as doing
+use Rattle.gq_model.specs.machine.Doing.{Stepped}
+use Rattle.gq_model.specs.machine.Step.{next}
+use Rattle.gq_model.specs.machine.Run.{label_at, line_of}
+use Rattle.gq_model.specs.Promises.{IsUpheld}
+use Rattle.gq_laws.specs.Stands.{Stands}
 use Rattle.gq_machine.specs.Events.{event_of}
 use Rattle.gq_machine.specs.declared.event.Event.{Event}
 use Rattle.gq_machine.specs.declared.event.Event.TheVariants as events
-use Rattle.gq_world.specs.Worlds.{IsSound, shown}
-use Rattle.gq_world.proofs.Runs.{next_goes}
-use Rattle.gq_world.proofs.Steps.{next_kept}
+use Rattle.gq_world.specs.Worlds.{shown}
+
+-- all that is promised follows from what stands
+abbrev pub Promises : Type 0
+Promises = (s : Scenario) (w : model.World) → Stands s w → IsUpheld s w
+
+-- each step keeps what stands
+abbrev pub Keeps : Type 0
+Keeps = (s : Scenario) (w : model.World) (x : ℕ) (new : model.World) (event : doing.Event) → Stands s w → next (system s) w x ≡ Ok (new, event) → Stands s new
 
 -- the next step is never wrong
-defined_in : (r : Stepped) (w : model.World) (e : doing.Event) → r ≡ Ok (w, e) → IsOk r
-defined_in r w e h = ap is_ok h
+defined_in : (r : Stepped) (p : model.World × doing.Event) → r ≡ Ok p → IsOk r
+defined_in r p h = ap is_ok h
 
-pub defined : (s : Scenario) (w : model.World) (x : ℕ) → ∥ IsSound s w ∥₁ → IsOk (next (system s) w x)
-defined s w x h = ∥∥₁_elim h (Coded-set coded_bool _ _) (λ i. let g = next_goes s i.bare w i.kept x in defined_in (next (system s) w x) g.world g.event g.goes_to)
+pub defined : Promises → (s : Scenario) (w : model.World) (x : ℕ) → ∥ Stands s w ∥₁ → IsOk (next (system s) w x)
+defined promises s w x stands =
+    ∥∥₁_elim stands (Coded-set coded_bool _ _) (λ h. let g = (promises s w h).goes_on x in defined_in (next (system s) w x) g.0 g.1)
 
-pub sound_after : (s : Scenario) (w after : model.World) (x : ℕ) (e : doing.Event) → next (system s) w x ≡ Ok (after, e) → ∥ IsSound s w ∥₁ → ∥ IsSound s after ∥₁
-sound_after s w after x e n h =
-    ∥∥₁_elim h (hlevel) (λ i. ∣ record { bare = i.bare; accepted = i.accepted; fits = i.fits; kept = next_kept s i.bare w i.kept x after e n } ∣₁)
+pub stands_after : Keeps → (s : Scenario) (w after : model.World) (x : ℕ) (e : doing.Event) → next (system s) w x ≡ Ok (after, e) → ∥ Stands s w ∥₁
+    → ∥ Stands s after ∥₁
+stands_after keeps s w after x e n stands = ∥∥₁_elim stands (hlevel) (λ h. ∣ keeps s w x after e h n ∣₁)
+
+pub upheld_here : Promises → (s : Scenario) (w : model.World) → ∥ Stands s w ∥₁ → ∥ IsUpheld s w ∥₁
+upheld_here promises s w stands = ∥∥₁_elim stands (hlevel) (λ h. ∣ promises s w h ∣₁)
+
+-- a world that the code has stands as contracts see it
+pub stands_seen : (s t : Scenario) (v w : model.World) → s ≡ t → v ≡ w → ∥ Stands s v ∥₁ → ∥ Stands t w ∥₁
+stands_seen s t v w e f h = subst (λ (r : Scenario). ∥ Stands r w ∥₁) e (subst (λ (u : model.World). ∥ Stands s u ∥₁) f h)
 
 -- LINES
 
@@ -34,7 +50,8 @@ there_is [] i less = absurd (omega (arith, less))
 there_is (x ∷ xs) zero less = (x, refl)
 there_is (x ∷ xs) (suc i) less = there_is xs i (omega (arith, less))
 
-pub label_told : (cs : List Component) (x : ℕ) (label : List ℕ) → x < length cs → IfSome (slice_get cs x) (λ c. label ≡ c.label) → label ≡ label_at (slice_get cs x)
+pub label_told : (cs : List Component) (x : ℕ) (label : List ℕ) → x < length cs → IfSome (slice_get cs x) (λ c. label ≡ c.label)
+    → label ≡ label_at (slice_get cs x)
 label_told cs x label less h =
     let c = there_is cs x less in
     let P : Option Component → Type 0 = λ o. IfSome o (λ c. label ≡ c.label) in

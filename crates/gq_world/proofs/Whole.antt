@@ -1,24 +1,31 @@
 -- The text of a run: its turns, then its accounts.
 use Rattle.std.proofs.Common.{◌≡◌, ℕ, List, [], ◌++◌, length, Option, Some, None, Result, Ok, Err, refl, ap, sym, ◌∙◌, subst, append_assoc, append-nil}
 use Rattle.std.specs.Io.KnownBytes.{Appends}
-use Rattle.gq_model.specs.Scenario.{Scenario, components, system}
-use Rattle.gq_model.specs.World as model
-use Rattle.gq_model.specs.World.{start}
+use Rattle.gq_model.specs.machine.Scenario.{Scenario, components, system}
+use Rattle.gq_model.specs.machine.World as model
+use Rattle.gq_model.specs.machine.World.{start}
 use Rattle.gq_model.specs.declared.fault.Wrong.{Wrong}
-use Rattle.gq_model.specs.Run.{Ran, run, run_on}
-use Rattle.gq_model.specs.Accept.{budgets, step_budgets}
-use Rattle.gq_model.specs.Accounts.{accounts, account_lines, text_of}
+use Rattle.gq_model.specs.machine.Run.{Ran, run, run_on}
+use Rattle.gq_model.specs.rules.Accept.{budgets, step_budgets}
+use Rattle.gq_model.specs.machine.Accounts.{accounts, account_lines, text_of}
 use Rattle.gq_world.specs.Writes.{IsFront}
 use Rattle.gq_world.specs.Worlds.{World}
-use Rattle.gq_world.specs.Going.{going, HasRun, IsCut}
+use Rattle.gq_world.specs.internal.Going.{going, HasRun, IsCut}
 use Rattle.gq_world.specs.Lines.{all_accounts, accounts_text}
-use Rattle.gq_world.specs.Written.{whole_of, refused_with, written_from, written_turns, stage_written}
-use Rattle.gq_model.specs.Turns.{turned}
-use Rattle.gq_world.specs.Loading.{Fault, stage_loaded}
-use Rattle.gq_world.specs.declared.load.LoadFault.{LoadFault}
-use Rattle.gq_world.specs.declared.load.LoadError.TheVariants as error
-use Rattle.gq_world.specs.Faults.{load_fault_text, Refuses}
-use Rattle.gq_world.specs.Going.{AreBelow}
+use Rattle.gq_model.specs.machine.Accounts.{whole}
+use Rattle.gq_model.specs.declared.fault.TurnFault.{TurnFault}
+use Rattle.gq_model.specs.rules.Accept.{IsAccepted}
+use Rattle.gq_model.specs.texts.Turns.{turned}
+use Rattle.gq_load.specs.Load.{Fault, loaded}
+use Rattle.gq_load.specs.Faults.{load_fault_text, Refuses}
+use Rattle.gq_load.specs.declared.fault.LoadFault.{LoadFault}
+use Rattle.gq_load.specs.declared.fault.LoadError.TheVariants as error
+use Rattle.gq_world.specs.declared.fault.RunFault.{RunFault}
+use Rattle.gq_world.specs.declared.fault.RunFault.TheVariants.{Load, NotYet, NoComponent, Turns, Memory, Write}
+use Rattle.gq_world.specs.Headline.{Upholding, WritesPromised}
+use Rattle.gq_world.specs.Outcomes.{IsFaultOf, IsNotYet, GivesOf}
+use Rattle.gq_world.specs.Whole.{Written, whole_of, refused_with, turn_fault_text, with_scenario, written_turns, run_written}
+use Rattle.gq_world.specs.internal.Going.{AreBelow}
 use Rattle.gq_world.proofs.Below.{AreBelowIn, turned_below}
 use Rattle.gq_world.proofs.Known.{appends_both}
 use Rattle.gq_world.proofs.Fronts.{front_by, front_after}
@@ -44,11 +51,13 @@ module _ (s : Scenario) (turns : List (ℕ × ℕ)) (old : World) (starts : old.
   whole_is new same ran =
       ap (λ r. text_of s (step_budgets (budgets s)) r r.wrong) (from_start ∙ ran.ran []) ∙ ap (λ t. ran.text ++ lines_of t new.world) (sym same)
 
-  pub complete : (new : World) → new.scenario ≡ s → HasRun taken old new before between → Appends between after (accounts_text new) → Appends before after (whole_of s turns)
+  pub complete : (new : World) → new.scenario ≡ s → HasRun taken old new before between → Appends between after (accounts_text new)
+      → Appends before after (whole_of s turns)
   complete new same ran lines =
       subst (Appends before after) (sym (whole_is new same ran)) (appends_both before between after ran.text (accounts_text new) ran.written lines)
 
-  pub cut_lines : (new : World) → new.scenario ≡ s → HasRun taken old new before between → IsFront between after (accounts_text new) → IsFront before after (whole_of s turns)
+  pub cut_lines : (new : World) → new.scenario ≡ s → HasRun taken old new before between → IsFront between after (accounts_text new)
+      → IsFront before after (whole_of s turns)
   cut_lines new same ran front =
       front_after before between after ran.text (accounts_text new) [] (whole_of s turns) ran.written front
       (whole_is new same ran ∙ ap (λ l. ran.text ++ l) (sym (append-nil (accounts_text new))))
@@ -62,18 +71,62 @@ module _ (s : Scenario) (turns : List (ℕ × ℕ)) (old : World) (starts : old.
       front_by before between cut.text (cut.more [] ++ rest.0) (whole_of s turns) cut.written
       (rest.1 ∙ (ap (λ l. l ++ rest.0) text ∙ append_assoc cut.text (cut.more []) rest.0))
 
--- REFUSED TEXTS
-
--- a text that is not loaded is refused with its fault's line
-pub refused_load : (loaded : Result Scenario Fault) (turns : List ℕ) (fault : LoadFault) → Refuses (error.Fault fault) loaded → written_from loaded turns ≡ Err (refused_with (load_fault_text fault))
-refused_load (Ok s) turns fault h = absurd h
-refused_load (Err f) turns fault h = ap (λ t. Err (refused_with t)) (sym h)
+-- TEXTS THAT ARE LOADED AND READ
 
 -- turns that were read are of leaves that are there
 pub below_of : (s t : Scenario) (text : List ℕ) (turns : List (ℕ × ℕ)) → t ≡ s → turned (components t) text ≡ Ok turns → AreBelow (length (components s)) turns
-below_of s t text turns same e = subst (λ r. AreBelow (length (components r)) turns) same (subst (AreBelowIn (length (components t))) e (turned_below (components t) text))
+below_of s t text turns same e = subst (λ r. AreBelow (length (components r)) turns) same
+    (subst (AreBelowIn (length (components t))) e (turned_below (components t) text))
 
--- what is written of texts that are loaded and read
-pub written_is : (scenario text : List ℕ) (s t : Scenario) (turns : List (ℕ × ℕ)) → stage_loaded scenario ≡ Ok s → t ≡ s → turned (components t) text ≡ Ok turns → stage_written scenario text ≡ Ok (whole_of s turns)
-written_is scenario text s t turns loaded same e =
-    ap (λ l. written_from l text) loaded ∙ (ap (λ r. written_turns s (turned (components r) text)) (sym same) ∙ ap (written_turns s) e)
+-- what is written of them
+pub written_is : (scenario text : List ℕ) (s t : Scenario) (turns : List (ℕ × ℕ)) → loaded scenario ≡ Ok s → t ≡ s → turned (components t) text ≡ Ok turns
+    → run_written scenario text ≡ Ok (whole_of s turns)
+written_is scenario text s t turns load same e =
+    ap (λ l. with_scenario l (λ r. written_turns r (turned (components r) text))) load
+    ∙ (ap (λ r. written_turns s (turned (components r) text)) (sym same) ∙ ap (written_turns s) e)
+
+-- turns that are refused
+pub refused_is : (scenario text : List ℕ) (s t : Scenario) (fault : TurnFault × ℕ) → loaded scenario ≡ Ok s → t ≡ s → turned (components t) text ≡ Err fault
+    → run_written scenario text ≡ Err (refused_with (turn_fault_text fault.0 fault.1))
+refused_is scenario text s t fault load same e =
+    ap (λ l. with_scenario l (λ r. written_turns r (turned (components r) text))) load
+    ∙ (ap (λ r. written_turns s (turned (components r) text)) (sym same) ∙ ap (written_turns s) e)
+
+load_by : (fault : LoadFault) (l : Result Scenario Fault) (go : Scenario → Written) → Refuses (error.Fault fault) l
+    → with_scenario l go ≡ Err (refused_with (load_fault_text fault))
+load_by fault (Ok s) go h = absurd h
+load_by fault (Err f) go h = ap (λ t. Err (refused_with t)) (sym h)
+
+-- why nothing is loaded is why nothing is written
+pub load_is : (fault : RunFault) (scenario text : List ℕ) → GivesOf fault scenario → IsFaultOf (IsNotYet scenario) fault (run_written scenario text)
+load_is (Load fault) scenario text h = load_by fault (loaded scenario) (λ s. written_turns s (turned (components s) text)) h
+load_is NotYet scenario text h = h
+load_is (NoComponent name) scenario text h = absurd h
+load_is (Turns fault line) scenario text h = absurd h
+load_is Memory scenario text h = tt
+load_is Write scenario text h = absurd h
+
+-- it is no failed write
+pub not_write : (fault : RunFault) (scenario : List ℕ) → GivesOf fault scenario → fault ≡ Write → ⊥
+not_write fault scenario h e = subst (λ f. GivesOf f scenario) e h
+
+-- THE PROMISE
+
+-- what was written is promised
+pub promised : (scenario text : List ℕ) (s t : Scenario) (turns : List (ℕ × ℕ)) (before after : Option (List ℕ)) → loaded scenario ≡ Ok s → t ≡ s
+    → turned (components t) text ≡ Ok turns → IsAccepted s → Upholding s → Appends before after (whole_of s turns) → WritesPromised scenario text before after
+unfolding whole_of
+promised scenario text s t turns before after load same e accepted upholds written =
+    record {
+      text = whole s (step_budgets (budgets s)) turns;
+      promised = record {
+        accepted = s;
+        loads = load;
+        is_accepted = accepted;
+        taken = turns;
+        reads = ap (λ r. turned (components r) text) (sym same) ∙ e;
+        writes = refl;
+        upholds = upholds;
+      };
+      written = written;
+    }

@@ -1,11 +1,11 @@
 -- What is promised of every run of an accepted scenario, from bytes to bytes.
 use Rattle.std.specs.Prelude.{◌≡◌, ℕ, List, Option, Ok}
 use Rattle.std.specs.Io.KnownBytes.{Appends}
-use Rattle.gq_model.specs.Scenario.{Scenario, components}
-use Rattle.gq_model.specs.Accounts.{whole}
-use Rattle.gq_model.specs.Accept.{budgets, step_budgets, IsAccepted}
+use Rattle.gq_model.specs.machine.Scenario.{Scenario, components}
+use Rattle.gq_model.specs.machine.Accounts.{whole}
+use Rattle.gq_model.specs.rules.Accept.{budgets, step_budgets, IsAccepted}
 use Rattle.gq_model.specs.Promises.{IsUpheld, Upholds}
-use Rattle.gq_model.specs.Turns.{turned}
+use Rattle.gq_model.specs.texts.Turns.{turned}
 use Rattle.gq_load.specs.Load.{loaded}
 use Rattle.gq_world.specs.Worlds as worlds
 
@@ -13,7 +13,12 @@ use Rattle.gq_world.specs.Worlds as worlds
 abbrev pub Upheld : worlds.World → Type 0
 Upheld w = ∥ IsUpheld w.scenario w.world ∥₁
 
--- from bytes to bytes: the scenario is loaded and accepted, the turns are read, the text is the whole text of their run, and that run upholds what is promised
+-- whatever the turns, a run of it upholds what is promised
+abbrev pub Upholding : Scenario → Type 0
+Upholding s = (turns : List (ℕ × ℕ)) → Upholds s turns
+
+-- from bytes to bytes: the scenario is loaded and accepted, the turns are read, the text is the whole text of their run, and the runs of the scenario over all
+-- lists of turns uphold what is promised, hence also each world on the way
 pub record IsPromised (scenario turns text : List ℕ) : Type 0 where
   pub accepted : Scenario
   pub loads : loaded scenario ≡ Ok accepted
@@ -21,7 +26,7 @@ pub record IsPromised (scenario turns text : List ℕ) : Type 0 where
   pub taken : List (ℕ × ℕ)
   pub reads : turned (components accepted) turns ≡ Ok taken
   pub writes : text ≡ whole accepted (step_budgets (budgets accepted)) taken
-  pub upholds : Upholds accepted taken
+  pub upholds : Upholding accepted
 
 -- such a text was written, and nothing else
 pub record WritesPromised (scenario turns : List ℕ) (before after : Option (List ℕ)) : Type 0 where

@@ -1,16 +1,16 @@
 -- A run with tests, of a scenario that need not be accepted: what it writes, and its first wrong step.
 use Rattle.std.specs.Prelude.{ℕ, List, [], Option, Result, Ok, Err}
-use Rattle.gq_model.specs.Lists.{or_first}
-use Rattle.gq_model.specs.Scenario.{Scenario, system, components}
+use Rattle.gq_model.specs.machine.Lists.{or_first}
+use Rattle.gq_model.specs.machine.Scenario.{Scenario, system, components}
 use Rattle.gq_model.specs.declared.fault.Wrong.{Wrong}
-use Rattle.gq_model.specs.Run.{run}
-use Rattle.gq_model.specs.Resolve.{unresolved}
-use Rattle.gq_model.specs.Accept.{not_resolved}
-use Rattle.gq_model.specs.Accounts.{text_of}
-use Rattle.gq_model.specs.Turns.{Turned, turned}
-use Rattle.gq_init.specs.Reading.{ReadFault, scenario_in}
+use Rattle.gq_model.specs.machine.Run.{run}
+use Rattle.gq_model.specs.rules.Resolve.{unresolved}
+use Rattle.gq_model.specs.rules.Accept.{not_resolved}
+use Rattle.gq_model.specs.machine.Accounts.{text_of}
+use Rattle.gq_model.specs.texts.Turns.{Turned, turned}
+use Rattle.gq_scenario.specs.Reading.{ReadFault, scenario_in}
 use Rattle.gq_load.specs.Load.{Fault, Unread, sources_fault, refused, loaded_or, fault_text}
-use Rattle.gq_world.specs.Written.{refused_with, turn_fault_text}
+use Rattle.gq_world.specs.Whole.{refused_with, turn_fault_text}
 
 -- texts and codes have to be programs, and routes have to lead somewhere; no program is judged
 abbrev pub unverified_fault : Scenario → Option Fault

@@ -1,33 +1,47 @@
--- What is written for a scenario's text, in the full language.
-use Rattle.std.specs.Prelude.{ℕ, List, [], ◌∷◌, ◌++◌, Option, Some, None, Result, Ok, Err, codes}
-use Rattle.gq_model.specs.Program.{Program}
-use Rattle.gq_model.specs.Scenario.{LeafNode, Scenario, components}
-use Rattle.gq_model.specs.Accept.{budget_lines}
-use Rattle.gq_model.specs.Code.{code_of, hex_of}
-use Rattle.gq_model.specs.Turns.{turned}
-use Rattle.gq_init.specs.Reading.{ReadFault, read_text, scenario_in}
+-- What is written for a scenario's text.
+use Rattle.std.specs.Prelude.{ℕ, List, [], ◌∷◌, ◌++◌, Option, Some, None, Result, Ok, Err, codes, decimal}
+use Rattle.gq_model.specs.machine.Program.{Program}
+use Rattle.gq_model.specs.machine.Scenario.{LeafNode, Scenario, components}
+use Rattle.gq_model.specs.machine.Accounts.{whole}
+use Rattle.gq_model.specs.rules.Accept.{budgets, step_budgets, budget_lines}
+use Rattle.gq_model.specs.declared.fault.TurnFault.{TurnFault}
+use Rattle.gq_model.specs.texts.Code.{code_of, hex_of}
+use Rattle.gq_model.specs.texts.Fault_texts.{turn_fault_word}
+use Rattle.gq_model.specs.texts.Turns.{Turned, turned}
+use Rattle.gq_scenario.specs.Reading.{ReadFault, read_text, scenario_in}
 use Rattle.gq_load.specs.Named.{leaf_named}
 use Rattle.gq_load.specs.Load.{Fault, source_fault, fault_text, loaded}
-use Rattle.gq_world.specs.Loading as stage
-use Rattle.gq_world.specs.Written.{Written, refused_with, not_yet_text, written_turns}
+
+-- what is written, or the line that says why nothing is
+abbrev pub Written : Type 0
+Written = Result (List ℕ) (List ℕ)
+
+abbrev pub refused_with : List ℕ → List ℕ
+refused_with text = codes "trade: " ++ text ++ 10 ∷ []
 
 -- goes on with a scenario that was loaded
 abbrev pub with_scenario : Result Scenario Fault → (Scenario → Written) → Written
 with_scenario (Ok s) go = go s
 with_scenario (Err fault) go = Err (refused_with (fault_text fault))
 
+-- RUNS
+
+abbrev pub turn_fault_text : TurnFault → ℕ → List ℕ
+turn_fault_text fault line = turn_fault_word fault ++ codes " line " ++ decimal line
+
+-- the text of a run by these turns, with the step budgets of the scenario
+unfoldable pub whole_of : Scenario → List (ℕ × ℕ) → List ℕ
+whole_of s turns = whole s (step_budgets (budgets s)) turns
+
+abbrev pub written_turns : Scenario → Turned → Written
+written_turns s (Ok turns) = Ok (whole_of s turns)
+written_turns s (Err fault) = Err (refused_with (turn_fault_text fault.0 fault.1))
+
 -- a run by the turns of a second text: the lines and the accounts, or the first fault
 abbrev pub run_written : List ℕ → List ℕ → Written
 run_written scenario turns = with_scenario (loaded scenario) (λ s. written_turns s (turned (components s) turns))
 
--- the same as far as the machine runs scenarios: one that is accepted but that it does not run yet has the line that says so
-abbrev pub told_by : Result Scenario Fault → Result Scenario stage.Fault → List ℕ → Written
-told_by (Err fault) so_far turns = Err (refused_with (fault_text fault))
-told_by (Ok s) (Ok t) turns = written_turns s (turned (components s) turns)
-told_by (Ok s) (Err fault) turns = Err (refused_with not_yet_text)
-
-abbrev pub run_told : List ℕ → List ℕ → Written
-run_told scenario turns = told_by (loaded scenario) (stage.stage_loaded scenario) turns
+-- BUDGETS
 
 -- the budgets of an accepted scenario
 abbrev pub check_written : List ℕ → Written

@@ -1,19 +1,13 @@
 -- A world between two turns, what it keeps, and what a turn does.
-use Rattle.std.specs.Prelude.{◌≡◌, ℕ, Bool, true, List, slice_get, Option, None, Ok, codes}
+use Rattle.std.specs.Prelude.{◌≡◌, ℕ, Bool, true, List, slice_get, Option, Ok}
 use Rattle.std.specs.Io.KnownBytes.{Appends}
-use Rattle.gq_model.specs.Amounts.{Ram}
-use Rattle.gq_model.specs.Scenario.{Scenario, components, system}
-use Rattle.gq_model.specs.Resolve.{exceeds}
-use Rattle.gq_model.specs.World as model
-use Rattle.gq_model.specs.Doing as doing
-use Rattle.gq_model.specs.Step.{next}
-use Rattle.gq_model.specs.Accept.{Budget, budgets}
-use Rattle.gq_model.specs.Run.{label_at, line_of}
+use Rattle.gq_model.specs.machine.Scenario.{Scenario, components, system}
+use Rattle.gq_model.specs.machine.World as model
+use Rattle.gq_model.specs.machine.Doing as doing
+use Rattle.gq_model.specs.machine.Step.{next}
+use Rattle.gq_model.specs.machine.Run.{label_at, line_of}
 use Rattle.gq_machine.specs.declared.event.Event.{Event}
 use Rattle.gq_machine.specs.declared.event.Event.TheVariants as events
-use Rattle.gq_world.specs.Plain.{IsBareScenario}
-use Rattle.gq_world.specs.Judgements.{AreAccepted}
-use Rattle.gq_world.specs.Kept.{IsKept}
 use Rattle.gq_world.specs.Writes.{IsFront}
 
 -- an accepted scenario, the world of the account machine, and whether a turn has stopped it
@@ -21,18 +15,6 @@ pub record World : Type 0 where
   pub scenario : Scenario
   pub world : model.World
   pub stopped : Bool
-
--- the scenario's programs are accepted and its quanta fit, and the world is one that a run of it reaches
-pub record IsSound (s : Scenario) (w : model.World) : Type 0 where
-  pub bare : IsBareScenario s
-  pub accepted : AreAccepted s.nodes
-  pub fits : exceeds Ram (codes "init") s.total s.nodes ≡ None
-  pub kept : IsKept s w
-
--- such a world, whose truth is all that is kept, with the budgets of its leaves
-pub record IsBudgeted (s : Scenario) (w : model.World) (all : List Budget) : Type 0 where
-  pub sound : ∥ IsSound s w ∥₁
-  pub budgets : all ≡ budgets s
 
 -- what a step shows, without its text
 abbrev pub shown : doing.Event → Event

@@ -1,7 +1,8 @@
-// The lines of accounts, in version 1.
+// The lines of accounts.
 ghost use Rattle.std.specs.Prelude.{◌≡◌, ◌≤◌, ◌+◌, ◌++◌, length, Some, OnOk, OnErr, codes};
 ghost use Rattle.std.specs.Io.KnownBytes.{Appends};
-ghost use Rattle.gq_model.specs.Accounts.{entry, leaf_entries, account_line};
+ghost use Rattle.gq_model.specs.machine.Accounts.{entry, used_entry, leaf_entries, account_line};
+ghost use Rattle.gq_scenario.specs.Trees.{version_number};
 ghost use Rattle.gq_world.specs.Lines.{accounts_text, with_label};
 ghost use Rattle.gq_world.specs.Counts.{written_to, failures_of};
 ghost use Rattle.gq_world.specs.Writes.{IsFront, IsRaised};
@@ -11,8 +12,9 @@ use crate::counted::{Counted, WriteFault, put};
 use crate::line::{Line, extend, extend_entry, extend_number, phase_word};
 use crate::world::World;
 use arrayvec::ArrayVec;
-use gq_init::node::NodeNo;
-use gq_init::stage::scenario::GREATEST_LABEL;
+use gq_model::limits::GREATEST_LABEL;
+use gq_scenario::node::NodeNo;
+use gq_scenario::scenario::Version;
 use std::io::Write;
 
 /// Writes the lines of the accounts of all nodes in preorder, up to the first that is not written whole. They take no host
@@ -33,14 +35,19 @@ pub(crate) fn write_accounts<W: Write>(
     Ok(())
 }
 
-/// The line of an account with this label.
-pub(crate) fn account_line(label: &[u8], account: &Account) -> Line
+/// The line of an account with this label, of a scenario of this version.
+pub(crate) fn account_line(version: Version, label: &[u8], account: &Account) -> Line
     requires { length label.now ≤ GREATEST_LABEL }
-    ensures { result.items ≡ account_line 1 (with_label label.now account.now) }
+    ensures { result.items ≡ account_line (version_number version) (with_label label.now account.now) }
 {
     let mut line = start(label, account.quota());
     if let Some(leaf) = account.leaf() {
         extend_entry(&mut line, b"used", leaf.used());
+    }
+    if let Version::Two = version {
+        extend_caps(&mut line, account);
+    }
+    if let Some(leaf) = account.leaf() {
         extend_progress(&mut line, &leaf);
     }
     extend(&mut line, b"\n");
@@ -60,9 +67,22 @@ fn start(label: &[u8], quota: u64) -> Line
     line
 }
 
+// Puts the capabilities of a node, and those that a leaf holds, at the end of a line.
+fn extend_caps(line: &mut Line, account: &Account)
+    requires { length line.old.items ≤ 160 }
+    ensures bytes { line.new.items ≡ line.old.items ++ (entry (codes "caps") account.now.quota.caps
+        ++ used_entry (codes "taken") (λ u. u.caps) account.now.leaf) }
+    ensures long { length line.new.items ≤ length line.old.items + 54 }
+{
+    extend_entry(line, b"caps", account.caps());
+    if let Some(leaf) = account.leaf() {
+        extend_entry(line, b"taken", leaf.caps_used());
+    }
+}
+
 // Puts the steps of a leaf, its step budget and what it does at the end of a line.
 fn extend_progress(line: &mut Line, leaf: &LeafAccount)
-    requires { length line.old.items ≤ 200 }
+    requires { length line.old.items ≤ 230 }
     ensures bytes { line.new.items ≡ line.old.items ++ leaf_entries (Some leaf.now) }
     ensures long { length line.new.items ≤ length line.old.items + 57 }
 {

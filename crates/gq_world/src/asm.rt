@@ -1,62 +1,26 @@
 // The code of a leaf's program.
 ghost use Rattle.std.specs.Prelude.{◌≡◌, ◌∷◌, ◌++◌, [], Ok, Err, IfOk, IfErr, OnOk, string_bytes};
-ghost use Rattle.gq_model.specs.Code.{hex_of};
-ghost use Rattle.gq_world.specs.Asm.{IsAsmFaultOf, IsAsmBefore};
+ghost use Rattle.gq_model.specs.texts.Code.{hex_of};
 ghost use Rattle.gq_world.specs.Counts.{written_to, failures_of};
-ghost use Rattle.gq_world.specs.Outcomes.{IsWhole, IsCutShort};
+ghost use Rattle.gq_world.specs.Outcomes.{IsBefore, IsCutShort, IsFaultOf, IsWhole};
 ghost use Rattle.gq_world.specs.Whole.{asm_from, asm_written};
 ghost use Rattle.gq_world.specs.Writes.{IsRaised};
-ghost use Rattle.gq_world.specs.declared.asm.AsmFault.TheVariants as fault;
+ghost use Rattle.gq_world.specs.declared.fault.RunFault.TheVariants as fault;
 
 use crate::counted::{Counted, put};
+use crate::fault::RunFault;
 use gq_code::program_code::encode;
-use gq_init::fault::ScenarioError;
-use gq_init::reader::read_scenario;
-use gq_init::resolve::component::components;
-use gq_init::scenario::Scenario;
-use gq_load::fault::{LoadError, LoadFault};
+use gq_load::fault::LoadFault;
 use gq_load::named::leaf_named;
 use gq_load::programs::read_program;
+use gq_reader::reader::read_scenario;
+use gq_resolve::component::components;
+use gq_scenario::fault::ScenarioError;
+use gq_scenario::scenario::Scenario;
 use std::alloc::{AllocError, Global};
 use std::io::Write;
 
-/// Why the code of a leaf was not written.
-#[derive(Drop)]
-pub enum AsmFault<'a> {
-    /// The scenario is refused, or the text or the code of that leaf is no program.
-    Load(LoadFault),
-    /// No leaf has this name.
-    NoComponent(&'a str),
-    /// Host memory was refused.
-    Memory,
-    /// A write failed. A front of the line went out.
-    Write,
-}
-
-impl<'a> From<AllocError> for AsmFault<'a> {
-    ghost use Rattle.gq_world.specs.declared.asm.AsmFault.TheVariants.{Memory};
-
-    ghost from_gives = { λ _ fault. fault ≡ Memory };
-
-    fn from(_refused: AllocError) -> AsmFault<'a> {
-        AsmFault::Memory
-    }
-}
-
-impl<'a> From<LoadError> for AsmFault<'a> {
-    ghost use Rattle.gq_world.specs.Asm.{asm_fault_of};
-
-    ghost from_gives = { λ error fault. fault ≡ asm_fault_of error };
-
-    fn from(error: LoadError) -> AsmFault<'a> {
-        match error {
-            LoadError::Memory => AsmFault::Memory,
-            LoadError::Fault(fault) => AsmFault::Load(fault),
-        }
-    }
-}
-
-/// Bytes in hexadecimal digits, and a line feed.
+// Bytes in hexadecimal digits, and a line feed.
 fn hexadecimal_line(alloc: Global, bytes: &[u8]) -> Result<String, AllocError>
     ensures { IfOk result (λ line. string_bytes line ≡ hex_of bytes.now ++ 10 ∷ []) }
 {
@@ -65,15 +29,15 @@ fn hexadecimal_line(alloc: Global, bytes: &[u8]) -> Result<String, AllocError>
     Ok(line)
 }
 
-/// The line of the code of a leaf.
-fn leaf_line<'a>(alloc: Global, scenario: &Scenario, name: &'a str) -> Result<String, AsmFault<'a>>
+// The line of the code of a leaf.
+fn leaf_line<'a>(alloc: Global, scenario: &Scenario, name: &'a str) -> Result<String, RunFault<'a>>
     ensures line { IfOk result (λ line. asm_from (Ok scenario.now) name.now ≡ Ok (string_bytes line)) }
-    ensures refused { IfErr result (λ f. IsAsmFaultOf f (asm_from (Ok scenario.now) name.now)) }
-    ensures before { IfErr result (λ f. IsAsmBefore f) }
+    ensures refused { IfErr result (λ f. IsFaultOf ⊥ f (asm_from (Ok scenario.now) name.now)) }
+    ensures before { IfErr result (λ f. IsBefore f) }
 {
     let components = components(alloc, scenario)?;
     let Some(leaf) = leaf_named(components.as_slice(), name.as_bytes()) else {
-        return Err(AsmFault::NoComponent(name));
+        return Err(RunFault::NoComponent(name));
     };
     let program = read_program(alloc, leaf)?;
     let code = encode(alloc, &program)?;
@@ -88,14 +52,14 @@ pub fn asm<'a, W: Write>(
     scenario: &[u8],
     name: &'a str,
     out: &mut Counted<W>,
-) -> Result<(), AsmFault<'a>>
+) -> Result<(), RunFault<'a>>
     // The line of the definition was written whole, and nothing else.
     ensures written { OnOk result (IsWhole (asm_written scenario.now name.now) (written_to W.contents out.old) (written_to W.contents out.new)) }
     ensures counted { OnOk result (failures_of out.new ≡ failures_of out.old) }
 
     // The fault is that of the definition; then nothing was written.
-    ensures refused { IfErr result (λ f. IsAsmFaultOf f (asm_written scenario.now name.now)) }
-    ensures unwritten { IfErr result (λ f. IsAsmBefore f → out.new ≡ out.old) }
+    ensures refused { IfErr result (λ f. IsFaultOf ⊥ f (asm_written scenario.now name.now)) }
+    ensures silent { IfErr result (λ f. IsBefore f → out.new ≡ out.old) }
 
     // A write failed, and was counted; a front of the line went out.
     ensures cut { result ≡ Err fault.Write → IsCutShort (asm_written scenario.now name.now) (written_to W.contents out.old) (written_to W.contents out.new) }
@@ -103,12 +67,12 @@ pub fn asm<'a, W: Write>(
 {
     let scenario = match read_scenario(alloc, scenario) {
         Ok(scenario) => scenario,
-        Err(ScenarioError::Memory(_)) => return Err(AsmFault::Memory),
-        Err(ScenarioError::Fault(fault)) => return Err(AsmFault::Load(LoadFault::Scenario(fault))),
+        Err(ScenarioError::Memory(_)) => return Err(RunFault::Memory),
+        Err(ScenarioError::Fault(fault)) => return Err(RunFault::Load(LoadFault::Scenario(fault))),
     };
     let line = leaf_line(alloc, &scenario, name)?;
     match put(out, line.as_bytes()) {
         Ok(()) => Ok(()),
-        Err(_) => Err(AsmFault::Write),
+        Err(_) => Err(RunFault::Write),
     }
 }

@@ -2,41 +2,17 @@
 ghost use Rattle.std.specs.Prelude.{◌≡◌, Ok, Err, IfOk, IfErr, OnOk};
 ghost use Rattle.gq_load.specs.Faults.{Refuses};
 ghost use Rattle.gq_load.specs.Load.{loaded};
-ghost use Rattle.gq_world.specs.Check.{IsCheckFaultOf, IsCheckBefore};
 ghost use Rattle.gq_world.specs.Counts.{written_to, failures_of};
-ghost use Rattle.gq_world.specs.Outcomes.{IsWhole, IsCutShort};
+ghost use Rattle.gq_world.specs.Outcomes.{IsBefore, IsCutShort, IsFaultOf, IsWhole};
 ghost use Rattle.gq_world.specs.Whole.{check_written};
 ghost use Rattle.gq_world.specs.Writes.{IsRaised};
 
 use crate::counted::{Counted, put};
+use crate::fault::RunFault;
 use gq_load::accepted::Accepted;
-use gq_load::fault::{LoadError, LoadFault};
+use gq_load::fault::LoadError;
 use std::alloc::Global;
 use std::io::Write;
-
-/// Why budgets were not written.
-#[derive(Drop)]
-pub enum CheckFault {
-    /// The scenario is refused.
-    Load(LoadFault),
-    /// Host memory was refused.
-    Memory,
-    /// A write failed. A front of the text went out.
-    Write,
-}
-
-impl From<LoadError> for CheckFault {
-    ghost use Rattle.gq_world.specs.Check.{check_fault_of};
-
-    ghost from_gives = { λ error fault. fault ≡ check_fault_of error };
-
-    fn from(error: LoadError) -> CheckFault {
-        match error {
-            LoadError::Memory => CheckFault::Memory,
-            LoadError::Fault(fault) => CheckFault::Load(fault),
-        }
-    }
-}
 
 // The lines of the budgets of a scenario's leaves.
 fn budget_lines(alloc: Global, scenario: &[u8]) -> Result<Vec<u8>, LoadError>
@@ -55,22 +31,22 @@ pub fn check<W: Write>(
     alloc: Global,
     scenario: &[u8],
     out: &mut Counted<W>,
-) -> Result<(), CheckFault>
+) -> Result<(), RunFault<'static>>
     // The lines of the definition were written whole, and nothing else.
     ensures written { OnOk result (IsWhole (check_written scenario.now) (written_to W.contents out.old) (written_to W.contents out.new)) }
     ensures counted { OnOk result (failures_of out.new ≡ failures_of out.old) }
 
     // The fault is that of the definition.
-    ensures refused { IfErr result (λ fault. IsCheckFaultOf fault (check_written scenario.now)) }
-    ensures silent { IfErr result (λ fault. IsCheckBefore fault → out.new ≡ out.old) }
+    ensures refused { IfErr result (λ fault. IsFaultOf ⊥ fault (check_written scenario.now)) }
+    ensures silent { IfErr result (λ fault. IsBefore fault → out.new ≡ out.old) }
 
     // A write failed, and was counted; a front of the lines went out.
-    ensures cut { result ≡ Err CheckFault.Write → IsCutShort (check_written scenario.now) (written_to W.contents out.old) (written_to W.contents out.new) }
-    ensures raised { result ≡ Err CheckFault.Write → IsRaised (failures_of out.old) (failures_of out.new) }
+    ensures cut { result ≡ Err RunFault.Write → IsCutShort (check_written scenario.now) (written_to W.contents out.old) (written_to W.contents out.new) }
+    ensures raised { result ≡ Err RunFault.Write → IsRaised (failures_of out.old) (failures_of out.new) }
 {
     let lines = budget_lines(alloc, scenario)?;
     match put(out, lines.as_slice()) {
         Ok(()) => Ok(()),
-        Err(_) => Err(CheckFault::Write),
+        Err(_) => Err(RunFault::Write),
     }
 }

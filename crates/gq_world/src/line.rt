@@ -1,9 +1,9 @@
 // Lines of text.
 ghost use Rattle.std.specs.Prelude.{◌≡◌, ◌≤◌, ◌+◌, ◌++◌, ◌∷◌, [], length, codes, decimal};
-ghost use Rattle.gq_model.specs.Accounts.{phase_word, entry};
+ghost use Rattle.gq_model.specs.machine.Accounts.{phase_word, entry};
 
 use arrayvec::ArrayVec;
-use gq_init::stage::scenario::GREATEST_LABEL;
+use gq_model::limits::GREATEST_LABEL;
 use gq_model::phase::Phase;
 use itoa::Buffer;
 

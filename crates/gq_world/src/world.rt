@@ -1,28 +1,34 @@
 // A world: an accepted scenario that runs.
-ghost use Rattle.std.specs.Prelude.{ℕ, ◌≡◌, ◌↔◌, ◌<◌, ◌≤◌, ◌+◌, ◌*◌, ◌++◌, ◌∷◌, [], true, false, suc, length, slice_get, codes, Some, Ok, Err, IfOk, IfErr, IfSome, IsOk, OnOk, sum_by};
-ghost use Rattle.gq_model.specs.Scenario.{components, system};
-ghost use Rattle.gq_model.specs.Routes.{numbered};
-ghost use Rattle.gq_model.specs.Step.{next};
-ghost use Rattle.gq_model.specs.Accept as accept;
-ghost use Rattle.gq_world.specs.Counts.{written_to, failures_of};
-ghost use Rattle.gq_world.specs.Writes.{IsFront, IsRaised};
-ghost use Rattle.gq_world.specs.Worlds.{IsSound, IsTurn, StopsWriting};
-ghost use Rattle.gq_world.specs.Headline.{Upheld};
-ghost use Rattle.gq_world.specs.Lines.{all_accounts, node_count, leaf_place, told_of, IsAccountLine};
-ghost use Rattle.gq_model.specs.Amounts.{Ram};
+ghost use Rattle.std.specs.Prelude.{ℕ, ◌==◌, if◌then◌else◌, ◌≡◌, ◌↔◌, ◌<◌, ◌≤◌, ◌+◌, ◌*◌, true, false, length, slice_get, Some, Ok, Err, IfOk, IfErr, IfSome};
+ghost use Rattle.std.specs.Prelude.{IsOk, OnOk};
+ghost use Rattle.gq_model.specs.machine.Amounts.{Ram};
+ghost use Rattle.gq_model.specs.machine.Routes.{numbered};
+ghost use Rattle.gq_model.specs.machine.Scenario.{components, system};
+ghost use Rattle.gq_model.specs.machine.Step.{next};
+ghost use Rattle.gq_model.specs.rules.Accept as accept;
+ghost use Rattle.gq_init.specs.NodeTables.{IsNodeOf, node_rows};
+ghost use Rattle.gq_laws.specs.Stands.{Stands};
 ghost use Rattle.gq_machine.specs.Held.{held_by_all};
+ghost use Rattle.gq_scenario.specs.Trees.{version_number};
+ghost use Rattle.gq_world.specs.Counts.{written_to, failures_of};
+ghost use Rattle.gq_world.specs.Headline.{Upheld};
+ghost use Rattle.gq_world.specs.Lines.{all_accounts, told_of, IsAccountLine, TellsOf};
+ghost use Rattle.gq_world.specs.Worlds.{IsTurn, StopsWriting};
+ghost use Rattle.gq_world.specs.Writes.{IsFront, IsRaised};
 
 use crate::account::{Account, LeafAccount};
 use crate::account_line::account_line;
-use crate::budget::Budget;
 use crate::counted::{Counted, put};
 use crate::line::{Line, labelled};
 use arrayvec::ArrayVec;
-use gq_init::node::NodeNo;
-use gq_init::scenario::LeafNo;
-use gq_init::stage::scenario::Scenario;
+use gq_init::NodeTable;
+use gq_laws::accepted::accepted_laws;
+use gq_load::budget::Budget;
 use gq_machine::event::Event;
 use gq_machine::machine::Machine;
+use gq_scenario::node::NodeNo;
+use gq_scenario::scenario::{LeafNo, Version};
+use gq_tariff::Amount;
 use std::io::Write;
 use std::marker::Model;
 
@@ -44,23 +50,38 @@ pub struct World {
 }
 
 impl Model for World {
-    ghost use Rattle.gq_world.specs.Worlds.{World, IsBudgeted};
-    ghost use Rattle.gq_model.specs.Stored.{statements_code, nodes_code};
+    ghost use Rattle.gq_world.specs.Worlds.{World};
+    ghost use Rattle.gq_world.specs.internal.Keeping.{IsBudgeted};
+    ghost use Rattle.gq_model.specs.internal.Stored.{statements_code, nodes_code};
     ghost use Rattle.std.specs.Coded.{codes};
 
     ghost Value = { World };
 
-    ghost coded = { Prim.hlevel (codes, statements_code (Prim.hlevel codes), nodes_code (Prim.hlevel (codes, statements_code (Prim.hlevel codes))) (Prim.hlevel codes)) };
+    ghost coded = { Prim.hlevel (
+      codes,
+      statements_code (Prim.hlevel codes),
+      nodes_code (Prim.hlevel (codes, statements_code (Prim.hlevel codes))) (Prim.hlevel codes),
+    ) };
 
     ghost view = { λ w. record { scenario = w.machine.scenario; world = w.machine.world; stopped = w.stopped } };
 
     ghost invariant = { λ w. IsBudgeted w.machine.scenario w.machine.world w.budgets.items };
 }
 
+// So many capabilities, where they are counted.
+fn counted(version: Version, caps: u64) -> u64
+    ensures { result ≡ (if version_number version == 2 then caps else 0) }
+{
+    match version {
+        Version::One => 0,
+        Version::Two => caps,
+    }
+}
+
 impl World {
     // The world at the start of a run.
     pub(crate) fn start(machine: Machine, budgets: Vec<Budget>) -> World
-        requires sound { IsSound machine.scenario machine.world }
+        requires stands { Stands machine.scenario machine.world }
         requires budgets { budgets.items ≡ accept.budgets machine.scenario }
         ensures scenario { result.scenario ≡ machine.scenario }
         ensures world { result.world ≡ machine.world }
@@ -80,41 +101,29 @@ impl World {
         self.budgets.as_slice()
     }
 
-    // The scenario that runs.
-    pub(crate) fn scenario(&self) -> &Scenario
+    // The nodes of the scenario that runs.
+    pub(crate) fn table(&self) -> &NodeTable
         ensures { result.now ≡ self.now.scenario }
     {
-        self.machine.scenario()
-    }
-
-    // The number of its leaves.
-    pub(crate) fn leaf_count(&self) -> usize
-        ensures leaves { result ≡ length (components self.now.scenario) }
-        ensures few { result ≤ 64 }
-        ensures accounts { length (all_accounts self.now) ≡ suc result }
-        ensures nodes { node_count self.now.scenario.nodes ≡ result }
-        ensures places { (x : ℕ) → x < result → leaf_place self.now.scenario.nodes x ≡ x }
-    {
-        self.machine.scenario().leaf_count()
+        self.machine.table()
     }
 
     /// The number of nodes, the root among them.
     pub fn nodes(&self) -> usize
-        ensures nodes { result ≡ suc (node_count self.now.scenario.nodes) }
+        ensures nodes { result ≡ length (node_rows self.now.scenario) }
         ensures accounts { result ≡ length (all_accounts self.now) }
         ensures few { result ≤ 129 }
     {
-        self.leaf_count() + 1
+        let _stopped = self.stopped;
+        self.table().node_count()
     }
 
     /// The node that a leaf is.
     pub fn node(&self, leaf: LeafNo) -> NodeNo
         requires { leaf < length (components self.now.scenario) }
-        ensures place { result ≡ suc (leaf_place self.now.scenario.nodes leaf) }
-        ensures there { result < length (all_accounts self.now) }
+        ensures node { IfSome (slice_get (components self.now.scenario) leaf) (λ c. IsNodeOf (node_rows self.now.scenario) result c) }
     {
-        let _leaves = self.leaf_count();
-        NodeNo::new(leaf.number() + 1)
+        self.table().node(leaf)
     }
 
     /// The pages, of 4096 bytes, that no leaf holds.
@@ -124,54 +133,48 @@ impl World {
         self.machine.free_pages()
     }
 
-    /// The account of a node. A leaf holds no more than its quota, and has taken no more steps than its budget.
+    /// The account of a node. A leaf uses no more than its quota, of bytes and of capabilities, and has taken no more steps than its budget.
     pub fn account(&self, node: NodeNo) -> Account
-        requires { node < length (all_accounts self.now) }
+        requires { node < length (node_rows self.now.scenario) }
         ensures told { IfSome (slice_get (all_accounts self.now) node) (λ a. result ≡ told_of a) }
         ensures paid { IfSome result.leaf (λ l. l.used.ram ≤ result.quota.ram) }
+        ensures paid_caps { IfSome result.leaf (λ l. l.used.caps ≤ result.quota.caps) }
         ensures within_budget { IfSome result.leaf (λ l. l.steps ≤ l.budget) }
     {
-        let _leaves = self.leaf_count();
-        let quota = self.machine.quota(node);
-        let caps = self.machine.caps(node);
-        if node.index() == 0 {
-            return Account::new(quota, caps, None);
-        }
-        let place = LeafNo::new(node.number() - 1);
-        let leaf = self.leaf_account(place);
-        Account::new(quota, caps, Some(leaf))
+        accepted_laws();
+        let quota = Amount {
+            ram: self.machine.quota(node),
+            caps: self.machine.caps(node),
+        };
+        let leaf = match self.table().leaf(node) {
+            Some(leaf) => Some(self.leaf_account(leaf)),
+            None => None,
+        };
+        Account::new(quota, leaf)
     }
 
     // What is told of a leaf beside its quota.
     fn leaf_account(&self, leaf: LeafNo) -> LeafAccount
         requires { leaf < length (components self.now.scenario) }
-        ensures { IfSome (slice_get (all_accounts self.now) (suc leaf)) (λ a. a.leaf ≡ Some result) }
+        ensures { TellsOf self.now leaf result }
     {
-        let place = leaf.index();
-        let budget = self.budgets()[place].steps();
         let machine = &self.machine;
-        LeafAccount::new(
-            machine.used(leaf),
-            machine.caps_used(leaf),
-            machine.steps(leaf),
-            budget,
-            machine.phase(leaf),
-        )
+        let budget = self.budgets[leaf.index()].steps();
+        let caps = counted(self.table().scenario().version(), machine.caps_used(leaf));
+        let ram = machine.used(leaf);
+        let used = Amount { ram, caps };
+        LeafAccount::new(used, machine.steps(leaf), budget, machine.phase(leaf))
     }
 
     // The line of the account of a node.
     pub(crate) fn account_line(&self, node: NodeNo) -> Line
-        requires { node < length (all_accounts self.now) }
+        requires { node < length (node_rows self.now.scenario) }
         ensures { IsAccountLine self.now node result.items }
     {
-        let _leaves = self.leaf_count();
-        let scenario = self.machine.scenario();
+        let _stopped = self.stopped;
         let account = self.account(node);
-        if node.index() == 0 {
-            return account_line(b"init", &account);
-        }
-        let label = scenario.label(LeafNo::new(node.number() - 1));
-        account_line(label.as_slice(), &account)
+        let version = self.table().scenario().version();
+        account_line(version, self.table().label(node), &account)
     }
 
     /// The leaf of that name, if there is one.
@@ -179,7 +182,7 @@ impl World {
         ensures place { result ≡ numbered 0 name.now (components self.now.scenario) }
         ensures there { IfSome result (λ x. x < length (components self.now.scenario)) }
     {
-        self.machine.scenario().leaf_named(name)
+        self.table().leaf_named(name)
     }
 
     /// What holds in every world, whatever turns it took. It does nothing.
@@ -188,8 +191,8 @@ impl World {
         // sum to the total, and a session that ends gives back its donation.
         ensures upheld { Upheld self.now }
         ensures goes_on { (x : ℕ) → IsOk (next (system self.now.scenario) self.now.world x) }
-        ensures quotas_sum { sum_by (λ a. a.quota.ram) (all_accounts self.now) ≡ self.now.scenario.total.ram }
     {
+        accepted_laws();
         let _stopped = self.stopped;
     }
 
@@ -216,11 +219,12 @@ impl World {
         if self.stopped {
             return Err(Stop::Stopped);
         }
+        accepted_laws();
         let mut text = ArrayVec::new();
         match self.machine.step(leaf, &mut text) {
             Event::Line => {
-                let label = self.machine.scenario().label(leaf);
-                let line = labelled(label.as_slice(), text.as_slice());
+                let table = self.machine.table();
+                let line = labelled(table.label(table.node(leaf)), text.as_slice());
                 match put(out, line.as_slice()) {
                     Ok(()) => Ok(Event::Line),
                     Err(_) => {

@@ -21,7 +21,8 @@ returns-clause-ended g c known =
 
 pub returns-clause-upheld : goal.returns-clause-upheld
 returns-clause-upheld g c =
-    on_ok_weaker c.run_texts.result (λ upheld. runs_files _ _ _ _ (λ asked. IsUpheldBy asked (g.W.Write.contents c.args.out.now.writer) (g.W.Write.contents c.run_texts.new.out.writer))
+    on_ok_weaker c.run_texts.result (λ upheld. runs_files _ _ _ _
+    (λ asked. IsUpheldBy asked (g.W.Write.contents c.args.out.now.writer) (g.W.Write.contents c.run_texts.new.out.writer))
     c.in_ok-scenario.scenario.items
     c.in_ok-turns.turns.items
     _

@@ -1,8 +1,8 @@
 use Rattle.std.proofs.Common.{◌≡◌, ◌≤◌, ◌<◌, length, get_or, true, refl, sym, ◌∙◌, arith}
 use Rattle.std.proofs.lemmas.Bool.Decides.{nat_tests}
 use Rattle.std.proofs.lemmas.List.{drop_all}
-use Rattle.gq_model.specs.Lists.{all_of}
-use Rattle.gq_model.specs.Letters.{is_digit, spelled_on}
+use Rattle.gq_model.specs.machine.Lists.{all_of}
+use Rattle.gq_model.specs.texts.Letters.{is_digit, spelled_on}
 use Rattle.gq_init.proofs.Counts.{power_below, turn_count-some}
 use Rattle.gq_init.proofs.turns.read_count.Goals as goal
 
@@ -26,4 +26,5 @@ returns c =
     let all : all_of is_digit text ≡ true = sym c.loop-byte.invariant.digits ∙ rw nothing refl in
     let spelled : spelled_on 0 text ≡ c.loop-byte.number = sym c.loop-byte.invariant.spelled ∙ rw nothing refl in
     let at : c.loop-byte.byte-index ≡ length text = omega arith in
-    sym (turn_count-some text c.loop-byte.number some c.if-text-gt7.false c.if-text-eq48.false all spelled (c.loop-byte.invariant.low (omega arith)) (rw (← at) c.loop-byte.invariant.high))
+    sym (turn_count-some text c.loop-byte.number some c.if-text-gt7.false c.if-text-eq48.false all spelled (c.loop-byte.invariant.low (omega arith))
+    (rw (← at) c.loop-byte.invariant.high))

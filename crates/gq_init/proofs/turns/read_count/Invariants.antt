@@ -1,6 +1,6 @@
 use Rattle.std.proofs.Common.{◌≡◌, ◌^◌, ◌<◌, ◌≤◌, drop}
-use Rattle.gq_model.specs.Lists.{all_of}
-use Rattle.gq_model.specs.Letters.{is_digit, spelled_on}
+use Rattle.gq_model.specs.machine.Lists.{all_of}
+use Rattle.gq_model.specs.texts.Letters.{is_digit, spelled_on}
 use Rattle.gq_init.proofs.turns.read_count.Given as goal
 
 abbrev pub invariant-loop-byte : goal.invariant-loop-byte

@@ -1,8 +1,8 @@
 use Rattle.std.proofs.Common.{◌∙◌, ap, sym, map, length}
-use Rattle.gq_model.specs.Scenario.{system}
+use Rattle.gq_model.specs.machine.Scenario.{system}
 use Rattle.gq_budget.specs.Budgets.{budgets_from}
-use Rattle.gq_load.specs.Judged.{judged_by}
-use Rattle.gq_load.specs.Budgets.{budgets_with}
+use Rattle.gq_load.specs.internal.Judged.{judged_by}
+use Rattle.gq_load.specs.internal.Budgets.{budgets_with}
 use Rattle.gq_load.proofs.Budgets.{kept_same, steps_count, judged_count}
 use Rattle.gq_load.proofs.accepted.kept_budgets.Goals as goal
 

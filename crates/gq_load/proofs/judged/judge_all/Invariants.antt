@@ -1,5 +1,5 @@
 use Rattle.std.proofs.Common.{◌≡◌, ◌++◌, drop, map}
-use Rattle.gq_load.specs.Judged.{judged_by, first_refusal}
+use Rattle.gq_load.specs.internal.Judged.{judged_by, first_refusal}
 use Rattle.gq_load.proofs.judged.judge_all.Given as goal
 
 -- what is said so far, with what there is to say of the leaves that are left, is all; no program so far is refused

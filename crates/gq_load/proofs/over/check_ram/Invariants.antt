@@ -1,6 +1,6 @@
 use Rattle.std.proofs.Common.{◌≡◌, drop}
-use Rattle.gq_model.specs.Amounts.{Ram}
-use Rattle.gq_model.specs.Accept.{own_refusal}
+use Rattle.gq_model.specs.machine.Amounts.{Ram}
+use Rattle.gq_model.specs.rules.Accept.{own_refusal}
 use Rattle.gq_load.proofs.over.check_ram.Given as goal
 
 -- no leaf so far is refused

@@ -1,5 +1,5 @@
 use Rattle.std.proofs.Common.{◌≡◌, drop}
-use Rattle.gq_model.specs.Accept.{steps_refusal}
+use Rattle.gq_model.specs.rules.Accept.{steps_refusal}
 use Rattle.gq_load.proofs.over.check_steps.Given as goal
 
 -- no leaf so far is refused

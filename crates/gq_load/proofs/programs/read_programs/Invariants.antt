@@ -1,5 +1,5 @@
 use Rattle.std.proofs.Common.{◌≡◌, ◌++◌, drop}
-use Rattle.gq_load.specs.Judged.{programs_of}
+use Rattle.gq_load.specs.internal.Judged.{programs_of}
 use Rattle.gq_load.specs.Load.{sources_fault}
 use Rattle.gq_load.proofs.programs.read_programs.Given as goal
 

@@ -1,5 +1,5 @@
 use Rattle.std.proofs.Common.{◌≡◌, ◌++◌, drop}
-use Rattle.gq_load.specs.Leads.{counted_leaves}
+use Rattle.gq_load.specs.internal.Leads.{counted_leaves}
 use Rattle.gq_load.proofs.steps.counted_leaves.Given as goal
 
 -- the leaves so far, with those that are left, are all

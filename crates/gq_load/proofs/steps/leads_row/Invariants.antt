@@ -1,5 +1,5 @@
 use Rattle.std.proofs.Common.{◌≡◌, ◌++◌, drop, option_copied}
-use Rattle.gq_load.specs.Leads.{leads_row}
+use Rattle.gq_load.specs.internal.Leads.{leads_row}
 use Rattle.gq_load.proofs.steps.leads_row.Given as goal
 
 -- the row so far, with what is left of it, is all

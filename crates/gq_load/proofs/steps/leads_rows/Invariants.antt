@@ -1,5 +1,5 @@
 use Rattle.std.proofs.Common.{◌≡◌, ◌++◌, drop, map}
-use Rattle.gq_load.specs.Leads.{leads_rows}
+use Rattle.gq_load.specs.internal.Leads.{leads_rows}
 use Rattle.gq_load.proofs.steps.leads_rows.Given as goal
 
 -- the rows so far, with those that are left, are all

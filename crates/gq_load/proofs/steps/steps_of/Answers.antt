@@ -1,6 +1,6 @@
 use Rattle.std.proofs.Common.{◌∙◌, ap, map}
-use Rattle.gq_model.specs.Scenario.{components, system}
-use Rattle.gq_load.specs.Leads.{counted_leaves, leads_rows}
+use Rattle.gq_model.specs.machine.Scenario.{components, system}
+use Rattle.gq_load.specs.internal.Leads.{counted_leaves, leads_rows}
 use Rattle.gq_load.proofs.Leads.{rows_same, leaves_same}
 use Rattle.gq_load.proofs.steps.steps_of.Goals as goal
 
@@ -11,7 +11,8 @@ returns c =
     let leaves =
     c.as_slice.ensures.value
     ∙ (c.in_ok-leaves.ensures
-    ∙ (ap (λ i. counted_leaves i c.args.components.now) c.interfaces.ensures ∙ (ap (counted_leaves s.interfaces) c.requires.components ∙ leaves_same (system s) all))) in
+    ∙ (ap (λ i. counted_leaves i c.args.components.now) c.interfaces.ensures
+    ∙ (ap (counted_leaves s.interfaces) c.requires.components ∙ leaves_same (system s) all))) in
     let leads =
     ap (map (λ v. v.items)) c.as_slice-2.ensures.value
     ∙ (c.in_ok-leads.ensures ∙ (ap (λ cs. leads_rows cs 0 cs) c.requires.components ∙ rows_same (system s) 0 all)) in

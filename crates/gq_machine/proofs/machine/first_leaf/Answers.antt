@@ -7,7 +7,8 @@ use Rattle.gq_machine.proofs.machine.first_leaf.Goals as goal
 pub encode_body-requires : goal.encode_body-requires
 encode_body-requires c =
     let p = c.index-sections-0.result in
-    let m = first_section c.args.program.now.sections p c.requires (c.index-sections-0.is ∙ ap (λ s. get_or s 0 p) c.sections.ensures) in body_has 0 p.1 m.in_range
+    let m = first_section c.args.program.now.sections p c.requires (c.index-sections-0.is ∙ ap (λ s. get_or s 0 p) c.sections.ensures) in
+    body_has 0 p.1 m.in_range
 
 pub new-requires-clause-spelled : goal.new-requires-clause-spelled
 new-requires-clause-spelled c =

@@ -1,7 +1,7 @@
 use Rattle.std.proofs.Common.{◌<◌, ◌∙◌, List, ℕ, sym, subst, take, length, refl, arith, add-one}
 use Rattle.std.proofs.lemmas.Result.{err_from_is_err_and}
 use Rattle.std.specs.Io.KnownBytes.{Appends}
-use Rattle.gq_model.specs.Accounts.{account_lines}
+use Rattle.gq_model.specs.machine.Accounts.{account_lines}
 use Rattle.gq_world.specs.Lines.{all_accounts, IsAccountLine}
 use Rattle.gq_world.specs.Writes.{IsFront}
 use Rattle.gq_world.proofs.Known.{appends_nothing}
@@ -12,7 +12,7 @@ pub loop-number-init : goal.loop-number-init
 loop-number-init g c = record { written = appends_nothing (g.W.Write.contents c.args.out.now.writer); counted = refl }
 
 pub account_line-line-requires : goal.account_line-line-requires
-account_line-line-requires g c = omega (arith, c.new.ensures, c.nodes-number-end.ensures.accounts, c.loop-number-test.true)
+account_line-line-requires g c = omega (arith, c.new.ensures, c.nodes-number-end.ensures.nodes, c.loop-number-test.true)
 
 pub returns-in_err-put-clause-front : goal.returns-in_err-put-clause-front
 returns-in_err-put-clause-front g c =
@@ -52,4 +52,5 @@ returns-clause-written g c =
     let a = g.W.Write.contents c.args.out.now.writer in
     let b = g.W.Write.contents l.out.writer in
     let all = all_accounts w in
-    subst (Appends a b) (all_lines w.scenario.version l.number all (omega (arith, c.nodes-number-end.ensures.accounts, c.loop-number-test.false, l.auto.number-end))) l.invariant.written
+    subst (Appends a b) (all_lines w.scenario.version l.number all
+    (omega (arith, c.nodes-number-end.ensures.accounts, c.loop-number-test.false, l.auto.number-end))) l.invariant.written

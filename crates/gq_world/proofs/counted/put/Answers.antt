@@ -19,6 +19,7 @@ loop-done-preserved g c =
     let more : Appends b d (take c.in-Ok.taken (drop l.done bytes)) = subst (λ (xs : List ℕ). Appends b d (take c.in-Ok.taken xs)) rest h.bytes in
     record {
       fits = omega (arith, bound, ap length rest, length-drop l.done bytes, l.invariant.fits);
-      written = subst (Appends a d) (sym (take-add l.done c.in-Ok.taken bytes)) (appends_both a b d (take l.done bytes) (take c.in-Ok.taken (drop l.done bytes)) l.invariant.written more);
+      written = subst (Appends a d) (sym (take-add l.done c.in-Ok.taken bytes))
+          (appends_both a b d (take l.done bytes) (take c.in-Ok.taken (drop l.done bytes)) l.invariant.written more);
       counted = grind (arith, nat_tests);
     }

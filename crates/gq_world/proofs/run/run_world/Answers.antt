@@ -2,7 +2,7 @@ use Rattle.std.proofs.lemmas.Result.{err_from_is_err_and}
 use Rattle.std.specs.Io.KnownBytes.{Appends}
 use Rattle.gq_world.specs.Lines.{accounts_text}
 use Rattle.gq_world.specs.Writes.{IsFront}
-use Rattle.gq_world.specs.Written.{whole_of}
+use Rattle.gq_world.specs.Whole.{whole_of}
 use Rattle.gq_world.proofs.Known.{on_ok, on_err}
 use Rattle.gq_world.proofs.Whole.{complete, cut_lines, cut_turns}
 use Rattle.gq_world.proofs.run.run_world.Goals as goal
@@ -24,7 +24,8 @@ returns-clause-written g c =
     let b = g.W.Write.contents c.take_all.new.out.writer in
     let d = g.W.Write.contents c.write_accounts.new.out.writer in
     let e = c.in_ok-take_all.ensures in
-    on_ok (Appends b d (accounts_text new)) (Appends a d whole) c.write_accounts.result (complete old.scenario c.args.turns.now old c.requires.start a b d new e.scenario e.ran) c.write_accounts.ensures.written
+    on_ok (Appends b d (accounts_text new)) (Appends a d whole) c.write_accounts.result
+    (complete old.scenario c.args.turns.now old c.requires.start a b d new e.scenario e.ran) c.write_accounts.ensures.written
 
 pub returns-clause-front : goal.returns-clause-front
 returns-clause-front g c =
@@ -35,4 +36,5 @@ returns-clause-front g c =
     let b = g.W.Write.contents c.take_all.new.out.writer in
     let d = g.W.Write.contents c.write_accounts.new.out.writer in
     let e = c.in_ok-take_all.ensures in
-    on_err (IsFront b d (accounts_text new)) (IsFront a d whole) c.write_accounts.result (cut_lines old.scenario c.args.turns.now old c.requires.start a b d new e.scenario e.ran) c.write_accounts.ensures.front
+    on_err (IsFront b d (accounts_text new)) (IsFront a d whole) c.write_accounts.result
+    (cut_lines old.scenario c.args.turns.now old c.requires.start a b d new e.scenario e.ran) c.write_accounts.ensures.front

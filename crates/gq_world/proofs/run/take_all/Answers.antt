@@ -1,6 +1,6 @@
 use Rattle.std.proofs.Common.{◌∙◌}
 use Rattle.std.proofs.lemmas.Result.{err_from_is_err_and}
-use Rattle.gq_model.specs.Scenario.{components}
+use Rattle.gq_model.specs.machine.Scenario.{components}
 use Rattle.std.specs.Prelude.{length}
 use Rattle.gq_world.proofs.Going.{here_is, below_at, goes_on_all, cut_all}
 use Rattle.gq_world.proofs.run.take_all.Goals as goal
@@ -14,7 +14,8 @@ returns-in_err-take_turns-clause-cut g c =
     let d = g.W.Write.contents c.take_turns.new.out.writer in
     let p = err_from_is_err_and c.from_residual.result c.from_residual.ensures.1 in
     let here = here_is c.args.turns.now l.leaf-index t c.loop-leaf-test.true c.loop-leaf-item.is in
-    rw (p.1) (cut_all c.args.world.now.scenario c.args.turns.now l.leaf-index t here c.args.world.now l.world c.take_turns.new.world l.invariant.scenario a b d l.invariant.left c.in_err-take_turns.ensures.cut)
+    rw (p.1) (cut_all c.args.world.now.scenario c.args.turns.now l.leaf-index t here c.args.world.now l.world c.take_turns.new.world l.invariant.scenario a b d
+    l.invariant.left c.in_err-take_turns.ensures.cut)
 
 pub loop-leaf-preserved : goal.loop-leaf-preserved
 loop-leaf-preserved g c =
@@ -28,6 +29,7 @@ loop-leaf-preserved g c =
     record {
       scenario = e.scenario ∙ l.invariant.scenario;
       below = (below_at (length (components c.args.world.now.scenario)) c.args.turns.now l.leaf-index t here l.invariant.below).1;
-      left = goes_on_all c.args.world.now.scenario c.args.turns.now l.leaf-index t here c.args.world.now l.world c.take_turns.new.world l.invariant.scenario a b d l.invariant.left e.ran;
+      left = goes_on_all c.args.world.now.scenario c.args.turns.now l.leaf-index t here c.args.world.now l.world c.take_turns.new.world l.invariant.scenario a b
+          d l.invariant.left e.ran;
       counted = e.counted ∙ l.invariant.counted;
     }

@@ -1,7 +1,7 @@
 use Rattle.std.proofs.Common.{◌≡◌, drop, length}
-use Rattle.gq_model.specs.Scenario.{components, system}
-use Rattle.gq_model.specs.Run.{run_on}
-use Rattle.gq_world.specs.Going.{AreBelow, HasLeft}
+use Rattle.gq_model.specs.machine.Scenario.{components, system}
+use Rattle.gq_model.specs.machine.Run.{run_on}
+use Rattle.gq_world.specs.internal.Going.{AreBelow, HasLeft}
 use Rattle.gq_world.proofs.run.take_all.Given as goal
 
 -- what is left of the turns, from here, does what all of them do
@@ -9,6 +9,7 @@ abbrev pub invariant-loop-leaf : goal.invariant-loop-leaf
 invariant-loop-leaf g l = record {
   scenario : l.world.scenario ≡ l.fn.world.scenario;
   below : AreBelow (length (components l.fn.world.scenario)) (drop l.leaf-index l.turns);
-  left : HasLeft (run_on (system l.fn.world.scenario) (drop l.leaf-index l.turns)) (run_on (system l.fn.world.scenario) l.turns) l.fn.world l.world (g.W.Write.contents l.fn.out.writer) (g.W.Write.contents l.out.writer);
+  left : HasLeft (run_on (system l.fn.world.scenario) (drop l.leaf-index l.turns)) (run_on (system l.fn.world.scenario) l.turns) l.fn.world l.world
+      (g.W.Write.contents l.fn.out.writer) (g.W.Write.contents l.out.writer);
   counted : l.out.failures ≡ l.fn.out.failures;
 }

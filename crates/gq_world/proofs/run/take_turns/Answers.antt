@@ -9,7 +9,8 @@ returns-in-Err-Write-clause-cut g c =
     let a = g.W.Write.contents c.args.out.now.writer in
     let b = g.W.Write.contents l.out.writer in
     let d = g.W.Write.contents c.turn.new.out.writer in
-    is_cut c.args.world.now.scenario c.args.leaf c.args.count l.turn c.loop-turn-test.true c.args.world.now l.world c.turn.new.self l.invariant.scenario a b d l.invariant.left (c.in-Err-Write.ensures.stops (ap Err c.in-Err-Write.field-0-is))
+    is_cut c.args.world.now.scenario c.args.leaf c.args.count l.turn c.loop-turn-test.true c.args.world.now l.world c.turn.new.self l.invariant.scenario a b d
+    l.invariant.left (c.in-Err-Write.ensures.stops (ap Err c.in-Err-Write.field-0-is))
 
 pub loop-turn-preserved : goal.loop-turn-preserved
 loop-turn-preserved g c =
@@ -20,6 +21,7 @@ loop-turn-preserved g c =
     let e = c.in-Ok.ensures in
     record {
       scenario = e.scenario ∙ l.invariant.scenario;
-      left = goes_on c.args.world.now.scenario c.args.leaf c.args.count l.turn c.loop-turn-test.true c.args.world.now l.world c.turn.new.self l.invariant.scenario a b d c.in-Ok.field-0 l.invariant.left e.turned e.goes_on;
+      left = goes_on c.args.world.now.scenario c.args.leaf c.args.count l.turn c.loop-turn-test.true c.args.world.now l.world c.turn.new.self
+          l.invariant.scenario a b d c.in-Ok.field-0 l.invariant.left e.turned e.goes_on;
       counted = e.counted ∙ l.invariant.counted;
     }

@@ -1,13 +1,14 @@
 use Rattle.std.proofs.Common.{◌≡◌, ◌-◌}
-use Rattle.gq_model.specs.Scenario.{system}
-use Rattle.gq_model.specs.Run.{turns_of}
-use Rattle.gq_world.specs.Going.{HasLeft}
+use Rattle.gq_model.specs.machine.Scenario.{system}
+use Rattle.gq_model.specs.machine.Run.{turns_of}
+use Rattle.gq_world.specs.internal.Going.{HasLeft}
 use Rattle.gq_world.proofs.run.take_turns.Given as goal
 
 -- what is left of the turns, from here, does what all of them do
 abbrev pub invariant-loop-turn : goal.invariant-loop-turn
 invariant-loop-turn g l = record {
   scenario : l.world.scenario ≡ l.fn.world.scenario;
-  left : HasLeft (turns_of (system l.fn.world.scenario) l.leaf (l.count - l.turn)) (turns_of (system l.fn.world.scenario) l.leaf l.count) l.fn.world l.world (g.W.Write.contents l.fn.out.writer) (g.W.Write.contents l.out.writer);
+  left : HasLeft (turns_of (system l.fn.world.scenario) l.leaf (l.count - l.turn)) (turns_of (system l.fn.world.scenario) l.leaf l.count) l.fn.world l.world
+      (g.W.Write.contents l.fn.out.writer) (g.W.Write.contents l.out.writer);
   counted : l.out.failures ≡ l.fn.out.failures;
 }

@@ -1,7 +1,7 @@
 use Rattle.std.proofs.Common.{◌≡◌, IfSome, subst}
 use Rattle.std.specs.Prelude.{slice_get}
-use Rattle.gq_model.specs.Amounts.{Ram}
-use Rattle.gq_model.specs.Sums.{held}
+use Rattle.gq_model.specs.machine.Amounts.{Ram}
+use Rattle.gq_model.specs.machine.Sums.{held}
 use Rattle.gq_machine.specs.Machines.{Machine}
 use Rattle.gq_machine.proofs.Balances.{held-at}
 use Rattle.gq_machine.proofs.machine.Machine.used.Goals as goal

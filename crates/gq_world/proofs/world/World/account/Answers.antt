@@ -1,66 +1,90 @@
-use Rattle.std.proofs.Common.{ap, ◌≡◌, ◌<◌, ◌∙◌, ℕ, [], IfSome, length, sym, subst, suc, arith}
-use Rattle.std.specs.Prelude.{Some, slice_get}
-use Rattle.gq_model.specs.Scenario.{components}
-use Rattle.gq_model.specs.Accounts.{accounts}
+use Rattle.std.proofs.Common.{◌≡◌, ◌<◌, ◌∙◌, ℕ, List, Option, Some, None, IfSome, length, ap, sym, subst}
+use Rattle.std.specs.Prelude.{slice_get}
+use Rattle.gq_model.specs.machine.Accounts.{accounts}
+use Rattle.gq_model.specs.machine.Scenario.{Scenario}
+use Rattle.gq_model.specs.rules.Accept.{budgets, step_budgets}
+use Rattle.gq_init.specs.NodeTables.{NodeRow, node_rows}
+use Rattle.gq_world.specs.Lines.{all_accounts}
 use Rattle.gq_world.specs.Worlds.{World}
-use Rattle.gq_world.specs.Lines.{all_accounts, told_of}
-use Rattle.gq_world.proofs.Lines.{root_told, leaf_told}
-use Rattle.gq_world.proofs.Upheld.{sound_seen, paid_at, in_time_at}
+use Rattle.gq_world.proofs.Accounts.{LeafRead, account_of, accounts_count, fits_at, leaf_within, leaves_count, told_is}
+use Rattle.gq_world.proofs.Turns.{stands_seen}
 use Rattle.gq_world.proofs.world.World.account.Goals as goal
+use Rattle.gq_world.proofs.world.World.account.Goals.{in-Some, in-None}
 
-pub returns-then-index-eq0-clause-told : goal.returns-then-index-eq0-clause-told
-returns-then-index-eq0-clause-told c =
-    let i = c.self.inside in
-    let seen : World = record { scenario = i.machine.scenario; world = i.machine.world; stopped = i.stopped } in
-    let told = c.new.result in
-    let root : c.args.node ≡ 0 = sym c.index.ensures ∙ c.if-index-eq0.true in
-    let Q : ℕ → Type 0 = λ n. IfSome (slice_get (accounts seen.scenario seen.world []) n) (λ a. c.quota-quota.result ≡ a.quota.ram) in
-    let R : ℕ → Type 0 = λ n. IfSome (slice_get (accounts seen.scenario seen.world []) n) (λ a. c.caps-caps.result ≡ a.quota.caps) in
-    subst (λ w. IfSome (slice_get (all_accounts w) c.args.node) (λ a. told ≡ told_of a)) c.self.view_is
-    (subst (λ (n : ℕ). IfSome (slice_get (all_accounts seen) n) (λ a. told ≡ told_of a)) (sym root)
-    (root_told seen c.quota-quota.result c.caps-caps.result (subst Q root c.quota-quota.ensures) (subst R root c.caps-caps.ensures) told c.new.ensures))
+pub leaf_account-requires : goal.leaf_account-requires
+leaf_account-requires c =
+    let m = c.self.inside.machine in
+    let w = c.args.self.now in
+    let stands = stands_seen m.scenario w.scenario m.world w.world (ap (λ v. v.scenario) c.self.view_is)
+    (ap (λ v. v.world) c.self.view_is) c.self.invariant.stands in
+    let p = account_of w (leaves_count w.scenario w.world stands) c.args.node c.requires in
+    let P : Scenario → Type 0 = λ s. IfSome (slice_get (node_rows s) c.args.node) (λ r. c.leaf.result ≡ r.leaf) in
+    leaf_within w (all_accounts w) c.args.node p c.leaf.result c.in-Some.leaf (subst P c.table.ensures c.leaf.ensures) c.in-Some.is
+
+-- an account as the machine tells it
+seen : (P : List ℕ → World → Type 0) (v w : World) → v ≡ w → ((told : List ℕ) → P told v) → P (step_budgets (budgets w.scenario)) w
+seen P v w e h = subst (P (step_budgets (budgets w.scenario))) e (h (step_budgets (budgets w.scenario)))
+
+ram_of : (w : World) (n q : ℕ) → IfSome (slice_get (accounts w.scenario w.world (step_budgets (budgets w.scenario))) n) (λ a. q ≡ a.quota.ram)
+    → IfSome (slice_get (all_accounts w) n) (λ a. q ≡ a.quota.ram)
+unfolding all_accounts
+ram_of w n q h = h
+
+caps_of : (w : World) (n q : ℕ) → IfSome (slice_get (accounts w.scenario w.world (step_budgets (budgets w.scenario))) n) (λ a. q ≡ a.quota.caps)
+    → IfSome (slice_get (all_accounts w) n) (λ a. q ≡ a.quota.caps)
+unfolding all_accounts
+caps_of w n q h = h
 
 pub returns-clause-told : goal.returns-clause-told
 returns-clause-told c =
-    let i = c.self.inside in
-    let seen : World = record { scenario = i.machine.scenario; world = i.machine.world; stopped = i.stopped } in
-    let told = c.new-2.result in
-    let x = c.new-place.result in
-    let leaf = c.leaf_account-leaf.result in
-    let place : c.args.node ≡ suc x = omega (arith, c.index.ensures, c.if-index-eq0.false, c.number.ensures, c.new-place.ensures) in
-    let less : x < length (components c.args.self.now.scenario) = omega (arith, place, c.requires, c.leaf_count-leaves.ensures.accounts, c.leaf_count-leaves.ensures.leaves) in
-    let here : x < length (components seen.scenario) = subst (λ w. x < length (components w.scenario)) (sym c.self.view_is) less in
-    let Q : ℕ → Type 0 = λ n. IfSome (slice_get (accounts seen.scenario seen.world []) n) (λ a. c.quota-quota.result ≡ a.quota.ram) in
-    let R : ℕ → Type 0 = λ n. IfSome (slice_get (accounts seen.scenario seen.world []) n) (λ a. c.caps-caps.result ≡ a.quota.caps) in
-    let of_leaf = subst (λ w. IfSome (slice_get (all_accounts w) (suc x)) (λ a. a.leaf ≡ Some leaf)) (sym c.self.view_is) c.leaf_account-leaf.ensures in
-    subst (λ w. IfSome (slice_get (all_accounts w) c.args.node) (λ a. told ≡ told_of a)) c.self.view_is
-    (subst (λ (n : ℕ). IfSome (slice_get (all_accounts seen) n) (λ a. told ≡ told_of a)) (sym place)
-    (leaf_told seen x c.self.invariant.sound here c.quota-quota.result c.caps-caps.result leaf (subst Q place c.quota-quota.ensures) (subst R place c.caps-caps.ensures) of_leaf told c.new-2.ensures))
-
-pub returns-then-index-eq0-clause-paid : goal.returns-then-index-eq0-clause-paid
-returns-then-index-eq0-clause-paid c =
     let m = c.self.inside.machine in
     let w = c.args.self.now in
-    let sound = sound_seen m.scenario m.world w (ap (λ v. v.scenario) c.self.view_is) (ap (λ v. v.world) c.self.view_is) c.self.invariant.sound in
-    paid_at w c.args.node c.new.result sound c.requires (returns-then-index-eq0-clause-told c)
-
-pub returns-then-index-eq0-clause-within_budget : goal.returns-then-index-eq0-clause-within_budget
-returns-then-index-eq0-clause-within_budget c =
-    let m = c.self.inside.machine in
-    let w = c.args.self.now in
-    let sound = sound_seen m.scenario m.world w (ap (λ v. v.scenario) c.self.view_is) (ap (λ v. v.world) c.self.view_is) c.self.invariant.sound in
-    in_time_at w c.args.node c.new.result sound c.requires (returns-then-index-eq0-clause-told c)
+    let stands = stands_seen m.scenario w.scenario m.world w.world (ap (λ v. v.scenario) c.self.view_is)
+    (ap (λ v. v.world) c.self.view_is) c.self.invariant.stands in
+    let n = c.args.node in
+    let p = account_of w (leaves_count w.scenario w.world stands) n c.requires in
+    let v : World = record { scenario = m.scenario; world = m.world; stopped = c.self.inside.stopped } in
+    let ram = ram_of w n c.quota.result
+    (seen (λ told u. IfSome (slice_get (accounts u.scenario u.world told) n) (λ a. c.quota.result ≡ a.quota.ram)) v w c.self.view_is c.quota.ensures) in
+    let caps = caps_of w n c.caps.result
+    (seen (λ told u. IfSome (slice_get (accounts u.scenario u.world told) n) (λ a. c.caps.result ≡ a.quota.caps)) v w c.self.view_is c.caps.ensures) in
+    let P : Scenario → Type 0 = λ s. IfSome (slice_get (node_rows s) n) (λ r. c.leaf.result ≡ r.leaf) in
+    let found = subst P c.table.ensures c.leaf.ensures in
+    let read : LeafRead w c.leaf.result c.match-leaf.leaf = elim c.match-leaf.branch [
+      | in-Some b ↦ subst (λ (o : Option ℕ). LeafRead w o c.match-leaf.leaf) (sym b.in-Some.is) (b.leaf_account.result, b.leaf-is, b.leaf_account.ensures)
+      | in-None b ↦ subst (λ (o : Option ℕ). LeafRead w o c.match-leaf.leaf) (sym b.in-None.is) b.leaf-is
+    ] in
+    told_is w (all_accounts w) n p c.quota.result c.caps.result c.leaf.result c.match-leaf.leaf c.new.result c.new.ensures ram caps found read
 
 pub returns-clause-paid : goal.returns-clause-paid
 returns-clause-paid c =
     let m = c.self.inside.machine in
     let w = c.args.self.now in
-    let sound = sound_seen m.scenario m.world w (ap (λ v. v.scenario) c.self.view_is) (ap (λ v. v.world) c.self.view_is) c.self.invariant.sound in
-    paid_at w c.args.node c.new-2.result sound c.requires (returns-clause-told c)
+    let stands = stands_seen m.scenario w.scenario m.world w.world (ap (λ v. v.scenario) c.self.view_is)
+    (ap (λ v. v.world) c.self.view_is) c.self.invariant.stands in
+    let count = leaves_count w.scenario w.world stands in
+    let less = subst (λ (k : ℕ). c.args.node < k) (sym (accounts_count w count)) c.requires in
+    fits_at (λ l q. l.used.ram) (λ l q. q.ram) (λ q l k. k.bytes) c.accepted_laws.ensures.promises c.accepted_laws.ensures.accounts w stands c.args.node
+    c.new.result less (returns-clause-told c)
+
+pub returns-clause-paid_caps : goal.returns-clause-paid_caps
+returns-clause-paid_caps c =
+    let m = c.self.inside.machine in
+    let w = c.args.self.now in
+    let stands = stands_seen m.scenario w.scenario m.world w.world (ap (λ v. v.scenario) c.self.view_is)
+    (ap (λ v. v.world) c.self.view_is) c.self.invariant.stands in
+    let count = leaves_count w.scenario w.world stands in
+    let less = subst (λ (k : ℕ). c.args.node < k) (sym (accounts_count w count)) c.requires in
+    fits_at (λ l q. l.used.caps) (λ l q. q.caps) (λ q l k. k.caps) c.accepted_laws.ensures.promises c.accepted_laws.ensures.accounts w stands c.args.node
+    c.new.result less (returns-clause-told c)
 
 pub returns-clause-within_budget : goal.returns-clause-within_budget
 returns-clause-within_budget c =
     let m = c.self.inside.machine in
     let w = c.args.self.now in
-    let sound = sound_seen m.scenario m.world w (ap (λ v. v.scenario) c.self.view_is) (ap (λ v. v.world) c.self.view_is) c.self.invariant.sound in
-    in_time_at w c.args.node c.new-2.result sound c.requires (returns-clause-told c)
+    let stands = stands_seen m.scenario w.scenario m.world w.world (ap (λ v. v.scenario) c.self.view_is)
+    (ap (λ v. v.world) c.self.view_is) c.self.invariant.stands in
+    let count = leaves_count w.scenario w.world stands in
+    let less = subst (λ (k : ℕ). c.args.node < k) (sym (accounts_count w count)) c.requires in
+    fits_at (λ l q. l.steps) (λ l q. l.budget) (λ q l k. k.steps) c.accepted_laws.ensures.promises c.accepted_laws.ensures.accounts w stands c.args.node
+    c.new.result less (returns-clause-told c)

@@ -1,26 +1,55 @@
-use Rattle.std.proofs.Common.{◌≡◌, ◌<◌, ◌∙◌, IfSome, length, sym, subst, suc}
-use Rattle.std.specs.Prelude.{Some, slice_get, slice_index}
-use Rattle.gq_model.specs.Scenario.{components}
-use Rattle.gq_model.specs.Accept.{budgets, step_budgets}
+use Rattle.std.proofs.Common.{◌≡◌, ◌<◌, ◌∙◌, ◌==◌, cond, ℕ, Option, Some, IfSome, length, get_or, ap, sym, subst, arith}
+use Rattle.std.specs.Prelude.{slice_get, slice_index}
+use Rattle.gq_model.specs.machine.Amounts.{Ram, Caps, amount}
+use Rattle.gq_model.specs.machine.Scenario.{components}
+use Rattle.gq_model.specs.machine.Sums.{held}
+use Rattle.gq_model.specs.machine.World as model
+use Rattle.gq_model.specs.machine.World.{Leaf}
+use Rattle.gq_model.specs.declared.phase.Phase.{Phase}
+use Rattle.gq_model.specs.rules.Accept.{budgets, step_budgets}
 use Rattle.gq_world.specs.Worlds.{World}
-use Rattle.gq_world.specs.Lines.{all_accounts}
-use Rattle.gq_world.proofs.Accounts.{IsRead}
-use Rattle.gq_world.proofs.Lines.{told_at, budget_there, steps_at}
+use Rattle.gq_world.proofs.Accounts.{budgets_count, steps_at}
 use Rattle.gq_world.proofs.world.World.leaf_account.Goals as goal
 
-pub bounds-budgets-place : goal.bounds-budgets-place
-bounds-budgets-place c = budget_there c.args.self.now.scenario c.budgets.result.now c.args.leaf c.index-place.result c.index-place.ensures c.budgets.ensures c.requires
+pub index-requires-2 : goal.index-requires-2
+index-requires-2 c =
+    let s = c.self.inside.machine.scenario in
+    omega (
+      arith,
+      c.index.ensures,
+      c.requires,
+      ap (λ v. length (components v.scenario)) c.self.view_is,
+      c.self.inside.budgets.ok,
+      ap length c.self.invariant.budgets_are,
+      budgets_count s,
+    )
 
 pub returns : goal.returns
-returns c =
+returns c = λ d leaf at there.
     let i = c.self.inside in
+    let w = c.args.self.now in
     let x = c.args.leaf in
-    let seen : World = record { scenario = i.machine.scenario; world = i.machine.world; stopped = i.stopped } in
-    let budget = steps_at c.args.self.now.scenario c.budgets.result.now x c.index-place.result c.index-budgets-place.result c.index-place.ensures c.budgets.ensures c.requires c.index-budgets-place.is ∙ sym c.steps-budget.ensures in
-    let P : World → Type 0 = λ w. slice_index (step_budgets (budgets w.scenario)) x ≡ c.steps-budget.result in
-    let here : x < length (components i.machine.scenario) = subst (λ w. x < length (components w.scenario)) (sym c.self.view_is) c.requires in
-    let read : IsRead i.machine.scenario i.machine.world x c.used.result c.caps_used.result c.steps.result c.phase.result =
-    record { within = here; is_used = c.used.ensures; is_caps_used = c.caps_used.ensures; is_steps = c.steps.ensures; is_phase = c.phase.ensures } in
-    let told = told_at seen x c.self.invariant.sound c.used.result c.caps_used.result c.steps.result c.steps-budget.result c.phase.result read (subst P (sym c.self.view_is) budget) in
-    subst (λ w. IfSome (slice_get (all_accounts w) (suc x)) (λ a. a.leaf ≡ Some c.new.result)) c.self.view_is
-    (subst (λ l. IfSome (slice_get (all_accounts seen) (suc x)) (λ a. a.leaf ≡ Some l)) (sym c.new.ensures) told)
+    let less : c.index.result < length i.budgets.items =
+    omega (
+      arith,
+      c.index.ensures,
+      c.requires,
+      ap (λ v. length (components v.scenario)) c.self.view_is,
+      ap length c.self.invariant.budgets_are,
+      budgets_count i.machine.scenario,
+    ) in
+    let steps = steps_at i.budgets.items c.index.result c.index-2.result.now less c.index-2.ensures in
+    let all : i.budgets.items ≡ budgets w.scenario = c.self.invariant.budgets_are ∙ ap (λ v. budgets v.scenario) c.self.view_is in
+    let budget : slice_index (step_budgets (budgets w.scenario)) x ≡ c.steps-budget.result =
+    (λ j. slice_index (step_budgets (sym all j)) (sym c.index.ensures j)) ∙ (steps ∙ sym c.steps-budget.ensures) in
+    let P : (World → Leaf → Type 0) → World → Type 0 = λ Q v. IfSome (slice_get v.world.leaves x) (λ l. Q v l) in
+    let read : (Q : World → Leaf → Type 0) → P Q (record { scenario = i.machine.scenario; world = i.machine.world; stopped = i.stopped }) → Q w leaf =
+    λ Q h. subst (λ (o : Option Leaf). IfSome o (λ l. Q w l)) there (subst (P Q) c.self.view_is h) in
+    let ram = read (λ v l. c.used-ram.result ≡ held Ram v.world x l) c.used-ram.ensures in
+    let caps = read (λ v l. c.caps_used.result ≡ held Caps v.world x l) c.caps_used.ensures in
+    let taken = read (λ v l. c.steps.result ≡ l.steps) c.steps.ensures in
+    let phase = read (λ v l. c.phase.result ≡ l.phase) c.phase.ensures in
+    let version = c.version.ensures ∙ (ap (λ s. s.version) c.scenario.ensures ∙ ap (λ s. s.version) c.table.ensures) in
+    let counted : c.counted-caps.result ≡ cond (w.scenario.version == 2) (held Caps w.world x leaf) 0 =
+    c.counted-caps.ensures ∙ (λ j. cond (version j == 2) (caps j) 0) in
+    ap Some (sym (c.new.ensures ∙ (λ j. record { used = amount (ram j) (counted j); steps = taken j; budget = sym budget j; phase = phase j })))

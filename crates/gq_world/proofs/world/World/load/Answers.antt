@@ -1,59 +1,28 @@
-use Rattle.std.proofs.Common.{rules, ℕ, List, ◌≡◌, Option, Some, None, Result, Ok, Err, IfOk, IfErr, subst, sym}
-use Rattle.gq_world.specs.Worlds.{World}
-use Rattle.gq_load.specs.Load.{loaded}
-use Rattle.gq_world.specs.Loading.{stage_loaded}
-use Rattle.gq_model.specs.Promises.{Upholds}
-use Rattle.gq_model.specs.Scenario.{Scenario}
-use Rattle.gq_world.specs.declared.load.LoadError.{LoadError}
-use Rattle.gq_load.specs.Load as whole
-use Rattle.gq_world.specs.Loading as stage
-use Rattle.gq_world.specs.declared.load.LoadError.TheVariants as error
-use Rattle.gq_world.specs.declared.load.LoadFault.TheVariants as fault
-use Rattle.gq_init.specs.declared.fault.ScenarioFault.{ScenarioFault}
-use Rattle.gq_init.specs.Reading.{ReadFault}
-use Rattle.gq_init.specs.Stage.{stage_scenario}
-use Rattle.gq_world.specs.Faults.{GivesFault, Refuses, RefusesWhole}
-use Rattle.gq_world.proofs.Stage_laws.{loaded_is_whole}
-use Rattle.gq_world.proofs.Stage_refusals.{LoadSame, covered_loads, refuses_whole}
-use Rattle.gq_world.proofs.Headline.{upheld}
+use Rattle.std.proofs.Common.{◌≡◌, ◌∙◌, sym, subst}
+use Rattle.gq_model.specs.machine.Scenario.{Scenario, system}
+use Rattle.gq_model.specs.machine.World as model
+use Rattle.gq_model.specs.machine.World.{start}
+use Rattle.gq_laws.specs.Stands.{Stands}
+use Rattle.gq_world.specs.Headline.{Upholding}
 use Rattle.gq_world.proofs.world.World.load.Goals as goal
 
-each_upheld : {E : Type 0} (text : List ℕ) (r : Result World E) → IfOk r (λ w. stage_loaded text ≡ Ok w.scenario) → IfOk r (λ w. (turns : List (ℕ × ℕ)) → Upholds w.scenario turns)
-each_upheld text (Ok w) h = λ turns. upheld text w.scenario h turns
-each_upheld text (Err e) h = tt
+stands_at : (s t : Scenario) (w : model.World) → t ≡ s → w ≡ start (system t) → Stands s (start (system s)) → Stands t w
+stands_at s t w e f h =
+    let there : Stands t (start (system t)) = subst (λ (r : Scenario). Stands r (start (system r))) (sym e) h in
+    subst (λ (u : model.World). Stands t u) (sym f) there
 
-pub returns-in-Ok-clause-upheld : goal.returns-in-Ok-clause-upheld
-returns-in-Ok-clause-upheld c = each_upheld c.args.text.now c.load_scenario.result (search rules)
+pub start-requires-clause-stands : goal.start-requires-clause-stands
+start-requires-clause-stands c =
+    let s = c.in_ok-accepted.accepted in
+    let sound = c.loaded_laws.ensures.sound c.args.text.now s c.in_ok-accepted.ensures.loaded in
+    let made = c.in_ok-machine.machine in
+    let same : c.into_parts-table.result.0 ≡ s = c.into_parts-table.ensures.table in
+    let world : made.world ≡ start (system c.into_parts-table.result.0) = c.in_ok-machine.ensures.world in
+    let there = stands_at s c.into_parts-table.result.0 made.world same world (c.accepted_laws.ensures.first s sound) in
+    subst (λ (r : Scenario). Stands r made.world) (sym c.in_ok-machine.ensures.scenario) there
 
-each_whole : {E : Type 0} (text : List ℕ) (r : Result World E) → IfOk r (λ w. stage_loaded text ≡ Ok w.scenario) → IfOk r (λ w. loaded text ≡ Ok w.scenario)
-each_whole text (Ok w) h = loaded_is_whole text w.scenario h
-each_whole text (Err e) h = tt
-
-pub returns-in-Ok-clause-whole : goal.returns-in-Ok-clause-whole
-returns-in-Ok-clause-whole c = each_whole c.args.text.now c.load_scenario.result (search rules)
-
-each_covered : {A : Type 0} (a : Result Scenario stage.Fault) (b : Result Scenario whole.Fault) (r : Result A LoadError) → LoadSame a b → IfErr r (λ e. Refuses e a) → IfErr r (λ e. RefusesWhole e b)
-each_covered a b (Ok w) same h = tt
-each_covered a b (Err e) same h = refuses_whole e a b same h
-
-refuses_from : (e : LoadError) (s : Scenario) (o : Option stage.Fault) → GivesFault e o → Refuses e (stage.loaded_or s o)
-refuses_from error.Memory s o h = tt
-refuses_from (error.Fault f) s None h = absurd h
-refuses_from (error.Fault f) s (Some g) h = h
-
-each_refused : {A : Type 0} (text : List ℕ) (s : Scenario) (r : Result A LoadError) → stage_scenario text ≡ Ok s → IfErr r (λ e. GivesFault e (stage.scenario_fault s)) → IfErr r (λ e. Refuses e (stage_loaded text))
-each_refused text s (Ok w) read h = tt
-each_refused text s (Err e) read h = subst (λ (l : Result Scenario ReadFault). Refuses e (stage.loaded_from l)) (sym read) (refuses_from e s (stage.scenario_fault s) h)
-
-pub returns-in-Ok-clause-covered : goal.returns-in-Ok-clause-covered
-returns-in-Ok-clause-covered c = λ h.
-    let text = c.args.text.now in
-    let refused = each_refused text c.in-Ok.scenario c.load_scenario.result (search rules) (search rules) in
-    each_covered (stage_loaded text) (loaded text) c.load_scenario.result (covered_loads text h) refused
-
-pub returns-in-Err-Fault-clause-covered : goal.returns-in-Err-Fault-clause-covered
-returns-in-Err-Fault-clause-covered c = λ h.
-    let text = c.args.text.now in
-    let e : LoadError = error.Fault (fault.Scenario c.in-Err-Fault.fault) in
-    let P : ScenarioFault → Type 0 = λ f. RefusesWhole (error.Fault (fault.Scenario f)) (loaded text) in
-    subst P (sym c.in-Err-Fault.fault-is) (refuses_whole e (stage_loaded text) (loaded text) (covered_loads text h) (search rules))
+pub returns-clause-upheld : goal.returns-clause-upheld
+returns-clause-upheld c =
+    let s = c.in_ok-accepted.accepted in
+    let same = c.start.ensures.scenario ∙ (c.in_ok-machine.ensures.scenario ∙ c.into_parts-table.ensures.table) in
+    subst Upholding (sym same) (λ turns. c.loaded_laws.ensures.runs c.args.text.now s turns c.in_ok-accepted.ensures.loaded)

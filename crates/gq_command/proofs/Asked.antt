@@ -1,0 +1,114 @@
+-- What the parser's answers say of the command.
+use Rattle.std.proofs.Common.{◌≡◌, ◌≢◌, ◌∙◌, inl, inr, ℕ, ◌==◌, true≢false, ne_eqb, Bool, true, false, cond, refl, sym, ap, ap₂, subst, arith, List, [], ◌∷◌}
+use Rattle.std.proofs.Common.{map, length, Option, Some, None, codes}
+use Rattle.std.specs.Borrow.{Bor}
+use Rattle.clap.specs.Words.{Kinds, HasKind, IsAmong, Row, Text, fault_of, is_simple, is_simple_and_free, kind_of, subcommand_of}
+use Rattle.clap.specs.Walk.{is_empty}
+use Rattle.clap.specs.declared.error.Error.{Error}
+use Rattle.clap.specs.declared.error.kind.ErrorKind.{ErrorKind}
+use Rattle.clap.specs.declared.error.kind.ErrorKind.TheVariants.{DisplayHelp, OutOfMemory}
+use Rattle.clap.proofs.OnLiterals.{clap_on_literals}
+use Rattle.gq_command.specs.CommandLine.{IsAsked, IsHelp, IsMisused, IsWanted, Wanted, Check_wanted, Run_wanted, Asm_wanted, wanted, wanted_in, trade}
+use Rattle.gq_command.specs.declared.command.Command.{Command}
+use Rattle.gq_command.specs.declared.command.Command.TheVariants.{Check, Run, Asm, Stored, Help}
+use Rattle.gq_command.specs.declared.command.CommandError.{CommandError}
+use Rattle.gq_command.specs.declared.command.CommandError.TheVariants.{Memory, Usage}
+
+pub trade_simple : is_simple trade ≡ true
+unfolding clap_on_literals
+trade_simple = refl
+
+pub trade_free : is_simple_and_free trade ≡ true
+unfolding clap_on_literals
+trade_free = refl
+
+pub some_words : (words : List (Bor (List ℕ))) (is_empty : Bool) → is_empty ≡ (length words == 0) → is_empty ≡ false → map (λ word. word.now) words ≢ []
+some_words [] is_empty is empty_not = absurd (true≢false (sym is ∙ empty_not))
+some_words (word ∷ rest) is_empty is empty_not = λ e. absurd (omega (arith, ap length e))
+
+-- what is wanted, in what the parser made of the words
+abbrev chosen : Kinds → Option (Text × List Row) → Option Wanted
+chosen faults found = cond (is_empty faults) (wanted_in found) None
+
+pub asked-ok : (words : List Text) (found : Option (Text × List Row)) (command : Command) → words ≢ [] → fault_of trade words ≡ []
+    → found ≡ subcommand_of trade words
+    → IsWanted (wanted_in found) command → IsAsked words command
+asked-ok words found (Check scenario) ne passes is h = (ne, ap₂ chosen passes (sym is) ∙ h)
+asked-ok words found (Run scenario turns) ne passes is h = (ne, ap₂ chosen passes (sym is) ∙ h)
+asked-ok words found (Asm scenario leaf) ne passes is h = (ne, ap₂ chosen passes (sym is) ∙ h)
+asked-ok words found Stored ne passes is h = absurd h
+asked-ok words found (Help text) ne passes is h = absurd h
+
+one_kind : {k : ErrorKind} → ◌≢◌ {A = Kinds} [] (k ∷ [])
+one_kind e = absurd (omega (arith, ap length e))
+
+pub misused-ok : (words : List Text) (found : Option (Text × List Row)) (e : CommandError) → words ≢ [] → fault_of trade words ≡ []
+    → found ≡ subcommand_of trade words
+    → (e ≡ Usage → wanted_in found ≡ None) → IsMisused words e
+misused-ok words found (Memory refused) ne passes is h = ne
+misused-ok words found Usage ne passes is h = (ne, ap₂ chosen passes (sym is) ∙ h refl, λ d. one_kind (sym passes ∙ d))
+
+among : (kinds : Kinds) (e : Error) → kind_of e ≢ OutOfMemory → HasKind kinds e → IsAmong (kind_of e) kinds
+among kinds e ne (inl memory) = absurd (ne memory)
+among kinds e ne (inr kind) = kind
+
+not_empty : (k : ErrorKind) (kinds : Kinds) → IsAmong k kinds → is_empty kinds ≡ false
+not_empty k [] h = absurd h
+not_empty k (x ∷ rest) h = ne_eqb (length (x ∷ rest)) 0 (λ e. absurd (omega arith))
+
+not_alone : (k one : ErrorKind) → IsAmong k (one ∷ []) → k ≡ one
+not_alone k one (inl e) = e
+not_alone k one (inr h) = absurd h
+
+help_not_memory : ◌≢◌ {A = ErrorKind} DisplayHelp OutOfMemory
+help_not_memory e = cc
+
+pub asked-err : (words : List Text) (error : Error) (command : Command) → words ≢ [] → HasKind (fault_of trade words) error
+    → (kind_of error ≡ DisplayHelp) × IsHelp command → IsAsked words command
+asked-err words error (Check scenario) ne kinds h = absurd h.1
+asked-err words error (Run scenario turns) ne kinds h = absurd h.1
+asked-err words error (Asm scenario leaf) ne kinds h = absurd h.1
+asked-err words error Stored ne kinds h = absurd h.1
+asked-err words error (Help text) ne kinds h =
+    (ne, subst (λ k. IsAmong k (fault_of trade words)) h.0 (among (fault_of trade words) error (λ e. help_not_memory (sym h.0 ∙ e)) kinds))
+
+pub misused-err : (words : List Text) (error : Error) (e : CommandError) → words ≢ [] → HasKind (fault_of trade words) error
+    → (e ≡ Usage → (kind_of error ≢ DisplayHelp) × (kind_of error ≢ OutOfMemory)) → IsMisused words e
+misused-err words error (Memory refused) ne kinds h = ne
+misused-err words error Usage ne kinds h =
+    let is : IsAmong (kind_of error) (fault_of trade words) = among (fault_of trade words) error (h refl).1 kinds in (
+      ne,
+      ap (λ b. cond b (wanted_in (subcommand_of trade words)) None) (not_empty (kind_of error) (fault_of trade words) is),
+      λ d. (h refl).0 (not_alone (kind_of error) DisplayHelp (subst (IsAmong (kind_of error)) d is)),
+    )
+
+-- SAMPLES
+
+check_is_wanted : wanted (codes "check" ∷ codes "hello.toml" ∷ []) ≡ Some (Check_wanted (codes "hello.toml"))
+unfolding clap_on_literals
+check_is_wanted = refl
+
+run_is_wanted : wanted (codes "run" ∷ codes "hello.toml" ∷ codes "hello.turns" ∷ []) ≡ Some (Run_wanted (codes "hello.toml") (codes "hello.turns"))
+unfolding clap_on_literals
+run_is_wanted = refl
+
+asm_is_wanted : wanted (codes "asm" ∷ codes "hello.toml" ∷ codes "hello" ∷ []) ≡ Some (Asm_wanted (codes "hello.toml") (codes "hello"))
+unfolding clap_on_literals
+asm_is_wanted = refl
+
+-- a name that begins with a hyphen stands after two of them
+hyphen_is_wanted : wanted (codes "asm" ∷ codes "hello.toml" ∷ codes "--" ∷ codes "-x" ∷ []) ≡ Some (Asm_wanted (codes "hello.toml") (codes "-x"))
+unfolding clap_on_literals
+hyphen_is_wanted = refl
+
+one_path_is_misused : wanted (codes "run" ∷ codes "hello.toml" ∷ []) ≡ None
+unfolding clap_on_literals
+one_path_is_misused = refl
+
+flag_is_help : fault_of trade (codes "--help" ∷ []) ≡ DisplayHelp ∷ []
+unfolding clap_on_literals
+flag_is_help = refl
+
+no_command_is_misused : wanted (codes "--" ∷ []) ≡ None
+unfolding clap_on_literals
+no_command_is_misused = refl

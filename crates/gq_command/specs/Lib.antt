@@ -1,0 +1,4 @@
+pub mod CommandLine
+pub mod Input
+pub mod Status
+pub mod Stored

@@ -1,6 +1,0 @@
-use Rattle.std.proofs.Common.{refl, sym}
-use Rattle.gq_init.proofs.Keyed.{text_eq-read}
-use Rattle.gq_init.proofs.key.Key.is.Goals as goal
-
-pub returns : goal.returns
-returns c = sym (text_eq-read c.args.text.now _ c.word.result.now c.eq.result _ c.eq.ensures c.word.ensures refl)

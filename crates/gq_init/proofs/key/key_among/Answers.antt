@@ -1,8 +1,0 @@
-use Rattle.std.proofs.Common.{codes, sym, ◌∙◌}
-use Rattle.gq_init.specs.declared.key.Key.TheVariants.{Version}
-use Rattle.gq_init.proofs.Keyed.{key_found}
-use Rattle.gq_init.proofs.key.key_among.Goals as goal
-
-pub returns-then-is : goal.returns-then-is
-returns-then-is c =
-    key_found c.args.text.now (codes "?") c.args.keys.now c.loop-key.key-index Version c.loop-key-test.true (sym c.is.ensures ∙ c.if-is.true) c.loop-key.invariant

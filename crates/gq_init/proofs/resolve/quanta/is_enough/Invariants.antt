@@ -1,9 +1,0 @@
-use Rattle.std.proofs.Common.{◌≡◌, nat_le, drop}
-use Rattle.gq_model.specs.Resolve.{handed_out}
-use Rattle.gq_init.specs.Resolved.{resource_of}
-use Rattle.gq_init.specs.Trees.{nodes_of}
-use Rattle.gq_init.proofs.resolve.quanta.is_enough.Given as goal
-
-abbrev pub invariant-loop-node : goal.invariant-loop-node
-invariant-loop-node l =
-    nat_le (handed_out (resource_of l.resource) (nodes_of l.node-items)) l.quantum ≡ nat_le (handed_out (resource_of l.resource) (nodes_of (drop l.node-index l.node-items))) l.left

@@ -1,9 +1,0 @@
-use Rattle.std.proofs.Common.{◌≡◌, drop}
-use Rattle.toml.specs.View.{items_view}
-use Rattle.gq_model.specs.Lists.{all_of}
-use Rattle.gq_init.specs.Tables.{greatest_caps}
-use Rattle.gq_init.specs.Keys.{is_number, listed}
-use Rattle.gq_init.proofs.rules.are_caps.Given as goal
-
-abbrev pub invariant-loop-value : goal.invariant-loop-value
-invariant-loop-value l = all_of (is_number 0 greatest_caps) (listed (items_view (drop l.value-index l.values))) ≡ all_of (is_number 0 greatest_caps) (listed (items_view l.values))

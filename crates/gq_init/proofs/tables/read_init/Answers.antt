@@ -1,6 +1,0 @@
-use Rattle.toml.specs.View.{table_view}
-use Rattle.gq_init.proofs.Node_tables.{sound_init}
-use Rattle.gq_init.proofs.tables.read_init.Goals as goal
-
-pub read_quantum-quantum-requires : goal.read_quantum-quantum-requires
-read_quantum-quantum-requires c = (sound_init (table_view c.args.table.now) c.requires).quantum

@@ -1,9 +1,0 @@
--- Where routes lead, as code has it.
-use Rattle.gq_model.specs.Scenario as model
-use Rattle.gq_init.specs.declared.scenario.Target.{Target}
-use Rattle.gq_init.specs.declared.scenario.Target.TheVariants.{Child, AnyChild, Parent}
-
-abbrev pub target_of : Target → model.Target
-target_of (Child name) = model.Child name
-target_of AnyChild = model.Any_child
-target_of Parent = model.Parent

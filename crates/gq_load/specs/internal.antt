@@ -1,0 +1,4 @@
+pub mod Accepted
+pub mod Budgets
+pub mod Judged
+pub mod Leads

@@ -1,0 +1,27 @@
+-- Whose routes lead to whom, among leaves.
+use Rattle.std.specs.Prelude.{ℕ, suc, Bool, false, List, [], ◌∷◌, Option, Some, None}
+use Rattle.gq_model.specs.machine.Scenario.{Interfaces, Component}
+use Rattle.gq_model.specs.rules.Use.{is_there}
+use Rattle.gq_resolve.specs.Served.{server_among}
+use Rattle.gq_budget.specs.Leaves.{Leaf}
+use Rattle.gq_load.specs.internal.Judged.{judged_by}
+
+-- whether a component's route for a service leads to the x-th of all leaves; none does for no service
+abbrev pub leads_to : List Component → ℕ → Option (List ℕ) → Component → Bool
+leads_to all x None c = false
+leads_to all x (Some service) c = is_there x (server_among all c service)
+
+-- the same of these leaves
+abbrev pub leads_row : List Component → ℕ → Option (List ℕ) → List Component → List Bool
+leads_row all x provides [] = []
+leads_row all x provides (c ∷ rest) = leads_to all x provides c ∷ leads_row all x provides rest
+
+-- for each of these leaves, of which the first is the x-th, which of all leaves' routes for its service lead to it
+abbrev pub leads_rows : List Component → ℕ → List Component → List (List Bool)
+leads_rows all x [] = []
+leads_rows all x (c ∷ rest) = leads_row all x c.node.provides all ∷ leads_rows all (suc x) rest
+
+-- leaves as their steps are counted by
+abbrev pub counted_leaves : Interfaces → List Component → List Leaf
+counted_leaves interfaces [] = []
+counted_leaves interfaces (c ∷ rest) = record { subject = judged_by interfaces c; provides = c.node.provides } ∷ counted_leaves interfaces rest

@@ -1,0 +1,6 @@
+use Rattle.toml.specs.View.{table_view}
+use Rattle.gq_reader.proofs.Node_tables.{sound_init}
+use Rattle.gq_reader.proofs.tables.read_init.Goals as goal
+
+pub read_quantum-quantum-requires : goal.read_quantum-quantum-requires
+read_quantum-quantum-requires c = (sound_init (table_view c.args.table.now) c.requires).quantum

@@ -1,0 +1,182 @@
+// What tables without faults describe.
+ghost use Rattle.std.specs.Prelude.{◌≡◌, ◌≤◌, ◌+◌, ◌++◌, true, None, Some, length, option_map, codes, IfOk};
+ghost use Rattle.toml.specs.View.{view, table_view, items_view};
+ghost use Rattle.gq_model.specs.machine.Lists.{all_of};
+ghost use Rattle.gq_model.specs.texts.Operands.{greatest_number};
+ghost use Rattle.gq_scenario.specs.Given.{source_of};
+ghost use Rattle.gq_scenario.specs.Keys.{members_of, listed, is_number, is_quantity, number_of, quantity, table_fault};
+ghost use Rattle.gq_scenario.specs.Tables.{greatest_caps, interface_keys, route_keys};
+ghost use Rattle.gq_scenario.specs.Document.{text_at, number_at, quantity_at, amount_at, or_zero, target_in, routes_of, routes_at, upgrades_of, interface_of};
+ghost use Rattle.gq_scenario.specs.Document.{interfaces_of, source_in, leaf_of, init_of, nodes_by, node_onto, first_of, routes_fault, interfaces_fault};
+ghost use Rattle.gq_scenario.specs.Sizes.{IsQuantum};
+ghost use Rattle.gq_reader.specs.internal.Sound.{is_name_or_none, route_of, has_source, IsLeafTable, IsInitTable, IsNode, AreNodes};
+ghost use Rattle.gq_scenario.specs.Targets.{target_of};
+ghost use Rattle.gq_scenario.specs.Trees.{version_number, IsBefore};
+ghost use Rattle.gq_scenario.specs.Words.{key_text};
+
+use gq_model::program::Name;
+use gq_program::interface::{Interface, Upgrade};
+use gq_scenario::key::Key;
+use gq_scenario::scenario::{Init, Leaf, Node, Nodes, Quantum, Route, Target, Version};
+use gq_scenario::source::Source;
+use gq_tables::hexadecimal::unhex;
+use gq_tables::value::{
+    has, list_at, number_at, number_of, quantity, quantity_at, text_at, values_at,
+};
+use std::alloc::{AllocError, Global};
+use toml::{Table, Value};
+
+// The name at a key, where there is one.
+fn name_at(table: &Table, key: Key) -> Option<Name>
+    requires { is_name_or_none (text_at (key_text key) (table_view table.now)) ≡ true }
+    ensures { result ≡ text_at (key_text key) (table_view table.now) }
+{
+    match text_at(table, key) {
+        Some(text) => Name::new(text.as_bytes()),
+        None => None,
+    }
+}
+
+// What the table of a route leads to.
+fn read_target(table: &Table) -> Target
+    requires { table_fault route_keys (table_view table.now) ≡ None }
+    ensures { target_of result ≡ target_in (table_view table.now) }
+{
+    if has(table, Key::Parent) {
+        return Target::Parent;
+    }
+    if has(table, Key::AnyChild) {
+        return Target::AnyChild;
+    }
+    match name_at(table, Key::Child) {
+        Some(name) => Target::Child(name),
+        None => unreachable!(),
+    }
+}
+
+// The route of a table.
+fn read_route(table: &Table) -> Route
+    requires { table_fault route_keys (table_view table.now) ≡ None }
+    ensures { result ≡ route_of (table_view table.now) }
+{
+    Route::new(name_at(table, Key::Service), read_target(table))
+}
+
+// The routes of these tables.
+fn read_routes(alloc: Global, values: &[Value]) -> Result<Vec<Route>, AllocError>
+    requires { first_of (table_fault route_keys) (listed (items_view values.now)) ≡ None }
+    ensures { IfOk result (λ routes. routes.items ≡ routes_of (listed (items_view values.now))) }
+{
+    let mut routes = Vec::new(alloc);
+    for value in values {
+        let Some(table) = value.as_table() else {
+            unreachable!();
+        };
+        routes.push(read_route(table))?;
+    }
+    Ok(routes)
+}
+
+// The routes at a key, where they are told.
+pub(crate) fn read_routes_at(
+    alloc: Global,
+    key: Key,
+    table: &Table,
+) -> Result<Option<Vec<Route>>, AllocError>
+    requires { routes_fault (key_text key) (table_view table.now) ≡ None }
+    ensures { IfOk result (λ told. option_map (λ routes. routes.items) told ≡ routes_at (key_text key) (table_view table.now)) }
+{
+    match values_at(table, key) {
+        Some(values) => Ok(Some(read_routes(alloc, values)?)),
+        None => Ok(None),
+    }
+}
+
+// How the table of a leaf gives its program.
+pub(crate) fn read_source(alloc: Global, table: &Table) -> Result<Source, AllocError>
+    requires { has_source (table_view table.now) ≡ true }
+    ensures { IfOk result (λ s. source_of s ≡ source_in (table_view table.now)) }
+{
+    if let Some(text) = text_at(table, Key::Program) {
+        return Ok(Source::Text(Vec::from_slice(alloc, text.as_bytes())?));
+    }
+    let Some(code) = text_at(table, Key::Code) else {
+        unreachable!();
+    };
+    Ok(Source::Code(unhex(alloc, code.as_bytes())?))
+}
+
+// The quantum of a table: bytes at a key, and capabilities.
+pub(crate) fn read_quantum(key: Key, table: &Table) -> Quantum
+    requires { IsQuantum (quantity_at (key_text key) (table_view table.now)) (number_at (codes "caps") (table_view table.now)) }
+    ensures { result ≡ amount_at (key_text key) (codes "caps") (table_view table.now) }
+{
+    Quantum::new(quantity_at(table, key), number_at(table, Key::Caps) as u32)
+}
+
+// The leaf of a table.
+fn read_leaf(alloc: Global, table: &Table) -> Result<Leaf, AllocError>
+    requires { IsLeafTable (table_view table.now) }
+    ensures { IfOk result (λ leaf. leaf ≡ leaf_of (table_view table.now)) }
+{
+    let Some(name) = name_at(table, Key::Name) else {
+        unreachable!();
+    };
+    let quantum = read_quantum(Key::Quantum, table);
+    let source = read_source(alloc, table)?;
+    let routes = read_routes_at(alloc, Key::Route, table)?;
+    let provides = name_at(table, Key::Provides);
+    let after = name_at(table, Key::After);
+    Ok(Leaf::new(name, quantum, source, provides, after, routes))
+}
+
+// The init of a table, without what is below it.
+fn read_init(alloc: Global, table: &Table) -> Result<Init, AllocError>
+    requires { IsInitTable (table_view table.now) }
+    ensures { IfOk result (λ init. init ≡ init_of (table_view table.now)) }
+{
+    let Some(name) = name_at(table, Key::Name) else {
+        unreachable!();
+    };
+    let quantum = read_quantum(Key::Quantum, table);
+    let routes = read_routes_at(alloc, Key::Route, table)?;
+    let default_routes = read_routes_at(alloc, Key::DefaultRoute, table)?;
+    Ok(Init::new(name, quantum, routes, default_routes))
+}
+
+// The node of a table, with what is below it.
+#[cycle(nodes)]
+fn read_node(alloc: Global, levels: usize, table: &Table) -> Result<Node, AllocError>
+    requires { IsNode levels (table_view table.now) }
+    ensures { IfOk result (λ node. IsBefore node (node_onto levels (table_view table.now))) }
+{
+    if levels == 0 {
+        unreachable!();
+    }
+    if !has(table, Key::Start) {
+        return Ok(Node::Leaf(read_leaf(alloc, table)?));
+    }
+    let init = read_init(alloc, table)?;
+    let children = read_nodes(alloc, levels - 1, list_at(table, Key::Start))?;
+    Ok(Node::Init(init, children))
+}
+
+// The nodes of these tables.
+#[cycle(nodes)]
+pub(crate) fn read_nodes(
+    alloc: Global,
+    levels: usize,
+    values: &[Value],
+) -> Result<Nodes, AllocError>
+    requires { AreNodes levels (listed (items_view values.now)) }
+    ensures { IfOk result (λ nodes. nodes ≡ nodes_by (node_onto levels) (listed (items_view values.now))) }
+{
+    let mut nodes = Vec::new(alloc);
+    for value in values {
+        let Some(table) = value.as_table() else {
+            unreachable!();
+        };
+        nodes.push(read_node(alloc, levels, table)?)?;
+    }
+    Ok(Nodes::new(nodes))
+}

@@ -1,0 +1,5 @@
+pub mod Resolved
+pub mod Routing
+pub mod Reaching
+pub mod Served
+pub mod internal

@@ -1,0 +1,21 @@
+//! Scenarios resolved: quanta that fit, leaves that start after others, and which leaf serves each service.
+//!
+//! ```rust
+//! use gq_resolve::resolve;
+//!
+//! // A scenario from `gq_reader`, and the program of each leaf, in preorder.
+//! let routes = resolve(alloc, &scenario, programs.as_slice())?;
+//! ```
+#![tactic(auto)]
+
+pub mod after;
+pub mod component;
+pub mod cycle;
+pub mod fault;
+pub mod quanta;
+pub mod resolved;
+pub mod routes;
+pub mod routing;
+mod services;
+
+pub use resolved::{resolve, resolve_components};

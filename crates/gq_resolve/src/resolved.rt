@@ -1,0 +1,80 @@
+// Scenarios that are resolved.
+ghost use Rattle.std.specs.Prelude.{◌≡◌, IfOk, map};
+ghost use Rattle.gq_model.specs.machine.Scenario as model;
+ghost use Rattle.gq_model.specs.machine.Scenario.{System, components};
+ghost use Rattle.gq_model.specs.rules.Resolve.{cycle_fault, unresolved};
+ghost use Rattle.gq_resolve.specs.Resolved.{Finds};
+ghost use Rattle.gq_resolve.specs.Served.{leaf_routes, routes_of, AreServers};
+
+use crate::after::check_after;
+use crate::component::{Component, components};
+use crate::cycle::first_on_cycle;
+use crate::fault::{ResolveError, ResolveFault};
+use crate::quanta::check_quanta;
+use crate::routes::{Routes, all_routes};
+use gq_program::program::Program;
+use gq_scenario::scenario::Scenario;
+use gq_scenario::tree::copied;
+use std::alloc::Global;
+
+// Refuses the first leaf that reaches itself by the servers of the services that are opened.
+fn check_cycle(
+    alloc: Global,
+    components: &[Component<'_>],
+    routes: &Routes,
+) -> Result<(), ResolveError>
+    requires { routes.now ≡ map (leaf_routes components.now) components.now }
+    ensures { (system : System) → system.components ≡ components.now → Finds result (cycle_fault system 0 components.now) }
+{
+    let used = routes.numbers(alloc)?;
+    match first_on_cycle(alloc, used.as_slice())? {
+        Some(place) => {
+            let name = copied(components[place].leaf().name());
+            Err(ResolveError::Fault(ResolveFault::Cycle(name)))
+        }
+        None => Ok(()),
+    }
+}
+
+/// Which leaf serves each service that a leaf of a scenario opens; each such service has one. The programs are those of its
+/// leaves, in preorder.
+///
+/// Refused where memory runs out, and by the first fault of the scenario, in this order: an init that hands out more bytes
+/// than it has, `QuantaExceed`, or more capabilities, `CapsExceed`; a leaf that may not start after the one that it names,
+/// `BadAfter`; the first leaf in preorder with a service that leads nowhere, its first in the order of its text, `NoRoute`,
+/// `Ambiguous` or `ProvidesDiffers`; and the first leaf that reaches itself by the servers of the services that are
+/// opened, `Cycle`.
+pub fn resolve(
+    alloc: Global,
+    scenario: &Scenario,
+    programs: &[Program],
+) -> Result<Routes, ResolveError>
+    requires { programs.now ≡ map (λ c. c.node.program) (components scenario.now) }
+    ensures routes { IfOk result (λ routes. routes ≡ routes_of scenario.now) }
+    ensures servers { IfOk result (λ routes. AreServers scenario.now routes) }
+    ensures fault { Finds result (unresolved scenario.now) }
+{
+    let components = components(alloc, scenario)?;
+    resolve_components(alloc, scenario, components.as_slice(), programs)
+}
+
+/// The same where the scenario's components are at hand.
+pub fn resolve_components(
+    alloc: Global,
+    scenario: &Scenario,
+    components: &[Component<'_>],
+    programs: &[Program],
+) -> Result<Routes, ResolveError>
+    requires all { components.now ≡ model.components scenario.now }
+    requires programs { programs.now ≡ map (λ c. c.node.program) components.now }
+    ensures routes { IfOk result (λ routes. routes ≡ routes_of scenario.now) }
+    ensures servers { IfOk result (λ routes. AreServers scenario.now routes) }
+    ensures fault { Finds result (unresolved scenario.now) }
+{
+    check_quanta(scenario)?;
+    check_after(components)?;
+    let _count = scenario.leaf_count();
+    let routes = all_routes(alloc, components, programs)?;
+    check_cycle(alloc, components, &routes)?;
+    Ok(routes)
+}

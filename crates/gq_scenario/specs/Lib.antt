@@ -1,0 +1,12 @@
+pub mod Keys
+pub mod Tables
+pub mod Document
+pub mod Reading
+pub mod Given
+pub mod Lines
+pub mod Words
+pub mod Sizes
+pub mod Targets
+pub mod Trees
+pub mod Made
+pub mod internal

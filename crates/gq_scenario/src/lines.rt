@@ -1,0 +1,50 @@
+// Lines of a text, and pieces of a line.
+ghost use Rattle.std.specs.Prelude.{◌≡◌, ◌==◌, ◌<◌, ◌∷◌, length, option_map, IfSome};
+ghost use Rattle.gq_model.specs.texts.Letters.{pieces, lines, without_return};
+ghost use Rattle.gq_model.specs.machine.Program.{text_eq};
+ghost use Rattle.gq_scenario.specs.Lines.{pieces_left, lines_left};
+
+/// Whether two texts have the same bytes.
+pub fn same_bytes(a: &[u8], b: &[u8]) -> bool
+    ensures { result ≡ text_eq a.now b.now }
+{
+    a == b
+}
+
+/// What stands before the first separator, and what follows it. With no separator the text is the last piece.
+pub fn next_piece(text: &[u8], separator: u8) -> (&[u8], Option<&[u8]>)
+    ensures piece { pieces (λ c. c == separator) text.now ≡ result.0.now ∷ pieces_left separator (option_map (λ rest. rest.now) result.1) }
+    ensures shorter { IfSome result.1 (λ rest. length rest.now < length text.now) }
+{
+    for (place, byte) in text.iter().enumerate() {
+        if *byte == separator {
+            return (&text[..place], Some(&text[place + 1..]));
+        }
+    }
+    (text, None)
+}
+
+// A line without a carriage return at its end.
+fn without_return(line: &[u8]) -> &[u8]
+    ensures { result.now ≡ without_return line.now }
+{
+    let length = line.len();
+    if length > 0 && line[length - 1] == b'\r' {
+        &line[..length - 1]
+    } else {
+        line
+    }
+}
+
+/// The first line of a text, and what follows its line feed. What has no line feed at its end is the last line.
+pub fn next_line(text: &[u8]) -> (&[u8], Option<&[u8]>)
+    ensures line { lines text.now ≡ result.0.now ∷ lines_left (option_map (λ rest. rest.now) result.1) }
+    ensures shorter { IfSome result.1 (λ rest. length rest.now < length text.now) }
+{
+    let (line, rest) = next_piece(text, b'\n');
+    if rest.is_some() {
+        (without_return(line), rest)
+    } else {
+        (line, rest)
+    }
+}

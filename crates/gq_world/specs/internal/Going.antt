@@ -1,0 +1,36 @@
+-- What turns do to a world, and what they write.
+use Rattle.std.specs.Prelude.{◌≡◌, ◌<◌, ℕ, false, List, [], ◌∷◌, ◌++◌, Option, None}
+use Rattle.std.specs.Io.KnownBytes.{Appends}
+use Rattle.gq_model.specs.machine.World as model
+use Rattle.gq_model.specs.machine.Run.{Ran}
+use Rattle.gq_world.specs.Worlds.{World}
+
+-- a run of which no step was wrong
+abbrev pub going : model.World → List ℕ → Ran
+going w text = record { world = w; text = text; wrong = None }
+
+-- the turns were taken, and what they write was written
+pub record HasRun (turns : Ran → Ran) (old new : World) (before after : Option (List ℕ)) : Type 0 where
+  pub text : List ℕ
+  pub written : Appends before after text
+  pub ran : (front : List ℕ) → turns (going old.world front) ≡ going new.world (front ++ text)
+  pub running : new.stopped ≡ false
+
+-- what is left of the turns, from here, does what all of them do from the old world
+pub record HasLeft (left all : Ran → Ran) (old new : World) (before after : Option (List ℕ)) : Type 0 where
+  pub text : List ℕ
+  pub written : Appends before after text
+  pub same : (front : List ℕ) → left (going new.world (front ++ text)) ≡ all (going old.world front)
+  pub running : new.stopped ≡ false
+
+-- a front of what the turns write was written
+pub record IsCut (turns : Ran → Ran) (old : World) (before after : Option (List ℕ)) : Type 0 where
+  pub text : List ℕ
+  pub more : List ℕ → List ℕ
+  pub written : Appends before after text
+  pub front : (front : List ℕ) → (turns (going old.world front)).text ≡ front ++ text ++ more front
+
+-- each turn is of a leaf below this number
+abbrev pub AreBelow : ℕ → List (ℕ × ℕ) → Type 0
+AreBelow n [] = Unit {0}
+AreBelow n (t ∷ turns) = (t.0 < n) × AreBelow n turns
