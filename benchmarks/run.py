@@ -184,11 +184,13 @@ def budgets(trade):
 
 
 def words(benchmark):
-    """Numbers in a dataspace and in a `Vec`."""
+    """Numbers and bytes that are cleared, in dataspaces; and numbers in a `Vec`."""
     took = medians([benchmark, "words", 20])
-    table("Four bytes of 1 MiB", "Dataspace", "`Vec<u8>`")
+    table("Of 1 MiB", "Frames in a row", "Frames apart", "`Vec<u8>`")
     for name in ["store4 in sequence", "load4 in sequence", "store4 at random", "load4 at random"]:
-        row(name, f"{took['dataspace ' + name]:.1f} ns", f"{took['Vec ' + name]:.1f} ns")
+        row(name, *(f"{took[f'{where} {name}']:.1f} ns" for where in ["dataspace", "scattered", "Vec"]))
+    name = "clear of 2048 bytes"
+    row(name, *(f"{took[f'{where} {name}']:.0f} ns" for where in ["dataspace", "scattered"]), "")
 
 
 def frames(benchmark):

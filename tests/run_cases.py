@@ -10,17 +10,28 @@ A case is a folder, named by what it shows. It has
                   a comment in its last line is made of.
 An example is a file NAME.toml in examples/ with NAME.turns, the turns, and NAME.out, what its run writes.
 
-Names after PROGRAM are those of the cases to run; without any, all are run. The last line is 'N passed, M failed', and
-the exit status is 1 where a case failed.
+A table is a file in tests/tables: many small cases of one frame. Its key `case` has them, and each says
+  line            the line on standard error, after `trade: `, of a case that is refused; without it the case passes,
+  out             what is written to standard output, where it passes,
+  status          where it is neither 0 for what passes nor 1 for what is refused.
+`command`, `scenario` and `turns` are as above, in a case or in the table for all cases; `words` are the words of a command
+line as they are. In all of them `<name>` stands for what the case, or else the table, has under this name; [N, TEXT] there
+is N times the text.
+
+Names after PROGRAM are those of the cases or tables to run; without any, all are run. The last line is 'N passed, M failed',
+and the exit status is 1 where a case failed.
 """
 import pathlib
 import subprocess
 import sys
 import tempfile
+import tomllib
 
 TOP = pathlib.Path(__file__).resolve().parent.parent
 CASES = TOP / "tests" / "cases"
+TABLES = TOP / "tests" / "tables"
 EXAMPLES = TOP / "examples"
+DEEPEST = 4
 SECONDS = 120
 
 
@@ -36,18 +47,40 @@ def scenario_of(folder):
 
 
 def result_of(program, command, scenario, turns):
-    """What a run writes to both streams, and its exit status."""
+    """What a run writes to both streams, and its exit status. A command that is a list has the words as they are."""
     with tempfile.TemporaryDirectory() as room:
         paths = [pathlib.Path(room, name) for name in ("scenario.toml", "turns")]
         for path, text in zip(paths, (scenario, turns)):
             path.write_bytes(text)
-        name, *more = command.split(" ")
-        files = paths if name == "run" else paths[:1]
-        words, given = [name, *map(str, files), *more], b""
+        words, given = command, b""
         if command == "stored":
             words, given = [], scenario + (b"%%\n" + turns if turns else b"")
+        elif isinstance(command, str):
+            name, *more = command.split(" ")
+            files = paths if name == "run" else paths[:1]
+            words = [name, *map(str, files), *more]
         ran = subprocess.run([program, *words], input=given, capture_output=True, timeout=SECONDS)
     return ran.stdout, ran.stderr, ran.returncode
+
+
+def filled(text, words):
+    """A text with what stands in it for a name replaced by what the name has."""
+    for _ in range(DEEPEST):
+        for name, value in words.items():
+            if isinstance(value, str):
+                text = text.replace(f"<{name}>", value)
+    return text
+
+
+def tabled(table):
+    """The command, the scenario, the turns and the wanted result of each case of a table."""
+    for case in table["case"]:
+        words = {**table, **case}
+        words |= {name: value[1] * value[0] for name, value in words.items() if name not in ("case", "words") and isinstance(value, list)}
+        scenario, turns, out = (filled(words.get(key, ""), words).encode() for key in ("scenario", "turns", "out"))
+        line = b"trade: " + words["line"].encode() + b"\n" if "line" in words else b""
+        command = words["words"] if "words" in words else words["command"]
+        yield command, scenario, turns, (out, line, words.get("status", 1 if line else 0))
 
 
 def cases():
@@ -56,6 +89,9 @@ def cases():
         wanted = optional(folder / "stdout"), optional(folder / "stderr"), int(optional(folder / "status"))
         command = (folder / "command").read_text().strip()
         yield folder.name, command, scenario_of(folder), optional(folder / "turns"), wanted
+    for path in sorted(TABLES.glob("*.toml")):
+        for number, case in enumerate(tabled(tomllib.loads(path.read_text())), 1):
+            yield f"{path.stem} {number}", *case
     for scenario in sorted(EXAMPLES.glob("*.toml")):
         wanted = scenario.with_suffix(".out").read_bytes(), b"", 0
         turns = scenario.with_suffix(".turns").read_bytes()
@@ -72,7 +108,7 @@ def main(words):
     program, names = str(pathlib.Path(words[0]).resolve()), words[1:]
     passed = failed = 0
     for name, command, scenario, turns, wanted in cases():
-        if names and name not in names:
+        if names and name not in names and name.split(" ")[0] not in names:
             continue
         try:
             got = result_of(program, command, scenario, turns)

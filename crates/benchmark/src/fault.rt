@@ -1,7 +1,7 @@
 // Why nothing was measured.
 use gq_asm::AssembleError;
 use gq_code::decode::DecodeError;
-use gq_init::fault::ScenarioError;
+use gq_scenario::fault::ScenarioError;
 use gq_store::GrowFault;
 use gq_verify::Fault as Broken;
 use std::alloc::AllocError;

@@ -27,7 +27,8 @@ struct Phases {
 }
 
 /// Measures blocks of `size` bytes, 1 to 2048, so many times over: as many as the store has room for, but for one; the same freed, last to first; the same
-/// once more; and one beside all of these, made and freed over and over. Gives how many blocks there were in a round.
+/// once more; one beside all of these, made and freed over and over; and one of 2048 bytes, whose place is cleared each time. Gives how many blocks
+/// there were in a round.
 pub fn measured(rt: &HostRuntime, times: u32, size: u32) -> Result<usize, Fault> {
     if size == 0 || size > 2048 {
         return Err(Fault::Usage);
@@ -53,6 +54,7 @@ pub fn measured(rt: &HostRuntime, times: u32, size: u32) -> Result<usize, Fault>
         times,
         "heap alloc and free, all others in use",
     )?;
+    pairs(rt, 2048, 0, times, "heap alloc and free of 2048 bytes")?;
     Ok(count as usize)
 }
 

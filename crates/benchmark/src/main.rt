@@ -3,7 +3,8 @@
 //! `benchmark WORK TIMES` or `benchmark WORK TIMES SIZE`, where WORK is one of
 //! - `assemble`, `decode`, `encode`, `verify`, `read`: of a program's text, of its code, of the program of a text (the latter two, `verify` with 64
 //!   interfaces), of a scenario; what it is of is read from standard input;
-//! - `words`: numbers in a dataspace of 1 MiB, in sequence and at random, beside a `Vec`;
+//! - `words`: numbers in a dataspace of 1 MiB, in sequence and at random, and 2048 bytes of it that are cleared; the same where no frame follows the one
+//!   before; and the numbers in a `Vec`;
 //! - `frames`: frames that are taken and given back, and what is made for 64 MiB;
 //! - `heap` and `list`: blocks of SIZE bytes of the heap, and of the kit's heap with a list of holes;
 //! - `slices` and `pool`: slices of SIZE bytes, and the entries of a pool.

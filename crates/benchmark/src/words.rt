@@ -1,11 +1,12 @@
-// Numbers of four bytes in a dataspace of 1 MiB, and in a `Vec` of that length.
+// Numbers of four bytes in a dataspace of 1 MiB and in a `Vec` of that length, and blocks of the dataspace that are cleared.
 ghost use Rattle.std.specs.Prelude.{◌≡◌, ◌+◌, ◌<◌, ◌≤◌, IfOk, length};
 ghost use Rattle.gq_dataspace.specs.Dataspaces.{content_of};
+ghost use Rattle.gq_ram.specs.Entries.{IsOpen};
 
 use crate::fault::Fault;
-use crate::timing::tell;
+use crate::timing::{since, tell, tell_all};
 use gq_dataspace::DsId;
-use gq_ram::Accounts;
+use gq_ram::{AccountNo, Accounts};
 use std::alloc::{AllocError, Global};
 use std::time::Instant;
 
@@ -14,40 +15,75 @@ const SIZE: u64 = 1048576;
 
 const WORDS: u32 = 262144;
 
-/// Measures numbers that are written and read, each as often as there are numbers, so many times over. Gives a sum of what was read.
+// The bytes that are cleared at a time, and how often all of it has as many.
+const BLOCK: u32 = 2048;
+
+const BLOCKS: u32 = 512;
+
+/// Measures numbers that are written and read, each as often as there are numbers, and blocks of bytes that are cleared, so many times over: in a dataspace
+/// whose frames follow one another, in one where none follows the one before, and in a `Vec`. Gives a sum of what was read.
 pub fn measured(rt: &HostRuntime, times: u32) -> Result<usize, Fault> {
-    let in_accounts = in_a_dataspace(rt, times)?;
+    let (mut accounts, ds) = with_dataspace(rt)?;
+    let in_row = in_a_dataspace(rt, &mut accounts, ds, times, "dataspace")?;
+    let (mut accounts, ds) = with_scattered(rt)?;
+    let scattered = in_a_dataspace(rt, &mut accounts, ds, times, "scattered")?;
     let in_vec = in_a_vec(rt, times)?;
-    Ok((in_accounts ^ in_vec) as usize)
+    Ok((in_row ^ scattered ^ in_vec) as usize)
 }
 
-// In a dataspace that an account pays for.
-fn in_a_dataspace(rt: &HostRuntime, times: u32) -> Result<u32, Fault> {
-    let (mut accounts, ds) = with_dataspace(rt)?;
-    let operations = u64::from(times) * u64::from(WORDS);
+// In a dataspace that an account pays for, whose frames lie so.
+fn in_a_dataspace(
+    rt: &HostRuntime,
+    accounts: &mut Accounts,
+    ds: DsId,
+    times: u32,
+    frames: &str,
+) -> Result<u32, Fault>
+    requires { length (content_of accounts.old.spaces.spaces ds.0) ≡ 1048576 }
+{
+    let words = u64::from(times) * u64::from(WORDS);
     let start = Instant::now(rt)?;
     for round in 0..times {
-        store_all(&mut accounts, ds, round);
+        store_all(accounts, ds, round);
     }
-    tell(rt, "dataspace store4 in sequence", operations, start)?;
+    tell_of(rt, frames, "store4 in sequence", words, start)?;
     let start = Instant::now(rt)?;
     let mut sum = 0;
     for _ in 0..times {
-        sum = load_all(&accounts, ds, sum);
+        sum = load_all(accounts, ds, sum);
     }
-    tell(rt, "dataspace load4 in sequence", operations, start)?;
+    tell_of(rt, frames, "load4 in sequence", words, start)?;
     let start = Instant::now(rt)?;
     let mut state = 1;
     for _ in 0..times {
-        state = store_anywhere(&mut accounts, ds, state);
+        state = store_anywhere(accounts, ds, state);
     }
-    tell(rt, "dataspace store4 at random", operations, start)?;
+    tell_of(rt, frames, "store4 at random", words, start)?;
     let start = Instant::now(rt)?;
     for _ in 0..times {
-        sum = load_anywhere(&accounts, ds, sum);
+        sum = load_anywhere(accounts, ds, sum);
     }
-    tell(rt, "dataspace load4 at random", operations, start)?;
+    tell_of(rt, frames, "load4 at random", words, start)?;
+    let blocks = u64::from(times) * u64::from(BLOCKS);
+    let start = Instant::now(rt)?;
+    for _ in 0..times {
+        clear_all(accounts, ds);
+    }
+    tell_of(rt, frames, "clear of 2048 bytes", blocks, start)?;
     Ok(sum)
+}
+
+// Tells how long it took to do a thing so often, in a dataspace whose frames lie so.
+fn tell_of(
+    rt: &HostRuntime,
+    frames: &str,
+    what: &str,
+    times: u64,
+    start: Instant,
+) -> Result<(), Fault> {
+    let nanoseconds = since(rt, start)?;
+    let name = format!(in rt.alloc(); "{frames} {what}")?;
+    tell_all(rt, name.as_str(), times, nanoseconds)
 }
 
 // Accounts for two such dataspaces, of which the root account has one.
@@ -60,6 +96,49 @@ fn with_dataspace(rt: &HostRuntime) -> Result<(Accounts, DsId), Fault>
         Ok(ds) => Ok((accounts, ds)),
         Err(_) => Err(Fault::Account),
     }
+}
+
+// Accounts for one such dataspace, which the root account has once another account had each frame and gave it back: the last of them first.
+fn with_scattered(rt: &HostRuntime) -> Result<(Accounts, DsId), Fault>
+    ensures { IfOk result (λ x. length (content_of x.0.spaces.spaces x.1.0) ≡ 1048576) }
+{
+    let mut accounts = Accounts::new(rt.alloc(), SIZE, None)?;
+    let root = accounts.root();
+    let member = accounts.add(root)?;
+    open_and_close(&mut accounts, member);
+    let root = accounts.root();
+    match accounts.alloc(root, SIZE) {
+        Ok(ds) => Ok((accounts, ds)),
+        Err(_) => Err(Fault::Account),
+    }
+}
+
+// An account gets all quota, takes each frame by itself, and is closed.
+fn open_and_close(accounts: &mut Accounts, member: AccountNo)
+    requires { IsOpen accounts.old.accounts member.0 }
+{
+    endow(accounts, member);
+    for _page in 0..256 {
+        take_page(accounts, member);
+    }
+    let _closed = accounts.close(member);
+}
+
+// Moves the quota for all of it from the root account.
+fn endow(accounts: &mut Accounts, member: AccountNo)
+    requires { IsOpen accounts.old.accounts member.0 }
+    ensures { IsOpen accounts.new.accounts member.0 }
+{
+    let root = accounts.root();
+    let _moved = accounts.transfer(root, member, SIZE);
+}
+
+// The account makes a dataspace of one page.
+fn take_page(accounts: &mut Accounts, member: AccountNo)
+    requires { IsOpen accounts.old.accounts member.0 }
+    ensures { IsOpen accounts.new.accounts member.0 }
+{
+    let _page = accounts.alloc(member, 4096);
 }
 
 // Writes each number, first to last.
@@ -107,6 +186,16 @@ fn load_anywhere(accounts: &Accounts, ds: DsId, sum: u32) -> u32
         sum = sum.wrapping_add(accounts.load4(ds, 4 * place(state)));
     }
     sum
+}
+
+// Clears a dataspace, 2048 bytes at a time.
+fn clear_all(accounts: &mut Accounts, ds: DsId)
+    requires { length (content_of accounts.old.spaces.spaces ds.0) ≡ 1048576 }
+    ensures { length (content_of accounts.new.spaces.spaces ds.0) ≡ 1048576 }
+{
+    for block in 0..BLOCKS {
+        accounts.clear(ds, BLOCK * block, BLOCK);
+    }
 }
 
 // The next state of a linear congruential generator.

@@ -7,3 +7,6 @@ invariant-loop-round l = length (content_of l.accounts.spaces.spaces l.ds.0) ≡
 
 abbrev pub invariant-loop-2 : goal.invariant-loop-2
 invariant-loop-2 l = length (content_of l.accounts.spaces.spaces l.ds.0) ≡ 1048576
+
+abbrev pub invariant-loop-4 : goal.invariant-loop-4
+invariant-loop-4 l = length (content_of l.accounts.spaces.spaces l.ds.0) ≡ 1048576

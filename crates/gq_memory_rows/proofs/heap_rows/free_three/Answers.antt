@@ -1,0 +1,17 @@
+use Rattle.std.proofs.Common.{[], ◌∷◌, refl}
+use Rattle.gq_heap.proofs.Callers.{one_in_use, fewer_in_use}
+use Rattle.gq_memory_rows.proofs.heap_rows.free_three.Goals as goal
+
+pub free-requires : goal.free-requires
+free-requires g c = one_in_use _ _ _ _ _ c.requires ([], c.args.b ∷ c.args.c ∷ [], refl, refl)
+
+pub free-requires-2 : goal.free-requires-2
+free-requires-2 g c =
+    let two = fewer_in_use _ _ _ _ _ _ _ c.requires ([], c.args.b ∷ c.args.c ∷ [], refl, refl) c.free.ensures.frees in
+    one_in_use _ _ _ _ _ two ([], c.args.c ∷ [], refl, refl)
+
+pub free-requires-3 : goal.free-requires-3
+free-requires-3 g c =
+    let two = fewer_in_use _ _ _ _ _ _ _ c.requires ([], c.args.b ∷ c.args.c ∷ [], refl, refl) c.free.ensures.frees in
+    let one = fewer_in_use _ _ _ _ _ _ _ two ([], c.args.c ∷ [], refl, refl) c.free-2.ensures.frees in
+    one_in_use _ _ _ _ _ one ([], [], refl, refl)

@@ -1,0 +1,202 @@
+// Runs as the command line asks for them, of readers and writers that fail.
+use gq_cli::command::Command;
+use gq_cli::execute::execute;
+use gq_cli::status::Status;
+use gq_model::limits::GREATEST_INPUT;
+use gq_world::Counted;
+use std::alloc::Global;
+use std::io;
+use std::io::{Cursor, Read, Write};
+use std::test::Fail;
+
+const HELLO: &[u8] =
+    b"version = 1\nram = \"64K\"\n[[start]]\nname = \"hello\"\nquantum = \"4K\"\nprogram = '''\nmain\nsay \"hello\"\nend\n'''\n";
+
+const HELLO_STORED: &[u8] =
+    b"version = 1\nram = \"64K\"\n[[start]]\nname = \"hello\"\nquantum = \"4K\"\nprogram = '''\nmain\nsay \"hello\"\nend\n'''\n%%\nhello 2\n";
+
+const HELLO_RUN: &str =
+    "[init -> hello] hello\naccount init quota 65536\naccount init -> hello quota 0 used 0 steps 2/2 exited\n";
+
+/// Counts the bytes asked of it, and never ends; fails at once where it is to.
+#[derive(Drop)]
+struct Endless {
+    given: usize,
+    fails: bool,
+}
+
+impl Read for Endless {
+    fn read(&mut self, buf: &mut [u8]) -> io::Result<usize> {
+        if self.fails {
+            return Err(io::Error::from(io::ErrorKind::Interrupted));
+        }
+        buf.fill(b'#');
+        self.given = self.given.saturating_add(buf.len());
+        Ok(buf.len())
+    }
+}
+
+/// Takes a byte at a time, so many of them, and then fails.
+#[derive(Drop)]
+struct Narrow<'a> {
+    taken: &'a mut Vec<u8>,
+    room: usize,
+}
+
+impl Write for Narrow<'_> {
+    fn write(&mut self, buf: &[u8]) -> io::Result<usize> {
+        if self.room == 0 {
+            return Err(io::Error::from(io::ErrorKind::Other));
+        }
+        match buf.first() {
+            Some(byte) => {
+                self.taken.push(*byte)?;
+                self.room -= 1;
+                Ok(1)
+            }
+            None => Ok(0),
+        }
+    }
+
+    fn flush(&mut self) -> io::Result<()> {
+        Ok(())
+    }
+}
+
+/// What a command wrote to both streams, and its status.
+#[derive(Drop)]
+struct Outcome {
+    status: Status,
+    out: Vec<u8>,
+    err: Vec<u8>,
+}
+
+impl Outcome {
+    fn is(&self, status: Status, out: &str, err: &str) -> bool {
+        self.status == status
+            && self.out.as_slice() == out.as_bytes()
+            && self.err.as_slice() == err.as_bytes()
+    }
+}
+
+fn ended<R: Read, T: Read>(
+    alloc: Global,
+    command: &Command,
+    scenario: &mut R,
+    turns: &mut T,
+) -> Outcome {
+    let mut out = Vec::new(alloc);
+    let mut err = Vec::new(alloc);
+    let status = execute(
+        alloc,
+        command,
+        scenario,
+        turns,
+        &mut Counted::new(Cursor::new(&mut out)),
+        &mut Counted::new(Cursor::new(&mut err)),
+    );
+    Outcome { status, out, err }
+}
+
+fn run_command(alloc: Global) -> Result<Command, Fail> {
+    let scenario = String::from_str(alloc, "a.toml")?;
+    let turns = String::from_str(alloc, "a.turns")?;
+    Ok(Command::Run(scenario, turns))
+}
+
+#[test]
+fn a_failed_read_is_a_file_fault_with_nothing_written(rt: HostRuntime) -> Result<(), Fail> {
+    let alloc = rt.alloc();
+    let command = run_command(alloc)?;
+    for fails in [true, false] {
+        let mut first = Endless { given: 0, fails };
+        let mut turns = b"hello 2\n".as_slice();
+        let run = ended(alloc, &command, &mut first, &mut turns);
+        assert!(rt; run.is(Status::FileFault, "", "trade: file fault\n"));
+        let mut scenario = HELLO;
+        let mut second = Endless { given: 0, fails };
+        let run = ended(alloc, &command, &mut scenario, &mut second);
+        assert!(rt; run.is(Status::FileFault, "", "trade: file fault\n"));
+        let most = if fails { 0 } else { GREATEST_INPUT + 1 };
+        assert!(rt; first.given == most && second.given == most);
+    }
+    Ok(())
+}
+
+#[test]
+fn a_failed_write_leaves_a_front_of_the_text(rt: HostRuntime) -> Result<(), Fail> {
+    let alloc = rt.alloc();
+    let command = run_command(alloc)?;
+    for room in [0, 1, 10, 22, 47, 100, 101] {
+        let mut taken = Vec::new(alloc);
+        let mut err = Vec::new(alloc);
+        let mut out = Counted::new(Narrow {
+            taken: &mut taken,
+            room,
+        });
+        let mut scenario = HELLO;
+        let status = execute(
+            alloc,
+            &command,
+            &mut scenario,
+            &mut b"hello 2\n".as_slice(),
+            &mut out,
+            &mut Counted::new(Cursor::new(&mut err)),
+        );
+        let failures = out.failures();
+        drop(out);
+        assert!(rt; taken.as_slice() == &HELLO_RUN.as_bytes()[..room.min(HELLO_RUN.len())]);
+        if room < HELLO_RUN.len() {
+            assert!(rt; status == Status::FileFault && failures == 1);
+            assert!(rt; err.as_slice() == b"trade: file fault\n".as_slice());
+        } else {
+            assert!(rt; status == Status::Done && failures == 0 && err.is_empty());
+        }
+    }
+    Ok(())
+}
+
+#[test]
+fn a_line_that_can_not_be_told_changes_no_status(rt: HostRuntime) -> Result<(), Fail> {
+    let alloc = rt.alloc();
+    let mut page = [0; 9];
+    let mut out = Vec::new(alloc);
+    let mut scenario = HELLO;
+    let status = execute(
+        alloc,
+        &run_command(alloc)?,
+        &mut scenario,
+        &mut b"init 1\n".as_slice(),
+        &mut Counted::new(Cursor::new(&mut out)),
+        &mut Counted::new(page.as_mut_slice()),
+    );
+    assert!(rt; status == Status::Refused && out.is_empty());
+    assert!(rt; page == *b"trade: U2");
+    Ok(())
+}
+
+#[test]
+fn shows_help_and_reads_nothing(rt: HostRuntime) -> Result<(), Fail> {
+    let alloc = rt.alloc();
+    let mut scenario = Endless {
+        given: 0,
+        fails: false,
+    };
+    let help = Command::Help(String::from_str(alloc, "Usage: trade\n")?);
+    let shown = ended(alloc, &help, &mut scenario, &mut io::empty());
+    assert!(rt; shown.is(Status::Done, "Usage: trade\n", ""));
+    assert!(rt; scenario.given == 0);
+    Ok(())
+}
+
+#[test]
+fn reads_one_stream_of_the_stored_form(rt: HostRuntime) {
+    let mut turns = Endless {
+        given: 0,
+        fails: false,
+    };
+    let mut stored = HELLO_STORED;
+    let run = ended(rt.alloc(), &Command::Stored, &mut stored, &mut turns);
+    assert!(rt; run.is(Status::Done, HELLO_RUN, ""));
+    assert!(rt; turns.given == 0);
+}

@@ -1,0 +1,20 @@
+//! Tests over public surfaces of what the program's cases cannot show: programs as trees, code, worlds turn by turn,
+//! and readers and writers that fail.
+#![tactic(auto)]
+
+#[cfg(test)]
+mod code;
+#[cfg(test)]
+mod execute;
+#[cfg(test)]
+mod interfaces;
+#[cfg(test)]
+mod load;
+#[cfg(test)]
+mod programs;
+#[cfg(test)]
+mod reading;
+#[cfg(test)]
+mod text;
+#[cfg(test)]
+mod world;

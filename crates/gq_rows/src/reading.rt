@@ -1,0 +1,85 @@
+// What a reader gives, a byte at a time or for ever, and what it is parted into.
+use gq_cli::input::{InputError, read_input};
+use gq_cli::status::Status;
+use gq_cli::stored::parted;
+use gq_model::limits::GREATEST_INPUT;
+use std::io;
+use std::io::Read;
+use std::test::Fail;
+
+/// Gives the same byte, so many at a time, and so often before it ends or fails.
+#[derive(Drop)]
+struct Giver {
+    byte: u8,
+    at_once: usize,
+    left: usize,
+    fails: bool,
+}
+
+impl Read for Giver {
+    fn read(&mut self, buf: &mut [u8]) -> io::Result<usize> {
+        if self.left == 0 {
+            if self.fails {
+                return Err(io::Error::from(io::ErrorKind::Interrupted));
+            }
+            return Ok(0);
+        }
+        let count = self.at_once.min(buf.len()).min(self.left);
+        buf[..count].fill(self.byte);
+        self.left -= count;
+        Ok(count)
+    }
+}
+
+fn reader_of(at_once: usize, left: usize, fails: bool) -> Giver {
+    Giver {
+        byte: b'x',
+        at_once,
+        left,
+        fails,
+    }
+}
+
+#[test]
+fn reads_what_comes_a_byte_at_a_time(rt: HostRuntime) -> Result<(), Fail> {
+    let input = read_input(rt.alloc(), &mut reader_of(1, 5000, false))?;
+    assert!(rt; input.len() == 5000 && input.iter().all(|byte| *byte == b'x'));
+    let text = read_input(rt.alloc(), &mut b"one\ntwo".as_slice())?;
+    assert!(rt; text.as_slice() == b"one\ntwo".as_slice());
+    Ok(())
+}
+
+#[test]
+fn a_failed_read_is_a_file_fault(rt: HostRuntime) {
+    let refused = read_input(rt.alloc(), &mut reader_of(1000, 3000, true));
+    assert!(rt; matches!(refused, Err(InputError::Fault)));
+}
+
+#[test]
+fn stops_after_the_limit_and_one_byte(rt: HostRuntime) -> Result<(), Fail> {
+    let mut endless = reader_of(usize::MAX, usize::MAX, false);
+    let refused = read_input(rt.alloc(), &mut endless);
+    assert!(rt; matches!(refused, Err(InputError::Fault)));
+    assert!(rt; endless.left == usize::MAX - GREATEST_INPUT - 1);
+    Ok(())
+}
+
+#[test]
+fn parts_the_stored_form(rt: HostRuntime) {
+    let cases: [(&[u8], &[u8], &[u8]); 6] = [
+        (b"a = 1\n%%\nuser 1\n", b"a = 1\n", b"user 1\n"),
+        (
+            b"a = 1\r\n%%\r\nuser 1\n%%\n",
+            b"a = 1\r\n",
+            b"user 1\n%%\n",
+        ),
+        (b"a = 1\n %%\n%%%\n", b"a = 1\n %%\n%%%\n", b""),
+        (b"a\n%%\r", b"a\n", b""),
+        (b"%%", b"", b""),
+        (b"", b"", b""),
+    ];
+    for (input, scenario, turns) in cases {
+        let parts = parted(input);
+        assert!(rt; parts.0 == scenario && parts.1 == turns);
+    }
+}

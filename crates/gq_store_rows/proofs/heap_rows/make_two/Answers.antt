@@ -1,8 +1,0 @@
-use Rattle.gq_heap.proofs.Callers.{none_in_use, more_in_use}
-use Rattle.gq_store_rows.proofs.heap_rows.make_two.Goals as goal
-
-pub returns : goal.returns
-returns g c =
-    let none = none_in_use _ _ c.requires in
-    let one = more_in_use _ _ _ _ _ _ _ none c.in_ok-a.ensures.ok in
-    more_in_use _ _ _ _ _ _ _ one c.in_ok-b.ensures.ok

@@ -1,0 +1,84 @@
+#!/usr/bin/env python3
+"""tools/measure_gate.py [COMMAND..]: runs ./check, or that command, and tells the processor seconds of each crate's proof, tests and edits.
+
+It looks at the running checks several times a second, so what a check takes between the last look and its end is not counted. It ends with the
+status of what it ran.
+"""
+import os
+import subprocess
+import sys
+import time
+
+TOP = os.path.dirname(os.path.dirname(os.path.abspath(__file__)))
+TICKS = os.sysconf("SC_CLK_TCK")
+
+
+def words_of(process):
+    """The command of a process, or nothing where it has ended."""
+    try:
+        with open(f"/proc/{process}/cmdline", "rb") as command:
+            return command.read().decode(errors="replace").split("\0")
+    except OSError:
+        return []
+
+
+def state_of(process):
+    """Of a process: its parent, when it started (by which it differs from a later one of its number), and its processor seconds without its children."""
+    try:
+        with open(f"/proc/{process}/stat", encoding="utf-8", errors="replace") as line:
+            fields = line.read().rpartition(")")[2].split()
+        return fields[1], fields[19], (int(fields[11]) + int(fields[12])) / TICKS
+    except (OSError, IndexError, ValueError):
+        return "", "", 0.0
+
+
+def is_below(process, top):
+    """Whether a process was started by another one, or by one that it started."""
+    while process not in ("", "0", top):
+        process = state_of(process)[0]
+    return process == top
+
+
+def kind_of(process, words):
+    """Which crate a check is of, and whether it is of its proof, its tests or an edit; nothing where it is no check."""
+    if "--crate-name" not in words or not words[0].endswith("rattle"):
+        return None
+    try:
+        folder = os.readlink(f"/proc/{process}/cwd")
+    except OSError:
+        return None
+    name = words[words.index("--crate-name") + 1]
+    if "rt-edit" in folder:
+        return name, "edits"
+    return name, "tests" if "--test" in words else "proof"
+
+
+def look(top, taken, kinds):
+    """Notes how long each check has taken that runs below a process."""
+    for process in filter(str.isdigit, os.listdir("/proc")):
+        words = words_of(process)
+        kind = kind_of(process, words) if words else None
+        if kind and is_below(process, top):
+            _, start, seconds = state_of(process)
+            kinds[process, start] = kind
+            taken[process, start] = max(taken.get((process, start), 0.0), seconds)
+
+
+def main():
+    ran = subprocess.Popen(sys.argv[1:] or ["./check"], cwd=TOP)
+    start, taken, kinds = time.monotonic(), {}, {}
+    while ran.poll() is None:
+        look(str(ran.pid), taken, kinds)
+        time.sleep(0.2)
+    together = {}
+    for process, kind in kinds.items():
+        together[kind] = together.get(kind, 0.0) + taken[process]
+    print(f"{'crate':20}{'proof':>8}{'tests':>8}{'edits':>8}")
+    for name in sorted({name for name, _ in together}):
+        print(f"{name:20}" + "".join(f"{together.get((name, kind), 0):8.0f}" for kind in ("proof", "tests", "edits")))
+    print(f"together {sum(together.values()):.0f} processor seconds, in {time.monotonic() - start:.0f} seconds")
+    return ran.returncode
+
+
+if __name__ == "__main__":
+    sys.exit(main())
