@@ -70,6 +70,8 @@ impl AccountTree {
         ensures caps_exceeded { IsErrOf result AccountFault.CapsExceeded
             ↔ ((amount.ram ≤ available (account_of self.now accounts.old from))
             × (available_caps (account_of self.now accounts.old from) < amount.caps)) }
+        ensures only { OnErr result (amount.ram ≤ available (account_of self.now accounts.old from)
+            → available_caps (account_of self.now accounts.old from) < amount.caps) }
     {
         accounts.laws();
         let giver = self.accounts[from];

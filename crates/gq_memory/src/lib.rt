@@ -105,6 +105,8 @@ impl Memory {
         ensures caps_exceeded { IsErrOf result AccountFault.CapsExceeded
             ↔ ((amount.ram ≤ available (account_of tree.now self.old.ledger from))
             × (available_caps (account_of tree.now self.old.ledger from) < amount.caps)) }
+        ensures only { OnErr result (amount.ram ≤ available (account_of tree.now self.old.ledger from)
+            → available_caps (account_of tree.now self.old.ledger from) < amount.caps) }
     {
         tree.donate(&mut self.accounts, from, to, amount)
     }

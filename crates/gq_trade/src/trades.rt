@@ -136,6 +136,8 @@ impl Trades {
         ensures exceeded { IsErrOf result AccountFault.Exceeded ↔ (available (its_account self.old client) < donation.ram) }
         ensures caps_exceeded { IsErrOf result AccountFault.CapsExceeded
             ↔ ((donation.ram ≤ available (its_account self.old client)) × (available_caps (its_account self.old client) < donation.caps)) }
+        ensures only { OnErr result (donation.ram ≤ available (its_account self.old client)
+            → available_caps (its_account self.old client) < donation.caps) }
     {
         self.give(client, server, donation)?;
         Ok(self.enter(Session {
@@ -169,6 +171,8 @@ impl Trades {
         ensures caps_exceeded { IsErrOf result AccountFault.CapsExceeded
             ↔ ((donation.ram ≤ available (its_account self.old (client_of self.old session)))
             × (available_caps (its_account self.old (client_of self.old session)) < donation.caps)) }
+        ensures only { OnErr result (donation.ram ≤ available (its_account self.old (client_of self.old session))
+            → available_caps (its_account self.old (client_of self.old session)) < donation.caps) }
     {
         let old = self.between(session);
         self.give(old.client, old.server, donation)?;
@@ -249,6 +253,8 @@ impl Trades {
         ensures caps_exceeded { IsErrOf result AccountFault.CapsExceeded
             ↔ (((session_at self.old session).donation.ram ≤ bytes_then self.old session)
             × (caps_then self.old session < (session_at self.old session).donation.caps)) }
+        ensures only { OnErr result ((session_at self.old session).donation.ram ≤ bytes_then self.old session
+            → caps_then self.old session < (session_at self.old session).donation.caps) }
     {
         let old = self.between(session);
         self.can_return(&old)?;
@@ -408,6 +414,8 @@ impl Trades {
         ensures caps_exceeded { IsErrOf result AccountFault.CapsExceeded
             ↔ ((session.now.donation.ram ≤ available (its_account self.now session.now.server) + up (size_of session.now.object + 32))
             × (available_caps (its_account self.now session.now.server) + 1 < session.now.donation.caps)) }
+        ensures only { OnErr result (session.now.donation.ram ≤ available (its_account self.now session.now.server) + up (size_of session.now.object + 32)
+            → available_caps (its_account self.now session.now.server) + 1 < session.now.donation.caps) }
     {
         let node = self.leaves[session.server];
         let account = self.tree.account(node);
@@ -477,6 +485,7 @@ impl Trades {
         ensures exceeded { IsErrOf result AccountFault.Exceeded ↔ (available (its_account self.old from) < amount.ram) }
         ensures caps_exceeded { IsErrOf result AccountFault.CapsExceeded
             ↔ ((amount.ram ≤ available (its_account self.old from)) × (available_caps (its_account self.old from) < amount.caps)) }
+        ensures only { OnErr result (amount.ram ≤ available (its_account self.old from) → available_caps (its_account self.old from) < amount.caps) }
     {
         let from = self.leaves[from];
         let to = self.leaves[to];
