@@ -77,6 +77,23 @@ reference_kept es f t n a fo to =
     let x : Account = less (account_at es f) n in
     kept_put (set es f (Some x)) t (more (account_at es t) n) a (open_put es f x t to) (sym (kept_put es f x t fo refl)) ∙ kept_put es f x a fo refl
 
+-- what is used is the same
+use_put : (es : Entries) (k : ℕ) (x : Account) (a : ℕ) → IsOpen es k → x.used ≡ (account_at es k).used
+    → (account_at (set es k (Some x)) a).used ≡ (account_at es a).used
+use_put es k x a o e = elim (eqb_tells a k) [
+  | inl t ↦
+      ap (λ j. (account_at (set es k (Some x)) j).used) t.1
+      ∙ ap (λ (y : Account). y.used) (put es k x (open_there es k o))
+      ∙ e
+      ∙ ap (λ j. (account_at es j).used) (sym t.1)
+  | inr n ↦ ap (λ (y : Account). y.used) (past es k a x n.1)
+]
+
+pub used_kept : (es : Entries) (f t : ℕ) (n : Amount) (a : ℕ) → IsOpen es f → IsOpen es t → (account_at (moved es f t n) a).used ≡ (account_at es a).used
+used_kept es f t n a fo to =
+    let x : Account = less (account_at es f) n in
+    use_put (set es f (Some x)) t (more (account_at es t) n) a (open_put es f x t to) (sym (use_put es f x t fo refl)) ∙ use_put es f x a fo refl
+
 pub nodes_kept : (t : Tree) (es : Entries) (x y : ℕ) (n : Amount) → AreNodes t es → IsOpen es x → IsOpen es y → AreNodes t (moved es x y n)
 nodes_kept t es x y n a xo yo = record {
   apart = a.apart;
@@ -212,7 +229,7 @@ hop_apart t es i j tree nodes il jl near e =
       | inr down ↦ (let p = tree.preorder j down.0 jl in let q = down.1 in omega arith)
     ]
 
-item : (xs : List AccountNo) (i : ℕ) (r d : AccountNo) → i < length xs → r ≡ get_or xs i r → r ≡ get_or xs i d
+pub item : (xs : List AccountNo) (i : ℕ) (r d : AccountNo) → i < length xs → r ≡ get_or xs i r → r ≡ get_or xs i d
 item [] i r d lt e = absurd (omega (arith, lt))
 item (x ∷ xs) zero r d lt e = e
 item (x ∷ xs) (suc i) r d lt e = item xs i r d (omega (arith, lt)) e
@@ -223,7 +240,7 @@ node_number t i r tree lt e = ap (λ (a : AccountNo). a.0) (item t.accounts i r 
 
 -- WHAT PASSES THROUGH
 
-place : (xs : List ℕ) (i r d : ℕ) → i < length xs → r ≡ get_or xs i r → r ≡ get_or xs i d
+pub place : (xs : List ℕ) (i r d : ℕ) → i < length xs → r ≡ get_or xs i r → r ≡ get_or xs i d
 place [] i r d lt e = absurd (omega (arith, lt))
 place (x ∷ xs) zero r d lt e = e
 place (x ∷ xs) (suc i) r d lt e = place xs i r d (omega (arith, lt)) e

@@ -1,7 +1,7 @@
 // The nodes of a scenario in preorder, each with its account.
 ghost use Rattle.std.specs.Prelude.{◌≡◌, ℕ, ◌<◌, ◌≤◌, ◌↔◌, OnOk, OnErr, IsErrOf, length, get_or};
 ghost use Rattle.gq_ram.specs.Entries.{available, available_caps, IsOpen};
-ghost use Rattle.gq_donations.specs.Trees.{account_of, donated, number, AreNodes, IsHop};
+ghost use Rattle.gq_donations.specs.Trees.{account_of, donated, number, parent, AreNodes, IsHop};
 
 use gq_ram::{AccountFault, AccountNo, Accounts};
 use gq_tariff::Amount;
@@ -41,6 +41,15 @@ impl AccountTree {
         ensures { result.0 ≡ number self.now node }
     {
         self.accounts[node]
+    }
+
+    /// The place of the node above a node, which stands before it.
+    pub fn parent(&self, node: usize) -> usize
+        requires { node < length self.now.parents }
+        ensures place { result ≡ parent self.now node }
+        ensures before { 0 < node → result < node }
+    {
+        self.parents[node]
     }
 
     /// Moves quota of both kinds from the account of a node to that of another one. It goes hop by hop, through the account of every init on the way,

@@ -19,9 +19,10 @@
 //! ```
 #![tactic(auto)]
 
-ghost use Rattle.std.specs.Prelude.{◌≡◌, ◌+◌, ◌*◌, ◌<◌, ◌≤◌, ◌↔◌, length, OnOk, OnErr, IsErrOf};
-ghost use Rattle.gq_ram.specs.Entries.{IsOpen, available, available_caps};
+ghost use Rattle.std.specs.Prelude.{◌≡◌, ◌+◌, ◌*◌, ◌<◌, ◌≤◌, ◌↔◌, false, length, is_some, IsTrue, IfSome, OnOk, OnErr, IsErrOf};
+ghost use Rattle.gq_ram.specs.Entries.{IsOpen, account_at, available, available_caps, has_members};
 ghost use Rattle.gq_donations.specs.Trees.{AreNodes, account_of, donated, number};
+ghost use Rattle.gq_memory.specs.Rest.{IsClosed};
 
 use gq_dataspace::DsId;
 use gq_donations::AccountTree;
@@ -125,6 +126,22 @@ impl Memory {
         ensures { self.new ≡ record { ledger = donated tree.now self.old.ledger from to amount; payer = self.old.payer } }
     {
         tree.give(&mut self.accounts, from, to, amount);
+    }
+
+    /// Closes an account that does not pay now and is the reference account of no other: its dataspaces are removed, and its quota of both kinds goes
+    /// to its reference account. What all other accounts have in memory stays.
+    pub fn close(&mut self, account: AccountNo)
+        requires open { IsOpen self.old.ledger.accounts account.0 }
+        requires apart { account.0 ≡ self.old.payer.0 → ⊥ }
+        requires alone { has_members self.old.ledger.accounts account ≡ false }
+        requires below { IsTrue (is_some (account_at self.old.ledger.accounts account.0).reference) }
+        ensures { IfSome (account_at self.old.ledger.accounts account.0).reference (λ init. IsClosed self.old self.new account init) }
+    {
+        self.accounts.laws();
+        match self.accounts.close(account) {
+            Ok(()) => self.accounts.laws(),
+            Err(_) => unreachable!(),
+        }
     }
 
     /// Another account pays from now on.

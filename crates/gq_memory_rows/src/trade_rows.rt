@@ -2,7 +2,7 @@
 use gq_donations::AccountTree;
 use gq_memory::Memory;
 use gq_ram::Accounts;
-use gq_trade::Trades;
+use gq_sessions::Sessions;
 use std::test::Fail;
 
 #[test]
@@ -12,7 +12,7 @@ fn makes_room_for_sessions(rt: HostRuntime) -> Result<(), Fail> {
     let root = accounts.root();
     let tree = AccountTree::new(vec![in alloc; root]?, vec![in alloc; 0]?);
     let memory = Memory::new(accounts, root);
-    let trades = Trades::new(alloc, memory, tree, Vec::new(alloc), Vec::new(alloc), 24)?;
+    let trades = Sessions::new(alloc, memory, tree, Vec::new(alloc), Vec::new(alloc), 24)?;
     assert!(rt; trades.waiting(0).is_none());
     assert_eq!(rt; trades.memory().accounts().quota(root), 65536);
     Ok(())

@@ -1,5 +1,5 @@
-//! Tests over public surfaces of what the program's cases cannot show: programs as trees, code, worlds turn by turn,
-//! and readers and writers that fail.
+//! Tests over public surfaces of what the program's cases cannot show: programs as trees, what errors say, worlds
+//! turn by turn, and readers and writers that fail.
 #![tactic(auto)]
 
 #[cfg(test)]

@@ -1,7 +1,6 @@
-// What a reader gives, a byte at a time or for ever, and what it is parted into.
+// What a reader gives, a byte at a time or for ever.
 use gq_cli::input::{InputError, read_input};
 use gq_cli::status::Status;
-use gq_cli::stored::parted;
 use gq_model::limits::GREATEST_INPUT;
 use std::io;
 use std::io::Read;
@@ -62,24 +61,4 @@ fn stops_after_the_limit_and_one_byte(rt: HostRuntime) -> Result<(), Fail> {
     assert!(rt; matches!(refused, Err(InputError::Fault)));
     assert!(rt; endless.left == usize::MAX - GREATEST_INPUT - 1);
     Ok(())
-}
-
-#[test]
-fn parts_the_stored_form(rt: HostRuntime) {
-    let cases: [(&[u8], &[u8], &[u8]); 6] = [
-        (b"a = 1\n%%\nuser 1\n", b"a = 1\n", b"user 1\n"),
-        (
-            b"a = 1\r\n%%\r\nuser 1\n%%\n",
-            b"a = 1\r\n",
-            b"user 1\n%%\n",
-        ),
-        (b"a = 1\n %%\n%%%\n", b"a = 1\n %%\n%%%\n", b""),
-        (b"a\n%%\r", b"a\n", b""),
-        (b"%%", b"", b""),
-        (b"", b"", b""),
-    ];
-    for (input, scenario, turns) in cases {
-        let parts = parted(input);
-        assert!(rt; parts.0 == scenario && parts.1 == turns);
-    }
 }

@@ -1,14 +1,6 @@
 -- What the fields of `Trades` stand for.
 use Rattle.gq_trade.specs.declared.trades.Trades.TheInside.{Inside}
-use Rattle.gq_trade.specs.Trading.{Trading}
+use Rattle.gq_trade.specs.Trades.{Trades}
 
-abbrev pub trading_of : Inside → Trading
-trading_of i = record {
-  memory = i.memory;
-  tree = i.tree;
-  leaves = i.leaves.items;
-  objects = i.objects.items;
-  sessions = i.sessions.values;
-  room = i.sessions.room;
-  requests = i.requests;
-}
+abbrev pub trades_of : Inside → Trades
+trades_of i = record { trading = i.sessions; nodes = i.nodes.items }

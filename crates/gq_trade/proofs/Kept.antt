@@ -1,343 +1,175 @@
--- What a call leaves of what holds of sessions and requests.
-use Rattle.std.proofs.Common.{◌≡◌, ℕ, zero, suc, ◌+◌, ◌<◌, inl, inr, List, [], ◌∷◌, ◌++◌, length, set, get_or, get_or-set_same, get_or-set_other, Option}
-use Rattle.std.proofs.Common.{Some, None}
-use Rattle.std.proofs.Common.{IsTrue, is_some, true, false, replicate, IfSome, IfNone, Result, Ok, Err, IfOk, OnOk, OnErr, refl, sym, ap, subst, ◌∙◌, arith}
-use Rattle.std.proofs.lemmas.Bool.{cases_eq}
-use Rattle.std.proofs.lemmas.Bool.Decides.{eqb_tells}
+-- What holds in a `Trades`, after each call.
+use Rattle.std.proofs.Common.{◌≡◌, ℕ, ◌<◌, ◌≤◌, List, length, set, Some, Result, Ok, Err, OnOk, OnErr, refl, sym, ap}
+use Rattle.std.proofs.Common.{subst, ◌∙◌, arith}
 use Rattle.gq_tariff.specs.declared.amount.Amount.{Amount}
-use Rattle.gq_ram.specs.declared.account.Account.{Account}
-use Rattle.gq_ram.specs.Entries.{account_at, its_account, IsOpen}
-use Rattle.gq_donations.specs.Trees.{donated, number}
-use Rattle.gq_donations.proofs.Moves.{nodes_kept}
-use Rattle.gq_model.specs.declared.program.Form.TheVariants as form
-use Rattle.gq_model.specs.machine.World as world
-use Rattle.gq_heap.specs.declared.heap.Heap.{Heap}
 use Rattle.gq_ram.specs.declared.account.AccountNo.{AccountNo}
-use Rattle.gq_tariff.specs.Prices.{up}
-use Rattle.gq_store.specs.Store.{one_more}
-use Rattle.gq_store.specs.declared.GrowFault.{GrowFault}
-use Rattle.gq_memory.specs.Stores.{Memory, store_at}
+use Rattle.gq_ram.specs.Entries.{account_at, available, available_caps, IsOpen}
+use Rattle.gq_ram.specs.Ledgers.{Ledger, IsBalanced}
+use Rattle.gq_memory.specs.Stores.{Memory}
 use Rattle.gq_memory.specs.Rest.{SameRest}
+use Rattle.gq_memory.specs.internal.Rests.{rest_refl}
 use Rattle.gq_things.specs.declared.thing.Thing.{Thing}
-use Rattle.gq_things.specs.declared.thing.Thing.TheVariants as thing
-use Rattle.gq_things.specs.Things.{seen, size_of}
-use Rattle.gq_things.specs.Kept.{Changes}
-use Rattle.gq_things.specs.Paid.{Pays}
-use Rattle.gq_requests.specs.Queues.{IsOldest, kept_before, oldest_to}
-use Rattle.gq_numbered.specs.Numbers.{added, free_number, IsTaken}
-use Rattle.gq_numbered.proofs.Lowest.{taken_there}
-use Rattle.gq_requests.specs.declared.requests.Ask.{Ask}
-use Rattle.gq_requests.specs.declared.requests.Ask.TheVariants.{Open, Upgrade, Close, Call}
+use Rattle.gq_numbered.specs.Numbers.{IsTaken}
 use Rattle.gq_requests.specs.declared.requests.Request.{Request}
-use Rattle.gq_trade.specs.declared.session.Session.{Session}
-use Rattle.gq_trade.specs.Trading.{Trading, IsTrading, AreOf, AreBetween, IsBetween, account_of, entered, found, given, server_of, session_at, session_in}
-use Rattle.gq_trade.specs.Trading.{with_ask}
-use Rattle.gq_trade.specs.Trading.{Accepts, AreOfOthers, Begins, Frees, Makes, SameOthers, account_no, node_of, with_memory, with_requests, with_session}
-use Rattle.gq_trade.specs.Trading.{with_sessions}
+use Rattle.gq_sessions.specs.declared.session.Session.{Session}
+use Rattle.gq_sessions.specs.Trading.{Trading, IsTrading, IsBetween, account_of, asked, client_of, its_account}
+use Rattle.gq_sessions.specs.Trading.{SameButMemory, SameOthers, node_of, server_of, session_at, upgraded, with_memory, with_more, with_requests}
+use Rattle.gq_sessions.specs.Trading.{with_session, with_slot}
+use Rattle.gq_sessions.proofs.Kept.{between_at}
+use Rattle.gq_trade.specs.declared.node.Stage.{Stage}
+use Rattle.gq_trade.specs.declared.node.Stage.TheVariants.{Live, Ended}
+use Rattle.gq_trade.specs.Balances.{node_at}
+use Rattle.gq_trade.specs.Trades.{Trades, IsTrades, IsSettled, IsLive, with_trading}
+use Rattle.gq_trade.proofs.Evens.{ram_kind, caps_kind, asked_even, upgraded_even, session_even, rest_quota}
+use Rattle.gq_trade.proofs.Settled.{Each, each_added, each_set, moved_settled, rest_settled}
 
--- another session stays where it is
-pub added_other : {A : Type 0} (s : A) (ss : List (Option A)) (k : ℕ) → IsTaken ss k → get_or (added s ss) k None ≡ get_or ss k None
-added_other s [] k h = cc
-added_other s (None ∷ ss) zero h = cc
-added_other s (None ∷ ss) (suc k) h = refl
-added_other s (Some t ∷ ss) zero h = refl
-added_other s (Some t ∷ ss) (suc k) h = added_other s ss k h
+pub not_both : (s : Stage) → s ≡ Live → s ≡ Ended → ⊥
+not_both s a b = let e : Live ≡ Ended = sym a ∙ b in cc
 
-pub added_here : {A : Type 0} (s : A) (ss : List (Option A)) → get_or (added s ss) (free_number ss) None ≡ Some s
-added_here s [] = refl
-added_here s (None ∷ ss) = refl
-added_here s (Some t ∷ ss) = added_here s ss
+-- an open account uses no more than its quota
+within_quota : (l : Ledger) (k n : ℕ) → IsBalanced l → n ≤ available (account_at l.accounts k) → n ≤ (account_at l.accounts k).quota.ram
+within_quota l k n b h = omega (arith, h)
 
--- requests stand for sessions that are still there, with the same servers
-of_same : (ss ts : List (Option Session)) (rs : List Request)
-    → ((k : ℕ) → IsTaken ss k → IsTaken ts k × ((session_in ts k).server ≡ (session_in ss k).server)) → AreOf ss rs → AreOf ts rs
-of_same ss ts [] same h = tt
-of_same ss ts (r ∷ rs) same h = let p = same r.session h.0 in (p.0, p.1 ∙ h.1, of_same ss ts rs same h.2)
+within_caps : (l : Ledger) (k n : ℕ) → IsBalanced l → n ≤ available_caps (account_at l.accounts k) → n ≤ (account_at l.accounts k).quota.caps
+within_caps l k n b h = omega (arith, h)
 
-of_more : (ss : List (Option Session)) (rs : List Request) (r : Request) → AreOf ss rs → IsTaken ss r.session
-    → (session_in ss r.session).server ≡ r.server → AreOf ss (rs ++ r ∷ [])
-of_more ss [] r h t e = (t, e, tt)
-of_more ss (q ∷ rs) r h t e = (h.0, h.1, of_more ss rs r h.2 t e)
+module _ (w : Trades) (h : IsTrades w) (t : IsTrading w.trading) where
+  pub node_there : (x : ℕ) → x < length w.trading.leaves → node_of w.trading x < length w.trading.tree.parents
+  node_there x lt = t.leaves x lt
 
-between_more : (n m : ℕ) (s : Session) (ss : List (Option Session)) → IsBetween n m s → AreBetween n m ss → AreBetween n m (added s ss)
-between_more n m s [] b h = (b, tt)
-between_more n m s (None ∷ ss) b h = (b, h)
-between_more n m s (Some t ∷ ss) b h = (h.0, between_more n m s ss b h.1)
+  pub live_open : (x : ℕ) → IsLive w x → IsOpen w.trading.memory.ledger.accounts (account_of w.trading x)
+  live_open x l = h.settled.opened (node_of w.trading x) (t.leaves x l.there) (λ e. not_both (node_at w.nodes (node_of w.trading x)).stage l.live e)
 
-taken_none : false ≡ true → ⊥
-taken_none h = cc
+  pub nodes_apart : (x y : ℕ) → x < length w.trading.leaves → y < length w.trading.leaves → (x ≡ y → ⊥)
+      → node_of w.trading y ≡ node_of w.trading x → ⊥
+  nodes_apart x y xl yl ne e = ne (sym (t.apart y x yl xl e))
 
-pub between_at : (n m : ℕ) (ss : List (Option Session)) (k : ℕ) → AreBetween n m ss → IsTaken ss k → IsBetween n m (session_in ss k)
-between_at n m [] k h t = absurd (taken_none t)
-between_at n m (None ∷ ss) zero h t = absurd (taken_none t)
-between_at n m (None ∷ ss) (suc k) h t = between_at n m ss k h t
-between_at n m (Some s ∷ ss) zero h t = h.0
-between_at n m (Some s ∷ ss) (suc k) h t = between_at n m ss k h.1 t
+  pub parties : (k : ℕ) → IsTaken w.trading.sessions k → IsBetween (length w.trading.leaves) (length w.trading.objects) (session_at w.trading k)
+  parties k taken = between_at (length w.trading.leaves) (length w.trading.objects) w.trading.sessions k t.between taken
 
-between_set : (n m : ℕ) (ss : List (Option Session)) (k : ℕ) (s : Session) → AreBetween n m ss → IsBetween n m s → AreBetween n m (set ss k (Some s))
-between_set n m [] k s h b = h
-between_set n m (None ∷ ss) zero s h b = (b, h)
-between_set n m (None ∷ ss) (suc k) s h b = between_set n m ss k s h b
-between_set n m (Some t ∷ ss) zero s h b = (b, h.1)
-between_set n m (Some t ∷ ss) (suc k) s h b = (h.0, between_set n m ss k s h.1 b)
+  pub client_live : (k : ℕ) → IsTaken w.trading.sessions k → IsLive w (client_of w.trading k)
+  client_live k taken = record { there = (parties k taken).client; live = (h.sessions k taken).client }
 
--- CALLS
+  pub server_live : (k : ℕ) → IsTaken w.trading.sessions k → IsLive w (server_of w.trading k)
+  server_live k taken = record { there = (parties k taken).server; live = (h.sessions k taken).server }
 
-pub given_kept : (w : Trading) (x y : ℕ) (n : Amount) → IsTrading w → IsOpen w.memory.ledger.accounts (account_of w x)
-    → IsOpen w.memory.ledger.accounts (account_of w y) → IsTrading (given w x y n)
-given_kept w x y n h xo yo = record {
-  tree = h.tree;
-  nodes = nodes_kept w.tree w.memory.ledger.accounts (account_of w x) (account_of w y) n h.nodes xo yo;
-  leaves = h.leaves;
-  apart = h.apart;
-  objects = h.objects;
-  between = h.between;
-  requests = h.requests;
-}
+  -- ASKED FOR
 
-pub entered_kept : (w : Trading) (s : Session) → IsTrading w → IsBetween (length w.leaves) (length w.objects) s → IsTrading (entered w s)
-entered_kept w s h b =
-    let ss : List (Option Session) = w.sessions in
-    let ts : List (Option Session) = added s ss in
-    let here : get_or ts (free_number ss) None ≡ Some s = added_here s ss in
-    record {
-      tree = h.tree;
-      nodes = h.nodes;
-      leaves = h.leaves;
-      apart = h.apart;
-      objects = h.objects;
-      between = between_more (length w.leaves) (length w.objects) s ss b h.between;
-      requests = of_more ts w.requests (record { session = free_number ss; server = s.server; ask = Open })
-          (of_same ss ts w.requests (λ k t. (ap is_some (added_other s ss k t) ∙ t, ap (λ o. (found o).server) (added_other s ss k t))) h.requests)
-          (ap is_some here) (ap (λ o. (found o).server) here);
-    }
+  pub asked_kept : (s : Session) → IsLive w s.client → IsLive w s.server → (s.client ≡ s.server → ⊥)
+      → (w.trading.memory.ledger.price ≡ 0 → s.donation.caps ≡ 0) → s.donation.ram ≤ available (its_account w.trading s.client)
+      → s.donation.caps ≤ available_caps (its_account w.trading s.client) → IsTrades (with_trading w (asked w.trading s))
+  asked_kept s cl sl apart counted enough enough_caps =
+      let v = w.trading in
+      let xl = t.leaves s.client cl.there in let yl = t.leaves s.server sl.there in
+      let xo = live_open s.client cl in let yo = live_open s.server sl in
+      let ne = nodes_apart s.client s.server cl.there sl.there apart in
+      record {
+        uncounted = h.uncounted;
+        settled = moved_settled v.tree v.leaves w.nodes v.memory.ledger.accounts (account_of v s.client) (account_of v s.server) s.donation h.settled xo yo;
+        sessions = each_added (IsSettled v.leaves w.nodes v.memory.ledger.price) s v.sessions
+            (record { client = cl.live; server = sl.live; counted = counted }) h.sessions;
+        even = λ i lt. (
+          asked_even (λ n. n.ram) ram_kind v w.nodes s t.nodes xl yl xo yo ne (omega (arith, enough)) i lt (h.even i lt).0,
+          asked_even (λ n. n.caps) caps_kind v w.nodes s t.nodes xl yl xo yo ne (omega (arith, enough_caps)) i lt (h.even i lt).1,
+        );
+      }
 
-pub set_kept : (w : Trading) (k : ℕ) (s : Session) → IsTrading w → IsTaken w.sessions k → s.client ≡ (session_at w k).client
-    → s.server ≡ (session_at w k).server → s.service ≡ (session_at w k).service → IsTrading (with_session w k s)
-set_kept w k s h t ec es ev =
-    let ss = w.sessions in
-    let b = between_at (length w.leaves) (length w.objects) ss k h.between t in
-    let here : get_or (set ss k (Some s)) k None ≡ Some s = get_or-set_same ss k (Some s) None (taken_there ss k t) in
-    record {
-      tree = h.tree;
-      nodes = h.nodes;
-      leaves = h.leaves;
-      apart = h.apart;
-      objects = h.objects;
-      between = between_set (length w.leaves) (length w.objects) ss k s h.between (record {
-        client = subst (λ x. x < length w.leaves) (sym ec) b.client;
-        server = subst (λ x. x < length w.leaves) (sym es) b.server;
-        apart = λ e. b.apart (sym ec ∙ e ∙ es);
-        service = subst (λ x. x < length w.objects) (sym ev) b.service;
-      });
-      requests = of_same ss (set ss k (Some s)) w.requests (λ j u. elim (cases_eq j k) [
-        | inl e ↦
-            let f : get_or (set ss k (Some s)) j None ≡ Some s = ap (λ i. get_or (set ss k (Some s)) i None) e ∙ here in
-            (ap is_some f, ap (λ o. (found o).server) f ∙ es ∙ ap (λ i. (session_in ss i).server) (sym e))
-        | inr ne ↦
-            let f : get_or (set ss k (Some s)) j None ≡ get_or ss j None = get_or-set_other ss k j (Some s) None ne in
-            (ap is_some f ∙ u, ap (λ o. (found o).server) f)
-      ]) h.requests;
-    }
+  pub upgraded_kept : (k : ℕ) (n : Amount) → IsTaken w.trading.sessions k → (w.trading.memory.ledger.price ≡ 0 → n.caps ≡ 0)
+      → n.ram ≤ available (its_account w.trading (client_of w.trading k)) → n.caps ≤ available_caps (its_account w.trading (client_of w.trading k))
+      → IsTrades (with_trading w (upgraded w.trading k n))
+  upgraded_kept k n taken counted enough enough_caps =
+      let v = w.trading in
+      let s = session_at v k in
+      let cl = client_live k taken in let sl = server_live k taken in
+      let xl = t.leaves s.client cl.there in let yl = t.leaves s.server sl.there in
+      let xo = live_open s.client cl in let yo = live_open s.server sl in
+      let ne = nodes_apart s.client s.server cl.there sl.there (parties k taken).apart in
+      let old = h.sessions k taken in
+      record {
+        uncounted = h.uncounted;
+        settled = moved_settled v.tree v.leaves w.nodes v.memory.ledger.accounts (account_of v s.client) (account_of v s.server) n h.settled xo yo;
+        sessions = each_set (IsSettled v.leaves w.nodes v.memory.ledger.price) v.sessions k (with_more s n)
+            (record { client = old.client; server = old.server; counted = λ z. omega (arith, old.counted z, counted z) }) h.sessions;
+        even = λ i lt. (
+          upgraded_even (λ a. a.ram) ram_kind v w.nodes k n t.nodes taken xl yl xo yo ne (omega (arith, enough)) i lt (h.even i lt).0,
+          upgraded_even (λ a. a.caps) caps_kind v w.nodes k n t.nodes taken xl yl xo yo ne (omega (arith, enough_caps)) i lt (h.even i lt).1,
+        );
+      }
 
-pub with_ask_kept : (w : Trading) (k : ℕ) (a : Ask) → IsTrading w → IsTaken w.sessions k → IsTrading (with_ask w k a)
-with_ask_kept w k a h t = record {
-  tree = h.tree;
-  nodes = h.nodes;
-  leaves = h.leaves;
-  apart = h.apart;
-  objects = h.objects;
-  between = h.between;
-  requests = of_more w.sessions w.requests (record { session = k; server = server_of w k; ask = a }) h.requests t refl;
-}
+  -- the memory of one account is other, and one session of the same client, server and donation
+  pub session_kept : (m : Memory) (a : AccountNo) (k : ℕ) (s : Session) → SameOthers w.trading.memory.ledger m.ledger a → IsTaken w.trading.sessions k
+      → s.client ≡ client_of w.trading k → s.server ≡ server_of w.trading k → s.donation ≡ (session_at w.trading k).donation
+      → IsTrades (with_trading w (with_session (with_memory w.trading m) k s))
+  session_kept m a k s rest taken ec es ed =
+      let v = w.trading in
+      let l : Memory = record { ledger = v.memory.ledger; payer = a } in
+      let n : Memory = record { ledger = m.ledger; payer = a } in
+      let old = h.sessions k taken in
+      record {
+        uncounted = λ z. h.uncounted (sym rest.whole.0 ∙ z);
+        settled = rest_settled v.tree v.leaves w.nodes l n h.settled rest;
+        sessions = subst (λ p. Each (IsSettled v.leaves w.nodes p) (set v.sessions k (Some s))) (sym rest.whole.0)
+            (each_set (IsSettled v.leaves w.nodes v.memory.ledger.price) v.sessions k s (record {
+              client = ap (λ x. (node_at w.nodes (node_of v x)).stage) ec ∙ old.client;
+              server = ap (λ x. (node_at w.nodes (node_of v x)).stage) es ∙ old.server;
+              counted = λ z. ap (λ (d : Amount). d.caps) ed ∙ old.counted z;
+            }) h.sessions);
+        even = λ i lt. (
+          session_even (λ d. d.ram) ram_kind v w.nodes m k s (λ j. rest_quota (λ d. d.ram) v.tree l n j rest) taken ec es
+              (ap (λ (d : Amount). d.ram) ed) i (h.even i lt).0,
+          session_even (λ d. d.caps) caps_kind v w.nodes m k s (λ j. rest_quota (λ d. d.caps) v.tree l n j rest) taken ec es
+              (ap (λ (d : Amount). d.caps) ed) i (h.even i lt).1,
+        );
+      }
 
--- memory after a donation between the nodes i and j of two leaves
-pub donated_kept : {E : Type 0} (r : Result (Unit {0}) E) (w : Trading) (x y i j : ℕ) (n : Amount) (m : Memory) → IsTrading w
-    → IsOpen w.memory.ledger.accounts (account_of w x) → IsOpen w.memory.ledger.accounts (account_of w y) → i ≡ node_of w x → j ≡ node_of w y
-    → OnOk r (m.ledger ≡ donated w.tree w.memory.ledger i j n) → m.payer ≡ w.memory.payer → OnErr r (m ≡ w.memory) → IsTrading (with_memory w m)
-donated_kept (Ok u) w x y i j n m h xo yo ex ey ok p err =
-    let e : m.ledger ≡ donated w.tree w.memory.ledger (node_of w x) (node_of w y) n =
-    ok ∙ ap (λ a. donated w.tree w.memory.ledger a j n) ex ∙ ap (λ a. donated w.tree w.memory.ledger (node_of w x) a n) ey in
-    let f : record { ledger = donated w.tree w.memory.ledger (node_of w x) (node_of w y) n; payer = w.memory.payer } ≡ m =
-    λ t. record { ledger = sym e t; payer = sym p t } in
-    subst (λ (a : Memory). IsTrading (with_memory w a)) f (given_kept w x y n h xo yo)
-donated_kept (Err e) w x y i j n m h xo yo ex ey ok p err = subst (λ (a : Memory). IsTrading (with_memory w a)) (sym err) h
+  -- the memory of one account is other
+  pub memory_kept : (m : Memory) (a : AccountNo) → SameOthers w.trading.memory.ledger m.ledger a → IsTrades (with_trading w (with_memory w.trading m))
+  memory_kept m a rest =
+      let v = w.trading in
+      let l : Memory = record { ledger = v.memory.ledger; payer = a } in
+      let n : Memory = record { ledger = m.ledger; payer = a } in
+      record {
+        uncounted = λ z. h.uncounted (sym rest.whole.0 ∙ z);
+        settled = rest_settled v.tree v.leaves w.nodes l n h.settled rest;
+        sessions = subst (λ p. Each (IsSettled v.leaves w.nodes p) v.sessions) (sym rest.whole.0) h.sessions;
+        even = λ i lt. (
+          omega (arith, (h.even i lt).0, rest_quota (λ d. d.ram) v.tree l n i rest),
+          omega (arith, (h.even i lt).1, rest_quota (λ d. d.caps) v.tree l n i rest),
+        );
+      }
 
--- an item that is there, whatever stands for one that is not
-pub item : (xs : List ℕ) (i r d : ℕ) → i < length xs → r ≡ get_or xs i r → r ≡ get_or xs i d
-item [] i r d lt e = absurd (omega (arith, lt))
-item (x ∷ xs) zero r d lt e = e
-item (x ∷ xs) (suc i) r d lt e = item xs i r d (omega (arith, lt)) e
+  -- other requests wait
+  pub requests_kept : (rs : List Request) → IsTrades (with_trading w (with_requests w.trading rs))
+  requests_kept rs = record { uncounted = h.uncounted; settled = h.settled; sessions = h.sessions; even = h.even }
 
--- REQUESTS THAT ARE TAKEN
+-- a call that may be refused
+pub asked_by : {E : Type 0} (r : Result ℕ E) (w : Trades) (v : Trading) (s : Session) → IsTrades w → IsTrading w.trading → IsLive w s.client
+    → IsLive w s.server → (s.client ≡ s.server → ⊥) → (w.trading.memory.ledger.price ≡ 0 → s.donation.caps ≡ 0)
+    → OnOk r (v ≡ asked w.trading s) → OnOk r (s.donation.ram ≤ available (its_account w.trading s.client))
+    → OnOk r (s.donation.caps ≤ available_caps (its_account w.trading s.client)) → OnErr r (v ≡ w.trading) → IsTrades (with_trading w v)
+asked_by (Ok k) w v s h t cl sl ne counted is enough enough_caps err =
+    subst (λ y. IsTrades (with_trading w y)) (sym is) (asked_kept w h t s cl sl ne counted enough enough_caps)
+asked_by (Err e) w v s h t cl sl ne counted is enough enough_caps err = subst (λ y. IsTrades (with_trading w y)) (sym err) h
 
--- a request that was found, and the others
-pub record IsTakenFrom (ss : List (Option Session)) (x : ℕ) (r : Request) (rest : List Request) : Type 0 where
-  pub there : IsTaken ss r.session
-  pub server : (session_in ss r.session).server ≡ x
-  pub others : AreOf ss rest
+pub upgraded_by : {E : Type 0} (r : Result (Unit {0}) E) (w : Trades) (v : Trading) (k : ℕ) (n : Amount) → IsTrades w → IsTrading w.trading
+    → IsTaken w.trading.sessions k → (w.trading.memory.ledger.price ≡ 0 → n.caps ≡ 0) → OnOk r (v ≡ upgraded w.trading k n)
+    → OnOk r (n.ram ≤ available (its_account w.trading (client_of w.trading k)))
+    → OnOk r (n.caps ≤ available_caps (its_account w.trading (client_of w.trading k))) → OnErr r (v ≡ w.trading) → IsTrades (with_trading w v)
+upgraded_by (Ok u) w v k n h t taken counted is enough enough_caps err =
+    subst (λ y. IsTrades (with_trading w y)) (sym is) (upgraded_kept w h t k n taken counted enough enough_caps)
+upgraded_by (Err e) w v k n h t taken counted is enough enough_caps err = subst (λ y. IsTrades (with_trading w y)) (sym err) h
 
-some_in : (a b : Request × List Request) → Some a ≡ Some b → a ≡ b
-some_in a b e = cc
+-- a slot of a session holds something else
+pub slot_kept : (w : Trades) (v : Trading) (k i : ℕ) (u : Thing) → IsTrades w → IsTrading w.trading → IsTaken w.trading.sessions k
+    → v ≡ with_session w.trading k (with_slot (session_at w.trading k) i u) → IsTrades (with_trading w v)
+slot_kept w v k i u h t taken is =
+    subst (λ y. IsTrades (with_trading w y)) (sym is)
+    (session_kept w h t w.trading.memory w.trading.memory.payer k (with_slot (session_at w.trading k) i u) (rest_refl w.trading.memory) taken refl refl refl)
 
-abbrev pair : Request → List Request → Request × List Request
-pair r rs = (r, rs)
-
-first_is : (ss : List (Option Session)) (x : ℕ) (r q : Request) (rs rest : List Request) → AreOf ss (r ∷ rs) → r.server ≡ x
-    → Some (pair r rs) ≡ Some (pair q rest) → IsTakenFrom ss x q rest
-first_is ss x r q rs rest h e f =
-    let i = some_in (pair r rs) (pair q rest) f in
-    let p : r ≡ q = ap (λ (t : Request × List Request). t.0) i in
-    let s : rs ≡ rest = ap (λ (t : Request × List Request). t.1) i in
-    subst (λ ys. IsTakenFrom ss x q ys) s
-    (subst (λ (y : Request). IsTakenFrom ss x y rs) p (record { there = h.0; server = h.1 ∙ e; others = h.2 }))
-
-later_is : (ss : List (Option Session)) (x : ℕ) (r q : Request) (rest : List Request) (o : Option (Request × List Request)) → AreOf ss (r ∷ [])
-    → kept_before r o ≡ Some (q, rest) → ((p : Request × List Request) → o ≡ Some p → IsTakenFrom ss x p.0 p.1) → IsTakenFrom ss x q rest
-later_is ss x r q rest None h f further = cc
-later_is ss x r q rest (Some p) h f further =
-    let i = some_in (pair p.0 (r ∷ p.1)) (pair q rest) f in
-    let e : p.0 ≡ q = ap (λ (t : Request × List Request). t.0) i in
-    let g : r ∷ p.1 ≡ rest = ap (λ (t : Request × List Request). t.1) i in
-    let t = further p refl in
-    subst (λ ys. IsTakenFrom ss x q ys) g
-    (subst (λ (y : Request). IsTakenFrom ss x y (r ∷ p.1)) e (record { there = t.there; server = t.server; others = (h.0, h.1, t.others) }))
-
-pub taken_from : (ss : List (Option Session)) (x : ℕ) (rs : List Request) (p : Request × List Request) → AreOf ss rs → oldest_to x rs ≡ Some p
-    → IsTakenFrom ss x p.0 p.1
-taken_from ss x [] p h e = cc
-taken_from ss x (r ∷ rs) p h e = elim (eqb_tells r.server x) [
-  | inl t ↦ first_is ss x r p.0 rs p.1 h t.1 (rw t.0 at e)
-  | inr n ↦ later_is ss x r p.0 p.1 (oldest_to x rs) (h.0, h.1, tt) (rw n.0 at e) (λ q f. taken_from ss x rs q h.2 f)
-]
-
-pub its_oldest : (ss : List (Option Session)) (x : ℕ) (rs : List Request) (o : Option Request) → AreOf ss rs → IfSome o (λ r. IsOldest x rs r)
-    → IfSome o (λ r. IsTaken ss r.session × ((session_in ss r.session).server ≡ x))
-its_oldest ss x rs None h some = tt
-its_oldest ss x rs (Some r) h some = let t = taken_from ss x rs (pair r some.rest) h some.is in (t.there, t.server)
-
-pub begins_requests : (a : Ask) (w v : Trading) (k : ℕ) → Begins a w v k → v.requests ≡ w.requests
-begins_requests Open w v k h = ap (λ (x : Trading). x.requests) h.is
-begins_requests Upgrade w v k h = ap (λ (x : Trading). x.requests) h
-begins_requests Close w v k h = ap (λ (x : Trading). x.requests) h
-begins_requests (Call n) w v k h = ap (λ (x : Trading). x.requests) h
-
-pub accepts_of : (w u v : Trading) (x : ℕ) (r : Request) → Begins r.ask w u r.session → oldest_to x u.requests ≡ Some (r, v.requests)
-    → v ≡ with_requests u v.requests → Accepts w v x r
-accepts_of w u v x r b taken rest =
-    let e = begins_requests r.ask w u r.session b in
-    let back : u ≡ with_requests v w.requests = ap (with_requests u) e ∙ ap (λ (t : Trading). with_requests t w.requests) (sym rest) in
-    record { oldest = ap (oldest_to x) (sym e) ∙ taken; begins = subst (λ (t : Trading). Begins r.ask w t r.session) back b }
-
--- OBJECTS
-
--- m is the memory in which the account a has made a slice of n bytes
-pub makes_of : (r : Result Thing GrowFault) (w : Trading) (m : Memory) (x n n0 : ℕ) (a : AccountNo) → a ≡ account_no w x → n0 ≡ n
-    → IfOk r (λ t. (heap : Heap) → Changes heap heap (store_at w.memory.ledger a.0) (store_at m.ledger a.0) thing.Empty t)
-    → IfOk r (λ t. seen (store_at m.ledger a.0) t ≡ world.Bytes form.Slice n0 (replicate n0 0)) → IfOk r (λ t. size_of t ≡ n0)
-    → IfOk r (λ t. (heap : Heap) → Pays heap heap (store_at w.memory.ledger a.0) (store_at m.ledger a.0) thing.Empty t)
-    → m.payer ≡ w.memory.payer → SameOthers w.memory.ledger m.ledger a → IfOk r (λ t. Makes w (with_memory w m) x n t)
-makes_of (Err e) w m x n n0 a ea en changes seen_is size pays payer rest = tt
-makes_of (Ok t) w m x n n0 a ea en changes seen_is size pays payer rest = record {
-  is = refl;
-  payer = payer;
-  changes =
-      subst (λ (b : AccountNo). (heap : Heap) → Changes heap heap (store_at w.memory.ledger b.0) (store_at m.ledger b.0) thing.Empty t) ea changes;
-  seen =
-      subst (λ (b : AccountNo). seen (store_at m.ledger b.0) t ≡ world.Bytes form.Slice n (replicate n 0)) ea
-      (subst (λ i. seen (store_at m.ledger a.0) t ≡ world.Bytes form.Slice i (replicate i 0)) en seen_is);
-  size = size ∙ en;
-  pays = subst (λ (b : AccountNo). (heap : Heap) → Pays heap heap (store_at w.memory.ledger b.0) (store_at m.ledger b.0) thing.Empty t) ea pays;
-  others = subst (λ (b : AccountNo). SameOthers w.memory.ledger m.ledger b) ea rest;
-}
-
--- the requests that stay, whether one was taken or none
-pub taken_kept : (w : Trading) (x : ℕ) (o : Option Request) (new : List Request) → IsTrading w
-    → IfSome o (λ r. oldest_to x w.requests ≡ Some (r, new)) → IfNone o ((oldest_to x w.requests ≡ None) × (new ≡ w.requests))
-    → IsTrading (with_requests w new)
-taken_kept w x None new h some none = subst (λ rs. IsTrading (with_requests w rs)) (sym none.1) h
-taken_kept w x (Some r) new h some none = record {
-  tree = h.tree;
-  nodes = h.nodes;
-  leaves = h.leaves;
-  apart = h.apart;
-  objects = h.objects;
-  between = h.between;
-  requests = (taken_from w.sessions x w.requests (pair r new) h.requests some).others;
-}
-
--- SESSIONS THAT END
-
-between_unset : (n m : ℕ) (ss : List (Option Session)) (k : ℕ) → AreBetween n m ss → AreBetween n m (set ss k None)
-between_unset n m [] k h = h
-between_unset n m (None ∷ ss) zero h = h
-between_unset n m (None ∷ ss) (suc k) h = between_unset n m ss k h
-between_unset n m (Some t ∷ ss) zero h = h.1
-between_unset n m (Some t ∷ ss) (suc k) h = (h.0, between_unset n m ss k h.1)
-
-of_removed : (ss : List (Option Session)) (k : ℕ) (rs : List Request) → AreOfOthers k rs → AreOf ss rs → AreOf (set ss k None) rs
-of_removed ss k [] o h = tt
-of_removed ss k (r ∷ rs) o h =
-    let f : get_or (set ss k None) r.session None ≡ get_or ss r.session None = get_or-set_other ss k r.session None None o.0 in
-    (ap is_some f ∙ h.0, ap (λ x. (found x).server) f ∙ h.1, of_removed ss k rs o.1 h.2)
-
-pub removed_kept : (w : Trading) (k : ℕ) → IsTrading w → AreOfOthers k w.requests → IsTrading (with_sessions w (set w.sessions k None))
-removed_kept w k h o = record {
-  tree = h.tree;
-  nodes = h.nodes;
-  leaves = h.leaves;
-  apart = h.apart;
-  objects = h.objects;
-  between = between_unset (length w.leaves) (length w.objects) w.sessions k h.between;
-  requests = of_removed w.sessions k w.requests o h.requests;
-}
-
--- m is the memory in which the account a has freed a slice
-pub frees_of : (w : Trading) (m : Memory) (x : ℕ) (a : AccountNo) (t : Thing) → a ≡ account_no w x
-    → ((heap : Heap) → Changes heap heap (store_at w.memory.ledger a.0) (store_at m.ledger a.0) t thing.Empty)
-    → ((heap : Heap) → Pays heap heap (store_at w.memory.ledger a.0) (store_at m.ledger a.0) t thing.Empty)
-    → (store_at m.ledger a.0).left ≡ (store_at w.memory.ledger a.0).left + up (size_of t + 32)
-    → (store_at m.ledger a.0).caps ≡ one_more (store_at w.memory.ledger a.0).caps → m.payer ≡ w.memory.payer
-    → SameOthers w.memory.ledger m.ledger a → Frees w (with_memory w m) x t
-frees_of w m x a t e changes pays back caps payer rest = record {
-  is = refl;
-  payer = payer;
-  changes = subst (λ (b : AccountNo). (heap : Heap) → Changes heap heap (store_at w.memory.ledger b.0) (store_at m.ledger b.0) t thing.Empty) e changes;
-  pays = subst (λ (b : AccountNo). (heap : Heap) → Pays heap heap (store_at w.memory.ledger b.0) (store_at m.ledger b.0) t thing.Empty) e pays;
-  back =
-      subst (λ (b : AccountNo). (store_at m.ledger b.0).left ≡ (store_at w.memory.ledger b.0).left + up (size_of t + 32)) e back;
-  caps = subst (λ (b : AccountNo). (store_at m.ledger b.0).caps ≡ one_more (store_at w.memory.ledger b.0).caps) e caps;
-  others = subst (λ (b : AccountNo). SameOthers w.memory.ledger m.ledger b) e rest;
-}
-
--- MEMORY OF THE ACCOUNT THAT PAYS
-
-was_open : (m n : Memory) (a : ℕ) → SameRest m n → IsOpen m.ledger.accounts m.payer.0 → IsOpen n.ledger.accounts a → IsOpen m.ledger.accounts a
-was_open m n a s p h = elim (cases_eq a m.payer.0) [
-  | inl e ↦ subst (IsOpen m.ledger.accounts) (sym e) p
-  | inr ne ↦ subst (λ (x : Option Account). IsTrue (is_some x)) (s.accounts a ne) h
-]
-
-reference_same : (m n : Memory) (a : ℕ) → SameRest m n
-    → (account_at n.ledger.accounts a).reference ≡ (account_at m.ledger.accounts a).reference
-reference_same m n a s = elim (cases_eq a m.payer.0) [
-  | inl e ↦
-      subst (λ x. (account_at n.ledger.accounts x).reference ≡ (account_at m.ledger.accounts x).reference) (sym e) s.reference
-  | inr ne ↦ ap (λ o. (its_account o).reference) (s.accounts a ne)
-]
-
-pub rest_kept : (w : Trading) (n : Memory) → IsTrading w → SameRest w.memory n → IsOpen w.memory.ledger.accounts w.memory.payer.0
-    → IsTrading (with_memory w n)
-rest_kept w n h s p = record {
-  tree = h.tree;
-  nodes = record {
-    apart = h.nodes.apart;
-    references = λ i pos lt o.
-        reference_same w.memory n (number w.tree i) s ∙ h.nodes.references i pos lt (was_open w.memory n (number w.tree i) s p o);
-  };
-  leaves = h.leaves;
-  apart = h.apart;
-  objects = h.objects;
-  between = h.between;
-  requests = h.requests;
-}
+-- as a store of the account that pays
+pub rest_kept : (w : Trades) (v : Trading) → IsTrades w → IsTrading w.trading → SameButMemory w.trading v → IsTrades (with_trading w v)
+rest_kept w v h t s =
+    let m : Memory = record { ledger = v.memory.ledger; payer = w.trading.memory.payer } in
+    let e : v.memory ≡ m = λ i. record { ledger = v.memory.ledger; payer = s.memory.payer i } in
+    subst (λ y. IsTrades (with_trading w y)) (sym s.is)
+    (memory_kept w h t v.memory w.trading.memory.payer (subst (SameRest w.trading.memory) e s.memory))

@@ -1,4 +1,9 @@
+pub mod Ends
+pub mod Evens
+pub mod First
 mod Inside
 pub mod Kept
-pub mod Paying
-pub mod Sessions
+pub mod Leaving
+pub mod Settled
+pub mod Spent
+pub mod Sums

@@ -1,3 +1,5 @@
-pub mod Trading
-pub mod Seen
+pub mod Balances
+pub mod Ends
+pub mod Plans
+pub mod Trades
 pub mod internal

@@ -1,108 +1,90 @@
-// Sessions, requests and donations over the accounts of a scenario.
-ghost use Rattle.std.specs.Prelude.{◌≡◌, ℕ, ◌+◌, ◌<◌, ◌≤◌, ◌^◌, ◌↔◌, [], length, get_or, slice_set, Some, None, IfOk, OnOk, OnErr, IsErrOf, IfSome, IfNone};
-ghost use Rattle.gq_tariff.specs.Prices.{up};
+// Sessions over accounts whose balances are sums.
+ghost use Rattle.std.specs.Prelude.{◌≡◌, ℕ, ◌+◌, ◌<◌, ◌≤◌, ◌%◌, ◌^◌, ◌↔◌, length, get_or, Some, None, IfOk, OnOk, OnErr, IsErrOf, IfSome, IfNone};
 ghost use Rattle.gq_ram.specs.Entries.{available, available_caps, IsOpen};
-ghost use Rattle.gq_donations.specs.Trees.{AreNodes};
 ghost use Rattle.gq_numbered.specs.Numbers.{free_number, IsTaken};
 ghost use Rattle.gq_requests.specs.declared.requests.Ask.TheVariants as ask;
 ghost use Rattle.gq_requests.specs.Queues.{IsOldest, oldest_to};
 ghost use Rattle.gq_things.specs.declared.thing.Thing.TheVariants as thing;
-ghost use Rattle.gq_things.specs.Things.{IsSlice, size_of};
-ghost use Rattle.gq_trade.specs.Trading.{Accepts, AreOfOthers, Begins, Closes, Frees, IsBetween, IsOfOldest, LacksBytes, LacksCaps, Makes, Opens};
-ghost use Rattle.gq_trade.specs.Trading.{account_no, account_of, asked, bytes_then, caps_then};
-ghost use Rattle.gq_trade.specs.Trading.{client_of, entered, fresh};
-ghost use Rattle.gq_trade.specs.Trading.{given, its_account, opened, raised, server_of, session_at, store_of, upgraded, with_ask, with_memory, with_more};
-ghost use Rattle.gq_trade.specs.Trading.{with_requests, with_session, with_sessions};
+ghost use Rattle.gq_things.specs.Things.{IsSlice};
+ghost use Rattle.gq_sessions.specs.Trading.{Accepts, AreOfOthers, Closes, IsOfOldest, LacksBytes, LacksCaps, account_no, asked, bytes_then, caps_then};
+ghost use Rattle.gq_sessions.specs.Trading.{client_of, fresh, its_account, server_of, session_at, store_of, upgraded, with_ask, with_memory};
+ghost use Rattle.gq_sessions.specs.Trading.{with_session, with_slot};
+ghost use Rattle.gq_sessions.specs.Trading.{node_of, Leaves};
+ghost use Rattle.gq_trade.specs.declared.node.Stage.TheVariants as Stage;
+ghost use Rattle.gq_trade.specs.Ends.{CanStart, Ends, HasNoSessions, follower, staged, started};
+ghost use Rattle.gq_trade.specs.Plans.{IsFirst, IsPlan};
+ghost use Rattle.gq_donations.specs.Trees.{number};
+ghost use Rattle.gq_trade.specs.Balances.{node_at, quota, use_of};
+ghost use Rattle.gq_trade.specs.Trades.{HasAccount, IsLive, IsTrades, with_trading};
 
-use crate::objects::{free_slice_of, make_slice_for};
-use crate::session::{Session, Spot};
+use crate::node::{Node, Stage, follower, handed_to};
 use gq_donations::AccountTree;
 use gq_memory::Memory;
 use gq_model::limits::GREATEST_LEAVES;
-use gq_numbered::Numbered;
-use gq_ram::AccountFault;
-use gq_requests::{Ask, Request, Requests};
+use gq_ram::{AccountFault, AccountNo, Accounts};
+use gq_requests::Request;
+use gq_sessions::{Session, Sessions, Spot};
 use gq_store::{ByteStore, ChunkNo, GrowFault};
-use gq_tariff::{Amount, price_slice};
+use gq_tariff::Amount;
 use gq_things::Thing;
 use std::alloc::{AllocError, Global};
 use std::marker::Model;
 
-/// The memory of all accounts of a scenario, the sessions between its leaves, and the requests that wait for their servers. No call but `new` takes
-/// host memory.
+/// The sessions between the leaves of a scenario with the memory of all accounts, and what each node has been handed. The quota of each node is what
+/// it was handed and was given for sessions, less what it has lent and handed on. No call takes host memory.
 #[derive(Drop)]
 pub struct Trades {
-    memory: Memory,
-    tree: AccountTree,
-    // The node of each leaf.
-    leaves: Vec<usize>,
-    // The bytes of a session's object, for each service.
-    objects: Vec<u32>,
-    sessions: Numbered<Session>,
-    requests: Requests,
+    sessions: Sessions,
+    nodes: Vec<Node>,
 }
 
 impl Model for Trades {
-    ghost use Rattle.gq_trade.specs.Trading.{Trading, IsTrading};
+    ghost use Rattle.gq_trade.specs.Trades.{Trades, IsTrades};
 
-    ghost Value = { Trading };
+    ghost Value = { Trades };
 
-    ghost view = { λ t. record {
-      memory = t.memory;
-      tree = t.tree;
-      leaves = t.leaves.items;
-      objects = t.objects.items;
-      sessions = t.sessions.values;
-      room = t.sessions.room;
-      requests = t.requests;
-    } };
+    ghost view = { λ t. record { trading = t.sessions; nodes = t.nodes.items } };
 
-    ghost invariant = { λ t. IsTrading (record {
-      memory = t.memory;
-      tree = t.tree;
-      leaves = t.leaves.items;
-      objects = t.objects.items;
-      sessions = t.sessions.values;
-      room = t.sessions.room;
-      requests = t.requests;
-    }) };
+    ghost invariant = { λ t. IsTrades (record { trading = t.sessions; nodes = t.nodes.items }) };
+}
+
+/// The nodes of a scenario in preorder, the root first: the node above each (that of the root is not looked at), and its quantum, with which node it
+/// starts after; which node each leaf is; and how many bytes the object of a session has, for each service.
+#[derive(Drop)]
+pub struct Plan {
+    pub parents: Vec<usize>,
+    pub nodes: Vec<Node>,
+    pub leaves: Vec<usize>,
+    pub objects: Vec<u32>,
 }
 
 impl Trades {
-    /// No sessions between these leaves, and room for so many: the node of each leaf stands in the tree, which has the accounts of the memory. Of each
-    /// service it is told how many bytes the object of a session has.
-    /// `Err` where the host refuses memory for them.
+    /// Accounts for the nodes of a plan, with `total` bytes and, where they are counted, `caps` capabilities, which are handed down from the root: each
+    /// node that is live has its quantum less what it has handed on. There is room for so many sessions.
+    /// `Err` where the host refuses memory.
     pub fn new(
         alloc: Global,
-        memory: Memory,
-        tree: AccountTree,
-        leaves: Vec<usize>,
-        objects: Vec<u32>,
+        total: u64,
+        caps: Option<u64>,
+        plan: Plan,
         room: u32,
     ) -> Result<Trades, AllocError>
-        requires nodes { AreNodes tree memory.ledger.accounts }
-        requires leaves { (x : ℕ) → x < length leaves.items → get_or leaves.items x 0 < length tree.parents }
-        requires apart { (x y : ℕ) → x < length leaves.items → y < length leaves.items → get_or leaves.items x 0 ≡ get_or leaves.items y 0 → x ≡ y }
-        requires objects { (i : ℕ) → i < length objects.items → get_or objects.items i 0 ≤ 67108864 }
-        ensures { IfOk result (λ t. t ≡ record {
-          memory = memory;
-          tree = tree;
-          leaves = leaves.items;
-          objects = objects.items;
-          sessions = [];
-          room = room;
-          requests = [];
-        }) }
+        requires total { (4096 ≤ total) × (total ≤ 67108864) }
+        requires pages { total % 4096 ≡ 0 }
+        requires caps { IfSome caps (λ n. (1 ≤ n) × (n ≤ 65536)) }
+        requires plan { IsPlan total caps plan.parents.items plan.nodes.items plan.leaves.items plan.objects.items }
+        ensures { IfOk result (λ t. IsFirst total caps plan.parents.items plan.nodes.items plan.leaves.items plan.objects.items room t) }
     {
-        let _nothing = Thing::Empty;
-        let sessions = Numbered::new(alloc, room)?;
+        let mut accounts = Accounts::new(alloc, total, caps)?;
+        let root = accounts.root();
+        let tree = AccountTree::open(alloc, &mut accounts, plan.parents)?;
+        let handed = handed_to(alloc, plan.nodes.as_slice())?;
+        tree.hand_out(&mut accounts, handed.as_slice());
+        let memory = Memory::new(accounts, root);
+        let sessions = Sessions::new(alloc, memory, tree, plan.leaves, plan.objects, room)?;
         Ok(Trades {
-            memory,
-            tree,
-            leaves,
-            objects,
             sessions,
-            requests: Requests::new(),
+            nodes: plan.nodes,
         })
     }
 
@@ -119,95 +101,80 @@ impl Trades {
         service: usize,
         donation: Amount,
     ) -> Result<usize, AccountFault>
-        requires client { client < length self.old.leaves }
-        requires server { server < length self.old.leaves }
+        requires client { IsLive self.old client }
+        requires server { IsLive self.old server }
         requires apart { client ≡ server → ⊥ }
-        requires service { service < length self.old.objects }
-        requires client_open { IsOpen self.old.memory.ledger.accounts (account_of self.old client) }
-        requires server_open { IsOpen self.old.memory.ledger.accounts (account_of self.old server) }
-        requires counted { self.old.memory.ledger.price ≡ 0 → donation.caps ≡ 0 }
-        requires room { free_number self.old.sessions < self.old.room }
-        requires few { length self.old.requests < GREATEST_LEAVES }
-        ensures number { IfOk result (λ k. k ≡ free_number self.old.sessions) }
-        ensures asked { OnOk result (self.new ≡ asked self.old (fresh client spot server service donation)) }
-        ensures enough { OnOk result (donation.ram ≤ available (its_account self.old client)) }
-        ensures enough_caps { OnOk result (donation.caps ≤ available_caps (its_account self.old client)) }
+        requires service { service < length self.old.trading.objects }
+        requires counted { self.old.trading.memory.ledger.price ≡ 0 → donation.caps ≡ 0 }
+        requires room { free_number self.old.trading.sessions < self.old.trading.room }
+        requires few { length self.old.trading.requests < GREATEST_LEAVES }
+        ensures number { IfOk result (λ k. k ≡ free_number self.old.trading.sessions) }
+        ensures asked { OnOk result (self.new ≡ with_trading self.old (asked self.old.trading (fresh client spot server service donation))) }
+        ensures enough { OnOk result (donation.ram ≤ available (its_account self.old.trading client)) }
+        ensures enough_caps { OnOk result (donation.caps ≤ available_caps (its_account self.old.trading client)) }
         ensures unchanged { OnErr result (self.new ≡ self.old) }
-        ensures exceeded { IsErrOf result AccountFault.Exceeded ↔ (available (its_account self.old client) < donation.ram) }
+        ensures exceeded { IsErrOf result AccountFault.Exceeded ↔ (available (its_account self.old.trading client) < donation.ram) }
         ensures caps_exceeded { IsErrOf result AccountFault.CapsExceeded
-            ↔ ((donation.ram ≤ available (its_account self.old client)) × (available_caps (its_account self.old client) < donation.caps)) }
-        ensures only { OnErr result (donation.ram ≤ available (its_account self.old client)
-            → available_caps (its_account self.old client) < donation.caps) }
+            ↔ ((donation.ram ≤ available (its_account self.old.trading client))
+            × (available_caps (its_account self.old.trading client) < donation.caps)) }
+        ensures only { OnErr result (donation.ram ≤ available (its_account self.old.trading client)
+            → available_caps (its_account self.old.trading client) < donation.caps) }
     {
-        self.give(client, server, donation)?;
-        Ok(self.enter(Session {
-            client,
-            spot,
-            server,
-            service,
-            level: 0,
-            donation,
-            accepted: false,
-            object: Thing::Empty,
-            slots: [Thing::Empty; 8],
-        }))
+        self.sessions.laws();
+        self.sessions.ask(client, spot, server, service, donation)
     }
 
     /// Asks for the next level of a session: what is given for it goes from its client to its server, as in `ask`, and its request to upgrade is the
     /// last. Refused as `ask` is.
     pub fn upgrade(&mut self, session: usize, donation: Amount) -> Result<(), AccountFault>
-        requires there { IsTaken self.old.sessions session }
-        requires client_open { IsOpen self.old.memory.ledger.accounts (account_of self.old (client_of self.old session)) }
-        requires server_open { IsOpen self.old.memory.ledger.accounts (account_of self.old (server_of self.old session)) }
-        requires counted { self.old.memory.ledger.price ≡ 0 → donation.caps ≡ 0 }
-        requires small { (session_at self.old session).donation.ram + donation.ram ≤ 2 ^ 40 }
-        requires small_caps { (session_at self.old session).donation.caps + donation.caps ≤ 2 ^ 40 }
-        requires few { length self.old.requests < GREATEST_LEAVES }
-        ensures upgraded { OnOk result (self.new ≡ upgraded self.old session donation) }
-        ensures enough { OnOk result (donation.ram ≤ available (its_account self.old (client_of self.old session))) }
-        ensures enough_caps { OnOk result (donation.caps ≤ available_caps (its_account self.old (client_of self.old session))) }
+        requires there { IsTaken self.old.trading.sessions session }
+        requires counted { self.old.trading.memory.ledger.price ≡ 0 → donation.caps ≡ 0 }
+        requires small { (session_at self.old.trading session).donation.ram + donation.ram ≤ 2 ^ 40 }
+        requires small_caps { (session_at self.old.trading session).donation.caps + donation.caps ≤ 2 ^ 40 }
+        requires few { length self.old.trading.requests < GREATEST_LEAVES }
+        ensures upgraded { OnOk result (self.new ≡ with_trading self.old (upgraded self.old.trading session donation)) }
+        ensures enough { OnOk result (donation.ram ≤ available (its_account self.old.trading (client_of self.old.trading session))) }
+        ensures enough_caps { OnOk result (donation.caps ≤ available_caps (its_account self.old.trading (client_of self.old.trading session))) }
         ensures unchanged { OnErr result (self.new ≡ self.old) }
-        ensures exceeded { IsErrOf result AccountFault.Exceeded ↔ (available (its_account self.old (client_of self.old session)) < donation.ram) }
+        ensures exceeded { IsErrOf result AccountFault.Exceeded
+            ↔ (available (its_account self.old.trading (client_of self.old.trading session)) < donation.ram) }
         ensures caps_exceeded { IsErrOf result AccountFault.CapsExceeded
-            ↔ ((donation.ram ≤ available (its_account self.old (client_of self.old session)))
-            × (available_caps (its_account self.old (client_of self.old session)) < donation.caps)) }
-        ensures only { OnErr result (donation.ram ≤ available (its_account self.old (client_of self.old session))
-            → available_caps (its_account self.old (client_of self.old session)) < donation.caps) }
+            ↔ ((donation.ram ≤ available (its_account self.old.trading (client_of self.old.trading session)))
+            × (available_caps (its_account self.old.trading (client_of self.old.trading session)) < donation.caps)) }
+        ensures only { OnErr result (donation.ram ≤ available (its_account self.old.trading (client_of self.old.trading session))
+            → available_caps (its_account self.old.trading (client_of self.old.trading session)) < donation.caps) }
     {
-        let old = self.between(session);
-        self.give(old.client, old.server, donation)?;
-        self.raise_donation(session, donation);
-        self.push(session, old.server, Ask::Upgrade);
-        Ok(())
+        self.sessions.laws();
+        self.sessions.upgrade(session, donation)
     }
 
     /// Asks for the reply of a session's server to a number: the request is the last.
     pub fn ask_call(&mut self, session: usize, value: u32)
-        requires there { IsTaken self.old.sessions session }
-        requires few { length self.old.requests < GREATEST_LEAVES }
-        ensures { self.new ≡ with_ask self.old session (ask.Call value) }
+        requires there { IsTaken self.old.trading.sessions session }
+        requires few { length self.old.trading.requests < GREATEST_LEAVES }
+        ensures { self.new ≡ with_trading self.old (with_ask self.old.trading session (ask.Call value)) }
     {
-        let server = self.sessions.get(session).server;
-        self.push(session, server, Ask::Call(value));
+        self.sessions.laws();
+        self.sessions.ask_call(session, value);
     }
 
     /// Asks for the end of a session: the request is the last.
     pub fn ask_close(&mut self, session: usize)
-        requires there { IsTaken self.old.sessions session }
-        requires few { length self.old.requests < GREATEST_LEAVES }
-        ensures { self.new ≡ with_ask self.old session ask.Close }
+        requires there { IsTaken self.old.trading.sessions session }
+        requires few { length self.old.trading.requests < GREATEST_LEAVES }
+        ensures { self.new ≡ with_trading self.old (with_ask self.old.trading session ask.Close) }
     {
-        let server = self.sessions.get(session).server;
-        self.push(session, server, Ask::Close);
+        self.sessions.laws();
+        self.sessions.ask_close(session);
     }
 
     /// The oldest request to a server, of a session to it. It stays.
     pub fn waiting(&self, server: usize) -> Option<Request>
-        ensures some { IfSome result (λ r. IsOldest server self.now.requests r) }
-        ensures its { IfSome result (λ r. IsTaken self.now.sessions r.session × (server_of self.now r.session ≡ server)) }
-        ensures none { IfNone result (oldest_to server self.now.requests ≡ None) }
+        ensures some { IfSome result (λ r. IsOldest server self.now.trading.requests r) }
+        ensures its { IfSome result (λ r. IsTaken self.now.trading.sessions r.session × (server_of self.now.trading r.session ≡ server)) }
+        ensures none { IfNone result (oldest_to server self.now.trading.requests ≡ None) }
     {
-        self.requests.oldest(server)
+        self.sessions.waiting(server)
     }
 
     /// Takes the oldest request to a server, if there is one. A request to open makes the session's object, a slice which its server pays for and which
@@ -216,22 +183,20 @@ impl Trades {
     /// Refused as `Exceeded` where the object's bytes can't be paid, else as `CapsExceeded` where the server has no capability left; then nothing
     /// changes.
     pub fn accept(&mut self, server: usize) -> Result<Option<Request>, GrowFault>
-        requires server { server < length self.old.leaves }
-        requires open { IsOpen self.old.memory.ledger.accounts (account_of self.old server) }
-        requires level { IfSome (oldest_to server self.old.requests) (λ p. p.0.ask ≡ ask.Upgrade → (session_at self.old p.0.session).level < 3) }
-        ensures none { IfOk result (λ o. IfNone o ((oldest_to server self.old.requests ≡ None) × (self.new ≡ self.old))) }
-        ensures some { IfOk result (λ o. IfSome o (λ r. Accepts self.old self.new server r)) }
+        requires server { IsLive self.old server }
+        requires level { IfSome (oldest_to server self.old.trading.requests)
+            (λ p. p.0.ask ≡ ask.Upgrade → (session_at self.old.trading p.0.session).level < 3) }
+        ensures none { IfOk result (λ o. IfNone o ((oldest_to server self.old.trading.requests ≡ None) × (self.new ≡ self.old))) }
+        ensures some { IfOk result (λ o. IfSome o (λ r. Accepts self.old.trading self.new.trading server r)) }
+        ensures nodes { self.new.nodes ≡ self.old.nodes }
         ensures err { OnErr result (self.new ≡ self.old) }
-        ensures exceeded { IsErrOf result GrowFault.Exceeded ↔ IsOfOldest (oldest_to server self.old.requests) (λ r. LacksBytes r.ask self.old r.session) }
+        ensures exceeded { IsErrOf result GrowFault.Exceeded
+            ↔ IsOfOldest (oldest_to server self.old.trading.requests) (λ r. LacksBytes r.ask self.old.trading r.session) }
         ensures caps_exceeded { IsErrOf result GrowFault.CapsExceeded
-            ↔ IsOfOldest (oldest_to server self.old.requests) (λ r. LacksCaps r.ask self.old r.session) }
+            ↔ IsOfOldest (oldest_to server self.old.trading.requests) (λ r. LacksCaps r.ask self.old.trading r.session) }
     {
-        let Some(request) = self.waiting(server) else {
-            return Ok(None);
-        };
-        self.begin(request)?;
-        self.take(server, request);
-        Ok(Some(request))
+        self.sessions.laws();
+        self.sessions.accept(server)
     }
 
     /// Ends a session at the reply to its close: its object is freed, what was given for it goes back to its client, through every init on the way, and
@@ -240,351 +205,257 @@ impl Trades {
     /// Refused as `Exceeded` where its server could not pay the bytes back even then, else as `CapsExceeded` where it could not pay the
     /// capabilities back; then nothing changes.
     pub fn closed(&mut self, session: usize) -> Result<(), AccountFault>
-        requires there { IsTaken self.old.sessions session }
-        requires client_open { IsOpen self.old.memory.ledger.accounts (account_of self.old (client_of self.old session)) }
-        requires server_open { IsOpen self.old.memory.ledger.accounts (account_of self.old (server_of self.old session)) }
-        requires object { IsSlice (store_of self.old (server_of self.old session)) (session_at self.old session).object }
-        requires empty { (i : ℕ) → i < 8 → get_or (session_at self.old session).slots i thing.Empty ≡ thing.Empty }
-        requires counted { self.old.memory.ledger.price ≡ 0 → (session_at self.old session).donation.caps ≡ 0 }
-        requires none_waits { AreOfOthers session self.old.requests }
-        ensures ok { OnOk result (Closes self.old self.new session) }
+        requires there { IsTaken self.old.trading.sessions session }
+        requires object { IsSlice (store_of self.old.trading (server_of self.old.trading session)) (session_at self.old.trading session).object }
+        requires empty { (i : ℕ) → i < 8 → get_or (session_at self.old.trading session).slots i thing.Empty ≡ thing.Empty }
+        requires none_waits { AreOfOthers session self.old.trading.requests }
+        ensures ok { OnOk result (Closes self.old.trading self.new.trading session) }
+        ensures nodes { self.new.nodes ≡ self.old.nodes }
         ensures err { OnErr result (self.new ≡ self.old) }
-        ensures exceeded { IsErrOf result AccountFault.Exceeded ↔ (bytes_then self.old session < (session_at self.old session).donation.ram) }
+        ensures exceeded { IsErrOf result AccountFault.Exceeded
+            ↔ (bytes_then self.old.trading session < (session_at self.old.trading session).donation.ram) }
         ensures caps_exceeded { IsErrOf result AccountFault.CapsExceeded
-            ↔ (((session_at self.old session).donation.ram ≤ bytes_then self.old session)
-            × (caps_then self.old session < (session_at self.old session).donation.caps)) }
-        ensures only { OnErr result ((session_at self.old session).donation.ram ≤ bytes_then self.old session
-            → caps_then self.old session < (session_at self.old session).donation.caps) }
+            ↔ (((session_at self.old.trading session).donation.ram ≤ bytes_then self.old.trading session)
+            × (caps_then self.old.trading session < (session_at self.old.trading session).donation.caps)) }
+        ensures only { OnErr result ((session_at self.old.trading session).donation.ram ≤ bytes_then self.old.trading session
+            → caps_then self.old.trading session < (session_at self.old.trading session).donation.caps) }
     {
-        let old = self.between(session);
-        self.can_return(&old)?;
-        self.free(old.server, old.object);
-        self.give_back(old.server, old.client, old.donation);
-        self.remove(session);
-        Ok(())
+        self.sessions.laws();
+        self.sessions.closed(session)
     }
 
     /// The session of a number that is taken.
     pub fn session(&self, session: usize) -> Session
-        requires { IsTaken self.now.sessions session }
-        ensures { result ≡ session_at self.now session }
+        requires { IsTaken self.now.trading.sessions session }
+        ensures { result ≡ session_at self.now.trading session }
     {
-        self.sessions.get(session)
+        self.sessions.session(session)
+    }
+
+    /// What a slot of a session holds.
+    pub fn slot(&self, session: usize, slot: usize) -> Thing
+        requires there { IsTaken self.now.trading.sessions session }
+        requires slot { slot < 8 }
+        ensures { result ≡ get_or (session_at self.now.trading session).slots slot thing.Empty }
+    {
+        self.sessions.slot(session, slot)
+    }
+
+    /// Puts something into an empty slot of a session.
+    pub fn put(&mut self, session: usize, slot: usize, contents: Thing)
+        requires there { IsTaken self.old.trading.sessions session }
+        requires slot { slot < 8 }
+        requires empty { get_or (session_at self.old.trading session).slots slot thing.Empty ≡ thing.Empty }
+        ensures { self.new ≡ with_trading self.old
+            (with_session self.old.trading session (with_slot (session_at self.old.trading session) slot contents)) }
+    {
+        self.sessions.laws();
+        self.sessions.put(session, slot, contents);
+    }
+
+    /// Makes a slot of a session empty. What it held is not freed.
+    pub fn clear_slot(&mut self, session: usize, slot: usize)
+        requires there { IsTaken self.old.trading.sessions session }
+        requires slot { slot < 8 }
+        ensures { self.new ≡ with_trading self.old
+            (with_session self.old.trading session (with_slot (session_at self.old.trading session) slot thing.Empty)) }
+    {
+        self.sessions.laws();
+        self.sessions.clear_slot(session, slot);
+    }
+
+    /// Ends a leaf from which and to which there is no session: its account is closed, with all that it has in memory, and its quota of both kinds goes to
+    /// its init. A node that starts after it has its quantum from now on. The root's account pays.
+    pub fn end(&mut self, leaf: usize)
+        requires leaf { IsLive self.old leaf }
+        requires alone { HasNoSessions self.old.trading leaf }
+        ensures { Ends self.old self.new leaf }
+    {
+        let node = self.leave(leaf);
+        if let Some(next) = follower(self.nodes.as_slice(), node) {
+            self.start(next);
+        }
+    }
+
+    // Closes the account of a leaf, which gives its quantum back. Tells its node.
+    fn leave(&mut self, leaf: usize) -> usize
+        requires leaf { IsLive self.old leaf }
+        requires alone { HasNoSessions self.old.trading leaf }
+        ensures node { result ≡ node_of self.old.trading leaf }
+        ensures leaves { Leaves self.old.trading self.new.trading leaf }
+        ensures nodes { self.new.nodes ≡ staged self.old.nodes (node_of self.old.trading leaf) Stage.Ended }
+        ensures follower { IfSome (follower (node_of self.old.trading leaf) self.new.nodes) (λ i. CanStart self.new i) }
+    {
+        self.sessions.laws();
+        self.sessions.memory().accounts().laws();
+        let node = self.sessions.node(leaf);
+        let old = self.nodes[node];
+        self.sessions.close(leaf);
+        self.nodes[node] = Node {
+            stage: Stage::Ended,
+            ..old
+        };
+        node
+    }
+
+    // A pending node has its quantum from now on.
+    fn start(&mut self, node: usize)
+        requires { CanStart self.old node }
+        ensures { self.new ≡ started self.old (Some node) }
+    {
+        self.sessions.laws();
+        let old = self.nodes[node];
+        self.sessions.hand(node, old.quantum);
+        self.nodes[node] = Node {
+            stage: Stage::Live,
+            ..old
+        };
+    }
+
+    /// What was given for a session: bytes and capabilities.
+    pub fn donation(&self, session: usize) -> Amount
+        requires { IsTaken self.now.trading.sessions session }
+        ensures { result ≡ (session_at self.now.trading session).donation }
+    {
+        self.sessions.session(session).donation
+    }
+
+    /// How many upgrades of a session were accepted.
+    pub fn level(&self, session: usize) -> u8
+        requires { IsTaken self.now.trading.sessions session }
+        ensures { result ≡ (session_at self.now.trading session).level }
+    {
+        self.sessions.session(session).level
+    }
+
+    /// Whether a node has its quantum.
+    pub fn stage(&self, node: usize) -> Stage
+        requires { node < length self.now.nodes }
+        ensures { result ≡ (node_at self.now.nodes node).stage }
+    {
+        self.nodes[node].stage
+    }
+
+    /// The quota of a node that has not ended, in bytes: what it was handed and was given for sessions, less what it has lent and handed on.
+    pub fn quota(&self, node: usize) -> u64
+        requires { HasAccount self.now node }
+        ensures { result ≡ quota (λ n. n.ram) self.now.trading node }
+    {
+        let account = self.open_account(node);
+        self.sessions.memory().accounts().quota(account)
+    }
+
+    /// The quota of a node that has not ended, in capabilities.
+    pub fn caps(&self, node: usize) -> u64
+        requires { HasAccount self.now node }
+        ensures { result ≡ quota (λ n. n.caps) self.now.trading node }
+    {
+        let account = self.open_account(node);
+        self.sessions.memory().accounts().caps(account)
+    }
+
+    /// The bytes that a node, which has not ended, has in use: what its memory costs.
+    pub fn used(&self, node: usize) -> u64
+        requires { HasAccount self.now node }
+        ensures { result ≡ use_of (λ n. n.ram) self.now.trading node }
+    {
+        let account = self.open_account(node);
+        self.sessions.memory().accounts().used(account)
+    }
+
+    /// The capabilities that a node, which has not ended, has in use; 0 where they are not counted.
+    pub fn caps_used(&self, node: usize) -> u64
+        requires { HasAccount self.now node }
+        ensures { result ≡ use_of (λ n. n.caps) self.now.trading node }
+    {
+        let account = self.open_account(node);
+        self.sessions.memory().accounts().caps_used(account)
+    }
+
+    /// How many pages of 4096 bytes nobody has in use.
+    pub fn free_pages(&self) -> u32
+        ensures { result ≡ self.now.trading.memory.ledger.spaces.free }
+    {
+        self.sessions.memory().accounts().free_pages()
+    }
+
+    // The account of a node that has not ended, which is open.
+    fn open_account(&self, node: usize) -> AccountNo
+        requires { HasAccount self.now node }
+        ensures is { result.0 ≡ number self.now.trading.tree node }
+        ensures open { IsOpen self.now.trading.memory.ledger.accounts result.0 }
+    {
+        let _nodes = &self.nodes;
+        self.sessions.account(node)
     }
 
     /// Another leaf pays from now on: as a store, this has what its account has.
     pub fn pay_by(&mut self, leaf: usize)
-        requires leaf { leaf < length self.old.leaves }
-        requires open { IsOpen self.old.memory.ledger.accounts (account_of self.old leaf) }
-        ensures { self.new ≡ with_memory self.old (record { ledger = self.old.memory.ledger; payer = account_no self.old leaf }) }
+        requires leaf { IsLive self.old leaf }
+        ensures { self.new ≡ with_trading self.old (with_memory self.old.trading (record {
+          ledger = self.old.trading.memory.ledger;
+          payer = account_no self.old.trading leaf;
+        })) }
     {
-        let account = self.tree.account(self.leaves[leaf]);
-        self.memory.pay_by(account);
+        self.sessions.laws();
+        self.sessions.pay_by(leaf);
+    }
+
+    /// What holds in every `Trades`: the stored quota of each node is what it was handed and was given for sessions, less what it has lent and handed
+    /// on, of bytes and of capabilities; client and server of each session are live. It does nothing.
+    pub fn laws(&self)
+        ensures { IsTrades self.now }
+    {
+        let _nodes = &self.nodes;
     }
 
     /// The memory of all accounts.
     pub fn memory(&self) -> &Memory
-        ensures { result.now ≡ self.now.memory }
+        ensures { result.now ≡ self.now.trading.memory }
     {
-        &self.memory
-    }
-
-    // The session of a number that is taken: its client and server are two of the leaves.
-    fn between(&self, session: usize) -> Session
-        requires { IsTaken self.now.sessions session }
-        ensures is { result ≡ session_at self.now session }
-        ensures between { IsBetween (length self.now.leaves) (length self.now.objects) result }
-    {
-        self.sessions.get(session)
-    }
-
-    // Takes a request, which is the oldest to a server.
-    fn take(&mut self, server: usize, request: Request)
-        requires { IsOldest server self.old.requests request }
-        ensures taken { oldest_to server self.old.requests ≡ Some (request, self.new.requests) }
-        ensures rest { self.new ≡ with_requests self.old self.new.requests }
-    {
-        self.requests.take_oldest(server);
-    }
-
-    // What a request does to its session as it is accepted.
-    fn begin(&mut self, request: Request) -> Result<(), GrowFault>
-        requires there { IsTaken self.old.sessions request.session }
-        requires open { IsOpen self.old.memory.ledger.accounts (account_of self.old (server_of self.old request.session)) }
-        requires level { request.ask ≡ ask.Upgrade → (session_at self.old request.session).level < 3 }
-        ensures ok { OnOk result (Begins request.ask self.old self.new request.session) }
-        ensures err { OnErr result (self.new ≡ self.old) }
-        ensures exceeded { IsErrOf result GrowFault.Exceeded ↔ LacksBytes request.ask self.old request.session }
-        ensures caps_exceeded { IsErrOf result GrowFault.CapsExceeded ↔ LacksCaps request.ask self.old request.session }
-    {
-        match request.ask {
-            Ask::Open => self.open(request.session),
-            Ask::Upgrade => {
-                self.raise(request.session);
-                Ok(())
-            }
-            Ask::Close | Ask::Call(_) => Ok(()),
-        }
-    }
-
-    // The session is accepted, with its object.
-    fn open(&mut self, session: usize) -> Result<(), GrowFault>
-        requires there { IsTaken self.old.sessions session }
-        requires open { IsOpen self.old.memory.ledger.accounts (account_of self.old (server_of self.old session)) }
-        ensures ok { OnOk result (Opens self.old self.new session) }
-        ensures err { OnErr result (self.new ≡ self.old) }
-        ensures exceeded { IsErrOf result GrowFault.Exceeded ↔ LacksBytes ask.Open self.old session }
-        ensures caps_exceeded { IsErrOf result GrowFault.CapsExceeded ↔ LacksCaps ask.Open self.old session }
-    {
-        let old = self.between(session);
-        let object = self.make(old.server, old.service)?;
-        self.put_object(session, object);
-        Ok(())
-    }
-
-    // An object of a service, a slice that a leaf pays for.
-    fn make(&mut self, leaf: usize, service: usize) -> Result<Thing, GrowFault>
-        requires leaf { leaf < length self.old.leaves }
-        requires service { service < length self.old.objects }
-        requires open { IsOpen self.old.memory.ledger.accounts (account_of self.old leaf) }
-        ensures ok { IfOk result (λ t. Makes self.old self.new leaf (get_or self.old.objects service 0) t) }
-        ensures err { OnErr result (self.new ≡ self.old) }
-        ensures exceeded { IsErrOf result GrowFault.Exceeded ↔ ((store_of self.old leaf).left < up (get_or self.old.objects service 0 + 32)) }
-        ensures caps_exceeded { IsErrOf result GrowFault.CapsExceeded
-            ↔ ((up (get_or self.old.objects service 0 + 32) ≤ (store_of self.old leaf).left) × ((store_of self.old leaf).caps ≡ Some 0)) }
-    {
-        let node = self.leaves[leaf];
-        let size = self.objects[service];
-        let account = self.tree.account(node);
-        make_slice_for(&mut self.memory, account, size)
-    }
-
-    // A session is accepted, with this object.
-    fn put_object(&mut self, session: usize, object: Thing)
-        requires { IsTaken self.old.sessions session }
-        ensures { self.new ≡ with_session self.old session (opened (session_at self.old session) object) }
-    {
-        let old = self.session(session);
-        self.set(
-            session,
-            Session {
-                accepted: true,
-                object,
-                ..old
-            },
-        );
-    }
-
-    // Another session of the same client, server and service in the place of one.
-    fn set(&mut self, number: usize, session: Session)
-        requires there { IsTaken self.old.sessions number }
-        requires client { session.client ≡ (session_at self.old number).client }
-        requires server { session.server ≡ (session_at self.old number).server }
-        requires service { session.service ≡ (session_at self.old number).service }
-        ensures { self.new ≡ with_session self.old number session }
-    {
-        self.sessions.set(number, session);
-    }
-
-    // The level of a session is one higher.
-    fn raise(&mut self, session: usize)
-        requires there { IsTaken self.old.sessions session }
-        requires level { (session_at self.old session).level < 3 }
-        ensures { self.new ≡ with_session self.old session (raised (session_at self.old session)) }
-    {
-        let old = self.session(session);
-        self.set(
-            session,
-            Session {
-                level: old.level + 1,
-                ..old
-            },
-        );
-    }
-
-    // Whether the server of a session can give back what was given for it, once the session's object is freed.
-    fn can_return(&self, session: &Session) -> Result<(), AccountFault>
-        requires server { session.now.server < length self.now.leaves }
-        requires open { IsOpen self.now.memory.ledger.accounts (account_of self.now session.now.server) }
-        requires object { size_of session.now.object ≤ 67108864 }
-        ensures enough { OnOk result (session.now.donation.ram ≤ available (its_account self.now session.now.server) + up (size_of session.now.object + 32)) }
-        ensures enough_caps { OnOk result (session.now.donation.caps ≤ available_caps (its_account self.now session.now.server) + 1) }
-        ensures exceeded { IsErrOf result AccountFault.Exceeded
-            ↔ (available (its_account self.now session.now.server) + up (size_of session.now.object + 32) < session.now.donation.ram) }
-        ensures caps_exceeded { IsErrOf result AccountFault.CapsExceeded
-            ↔ ((session.now.donation.ram ≤ available (its_account self.now session.now.server) + up (size_of session.now.object + 32))
-            × (available_caps (its_account self.now session.now.server) + 1 < session.now.donation.caps)) }
-        ensures only { OnErr result (session.now.donation.ram ≤ available (its_account self.now session.now.server) + up (size_of session.now.object + 32)
-            → available_caps (its_account self.now session.now.server) + 1 < session.now.donation.caps) }
-    {
-        let node = self.leaves[session.server];
-        let account = self.tree.account(node);
-        let accounts = self.memory.accounts();
-        accounts.laws();
-        let price = price_slice(u64::from(session.object.size()));
-        if session.donation.ram.saturating_sub(price) > accounts.avail(account) {
-            return Err(AccountFault::Exceeded);
-        }
-        let caps = accounts.caps(account) - accounts.caps_used(account);
-        if session.donation.caps.saturating_sub(1) > caps {
-            return Err(AccountFault::CapsExceeded);
-        }
-        Ok(())
-    }
-
-    // Makes a slice free that a leaf has paid for.
-    fn free(&mut self, leaf: usize, slice: Thing)
-        requires leaf { leaf < length self.old.leaves }
-        requires open { IsOpen self.old.memory.ledger.accounts (account_of self.old leaf) }
-        requires slice { IsSlice (store_of self.old leaf) slice }
-        ensures { Frees self.old self.new leaf slice }
-    {
-        let node = self.leaves[leaf];
-        let account = self.tree.account(node);
-        free_slice_of(&mut self.memory, account, slice);
-    }
-
-    // Moves quota between two leaves, of which the first is known to have it.
-    fn give_back(&mut self, from: usize, to: usize, amount: Amount)
-        requires from { from < length self.old.leaves }
-        requires to { to < length self.old.leaves }
-        requires apart { from ≡ to → ⊥ }
-        requires from_open { IsOpen self.old.memory.ledger.accounts (account_of self.old from) }
-        requires to_open { IsOpen self.old.memory.ledger.accounts (account_of self.old to) }
-        requires counted { self.old.memory.ledger.price ≡ 0 → amount.caps ≡ 0 }
-        requires enough { amount.ram ≤ available (its_account self.old from) }
-        requires enough_caps { amount.caps ≤ available_caps (its_account self.old from) }
-        ensures { self.new ≡ given self.old from to amount }
-    {
-        let from = self.leaves[from];
-        let to = self.leaves[to];
-        self.memory.give(&self.tree, from, to, amount);
-    }
-
-    // The number of a session is free, of which no request waits.
-    fn remove(&mut self, session: usize)
-        requires there { IsTaken self.old.sessions session }
-        requires none_waits { AreOfOthers session self.old.requests }
-        ensures { self.new ≡ with_sessions self.old (slice_set self.old.sessions session None) }
-    {
-        self.sessions.remove(session);
-    }
-
-    // Moves quota from the account of one leaf to that of another, through every init on the way.
-    fn give(&mut self, from: usize, to: usize, amount: Amount) -> Result<(), AccountFault>
-        requires from { from < length self.old.leaves }
-        requires to { to < length self.old.leaves }
-        requires apart { from ≡ to → ⊥ }
-        requires from_open { IsOpen self.old.memory.ledger.accounts (account_of self.old from) }
-        requires to_open { IsOpen self.old.memory.ledger.accounts (account_of self.old to) }
-        requires counted { self.old.memory.ledger.price ≡ 0 → amount.caps ≡ 0 }
-        ensures given { OnOk result (self.new ≡ given self.old from to amount) }
-        ensures enough { OnOk result (amount.ram ≤ available (its_account self.old from)) }
-        ensures enough_caps { OnOk result (amount.caps ≤ available_caps (its_account self.old from)) }
-        ensures unchanged { OnErr result (self.new ≡ self.old) }
-        ensures exceeded { IsErrOf result AccountFault.Exceeded ↔ (available (its_account self.old from) < amount.ram) }
-        ensures caps_exceeded { IsErrOf result AccountFault.CapsExceeded
-            ↔ ((amount.ram ≤ available (its_account self.old from)) × (available_caps (its_account self.old from) < amount.caps)) }
-        ensures only { OnErr result (amount.ram ≤ available (its_account self.old from) → available_caps (its_account self.old from) < amount.caps) }
-    {
-        let from = self.leaves[from];
-        let to = self.leaves[to];
-        self.memory.donate(&self.tree, from, to, amount)
-    }
-
-    // A session more, at the lowest free number, and its request to open, behind all others.
-    fn enter(&mut self, session: Session) -> usize
-        requires client { session.client < length self.old.leaves }
-        requires server { session.server < length self.old.leaves }
-        requires apart { session.client ≡ session.server → ⊥ }
-        requires service { session.service < length self.old.objects }
-        requires room { free_number self.old.sessions < self.old.room }
-        requires few { length self.old.requests < GREATEST_LEAVES }
-        ensures number { result ≡ free_number self.old.sessions }
-        ensures entered { self.new ≡ entered self.old session }
-    {
-        let _nothing = Thing::Empty;
-        let server = session.server;
-        let number = self.sessions.add(session);
-        self.requests.push(Request {
-            session: number,
-            server,
-            ask: Ask::Open,
-        });
-        number
-    }
-
-    // So much more was given for a session.
-    fn raise_donation(&mut self, session: usize, more: Amount)
-        requires there { IsTaken self.old.sessions session }
-        requires small { (session_at self.old session).donation.ram + more.ram ≤ 2 ^ 40 }
-        requires small_caps { (session_at self.old session).donation.caps + more.caps ≤ 2 ^ 40 }
-        ensures { self.new ≡ with_session self.old session (with_more (session_at self.old session) more) }
-    {
-        let old = self.session(session);
-        let ram = old.donation.ram + more.ram;
-        let caps = old.donation.caps + more.caps;
-        self.set(
-            session,
-            Session {
-                donation: Amount { ram, caps },
-                ..old
-            },
-        );
-    }
-
-    // A request of a session, behind all others.
-    fn push(&mut self, session: usize, server: usize, ask: Ask)
-        requires there { IsTaken self.old.sessions session }
-        requires its { server ≡ server_of self.old session }
-        requires few { length self.old.requests < GREATEST_LEAVES }
-        ensures { self.new ≡ with_ask self.old session ask }
-    {
-        self.requests.push(Request {
-            session,
-            server,
-            ask,
-        });
+        self.sessions.memory()
     }
 }
 
 impl ByteStore for Trades {
     ghost use Rattle.gq_memory.specs.Stores.{store_of as store_of_memory};
-    ghost use Rattle.gq_trade.specs.Trading.{SameButMemory};
+    ghost use Rattle.gq_trade.specs.Trades.{SameButMemory};
 
-    ghost state = { λ t. store_of_memory t.memory };
+    ghost state = { λ t. store_of_memory t.trading.memory };
 
     ghost same_rest = { SameButMemory };
 
     fn grow(&mut self, pages: u32) -> Result<ChunkNo, GrowFault> {
-        self.memory.grow(pages)
+        self.sessions.laws();
+        self.sessions.grow(pages)
     }
 
     fn shrink(&mut self, chunk: ChunkNo) {
-        self.memory.shrink(chunk);
+        self.sessions.laws();
+        self.sessions.shrink(chunk);
     }
 
     fn load(&self, chunk: ChunkNo, offset: u32) -> u8 {
-        self.memory.load(chunk, offset)
+        self.sessions.load(chunk, offset)
     }
 
     fn store(&mut self, chunk: ChunkNo, offset: u32, value: u8) {
-        let _open = self.memory.payer();
-        self.memory.store(chunk, offset, value);
+        self.sessions.laws();
+        self.sessions.store(chunk, offset, value);
     }
 
     fn load4(&self, chunk: ChunkNo, offset: u32) -> u32 {
-        self.memory.load4(chunk, offset)
+        self.sessions.load4(chunk, offset)
     }
 
     fn store4(&mut self, chunk: ChunkNo, offset: u32, value: u32) {
-        let _open = self.memory.payer();
-        self.memory.store4(chunk, offset, value);
+        self.sessions.laws();
+        self.sessions.store4(chunk, offset, value);
     }
 
     fn clear(&mut self, chunk: ChunkNo, offset: u32, size: u32) {
-        let _open = self.memory.payer();
-        self.memory.clear(chunk, offset, size);
+        self.sessions.laws();
+        self.sessions.clear(chunk, offset, size);
     }
 
     ghost use Rattle.gq_trade.specs.internal.Stored.{rest_refl as refl_of, rest_trans as trans_of};

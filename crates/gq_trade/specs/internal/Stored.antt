@@ -1,13 +1,10 @@
 -- What stays of all else along several calls of the store.
-use Rattle.std.proofs.Common.{refl, ap, ◌∙◌}
-use Rattle.gq_memory.specs.internal.Rests.{rest_refl as memory_refl, rest_trans as memory_trans}
-use Rattle.gq_trade.specs.Trading.{Trading, SameButMemory, with_memory}
+use Rattle.std.proofs.Common.{refl, ◌∙◌}
+use Rattle.gq_sessions.specs.internal.Stored.{rest_refl as trading_refl, rest_trans as trading_trans}
+use Rattle.gq_trade.specs.Trades.{Trades, SameButMemory}
 
-pub rest_refl : (w : Trading) → SameButMemory w w
-rest_refl w = record { is = refl; memory = memory_refl w.memory }
+pub rest_refl : (w : Trades) → SameButMemory w w
+rest_refl w = record { trading = trading_refl w.trading; nodes = refl }
 
-pub rest_trans : (u v w : Trading) → SameButMemory u v → SameButMemory v w → SameButMemory u w
-rest_trans u v w p q = record {
-  is = q.is ∙ ap (λ (x : Trading). with_memory x w.memory) p.is;
-  memory = memory_trans u.memory v.memory w.memory p.memory q.memory;
-}
+pub rest_trans : (u v w : Trades) → SameButMemory u v → SameButMemory v w → SameButMemory u w
+rest_trans u v w p q = record { trading = trading_trans u.trading v.trading w.trading p.trading q.trading; nodes = q.nodes ∙ p.nodes }

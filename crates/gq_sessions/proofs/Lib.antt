@@ -1,0 +1,5 @@
+pub mod Closing
+pub mod Definition
+mod Inside
+pub mod Kept
+pub mod Paying

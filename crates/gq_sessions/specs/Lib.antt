@@ -1,0 +1,3 @@
+pub mod Trading
+pub mod Seen
+pub mod internal

@@ -1,0 +1,131 @@
+-- What holds in a `Trades` once a request is accepted, and once a session is closed.
+use Rattle.std.proofs.Common.{◌≡◌, ℕ, ◌+◌, ◌<◌, ◌≤◌, inl, inr, List, set, Option, Some, None, Result, Ok, Err, IfOk, OnOk, OnErr, IfSome, IfNone, IsErrOf}
+use Rattle.std.proofs.Common.{◌↔◌, refl, sym, subst, ◌∙◌, arith}
+use Rattle.std.proofs.lemmas.Bool.Decides.{eqb_tells}
+use Rattle.gq_ram.specs.declared.account.Account.{Account}
+use Rattle.gq_ram.specs.Entries.{account_at, available_caps}
+use Rattle.gq_donations.specs.Trees.{AreNodes}
+use Rattle.gq_store.specs.Store.{one_more}
+use Rattle.gq_memory.specs.Stores.{Memory, caps_left}
+use Rattle.gq_memory.specs.internal.Rests.{rest_refl}
+use Rattle.gq_numbered.specs.Numbers.{IsTaken}
+use Rattle.gq_requests.specs.declared.requests.Ask.{Ask}
+use Rattle.gq_requests.specs.declared.requests.Ask.TheVariants.{Open, Upgrade, Close, Call}
+use Rattle.gq_requests.specs.declared.requests.Request.{Request}
+use Rattle.gq_requests.specs.Queues.{oldest_to}
+use Rattle.gq_sessions.specs.Trading.{Trading, IsTrading, Accepts, Begins, Closes, account_no, account_of, bytes_then, caps_then}
+use Rattle.gq_sessions.specs.Trading.{node_of, opened, raised, server_of, session_at, with_memory, with_requests}
+use Rattle.gq_sessions.proofs.Kept.{rest_kept, taken_from}
+use Rattle.gq_trade.specs.Balances.{quota}
+use Rattle.gq_trade.specs.Trades.{Trades, IsTrades, IsSettled, with_trading}
+use Rattle.gq_trade.proofs.Evens.{ram_kind, caps_kind, closed_even, rest_quota}
+use Rattle.gq_trade.proofs.Settled.{Each, each_unset, moved_settled, rest_settled}
+use Rattle.gq_trade.proofs.Kept.{client_live, live_open, nodes_apart, parties, server_live, session_kept}
+
+some_number : (a b : ℕ) → Some a ≡ Some b → a ≡ b
+some_number a b e = cc
+
+-- what a server can pay back of capabilities, once it has one more
+caps_enough : (price : ℕ) (a b : Account) (n : ℕ) → caps_left price b ≡ one_more (caps_left price a) → (price ≡ 0 → n ≡ 0)
+    → n ≤ available_caps a + 1 → n ≤ b.quota.caps
+caps_enough price a b n e none h = elim (eqb_tells price 0) [
+  | inl y ↦ omega (arith, none y.1)
+  | inr u ↦
+      let f : Some (available_caps b) ≡ Some (available_caps a + 1) = rw u.0 at e in
+      let q = some_number (available_caps b) (available_caps a + 1) f in
+      omega (arith, q, h)
+]
+
+abbrev pair : Request → List Request → Request × List Request
+pair r rs = (r, rs)
+
+module _ (w : Trades) (h : IsTrades w) (t : IsTrading w.trading) where
+  begun_kept : (a : Ask) (u : Trading) (k : ℕ) → IsTaken w.trading.sessions k → Begins a w.trading u k → IsTrades (with_trading w u)
+  begun_kept Open u k taken b =
+      subst (λ y. IsTrades (with_trading w y)) (sym b.is)
+      (session_kept w h t u.memory (account_no w.trading (server_of w.trading k)) k (opened (session_at w.trading k) b.object) b.makes.others taken
+      refl refl refl)
+  begun_kept Upgrade u k taken b =
+      subst (λ y. IsTrades (with_trading w y)) (sym b)
+      (session_kept w h t w.trading.memory w.trading.memory.payer k (raised (session_at w.trading k)) (rest_refl w.trading.memory) taken refl refl refl)
+  begun_kept Close u k taken b = subst (λ y. IsTrades (with_trading w y)) (sym b) h
+  begun_kept (Call n) u k taken b = subst (λ y. IsTrades (with_trading w y)) (sym b) h
+
+  pub accepted_kept : (v : Trading) (x : ℕ) (r : Request) → Accepts w.trading v x r → IsTrades (with_trading w v)
+  accepted_kept v x r a =
+      let found = taken_from w.trading.sessions x w.trading.requests (pair r v.requests) t.requests a.oldest in
+      let i = begun_kept r.ask (with_requests v w.trading.requests) r.session found.there a.begins in
+      record { uncounted = i.uncounted; settled = i.settled; sessions = i.sessions; even = i.even }
+
+  pub closes_kept : (v : Trading) (k : ℕ) → IsTaken w.trading.sessions k → Closes w.trading v k
+      → (session_at w.trading k).donation.ram ≤ bytes_then w.trading k → (session_at w.trading k).donation.caps ≤ caps_then w.trading k
+      → IsTrades (with_trading w v)
+  closes_kept v k taken c enough enough_caps =
+      let u = w.trading in
+      let s = session_at u k in
+      let m = c.between in
+      let a = account_no u s.server in
+      let l : Memory = record { ledger = u.memory.ledger; payer = a } in
+      let n : Memory = record { ledger = m.ledger; payer = a } in
+      let rest = c.frees.others in
+      let old = h.sessions k taken in
+      let cl = client_live w h t k taken in let sl = server_live w h t k taken in
+      let xo = live_open w h t s.client cl in let yo = live_open w h t s.server sl in
+      let xm = rest.still_open (account_of u s.client) xo in let ym = rest.still_open (account_of u s.server) yo in
+      let ne = nodes_apart w h t s.server s.client sl.there cl.there (λ e. (parties w h t k taken).apart (sym e)) in
+      let tl : IsTrading (with_memory u l) = record {
+        tree = t.tree;
+        nodes = t.nodes;
+        leaves = t.leaves;
+        apart = t.apart;
+        objects = t.objects;
+        between = t.between;
+        requests = t.requests;
+      } in
+      let nodes : AreNodes u.tree m.ledger.accounts = (rest_kept (with_memory u l) n tl rest yo).nodes in
+      let more : (session_at u k).donation.ram ≤ quota (λ d. d.ram) (with_memory u m) (node_of u s.server) = omega (arith, enough, c.frees.back) in
+      let counted : (session_at u k).donation.caps ≤ quota (λ d. d.caps) (with_memory u m) (node_of u s.server) =
+      caps_enough u.memory.ledger.price (account_at u.memory.ledger.accounts (account_of u s.server)) (account_at m.ledger.accounts (account_of u s.server))
+      s.donation.caps (subst (λ p. caps_left p (account_at m.ledger.accounts (account_of u s.server)) ≡ one_more (caps_left u.memory.ledger.price
+      (account_at u.memory.ledger.accounts (account_of u s.server)))) rest.whole.0 c.frees.caps) old.counted enough_caps in
+      let freed = rest_settled u.tree u.leaves w.nodes l n h.settled rest in
+      let price = sym rest.whole.0 in
+      subst (λ y. IsTrades (with_trading w y)) (sym c.is) (record {
+        uncounted = λ z. h.uncounted (sym rest.whole.0 ∙ z);
+        settled = moved_settled u.tree u.leaves w.nodes m.ledger.accounts (account_of u s.server) (account_of u s.client) s.donation freed ym xm;
+        sessions = subst (λ p. Each (IsSettled u.leaves w.nodes p) (set u.sessions k None)) price
+            (each_unset (IsSettled u.leaves w.nodes u.memory.ledger.price) u.sessions k h.sessions);
+        even = λ i lt. (
+          closed_even (λ d. d.ram) ram_kind u w.nodes m k (λ j. rest_quota (λ d. d.ram) u.tree l n j rest) nodes taken (t.leaves s.client cl.there)
+              (t.leaves s.server sl.there) xm ym ne more i lt (h.even i lt).0,
+          closed_even (λ d. d.caps) caps_kind u w.nodes m k (λ j. rest_quota (λ d. d.caps) u.tree l n j rest) nodes taken (t.leaves s.client cl.there)
+              (t.leaves s.server sl.there) xm ym ne counted i lt (h.even i lt).1,
+        );
+      })
+
+-- a call that may be refused
+pub accepted_by : {E : Type 0} (r : Result (Option Request) E) (w : Trades) (v : Trading) (x : ℕ) → IsTrades w → IsTrading w.trading
+    → IfOk r (λ o. IfNone o ((oldest_to x w.trading.requests ≡ None) × (v ≡ w.trading))) → IfOk r (λ o. IfSome o (λ q. Accepts w.trading v x q))
+    → OnErr r (v ≡ w.trading) → IsTrades (with_trading w v)
+accepted_by (Ok None) w v x h t none some err = subst (λ y. IsTrades (with_trading w y)) (sym none.1) h
+accepted_by (Ok (Some q)) w v x h t none some err = accepted_kept w h t v x q some
+accepted_by (Err e) w v x h t none some err = subst (λ y. IsTrades (with_trading w y)) (sym err) h
+
+none_refused : {A E : Type 0} (a : A) (e : E) → IsErrOf (Ok a) e → ⊥
+none_refused a e h = cc
+
+-- what is no less is enough
+not_less : (a b : ℕ) → (b < a → ⊥) → a ≤ b
+not_less a b h = grind (arith, h)
+
+pub closed_by : {E : Type 0} (r : Result (Unit {0}) E) (w : Trades) (v : Trading) (k : ℕ) (e f : E) → IsTrades w → IsTrading w.trading
+    → IsTaken w.trading.sessions k → OnOk r (Closes w.trading v k)
+    → (IsErrOf r e ↔ (bytes_then w.trading k < (session_at w.trading k).donation.ram))
+    → (IsErrOf r f ↔ (((session_at w.trading k).donation.ram ≤ bytes_then w.trading k)
+    × (caps_then w.trading k < (session_at w.trading k).donation.caps)))
+    → OnErr r (v ≡ w.trading) → IsTrades (with_trading w v)
+closed_by (Ok u) w v k e f h t taken ok bytes caps err =
+    let enough = not_less (session_at w.trading k).donation.ram (bytes_then w.trading k) (λ l. none_refused u e (bytes.1 l)) in
+    closes_kept w h t v k taken ok enough
+    (not_less (session_at w.trading k).donation.caps (caps_then w.trading k) (λ l. none_refused u f (caps.1 (enough, l))))
+closed_by (Err g) w v k e f h t taken ok bytes caps err = subst (λ y. IsTrades (with_trading w y)) (sym err) h

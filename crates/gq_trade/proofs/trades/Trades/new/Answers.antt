@@ -1,0 +1,54 @@
+use Rattle.std.proofs.Common.{◌≡◌, ℕ, ◌+◌, ◌<◌, length, get_or, map, sym, ap, subst, ◌∙◌}
+use Rattle.gq_ram.specs.Entries.{no_amount}
+use Rattle.gq_donations.specs.Trees.{account_of}
+use Rattle.gq_donations.specs.Handing.{spent}
+use Rattle.gq_ram.specs.Ledgers.{Ledger}
+use Rattle.gq_sessions.specs.Trading.{Trading}
+use Rattle.gq_trade.specs.Balances.{handed}
+use Rattle.gq_trade.specs.Trades.{IsTrades}
+use Rattle.gq_trade.proofs.First.{counted_here, first_kept, fits_here}
+use Rattle.gq_trade.proofs.trades.Trades.new.Goals as goal
+
+pub hand_out-requires-clause-fits : goal.hand_out-requires-clause-fits
+hand_out-requires-clause-fits c =
+    let a = c.args.plan in
+    let hp : c.as_slice-2.result.now ≡ map handed a.nodes.items =
+    c.as_slice-2.ensures.value ∙ c.in_ok-handed.ensures ∙ ap (map handed) c.as_slice.ensures.value in
+    fits_here c.args.total c.args.caps a.parents.items a.nodes.items a.leaves.items a.objects.items c.requires.plan c.in_ok-tree.tree
+    c.in_ok-tree.ensures.parents c.as_slice-2.result.now hp (λ n. n.ram) c.requires.plan.fits
+
+pub hand_out-requires-clause-fits_caps : goal.hand_out-requires-clause-fits_caps
+hand_out-requires-clause-fits_caps c =
+    let a = c.args.plan in
+    let hp : c.as_slice-2.result.now ≡ map handed a.nodes.items =
+    c.as_slice-2.ensures.value ∙ c.in_ok-handed.ensures ∙ ap (map handed) c.as_slice.ensures.value in
+    fits_here c.args.total c.args.caps a.parents.items a.nodes.items a.leaves.items a.objects.items c.requires.plan c.in_ok-tree.tree
+    c.in_ok-tree.ensures.parents c.as_slice-2.result.now hp (λ n. n.caps) c.requires.plan.fits_caps
+
+pub hand_out-requires-clause-counted : goal.hand_out-requires-clause-counted
+hand_out-requires-clause-counted c =
+    let a = c.args.plan in
+    let hp : c.as_slice-2.result.now ≡ map handed a.nodes.items =
+    c.as_slice-2.ensures.value ∙ c.in_ok-handed.ensures ∙ ap (map handed) c.as_slice.ensures.value in
+    counted_here c.args.total c.args.caps a.parents.items a.nodes.items a.leaves.items a.objects.items c.requires.plan c.in_ok-tree.tree
+    c.in_ok-tree.ensures.parents c.as_slice-2.result.now hp c.open.new.accounts.price
+    (ap (λ (l : Ledger). l.price) c.in_ok-tree.ensures.same ∙ ap (λ (l : Ledger). l.price) c.in_ok-accounts.ensures)
+
+pub invariant_of-result : goal.invariant_of-result
+invariant_of-result c =
+    let a = c.args.plan in
+    let hp : c.as_slice-2.result.now ≡ map handed a.nodes.items =
+    c.as_slice-2.ensures.value ∙ c.in_ok-handed.ensures ∙ ap (map handed) c.as_slice.ensures.value in
+    let e = c.hand_out.ensures in
+    let m = c.new-memory.result in
+    let lm : m.ledger ≡ c.hand_out.new.accounts = ap (λ x. x.ledger) c.new-memory.ensures in
+    let price = ap (λ (l : Ledger). l.price) (lm ∙ e.same) ∙ ap (λ (l : Ledger). l.price) c.in_ok-tree.ensures.same
+    ∙ ap (λ (l : Ledger). l.price) c.in_ok-accounts.ensures in
+    subst (λ (y : Trading). IsTrades (record { trading = y; nodes = a.nodes.items })) (sym c.in_ok-sessions.ensures)
+    (first_kept c.args.total c.args.caps a.parents.items a.nodes.items a.leaves.items a.objects.items c.requires.plan c.in_ok-tree.tree
+    c.in_ok-tree.ensures.parents c.as_slice-2.result.now hp c.in_ok-accounts.accounts c.in_ok-accounts.ensures c.open.new.accounts.accounts
+    c.in_ok-tree.ensures.opened c.hand_out.new.accounts.accounts e.still e.references m c.args.room (ap (λ (l : Ledger). l.accounts) lm) price
+    (subst (λ (l : Ledger). (i : ℕ) → i < length c.in_ok-tree.tree.parents → (account_of c.in_ok-tree.tree l i).quota.ram
+    + spent (λ a. a.ram) c.in_ok-tree.tree c.as_slice-2.result.now i ≡ (get_or c.as_slice-2.result.now i no_amount).ram) (sym lm) e.balanced)
+    (subst (λ (l : Ledger). (i : ℕ) → i < length c.in_ok-tree.tree.parents → (account_of c.in_ok-tree.tree l i).quota.caps
+    + spent (λ a. a.caps) c.in_ok-tree.tree c.as_slice-2.result.now i ≡ (get_or c.as_slice-2.result.now i no_amount).caps) (sym lm) e.balanced_caps))

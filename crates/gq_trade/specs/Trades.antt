@@ -1,0 +1,74 @@
+-- Sessions over accounts whose balances are sums.
+use Rattle.std.specs.Prelude.{◌≡◌, ℕ, ◌<◌, ◌≤◌, List, length, Some, get_or}
+use Rattle.gq_ram.specs.Entries.{Entries, account_at, IsOpen}
+use Rattle.gq_donations.specs.Trees.{Tree, number, parent}
+use Rattle.gq_numbered.specs.Numbers.{IsTaken}
+use Rattle.gq_sessions.specs.declared.session.Session.{Session}
+use Rattle.gq_sessions.specs.Trading.{Trading, SameButMemory as SameTrading, session_in}
+use Rattle.gq_trade.specs.declared.node.Node.{Node}
+use Rattle.gq_trade.specs.declared.node.Stage.TheVariants.{Live, Ended}
+use Rattle.gq_trade.specs.Balances.{IsEven, node_at}
+
+-- sessions with their memory, and the nodes in preorder
+pub record Trades : Type 0 where
+  pub trading : Trading
+  pub nodes : List Node
+
+abbrev pub with_trading : Trades → Trading → Trades
+with_trading w v = record { trading = v; nodes = w.nodes }
+
+-- the leaf x has its quantum
+pub record IsLive (w : Trades) (x : ℕ) : Type 0 where
+  pub there : x < length w.trading.leaves
+  pub live : (node_at w.nodes (get_or w.trading.leaves x 0)).stage ≡ Live
+
+-- the node i has not ended
+pub record HasAccount (w : Trades) (i : ℕ) : Type 0 where
+  pub there : i < length w.trading.tree.parents
+  pub stays : (node_at w.nodes i).stage ≡ Ended → ⊥
+
+-- WHAT HOLDS
+
+-- the node i stands beside the node j, below the root, and has no greater quantum
+pub record Follows (t : Tree) (ns : List Node) (i j : ℕ) : Type 0 where
+  pub below : 0 < i
+  pub before : 0 < j
+  pub there : j < length t.parents
+  pub beside : parent t i ≡ parent t j
+  pub ram : (node_at ns i).quantum.ram ≤ (node_at ns j).quantum.ram
+  pub caps : (node_at ns i).quantum.caps ≤ (node_at ns j).quantum.caps
+
+-- the nodes, their accounts, and which of them are leaves
+pub record AreSettled (t : Tree) (leaves : List ℕ) (ns : List Node) (es : Entries) : Type 0 where
+  pub count : length ns ≡ length t.parents
+  -- a leaf is below an init, and no node is below it
+  pub below : (x : ℕ) → x < length leaves → 0 < get_or leaves x 0
+  pub childless : (x j : ℕ) → x < length leaves → 0 < j → j < length t.parents → parent t j ≡ get_or leaves x 0 → ⊥
+  -- an init is live
+  pub root : (node_at ns 0).stage ≡ Live
+  pub inits : (j : ℕ) → 0 < j → j < length t.parents → (node_at ns (parent t j)).stage ≡ Live
+  -- the account of a node that has not ended is open, and the reference account of no other where it is a leaf
+  pub opened : (i : ℕ) → i < length t.parents → ((node_at ns i).stage ≡ Ended → ⊥) → IsOpen es (number t i)
+  -- a node starts after one beside it that has enough for it
+  pub after : (i j : ℕ) → i < length t.parents → (node_at ns i).after ≡ Some j → Follows t ns i j
+  pub alone : (x k : ℕ) → x < length leaves → (account_at es k).reference ≡ Some (record { 0 = number t (get_or leaves x 0) }) → ⊥
+
+-- client and server of a session are live, and where capabilities are not counted none are given
+pub record IsSettled (leaves : List ℕ) (ns : List Node) (price : ℕ) (s : Session) : Type 0 where
+  pub client : (node_at ns (get_or leaves s.client 0)).stage ≡ Live
+  pub server : (node_at ns (get_or leaves s.server 0)).stage ≡ Live
+  pub counted : price ≡ 0 → s.donation.caps ≡ 0
+
+pub record IsTrades (w : Trades) : Type 0 where
+  -- where capabilities are not counted, no node is given any
+  pub uncounted : w.trading.memory.ledger.price ≡ 0 → (i : ℕ) → (node_at w.nodes i).quantum.caps ≡ 0
+  pub settled : AreSettled w.trading.tree w.trading.leaves w.nodes w.trading.memory.ledger.accounts
+  pub sessions : (k : ℕ) → IsTaken w.trading.sessions k
+      → IsSettled w.trading.leaves w.nodes w.trading.memory.ledger.price (session_in w.trading.sessions k)
+  -- of bytes and of capabilities
+  pub even : (i : ℕ) → i < length w.trading.tree.parents → IsEven (λ n. n.ram) w.trading w.nodes i × IsEven (λ n. n.caps) w.trading w.nodes i
+
+-- As a store of the account that pays, it changes this account's memory alone.
+pub record SameButMemory (w v : Trades) : Type 0 where
+  pub trading : SameTrading w.trading v.trading
+  pub nodes : v.nodes ≡ w.nodes
