@@ -19,6 +19,9 @@ use Rattle.gq_sessions.proofs.Kept.{rest_kept, taken_from}
 use Rattle.gq_trade.specs.Balances.{quota}
 use Rattle.gq_trade.specs.Trades.{Trades, IsTrades, IsSettled, with_trading}
 use Rattle.gq_trade.proofs.Evens.{ram_kind, caps_kind, closed_even, rest_quota}
+use Rattle.gq_sessions.specs.Trading.{AreOfOthers}
+use Rattle.gq_trade.specs.Waiting.{AreApart}
+use Rattle.gq_trade.proofs.Waiting.{clients_unset, taken_apart}
 use Rattle.gq_trade.proofs.Settled.{Each, each_unset, moved_settled, rest_settled}
 use Rattle.gq_trade.proofs.Kept.{client_live, live_open, nodes_apart, parties, server_live, session_kept}
 
@@ -55,12 +58,19 @@ module _ (w : Trades) (h : IsTrades w) (t : IsTrading w.trading) where
   accepted_kept v x r a =
       let found = taken_from w.trading.sessions x w.trading.requests (pair r v.requests) t.requests a.oldest in
       let i = begun_kept r.ask (with_requests v w.trading.requests) r.session found.there a.begins in
-      record { uncounted = i.uncounted; settled = i.settled; sessions = i.sessions; even = i.even }
+      record {
+        uncounted = i.uncounted;
+        settled = i.settled;
+        sessions = i.sessions;
+        few = i.few;
+        asks = taken_apart v.sessions x w.trading.requests r v.requests i.asks a.oldest;
+        even = i.even;
+      }
 
   pub closes_kept : (v : Trading) (k : ℕ) → IsTaken w.trading.sessions k → Closes w.trading v k
       → (session_at w.trading k).donation.ram ≤ bytes_then w.trading k → (session_at w.trading k).donation.caps ≤ caps_then w.trading k
-      → IsTrades (with_trading w v)
-  closes_kept v k taken c enough enough_caps =
+      → AreOfOthers k w.trading.requests → IsTrades (with_trading w v)
+  closes_kept v k taken c enough enough_caps none =
       let u = w.trading in
       let s = session_at u k in
       let m = c.between in
@@ -95,6 +105,8 @@ module _ (w : Trades) (h : IsTrades w) (t : IsTrading w.trading) where
         settled = moved_settled u.tree u.leaves w.nodes m.ledger.accounts (account_of u s.server) (account_of u s.client) s.donation freed ym xm;
         sessions = subst (λ p. Each (IsSettled u.leaves w.nodes p) (set u.sessions k None)) price
             (each_unset (IsSettled u.leaves w.nodes u.memory.ledger.price) u.sessions k h.sessions);
+        few = h.few;
+        asks = subst AreApart (sym (clients_unset u.sessions k u.requests none)) h.asks;
         even = λ i lt. (
           closed_even (λ d. d.ram) ram_kind u w.nodes m k (λ j. rest_quota (λ d. d.ram) u.tree l n j rest) nodes taken (t.leaves s.client cl.there)
               (t.leaves s.server sl.there) xm ym ne more i lt (h.even i lt).0,
@@ -119,13 +131,13 @@ not_less : (a b : ℕ) → (b < a → ⊥) → a ≤ b
 not_less a b h = grind (arith, h)
 
 pub closed_by : {E : Type 0} (r : Result (Unit {0}) E) (w : Trades) (v : Trading) (k : ℕ) (e f : E) → IsTrades w → IsTrading w.trading
-    → IsTaken w.trading.sessions k → OnOk r (Closes w.trading v k)
+    → IsTaken w.trading.sessions k → AreOfOthers k w.trading.requests → OnOk r (Closes w.trading v k)
     → (IsErrOf r e ↔ (bytes_then w.trading k < (session_at w.trading k).donation.ram))
     → (IsErrOf r f ↔ (((session_at w.trading k).donation.ram ≤ bytes_then w.trading k)
     × (caps_then w.trading k < (session_at w.trading k).donation.caps)))
     → OnErr r (v ≡ w.trading) → IsTrades (with_trading w v)
-closed_by (Ok u) w v k e f h t taken ok bytes caps err =
+closed_by (Ok u) w v k e f h t taken none ok bytes caps err =
     let enough = not_less (session_at w.trading k).donation.ram (bytes_then w.trading k) (λ l. none_refused u e (bytes.1 l)) in
     closes_kept w h t v k taken ok enough
-    (not_less (session_at w.trading k).donation.caps (caps_then w.trading k) (λ l. none_refused u f (caps.1 (enough, l))))
-closed_by (Err g) w v k e f h t taken ok bytes caps err = subst (λ y. IsTrades (with_trading w y)) (sym err) h
+    (not_less (session_at w.trading k).donation.caps (caps_then w.trading k) (λ l. none_refused u f (caps.1 (enough, l)))) none
+closed_by (Err g) w v k e f h t taken none ok bytes caps err = subst (λ y. IsTrades (with_trading w y)) (sym err) h

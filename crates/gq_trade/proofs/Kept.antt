@@ -1,5 +1,5 @@
 -- What holds in a `Trades`, after each call.
-use Rattle.std.proofs.Common.{◌≡◌, ℕ, ◌<◌, ◌≤◌, List, length, set, Some, Result, Ok, Err, OnOk, OnErr, refl, sym, ap}
+use Rattle.std.proofs.Common.{◌≡◌, ℕ, Option, None, ◌<◌, ◌≤◌, List, length, set, Some, Result, Ok, Err, OnOk, OnErr, refl, sym, ap}
 use Rattle.std.proofs.Common.{subst, ◌∙◌, arith}
 use Rattle.gq_tariff.specs.declared.amount.Amount.{Amount}
 use Rattle.gq_ram.specs.declared.account.AccountNo.{AccountNo}
@@ -10,10 +10,9 @@ use Rattle.gq_memory.specs.Rest.{SameRest}
 use Rattle.gq_memory.specs.internal.Rests.{rest_refl}
 use Rattle.gq_things.specs.declared.thing.Thing.{Thing}
 use Rattle.gq_numbered.specs.Numbers.{IsTaken}
-use Rattle.gq_requests.specs.declared.requests.Request.{Request}
 use Rattle.gq_sessions.specs.declared.session.Session.{Session}
 use Rattle.gq_sessions.specs.Trading.{Trading, IsTrading, IsBetween, account_of, asked, client_of, its_account}
-use Rattle.gq_sessions.specs.Trading.{SameButMemory, SameOthers, node_of, server_of, session_at, upgraded, with_memory, with_more, with_requests}
+use Rattle.gq_sessions.specs.Trading.{SameButMemory, SameOthers, node_of, server_of, session_at, upgraded, with_memory, with_more}
 use Rattle.gq_sessions.specs.Trading.{with_session, with_slot}
 use Rattle.gq_sessions.proofs.Kept.{between_at}
 use Rattle.gq_trade.specs.declared.node.Stage.{Stage}
@@ -21,6 +20,15 @@ use Rattle.gq_trade.specs.declared.node.Stage.TheVariants.{Live, Ended}
 use Rattle.gq_trade.specs.Balances.{node_at}
 use Rattle.gq_trade.specs.Trades.{Trades, IsTrades, IsSettled, IsLive, with_trading}
 use Rattle.gq_trade.proofs.Evens.{ram_kind, caps_kind, asked_even, upgraded_even, session_even, rest_quota}
+use Rattle.std.proofs.lemmas.List.{get_or-set_same}
+use Rattle.gq_numbered.specs.Numbers.{added, free_number}
+use Rattle.gq_numbered.proofs.Lowest.{taken_there}
+use Rattle.gq_requests.specs.declared.requests.Ask.{Ask}
+use Rattle.gq_requests.specs.declared.requests.Ask.TheVariants.{Open, Upgrade}
+use Rattle.gq_sessions.specs.Trading.{found, session_in, with_ask}
+use Rattle.gq_sessions.proofs.Kept.{added_here}
+use Rattle.gq_trade.specs.Waiting.{AreApart, AreOther, IsIdle}
+use Rattle.gq_trade.proofs.Waiting.{asked_apart, clients_added, clients_set, fewer}
 use Rattle.gq_trade.proofs.Settled.{Each, each_added, each_set, moved_settled, rest_settled}
 
 pub not_both : (s : Stage) → s ≡ Live → s ≡ Ended → ⊥
@@ -57,8 +65,8 @@ module _ (w : Trades) (h : IsTrades w) (t : IsTrading w.trading) where
 
   pub asked_kept : (s : Session) → IsLive w s.client → IsLive w s.server → (s.client ≡ s.server → ⊥)
       → (w.trading.memory.ledger.price ≡ 0 → s.donation.caps ≡ 0) → s.donation.ram ≤ available (its_account w.trading s.client)
-      → s.donation.caps ≤ available_caps (its_account w.trading s.client) → IsTrades (with_trading w (asked w.trading s))
-  asked_kept s cl sl apart counted enough enough_caps =
+      → s.donation.caps ≤ available_caps (its_account w.trading s.client) → IsIdle w.trading s.client → IsTrades (with_trading w (asked w.trading s))
+  asked_kept s cl sl apart counted enough enough_caps idle =
       let v = w.trading in
       let xl = t.leaves s.client cl.there in let yl = t.leaves s.server sl.there in
       let xo = live_open s.client cl in let yo = live_open s.server sl in
@@ -68,6 +76,11 @@ module _ (w : Trades) (h : IsTrades w) (t : IsTrading w.trading) where
         settled = moved_settled v.tree v.leaves w.nodes v.memory.ledger.accounts (account_of v s.client) (account_of v s.server) s.donation h.settled xo yo;
         sessions = each_added (IsSettled v.leaves w.nodes v.memory.ledger.price) s v.sessions
             (record { client = cl.live; server = sl.live; counted = counted }) h.sessions;
+        few = h.few;
+        asks =
+            let e = clients_added s v.sessions v.requests t.requests in
+            asked_apart (added s v.sessions) v.requests (record { session = free_number v.sessions; server = s.server; ask = Open }) s.client
+            (ap (λ o. (found o).client) (added_here s v.sessions)) (subst AreApart (sym e) h.asks) (subst (AreOther s.client) (sym e) idle);
         even = λ i lt. (
           asked_even (λ n. n.ram) ram_kind v w.nodes s t.nodes xl yl xo yo ne (omega (arith, enough)) i lt (h.even i lt).0,
           asked_even (λ n. n.caps) caps_kind v w.nodes s t.nodes xl yl xo yo ne (omega (arith, enough_caps)) i lt (h.even i lt).1,
@@ -76,8 +89,8 @@ module _ (w : Trades) (h : IsTrades w) (t : IsTrading w.trading) where
 
   pub upgraded_kept : (k : ℕ) (n : Amount) → IsTaken w.trading.sessions k → (w.trading.memory.ledger.price ≡ 0 → n.caps ≡ 0)
       → n.ram ≤ available (its_account w.trading (client_of w.trading k)) → n.caps ≤ available_caps (its_account w.trading (client_of w.trading k))
-      → IsTrades (with_trading w (upgraded w.trading k n))
-  upgraded_kept k n taken counted enough enough_caps =
+      → IsIdle w.trading (client_of w.trading k) → IsTrades (with_trading w (upgraded w.trading k n))
+  upgraded_kept k n taken counted enough enough_caps idle =
       let v = w.trading in
       let s = session_at v k in
       let cl = client_live k taken in let sl = server_live k taken in
@@ -90,6 +103,13 @@ module _ (w : Trades) (h : IsTrades w) (t : IsTrading w.trading) where
         settled = moved_settled v.tree v.leaves w.nodes v.memory.ledger.accounts (account_of v s.client) (account_of v s.server) n h.settled xo yo;
         sessions = each_set (IsSettled v.leaves w.nodes v.memory.ledger.price) v.sessions k (with_more s n)
             (record { client = old.client; server = old.server; counted = λ z. omega (arith, old.counted z, counted z) }) h.sessions;
+        few = h.few;
+        asks =
+            let ts : List (Option Session) = set v.sessions k (Some (with_more s n)) in
+            let e = clients_set v.sessions k (with_more s n) v.requests t.requests taken refl in
+            asked_apart ts v.requests (record { session = k; server = (session_in ts k).server; ask = Upgrade }) s.client
+            (ap (λ o. (found o).client) (get_or-set_same v.sessions k (Some (with_more s n)) None (taken_there v.sessions k taken)))
+            (subst AreApart (sym e) h.asks) (subst (AreOther s.client) (sym e) idle);
         even = λ i lt. (
           upgraded_even (λ a. a.ram) ram_kind v w.nodes k n t.nodes taken xl yl xo yo ne (omega (arith, enough)) i lt (h.even i lt).0,
           upgraded_even (λ a. a.caps) caps_kind v w.nodes k n t.nodes taken xl yl xo yo ne (omega (arith, enough_caps)) i lt (h.even i lt).1,
@@ -114,6 +134,8 @@ module _ (w : Trades) (h : IsTrades w) (t : IsTrading w.trading) where
               server = ap (λ x. (node_at w.nodes (node_of v x)).stage) es ∙ old.server;
               counted = λ z. ap (λ (d : Amount). d.caps) ed ∙ old.counted z;
             }) h.sessions);
+        few = h.few;
+        asks = subst AreApart (sym (clients_set v.sessions k s v.requests t.requests taken ec)) h.asks;
         even = λ i lt. (
           session_even (λ d. d.ram) ram_kind v w.nodes m k s (λ j. rest_quota (λ d. d.ram) v.tree l n j rest) taken ec es
               (ap (λ (d : Amount). d.ram) ed) i (h.even i lt).0,
@@ -132,32 +154,50 @@ module _ (w : Trades) (h : IsTrades w) (t : IsTrading w.trading) where
         uncounted = λ z. h.uncounted (sym rest.whole.0 ∙ z);
         settled = rest_settled v.tree v.leaves w.nodes l n h.settled rest;
         sessions = subst (λ p. Each (IsSettled v.leaves w.nodes p) v.sessions) (sym rest.whole.0) h.sessions;
+        few = h.few;
+        asks = h.asks;
         even = λ i lt. (
           omega (arith, (h.even i lt).0, rest_quota (λ d. d.ram) v.tree l n i rest),
           omega (arith, (h.even i lt).1, rest_quota (λ d. d.caps) v.tree l n i rest),
         );
       }
 
-  -- other requests wait
-  pub requests_kept : (rs : List Request) → IsTrades (with_trading w (with_requests w.trading rs))
-  requests_kept rs = record { uncounted = h.uncounted; settled = h.settled; sessions = h.sessions; even = h.even }
+  -- a request more waits
+  pub with_ask_kept : (k : ℕ) (a : Ask) → IsTaken w.trading.sessions k → IsIdle w.trading (client_of w.trading k)
+      → IsTrades (with_trading w (with_ask w.trading k a))
+  with_ask_kept k a taken idle = record {
+    uncounted = h.uncounted;
+    settled = h.settled;
+    sessions = h.sessions;
+    few = h.few;
+    asks = asked_apart w.trading.sessions w.trading.requests (record { session = k; server = server_of w.trading k; ask = a })
+        (client_of w.trading k) refl h.asks idle;
+    even = h.even;
+  }
+
+  -- so there is room for another one
+  pub few_wait : (x : ℕ) → x < length w.trading.leaves → IsIdle w.trading x → length w.trading.requests < 64
+  few_wait x lt idle =
+      let f = fewer (length w.trading.leaves) (length w.trading.objects) x w.trading.sessions w.trading.requests t.between t.requests h.asks idle lt in
+      omega (arith, f, h.few)
 
 -- a call that may be refused
 pub asked_by : {E : Type 0} (r : Result ℕ E) (w : Trades) (v : Trading) (s : Session) → IsTrades w → IsTrading w.trading → IsLive w s.client
-    → IsLive w s.server → (s.client ≡ s.server → ⊥) → (w.trading.memory.ledger.price ≡ 0 → s.donation.caps ≡ 0)
+    → IsLive w s.server → (s.client ≡ s.server → ⊥) → (w.trading.memory.ledger.price ≡ 0 → s.donation.caps ≡ 0) → IsIdle w.trading s.client
     → OnOk r (v ≡ asked w.trading s) → OnOk r (s.donation.ram ≤ available (its_account w.trading s.client))
     → OnOk r (s.donation.caps ≤ available_caps (its_account w.trading s.client)) → OnErr r (v ≡ w.trading) → IsTrades (with_trading w v)
-asked_by (Ok k) w v s h t cl sl ne counted is enough enough_caps err =
-    subst (λ y. IsTrades (with_trading w y)) (sym is) (asked_kept w h t s cl sl ne counted enough enough_caps)
-asked_by (Err e) w v s h t cl sl ne counted is enough enough_caps err = subst (λ y. IsTrades (with_trading w y)) (sym err) h
+asked_by (Ok k) w v s h t cl sl ne counted idle is enough enough_caps err =
+    subst (λ y. IsTrades (with_trading w y)) (sym is) (asked_kept w h t s cl sl ne counted enough enough_caps idle)
+asked_by (Err e) w v s h t cl sl ne counted idle is enough enough_caps err = subst (λ y. IsTrades (with_trading w y)) (sym err) h
 
 pub upgraded_by : {E : Type 0} (r : Result (Unit {0}) E) (w : Trades) (v : Trading) (k : ℕ) (n : Amount) → IsTrades w → IsTrading w.trading
-    → IsTaken w.trading.sessions k → (w.trading.memory.ledger.price ≡ 0 → n.caps ≡ 0) → OnOk r (v ≡ upgraded w.trading k n)
+    → IsTaken w.trading.sessions k → (w.trading.memory.ledger.price ≡ 0 → n.caps ≡ 0) → IsIdle w.trading (client_of w.trading k)
+    → OnOk r (v ≡ upgraded w.trading k n)
     → OnOk r (n.ram ≤ available (its_account w.trading (client_of w.trading k)))
     → OnOk r (n.caps ≤ available_caps (its_account w.trading (client_of w.trading k))) → OnErr r (v ≡ w.trading) → IsTrades (with_trading w v)
-upgraded_by (Ok u) w v k n h t taken counted is enough enough_caps err =
-    subst (λ y. IsTrades (with_trading w y)) (sym is) (upgraded_kept w h t k n taken counted enough enough_caps)
-upgraded_by (Err e) w v k n h t taken counted is enough enough_caps err = subst (λ y. IsTrades (with_trading w y)) (sym err) h
+upgraded_by (Ok u) w v k n h t taken counted idle is enough enough_caps err =
+    subst (λ y. IsTrades (with_trading w y)) (sym is) (upgraded_kept w h t k n taken counted enough enough_caps idle)
+upgraded_by (Err e) w v k n h t taken counted idle is enough enough_caps err = subst (λ y. IsTrades (with_trading w y)) (sym err) h
 
 -- a slot of a session holds something else
 pub slot_kept : (w : Trades) (v : Trading) (k i : ℕ) (u : Thing) → IsTrades w → IsTrading w.trading → IsTaken w.trading.sessions k

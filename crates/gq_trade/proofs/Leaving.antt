@@ -279,6 +279,8 @@ module _ (w : Trades) (h : IsTrades w) (t : IsTrading w.trading) (b : IsBalanced
             server = ap (λ (y : Node). y.stage) (staged_other w.nodes n Ended (node_of w.trading (server_of w.trading k)) (server_apart k taken)) ∙ old.server;
             counted = λ z. old.counted (sym leaves.closed.whole.0 ∙ z);
           };
+      few = h.few;
+      asks = h.asks;
       even = λ i l. (even_now (λ d. d.ram) ram_kind (λ j q. (h.even j q).0) i l, even_now (λ d. d.caps) caps_kind (λ j q. (h.even j q).1) i l);
     })
 
@@ -447,6 +449,8 @@ module _ (w : Trades) (h : IsTrades w) (t : IsTrading w.trading) (i : ℕ) (pos 
               server = stays_live (node_of w.trading (server_of w.trading k)) old.server;
               counted = old.counted;
             };
+        few = h.few;
+        asks = h.asks;
         even = λ j l. (
           even_live (λ d. d.ram) ram_kind (λ k s. (h.even k s).0) (omega (arith, enough)) j l,
           even_live (λ d. d.caps) caps_kind (λ k s. (h.even k s).1) (omega (arith, enough_caps)) j l,

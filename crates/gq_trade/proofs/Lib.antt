@@ -7,3 +7,4 @@ pub mod Leaving
 pub mod Settled
 pub mod Spent
 pub mod Sums
+pub mod Waiting

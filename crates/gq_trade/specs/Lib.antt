@@ -2,4 +2,5 @@ pub mod Balances
 pub mod Ends
 pub mod Plans
 pub mod Trades
+pub mod Waiting
 pub mod internal

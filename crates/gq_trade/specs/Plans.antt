@@ -26,6 +26,7 @@ pub record IsPlan (total : ℕ) (caps : Option ℕ) (parents : List ℕ) (ns : L
   pub uncounted : caps ≡ None → (i : ℕ) → (node_at ns i).quantum.caps ≡ 0
   -- leaves are nodes of their own, below the root and with no node below them
   pub within : (x : ℕ) → x < length leaves → get_or leaves x 0 < length parents
+  pub few : length leaves ≤ 64
   pub below : (x : ℕ) → x < length leaves → 0 < get_or leaves x 0
   pub apart : (x y : ℕ) → x < length leaves → y < length leaves → get_or leaves x 0 ≡ get_or leaves y 0 → x ≡ y
   pub childless : (x j : ℕ) → x < length leaves → 0 < j → j < length parents → get_or parents j 0 ≡ get_or leaves x 0 → ⊥

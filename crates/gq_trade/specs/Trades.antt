@@ -8,6 +8,7 @@ use Rattle.gq_sessions.specs.Trading.{Trading, SameButMemory as SameTrading, ses
 use Rattle.gq_trade.specs.declared.node.Node.{Node}
 use Rattle.gq_trade.specs.declared.node.Stage.TheVariants.{Live, Ended}
 use Rattle.gq_trade.specs.Balances.{IsEven, node_at}
+use Rattle.gq_trade.specs.Waiting.{AreApart, clients}
 
 -- sessions with their memory, and the nodes in preorder
 pub record Trades : Type 0 where
@@ -65,6 +66,9 @@ pub record IsTrades (w : Trades) : Type 0 where
   pub settled : AreSettled w.trading.tree w.trading.leaves w.nodes w.trading.memory.ledger.accounts
   pub sessions : (k : ℕ) → IsTaken w.trading.sessions k
       → IsSettled w.trading.leaves w.nodes w.trading.memory.ledger.price (session_in w.trading.sessions k)
+  -- each leaf has one request at most
+  pub few : length w.trading.leaves ≤ 64
+  pub asks : AreApart (clients w.trading)
   -- of bytes and of capabilities
   pub even : (i : ℕ) → i < length w.trading.tree.parents → IsEven (λ n. n.ram) w.trading w.nodes i × IsEven (λ n. n.caps) w.trading w.nodes i
 

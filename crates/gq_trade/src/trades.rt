@@ -15,12 +15,12 @@ ghost use Rattle.gq_trade.specs.Ends.{CanStart, Ends, HasNoSessions, follower, s
 ghost use Rattle.gq_trade.specs.Plans.{IsFirst, IsPlan};
 ghost use Rattle.gq_donations.specs.Trees.{number};
 ghost use Rattle.gq_trade.specs.Balances.{node_at, quota, use_of};
+ghost use Rattle.gq_trade.specs.Waiting.{IsIdle};
 ghost use Rattle.gq_trade.specs.Trades.{HasAccount, IsLive, IsTrades, with_trading};
 
 use crate::node::{Node, Stage, follower, handed_to};
 use gq_donations::AccountTree;
 use gq_memory::Memory;
-use gq_model::limits::GREATEST_LEAVES;
 use gq_ram::{AccountFault, AccountNo, Accounts};
 use gq_requests::Request;
 use gq_sessions::{Session, Sessions, Spot};
@@ -107,7 +107,7 @@ impl Trades {
         requires service { service < length self.old.trading.objects }
         requires counted { self.old.trading.memory.ledger.price ≡ 0 → donation.caps ≡ 0 }
         requires room { free_number self.old.trading.sessions < self.old.trading.room }
-        requires few { length self.old.trading.requests < GREATEST_LEAVES }
+        requires idle { IsIdle self.old.trading client }
         ensures number { IfOk result (λ k. k ≡ free_number self.old.trading.sessions) }
         ensures asked { OnOk result (self.new ≡ with_trading self.old (asked self.old.trading (fresh client spot server service donation))) }
         ensures enough { OnOk result (donation.ram ≤ available (its_account self.old.trading client)) }
@@ -131,7 +131,7 @@ impl Trades {
         requires counted { self.old.trading.memory.ledger.price ≡ 0 → donation.caps ≡ 0 }
         requires small { (session_at self.old.trading session).donation.ram + donation.ram ≤ 2 ^ 40 }
         requires small_caps { (session_at self.old.trading session).donation.caps + donation.caps ≤ 2 ^ 40 }
-        requires few { length self.old.trading.requests < GREATEST_LEAVES }
+        requires idle { IsIdle self.old.trading (client_of self.old.trading session) }
         ensures upgraded { OnOk result (self.new ≡ with_trading self.old (upgraded self.old.trading session donation)) }
         ensures enough { OnOk result (donation.ram ≤ available (its_account self.old.trading (client_of self.old.trading session))) }
         ensures enough_caps { OnOk result (donation.caps ≤ available_caps (its_account self.old.trading (client_of self.old.trading session))) }
@@ -151,7 +151,7 @@ impl Trades {
     /// Asks for the reply of a session's server to a number: the request is the last.
     pub fn ask_call(&mut self, session: usize, value: u32)
         requires there { IsTaken self.old.trading.sessions session }
-        requires few { length self.old.trading.requests < GREATEST_LEAVES }
+        requires idle { IsIdle self.old.trading (client_of self.old.trading session) }
         ensures { self.new ≡ with_trading self.old (with_ask self.old.trading session (ask.Call value)) }
     {
         self.sessions.laws();
@@ -161,7 +161,7 @@ impl Trades {
     /// Asks for the end of a session: the request is the last.
     pub fn ask_close(&mut self, session: usize)
         requires there { IsTaken self.old.trading.sessions session }
-        requires few { length self.old.trading.requests < GREATEST_LEAVES }
+        requires idle { IsIdle self.old.trading (client_of self.old.trading session) }
         ensures { self.new ≡ with_trading self.old (with_ask self.old.trading session ask.Close) }
     {
         self.sessions.laws();
