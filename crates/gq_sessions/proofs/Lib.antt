@@ -1,3 +1,4 @@
+pub mod Bounds
 pub mod Closing
 pub mod Definition
 mod Inside

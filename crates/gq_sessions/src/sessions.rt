@@ -162,8 +162,8 @@ impl Sessions {
         requires client_open { IsOpen self.old.memory.ledger.accounts (account_of self.old (client_of self.old session)) }
         requires server_open { IsOpen self.old.memory.ledger.accounts (account_of self.old (server_of self.old session)) }
         requires counted { self.old.memory.ledger.price ≡ 0 → donation.caps ≡ 0 }
-        requires small { (session_at self.old session).donation.ram + donation.ram ≤ 2 ^ 40 }
-        requires small_caps { (session_at self.old session).donation.caps + donation.caps ≤ 2 ^ 40 }
+        requires small { (session_at self.old session).donation.ram ≤ 2 ^ 40 }
+        requires small_caps { (session_at self.old session).donation.caps ≤ 2 ^ 40 }
         requires few { length self.old.requests < GREATEST_LEAVES }
         ensures upgraded { OnOk result (self.new ≡ upgraded self.old session donation) }
         ensures enough { OnOk result (donation.ram ≤ available (its_account self.old (client_of self.old session))) }
@@ -176,6 +176,7 @@ impl Sessions {
         ensures only { OnErr result (donation.ram ≤ available (its_account self.old (client_of self.old session))
             → available_caps (its_account self.old (client_of self.old session)) < donation.caps) }
     {
+        self.memory.accounts().laws();
         let old = self.between(session);
         self.give(old.client, old.server, donation)?;
         self.raise_donation(session, donation);
@@ -615,8 +616,8 @@ impl Sessions {
     // So much more was given for a session.
     fn raise_donation(&mut self, session: usize, more: Amount)
         requires there { IsTaken self.old.sessions session }
-        requires small { (session_at self.old session).donation.ram + more.ram ≤ 2 ^ 40 }
-        requires small_caps { (session_at self.old session).donation.caps + more.caps ≤ 2 ^ 40 }
+        requires small { (session_at self.old session).donation.ram + more.ram ≤ 2 ^ 41 }
+        requires small_caps { (session_at self.old session).donation.caps + more.caps ≤ 2 ^ 41 }
         ensures { self.new ≡ with_session self.old session (with_more (session_at self.old session) more) }
     {
         let old = self.session(session);

@@ -122,6 +122,7 @@ module _ (total : ℕ) (caps : Option ℕ) (ps : List ℕ) (ns : List Node) (xs 
         sessions = λ k taken. absurd (is_taken_none taken);
         few = p.few;
         asks = tt;
+        given = λ k taken. absurd (is_taken_none taken);
         even = λ i lt. (
           let e : spent (λ a. a.ram) t hs i ≡ spent (λ a. a.ram) t (map handed ns) i = ap (λ zs. spent (λ a. a.ram) t zs i) hp in
               omega (arith, ram_even i lt, e, ap (λ (a : Amount). a.ram) (handed_at i)),

@@ -1,5 +1,5 @@
 -- What holds in a `Trades`, after each call.
-use Rattle.std.proofs.Common.{◌≡◌, ℕ, Option, None, ◌<◌, ◌≤◌, List, length, set, Some, Result, Ok, Err, OnOk, OnErr, refl, sym, ap}
+use Rattle.std.proofs.Common.{◌≡◌, ℕ, [], ◌∷◌, ◌++◌, Option, None, ◌<◌, ◌≤◌, List, length, set, Some, Result, Ok, Err, OnOk, OnErr, refl, sym, ap}
 use Rattle.std.proofs.Common.{subst, ◌∙◌, arith}
 use Rattle.gq_tariff.specs.declared.amount.Amount.{Amount}
 use Rattle.gq_ram.specs.declared.account.AccountNo.{AccountNo}
@@ -27,8 +27,10 @@ use Rattle.gq_requests.specs.declared.requests.Ask.{Ask}
 use Rattle.gq_requests.specs.declared.requests.Ask.TheVariants.{Open, Upgrade}
 use Rattle.gq_sessions.specs.Trading.{found, session_in, with_ask}
 use Rattle.gq_sessions.proofs.Kept.{added_here}
-use Rattle.gq_trade.specs.Waiting.{AreApart, AreOther, IsIdle}
-use Rattle.gq_trade.proofs.Waiting.{asked_apart, clients_added, clients_set, fewer}
+use Rattle.gq_trade.specs.Waiting.{AreApart, AreOther, IsBounded, IsIdle, upgrades}
+use Rattle.gq_trade.proofs.Waiting.{asked_apart, clients_added, clients_set, fewer, upgrade_bounded, waits_more}
+use Rattle.gq_requests.specs.declared.requests.Request.{Request}
+use Rattle.gq_sessions.proofs.Bounds.{caps_within, ram_within}
 use Rattle.gq_trade.proofs.Settled.{Each, each_added, each_set, moved_settled, rest_settled}
 
 pub not_both : (s : Stage) → s ≡ Live → s ≡ Ended → ⊥
@@ -65,8 +67,9 @@ module _ (w : Trades) (h : IsTrades w) (t : IsTrading w.trading) where
 
   pub asked_kept : (s : Session) → IsLive w s.client → IsLive w s.server → (s.client ≡ s.server → ⊥)
       → (w.trading.memory.ledger.price ≡ 0 → s.donation.caps ≡ 0) → s.donation.ram ≤ available (its_account w.trading s.client)
-      → s.donation.caps ≤ available_caps (its_account w.trading s.client) → IsIdle w.trading s.client → IsTrades (with_trading w (asked w.trading s))
-  asked_kept s cl sl apart counted enough enough_caps idle =
+      → s.donation.caps ≤ available_caps (its_account w.trading s.client) → IsIdle w.trading s.client → s.level ≡ 0
+      → IsBalanced w.trading.memory.ledger → IsTrades (with_trading w (asked w.trading s))
+  asked_kept s cl sl apart counted enough enough_caps idle zero_level b =
       let v = w.trading in
       let xl = t.leaves s.client cl.there in let yl = t.leaves s.server sl.there in
       let xo = live_open s.client cl in let yo = live_open s.server sl in
@@ -74,13 +77,20 @@ module _ (w : Trades) (h : IsTrades w) (t : IsTrading w.trading) where
       record {
         uncounted = h.uncounted;
         settled = moved_settled v.tree v.leaves w.nodes v.memory.ledger.accounts (account_of v s.client) (account_of v s.server) s.donation h.settled xo yo;
-        sessions = each_added (IsSettled v.leaves w.nodes v.memory.ledger.price) s v.sessions
+        sessions = each_added (λ j. IsSettled v.leaves w.nodes v.memory.ledger.price) s v.sessions
             (record { client = cl.live; server = sl.live; counted = counted }) h.sessions;
         few = h.few;
         asks =
             let e = clients_added s v.sessions v.requests t.requests in
             asked_apart (added s v.sessions) v.requests (record { session = free_number v.sessions; server = s.server; ask = Open }) s.client
             (ap (λ o. (found o).client) (added_here s v.sessions)) (subst AreApart (sym e) h.asks) (subst (AreOther s.client) (sym e) idle);
+        given =
+            let r : Request = record { session = free_number v.sessions; server = s.server; ask = Open } in
+            let nr = ram_within v.memory.ledger (account_of v s.client) s.donation.ram b enough in
+            let nc = caps_within v.memory.ledger (account_of v s.client) s.donation.caps b enough_caps in
+            each_added (λ k u. IsBounded u (upgrades k (v.requests ++ r ∷ []))) s v.sessions
+            (record { level = omega (arith, zero_level); ram = omega (arith, nr); caps = omega (arith, nc) })
+            (λ k taken. waits_more (session_in v.sessions k) k v.requests r (h.given k taken));
         even = λ i lt. (
           asked_even (λ n. n.ram) ram_kind v w.nodes s t.nodes xl yl xo yo ne (omega (arith, enough)) i lt (h.even i lt).0,
           asked_even (λ n. n.caps) caps_kind v w.nodes s t.nodes xl yl xo yo ne (omega (arith, enough_caps)) i lt (h.even i lt).1,
@@ -89,8 +99,8 @@ module _ (w : Trades) (h : IsTrades w) (t : IsTrading w.trading) where
 
   pub upgraded_kept : (k : ℕ) (n : Amount) → IsTaken w.trading.sessions k → (w.trading.memory.ledger.price ≡ 0 → n.caps ≡ 0)
       → n.ram ≤ available (its_account w.trading (client_of w.trading k)) → n.caps ≤ available_caps (its_account w.trading (client_of w.trading k))
-      → IsIdle w.trading (client_of w.trading k) → IsTrades (with_trading w (upgraded w.trading k n))
-  upgraded_kept k n taken counted enough enough_caps idle =
+      → IsIdle w.trading (client_of w.trading k) → IsBalanced w.trading.memory.ledger → IsTrades (with_trading w (upgraded w.trading k n))
+  upgraded_kept k n taken counted enough enough_caps idle b =
       let v = w.trading in
       let s = session_at v k in
       let cl = client_live k taken in let sl = server_live k taken in
@@ -101,7 +111,7 @@ module _ (w : Trades) (h : IsTrades w) (t : IsTrading w.trading) where
       record {
         uncounted = h.uncounted;
         settled = moved_settled v.tree v.leaves w.nodes v.memory.ledger.accounts (account_of v s.client) (account_of v s.server) n h.settled xo yo;
-        sessions = each_set (IsSettled v.leaves w.nodes v.memory.ledger.price) v.sessions k (with_more s n)
+        sessions = each_set (λ j. IsSettled v.leaves w.nodes v.memory.ledger.price) v.sessions k (with_more s n)
             (record { client = old.client; server = old.server; counted = λ z. omega (arith, old.counted z, counted z) }) h.sessions;
         few = h.few;
         asks =
@@ -110,6 +120,14 @@ module _ (w : Trades) (h : IsTrades w) (t : IsTrading w.trading) where
             asked_apart ts v.requests (record { session = k; server = (session_in ts k).server; ask = Upgrade }) s.client
             (ap (λ o. (found o).client) (get_or-set_same v.sessions k (Some (with_more s n)) None (taken_there v.sessions k taken)))
             (subst AreApart (sym e) h.asks) (subst (AreOther s.client) (sym e) idle);
+        given =
+            let ts : List (Option Session) = set v.sessions k (Some (with_more s n)) in
+            let r : Request = record { session = k; server = (session_in ts k).server; ask = Upgrade } in
+            let nr = ram_within v.memory.ledger (account_of v s.client) n.ram b enough in
+            let nc = caps_within v.memory.ledger (account_of v s.client) n.caps b enough_caps in
+            each_set (λ j u. IsBounded u (upgrades j (v.requests ++ r ∷ []))) v.sessions k (with_more s n)
+            (upgrade_bounded s k (session_in ts k).server n v.requests nr (omega (arith, nc)) (h.given k taken))
+            (λ j u. waits_more (session_in v.sessions j) j v.requests r (h.given j u));
         even = λ i lt. (
           upgraded_even (λ a. a.ram) ram_kind v w.nodes k n t.nodes taken xl yl xo yo ne (omega (arith, enough)) i lt (h.even i lt).0,
           upgraded_even (λ a. a.caps) caps_kind v w.nodes k n t.nodes taken xl yl xo yo ne (omega (arith, enough_caps)) i lt (h.even i lt).1,
@@ -119,8 +137,8 @@ module _ (w : Trades) (h : IsTrades w) (t : IsTrading w.trading) where
   -- the memory of one account is other, and one session of the same client, server and donation
   pub session_kept : (m : Memory) (a : AccountNo) (k : ℕ) (s : Session) → SameOthers w.trading.memory.ledger m.ledger a → IsTaken w.trading.sessions k
       → s.client ≡ client_of w.trading k → s.server ≡ server_of w.trading k → s.donation ≡ (session_at w.trading k).donation
-      → IsTrades (with_trading w (with_session (with_memory w.trading m) k s))
-  session_kept m a k s rest taken ec es ed =
+      → (session_at w.trading k).level ≤ s.level → s.level ≤ 3 → IsTrades (with_trading w (with_session (with_memory w.trading m) k s))
+  session_kept m a k s rest taken ec es ed up most =
       let v = w.trading in
       let l : Memory = record { ledger = v.memory.ledger; payer = a } in
       let n : Memory = record { ledger = m.ledger; payer = a } in
@@ -128,14 +146,21 @@ module _ (w : Trades) (h : IsTrades w) (t : IsTrading w.trading) where
       record {
         uncounted = λ z. h.uncounted (sym rest.whole.0 ∙ z);
         settled = rest_settled v.tree v.leaves w.nodes l n h.settled rest;
-        sessions = subst (λ p. Each (IsSettled v.leaves w.nodes p) (set v.sessions k (Some s))) (sym rest.whole.0)
-            (each_set (IsSettled v.leaves w.nodes v.memory.ledger.price) v.sessions k s (record {
+        sessions = subst (λ p. Each (λ j. IsSettled v.leaves w.nodes p) (set v.sessions k (Some s))) (sym rest.whole.0)
+            (each_set (λ j. IsSettled v.leaves w.nodes v.memory.ledger.price) v.sessions k s (record {
               client = ap (λ x. (node_at w.nodes (node_of v x)).stage) ec ∙ old.client;
               server = ap (λ x. (node_at w.nodes (node_of v x)).stage) es ∙ old.server;
               counted = λ z. ap (λ (d : Amount). d.caps) ed ∙ old.counted z;
             }) h.sessions);
         few = h.few;
         asks = subst AreApart (sym (clients_set v.sessions k s v.requests t.requests taken ec)) h.asks;
+        given =
+            let b = h.given k taken in
+            each_set (λ j u. IsBounded u (upgrades j v.requests)) v.sessions k s (record {
+              level = most;
+              ram = omega (arith, b.ram, up, ap (λ (d : Amount). d.ram) ed);
+              caps = omega (arith, b.caps, up, ap (λ (d : Amount). d.caps) ed);
+            }) h.given;
         even = λ i lt. (
           session_even (λ d. d.ram) ram_kind v w.nodes m k s (λ j. rest_quota (λ d. d.ram) v.tree l n j rest) taken ec es
               (ap (λ (d : Amount). d.ram) ed) i (h.even i lt).0,
@@ -153,9 +178,10 @@ module _ (w : Trades) (h : IsTrades w) (t : IsTrading w.trading) where
       record {
         uncounted = λ z. h.uncounted (sym rest.whole.0 ∙ z);
         settled = rest_settled v.tree v.leaves w.nodes l n h.settled rest;
-        sessions = subst (λ p. Each (IsSettled v.leaves w.nodes p) v.sessions) (sym rest.whole.0) h.sessions;
+        sessions = subst (λ p. Each (λ j. IsSettled v.leaves w.nodes p) v.sessions) (sym rest.whole.0) h.sessions;
         few = h.few;
         asks = h.asks;
+        given = h.given;
         even = λ i lt. (
           omega (arith, (h.even i lt).0, rest_quota (λ d. d.ram) v.tree l n i rest),
           omega (arith, (h.even i lt).1, rest_quota (λ d. d.caps) v.tree l n i rest),
@@ -172,6 +198,8 @@ module _ (w : Trades) (h : IsTrades w) (t : IsTrading w.trading) where
     few = h.few;
     asks = asked_apart w.trading.sessions w.trading.requests (record { session = k; server = server_of w.trading k; ask = a })
         (client_of w.trading k) refl h.asks idle;
+    given = λ j u. waits_more (session_in w.trading.sessions j) j w.trading.requests (record { session = k; server = server_of w.trading k; ask = a })
+        (h.given j u);
     even = h.even;
   }
 
@@ -184,27 +212,28 @@ module _ (w : Trades) (h : IsTrades w) (t : IsTrading w.trading) where
 -- a call that may be refused
 pub asked_by : {E : Type 0} (r : Result ℕ E) (w : Trades) (v : Trading) (s : Session) → IsTrades w → IsTrading w.trading → IsLive w s.client
     → IsLive w s.server → (s.client ≡ s.server → ⊥) → (w.trading.memory.ledger.price ≡ 0 → s.donation.caps ≡ 0) → IsIdle w.trading s.client
-    → OnOk r (v ≡ asked w.trading s) → OnOk r (s.donation.ram ≤ available (its_account w.trading s.client))
+    → s.level ≡ 0 → IsBalanced w.trading.memory.ledger → OnOk r (v ≡ asked w.trading s) → OnOk r (s.donation.ram ≤ available (its_account w.trading s.client))
     → OnOk r (s.donation.caps ≤ available_caps (its_account w.trading s.client)) → OnErr r (v ≡ w.trading) → IsTrades (with_trading w v)
-asked_by (Ok k) w v s h t cl sl ne counted idle is enough enough_caps err =
-    subst (λ y. IsTrades (with_trading w y)) (sym is) (asked_kept w h t s cl sl ne counted enough enough_caps idle)
-asked_by (Err e) w v s h t cl sl ne counted idle is enough enough_caps err = subst (λ y. IsTrades (with_trading w y)) (sym err) h
+asked_by (Ok k) w v s h t cl sl ne counted idle z b is enough enough_caps err =
+    subst (λ y. IsTrades (with_trading w y)) (sym is) (asked_kept w h t s cl sl ne counted enough enough_caps idle z b)
+asked_by (Err e) w v s h t cl sl ne counted idle z b is enough enough_caps err = subst (λ y. IsTrades (with_trading w y)) (sym err) h
 
 pub upgraded_by : {E : Type 0} (r : Result (Unit {0}) E) (w : Trades) (v : Trading) (k : ℕ) (n : Amount) → IsTrades w → IsTrading w.trading
     → IsTaken w.trading.sessions k → (w.trading.memory.ledger.price ≡ 0 → n.caps ≡ 0) → IsIdle w.trading (client_of w.trading k)
-    → OnOk r (v ≡ upgraded w.trading k n)
+    → IsBalanced w.trading.memory.ledger → OnOk r (v ≡ upgraded w.trading k n)
     → OnOk r (n.ram ≤ available (its_account w.trading (client_of w.trading k)))
     → OnOk r (n.caps ≤ available_caps (its_account w.trading (client_of w.trading k))) → OnErr r (v ≡ w.trading) → IsTrades (with_trading w v)
-upgraded_by (Ok u) w v k n h t taken counted idle is enough enough_caps err =
-    subst (λ y. IsTrades (with_trading w y)) (sym is) (upgraded_kept w h t k n taken counted enough enough_caps idle)
-upgraded_by (Err e) w v k n h t taken counted idle is enough enough_caps err = subst (λ y. IsTrades (with_trading w y)) (sym err) h
+upgraded_by (Ok u) w v k n h t taken counted idle b is enough enough_caps err =
+    subst (λ y. IsTrades (with_trading w y)) (sym is) (upgraded_kept w h t k n taken counted enough enough_caps idle b)
+upgraded_by (Err e) w v k n h t taken counted idle b is enough enough_caps err = subst (λ y. IsTrades (with_trading w y)) (sym err) h
 
 -- a slot of a session holds something else
 pub slot_kept : (w : Trades) (v : Trading) (k i : ℕ) (u : Thing) → IsTrades w → IsTrading w.trading → IsTaken w.trading.sessions k
     → v ≡ with_session w.trading k (with_slot (session_at w.trading k) i u) → IsTrades (with_trading w v)
 slot_kept w v k i u h t taken is =
     subst (λ y. IsTrades (with_trading w y)) (sym is)
-    (session_kept w h t w.trading.memory w.trading.memory.payer k (with_slot (session_at w.trading k) i u) (rest_refl w.trading.memory) taken refl refl refl)
+    (session_kept w h t w.trading.memory w.trading.memory.payer k (with_slot (session_at w.trading k) i u) (rest_refl w.trading.memory) taken refl refl refl
+    (omega arith) (h.given k taken).level)
 
 -- as a store of the account that pays
 pub rest_kept : (w : Trades) (v : Trading) → IsTrades w → IsTrading w.trading → SameButMemory w.trading v → IsTrades (with_trading w v)

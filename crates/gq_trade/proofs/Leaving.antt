@@ -281,6 +281,7 @@ module _ (w : Trades) (h : IsTrades w) (t : IsTrading w.trading) (b : IsBalanced
           };
       few = h.few;
       asks = h.asks;
+      given = h.given;
       even = λ i l. (even_now (λ d. d.ram) ram_kind (λ j q. (h.even j q).0) i l, even_now (λ d. d.caps) caps_kind (λ j q. (h.even j q).1) i l);
     })
 
@@ -451,6 +452,7 @@ module _ (w : Trades) (h : IsTrades w) (t : IsTrading w.trading) (i : ℕ) (pos 
             };
         few = h.few;
         asks = h.asks;
+        given = h.given;
         even = λ j l. (
           even_live (λ d. d.ram) ram_kind (λ k s. (h.even k s).0) (omega (arith, enough)) j l,
           even_live (λ d. d.caps) caps_kind (λ k s. (h.even k s).1) (omega (arith, enough_caps)) j l,

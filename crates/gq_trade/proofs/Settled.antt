@@ -5,7 +5,7 @@ use Rattle.gq_tariff.specs.declared.amount.Amount.{Amount}
 use Rattle.gq_ram.specs.Entries.{Entries, account_at, its_account, IsOpen}
 use Rattle.gq_donations.specs.Trees.{Tree, moved, number}
 use Rattle.gq_donations.proofs.Moves.{still_open, reference_kept}
-use Rattle.gq_numbered.specs.Numbers.{added, IsTaken}
+use Rattle.gq_numbered.specs.Numbers.{added, free_number, IsTaken}
 use Rattle.gq_memory.specs.Stores.{Memory}
 use Rattle.gq_memory.specs.Rest.{SameRest}
 use Rattle.gq_sessions.specs.declared.session.Session.{Session}
@@ -19,31 +19,30 @@ taken_none : false ≡ true → ⊥
 taken_none h = cc
 
 -- so it is of each session that is there
-abbrev pub Each : (Session → Type 0) → List (Option Session) → Type 0
-Each P ss = (k : ℕ) → IsTaken ss k → P (session_in ss k)
+abbrev pub Each : (ℕ → Session → Type 0) → List (Option Session) → Type 0
+Each P ss = (k : ℕ) → IsTaken ss k → P k (session_in ss k)
 
-module _ (P : Session → Type 0) where
-  pub each_added : (s : Session) (ss : List (Option Session)) → P s → Each P ss → Each P (added s ss)
-  each_added s [] p h zero t = p
-  each_added s [] p h (suc k) t = absurd (taken_none t)
-  each_added s (None ∷ ss) p h zero t = p
-  each_added s (None ∷ ss) p h (suc k) t = h (suc k) t
-  each_added s (Some u ∷ ss) p h zero t = h zero refl
-  each_added s (Some u ∷ ss) p h (suc k) t = each_added s ss p (λ j. h (suc j)) k t
+pub each_added : (P : ℕ → Session → Type 0) (s : Session) (ss : List (Option Session)) → P (free_number ss) s → Each P ss → Each P (added s ss)
+each_added P s [] p h zero t = p
+each_added P s [] p h (suc k) t = absurd (taken_none t)
+each_added P s (None ∷ ss) p h zero t = p
+each_added P s (None ∷ ss) p h (suc k) t = h (suc k) t
+each_added P s (Some u ∷ ss) p h zero t = h zero refl
+each_added P s (Some u ∷ ss) p h (suc k) t = each_added (λ j. P (suc j)) s ss p (λ j. h (suc j)) k t
 
-  pub each_set : (ss : List (Option Session)) (k : ℕ) (s : Session) → P s → Each P ss → Each P (set ss k (Some s))
-  each_set [] k s p h j t = h j t
-  each_set (x ∷ ss) zero s p h zero t = p
-  each_set (x ∷ ss) zero s p h (suc j) t = h (suc j) t
-  each_set (x ∷ ss) (suc k) s p h zero t = h zero t
-  each_set (x ∷ ss) (suc k) s p h (suc j) t = each_set ss k s p (λ i. h (suc i)) j t
+pub each_set : (P : ℕ → Session → Type 0) (ss : List (Option Session)) (k : ℕ) (s : Session) → P k s → Each P ss → Each P (set ss k (Some s))
+each_set P [] k s p h j t = h j t
+each_set P (x ∷ ss) zero s p h zero t = p
+each_set P (x ∷ ss) zero s p h (suc j) t = h (suc j) t
+each_set P (x ∷ ss) (suc k) s p h zero t = h zero t
+each_set P (x ∷ ss) (suc k) s p h (suc j) t = each_set (λ i. P (suc i)) ss k s p (λ i. h (suc i)) j t
 
-  pub each_unset : (ss : List (Option Session)) (k : ℕ) → Each P ss → Each P (set ss k None)
-  each_unset [] k h j t = h j t
-  each_unset (x ∷ ss) zero h zero t = absurd (taken_none t)
-  each_unset (x ∷ ss) zero h (suc j) t = h (suc j) t
-  each_unset (x ∷ ss) (suc k) h zero t = h zero t
-  each_unset (x ∷ ss) (suc k) h (suc j) t = each_unset ss k (λ i. h (suc i)) j t
+pub each_unset : (P : ℕ → Session → Type 0) (ss : List (Option Session)) (k : ℕ) → Each P ss → Each P (set ss k None)
+each_unset P [] k h j t = h j t
+each_unset P (x ∷ ss) zero h zero t = absurd (taken_none t)
+each_unset P (x ∷ ss) zero h (suc j) t = h (suc j) t
+each_unset P (x ∷ ss) (suc k) h zero t = h zero t
+each_unset P (x ∷ ss) (suc k) h (suc j) t = each_unset (λ i. P (suc i)) ss k (λ i. h (suc i)) j t
 
 -- NODES
 

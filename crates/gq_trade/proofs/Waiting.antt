@@ -1,5 +1,5 @@
 -- Each client has one request at most, so there are fewer than leaves.
-use Rattle.std.proofs.Common.{◌≡◌, ℕ, zero, suc, ◌<◌, ◌≤◌, inl, inr, List, [], ◌∷◌, ◌++◌, length, set, Option, Some, None, refl, sym, ap}
+use Rattle.std.proofs.Common.{◌≡◌, ℕ, zero, suc, ◌<◌, ◌≤◌, inl, inr, List, [], ◌∷◌, ◌++◌, length, set, Option, Some, None, refl, sym, ap, ◌+◌}
 use Rattle.std.proofs.Common.{subst, ◌∙◌, arith}
 use Rattle.std.proofs.lemmas.Bool.{cases_eq}
 use Rattle.std.proofs.lemmas.Bool.Decides.{eqb_tells}
@@ -11,7 +11,12 @@ use Rattle.gq_requests.specs.Queues.{kept_before, oldest_to}
 use Rattle.gq_sessions.specs.declared.session.Session.{Session}
 use Rattle.gq_sessions.specs.Trading.{AreBetween, AreOf, AreOfOthers, found, session_in}
 use Rattle.gq_sessions.proofs.Kept.{added_other, between_at}
-use Rattle.gq_trade.specs.Waiting.{AreApart, AreOther, clients_in}
+use Rattle.gq_trade.specs.Waiting.{AreApart, AreOther, IsBounded, clients_in, is_upgrade, upgrades}
+use Rattle.gq_tariff.specs.declared.amount.Amount.{Amount}
+use Rattle.gq_requests.specs.declared.requests.Ask.TheVariants.{Upgrade}
+use Rattle.gq_sessions.specs.Trading.{with_more}
+use Rattle.gq_trade.specs.Balances.{for_node}
+use Rattle.gq_trade.proofs.Evens.{for_same, for_other}
 
 -- COUNTING
 
@@ -156,3 +161,55 @@ taken ss x (r ∷ rs) p a e = elim (eqb_tells r.server x) [
 pub taken_apart : (ss : List (Option Session)) (x : ℕ) (rs : List Request) (r : Request) (rest : List Request) → AreApart (clients_in ss rs)
     → oldest_to x rs ≡ Some (r, rest) → AreApart (clients_in ss rest)
 taken_apart ss x rs r rest a e = (taken ss x rs (pair r rest) a e).apart
+
+-- UPGRADES THAT WAIT
+
+upgrades_more : (k : ℕ) (rs : List Request) (r : Request) → upgrades k (rs ++ r ∷ []) ≡ upgrades k rs + for_node r.session k (is_upgrade r.ask)
+upgrades_more k [] r = omega arith
+upgrades_more k (q ∷ rs) r = let further = upgrades_more k rs r in omega (arith, further)
+
+-- with more upgrades that wait no more is given
+pub bounded_more : (s : Session) (n m : ℕ) → n ≤ m → IsBounded s n → IsBounded s m
+bounded_more s n m lt b = record { level = b.level; ram = omega (arith, b.ram, lt); caps = omega (arith, b.caps, lt) }
+
+pub waits_more : (s : Session) (k : ℕ) (rs : List Request) (r : Request) → IsBounded s (upgrades k rs) → IsBounded s (upgrades k (rs ++ r ∷ []))
+waits_more s k rs r b = let e = upgrades_more k rs r in bounded_more s (upgrades k rs) (upgrades k (rs ++ r ∷ [])) (omega (arith, e)) b
+
+-- at a request to upgrade so much more is given
+pub upgrade_bounded : (s : Session) (k x : ℕ) (n : Amount) (rs : List Request) → n.ram ≤ 67108864 → n.caps ≤ 67108864 → IsBounded s (upgrades k rs)
+    → IsBounded (with_more s n) (upgrades k (rs ++ record { session = k; server = x; ask = Upgrade } ∷ []))
+upgrade_bounded s k x n rs nr nc b =
+    let e = upgrades_more k rs (record { session = k; server = x; ask = Upgrade }) in
+    let one : for_node k k 1 ≡ 1 = for_same k k 1 refl in
+    record { level = b.level; ram = omega (arith, b.ram, nr, e, one); caps = omega (arith, b.caps, nc, e, one) }
+
+later_upgrades : (k : ℕ) (r : Request) (rs : List Request) (p : Request × List Request) (o : Option (Request × List Request)) → kept_before r o ≡ Some p
+    → ((q : Request × List Request) → o ≡ Some q → upgrades k rs ≡ for_node (q.0).session k (is_upgrade (q.0).ask) + upgrades k q.1)
+    → upgrades k (r ∷ rs) ≡ for_node (p.0).session k (is_upgrade (p.0).ask) + upgrades k p.1
+later_upgrades k r rs p None e further = cc
+later_upgrades k r rs p (Some q) e further =
+    let f = further q refl in
+    subst (λ (t : Request × List Request). upgrades k (r ∷ rs) ≡ for_node (t.0).session k (is_upgrade (t.0).ask) + upgrades k t.1)
+    (some_in (pair q.0 (r ∷ q.1)) p e) (omega (arith, f))
+
+first_upgrades : (k : ℕ) (r : Request) (rs : List Request) (p : Request × List Request) → Some (pair r rs) ≡ Some p
+    → upgrades k (r ∷ rs) ≡ for_node (p.0).session k (is_upgrade (p.0).ask) + upgrades k p.1
+first_upgrades k r rs p e =
+    subst (λ (t : Request × List Request). upgrades k (r ∷ rs) ≡ for_node (t.0).session k (is_upgrade (t.0).ask) + upgrades k t.1)
+    (some_in (pair r rs) p e) refl
+
+pub taken_upgrades : (k x : ℕ) (rs : List Request) (p : Request × List Request) → oldest_to x rs ≡ Some p
+    → upgrades k rs ≡ for_node (p.0).session k (is_upgrade (p.0).ask) + upgrades k p.1
+taken_upgrades k x [] p e = cc
+taken_upgrades k x (r ∷ rs) p e = elim (eqb_tells r.server x) [
+  | inl t ↦ first_upgrades k r rs p (rw t.0 at e)
+  | inr n ↦ later_upgrades k r rs p (oldest_to x rs) (rw n.0 at e) (λ q f. taken_upgrades k x rs q f)
+]
+
+-- where the client of a session has no request, none to upgrade it waits
+pub idle_none : (ss : List (Option Session)) (k : ℕ) (rs : List Request) → AreOther (session_in ss k).client (clients_in ss rs) → upgrades k rs ≡ 0
+idle_none ss k [] o = refl
+idle_none ss k (r ∷ rs) o =
+    let here = for_other r.session k (is_upgrade r.ask) (λ e. o.0 (ap (λ j. (session_in ss j).client) e)) in
+    let further = idle_none ss k rs o.1 in
+    omega (arith, here, further)

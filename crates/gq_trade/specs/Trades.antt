@@ -8,7 +8,7 @@ use Rattle.gq_sessions.specs.Trading.{Trading, SameButMemory as SameTrading, ses
 use Rattle.gq_trade.specs.declared.node.Node.{Node}
 use Rattle.gq_trade.specs.declared.node.Stage.TheVariants.{Live, Ended}
 use Rattle.gq_trade.specs.Balances.{IsEven, node_at}
-use Rattle.gq_trade.specs.Waiting.{AreApart, clients}
+use Rattle.gq_trade.specs.Waiting.{AreApart, IsBounded, clients, upgrades}
 
 -- sessions with their memory, and the nodes in preorder
 pub record Trades : Type 0 where
@@ -69,6 +69,7 @@ pub record IsTrades (w : Trades) : Type 0 where
   -- each leaf has one request at most
   pub few : length w.trading.leaves ≤ 64
   pub asks : AreApart (clients w.trading)
+  pub given : (k : ℕ) → IsTaken w.trading.sessions k → IsBounded (session_in w.trading.sessions k) (upgrades k w.trading.requests)
   -- of bytes and of capabilities
   pub even : (i : ℕ) → i < length w.trading.tree.parents → IsEven (λ n. n.ram) w.trading w.nodes i × IsEven (λ n. n.caps) w.trading w.nodes i
 

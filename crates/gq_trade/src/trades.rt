@@ -121,6 +121,7 @@ impl Trades {
             → available_caps (its_account self.old.trading client) < donation.caps) }
     {
         self.sessions.laws();
+        self.sessions.memory().accounts().laws();
         self.sessions.ask(client, spot, server, service, donation)
     }
 
@@ -129,8 +130,6 @@ impl Trades {
     pub fn upgrade(&mut self, session: usize, donation: Amount) -> Result<(), AccountFault>
         requires there { IsTaken self.old.trading.sessions session }
         requires counted { self.old.trading.memory.ledger.price ≡ 0 → donation.caps ≡ 0 }
-        requires small { (session_at self.old.trading session).donation.ram + donation.ram ≤ 2 ^ 40 }
-        requires small_caps { (session_at self.old.trading session).donation.caps + donation.caps ≤ 2 ^ 40 }
         requires idle { IsIdle self.old.trading (client_of self.old.trading session) }
         ensures upgraded { OnOk result (self.new ≡ with_trading self.old (upgraded self.old.trading session donation)) }
         ensures enough { OnOk result (donation.ram ≤ available (its_account self.old.trading (client_of self.old.trading session))) }
@@ -145,6 +144,7 @@ impl Trades {
             → available_caps (its_account self.old.trading (client_of self.old.trading session)) < donation.caps) }
     {
         self.sessions.laws();
+        self.sessions.memory().accounts().laws();
         self.sessions.upgrade(session, donation)
     }
 

@@ -1,4 +1,5 @@
-use Rattle.std.proofs.Common.{◌≡◌, sym, ap, subst, ◌∙◌}
+use Rattle.std.proofs.Common.{◌≡◌, refl, sym, ap, subst, ◌∙◌}
+use Rattle.gq_ram.specs.Ledgers.{IsBalanced}
 use Rattle.gq_trade.specs.Trades.{Trades, IsLive}
 use Rattle.gq_trade.specs.Waiting.{IsIdle}
 use Rattle.gq_trade.proofs.Inside.{trades_of}
@@ -14,7 +15,8 @@ invariant_of-self c =
     asked_by c.ask.result w c.ask.new.self (fresh c.args.client c.args.spot c.args.server c.args.service c.args.donation) c.self.invariant c.laws.ensures
     (subst (λ (a : Trades). IsLive a c.args.client) (sym v) c.requires.client) (subst (λ (a : Trades). IsLive a c.args.server) (sym v) c.requires.server)
     c.requires.apart (λ z. c.requires.counted (ap (λ (a : Trades). a.trading.memory.ledger.price) (sym v) ∙ z))
-    (subst (λ (a : Trades). IsIdle a.trading c.args.client) (sym v) c.requires.idle) e.asked e.enough e.enough_caps e.unchanged
+    (subst (λ (a : Trades). IsIdle a.trading c.args.client) (sym v) c.requires.idle) refl
+    (subst IsBalanced (ap (λ m. m.ledger) c.memory.ensures) (subst IsBalanced c.accounts.ensures c.laws-2.ensures)) e.asked e.enough e.enough_caps e.unchanged
 
 pub ask-requires-clause-few : goal.ask-requires-clause-few
 ask-requires-clause-few c =

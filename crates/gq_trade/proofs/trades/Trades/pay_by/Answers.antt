@@ -8,4 +8,4 @@ invariant_of-self c =
     let w : Trades = trades_of c.self.inside in
     let h = c.self.invariant in
     subst (λ y. IsTrades (with_trading w y)) (sym c.pay_by.ensures)
-    (record { uncounted = h.uncounted; settled = h.settled; sessions = h.sessions; few = h.few; asks = h.asks; even = h.even })
+    (record { uncounted = h.uncounted; settled = h.settled; sessions = h.sessions; few = h.few; asks = h.asks; given = h.given; even = h.even })
