@@ -92,7 +92,7 @@ impl Trades {
     /// request to open is the last.
     ///
     /// Refused as `Exceeded` where the client has fewer bytes that are not used, else as `CapsExceeded` where it has fewer capabilities; then
-    /// nothing changes. Where capabilities are not counted, none can be given.
+    /// nothing changes. Where capabilities are not counted, none can be given. Client and server are live, and no request of the client waits.
     pub fn ask(
         &mut self,
         client: usize,
