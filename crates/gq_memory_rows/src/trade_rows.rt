@@ -1,19 +1,486 @@
-// Sessions between leaves, before there is any.
-use gq_donations::AccountTree;
-use gq_memory::Memory;
-use gq_ram::Accounts;
-use gq_sessions::Sessions;
+// Sessions between leaves, from the first request to the close, and leaves that start once others have ended.
+ghost use Rattle.std.specs.Prelude.{◌≡◌, [], ◌∷◌, IfOk, OnOk, OnErr};
+ghost use Rattle.gq_ram.specs.Entries.{IsOpen};
+ghost use Rattle.gq_memory_rows.specs.Markets.{AreParties, AreReady, HasAsked, HasOne, IsLine, IsQuiet, IsTrio, live_node, pending_node, request_of};
+ghost use Rattle.gq_trade.specs.Trades.{IsLive};
+
+use gq_heap::Heap;
+use gq_ram::{AccountFault, AccountNo};
+use gq_sessions::Spot;
+use gq_store::GrowFault;
+use gq_tariff::Amount;
+use gq_trade::{Node, Plan, Stage, Trades};
+use std::alloc::{AllocError, Global};
 use std::test::Fail;
 
+// The leaves of a market.
+const SERVER: usize = 0;
+
+const CLIENT: usize = 1;
+
+// A scenario of whose leaves the first serves the second, with the accounts of the two.
+#[derive(Drop)]
+struct Market {
+    trades: Trades,
+    server: AccountNo,
+    client: AccountNo,
+}
+
+// The quotas of both leaves in bytes, what the server uses of its, and the quotas of the inits above the client, the lowest first.
+#[derive(Clone, Copy, Debug, PartialEq, Eq)]
+struct Bytes {
+    server: u64,
+    used: u64,
+    client: u64,
+    inits: [u64; 3],
+}
+
+// The same of capabilities.
+#[derive(Clone, Copy, Debug, PartialEq, Eq)]
+struct Caps {
+    server: u64,
+    used: u64,
+    client: u64,
+}
+
+impl Market {
+    fn new(mut trades: Trades) -> Market
+        requires ready { AreReady trades }
+        requires quiet { IsQuiet trades }
+        ensures parties { AreParties result.trades result.server result.client }
+        ensures quiet { IsQuiet result.trades }
+        ensures price { result.trades.trading.memory.ledger.price ≡ trades.trading.memory.ledger.price }
+    {
+        trades.pay_by(SERVER);
+        let server = trades.memory().payer();
+        trades.pay_by(CLIENT);
+        let client = trades.memory().payer();
+        Market {
+            trades,
+            server,
+            client,
+        }
+    }
+
+    // The client asks for a session.
+    fn ask(&mut self, donation: Amount) -> Result<usize, AccountFault>
+        requires parties { AreParties self.old.trades self.old.server self.old.client }
+        requires quiet { IsQuiet self.old.trades }
+        requires counted { self.old.trades.trading.memory.ledger.price ≡ 0 → donation.caps ≡ 0 }
+        ensures parties { AreParties self.new.trades self.new.server self.new.client }
+        ensures asked { OnOk result (HasAsked self.new.trades) }
+        ensures quiet { OnErr result (IsQuiet self.new.trades) }
+        ensures price { self.new.trades.trading.memory.ledger.price ≡ self.old.trades.trading.memory.ledger.price }
+    {
+        self.trades
+            .ask(CLIENT, Spot::InLeaf(CLIENT, 0), SERVER, 0, donation)
+    }
+
+    // The server takes the request to open.
+    fn accept(&mut self) -> Result<(), GrowFault>
+        requires parties { AreParties self.old.trades self.old.server self.old.client }
+        requires asked { HasAsked self.old.trades }
+        ensures parties { AreParties self.new.trades self.new.server self.new.client }
+        ensures one { OnOk result (HasOne self.new.trades) }
+    {
+        let _heap = Heap::new();
+        self.trades.accept(SERVER)?;
+        Ok(())
+    }
+
+    // The client asks for the end of the session, and the server takes the request and replies.
+    fn close(&mut self) -> Result<(), AccountFault>
+        requires parties { AreParties self.old.trades self.old.server self.old.client }
+        requires one { HasOne self.old.trades }
+        ensures parties { AreParties self.new.trades self.new.server self.new.client }
+    {
+        self.trades.ask_close(0);
+        if self.trades.accept(SERVER).is_err() {
+            return Err(AccountFault::HasMembers);
+        }
+        self.trades.closed(0)
+    }
+
+    fn bytes(&self) -> Bytes
+        requires { AreParties self.now.trades self.now.server self.now.client }
+    {
+        self.trades.laws();
+        let accounts = self.trades.memory().accounts();
+        Bytes {
+            server: accounts.quota(self.server),
+            used: accounts.used(self.server),
+            client: accounts.quota(self.client),
+            inits: quotas_above(&self.trades, self.client),
+        }
+    }
+
+    fn caps(&self) -> Caps
+        requires { AreParties self.now.trades self.now.server self.now.client }
+    {
+        self.trades.laws();
+        let accounts = self.trades.memory().accounts();
+        Caps {
+            server: accounts.caps(self.server),
+            used: accounts.caps_used(self.server),
+            client: accounts.caps(self.client),
+        }
+    }
+}
+
+// The quota of the reference account of an account, and so on up to that of the root.
+fn quotas_above(trades: &Trades, account: AccountNo) -> [u64; 3]
+    requires { IsOpen trades.now.trading.memory.ledger.accounts account.0 }
+{
+    let accounts = trades.memory().accounts();
+    accounts.laws();
+    let mut quotas = [0; 3];
+    let mut below = account;
+    for place in 0..3 {
+        match accounts.reference(below) {
+            Some(above) => {
+                quotas[place] = accounts.quota(above);
+                below = above;
+            }
+            None => return quotas,
+        }
+    }
+    quotas
+}
+
+// A node that has its quantum.
+fn live(ram: u64, caps: u64) -> Node
+    ensures { result ≡ live_node ram caps }
+{
+    Node {
+        quantum: Amount { ram, caps },
+        after: None,
+        stage: Stage::Live,
+    }
+}
+
+// A node that starts once another has ended.
+fn pending(ram: u64, after: usize) -> Node
+    ensures { result ≡ pending_node ram after }
+{
+    Node {
+        quantum: Amount { ram, caps: 0 },
+        after: Some(after),
+        stage: Stage::Pending,
+    }
+}
+
+// A server and a client below the root, without capabilities.
+fn pair(alloc: Global) -> Result<Market, AllocError>
+    ensures parties { IfOk result (λ m. AreParties m.trades m.server m.client) }
+    ensures quiet { IfOk result (λ m. IsQuiet m.trades) }
+{
+    let plan = Plan {
+        parents: vec![in alloc; 0, 0, 0]?,
+        nodes: vec![in alloc; live(65536, 0), live(4096, 0), live(16384, 0)]?,
+        leaves: vec![in alloc; 1, 2]?,
+        objects: vec![in alloc; 100]?,
+    };
+    Ok(Market::new(Trades::new(alloc, 65536, None, plan, 24)?))
+}
+
+// The same with ten capabilities, one of them the client's.
+fn pair_with_caps(alloc: Global) -> Result<Market, AllocError>
+    ensures parties { IfOk result (λ m. AreParties m.trades m.server m.client) }
+    ensures quiet { IfOk result (λ m. IsQuiet m.trades) }
+    ensures counted { IfOk result (λ m. m.trades.trading.memory.ledger.price ≡ 1) }
+{
+    let plan = Plan {
+        parents: vec![in alloc; 0, 0, 0]?,
+        nodes: vec![in alloc; live(65536, 10), live(4096, 0), live(16384, 1)]?,
+        leaves: vec![in alloc; 1, 2]?,
+        objects: vec![in alloc; 100]?,
+    };
+    Ok(Market::new(Trades::new(alloc, 65536, Some(10), plan, 24)?))
+}
+
+// A server below the root, and a client below two more inits.
+fn deep_pair(alloc: Global) -> Result<Market, AllocError>
+    ensures parties { IfOk result (λ m. AreParties m.trades m.server m.client) }
+    ensures quiet { IfOk result (λ m. IsQuiet m.trades) }
+{
+    let plan = Plan {
+        parents: vec![in alloc; 0, 0, 0, 2, 3]?,
+        nodes: vec![in alloc;
+            live(65536, 0),
+            live(4096, 0),
+            live(40960, 0),
+            live(24576, 0),
+            live(16384, 0),
+        ]?,
+        leaves: vec![in alloc; 1, 4]?,
+        objects: vec![in alloc; 100]?,
+    };
+    Ok(Market::new(Trades::new(alloc, 65536, None, plan, 24)?))
+}
+
+// A server and two clients.
+fn trio(alloc: Global) -> Result<Trades, AllocError>
+    ensures { IfOk result (λ w. IsTrio w) }
+{
+    let plan = Plan {
+        parents: vec![in alloc; 0, 0, 0, 0]?,
+        nodes: vec![in alloc;
+            live(65536, 0),
+            live(4096, 0),
+            live(16384, 0),
+            live(16384, 0),
+        ]?,
+        leaves: vec![in alloc; 1, 2, 3]?,
+        objects: vec![in alloc; 100]?,
+    };
+    Trades::new(alloc, 65536, None, plan, 24)
+}
+
+// The second client asks, then the first.
+fn both_ask(trades: &mut Trades) -> Result<(), AccountFault>
+    requires { IsTrio trades.old }
+    ensures live { OnOk result (IsLive trades.new 0) }
+    ensures requests { OnOk result (trades.new.trading.requests ≡ request_of 0 ∷ request_of 1 ∷ []) }
+{
+    let plain = Amount { ram: 4096, caps: 0 };
+    let _second = trades.ask(2, Spot::InLeaf(2, 0), SERVER, 0, plain)?;
+    let _first = trades.ask(1, Spot::InLeaf(1, 0), SERVER, 0, plain)?;
+    Ok(())
+}
+
+// Three leaves, the second of which starts after the first, and the third after the second.
+fn line(alloc: Global) -> Result<Trades, AllocError>
+    ensures { IfOk result (λ w. IsLine w
+        (live_node 8192 0 ∷ live_node 8192 0 ∷ pending_node 8192 1 ∷ pending_node 4096 2 ∷ [])) }
+{
+    let plan = Plan {
+        parents: vec![in alloc; 0, 0, 0, 0]?,
+        nodes: vec![in alloc;
+            live(8192, 0),
+            live(8192, 0),
+            pending(8192, 1),
+            pending(4096, 2),
+        ]?,
+        leaves: vec![in alloc; 1, 2, 3]?,
+        objects: vec![in alloc; 100]?,
+    };
+    Trades::new(alloc, 8192, None, plan, 24)
+}
+
+// The quotas of a leaf and of the root.
+fn quotas_of(trades: &mut Trades, leaf: usize) -> (u64, u64)
+    requires { IsLive trades.old leaf }
+    ensures nodes { trades.new.nodes ≡ trades.old.nodes }
+    ensures leaves { trades.new.trading.leaves ≡ trades.old.trading.leaves }
+    ensures sessions { trades.new.trading.sessions ≡ trades.old.trading.sessions }
+{
+    trades.pay_by(leaf);
+    let memory = trades.memory();
+    let accounts = memory.accounts();
+    (
+        accounts.quota(memory.payer()),
+        accounts.quota(accounts.root()),
+    )
+}
+
+// Those of each leaf of a line in turn, while it is live.
+fn run_line(trades: &mut Trades) -> [(u64, u64); 3]
+    requires { IsLine trades.old (live_node 8192 0 ∷ live_node 8192 0 ∷ pending_node 8192 1 ∷ pending_node 4096 2 ∷ []) }
+{
+    let first = quotas_of(trades, 0);
+    trades.end(0);
+    let second = quotas_of(trades, 1);
+    trades.end(1);
+    let third = quotas_of(trades, 2);
+    [first, second, third]
+}
+
+// What a market has before a session is asked for, once it is, once it is accepted, and once it is closed.
+fn trade(market: &mut Market, ram: u64) -> Result<[Bytes; 4], Fail>
+    requires parties { AreParties market.old.trades market.old.server market.old.client }
+    requires quiet { IsQuiet market.old.trades }
+{
+    let before = market.bytes();
+    market.ask(Amount { ram, caps: 0 })?;
+    let asked = market.bytes();
+    market.accept()?;
+    let accepted = market.bytes();
+    market.close()?;
+    Ok([before, asked, accepted, market.bytes()])
+}
+
+fn trade_of_pair(alloc: Global, ram: u64) -> Result<[Bytes; 4], Fail> {
+    let mut market = pair(alloc)?;
+    trade(&mut market, ram)
+}
+
+fn trade_of_deep_pair(alloc: Global, ram: u64) -> Result<[Bytes; 4], Fail> {
+    let mut market = deep_pair(alloc)?;
+    trade(&mut market, ram)
+}
+
+fn turns_of_line(alloc: Global) -> Result<[(u64, u64); 3], Fail> {
+    let mut trades = line(alloc)?;
+    Ok(run_line(&mut trades))
+}
+
+// The capabilities before a session with one is asked for, once it is accepted, and once it is closed.
+fn trade_with_caps(alloc: Global) -> Result<[Caps; 3], Fail> {
+    let mut market = pair_with_caps(alloc)?;
+    let before = market.caps();
+    market.ask(Amount { ram: 8192, caps: 1 })?;
+    market.accept()?;
+    let accepted = market.caps();
+    market.close()?;
+    Ok([before, accepted, market.caps()])
+}
+
+// Why a session is refused with a capability too many, and with a byte too many beside that; and what there is then.
+fn refusals(alloc: Global) -> Result<Option<(AccountFault, AccountFault, Bytes, Caps)>, Fail> {
+    let mut market = pair_with_caps(alloc)?;
+    let Err(lacks_caps) = market.ask(Amount { ram: 8192, caps: 2 }) else {
+        return Ok(None);
+    };
+    let Err(lacks_bytes) = market.ask(Amount {
+        ram: 16385,
+        caps: 2,
+    }) else {
+        return Ok(None);
+    };
+    Ok(Some((lacks_caps, lacks_bytes, market.bytes(), market.caps())))
+}
+
+// The second client asks, then the first. The session of the request that the server accepts, and that of the one which waits then.
+fn serve_first(alloc: Global) -> Result<(Option<usize>, Option<usize>), Fail> {
+    let mut trades = trio(alloc)?;
+    both_ask(&mut trades)?;
+    let accepted = trades.accept(SERVER)?;
+    let waits = trades.waiting(SERVER);
+    Ok((accepted.map(|r| r.session), waits.map(|r| r.session)))
+}
+
 #[test]
-fn makes_room_for_sessions(rt: HostRuntime) -> Result<(), Fail> {
-    let alloc = rt.alloc();
-    let accounts = Accounts::new(alloc, 65536, None)?;
-    let root = accounts.root();
-    let tree = AccountTree::new(vec![in alloc; root]?, vec![in alloc; 0]?);
-    let memory = Memory::new(accounts, root);
-    let trades = Sessions::new(alloc, memory, tree, Vec::new(alloc), Vec::new(alloc), 24)?;
-    assert!(rt; trades.waiting(0).is_none());
-    assert_eq!(rt; trades.memory().accounts().quota(root), 65536);
+fn gives_the_whole_donation_back(rt: HostRuntime) -> Result<(), Fail> {
+    let seen = trade_of_pair(rt.alloc(), 8192)?;
+    let before = Bytes {
+        server: 4096,
+        used: 0,
+        client: 16384,
+        inits: [45056, 0, 0],
+    };
+    let asked = Bytes {
+        server: 12288,
+        used: 0,
+        client: 8192,
+        inits: [45056, 0, 0],
+    };
+    let accepted = Bytes {
+        used: 4096,
+        ..asked
+    };
+    assert_eq!(rt; seen, [before, asked, accepted, before]);
+    Ok(())
+}
+
+// Not even what is more than whole pages is kept.
+#[test]
+fn gives_a_surplus_back(rt: HostRuntime) -> Result<(), Fail> {
+    let seen = trade_of_pair(rt.alloc(), 8193)?;
+    let before = Bytes {
+        server: 4096,
+        used: 0,
+        client: 16384,
+        inits: [45056, 0, 0],
+    };
+    let asked = Bytes {
+        server: 12289,
+        used: 0,
+        client: 8191,
+        inits: [45056, 0, 0],
+    };
+    let accepted = Bytes {
+        used: 4096,
+        ..asked
+    };
+    assert_eq!(rt; seen, [before, asked, accepted, before]);
+    Ok(())
+}
+
+#[test]
+fn leaves_the_inits_on_the_way_theirs(rt: HostRuntime) -> Result<(), Fail> {
+    let seen = trade_of_deep_pair(rt.alloc(), 8192)?;
+    let before = Bytes {
+        server: 4096,
+        used: 0,
+        client: 16384,
+        inits: [8192, 16384, 20480],
+    };
+    let asked = Bytes {
+        server: 12288,
+        used: 0,
+        client: 8192,
+        inits: [8192, 16384, 20480],
+    };
+    let accepted = Bytes {
+        used: 4096,
+        ..asked
+    };
+    assert_eq!(rt; seen, [before, asked, accepted, before]);
+    Ok(())
+}
+
+#[test]
+fn starts_leaves_one_after_the_other(rt: HostRuntime) -> Result<(), Fail> {
+    assert_eq!(rt;
+        turns_of_line(rt.alloc())?,
+        [(8192, 0), (8192, 0), (4096, 4096)]
+    );
+    Ok(())
+}
+
+#[test]
+fn gives_capabilities_back(rt: HostRuntime) -> Result<(), Fail> {
+    let before = Caps {
+        server: 0,
+        used: 0,
+        client: 1,
+    };
+    let accepted = Caps {
+        server: 1,
+        used: 1,
+        client: 0,
+    };
+    assert_eq!(rt; trade_with_caps(rt.alloc())?, [before, accepted, before]);
+    Ok(())
+}
+
+#[test]
+fn changes_nothing_where_it_refuses(rt: HostRuntime) -> Result<(), Fail> {
+    let bytes = Bytes {
+        server: 4096,
+        used: 0,
+        client: 16384,
+        inits: [45056, 0, 0],
+    };
+    let caps = Caps {
+        server: 0,
+        used: 0,
+        client: 1,
+    };
+    assert_eq!(rt;
+        refusals(rt.alloc())?,
+        Some((
+            AccountFault::CapsExceeded,
+            AccountFault::Exceeded,
+            bytes,
+            caps
+        ))
+    );
+    Ok(())
+}
+
+#[test]
+fn accepts_the_oldest_request_first(rt: HostRuntime) -> Result<(), Fail> {
+    assert_eq!(rt; serve_first(rt.alloc())?, (Some(0), Some(1)));
     Ok(())
 }
