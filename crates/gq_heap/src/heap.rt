@@ -61,7 +61,7 @@ pub struct Heap {
 }
 
 impl Heap {
-    ghost use Rattle.std.specs.Prelude.{◌≡◌, ℕ, ◌+◌, ◌*◌, ◌/◌, ◌<◌, ◌≤◌, ◌↔◌, [], ◌∷◌, Some, IfOk, OnErr, IsErrOf};
+    ghost use Rattle.std.specs.Prelude.{◌≡◌, ℕ, ◌+◌, ◌*◌, ◌/◌, ◌<◌, ◌≤◌, ◌↔◌, [], ◌∷◌, Some, IfOk, OnErr, IsErrOf, replicate};
     ghost use Rattle.gq_model.specs.machine.Amounts.{Ram};
     ghost use Rattle.gq_model.specs.machine.Prices.{heap as class_prices};
     ghost use Rattle.gq_tariff.specs.declared.class.Class.{Class};
@@ -76,6 +76,7 @@ impl Heap {
         ensures charge { charge result ≡ 0 }
         ensures charge_caps { charge_caps result ≡ 0 }
         ensures peak { (class : Class) → peak_of result class ≡ 0 }
+        ensures peaks { peaks result ≡ replicate 8 0 }
     {
         let empty = Bin {
             head: 0,

@@ -22,6 +22,8 @@ mod sharing_rows;
 #[cfg(test)]
 mod sliced_rows;
 #[cfg(test)]
+mod slots_rows;
+#[cfg(test)]
 mod things_rows;
 #[cfg(test)]
 mod trade_rows;

@@ -148,7 +148,7 @@ fn quotas_above(trades: &Trades, account: AccountNo) -> [u64; 3]
 }
 
 // A node that has its quantum.
-fn live(ram: u64, caps: u64) -> Node
+pub(crate) fn live(ram: u64, caps: u64) -> Node
     ensures { result ≡ live_node ram caps }
 {
     Node {

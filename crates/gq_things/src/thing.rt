@@ -236,6 +236,7 @@ impl Thing {
         ensures pays { IfOk result (λ b. Pays heap.old heap.new (S.state store.old) (S.state store.new) self.now self.now) }
         ensures raises { IfOk result (λ b. entry_in index (seen (S.state store.old) self.now) ≡ None
             → Raises heap.old heap.new (S.state store.old) (S.state store.new) self.now self.now) }
+        ensures there { IfOk result (λ b. b ≡ false → (heap.new ≡ heap.old) × (S.state store.new ≡ S.state store.old)) }
         ensures exceeded { IsErrOf result GrowFault.Exceeded
             ↔ ((entry_in index (seen (S.state store.old) self.now) ≡ None) × ((S.state store.old).left < rise heap.old (entry_size self.now))) }
         ensures none { IsErrOf result GrowFault.CapsExceeded

@@ -68,6 +68,12 @@ module _ (total : ℕ) (caps : Option ℕ) (ps : List ℕ) (ns : List Node) (xs 
     root_alone : (account_at es 0).reference ≡ None
     root_alone = ap (λ x. (its_account x).reference) (o.kept ∙ ap (λ (m : Ledger). get_or m.accounts 0 None) lp)
 
+    -- no account has memory in use
+    pub unused_at : (i : ℕ) → i < length t.parents → (account_at es (number t i)).used ≡ no_amount
+    unused_at zero lt =
+        ap (λ k. (account_at es k).used) o.root ∙ ap (λ x. (its_account x).used) (o.kept ∙ ap (λ (m : Ledger). get_or m.accounts 0 None) lp)
+    unused_at (suc i) lt = ap (λ x. (its_account x).used) (o.empty (suc i) (omega arith) lt)
+
     refers : (i : ℕ) (r : AccountNo) → i < length t.parents → (account_at es (number t i)).reference ≡ Some r → (0 < i) × (number t (parent t i) ≡ r.0)
     refers zero r lt e = absurd (none_some r (sym (ap (λ k. (account_at es k).reference) o.root ∙ root_alone) ∙ e))
     refers (suc i) r lt e = (

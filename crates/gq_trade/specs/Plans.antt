@@ -1,7 +1,8 @@
 -- What a `Trades` is made of, and what it is at first.
 use Rattle.std.specs.Prelude.{◌≡◌, ℕ, ◌<◌, ◌≤◌, List, [], length, map, get_or, Option, Some, None}
 use Rattle.gq_ram.specs.Ledgers.{caps_where, first_ledger, with_accounts}
-use Rattle.gq_donations.specs.Trees.{Tree}
+use Rattle.gq_ram.specs.Entries.{no_amount}
+use Rattle.gq_donations.specs.Trees.{Tree, account_of}
 use Rattle.gq_donations.specs.Handing.{spent}
 use Rattle.gq_trade.specs.declared.node.Node.{Node}
 use Rattle.gq_trade.specs.declared.node.Stage.TheVariants.{Live}
@@ -42,4 +43,5 @@ pub record IsFirst (total : ℕ) (caps : Option ℕ) (ps : List ℕ) (ns : List 
   pub sessions : w.trading.sessions ≡ []
   pub room : w.trading.room ≡ n
   pub requests : w.trading.requests ≡ []
+  pub unused : (i : ℕ) → i < length ps → (account_of w.trading.tree w.trading.memory.ledger i).used ≡ no_amount
   pub ledger : w.trading.memory.ledger ≡ with_accounts (first_ledger total caps) w.trading.memory.ledger.accounts

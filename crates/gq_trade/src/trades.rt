@@ -6,7 +6,8 @@ ghost use Rattle.gq_requests.specs.declared.requests.Ask.TheVariants as ask;
 ghost use Rattle.gq_requests.specs.Queues.{IsOldest, oldest_to};
 ghost use Rattle.gq_things.specs.declared.thing.Thing.TheVariants as thing;
 ghost use Rattle.gq_things.specs.Things.{IsSlice};
-ghost use Rattle.gq_sessions.specs.Trading.{Accepts, AreOfOthers, Closes, IsOfOldest, LacksBytes, LacksCaps, account_no, asked, bytes_then, caps_then};
+ghost use Rattle.gq_sessions.specs.Trading.{Accepts, AreOfOthers, Closes, IsOfOldest, IsTrading, LacksBytes, LacksCaps, account_no, asked};
+ghost use Rattle.gq_sessions.specs.Trading.{bytes_then, caps_then};
 ghost use Rattle.gq_sessions.specs.Trading.{client_of, fresh, its_account, server_of, session_at, store_of, upgraded, with_ask, with_memory};
 ghost use Rattle.gq_sessions.specs.Trading.{with_session, with_slot};
 ghost use Rattle.gq_sessions.specs.Trading.{node_of, Leaves};
@@ -402,11 +403,13 @@ impl Trades {
     }
 
     /// What holds in every `Trades`: the stored quota of each node is what it was handed and was given for sessions, less what it has lent and handed
-    /// on, of bytes and of capabilities; client and server of each session are live. It does nothing.
+    /// on, of bytes and of capabilities; client and server of each session are live, and are two leaves. It does nothing.
     pub fn laws(&self)
-        ensures { IsTrades self.now }
+        ensures trades { IsTrades self.now }
+        ensures trading { IsTrading self.now.trading }
     {
         let _nodes = &self.nodes;
+        self.sessions.laws();
     }
 
     /// The memory of all accounts.

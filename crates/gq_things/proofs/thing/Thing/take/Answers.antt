@@ -1,4 +1,4 @@
-use Rattle.std.proofs.Common.{◌≡◌, None, sym, subst}
+use Rattle.std.proofs.Common.{◌≡◌, Bool, true, false, None, sym, subst}
 use Rattle.std.specs.Prelude.{IsTrue, ◌↔◌, IfOk}
 use Rattle.gq_things.specs.declared.thing.Thing.{Thing}
 use Rattle.gq_pool.specs.Pools.{Takes}
@@ -82,6 +82,20 @@ returns-clause-raises g c =
     (if_ok c.take.result (Takes p before after old new i)
     (λ b. entry_in i (seen old (Pool p)) ≡ None → Raises before after old new (Pool p) (Pool p))
     (λ b t e. takes_raises p before after old new i b l t e) c.take.ensures.ok)
+
+is_true_false : (b : Bool) → b ≡ true → b ≡ false → ⊥
+is_true_false b e f = cc
+
+pub returns-clause-there : goal.returns-clause-there
+returns-clause-there g c =
+    let p = c.pool-pool.result in
+    let old = g.S.ByteStore.state c.args.store.now in
+    let new = g.S.ByteStore.state c.take.new.store in
+    let before = c.args.heap.now in
+    let after = c.take.new.heap in
+    let i = c.args.index in
+    if_ok c.take.result (Takes p before after old new i) (λ b. b ≡ false → (after ≡ before) × (new ≡ old))
+    (λ b t e. let same = t.there (λ a. is_true_false b (t.absent a).0 e) in (same.1, same.2)) c.take.ensures.ok
 
 pub returns-clause-exceeded : goal.returns-clause-exceeded
 returns-clause-exceeded g c =

@@ -1,12 +1,13 @@
-use Rattle.std.proofs.Common.{◌≡◌, ℕ, ◌+◌, ◌<◌, length, get_or, map, sym, ap, subst, ◌∙◌}
-use Rattle.gq_ram.specs.Entries.{no_amount}
-use Rattle.gq_donations.specs.Trees.{account_of}
+use Rattle.std.proofs.Common.{◌≡◌, ℕ, ◌+◌, ◌<◌, length, get_or, map, refl, sym, ap, subst, ◌∙◌, arith}
+use Rattle.gq_ram.specs.Entries.{account_at, no_amount}
+use Rattle.gq_donations.specs.Trees.{account_of, number}
 use Rattle.gq_donations.specs.Handing.{spent}
-use Rattle.gq_ram.specs.Ledgers.{Ledger}
+use Rattle.gq_ram.specs.Ledgers.{Ledger, first_ledger, with_accounts}
 use Rattle.gq_sessions.specs.Trading.{Trading}
 use Rattle.gq_trade.specs.Balances.{handed}
 use Rattle.gq_trade.specs.Trades.{IsTrades}
-use Rattle.gq_trade.proofs.First.{counted_here, first_kept, fits_here}
+use Rattle.gq_trade.specs.Plans.{IsFirst}
+use Rattle.gq_trade.proofs.First.{counted_here, first_kept, fits_here, unused_at}
 use Rattle.gq_trade.proofs.trades.Trades.new.Goals as goal
 
 pub hand_out-requires-clause-fits : goal.hand_out-requires-clause-fits
@@ -52,3 +53,33 @@ invariant_of-result c =
     + spent (λ a. a.ram) c.in_ok-tree.tree c.as_slice-2.result.now i ≡ (get_or c.as_slice-2.result.now i no_amount).ram) (sym lm) e.balanced)
     (subst (λ (l : Ledger). (i : ℕ) → i < length c.in_ok-tree.tree.parents → (account_of c.in_ok-tree.tree l i).quota.caps
     + spent (λ a. a.caps) c.in_ok-tree.tree c.as_slice-2.result.now i ≡ (get_or c.as_slice-2.result.now i no_amount).caps) (sym lm) e.balanced_caps))
+
+pub returns : goal.returns
+returns c =
+    let a = c.args.plan in
+    let tree = c.in_ok-tree.tree in
+    let m = c.new-memory.result in
+    let e = c.hand_out.ensures in
+    let lm : m.ledger ≡ c.hand_out.new.accounts = ap (λ x. x.ledger) c.new-memory.ensures in
+    let hp : c.as_slice-2.result.now ≡ map handed a.nodes.items =
+    c.as_slice-2.ensures.value ∙ c.in_ok-handed.ensures ∙ ap (map handed) c.as_slice.ensures.value in
+    let es = c.hand_out.new.accounts.accounts in
+    subst (λ (y : Trading). IsFirst c.args.total c.args.caps a.parents.items a.nodes.items a.leaves.items a.objects.items c.args.room
+        (record { trading = y; nodes = a.nodes.items })) (sym c.in_ok-sessions.ensures)
+    (record {
+      nodes = refl;
+      parents = c.in_ok-tree.ensures.parents;
+      leaves = refl;
+      objects = refl;
+      sessions = refl;
+      room = refl;
+      requests = refl;
+      unused = λ i lt. ap (λ (l : Ledger). (account_at l.accounts (number tree i)).used) lm ∙ e.used (number tree i)
+        ∙ unused_at c.args.total c.args.caps a.parents.items a.nodes.items a.leaves.items a.objects.items c.requires.plan tree
+        c.in_ok-tree.ensures.parents c.as_slice-2.result.now hp c.in_ok-accounts.accounts c.in_ok-accounts.ensures
+        c.open.new.accounts.accounts c.in_ok-tree.ensures.opened i
+        (omega (arith, lt, ap length c.in_ok-tree.ensures.parents));
+      ledger = lm ∙ e.same ∙ ap (λ (l : Ledger). with_accounts l es) (c.in_ok-tree.ensures.same)
+        ∙ ap (λ (l : Ledger). with_accounts l es) c.in_ok-accounts.ensures
+        ∙ ap (λ (l : Ledger). with_accounts (first_ledger c.args.total c.args.caps) l.accounts) (sym lm);
+    })

@@ -1,0 +1,86 @@
+// Slots of leaves: what stands in one, and what it costs its leaf.
+ghost use Rattle.std.specs.Prelude.{◌≡◌, ◌≤◌, length, IfOk};
+ghost use Rattle.gq_sessions.specs.declared.session.Spot.TheVariants.{InLeaf};
+ghost use Rattle.gq_trade.specs.Trades.{IsLive};
+ghost use Rattle.gq_slots.specs.Slots.{IsPaidBy, IsSlot, IsSpot, holder};
+ghost use Rattle.gq_memory_rows.specs.Stays.{Stays};
+
+use crate::trade_rows::live;
+use gq_sessions::Spot;
+use gq_slots::Slots;
+use gq_trade::Plan;
+use std::alloc::{AllocError, Global};
+use std::test::Fail;
+
+// Two leaves with four pages each.
+fn two_leaves(alloc: Global) -> Result<Slots, AllocError>
+    ensures leaves { IfOk result (λ s. length s.own ≡ 2) }
+    ensures live { IfOk result (λ s. IsLive s.trades 0) }
+{
+    let plan = Plan {
+        parents: vec![in alloc; 0, 0, 0]?,
+        nodes: vec![in alloc; live(65536, 0), live(16384, 0), live(16384, 0)]?,
+        leaves: vec![in alloc; 1, 2]?,
+        objects: vec![in alloc; 100]?,
+    };
+    Slots::new(alloc, 65536, None, plan, 24)
+}
+
+// Makes a slice in a slot, and says whether it did: not where the slot is not empty, or where the slice can't be paid.
+fn make(slots: &mut Slots, spot: Spot, size: u32) -> bool
+    requires slot { IsSlot spot }
+    requires there { IsSpot slots.old spot }
+    requires paid { IsPaidBy slots.old (holder slots.old spot) }
+    requires size { size ≤ 67108864 }
+    ensures { Stays slots.old slots.new }
+{
+    if slots.thing(spot).is_empty() {
+        return slots.make_slice(spot, size).is_ok();
+    }
+    false
+}
+
+// What a byte reads once a value is stored there, or nothing where the slot is too short.
+fn stored(slots: &mut Slots, spot: Spot, index: u32, value: u8) -> Option<u8>
+    requires there { IsSpot slots.old spot }
+    requires paid { IsPaidBy slots.old (holder slots.old spot) }
+    ensures { Stays slots.old slots.new }
+{
+    if slots.thing(spot).size() <= u64::from(index) {
+        return None;
+    }
+    slots.store(spot, index, value);
+    if slots.thing(spot).size() <= u64::from(index) {
+        return None;
+    }
+    Some(slots.load(spot, index))
+}
+
+// Whether a leaf with four pages can pay for five in a slot, then for three, then for two more in another slot, and for these once the first slot is
+// free; and what the last byte of the three reads once 42 is stored there.
+fn use_leaf(slots: &mut Slots) -> ([bool; 4], Option<u8>)
+    requires first { IsSpot slots.old (InLeaf 0 3) }
+    requires second { IsSpot slots.old (InLeaf 0 4) }
+    requires paid { IsPaidBy slots.old 0 }
+{
+    let first = Spot::InLeaf(0, 3);
+    let second = Spot::InLeaf(0, 4);
+    let five = make(slots, first, 16384);
+    let three = make(slots, first, 12000);
+    let read = stored(slots, first, 11999, 42);
+    let two_more = make(slots, second, 4096);
+    slots.free(first);
+    let two = make(slots, second, 4096);
+    ([five, three, two_more, two], read)
+}
+
+#[test]
+fn pays_for_slots_by_pages(rt: HostRuntime) -> Result<(), Fail> {
+    let mut slots = two_leaves(rt.alloc())?;
+    slots.pay_by(0);
+    assert_eq!(rt;
+        use_leaf(&mut slots),
+        ([false, true, false, true], Some(42))
+    );
+    Ok(())
+}

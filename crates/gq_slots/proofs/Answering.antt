@@ -1,0 +1,353 @@
+-- What the functions of slots do, as a change of one thing.
+use Rattle.std.proofs.Common.{◌≡◌, ℕ, zero, suc, ◌<◌, ◌≤◌, ◌⊎◌, inl, inr, Bool, true, false, List, [], ◌∷◌, ◌++◌, length, set, get_or, Option, Some, None}
+use Rattle.std.proofs.Common.{Result, Ok, Err, refl, sym, ap, subst, ◌∙◌, arith}
+use Rattle.std.specs.Prelude.{◌↔◌, IfOk, IsTrue, OnErr, OnOk}
+use Rattle.std.proofs.lemmas.List.{set-get_or}
+use Rattle.gq_tariff.specs.Prices.{classes}
+use Rattle.gq_model.specs.machine.Amounts.{Resource}
+use Rattle.gq_model.specs.machine.Sums.{slot_price, slot_places}
+use Rattle.gq_model.specs.machine.World as world
+use Rattle.gq_store.specs.Store.{Store}
+use Rattle.gq_heap.specs.declared.heap.Heap.{Heap}
+use Rattle.gq_heap.specs.Heap.{peaks}
+use Rattle.gq_memory.specs.Stores.{store_at, store_of as store_of_memory}
+use Rattle.gq_things.specs.declared.thing.Thing.{Thing}
+use Rattle.gq_things.specs.declared.thing.Thing.TheVariants.{Empty}
+use Rattle.gq_things.specs.Things.{added, entry_in, seen, with_entry}
+use Rattle.gq_things.specs.Kept.{Changes, IsAmong, Keeps}
+use Rattle.gq_things.specs.Paid.{Pays, Raises, places_used, raised_by}
+use Rattle.gq_sessions.specs.declared.session.Session.{Session}
+use Rattle.gq_sessions.specs.declared.session.Spot.{Spot}
+use Rattle.gq_sessions.specs.declared.session.Spot.TheVariants.{InLeaf, InSession, InObject}
+use Rattle.gq_sessions.specs.Trading.{IsTrading, account_of, session_in, with_memory, with_slot}
+use Rattle.gq_trade.specs.Trades.{Trades, SameButMemory, with_trading}
+use Rattle.gq_slots.specs.Slots.{Slots, IsHeapOf, IsPaidBy, IsSlot, IsSpot, holder, memory_of, slot_of, thing_at}
+use Rattle.gq_slots.specs.Calls.{Puts, Settles}
+use Rattle.gq_slots.specs.internal.Holds.{AreObjects, IsObject, IsSlots}
+use Rattle.gq_slots.specs.internal.Put.{put, with_object, put_own, put_trading, with_store}
+use Rattle.gq_slots.proofs.Spots.{back, front, put_same, split_now}
+use Rattle.gq_slots.proofs.Changing.{IsCall, around, kept_then, puts_then, settles_then, stays_raised, spot_with, long_with}
+use Rattle.gq_slots.proofs.Facts.{pays_none}
+use Rattle.gq_slots.proofs.Sums.{raised_again}
+
+-- what the account that pays has
+abbrev pub paying : Trades → Store
+paying t = store_of_memory t.trading.memory
+
+abbrev pub of_parts : Trades → List (List Thing) → List Heap → Slots
+of_parts t own heaps = record { trades = t; own = own; heaps = heaps }
+
+-- trades with the memory of others
+same_trades : (t v : Trades) → SameButMemory t v → v ≡ with_trading t (with_memory t.trading v.trading.memory)
+same_trades t v r = λ k. record { trading = r.trading.is k; nodes = r.nodes k }
+
+-- the account that pays is that of the slot's leaf
+paying_is : (s : Slots) (x : ℕ) → IsPaidBy s x → paying s.trades ≡ memory_of s x
+paying_is s x e = ap (λ a. store_at s.trades.trading.memory.ledger a.0) e
+
+paying_then : (s : Slots) (v : Trades) (x : ℕ) → IsPaidBy s x → SameButMemory s.trades v
+    → paying v ≡ store_at v.trading.memory.ledger (account_of s.trades.trading x)
+paying_then s v x e r = ap (λ a. store_at v.trading.memory.ledger a.0) (r.trading.memory.payer ∙ e)
+
+-- what a thing is among
+pub among : (s : Slots) (p : Spot) (h : Heap) (t : Thing) → IsSlots s → IsSpot s p → holder s p < length s.own → IsPaidBy s (holder s p)
+    → IsHeapOf s (holder s p) h → t ≡ thing_at s p → IsAmong h (paying s.trades) t
+among s p h t i there lt paid heap is =
+    let own = subst (λ g. IsAmong g (memory_of s (holder s p)) (thing_at s p)) heap (record {
+      front = front s p;
+      back = back s p;
+      keeps = subst (λ ts. Keeps (get_or s.heaps (holder s p) h) (memory_of s (holder s p)) ts) (split_now s p there i.long)
+          (i.holders (holder s p) h lt).keeps;
+    }) in
+    subst (λ st. IsAmong h st t) (sym (paying_is s (holder s p) paid)) (subst (IsAmong h (memory_of s (holder s p))) (sym is) own)
+
+-- one call, in the words of its contract
+pub call_of : (s : Slots) (v : Trades) (p : Spot) (h g : Heap) (t u : Thing) → IsSpot s p → t ≡ thing_at s p → IsHeapOf s (holder s p) h
+    → IsPaidBy s (holder s p) → SameButMemory s.trades v → Changes h g (paying s.trades) (paying v) t u → Pays h g (paying s.trades) (paying v) t u
+    → IsCall s v.trading.memory p h g t u
+call_of s v p h g t u there is heap paid r changes pays = record {
+  spot = there;
+  thing = sym is;
+  heap = heap;
+  payer = paid;
+  rest = r.trading.memory;
+  changes = subst (λ st. Changes h g st (store_at v.trading.memory.ledger (account_of s.trades.trading (holder s p))) t u) (paying_is s (holder s p) paid)
+      (subst (λ st. Changes h g (paying s.trades) st t u) (paying_then s v (holder s p) paid r) changes);
+  pays = subst (λ st. Pays h g st (store_at v.trading.memory.ledger (account_of s.trades.trading (holder s p))) t u) (paying_is s (holder s p) paid)
+      (subst (λ st. Pays h g (paying s.trades) st t u) (paying_then s v (holder s p) paid r) pays);
+}
+
+-- where the same thing stands in the slot
+thing_with : (s : Slots) (v : Trades) (g : Heap) (p : Spot) → thing_at (with_store s v.trading.memory (holder s p) g) p ≡ thing_at s p
+thing_with s v g (InLeaf x i) = refl
+thing_with s v g (InSession k i) = refl
+thing_with s v g (InObject k) = refl
+
+pub in_place : (s : Slots) (v : Trades) (p : Spot) (g : Heap) (t : Thing) → IsSlots s → IsSpot s p → t ≡ thing_at s p → SameButMemory s.trades v
+    → of_parts v s.own (set s.heaps (holder s p) g) ≡ put (with_store s v.trading.memory (holder s p) g) p t
+in_place s v p g t i there is r =
+    (λ k. of_parts (same_trades s.trades v r k) s.own (set s.heaps (holder s p) g))
+    ∙ sym (put_same (with_store s v.trading.memory (holder s p) g) p (spot_with s v.trading.memory (holder s p) g p there)
+    (long_with s v.trading.memory (holder s p) g i.long))
+    ∙ ap (put (with_store s v.trading.memory (holder s p) g) p) (thing_with s v g p ∙ sym is)
+
+-- the heap that was there
+pub same_heap : (s : Slots) (x : ℕ) (h : Heap) → IsHeapOf s x h → set s.heaps x h ≡ s.heaps
+same_heap s x h e = ap (set s.heaps x) (sym e) ∙ set-get_or s.heaps x h
+
+-- something else in the slot
+pub filled : (s : Slots) (v w : Trades) (own : List (List Thing)) (p : Spot) (g : Heap) (u : Thing) → SameButMemory s.trades v
+    → w ≡ with_trading v (put_trading v.trading p u) → own ≡ put_own s.own p u
+    → of_parts w own (set s.heaps (holder s p) g) ≡ put (with_store s v.trading.memory (holder s p) g) p u
+filled s v w own p g u r e f =
+    (λ k. of_parts (e k) (f k) (set s.heaps (holder s p) g))
+    ∙ ap (λ (z : Trades). of_parts (with_trading z (put_trading z.trading p u)) (put_own s.own p u) (set s.heaps (holder s p) g)) (same_trades s.trades v r)
+
+-- objects stay where a slot changes
+objects_set : (k : ℕ) (ss : List (Option Session)) (v : Session) → AreObjects ss → IsObject v.object → AreObjects (set ss k (Some v))
+objects_set k [] v a o = a
+objects_set zero (None ∷ ss) v a o = (o, a)
+objects_set zero (Some t ∷ ss) v a o = (o, a.1)
+objects_set (suc k) (None ∷ ss) v a o = objects_set k ss v a o
+objects_set (suc k) (Some t ∷ ss) v a o = (a.0, objects_set k ss v a.1 o)
+
+object_at : (k : ℕ) (ss : List (Option Session)) → AreObjects ss → IsObject (session_in ss k).object
+object_at k [] a = tt
+object_at zero (None ∷ ss) a = tt
+object_at zero (Some t ∷ ss) a = a.0
+object_at (suc k) (None ∷ ss) a = object_at k ss a
+object_at (suc k) (Some t ∷ ss) a = object_at k ss a.1
+
+pub objects_put : (s : Slots) (p : Spot) (u : Thing) → IsSlot p → AreObjects s.trades.trading.sessions → AreObjects (put s p u).trades.trading.sessions
+objects_put s (InLeaf x i) u l a = a
+objects_put s (InSession k i) u l a = objects_set k s.trades.trading.sessions (with_slot (session_in s.trades.trading.sessions k) i u) a
+    (object_at k s.trades.trading.sessions a)
+objects_put s (InObject k) u l a = absurd l
+
+pub objects_same : (s : Slots) (p : Spot) (t : Thing) → t ≡ thing_at s p → AreObjects s.trades.trading.sessions → AreObjects (put s p t).trades.trading.sessions
+objects_same s (InLeaf x i) t e a = a
+objects_same s (InSession k i) t e a = objects_set k s.trades.trading.sessions (with_slot (session_in s.trades.trading.sessions k) i t) a
+    (object_at k s.trades.trading.sessions a)
+objects_same s (InObject k) t e a =
+    objects_set k s.trades.trading.sessions (with_object (session_in s.trades.trading.sessions k) t) a
+    (subst IsObject (sym e) (object_at k s.trades.trading.sessions a))
+
+-- what is in the slot, in the memory of the account that pays
+pub slot_paying : (s : Slots) (p : Spot) (t : Thing) → IsPaidBy s (holder s p) → t ≡ thing_at s p → seen (paying s.trades) t ≡ slot_of s p
+slot_paying s p t paid is = ap (λ st. seen st t) (paying_is s (holder s p) paid) ∙ ap (seen (memory_of s (holder s p))) is
+
+-- a slot with what stands in it, whose leaf pays
+pub record IsAt (s : Slots) (p : Spot) (h : Heap) (t : Thing) : Type 0 where
+  pub kept : IsSlots s
+  pub spot : IsSpot s p
+  pub there : holder s p < length s.own
+  pub thing : t ≡ thing_at s p
+  pub heap : IsHeapOf s (holder s p) h
+  pub paid : IsPaidBy s (holder s p)
+
+pub is_among : (s : Slots) (p : Spot) (h : Heap) (t : Thing) → IsAt s p h t → IsAmong h (paying s.trades) t
+is_among s p h t a = among s p h t a.kept a.spot a.there a.paid a.heap a.thing
+
+-- what is known of slots z is known of s, which they are
+pub at_inside : (z s : Slots) (p : Spot) (h : Heap) (t : Thing) (x : ℕ) → s ≡ z → IsSlots s → IsSpot z p → x ≡ holder z p → x < length z.own
+    → t ≡ thing_at z p → h ≡ get_or s.heaps x h → IsPaidBy z (holder z p) → IsAt s p h t
+at_inside z s p h t x e kept spot at there thing heap paid = record {
+  kept = kept;
+  spot = subst (λ y. IsSpot y p) (sym e) spot;
+  there = subst (λ y. holder y p < length y.own) (sym e) (subst (λ y. y < length z.own) at there);
+  thing = thing ∙ ap (λ y. thing_at y p) (sym e);
+  heap = subst (λ y. IsHeapOf s y h) (at ∙ ap (λ y. holder y p) (sym e)) (sym heap);
+  paid = subst (λ y. IsPaidBy y (holder y p)) (sym e) paid;
+}
+
+-- a call on what is in a slot, after which the slots are n
+module _ (s : Slots) (v : Trades) (p : Spot) (h g : Heap) (t u : Thing) (slot : world.Slot) (n : Slots) (a : IsAt s p h t) (w : IsTrading s.trades.trading)
+    (r : SameButMemory s.trades v) (changes : Changes h g (paying s.trades) (paying v) t u) (pays : Pays h g (paying s.trades) (paying v) t u)
+    (seen_so : seen (paying v) u ≡ slot) (is : n ≡ put (with_store s v.trading.memory (holder s p) g) p u)
+    (objects : (f : Heap) → AreObjects (put (with_store s v.trading.memory (holder s p) f) p u).trades.trading.sessions) where
+  abbrev the_call : IsCall s v.trading.memory p h g t u
+  the_call = call_of s v p h g t u a.spot a.thing a.heap a.paid r changes pays
+
+  abbrev new : Store
+  new = store_at v.trading.memory.ledger (account_of s.trades.trading (holder s p))
+
+  seen_then : seen new u ≡ slot
+  seen_then = sym (ap (λ st. seen st u) (paying_then s v (holder s p) a.paid r)) ∙ seen_so
+
+  -- what is in use of the heap, with u in the slot
+  abbrev in_use : ℕ → ℕ
+  in_use = places_used new (front s p ++ u ∷ back s p)
+
+  less_then : ((k : ℕ) → slot_places k slot ≤ slot_places k (slot_of s p)) → (k : ℕ)
+      → slot_places k (seen new u) ≤ slot_places k (seen (memory_of s (holder s p)) t)
+  less_then le k = omega (arith, le k, ap (slot_places k) seen_then, ap (λ z. slot_places k (seen (memory_of s (holder s p)) z)) a.thing)
+
+  pub stays_so : ((k : ℕ) → slot_places k slot ≤ slot_places k (slot_of s p)) → raised_by in_use classes (peaks h) ≡ peaks h
+  stays_so le = stays_raised s v.trading.memory p h g t u a.kept w a.there the_call (less_then le)
+
+  pub raises_so : Raises h g (paying s.trades) (paying v) t u → raised_by in_use classes (peaks h) ≡ peaks g
+  raises_so q =
+      let st = paying_then s v (holder s p) a.paid r in
+      let k = subst (λ z. Keeps h z (front s p ++ t ∷ back s p)) (sym (paying_is s (holder s p) a.paid))
+      (around s v.trading.memory p h g t u a.kept w a.there the_call) in
+      sym (q (front s p) (back s p) k ∙ ap (λ z. raised_by (places_used z (front s p ++ u ∷ back s p)) classes (peaks h)) st)
+
+  pub kept_same : peaks g ≡ peaks h → ((k : ℕ) → slot_places k slot ≤ slot_places k (slot_of s p)) → IsSlots n
+  kept_same same le =
+      subst IsSlots (sym is) (kept_then s v.trading.memory p h g t u a.kept w a.there the_call (objects g)
+      (ap (raised_by in_use classes) same ∙ stays_so le ∙ sym same))
+
+  pub puts_same : peaks g ≡ peaks h → Puts s n p slot
+  puts_same same =
+      subst (λ y. Puts s y p slot) (sym is) (subst (λ y. Puts s (put (with_store s v.trading.memory (holder s p) g) p u) p y) seen_then
+      (puts_then s v.trading.memory p h g t u a.kept w a.there the_call same))
+
+  pub kept_raised : raised_by in_use classes (peaks h) ≡ peaks g → IsSlots n
+  kept_raised e =
+      subst IsSlots (sym is) (kept_then s v.trading.memory p h g t u a.kept w a.there the_call (objects g)
+      (ap (raised_by in_use classes) (sym e) ∙ raised_again in_use classes (peaks h) ∙ e))
+
+  pub settles_raised : raised_by in_use classes (peaks h) ≡ peaks g → Settles s n p slot
+  settles_raised e =
+      subst (λ y. Settles s y p slot) (sym is) (subst (λ y. Settles s (put (with_store s v.trading.memory (holder s p) g) p u) p y) seen_then
+      (settles_then s v.trading.memory p h g t u a.kept w a.there the_call (objects h) e))
+
+-- AS THE CONTRACTS SAY IT
+
+objects_with : (s : Slots) (v : Trades) (p : Spot) (h : Heap) (t : Thing) → IsAt s p h t → (f : Heap)
+    → AreObjects (put (with_store s v.trading.memory (holder s p) f) p t).trades.trading.sessions
+objects_with s v p h t a f = objects_same (with_store s v.trading.memory (holder s p) f) p t (a.thing ∙ sym (thing_with s v f p)) a.kept.objects
+
+-- what a call on a slot leaves: it holds, and the world has the slot
+abbrev pub Leaves : Slots → Slots → Spot → world.Slot → Type 0
+Leaves z n p slot = IsSlots n × Puts z n p slot
+
+abbrev pub LeavesSettled : Slots → Slots → Spot → world.Slot → Type 0
+LeavesSettled z n p slot = IsSlots n × Settles z n p slot
+
+-- other bytes in the slot, for which nothing is paid
+pub stays : (z s : Slots) (v : Trades) (p : Spot) (h : Heap) (t : Thing) (f : world.Slot → world.Slot) → s ≡ z → IsAt s p h t → IsTrading s.trades.trading
+    → SameButMemory s.trades v → Changes h h (paying s.trades) (paying v) t t → seen (paying v) t ≡ f (seen (paying s.trades) t)
+    → (paying v).left ≡ (paying s.trades).left → (paying v).caps ≡ (paying s.trades).caps
+    → ((q : Resource) (y : world.Slot) → slot_price q (f y) ≡ slot_price q y)
+    → ((k : ℕ) (y : world.Slot) → slot_places k (f y) ≤ slot_places k y) → Leaves z (of_parts v s.own s.heaps) p (f (slot_of z p))
+stays z s v p h t f e a w r changes seen_so left caps price le =
+    let is = ap (of_parts v s.own) (sym (same_heap s (holder s p) h a.heap)) ∙ in_place s v p h t a.kept a.spot a.thing r in
+    let at = slot_paying s p t a.paid a.thing in
+    let pays = pays_none h (paying s.trades) (paying v) t (λ q. ap (slot_price q) seen_so ∙ price q (seen (paying s.trades) t)) left caps in
+    let n = of_parts v s.own s.heaps in (
+      kept_same s v p h h t t (f (slot_of s p)) n a w r changes pays (seen_so ∙ ap f at) is (objects_with s v p h t a) refl (λ k. le k (slot_of s p)),
+      subst (λ y. Puts y n p (f (slot_of y p))) e
+          (puts_same s v p h h t t (f (slot_of s p)) n a w r changes pays (seen_so ∙ ap f at) is (objects_with s v p h t a) refl),
+    )
+
+-- another entry, where a place of the heap is free again
+pub gives_place : (z s : Slots) (v : Trades) (p : Spot) (h g : Heap) (t : Thing) (f : world.Slot → world.Slot) (x : ℕ) → s ≡ z → IsAt s p h t
+    → IsTrading s.trades.trading → x ≡ holder z p → SameButMemory s.trades v → Changes h g (paying s.trades) (paying v) t t
+    → seen (paying v) t ≡ f (seen (paying s.trades) t) → Pays h g (paying s.trades) (paying v) t t → peaks g ≡ peaks h
+    → ((k : ℕ) (y : world.Slot) → slot_places k (f y) ≤ slot_places k y) → Leaves z (of_parts v s.own (set s.heaps x g)) p (f (slot_of z p))
+gives_place z s v p h g t f x e a w at_x r changes seen_so pays same le =
+    let y : x ≡ holder s p = at_x ∙ ap (λ y. holder y p) (sym e) in
+    let is = ap (λ i. of_parts v s.own (set s.heaps i g)) y ∙ in_place s v p g t a.kept a.spot a.thing r in
+    let at = slot_paying s p t a.paid a.thing in
+    let n = of_parts v s.own (set s.heaps x g) in (
+      kept_same s v p h g t t (f (slot_of s p)) n a w r changes pays (seen_so ∙ ap f at) is (objects_with s v p h t a) same (λ k. le k (slot_of s p)),
+      subst (λ y. Puts y n p (f (slot_of y p))) e
+          (puts_same s v p h g t t (f (slot_of s p)) n a w r changes pays (seen_so ∙ ap f at) is (objects_with s v p h t a) same),
+    )
+
+-- another entry, where a place of the heap may be taken: then the peaks are raised, or there is nothing new
+pub takes_place : (z s : Slots) (v : Trades) (p : Spot) (h g : Heap) (t : Thing) (f : world.Slot → world.Slot) (x : ℕ) → s ≡ z → IsAt s p h t
+    → IsTrading s.trades.trading → x ≡ holder z p → SameButMemory s.trades v → Changes h g (paying s.trades) (paying v) t t
+    → seen (paying v) t ≡ f (seen (paying s.trades) t) → Pays h g (paying s.trades) (paying v) t t
+    → Raises h g (paying s.trades) (paying v) t t ⊎ ((g ≡ h) × (paying v ≡ paying s.trades))
+    → LeavesSettled z (of_parts v s.own (set s.heaps x g)) p (f (slot_of z p))
+takes_place z s v p h g t f x e a w at_x r changes seen_so pays (inl q) =
+    let y : x ≡ holder s p = at_x ∙ ap (λ y. holder y p) (sym e) in
+    let is = ap (λ i. of_parts v s.own (set s.heaps i g)) y ∙ in_place s v p g t a.kept a.spot a.thing r in
+    let at = slot_paying s p t a.paid a.thing in
+    let n = of_parts v s.own (set s.heaps x g) in
+    let up = raises_so s v p h g t t (f (slot_of s p)) n a w r changes pays (seen_so ∙ ap f at) is (objects_with s v p h t a) q in (
+      kept_raised s v p h g t t (f (slot_of s p)) n a w r changes pays (seen_so ∙ ap f at) is (objects_with s v p h t a) up,
+      subst (λ y. Settles y n p (f (slot_of y p))) e
+          (settles_raised s v p h g t t (f (slot_of s p)) n a w r changes pays (seen_so ∙ ap f at) is (objects_with s v p h t a) up),
+    )
+takes_place z s v p h g t f x e a w at_x r changes seen_so pays (inr q) =
+    let y : x ≡ holder s p = at_x ∙ ap (λ y. holder y p) (sym e) in
+    let is = ap (λ i. of_parts v s.own (set s.heaps i g)) y ∙ in_place s v p g t a.kept a.spot a.thing r in
+    let at = slot_paying s p t a.paid a.thing in
+    let n = of_parts v s.own (set s.heaps x g) in
+    let same : f (slot_of s p) ≡ slot_of s p = ap f (sym at) ∙ sym seen_so ∙ ap (λ st. seen st t) q.1 ∙ at in
+    let up = stays_so s v p h g t t (f (slot_of s p)) n a w r changes pays (seen_so ∙ ap f at) is (objects_with s v p h t a)
+    (λ k. omega (arith, ap (slot_places k) same)) ∙ ap peaks (sym q.0) in (
+      kept_raised s v p h g t t (f (slot_of s p)) n a w r changes pays (seen_so ∙ ap f at) is (objects_with s v p h t a) up,
+      subst (λ y. Settles y n p (f (slot_of y p))) e
+          (settles_raised s v p h g t t (f (slot_of s p)) n a w r changes pays (seen_so ∙ ap f at) is (objects_with s v p h t a) up),
+    )
+
+objects_filled : (s : Slots) (v : Trades) (p : Spot) (u : Thing) → IsSlot p → IsSlots s → (f : Heap)
+    → AreObjects (put (with_store s v.trading.memory (holder s p) f) p u).trades.trading.sessions
+objects_filled s v p u l i f = objects_put (with_store s v.trading.memory (holder s p) f) p u l i.objects
+
+-- memory that is made in the slot, beside the heap
+pub makes_beside : (z s : Slots) (v w : Trades) (own : List (List Thing)) (p : Spot) (h : Heap) (t u : Thing) (slot : world.Slot) → s ≡ z → IsAt s p h t
+    → IsTrading s.trades.trading → IsSlot p → SameButMemory s.trades v → Changes h h (paying s.trades) (paying v) t u → seen (paying v) u ≡ slot
+    → Pays h h (paying s.trades) (paying v) t u → ((k : ℕ) → slot_places k slot ≡ 0) → w ≡ with_trading v (put_trading v.trading p u) → own ≡ put_own s.own p u
+    → LeavesSettled z (of_parts w own s.heaps) p slot
+makes_beside z s v w own p h t u slot e a tr l r changes seen_so pays none ws os =
+    let is = ap (of_parts w own) (sym (same_heap s (holder s p) h a.heap)) ∙ filled s v w own p h u r ws os in
+    let n = of_parts w own s.heaps in
+    let up = stays_so s v p h h t u slot n a tr r changes pays seen_so is (objects_filled s v p u l a.kept) (λ k. omega (arith, none k)) in (
+      kept_raised s v p h h t u slot n a tr r changes pays seen_so is (objects_filled s v p u l a.kept) up,
+      subst (λ y. Settles y n p slot) e (settles_raised s v p h h t u slot n a tr r changes pays seen_so is (objects_filled s v p u l a.kept) up),
+    )
+
+-- memory of the heap that is made in the slot
+pub makes_block : (z s : Slots) (v w : Trades) (own : List (List Thing)) (p : Spot) (h g : Heap) (t u : Thing) (slot : world.Slot) (x : ℕ) → s ≡ z
+    → IsAt s p h t → IsTrading s.trades.trading → x ≡ holder z p → IsSlot p → SameButMemory s.trades v → Changes h g (paying s.trades) (paying v) t u
+    → seen (paying v) u ≡ slot
+    → Pays h g (paying s.trades) (paying v) t u → Raises h g (paying s.trades) (paying v) t u → w ≡ with_trading v (put_trading v.trading p u)
+    → own ≡ put_own s.own p u → LeavesSettled z (of_parts w own (set s.heaps x g)) p slot
+makes_block z s v w own p h g t u slot x e a tr at_x l r changes seen_so pays q ws os =
+    let y : x ≡ holder s p = at_x ∙ ap (λ y. holder y p) (sym e) in
+    let is = ap (λ i. of_parts w own (set s.heaps i g)) y ∙ filled s v w own p g u r ws os in
+    let n = of_parts w own (set s.heaps x g) in
+    let up = raises_so s v p h g t u slot n a tr r changes pays seen_so is (objects_filled s v p u l a.kept) q in (
+      kept_raised s v p h g t u slot n a tr r changes pays seen_so is (objects_filled s v p u l a.kept) up,
+      subst (λ y. Settles y n p slot) e (settles_raised s v p h g t u slot n a tr r changes pays seen_so is (objects_filled s v p u l a.kept) up),
+    )
+
+-- what was in the slot is free
+pub frees : (z s : Slots) (v w : Trades) (own : List (List Thing)) (p : Spot) (h g : Heap) (t : Thing) (x : ℕ) → s ≡ z → IsAt s p h t
+    → IsTrading s.trades.trading → x ≡ holder z p → IsSlot p → SameButMemory s.trades v → Changes h g (paying s.trades) (paying v) t Empty
+    → Pays h g (paying s.trades) (paying v) t Empty → peaks g ≡ peaks h → w ≡ with_trading v (put_trading v.trading p Empty) → own ≡ put_own s.own p Empty
+    → Leaves z (of_parts w own (set s.heaps x g)) p world.Empty
+frees z s v w own p h g t x e a tr at_x l r changes pays same ws os =
+    let y : x ≡ holder s p = at_x ∙ ap (λ y. holder y p) (sym e) in
+    let is = ap (λ i. of_parts w own (set s.heaps i g)) y ∙ filled s v w own p g Empty r ws os in
+    let n = of_parts w own (set s.heaps x g) in (
+      kept_same s v p h g t Empty world.Empty n a tr r changes pays refl is (objects_filled s v p Empty l a.kept) same (λ k. omega arith),
+      subst (λ y. Puts y n p world.Empty) e (puts_same s v p h g t Empty world.Empty n a tr r changes pays refl is (objects_filled s v p Empty l a.kept) same),
+    )
+
+-- where nothing was done
+same_parts : (s : Slots) (v : Trades) (h g : Heap) (x : ℕ) → g ≡ h → v ≡ s.trades → IsHeapOf s x h → of_parts v s.own (set s.heaps x g) ≡ s
+same_parts s v h g x e f is = (λ k. of_parts (f k) s.own (set s.heaps x (e k))) ∙ ap (of_parts s.trades s.own) (same_heap s x h is)
+
+true_is : IsTrue true
+true_is = refl
+
+-- an entry that is added, or was there, or is refused
+pub takes : {E : Type 0} (z s : Slots) (v : Trades) (p : Spot) (h g : Heap) (t : Thing) (i x : ℕ) (res : Result Bool E) → s ≡ z → IsAt s p h t
+    → IsTrading s.trades.trading → x ≡ holder z p → SameButMemory s.trades v → IfOk res (λ b. Changes h g (paying s.trades) (paying v) t t)
+    → IfOk res (λ b. seen (paying v) t ≡ with_entry i added (seen (paying s.trades) t))
+    → IfOk res (λ b. IsTrue b ↔ (entry_in i (seen (paying s.trades) t) ≡ None)) → IfOk res (λ b. Pays h g (paying s.trades) (paying v) t t)
+    → IfOk res (λ b. entry_in i (seen (paying s.trades) t) ≡ None → Raises h g (paying s.trades) (paying v) t t)
+    → IfOk res (λ b. b ≡ false → (g ≡ h) × (paying v ≡ paying s.trades)) → OnErr res ((g ≡ h) × (v ≡ s.trades))
+    → IsSlots (of_parts v s.own (set s.heaps x g)) × OnOk res (Settles z (of_parts v s.own (set s.heaps x g)) p (with_entry i added (slot_of z p)))
+takes z s v p h g t i x (Ok true) e a w at_x r changes seen_so is_added pays raises there err =
+    takes_place z s v p h g t (with_entry i added) x e a w at_x r changes seen_so pays (inl (raises (is_added.0 true_is)))
+takes z s v p h g t i x (Ok false) e a w at_x r changes seen_so is_added pays raises there err =
+    takes_place z s v p h g t (with_entry i added) x e a w at_x r changes seen_so pays (inr (there refl))
+takes z s v p h g t i x (Err f) e a w at_x r changes seen_so is_added pays raises there err =
+    (subst IsSlots (sym (same_parts s v h g x err.0 err.1 (subst (λ y. IsHeapOf s y h) (sym (at_x ∙ ap (λ y. holder y p) (sym e))) a.heap))) a.kept, tt)

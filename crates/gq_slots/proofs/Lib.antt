@@ -1,0 +1,10 @@
+pub mod Spots
+pub mod Worlds
+pub mod Sums
+pub mod Changing
+pub mod Answering
+pub mod Facts
+mod Inside
+pub mod Paid
+pub mod First
+pub mod Callers

@@ -1,0 +1,11 @@
+use Rattle.gq_slots.specs.Slots.{Slots}
+use Rattle.gq_slots.proofs.Answering.{at_inside, is_among}
+use Rattle.gq_slots.proofs.Inside.{slots_of}
+use Rattle.gq_slots.proofs.slots.Slots.peek.Goals as goal
+
+pub peek-requires-clause-kept : goal.peek-requires-clause-kept
+peek-requires-clause-kept c =
+    let s : Slots = slots_of c.self.inside in
+    is_among s c.args.spot c.index.result.now c.thing-thing.result
+    (at_inside c.args.self.now s c.args.spot c.index.result.now c.thing-thing.result c.holder-holder.result c.self.view_is c.self.invariant c.requires.there
+    c.holder-holder.ensures.is c.holder-holder.ensures.there c.thing-thing.ensures.is c.index.ensures c.requires.paid)

@@ -1,0 +1,36 @@
+-- What a call on a slot changes.
+use Rattle.std.specs.Prelude.{◌≡◌, ℕ}
+use Rattle.gq_model.specs.machine.World as world
+use Rattle.gq_ram.specs.Entries.{account_at}
+use Rattle.gq_sessions.specs.declared.session.Spot.{Spot}
+use Rattle.gq_sessions.specs.Seen.{spot_seen}
+use Rattle.gq_sessions.specs.Trading.{Trading}
+use Rattle.gq_slots.specs.Slots.{Slots, Frame, IsSpot, holder, settled_in, world_seen}
+
+-- the tree with its quotas, and who pays, stay
+pub record SameAccounts (w v : Trading) : Type 0 where
+  pub tree : v.tree ≡ w.tree
+  pub leaves : v.leaves ≡ w.leaves
+  pub objects : v.objects ≡ w.objects
+  pub room : v.room ≡ w.room
+  pub requests : v.requests ≡ w.requests
+  pub payer : v.memory.payer ≡ w.memory.payer
+  pub price : v.memory.ledger.price ≡ w.memory.ledger.price
+  pub quota : (a : ℕ) → (account_at v.memory.ledger.accounts a).quota ≡ (account_at w.memory.ledger.accounts a).quota
+
+pub record SameBeside (old new : Slots) : Type 0 where
+  pub nodes : new.trades.nodes ≡ old.trades.nodes
+  pub accounts : SameAccounts old.trades.trading new.trades.trading
+  -- each slot stays, and is paid for by the same leaf
+  pub spots : (q : Spot) → IsSpot old q → IsSpot new q
+  pub holders : (q : Spot) → holder new q ≡ holder old q
+
+-- The slot holds this now, and all else of the machine's world is as before, whatever the leaves do.
+pub record Puts (old new : Slots) (p : Spot) (slot : world.Slot) : Type 0 where
+  pub seen_so : (f : Frame) → world_seen f new ≡ world.with_slot (world_seen f old) (spot_seen p) slot
+  pub rest : SameBeside old new
+
+-- The same, and the peaks of the leaf that pays are raised to what is in use then.
+pub record Settles (old new : Slots) (p : Spot) (slot : world.Slot) : Type 0 where
+  pub seen_so : (f : Frame) → world_seen f new ≡ settled_in (holder old p) (world.with_slot (world_seen f old) (spot_seen p) slot)
+  pub rest : SameBeside old new

@@ -1,0 +1,126 @@
+-- What every slot of a scenario holds, those of its leaves and those of its sessions, as the account machine has it.
+use Rattle.std.specs.Prelude.{◌≡◌, ℕ, suc, ◌<◌, List, [], ◌∷◌, length, map, get_or, replicate, slice_get, Option, Some, None}
+use Rattle.gq_model.specs.machine.Amounts.{Ram, Caps}
+use Rattle.gq_model.specs.machine.World as world
+use Rattle.gq_model.specs.machine.Sums.{held, with_peaks}
+use Rattle.gq_store.specs.Store.{Store}
+use Rattle.gq_heap.specs.declared.heap.Heap.{Heap}
+use Rattle.gq_heap.specs.Heap.{Keeps, peaks}
+use Rattle.gq_numbered.specs.Numbers.{IsTaken}
+use Rattle.gq_requests.specs.Seen.{request_seen}
+use Rattle.gq_things.specs.declared.thing.Thing.{Thing}
+use Rattle.gq_things.specs.declared.thing.Thing.TheVariants.{Empty}
+use Rattle.gq_things.specs.Things.{seen}
+use Rattle.gq_sessions.specs.declared.session.Spot.{Spot}
+use Rattle.gq_sessions.specs.declared.session.Spot.TheVariants.{InLeaf, InSession, InObject}
+use Rattle.gq_sessions.specs.Seen.{sessions_seen}
+use Rattle.gq_sessions.specs.Trading.{Trading, session_at, server_of, store_of, account_no, its_account}
+use Rattle.gq_trade.specs.Trades.{Trades}
+
+-- sessions over accounts, and of each leaf its own slots and its heap
+pub record Slots : Type 0 where
+  pub trades : Trades
+  pub own : List (List Thing)
+  pub heaps : List Heap
+
+abbrev pub trading_of : Slots → Trading
+trading_of s = s.trades.trading
+
+-- the memory that the leaf x pays for
+abbrev pub memory_of : Slots → ℕ → Store
+memory_of s x = store_of s.trades.trading x
+
+-- WHERE A SLOT STANDS
+
+-- there is such a slot
+abbrev pub IsSpot : Slots → Spot → Type 0
+IsSpot s (InLeaf x i) = (x < length s.own) × (i < 64)
+IsSpot s (InSession k i) = IsTaken s.trades.trading.sessions k × (i < 8)
+IsSpot s (InObject k) = IsTaken s.trades.trading.sessions k
+
+-- it is a leaf's own slot or one of a session, and no session's object
+abbrev pub IsSlot : Spot → Type 0
+IsSlot (InLeaf x i) = Unit {0}
+IsSlot (InSession k i) = Unit {0}
+IsSlot (InObject k) = ⊥
+
+-- the leaf that pays for what is there: a session's slots and its object are its server's
+abbrev pub holder : Slots → Spot → ℕ
+holder s (InLeaf x i) = x
+holder s (InSession k i) = server_of s.trades.trading k
+holder s (InObject k) = server_of s.trades.trading k
+
+abbrev pub thing_at : Slots → Spot → Thing
+thing_at s (InLeaf x i) = get_or (get_or s.own x []) i Empty
+thing_at s (InSession k i) = get_or (session_at s.trades.trading k).slots i Empty
+thing_at s (InObject k) = (session_at s.trades.trading k).object
+
+-- the slot of the account machine that it stands for
+abbrev pub slot_of : Slots → Spot → world.Slot
+slot_of s p = seen (memory_of s (holder s p)) (thing_at s p)
+
+-- the holder's account pays
+abbrev pub IsPaidBy : Slots → ℕ → Type 0
+IsPaidBy s x = s.trades.trading.memory.payer ≡ account_no s.trades.trading x
+
+-- this is the heap of the leaf x
+abbrev pub IsHeapOf : Slots → ℕ → Heap → Type 0
+IsHeapOf s x h = get_or s.heaps x h ≡ h
+
+-- THE WORLD
+
+-- what the memory does not say of a world: the names of the services, and of each leaf its phase, registers and statements
+pub record Frame : Type 0 where
+  pub names : List (List ℕ)
+  pub leaf : ℕ → world.Leaf
+
+-- a leaf with these slots, and with the peaks of its heap
+abbrev pub leaf_seen : world.Leaf → Store → List Thing → Heap → world.Leaf
+leaf_seen leaf st ts h = record leaf { slots = map (seen st) ts; peaks = peaks h }
+
+-- all leaves from the first on
+abbrev pub leaves_seen : (ℕ → world.Leaf) → (ℕ → Store) → List (List Thing) → List Heap → List world.Leaf
+leaves_seen leaf st [] hs = []
+leaves_seen leaf st (ts ∷ own) [] = []
+leaves_seen leaf st (ts ∷ own) (h ∷ hs) = leaf_seen (leaf 0) (st 0) ts h ∷ leaves_seen (λ x. leaf (suc x)) (λ x. st (suc x)) own hs
+
+abbrev pub world_seen : Frame → Slots → world.World
+world_seen f s = record {
+  leaves = leaves_seen f.leaf (memory_of s) s.own s.heaps;
+  sessions = sessions_seen f.names s.trades.trading;
+  requests = map request_seen s.trades.trading.requests;
+}
+
+-- PEAKS
+
+-- the peaks of the leaf x are raised to what is in use
+abbrev pub raised_in : world.World → ℕ → Option world.Leaf → world.World
+raised_in w x None = w
+raised_in w x (Some leaf) = world.with_leaf w x (with_peaks w x leaf)
+
+abbrev pub settled_in : ℕ → world.World → world.World
+settled_in x w = raised_in w x (slice_get w.leaves x)
+
+-- WHAT IS IN USE
+
+-- What the leaf x uses is what the definition says that it holds: bytes, and capabilities where they are counted. Its peaks are no less than what is in
+-- use.
+pub record IsPaidFor (w : world.World) (t : Trading) (x : ℕ) (leaf : world.Leaf) : Type 0 where
+  pub ram : (its_account t x).used.ram ≡ held Ram w x leaf
+  pub caps : (t.memory.ledger.price ≡ 0 → ⊥) → (its_account t x).used.caps ≡ held Caps w x leaf
+  pub peaked : with_peaks w x leaf ≡ leaf
+
+abbrev pub ArePaidFor : Slots → Type 0
+ArePaidFor s = (f : Frame) (x : ℕ) (leaf : world.Leaf) → slice_get (world_seen f s).leaves x ≡ Some leaf → IsPaidFor (world_seen f s) s.trades.trading x leaf
+
+-- AT FIRST
+
+-- a heap without a block, whose peaks are 0
+pub record IsNew (h : Heap) : Type 0 where
+  pub keeps : (st : Store) → Keeps h st []
+  pub peaks : peaks h ≡ replicate 8 0
+
+-- n heaps without a block
+pub record AreNew (n : ℕ) (hs : List Heap) : Type 0 where
+  pub count : length hs ≡ n
+  pub each : (x : ℕ) (h : Heap) → x < n → IsNew (get_or hs x h)

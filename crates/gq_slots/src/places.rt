@@ -1,0 +1,40 @@
+// Things that are put into slots.
+ghost use Rattle.std.specs.Prelude.{◌≡◌, ℕ, ◌<◌, [], length, get_or};
+ghost use Rattle.gq_numbered.specs.Numbers.{IsTaken};
+ghost use Rattle.gq_things.specs.declared.thing.Thing.TheVariants as thing;
+ghost use Rattle.gq_trade.specs.Trades.{with_trading};
+ghost use Rattle.gq_slots.specs.Slots.{IsSlot, IsSpot, thing_at};
+ghost use Rattle.gq_slots.specs.internal.Put.{put_own, put_trading};
+
+use gq_sessions::Spot;
+use gq_things::Thing;
+use gq_trade::Trades;
+
+// Puts something into an empty slot.
+pub(crate) fn fill(trades: &mut Trades, own: &mut Vec<[Thing; 64]>, spot: Spot, contents: Thing)
+    requires slot { IsSlot spot }
+    requires there { IsSpot (record { trades = trades.old; own = own.old.items; heaps = [] }) spot }
+    requires empty { thing_at (record { trades = trades.old; own = own.old.items; heaps = [] }) spot ≡ thing.Empty }
+    ensures trades { trades.new ≡ with_trading trades.old (put_trading trades.old.trading spot contents) }
+    ensures own { own.new.items ≡ put_own own.old.items spot contents }
+{
+    match spot {
+        Spot::InLeaf(leaf, slot) => own[leaf][usize::from(slot)] = contents,
+        Spot::InSession(session, slot) => trades.put(session, usize::from(slot), contents),
+        Spot::InObject(_) => unreachable!(),
+    }
+}
+
+// Makes a slot empty.
+pub(crate) fn clear(trades: &mut Trades, own: &mut Vec<[Thing; 64]>, spot: Spot)
+    requires slot { IsSlot spot }
+    requires there { IsSpot (record { trades = trades.old; own = own.old.items; heaps = [] }) spot }
+    ensures trades { trades.new ≡ with_trading trades.old (put_trading trades.old.trading spot thing.Empty) }
+    ensures own { own.new.items ≡ put_own own.old.items spot thing.Empty }
+{
+    match spot {
+        Spot::InLeaf(leaf, slot) => own[leaf][usize::from(slot)] = Thing::Empty,
+        Spot::InSession(session, slot) => trades.clear_slot(session, usize::from(slot)),
+        Spot::InObject(_) => unreachable!(),
+    }
+}

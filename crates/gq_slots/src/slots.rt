@@ -1,0 +1,402 @@
+// What every slot of a scenario holds, in the memory of the leaf that pays for it.
+ghost use Rattle.std.specs.Prelude.{◌≡◌, ℕ, ◌+◌, ◌<◌, ◌≤◌, ◌*◌, ◌%◌, ◌↔◌, [], ◌∷◌, length, get_or, slice_index, slice_range, replicate, Some, None, true};
+ghost use Rattle.std.specs.Prelude.{false, IsTrue};
+ghost use Rattle.std.specs.Prelude.{IfOk, IfSome, OnOk, OnErr, IsErrOf};
+ghost use Rattle.gq_tariff.specs.Prices.{up};
+ghost use Rattle.gq_model.specs.declared.program.Form.TheVariants as form;
+ghost use Rattle.gq_model.specs.machine.Program.{little, spelled};
+ghost use Rattle.gq_model.specs.machine.Memory.{entry_byte, entry_with};
+ghost use Rattle.gq_model.specs.machine.World as world;
+ghost use Rattle.gq_heap.specs.declared.heap.Heap.{Heap};
+ghost use Rattle.gq_heap.specs.Heap.{rise};
+ghost use Rattle.gq_things.specs.declared.thing.Thing.TheVariants as thing;
+ghost use Rattle.gq_things.specs.Things.{added, bytes_in, entry_count, entry_in, entry_size, put_in, removed, seen, size_of, with_entry};
+ghost use Rattle.gq_sessions.specs.Seen.{spot_seen};
+ghost use Rattle.gq_numbered.specs.Numbers.{IsTaken};
+ghost use Rattle.gq_sessions.specs.Trading.{account_no, server_of, with_memory};
+ghost use Rattle.gq_trade.specs.Plans.{IsFirst, IsPlan};
+ghost use Rattle.gq_trade.specs.Trades.{IsLive, IsTrades, with_trading};
+ghost use Rattle.gq_slots.specs.Slots.{AreNew, ArePaidFor, Frame, IsHeapOf, IsPaidBy, IsSlot, IsSpot, holder, memory_of, slot_of, thing_at, world_seen};
+ghost use Rattle.gq_slots.specs.Calls.{Puts, Settles};
+
+use crate::places::{clear, fill};
+use gq_heap::Heap;
+use gq_sessions::Spot;
+use gq_store::GrowFault;
+use gq_things::Thing;
+use gq_trade::{Plan, Trades};
+use std::alloc::{AllocError, Global};
+use std::marker::Model;
+
+/// All slots of a scenario: the 64 of each leaf, the 8 of each session, and the sessions' objects. What is in a leaf's slot, and in those of the sessions
+/// to it, lies in memory that the leaf pays for. No call but `new` takes host memory.
+#[derive(Drop)]
+pub struct Slots {
+    trades: Trades,
+    // The own slots of each leaf, and its heap.
+    own: Vec<[Thing; 64]>,
+    heaps: Vec<Heap>,
+}
+
+impl Model for Slots {
+    ghost use Rattle.gq_slots.specs.Slots.{Slots};
+    ghost use Rattle.gq_slots.specs.internal.Holds.{IsSlots};
+
+    ghost Value = { Slots };
+
+    ghost view = { λ t. record { trades = t.trades; own = t.own.items; heaps = t.heaps.items } };
+
+    ghost invariant = { λ t. IsSlots (record { trades = t.trades; own = t.own.items; heaps = t.heaps.items }) };
+}
+
+// The slots of so many leaves, all empty.
+fn slots_of(alloc: Global, count: usize) -> Result<Vec<[Thing; 64]>, AllocError>
+    ensures { IfOk result (λ own. own.items ≡ replicate count (replicate 64 thing.Empty)) }
+{
+    let mut own = Vec::new(alloc);
+    for _ in 0..count {
+        own.push([Thing::Empty; 64])?;
+    }
+    Ok(own)
+}
+
+// A heap without a block for each of so many leaves.
+fn heaps_of(alloc: Global, count: usize) -> Result<Vec<Heap>, AllocError>
+    ensures { IfOk result (λ heaps. AreNew count heaps.items) }
+{
+    let mut heaps = Vec::new(alloc);
+    for _ in 0..count {
+        heaps.push(Heap::new())?;
+    }
+    Ok(heaps)
+}
+
+impl Slots {
+    /// Empty slots for the leaves of a plan, over the accounts that `Trades::new` makes of it; no heap has a block. `Err` where the host refuses
+    /// memory.
+    pub fn new(
+        alloc: Global,
+        total: u64,
+        caps: Option<u64>,
+        plan: Plan,
+        room: u32,
+    ) -> Result<Slots, AllocError>
+        requires total { (4096 ≤ total) × (total ≤ 67108864) }
+        requires pages { total % 4096 ≡ 0 }
+        requires caps { IfSome caps (λ n. (1 ≤ n) × (n ≤ 65536)) }
+        requires plan { IsPlan total caps plan.parents.items plan.nodes.items plan.leaves.items plan.objects.items }
+        ensures trades { IfOk result (λ s. IsFirst total caps plan.parents.items plan.nodes.items plan.leaves.items plan.objects.items room s.trades) }
+        ensures own { IfOk result (λ s. s.own ≡ replicate (length plan.leaves.items) (replicate 64 thing.Empty)) }
+        ensures heaps { IfOk result (λ s. AreNew (length plan.leaves.items) s.heaps) }
+    {
+        let count = plan.leaves.len();
+        let trades = Trades::new(alloc, total, caps, plan, room)?;
+        let own = slots_of(alloc, count)?;
+        let heaps = heaps_of(alloc, count)?;
+        Ok(Slots { trades, own, heaps })
+    }
+
+    /// The leaf that pays for what is in a slot: the leaf whose own it is, or the server of its session.
+    pub fn holder(&self, spot: Spot) -> usize
+        requires { IsSpot self.now spot }
+        ensures is { result ≡ holder self.now spot }
+        ensures there { result < length self.now.own }
+    {
+        let _own = &self.own;
+        match spot {
+            Spot::InLeaf(leaf, _) => leaf,
+            Spot::InSession(session, _) | Spot::InObject(session) => self.server(session),
+        }
+    }
+
+    // The server of a session.
+    fn server(&self, session: usize) -> usize
+        requires { IsTaken self.now.trades.trading.sessions session }
+        ensures is { result ≡ server_of self.now.trades.trading session }
+        ensures there { result < length self.now.own }
+    {
+        let _own = &self.own;
+        self.trades.laws();
+        self.trades.session(session).server
+    }
+
+    /// What is in a slot. In the machine's world it is what `seen` says of it.
+    pub fn thing(&self, spot: Spot) -> Thing
+        requires { IsSpot self.now spot }
+        ensures is { result ≡ thing_at self.now spot }
+        ensures reads { (f : Frame) → world.slot_at (world_seen f self.now) (spot_seen spot)
+            ≡ Some (seen (memory_of self.now (holder self.now spot)) result) }
+    {
+        let _own = &self.own;
+        self.found(spot)
+    }
+
+    // What is in a slot.
+    fn found(&self, spot: Spot) -> Thing
+        requires { IsSpot self.now spot }
+        ensures { result ≡ thing_at self.now spot }
+    {
+        match spot {
+            Spot::InLeaf(leaf, slot) => self.own[leaf][usize::from(slot)],
+            Spot::InSession(session, slot) => self.trades.slot(session, usize::from(slot)),
+            Spot::InObject(session) => self.trades.session(session).object,
+        }
+    }
+
+    /// A leaf pays from now on. Each of the calls below is on a slot of the leaf that pays.
+    pub fn pay_by(&mut self, leaf: usize)
+        requires { IsLive self.old.trades leaf }
+        ensures { self.new ≡ record {
+          trades = with_trading self.old.trades (with_memory self.old.trades.trading (record {
+            ledger = self.old.trades.trading.memory.ledger;
+            payer = account_no self.old.trades.trading leaf;
+          }));
+          own = self.old.own;
+          heaps = self.old.heaps;
+        } }
+    {
+        self.trades.pay_by(leaf);
+    }
+
+    /// The byte at an index of a block, a slice or a space.
+    pub fn load(&self, spot: Spot, index: u32) -> u8
+        requires there { IsSpot self.now spot }
+        requires paid { IsPaidBy self.now (holder self.now spot) }
+        requires inside { index < size_of (thing_at self.now spot) }
+        ensures { result ≡ slice_index (bytes_in (slot_of self.now spot)) index }
+    {
+        let _own = &self.own;
+        let holder = self.holder(spot);
+        let thing = self.thing(spot);
+        thing.load(&self.trades, &self.heaps[holder], index)
+    }
+
+    /// The number in the four bytes from an index on, the lowest first.
+    pub fn load4(&self, spot: Spot, index: u32) -> u32
+        requires there { IsSpot self.now spot }
+        requires paid { IsPaidBy self.now (holder self.now spot) }
+        requires inside { index + 4 ≤ size_of (thing_at self.now spot) }
+        ensures { result ≡ little (slice_range (bytes_in (slot_of self.now spot)) index (index + 4)) }
+    {
+        let _own = &self.own;
+        let holder = self.holder(spot);
+        let thing = self.thing(spot);
+        thing.load4(&self.trades, &self.heaps[holder], index)
+    }
+
+    /// Sets the byte at an index of a block, a slice or a space.
+    pub fn store(&mut self, spot: Spot, index: u32, value: u8)
+        requires there { IsSpot self.old spot }
+        requires paid { IsPaidBy self.old (holder self.old spot) }
+        requires inside { index < size_of (thing_at self.old spot) }
+        ensures { Puts self.old self.new spot (put_in index (value ∷ []) (slot_of self.old spot)) }
+    {
+        let holder = self.holder(spot);
+        let thing = self.thing(spot);
+        self.trades.laws();
+        thing.store(&mut self.trades, &self.heaps[holder], index, value);
+    }
+
+    /// Writes a number to the four bytes from an index on, the lowest first.
+    pub fn store4(&mut self, spot: Spot, index: u32, value: u32)
+        requires there { IsSpot self.old spot }
+        requires paid { IsPaidBy self.old (holder self.old spot) }
+        requires inside { index + 4 ≤ size_of (thing_at self.old spot) }
+        ensures { Puts self.old self.new spot (put_in index (spelled 4 value) (slot_of self.old spot)) }
+    {
+        let holder = self.holder(spot);
+        let thing = self.thing(spot);
+        self.trades.laws();
+        thing.store4(&mut self.trades, &self.heaps[holder], index, value);
+    }
+
+    /// Makes a slice of `size` bytes in an empty slot, which read 0.
+    ///
+    /// Refused as `Exceeded` where the bytes of its pages can't be paid, else as `CapsExceeded` where there is no capability left; then nothing
+    /// changes.
+    pub fn make_slice(&mut self, spot: Spot, size: u32) -> Result<(), GrowFault>
+        requires slot { IsSlot spot }
+        requires there { IsSpot self.old spot }
+        requires paid { IsPaidBy self.old (holder self.old spot) }
+        requires empty { thing_at self.old spot ≡ thing.Empty }
+        requires size { size ≤ 67108864 }
+        ensures made { OnOk result (Settles self.old self.new spot (world.Bytes form.Slice size (replicate size 0))) }
+        ensures unchanged { OnErr result (self.new ≡ self.old) }
+        ensures exceeded { IsErrOf result GrowFault.Exceeded ↔ ((memory_of self.old (holder self.old spot)).left < up (size + 32)) }
+        ensures caps_exceeded { IsErrOf result GrowFault.CapsExceeded ↔ ((up (size + 32) ≤ (memory_of self.old (holder self.old spot)).left)
+            × ((memory_of self.old (holder self.old spot)).caps ≡ Some 0)) }
+    {
+        let holder = self.holder(spot);
+        let _heap = &self.heaps[holder];
+        self.trades.laws();
+        let made = Thing::make_slice(&mut self.trades, size)?;
+        fill(&mut self.trades, &mut self.own, spot, made);
+        Ok(())
+    }
+
+    /// Makes a space of `size` bytes in whole pages in an empty slot, which read 0. Refused as a slice is.
+    pub fn make_space(&mut self, spot: Spot, size: u32) -> Result<(), GrowFault>
+        requires slot { IsSlot spot }
+        requires there { IsSpot self.old spot }
+        requires paid { IsPaidBy self.old (holder self.old spot) }
+        requires empty { thing_at self.old spot ≡ thing.Empty }
+        requires size { (1 ≤ size) × (size ≤ 67108864) }
+        ensures made { OnOk result (Settles self.old self.new spot (world.Bytes form.Space size (replicate (up size) 0))) }
+        ensures unchanged { OnErr result (self.new ≡ self.old) }
+        ensures exceeded { IsErrOf result GrowFault.Exceeded ↔ ((memory_of self.old (holder self.old spot)).left < up size) }
+        ensures caps_exceeded { IsErrOf result GrowFault.CapsExceeded ↔ ((up size ≤ (memory_of self.old (holder self.old spot)).left)
+            × ((memory_of self.old (holder self.old spot)).caps ≡ Some 0)) }
+    {
+        let holder = self.holder(spot);
+        let _heap = &self.heaps[holder];
+        self.trades.laws();
+        let made = Thing::make_space(&mut self.trades, size)?;
+        fill(&mut self.trades, &mut self.own, spot, made);
+        Ok(())
+    }
+
+    /// Makes a pool of `count` entries of `size` bytes in an empty slot, each absent. Refused as a slice is, by the bytes of the pool's table.
+    pub fn make_pool(&mut self, spot: Spot, size: u32, count: u32) -> Result<(), GrowFault>
+        requires slot { IsSlot spot }
+        requires there { IsSpot self.old spot }
+        requires paid { IsPaidBy self.old (holder self.old spot) }
+        requires empty { thing_at self.old spot ≡ thing.Empty }
+        requires size { (1 ≤ size) × (size ≤ 2048) }
+        requires count { (1 ≤ count) × (count ≤ 1024) }
+        ensures made { OnOk result (Settles self.old self.new spot (world.Pool size (replicate count None))) }
+        ensures unchanged { OnErr result (self.new ≡ self.old) }
+        ensures exceeded { IsErrOf result GrowFault.Exceeded ↔ ((memory_of self.old (holder self.old spot)).left < up (4 * count)) }
+        ensures caps_exceeded { IsErrOf result GrowFault.CapsExceeded ↔ ((up (4 * count) ≤ (memory_of self.old (holder self.old spot)).left)
+            × ((memory_of self.old (holder self.old spot)).caps ≡ Some 0)) }
+    {
+        let holder = self.holder(spot);
+        let _heap = &self.heaps[holder];
+        self.trades.laws();
+        let made = Thing::make_pool(&mut self.trades, size, count)?;
+        fill(&mut self.trades, &mut self.own, spot, made);
+        Ok(())
+    }
+
+    /// Makes a block of `size` bytes in an empty slot, which read 0.
+    ///
+    /// Refused as `Exceeded` where the price of the leaf's heap must rise by more than can be paid, else as `CapsExceeded` where it must rise and there
+    /// is no capability left; then nothing changes.
+    pub fn make_block(&mut self, spot: Spot, size: u32) -> Result<(), GrowFault>
+        requires slot { IsSlot spot }
+        requires there { IsSpot self.old spot }
+        requires paid { IsPaidBy self.old (holder self.old spot) }
+        requires empty { thing_at self.old spot ≡ thing.Empty }
+        requires size { (1 ≤ size) × (size ≤ 67108864) }
+        ensures made { OnOk result (Settles self.old self.new spot (world.Bytes form.Block size (replicate size 0))) }
+        ensures unchanged { OnErr result (self.new ≡ self.old) }
+        ensures exceeded { (h : Heap) → IsHeapOf self.old (holder self.old spot) h
+            → (IsErrOf result GrowFault.Exceeded ↔ ((memory_of self.old (holder self.old spot)).left < rise h size)) }
+        ensures caps_exceeded { (h : Heap) → IsHeapOf self.old (holder self.old spot) h → (IsErrOf result GrowFault.CapsExceeded
+            ↔ ((0 < rise h size) × (rise h size ≤ (memory_of self.old (holder self.old spot)).left)
+            × ((memory_of self.old (holder self.old spot)).caps ≡ Some 0))) }
+    {
+        let holder = self.holder(spot);
+        let _empty = self.thing(spot);
+        self.trades.laws();
+        let made = Thing::make_block(&mut self.trades, &mut self.heaps[holder], size)?;
+        fill(&mut self.trades, &mut self.own, spot, made);
+        Ok(())
+    }
+
+    /// Adds an entry of a pool, whose bytes read 0, and says whether it did: not where it was there.
+    ///
+    /// Refused as a block of the entry's size is, where the entry is absent; then nothing changes.
+    pub fn take(&mut self, spot: Spot, index: u32) -> Result<bool, GrowFault>
+        requires there { IsSpot self.old spot }
+        requires paid { IsPaidBy self.old (holder self.old spot) }
+        requires inside { index < entry_count (thing_at self.old spot) }
+        ensures taken { OnOk result (Settles self.old self.new spot (with_entry index added (slot_of self.old spot))) }
+        ensures added { IfOk result (λ b. IsTrue b ↔ (entry_in index (slot_of self.old spot) ≡ None)) }
+        ensures unchanged { OnErr result (self.new ≡ self.old) }
+        ensures exceeded { (h : Heap) → IsHeapOf self.old (holder self.old spot) h → (IsErrOf result GrowFault.Exceeded
+            ↔ ((entry_in index (slot_of self.old spot) ≡ None)
+            × ((memory_of self.old (holder self.old spot)).left < rise h (entry_size (thing_at self.old spot))))) }
+        ensures caps_exceeded { (h : Heap) → IsHeapOf self.old (holder self.old spot) h → (IsErrOf result GrowFault.CapsExceeded
+            ↔ ((entry_in index (slot_of self.old spot) ≡ None) × (0 < rise h (entry_size (thing_at self.old spot)))
+            × (rise h (entry_size (thing_at self.old spot)) ≤ (memory_of self.old (holder self.old spot)).left)
+            × ((memory_of self.old (holder self.old spot)).caps ≡ Some 0))) }
+    {
+        let holder = self.holder(spot);
+        let thing = self.thing(spot);
+        self.trades.laws();
+        thing.take(&mut self.trades, &mut self.heaps[holder], index)
+    }
+
+    /// Removes an entry of a pool, and says whether it did: not where it was absent.
+    pub fn give(&mut self, spot: Spot, index: u32) -> bool
+        requires there { IsSpot self.old spot }
+        requires paid { IsPaidBy self.old (holder self.old spot) }
+        requires inside { index < entry_count (thing_at self.old spot) }
+        ensures given { Puts self.old self.new spot (with_entry index removed (slot_of self.old spot)) }
+        ensures absent { (result ≡ false) ↔ (entry_in index (slot_of self.old spot) ≡ None) }
+    {
+        let holder = self.holder(spot);
+        let thing = self.thing(spot);
+        self.trades.laws();
+        thing.give(&mut self.trades, &mut self.heaps[holder], index)
+    }
+
+    /// The byte of an entry of a pool, 0 where the entry is absent.
+    pub fn peek(&self, spot: Spot, index: u32, offset: u32) -> u8
+        requires there { IsSpot self.now spot }
+        requires paid { IsPaidBy self.now (holder self.now spot) }
+        requires inside { (index < entry_count (thing_at self.now spot)) × (offset < entry_size (thing_at self.now spot)) }
+        ensures { result ≡ entry_byte (entry_in index (slot_of self.now spot)) offset }
+    {
+        let _own = &self.own;
+        let holder = self.holder(spot);
+        let thing = self.thing(spot);
+        thing.peek(&self.trades, &self.heaps[holder], index, offset)
+    }
+
+    /// Sets the byte of an entry of a pool; where the entry is absent nothing is done.
+    pub fn poke(&mut self, spot: Spot, index: u32, offset: u32, value: u8)
+        requires there { IsSpot self.old spot }
+        requires paid { IsPaidBy self.old (holder self.old spot) }
+        requires inside { (index < entry_count (thing_at self.old spot)) × (offset < entry_size (thing_at self.old spot)) }
+        ensures { Puts self.old self.new spot (with_entry index (λ n. entry_with offset value) (slot_of self.old spot)) }
+    {
+        let holder = self.holder(spot);
+        let thing = self.thing(spot);
+        self.trades.laws();
+        thing.poke(&mut self.trades, &self.heaps[holder], index, offset, value);
+    }
+
+    /// Makes a slot empty, and the memory free that was in it. Pages of the heap's classes stay the heap's, and paid.
+    pub fn free(&mut self, spot: Spot)
+        requires slot { IsSlot spot }
+        requires there { IsSpot self.old spot }
+        requires paid { IsPaidBy self.old (holder self.old spot) }
+        ensures { Puts self.old self.new spot world.Empty }
+    {
+        let holder = self.holder(spot);
+        let thing = self.thing(spot);
+        self.trades.laws();
+        thing.free(&mut self.trades, &mut self.heaps[holder]);
+        clear(&mut self.trades, &mut self.own, spot);
+    }
+
+    /// The sessions with the accounts.
+    pub fn trades(&self) -> &Trades
+        ensures { result.now ≡ self.now.trades }
+    {
+        &self.trades
+    }
+
+    /// What holds in all `Slots`: what each leaf uses, of bytes and where they are counted of capabilities, is what the machine's definition says that it
+    /// holds, and its peaks are no less than what is in use. It does nothing.
+    pub fn laws(&self)
+        ensures trades { IsTrades self.now.trades }
+        ensures leaves { length self.now.own ≡ length self.now.trades.trading.leaves }
+        ensures held { ArePaidFor self.now }
+    {
+        let _own = &self.own;
+        self.trades.laws();
+        self.trades.memory().accounts().laws();
+    }
+}
