@@ -10,7 +10,8 @@ use Rattle.gq_model.specs.machine.World as world
 use Rattle.gq_store.specs.Store.{Store}
 use Rattle.gq_heap.specs.declared.heap.Heap.{Heap}
 use Rattle.gq_heap.specs.Heap.{peaks}
-use Rattle.gq_memory.specs.Stores.{store_at, store_of as store_of_memory}
+use Rattle.gq_memory.specs.Stores.{Memory, store_at, store_of as store_of_memory}
+use Rattle.gq_memory.specs.Rest.{SameRest}
 use Rattle.gq_things.specs.declared.thing.Thing.{Thing}
 use Rattle.gq_things.specs.declared.thing.Thing.TheVariants.{Empty}
 use Rattle.gq_things.specs.Things.{added, entry_in, seen, with_entry}
@@ -26,7 +27,7 @@ use Rattle.gq_slots.specs.Calls.{Puts, Settles}
 use Rattle.gq_slots.specs.internal.Holds.{AreObjects, IsObject, IsSlots}
 use Rattle.gq_slots.specs.internal.Put.{put, with_object, put_own, put_trading, with_store}
 use Rattle.gq_slots.proofs.Spots.{back, front, put_same, split_now}
-use Rattle.gq_slots.proofs.Changing.{IsCall, around, kept_then, puts_then, settles_then, stays_raised, spot_with, long_with}
+use Rattle.gq_slots.proofs.Changing.{IsCall, around, others_stay, same_quotas, kept_then, puts_then, settles_then, stays_raised, spot_with, long_with}
 use Rattle.gq_slots.proofs.Facts.{pays_none}
 use Rattle.gq_slots.proofs.Sums.{raised_again}
 
@@ -61,16 +62,34 @@ among s p h t i there lt paid heap is =
     }) in
     subst (λ st. IsAmong h st t) (sym (paying_is s (holder s p) paid)) (subst (IsAmong h (memory_of s (holder s p))) (sym is) own)
 
+-- what one account pays for, whoever pays now
+alone : (m n : Memory) → SameRest m n → SameRest (record { ledger = m.ledger; payer = m.payer }) (record { ledger = n.ledger; payer = m.payer })
+alone m n r = record {
+  payer = refl;
+  stores = r.stores;
+  accounts = r.accounts;
+  quota = r.quota;
+  reference = r.reference;
+  still_open = r.still_open;
+  whole = r.whole;
+}
+
 -- one call, in the words of its contract
-pub call_of : (s : Slots) (v : Trades) (p : Spot) (h g : Heap) (t u : Thing) → IsSpot s p → t ≡ thing_at s p → IsHeapOf s (holder s p) h
-    → IsPaidBy s (holder s p) → SameButMemory s.trades v → Changes h g (paying s.trades) (paying v) t u → Pays h g (paying s.trades) (paying v) t u
+pub call_of : (s : Slots) (v : Trades) (p : Spot) (h g : Heap) (t u : Thing) → IsSlots s → IsTrading s.trades.trading → holder s p < length s.own
+    → IsSpot s p → t ≡ thing_at s p → IsHeapOf s (holder s p) h → IsPaidBy s (holder s p) → SameButMemory s.trades v
+    → Changes h g (paying s.trades) (paying v) t u → Pays h g (paying s.trades) (paying v) t u
     → IsCall s v.trading.memory p h g t u
-call_of s v p h g t u there is heap paid r changes pays = record {
+call_of s v p h g t u i w lt there is heap paid r changes pays = record {
   spot = there;
   thing = sym is;
   heap = heap;
-  payer = paid;
-  rest = r.trading.memory;
+  others = others_stay s v.trading.memory p i w lt (λ b ne. r.trading.memory.stores b (λ e. ne (e ∙ ap (λ a. a.0) paid)));
+  quotas = record {
+    payer = r.trading.memory.payer;
+    price = r.trading.memory.whole.0;
+    quota = (same_quotas s.trades.trading.memory.ledger v.trading.memory.ledger s.trades.trading.memory.payer s.trades.trading.memory.payer
+        (alone s.trades.trading.memory v.trading.memory r.trading.memory)).quota;
+  };
   changes = subst (λ st. Changes h g st (store_at v.trading.memory.ledger (account_of s.trades.trading (holder s p))) t u) (paying_is s (holder s p) paid)
       (subst (λ st. Changes h g (paying s.trades) st t u) (paying_then s v (holder s p) paid r) changes);
   pays = subst (λ st. Pays h g st (store_at v.trading.memory.ledger (account_of s.trades.trading (holder s p))) t u) (paying_is s (holder s p) paid)
@@ -104,14 +123,14 @@ filled s v w own p g u r e f =
     ∙ ap (λ (z : Trades). of_parts (with_trading z (put_trading z.trading p u)) (put_own s.own p u) (set s.heaps (holder s p) g)) (same_trades s.trades v r)
 
 -- objects stay where a slot changes
-objects_set : (k : ℕ) (ss : List (Option Session)) (v : Session) → AreObjects ss → IsObject v.object → AreObjects (set ss k (Some v))
+pub objects_set : (k : ℕ) (ss : List (Option Session)) (v : Session) → AreObjects ss → IsObject v.object → AreObjects (set ss k (Some v))
 objects_set k [] v a o = a
 objects_set zero (None ∷ ss) v a o = (o, a)
 objects_set zero (Some t ∷ ss) v a o = (o, a.1)
 objects_set (suc k) (None ∷ ss) v a o = objects_set k ss v a o
 objects_set (suc k) (Some t ∷ ss) v a o = (a.0, objects_set k ss v a.1 o)
 
-object_at : (k : ℕ) (ss : List (Option Session)) → AreObjects ss → IsObject (session_in ss k).object
+pub object_at : (k : ℕ) (ss : List (Option Session)) → AreObjects ss → IsObject (session_in ss k).object
 object_at k [] a = tt
 object_at zero (None ∷ ss) a = tt
 object_at zero (Some t ∷ ss) a = a.0
@@ -166,7 +185,7 @@ module _ (s : Slots) (v : Trades) (p : Spot) (h g : Heap) (t u : Thing) (slot : 
     (seen_so : seen (paying v) u ≡ slot) (is : n ≡ put (with_store s v.trading.memory (holder s p) g) p u)
     (objects : (f : Heap) → AreObjects (put (with_store s v.trading.memory (holder s p) f) p u).trades.trading.sessions) where
   abbrev the_call : IsCall s v.trading.memory p h g t u
-  the_call = call_of s v p h g t u a.spot a.thing a.heap a.paid r changes pays
+  the_call = call_of s v p h g t u a.kept w a.there a.spot a.thing a.heap a.paid r changes pays
 
   abbrev new : Store
   new = store_at v.trading.memory.ledger (account_of s.trades.trading (holder s p))

@@ -10,6 +10,8 @@ use Rattle.gq_model.specs.machine.Sums.{slot_places, raised}
 use Rattle.gq_model.specs.machine.World as world
 use Rattle.gq_store.specs.Store.{Store, plus_caps}
 use Rattle.gq_ram.specs.Entries.{account_at, its_account as the_account}
+use Rattle.gq_ram.specs.declared.account.AccountNo.{AccountNo}
+use Rattle.gq_ram.specs.Ledgers.{Ledger}
 use Rattle.gq_heap.specs.declared.heap.Heap.{Heap}
 use Rattle.gq_heap.specs.Heap.{peaks}
 use Rattle.gq_memory.specs.Stores.{Memory, store_at}
@@ -22,7 +24,7 @@ use Rattle.gq_sessions.specs.declared.session.Spot.{Spot}
 use Rattle.gq_sessions.specs.declared.session.Spot.TheVariants.{InLeaf, InSession, InObject}
 use Rattle.gq_sessions.specs.Seen.{spot_seen}
 use Rattle.gq_sessions.specs.Trading.{Trading, AreBetween, IsTrading, account_of, its_account}
-use Rattle.gq_slots.specs.Slots.{Slots, Frame, IsSpot, IsPaidBy, IsHeapOf, memory_of, holder, thing_at, world_seen, leaf_seen, settled_in}
+use Rattle.gq_slots.specs.Slots.{Slots, Frame, IsSpot, IsHeapOf, memory_of, holder, thing_at, world_seen, leaf_seen, settled_in}
 use Rattle.gq_slots.specs.Slots.{raised_in}
 use Rattle.gq_slots.specs.Calls.{Puts, SameAccounts, SameBeside, Settles}
 use Rattle.gq_slots.specs.internal.Holds.{AreLong, AreObjects, IsHolder, IsSlots, counted, held_by, things}
@@ -38,15 +40,47 @@ caps_change a b c d None (Some n) e f = cc
 caps_change a b c d (Some m) None e f = cc
 caps_change a b c d (Some m) (Some n) e f = let g : m + c ≡ n + d = cc in ap Some (omega (arith, e, g))
 
+-- the same account pays, and all quotas are as before
+pub record SameQuotas (m n : Memory) : Type 0 where
+  pub payer : n.payer ≡ m.payer
+  pub price : n.ledger.price ≡ m.ledger.price
+  pub quota : (a : ℕ) → (account_at n.ledger.accounts a).quota ≡ (account_at m.ledger.accounts a).quota
+
+same_quota : (l k : Ledger) (a b : ℕ) (c : Bool) → eqb b a ≡ c → ((d : ℕ) → (d ≡ a → ⊥) → get_or k.accounts d None ≡ get_or l.accounts d None)
+    → (account_at k.accounts a).quota ≡ (account_at l.accounts a).quota → (account_at k.accounts b).quota ≡ (account_at l.accounts b).quota
+same_quota l k a b true e others its =
+    let f : b ≡ a = grind (arith, nat_tests, e) in
+    subst (λ d. (account_at k.accounts d).quota ≡ (account_at l.accounts d).quota) (sym f) its
+same_quota l k a b false e others its =
+    let f : b ≡ a → ⊥ = λ g. grind (arith, nat_tests, e, g) in
+    ap (λ d. (the_account d).quota) (others b f)
+
+-- where one account alone changed
+pub same_quotas : (l k : Ledger) (a p : AccountNo) → SameRest (record { ledger = l; payer = a }) (record { ledger = k; payer = a })
+    → SameQuotas (record { ledger = l; payer = p }) (record { ledger = k; payer = p })
+same_quotas l k a p r = record { payer = refl; price = r.whole.0; quota = λ b. same_quota l k a.0 b (eqb b a.0) refl r.accounts r.quota }
+
 -- what one call leaves: a thing u in the place of t, in the memory that the leaf of the slot pays for
 pub record IsCall (s : Slots) (m : Memory) (p : Spot) (before after : Heap) (t u : Thing) : Type 0 where
   pub spot : IsSpot s p
   pub thing : thing_at s p ≡ t
   pub heap : IsHeapOf s (holder s p) before
-  pub payer : IsPaidBy s (holder s p)
-  pub rest : SameRest s.trades.trading.memory m
+  -- all other leaves have what they had
+  pub others : (y : ℕ) → y < length s.own → (y ≡ holder s p → ⊥) → store_at m.ledger (account_of s.trades.trading y) ≡ memory_of s y
+  pub quotas : SameQuotas s.trades.trading.memory m
   pub changes : Changes before after (memory_of s (holder s p)) (store_at m.ledger (account_of s.trades.trading (holder s p))) t u
   pub pays : Pays before after (memory_of s (holder s p)) (store_at m.ledger (account_of s.trades.trading (holder s p))) t u
+
+-- where the account of the slot's leaf alone changed, all other leaves have what they had
+pub others_stay : (s : Slots) (m : Memory) (p : Spot) → IsSlots s → IsTrading s.trades.trading → holder s p < length s.own
+    → ((b : ℕ) → (b ≡ account_of s.trades.trading (holder s p) → ⊥) → store_at m.ledger b ≡ store_at s.trades.trading.memory.ledger b)
+    → (y : ℕ) → y < length s.own → (y ≡ holder s p → ⊥) → store_at m.ledger (account_of s.trades.trading y) ≡ memory_of s y
+others_stay s m p i w there rest y lt ne =
+    let x = holder s p in
+    let yl : y < length s.trades.trading.leaves = omega (arith, lt, i.count) in
+    let xl : x < length s.trades.trading.leaves = omega (arith, there, i.count) in
+    rest (account_of s.trades.trading y) (λ e.
+    ne (w.apart y x yl xl (w.nodes.apart (get_or s.trades.trading.leaves y 0) (get_or s.trades.trading.leaves x 0) (w.leaves y yl) (w.leaves x xl) e)))
 
 -- a leaf that keeps what it had
 holder_same : (s v : Slots) (x : ℕ) (h : Heap) → memory_of v x ≡ memory_of s x → things v x ≡ things s x
@@ -156,30 +190,11 @@ module _ (s : Slots) (m : Memory) (p : Spot) (before after : Heap) (t u : Thing)
   things_old : things s x ≡ front s p ++ t ∷ back s p
   things_old = split_now s p c.spot i.long ∙ ap (λ a. front s p ++ a ∷ back s p) c.thing
 
-  account_apart : (y : ℕ) → y < length s.own → (y ≡ x → ⊥) → account_of s.trades.trading y ≡ s.trades.trading.memory.payer.0 → ⊥
-  account_apart y lt ne e =
-      let yl : y < length s.trades.trading.leaves = omega (arith, lt, i.count) in
-      let xl : x < length s.trades.trading.leaves = omega (arith, there, i.count) in
-      ne (w.apart y x yl xl (w.nodes.apart (get_or s.trades.trading.leaves y 0) (get_or s.trades.trading.leaves x 0) (w.leaves y yl) (w.leaves x xl)
-      (e ∙ ap (λ a. a.0) c.payer)))
-
-  pub other_stores : (y : ℕ) → y < length s.own → (y ≡ x → ⊥) → store_at m.ledger (account_of s.trades.trading y) ≡ memory_of s y
-  other_stores y lt ne = c.rest.stores (account_of s.trades.trading y) (account_apart y lt ne)
-
-  same_account : (a : ℕ) (b : Bool) → eqb a s.trades.trading.memory.payer.0 ≡ b
-      → (account_at m.ledger.accounts a).quota ≡ (account_at s.trades.trading.memory.ledger.accounts a).quota
-  same_account a true e =
-      let f : a ≡ s.trades.trading.memory.payer.0 = grind (arith, nat_tests, e) in
-      subst (λ b. (account_at m.ledger.accounts b).quota ≡ (account_at s.trades.trading.memory.ledger.accounts b).quota) (sym f) c.rest.quota
-  same_account a false e =
-      let f : a ≡ s.trades.trading.memory.payer.0 → ⊥ = λ g. grind (arith, nat_tests, e, g) in
-      ap (λ b. (the_account b).quota) (c.rest.accounts a f)
-
   quota_same : (a : ℕ) → (account_at m.ledger.accounts a).quota ≡ (account_at s.trades.trading.memory.ledger.accounts a).quota
-  quota_same a = same_account a (eqb a s.trades.trading.memory.payer.0) refl
+  quota_same a = c.quotas.quota a
 
   price_same : m.ledger.price ≡ s.trades.trading.memory.ledger.price
-  price_same = c.rest.whole.0
+  price_same = c.quotas.price
 
   memory_then : memory_of then_ x ≡ new
   memory_then = put_memory (with_store s m x after) p u x
@@ -220,7 +235,7 @@ module _ (s : Slots) (m : Memory) (p : Spot) (before after : Heap) (t u : Thing)
 
   other_holder : (y : ℕ) (h : Heap) → y < length s.own → (y ≡ x → ⊥) → IsHolder then_ y (get_or s.heaps y h)
   other_holder y h lt ne =
-      holder_same s then_ y (get_or s.heaps y h) (put_memory (with_store s m x after) p u y ∙ other_stores y lt ne) (other_things y ne)
+      holder_same s then_ y (get_or s.heaps y h) (put_memory (with_store s m x after) p u y ∙ c.others y lt ne) (other_things y ne)
       (ap (λ a. a.quota) (put_account (with_store s m x after) p u y) ∙ quota_same (account_of s.trades.trading y)) price_then (i.holders y h lt)
 
   module _ (objects : AreObjects then_.trades.trading.sessions)
@@ -262,7 +277,7 @@ module _ (s : Slots) (m : Memory) (p : Spot) (before after : Heap) (t u : Thing)
   world_with h f =
       world_after f s m p h u (length s.trades.trading.objects) c.spot i.long own_heaps there
       (subst (λ n. AreBetween n (length s.trades.trading.objects) s.trades.trading.sessions) (sym i.count) w.between)
-      other_stores beside.front_seen beside.back_seen
+      c.others beside.front_seen beside.back_seen
 
   same_accounts : SameAccounts s.trades.trading then_.trades.trading
   same_accounts = accounts_put (with_store s m x after) p u s.trades.trading (record {
@@ -271,7 +286,7 @@ module _ (s : Slots) (m : Memory) (p : Spot) (before after : Heap) (t u : Thing)
     objects = refl;
     room = refl;
     requests = refl;
-    payer = c.rest.payer;
+    payer = c.quotas.payer;
     price = price_same;
     quota = quota_same;
   })

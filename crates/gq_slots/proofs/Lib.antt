@@ -8,3 +8,7 @@ mod Inside
 pub mod Paid
 pub mod First
 pub mod Callers
+pub mod Alike
+pub mod Asking
+pub mod Marks
+pub mod Again

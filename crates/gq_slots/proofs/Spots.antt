@@ -92,6 +92,15 @@ split s (InObject k) v there long =
 same_session : (ss : List (Option Session)) (k : ℕ) → IsTaken ss k → set ss k (Some (session_in ss k)) ≡ ss
 same_session ss k t = ap (set ss k) (sym (taken_is ss k t)) ∙ set-get_or ss k None
 
+-- another session in its place that holds the same
+pub session_same : (y k : ℕ) (ss : List (Option Session)) (v : Session) → IsTaken ss k → things_of y v ≡ things_of y (session_in ss k)
+    → session_things y (set ss k (Some v)) ≡ session_things y ss
+session_same y k ss v t e =
+    let q = session_in ss k in
+    session_split y k ss v (taken_below ss k t)
+    ∙ ap (λ ts. session_things y (take k ss) ++ (ts ++ session_things y (drop (suc k) ss))) e
+    ∙ sym (session_split y k ss q (taken_below ss k t)) ∙ ap (session_things y) (same_session ss k t)
+
 others_same : (y k : ℕ) (ss : List (Option Session)) (v : Session) → IsTaken ss k → v.server ≡ (session_in ss k).server → (y ≡ v.server → ⊥)
     → session_things y (set ss k (Some v)) ≡ session_things y ss
 others_same y k ss v t e ne =
@@ -140,7 +149,7 @@ own_long own x ts y true e lt a c =
     (ap length (get_or-set_same own x ts [] (subst (λ z. z < length own) f lt)) ∙ a)
 own_long own x ts y false e lt a c = let f : y ≡ x → ⊥ = λ g. grind (arith, nat_tests, e, g) in ap length (get_or-set_other own x y ts [] f) ∙ c
 
-slots_long : (ss : List (Option Session)) (k : ℕ) (v : Session) (j : ℕ) → IsTaken (set ss k (Some v)) j → length v.slots ≡ 8
+pub slots_long : (ss : List (Option Session)) (k : ℕ) (v : Session) (j : ℕ) → IsTaken (set ss k (Some v)) j → length v.slots ≡ 8
     → ((i : ℕ) → IsTaken ss i → length (session_in ss i).slots ≡ 8) → length (session_in (set ss k (Some v)) j).slots ≡ 8
 slots_long [] k v j t a all = cc
 slots_long (o ∷ ss) zero v zero t a all = a

@@ -163,7 +163,7 @@ module _ (names : List (List ℕ)) (old new : ℕ → Store) (x n : ℕ) (same :
       let r = sessions_set m ss k v b.1 (seen_right (old x) (new x) (things_of x s) (session_things x (take k ss)) f) g in
       λ z. Some (e z) ∷ r z
 
-session_there : (f : Session → world.Session) (ss : List (Option Session)) (k : ℕ) → IsTaken ss k
+pub session_there : (f : Session → world.Session) (ss : List (Option Session)) (k : ℕ) → IsTaken ss k
     → slice_get (map (seen_in f) ss) k ≡ Some (Some (f (session_in ss k)))
 session_there f [] k t = cc
 session_there f (None ∷ ss) zero t = cc

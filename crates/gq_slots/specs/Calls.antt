@@ -1,10 +1,14 @@
 -- What a call on a slot changes.
-use Rattle.std.specs.Prelude.{◌≡◌, ℕ}
+use Rattle.std.specs.Prelude.{◌≡◌, ℕ, [], ◌∷◌, ◌++◌, Option, Some, None}
+use Rattle.gq_tariff.specs.declared.amount.Amount.{Amount}
+use Rattle.gq_model.specs.machine.Amounts.{plus}
+use Rattle.gq_model.specs.machine.Requests.{add_session, free_place}
 use Rattle.gq_model.specs.machine.World as world
 use Rattle.gq_ram.specs.Entries.{account_at}
 use Rattle.gq_sessions.specs.declared.session.Spot.{Spot}
 use Rattle.gq_sessions.specs.Seen.{spot_seen}
 use Rattle.gq_sessions.specs.Trading.{Trading}
+use Rattle.gq_trade.specs.Trades.{with_trading}
 use Rattle.gq_slots.specs.Slots.{Slots, Frame, IsSpot, holder, settled_in, world_seen}
 
 -- the tree with its quotas, and who pays, stay
@@ -34,3 +38,25 @@ pub record Puts (old new : Slots) (p : Spot) (slot : world.Slot) : Type 0 where
 pub record Settles (old new : Slots) (p : Spot) (slot : world.Slot) : Type 0 where
   pub seen_so : (f : Frame) → world_seen f new ≡ settled_in (holder old p) (world.with_slot (world_seen f old) (spot_seen p) slot)
   pub rest : SameBeside old new
+
+-- WHAT A REQUEST CHANGES
+
+-- other sessions, requests and accounts
+abbrev pub with_trades : Slots → Trading → Slots
+with_trades s t = record { trades = with_trading s.trades t; own = s.own; heaps = s.heaps }
+
+-- a request of the session k is behind all others
+abbrev pub asking : world.World → ℕ → world.Ask → world.World
+asking w k ask = record w { requests = w.requests ++ record { session = k; ask = ask } ∷ [] }
+
+-- a session stands at the first free place, and its request to open is behind all others
+abbrev pub opening : world.World → world.Session → world.World
+opening w q = asking (record w { sessions = add_session q w.sessions }) (free_place w.sessions) world.Ask_open
+
+abbrev pub more_for : world.World → ℕ → Amount → Option world.Session → world.World
+more_for w k n None = w
+more_for w k n (Some q) = world.with_session w k (record q { donation = plus q.donation n })
+
+-- so much more is given for the session k, and its request to upgrade is behind all others
+abbrev pub upgrading : world.World → ℕ → Amount → world.World
+upgrading w k n = asking (more_for w k n (world.session_at w k)) k world.Ask_upgrade

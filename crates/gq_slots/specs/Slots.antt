@@ -9,7 +9,7 @@ use Rattle.gq_heap.specs.Heap.{Keeps, peaks}
 use Rattle.gq_numbered.specs.Numbers.{IsTaken}
 use Rattle.gq_requests.specs.Seen.{request_seen}
 use Rattle.gq_things.specs.declared.thing.Thing.{Thing}
-use Rattle.gq_things.specs.declared.thing.Thing.TheVariants.{Empty}
+use Rattle.gq_things.specs.declared.thing.Thing.TheVariants.{Empty, Block, Slice, Space, Pool, Link, Waiting}
 use Rattle.gq_things.specs.Things.{seen}
 use Rattle.gq_sessions.specs.declared.session.Spot.{Spot}
 use Rattle.gq_sessions.specs.declared.session.Spot.TheVariants.{InLeaf, InSession, InObject}
@@ -58,6 +58,16 @@ thing_at s (InObject k) = (session_at s.trades.trading k).object
 -- the slot of the account machine that it stands for
 abbrev pub slot_of : Slots → Spot → world.Slot
 slot_of s p = seen (memory_of s (holder s p)) (thing_at s p)
+
+-- it holds no memory
+abbrev pub IsMark : Thing → Type 0
+IsMark Empty = Unit {0}
+IsMark (Block p n) = ⊥
+IsMark (Slice k n) = ⊥
+IsMark (Space k n) = ⊥
+IsMark (Pool p) = ⊥
+IsMark (Link k) = Unit {0}
+IsMark (Waiting k) = Unit {0}
 
 -- the holder's account pays
 abbrev pub IsPaidBy : Slots → ℕ → Type 0

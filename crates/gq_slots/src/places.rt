@@ -38,3 +38,14 @@ pub(crate) fn clear(trades: &mut Trades, own: &mut Vec<[Thing; 64]>, spot: Spot)
         Spot::InObject(_) => unreachable!(),
     }
 }
+
+// Puts something in the place of what is in a slot.
+pub(crate) fn replace(trades: &mut Trades, own: &mut Vec<[Thing; 64]>, spot: Spot, contents: Thing)
+    requires slot { IsSlot spot }
+    requires there { IsSpot (record { trades = trades.old; own = own.old.items; heaps = [] }) spot }
+    ensures trades { trades.new ≡ with_trading trades.old (put_trading trades.old.trading spot contents) }
+    ensures own { own.new.items ≡ put_own own.old.items spot contents }
+{
+    clear(trades, own, spot);
+    fill(trades, own, spot, contents);
+}

@@ -12,17 +12,24 @@ ghost use Rattle.gq_heap.specs.Heap.{rise};
 ghost use Rattle.gq_things.specs.declared.thing.Thing.TheVariants as thing;
 ghost use Rattle.gq_things.specs.Things.{added, bytes_in, entry_count, entry_in, entry_size, put_in, removed, seen, size_of, with_entry};
 ghost use Rattle.gq_sessions.specs.Seen.{spot_seen};
-ghost use Rattle.gq_numbered.specs.Numbers.{IsTaken};
-ghost use Rattle.gq_sessions.specs.Trading.{account_no, server_of, with_memory};
+ghost use Rattle.gq_model.specs.machine.Requests.{new_session};
+ghost use Rattle.gq_numbered.specs.Numbers.{IsTaken, free_number};
+ghost use Rattle.gq_ram.specs.Entries.{available, available_caps};
+ghost use Rattle.gq_requests.specs.declared.requests.Ask.TheVariants as ask;
+ghost use Rattle.gq_sessions.specs.Trading.{account_no, asked, client_of, fresh, its_account, server_of, upgraded, with_ask, with_memory};
+ghost use Rattle.gq_trade.specs.Waiting.{IsIdle};
 ghost use Rattle.gq_trade.specs.Plans.{IsFirst, IsPlan};
 ghost use Rattle.gq_trade.specs.Trades.{IsLive, IsTrades, with_trading};
-ghost use Rattle.gq_slots.specs.Slots.{AreNew, ArePaidFor, Frame, IsHeapOf, IsPaidBy, IsSlot, IsSpot, holder, memory_of, slot_of, thing_at, world_seen};
-ghost use Rattle.gq_slots.specs.Calls.{Puts, Settles};
+ghost use Rattle.gq_slots.specs.Slots.{AreNew, ArePaidFor, Frame, IsHeapOf, IsMark, IsPaidBy, IsSlot, IsSpot, holder, memory_of, slot_of, thing_at};
+ghost use Rattle.gq_slots.specs.Slots.{world_seen};
+ghost use Rattle.gq_slots.specs.Calls.{Puts, Settles, asking, opening, upgrading, with_trades};
 
-use crate::places::{clear, fill};
+use crate::places::{clear, fill, replace};
 use gq_heap::Heap;
+use gq_ram::AccountFault;
 use gq_sessions::Spot;
 use gq_store::GrowFault;
+use gq_tariff::Amount;
 use gq_things::Thing;
 use gq_trade::{Plan, Trades};
 use std::alloc::{AllocError, Global};
@@ -379,6 +386,109 @@ impl Slots {
         self.trades.laws();
         thing.free(&mut self.trades, &mut self.heaps[holder]);
         clear(&mut self.trades, &mut self.own, spot);
+    }
+
+    /// Puts what holds no memory into a slot in the place of what holds none: a link, a mark that the slot waits, or nothing. Whoever pays, it costs
+    /// nothing.
+    pub fn mark(&mut self, spot: Spot, contents: Thing)
+        requires slot { IsSlot spot }
+        requires there { IsSpot self.old spot }
+        requires free { IsMark (thing_at self.old spot) }
+        requires mark { IsMark contents }
+        ensures { Puts self.old self.new spot (seen (memory_of self.old (holder self.old spot)) contents) }
+    {
+        let holder = self.holder(spot);
+        let _thing = self.thing(spot);
+        let _heap = &self.heaps[holder];
+        self.trades.laws();
+        replace(&mut self.trades, &mut self.own, spot, contents);
+    }
+
+    /// Asks for a session: it takes the lowest free number, the donation goes from its client to its server, through every init on the way, and its
+    /// request to open is the last. The client's slot is not touched.
+    ///
+    /// Refused as `Exceeded` where the client has fewer bytes that are not used, else as `CapsExceeded` where it has fewer capabilities; then
+    /// nothing changes. Where capabilities are not counted, none can be given. Client and server are live, and no request of the client waits.
+    pub fn ask(
+        &mut self,
+        client: usize,
+        spot: Spot,
+        server: usize,
+        service: usize,
+        donation: Amount,
+    ) -> Result<usize, AccountFault>
+        requires client { IsLive self.old.trades client }
+        requires server { IsLive self.old.trades server }
+        requires apart { client ≡ server → ⊥ }
+        requires service { service < length self.old.trades.trading.objects }
+        requires counted { self.old.trades.trading.memory.ledger.price ≡ 0 → donation.caps ≡ 0 }
+        requires room { free_number self.old.trades.trading.sessions < self.old.trades.trading.room }
+        requires idle { IsIdle self.old.trades.trading client }
+        ensures number { IfOk result (λ k. k ≡ free_number self.old.trades.trading.sessions) }
+        ensures asked { OnOk result (self.new ≡ with_trades self.old (asked self.old.trades.trading (fresh client spot server service donation))) }
+        ensures world { OnOk result ((f : Frame) → world_seen f self.new
+            ≡ opening (world_seen f self.old) (new_session client (spot_seen spot) server (get_or f.names service []) donation)) }
+        ensures unchanged { OnErr result (self.new ≡ self.old) }
+        ensures exceeded { IsErrOf result AccountFault.Exceeded ↔ (available (its_account self.old.trades.trading client) < donation.ram) }
+        ensures caps_exceeded { IsErrOf result AccountFault.CapsExceeded
+            ↔ ((donation.ram ≤ available (its_account self.old.trades.trading client))
+            × (available_caps (its_account self.old.trades.trading client) < donation.caps)) }
+        ensures only { OnErr result (donation.ram ≤ available (its_account self.old.trades.trading client)
+            → available_caps (its_account self.old.trades.trading client) < donation.caps) }
+    {
+        let _own = &self.own;
+        self.trades.laws();
+        self.trades.memory().accounts().laws();
+        let asked = self.trades.ask(client, spot, server, service, donation);
+        self.trades.memory().accounts().laws();
+        asked
+    }
+
+    /// Asks for the next level of a session: what is given for it goes from its client to its server, as in `ask`, and its request to upgrade is the
+    /// last. Refused as `ask` is.
+    pub fn upgrade(&mut self, session: usize, donation: Amount) -> Result<(), AccountFault>
+        requires there { IsTaken self.old.trades.trading.sessions session }
+        requires counted { self.old.trades.trading.memory.ledger.price ≡ 0 → donation.caps ≡ 0 }
+        requires idle { IsIdle self.old.trades.trading (client_of self.old.trades.trading session) }
+        ensures upgraded { OnOk result (self.new ≡ with_trades self.old (upgraded self.old.trades.trading session donation)) }
+        ensures world { OnOk result ((f : Frame) → world_seen f self.new ≡ upgrading (world_seen f self.old) session donation) }
+        ensures unchanged { OnErr result (self.new ≡ self.old) }
+        ensures exceeded { IsErrOf result AccountFault.Exceeded
+            ↔ (available (its_account self.old.trades.trading (client_of self.old.trades.trading session)) < donation.ram) }
+        ensures caps_exceeded { IsErrOf result AccountFault.CapsExceeded
+            ↔ ((donation.ram ≤ available (its_account self.old.trades.trading (client_of self.old.trades.trading session)))
+            × (available_caps (its_account self.old.trades.trading (client_of self.old.trades.trading session)) < donation.caps)) }
+        ensures only { OnErr result (donation.ram ≤ available (its_account self.old.trades.trading (client_of self.old.trades.trading session))
+            → available_caps (its_account self.old.trades.trading (client_of self.old.trades.trading session)) < donation.caps) }
+    {
+        let _own = &self.own;
+        self.trades.laws();
+        self.trades.memory().accounts().laws();
+        let upgraded = self.trades.upgrade(session, donation);
+        self.trades.memory().accounts().laws();
+        upgraded
+    }
+
+    /// Asks for the reply of a session's server to a number: the request is the last.
+    pub fn ask_call(&mut self, session: usize, value: u32)
+        requires there { IsTaken self.old.trades.trading.sessions session }
+        requires idle { IsIdle self.old.trades.trading (client_of self.old.trades.trading session) }
+        ensures asked { self.new ≡ with_trades self.old (with_ask self.old.trades.trading session (ask.Call value)) }
+        ensures world { (f : Frame) → world_seen f self.new ≡ asking (world_seen f self.old) session (world.Ask_call value) }
+    {
+        let _own = &self.own;
+        self.trades.ask_call(session, value);
+    }
+
+    /// Asks for the end of a session: the request is the last.
+    pub fn ask_close(&mut self, session: usize)
+        requires there { IsTaken self.old.trades.trading.sessions session }
+        requires idle { IsIdle self.old.trades.trading (client_of self.old.trades.trading session) }
+        ensures asked { self.new ≡ with_trades self.old (with_ask self.old.trades.trading session ask.Close) }
+        ensures world { (f : Frame) → world_seen f self.new ≡ asking (world_seen f self.old) session world.Ask_close }
+    {
+        let _own = &self.own;
+        self.trades.ask_close(session);
     }
 
     /// The sessions with the accounts.
