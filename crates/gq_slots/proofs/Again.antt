@@ -12,7 +12,7 @@ use Rattle.gq_trade.specs.Trades.{Trades, with_trading}
 use Rattle.gq_slots.specs.internal.Put.{put, put_own, put_trading}
 use Rattle.gq_slots.proofs.Answering.{of_parts}
 
-set_again : {A : Type 0} (xs : List A) (i : ℕ) (a b : A) → set (set xs i a) i b ≡ set xs i b
+pub set_again : {A : Type 0} (xs : List A) (i : ℕ) (a b : A) → set (set xs i a) i b ≡ set xs i b
 set_again [] i a b = refl
 set_again (c ∷ xs) zero a b = refl
 set_again (c ∷ xs) (suc i) a b = ap (λ ys. c ∷ ys) (set_again xs i a b)
@@ -22,7 +22,7 @@ set_there [] i a = refl
 set_there (c ∷ xs) zero a = refl
 set_there (c ∷ xs) (suc i) a = set_there xs i a
 
-session_put : (ss : List (Option Session)) (k : ℕ) (v : Session) → IsTaken ss k → session_in (set ss k (Some v)) k ≡ v
+pub session_put : (ss : List (Option Session)) (k : ℕ) (v : Session) → IsTaken ss k → session_in (set ss k (Some v)) k ≡ v
 session_put [] k v t = cc
 session_put (o ∷ ss) zero v t = refl
 session_put (o ∷ ss) (suc k) v t = session_put ss k v t

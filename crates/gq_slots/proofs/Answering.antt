@@ -12,6 +12,7 @@ use Rattle.gq_heap.specs.declared.heap.Heap.{Heap}
 use Rattle.gq_heap.specs.Heap.{peaks}
 use Rattle.gq_memory.specs.Stores.{Memory, store_at, store_of as store_of_memory}
 use Rattle.gq_memory.specs.Rest.{SameRest}
+use Rattle.gq_requests.specs.declared.requests.Request.{Request}
 use Rattle.gq_things.specs.declared.thing.Thing.{Thing}
 use Rattle.gq_things.specs.declared.thing.Thing.TheVariants.{Empty}
 use Rattle.gq_things.specs.Things.{added, entry_in, seen, with_entry}
@@ -20,11 +21,11 @@ use Rattle.gq_things.specs.Paid.{Pays, Raises, places_used, raised_by}
 use Rattle.gq_sessions.specs.declared.session.Session.{Session}
 use Rattle.gq_sessions.specs.declared.session.Spot.{Spot}
 use Rattle.gq_sessions.specs.declared.session.Spot.TheVariants.{InLeaf, InSession, InObject}
-use Rattle.gq_sessions.specs.Trading.{IsTrading, account_of, session_in, with_memory, with_slot}
+use Rattle.gq_sessions.specs.Trading.{IsTrading, Trading, account_of, session_at, session_in, with_memory, with_session, with_slot}
 use Rattle.gq_trade.specs.Trades.{Trades, SameButMemory, with_trading}
 use Rattle.gq_slots.specs.Slots.{Slots, IsHeapOf, IsPaidBy, IsSlot, IsSpot, holder, memory_of, slot_of, thing_at}
 use Rattle.gq_slots.specs.Calls.{Puts, Settles}
-use Rattle.gq_slots.specs.internal.Holds.{AreObjects, IsObject, IsSlots}
+use Rattle.gq_slots.specs.internal.Holds.{AreObjects, AreSound, AreUnmade, IsObject, IsSlots, IsUnmade}
 use Rattle.gq_slots.specs.internal.Put.{put, with_object, put_own, put_trading, with_store}
 use Rattle.gq_slots.proofs.Spots.{back, front, put_same, split_now}
 use Rattle.gq_slots.proofs.Changing.{IsCall, around, others_stay, same_quotas, kept_then, puts_then, settles_then, stays_raised, spot_with, long_with}
@@ -122,7 +123,7 @@ filled s v w own p g u r e f =
     (λ k. of_parts (e k) (f k) (set s.heaps (holder s p) g))
     ∙ ap (λ (z : Trades). of_parts (with_trading z (put_trading z.trading p u)) (put_own s.own p u) (set s.heaps (holder s p) g)) (same_trades s.trades v r)
 
--- objects stay where a slot changes
+-- objects stay where a session has the same one
 pub objects_set : (k : ℕ) (ss : List (Option Session)) (v : Session) → AreObjects ss → IsObject v.object → AreObjects (set ss k (Some v))
 objects_set k [] v a o = a
 objects_set zero (None ∷ ss) v a o = (o, a)
@@ -137,19 +138,36 @@ object_at zero (Some t ∷ ss) a = a.0
 object_at (suc k) (None ∷ ss) a = object_at k ss a
 object_at (suc k) (Some t ∷ ss) a = object_at k ss a.1
 
-pub objects_put : (s : Slots) (p : Spot) (u : Thing) → IsSlot p → AreObjects s.trades.trading.sessions → AreObjects (put s p u).trades.trading.sessions
-objects_put s (InLeaf x i) u l a = a
-objects_put s (InSession k i) u l a = objects_set k s.trades.trading.sessions (with_slot (session_in s.trades.trading.sessions k) i u) a
-    (object_at k s.trades.trading.sessions a)
-objects_put s (InObject k) u l a = absurd l
+-- objects that stay where a session changes
+object_set : (ss : List (Option Session)) (k : ℕ) (v : Session) (j : ℕ) → v.object ≡ (session_in ss k).object
+    → (session_in (set ss k (Some v)) j).object ≡ (session_in ss j).object
+object_set [] k v j e = refl
+object_set (o ∷ ss) zero v zero e = e
+object_set (o ∷ ss) zero v (suc j) e = refl
+object_set (o ∷ ss) (suc k) v zero e = refl
+object_set (o ∷ ss) (suc k) v (suc j) e = object_set ss k v j e
 
-pub objects_same : (s : Slots) (p : Spot) (t : Thing) → t ≡ thing_at s p → AreObjects s.trades.trading.sessions → AreObjects (put s p t).trades.trading.sessions
-objects_same s (InLeaf x i) t e a = a
-objects_same s (InSession k i) t e a = objects_set k s.trades.trading.sessions (with_slot (session_in s.trades.trading.sessions k) i t) a
-    (object_at k s.trades.trading.sessions a)
-objects_same s (InObject k) t e a =
-    objects_set k s.trades.trading.sessions (with_object (session_in s.trades.trading.sessions k) t) a
-    (subst IsObject (sym e) (object_at k s.trades.trading.sessions a))
+unmade_set : (ss : List (Option Session)) (k : ℕ) (v : Session) (rs : List Request) → v.object ≡ (session_in ss k).object → AreUnmade ss rs
+    → AreUnmade (set ss k (Some v)) rs
+unmade_set ss k v [] e a = tt
+unmade_set ss k v (r ∷ rs) e a = (subst (IsUnmade r.ask) (sym (object_set ss k v r.session e)) a.0, unmade_set ss k v rs e a.1)
+
+-- a session that has the same object
+pub sound_set : (t : Trading) (k : ℕ) (v : Session) → v.object ≡ (session_at t k).object → AreSound t → AreSound (with_session t k v)
+sound_set t k v e a = record {
+  objects = objects_set k t.sessions v a.objects (subst IsObject (sym e) (object_at k t.sessions a.objects));
+  unmade = unmade_set t.sessions k v t.requests e a.unmade;
+}
+
+pub sound_put : (s : Slots) (p : Spot) (u : Thing) → IsSlot p → AreSound s.trades.trading → AreSound (put s p u).trades.trading
+sound_put s (InLeaf x i) u l a = a
+sound_put s (InSession k i) u l a = sound_set s.trades.trading k (with_slot (session_at s.trades.trading k) i u) refl a
+sound_put s (InObject k) u l a = absurd l
+
+pub sound_same : (s : Slots) (p : Spot) (t : Thing) → t ≡ thing_at s p → AreSound s.trades.trading → AreSound (put s p t).trades.trading
+sound_same s (InLeaf x i) t e a = a
+sound_same s (InSession k i) t e a = sound_set s.trades.trading k (with_slot (session_at s.trades.trading k) i t) refl a
+sound_same s (InObject k) t e a = sound_set s.trades.trading k (with_object (session_at s.trades.trading k) t) e a
 
 -- what is in the slot, in the memory of the account that pays
 pub slot_paying : (s : Slots) (p : Spot) (t : Thing) → IsPaidBy s (holder s p) → t ≡ thing_at s p → seen (paying s.trades) t ≡ slot_of s p
@@ -183,7 +201,7 @@ at_inside z s p h t x e kept spot at there thing heap paid = record {
 module _ (s : Slots) (v : Trades) (p : Spot) (h g : Heap) (t u : Thing) (slot : world.Slot) (n : Slots) (a : IsAt s p h t) (w : IsTrading s.trades.trading)
     (r : SameButMemory s.trades v) (changes : Changes h g (paying s.trades) (paying v) t u) (pays : Pays h g (paying s.trades) (paying v) t u)
     (seen_so : seen (paying v) u ≡ slot) (is : n ≡ put (with_store s v.trading.memory (holder s p) g) p u)
-    (objects : (f : Heap) → AreObjects (put (with_store s v.trading.memory (holder s p) f) p u).trades.trading.sessions) where
+    (sound : (f : Heap) → AreSound (put (with_store s v.trading.memory (holder s p) f) p u).trades.trading) where
   abbrev the_call : IsCall s v.trading.memory p h g t u
   the_call = call_of s v p h g t u a.kept w a.there a.spot a.thing a.heap a.paid r changes pays
 
@@ -213,7 +231,7 @@ module _ (s : Slots) (v : Trades) (p : Spot) (h g : Heap) (t u : Thing) (slot : 
 
   pub kept_same : peaks g ≡ peaks h → ((k : ℕ) → slot_places k slot ≤ slot_places k (slot_of s p)) → IsSlots n
   kept_same same le =
-      subst IsSlots (sym is) (kept_then s v.trading.memory p h g t u a.kept w a.there the_call (objects g)
+      subst IsSlots (sym is) (kept_then s v.trading.memory p h g t u a.kept w a.there the_call (sound g)
       (ap (raised_by in_use classes) same ∙ stays_so le ∙ sym same))
 
   pub puts_same : peaks g ≡ peaks h → Puts s n p slot
@@ -223,19 +241,24 @@ module _ (s : Slots) (v : Trades) (p : Spot) (h g : Heap) (t u : Thing) (slot : 
 
   pub kept_raised : raised_by in_use classes (peaks h) ≡ peaks g → IsSlots n
   kept_raised e =
-      subst IsSlots (sym is) (kept_then s v.trading.memory p h g t u a.kept w a.there the_call (objects g)
+      subst IsSlots (sym is) (kept_then s v.trading.memory p h g t u a.kept w a.there the_call (sound g)
       (ap (raised_by in_use classes) (sym e) ∙ raised_again in_use classes (peaks h) ∙ e))
 
   pub settles_raised : raised_by in_use classes (peaks h) ≡ peaks g → Settles s n p slot
   settles_raised e =
       subst (λ y. Settles s y p slot) (sym is) (subst (λ y. Settles s (put (with_store s v.trading.memory (holder s p) g) p u) p y) seen_then
-      (settles_then s v.trading.memory p h g t u a.kept w a.there the_call (objects h) e))
+      (settles_then s v.trading.memory p h g t u a.kept w a.there the_call (sound h).objects e))
 
 -- AS THE CONTRACTS SAY IT
 
-objects_with : (s : Slots) (v : Trades) (p : Spot) (h : Heap) (t : Thing) → IsAt s p h t → (f : Heap)
-    → AreObjects (put (with_store s v.trading.memory (holder s p) f) p t).trades.trading.sessions
-objects_with s v p h t a f = objects_same (with_store s v.trading.memory (holder s p) f) p t (a.thing ∙ sym (thing_with s v f p)) a.kept.objects
+pub with_sound : (s : Slots) (m : Memory) (x : ℕ) (f : Heap) → AreSound s.trades.trading → AreSound (with_store s m x f).trades.trading
+with_sound s m x f a = record { objects = a.objects; unmade = a.unmade }
+
+sound_with : (s : Slots) (v : Trades) (p : Spot) (h : Heap) (t : Thing) → IsAt s p h t → (f : Heap)
+    → AreSound (put (with_store s v.trading.memory (holder s p) f) p t).trades.trading
+sound_with s v p h t a f =
+    sound_same (with_store s v.trading.memory (holder s p) f) p t (a.thing ∙ sym (thing_with s v f p))
+    (with_sound s v.trading.memory (holder s p) f a.kept.sound)
 
 -- what a call on a slot leaves: it holds, and the world has the slot
 abbrev pub Leaves : Slots → Slots → Spot → world.Slot → Type 0
@@ -255,9 +278,9 @@ stays z s v p h t f e a w r changes seen_so left caps price le =
     let at = slot_paying s p t a.paid a.thing in
     let pays = pays_none h (paying s.trades) (paying v) t (λ q. ap (slot_price q) seen_so ∙ price q (seen (paying s.trades) t)) left caps in
     let n = of_parts v s.own s.heaps in (
-      kept_same s v p h h t t (f (slot_of s p)) n a w r changes pays (seen_so ∙ ap f at) is (objects_with s v p h t a) refl (λ k. le k (slot_of s p)),
+      kept_same s v p h h t t (f (slot_of s p)) n a w r changes pays (seen_so ∙ ap f at) is (sound_with s v p h t a) refl (λ k. le k (slot_of s p)),
       subst (λ y. Puts y n p (f (slot_of y p))) e
-          (puts_same s v p h h t t (f (slot_of s p)) n a w r changes pays (seen_so ∙ ap f at) is (objects_with s v p h t a) refl),
+          (puts_same s v p h h t t (f (slot_of s p)) n a w r changes pays (seen_so ∙ ap f at) is (sound_with s v p h t a) refl),
     )
 
 -- another entry, where a place of the heap is free again
@@ -270,9 +293,9 @@ gives_place z s v p h g t f x e a w at_x r changes seen_so pays same le =
     let is = ap (λ i. of_parts v s.own (set s.heaps i g)) y ∙ in_place s v p g t a.kept a.spot a.thing r in
     let at = slot_paying s p t a.paid a.thing in
     let n = of_parts v s.own (set s.heaps x g) in (
-      kept_same s v p h g t t (f (slot_of s p)) n a w r changes pays (seen_so ∙ ap f at) is (objects_with s v p h t a) same (λ k. le k (slot_of s p)),
+      kept_same s v p h g t t (f (slot_of s p)) n a w r changes pays (seen_so ∙ ap f at) is (sound_with s v p h t a) same (λ k. le k (slot_of s p)),
       subst (λ y. Puts y n p (f (slot_of y p))) e
-          (puts_same s v p h g t t (f (slot_of s p)) n a w r changes pays (seen_so ∙ ap f at) is (objects_with s v p h t a) same),
+          (puts_same s v p h g t t (f (slot_of s p)) n a w r changes pays (seen_so ∙ ap f at) is (sound_with s v p h t a) same),
     )
 
 -- another entry, where a place of the heap may be taken: then the peaks are raised, or there is nothing new
@@ -286,10 +309,10 @@ takes_place z s v p h g t f x e a w at_x r changes seen_so pays (inl q) =
     let is = ap (λ i. of_parts v s.own (set s.heaps i g)) y ∙ in_place s v p g t a.kept a.spot a.thing r in
     let at = slot_paying s p t a.paid a.thing in
     let n = of_parts v s.own (set s.heaps x g) in
-    let up = raises_so s v p h g t t (f (slot_of s p)) n a w r changes pays (seen_so ∙ ap f at) is (objects_with s v p h t a) q in (
-      kept_raised s v p h g t t (f (slot_of s p)) n a w r changes pays (seen_so ∙ ap f at) is (objects_with s v p h t a) up,
+    let up = raises_so s v p h g t t (f (slot_of s p)) n a w r changes pays (seen_so ∙ ap f at) is (sound_with s v p h t a) q in (
+      kept_raised s v p h g t t (f (slot_of s p)) n a w r changes pays (seen_so ∙ ap f at) is (sound_with s v p h t a) up,
       subst (λ y. Settles y n p (f (slot_of y p))) e
-          (settles_raised s v p h g t t (f (slot_of s p)) n a w r changes pays (seen_so ∙ ap f at) is (objects_with s v p h t a) up),
+          (settles_raised s v p h g t t (f (slot_of s p)) n a w r changes pays (seen_so ∙ ap f at) is (sound_with s v p h t a) up),
     )
 takes_place z s v p h g t f x e a w at_x r changes seen_so pays (inr q) =
     let y : x ≡ holder s p = at_x ∙ ap (λ y. holder y p) (sym e) in
@@ -297,16 +320,17 @@ takes_place z s v p h g t f x e a w at_x r changes seen_so pays (inr q) =
     let at = slot_paying s p t a.paid a.thing in
     let n = of_parts v s.own (set s.heaps x g) in
     let same : f (slot_of s p) ≡ slot_of s p = ap f (sym at) ∙ sym seen_so ∙ ap (λ st. seen st t) q.1 ∙ at in
-    let up = stays_so s v p h g t t (f (slot_of s p)) n a w r changes pays (seen_so ∙ ap f at) is (objects_with s v p h t a)
+    let up = stays_so s v p h g t t (f (slot_of s p)) n a w r changes pays (seen_so ∙ ap f at) is (sound_with s v p h t a)
     (λ k. omega (arith, ap (slot_places k) same)) ∙ ap peaks (sym q.0) in (
-      kept_raised s v p h g t t (f (slot_of s p)) n a w r changes pays (seen_so ∙ ap f at) is (objects_with s v p h t a) up,
+      kept_raised s v p h g t t (f (slot_of s p)) n a w r changes pays (seen_so ∙ ap f at) is (sound_with s v p h t a) up,
       subst (λ y. Settles y n p (f (slot_of y p))) e
-          (settles_raised s v p h g t t (f (slot_of s p)) n a w r changes pays (seen_so ∙ ap f at) is (objects_with s v p h t a) up),
+          (settles_raised s v p h g t t (f (slot_of s p)) n a w r changes pays (seen_so ∙ ap f at) is (sound_with s v p h t a) up),
     )
 
-objects_filled : (s : Slots) (v : Trades) (p : Spot) (u : Thing) → IsSlot p → IsSlots s → (f : Heap)
-    → AreObjects (put (with_store s v.trading.memory (holder s p) f) p u).trades.trading.sessions
-objects_filled s v p u l i f = objects_put (with_store s v.trading.memory (holder s p) f) p u l i.objects
+sound_filled : (s : Slots) (v : Trades) (p : Spot) (u : Thing) → IsSlot p → IsSlots s → (f : Heap)
+    → AreSound (put (with_store s v.trading.memory (holder s p) f) p u).trades.trading
+sound_filled s v p u l i f =
+    sound_put (with_store s v.trading.memory (holder s p) f) p u l (with_sound s v.trading.memory (holder s p) f i.sound)
 
 -- memory that is made in the slot, beside the heap
 pub makes_beside : (z s : Slots) (v w : Trades) (own : List (List Thing)) (p : Spot) (h : Heap) (t u : Thing) (slot : world.Slot) → s ≡ z → IsAt s p h t
@@ -316,9 +340,9 @@ pub makes_beside : (z s : Slots) (v w : Trades) (own : List (List Thing)) (p : S
 makes_beside z s v w own p h t u slot e a tr l r changes seen_so pays none ws os =
     let is = ap (of_parts w own) (sym (same_heap s (holder s p) h a.heap)) ∙ filled s v w own p h u r ws os in
     let n = of_parts w own s.heaps in
-    let up = stays_so s v p h h t u slot n a tr r changes pays seen_so is (objects_filled s v p u l a.kept) (λ k. omega (arith, none k)) in (
-      kept_raised s v p h h t u slot n a tr r changes pays seen_so is (objects_filled s v p u l a.kept) up,
-      subst (λ y. Settles y n p slot) e (settles_raised s v p h h t u slot n a tr r changes pays seen_so is (objects_filled s v p u l a.kept) up),
+    let up = stays_so s v p h h t u slot n a tr r changes pays seen_so is (sound_filled s v p u l a.kept) (λ k. omega (arith, none k)) in (
+      kept_raised s v p h h t u slot n a tr r changes pays seen_so is (sound_filled s v p u l a.kept) up,
+      subst (λ y. Settles y n p slot) e (settles_raised s v p h h t u slot n a tr r changes pays seen_so is (sound_filled s v p u l a.kept) up),
     )
 
 -- memory of the heap that is made in the slot
@@ -331,9 +355,9 @@ makes_block z s v w own p h g t u slot x e a tr at_x l r changes seen_so pays q 
     let y : x ≡ holder s p = at_x ∙ ap (λ y. holder y p) (sym e) in
     let is = ap (λ i. of_parts w own (set s.heaps i g)) y ∙ filled s v w own p g u r ws os in
     let n = of_parts w own (set s.heaps x g) in
-    let up = raises_so s v p h g t u slot n a tr r changes pays seen_so is (objects_filled s v p u l a.kept) q in (
-      kept_raised s v p h g t u slot n a tr r changes pays seen_so is (objects_filled s v p u l a.kept) up,
-      subst (λ y. Settles y n p slot) e (settles_raised s v p h g t u slot n a tr r changes pays seen_so is (objects_filled s v p u l a.kept) up),
+    let up = raises_so s v p h g t u slot n a tr r changes pays seen_so is (sound_filled s v p u l a.kept) q in (
+      kept_raised s v p h g t u slot n a tr r changes pays seen_so is (sound_filled s v p u l a.kept) up,
+      subst (λ y. Settles y n p slot) e (settles_raised s v p h g t u slot n a tr r changes pays seen_so is (sound_filled s v p u l a.kept) up),
     )
 
 -- what was in the slot is free
@@ -345,8 +369,8 @@ frees z s v w own p h g t x e a tr at_x l r changes pays same ws os =
     let y : x ≡ holder s p = at_x ∙ ap (λ y. holder y p) (sym e) in
     let is = ap (λ i. of_parts w own (set s.heaps i g)) y ∙ filled s v w own p g Empty r ws os in
     let n = of_parts w own (set s.heaps x g) in (
-      kept_same s v p h g t Empty world.Empty n a tr r changes pays refl is (objects_filled s v p Empty l a.kept) same (λ k. omega arith),
-      subst (λ y. Puts y n p world.Empty) e (puts_same s v p h g t Empty world.Empty n a tr r changes pays refl is (objects_filled s v p Empty l a.kept) same),
+      kept_same s v p h g t Empty world.Empty n a tr r changes pays refl is (sound_filled s v p Empty l a.kept) same (λ k. omega arith),
+      subst (λ y. Puts y n p world.Empty) e (puts_same s v p h g t Empty world.Empty n a tr r changes pays refl is (sound_filled s v p Empty l a.kept) same),
     )
 
 -- where nothing was done

@@ -23,17 +23,18 @@ use Rattle.gq_things.specs.Things.{seen}
 use Rattle.gq_sessions.specs.declared.session.Session.{Session}
 use Rattle.gq_sessions.specs.declared.session.Spot.{Spot}
 use Rattle.gq_sessions.specs.Seen.{seen_in, session_seen, sessions_seen, spot_seen}
-use Rattle.gq_sessions.specs.Trading.{Trading, IsTrading, account_of, asked, client_of, fresh, node_of, server_of, session_at, session_in, store_of, upgraded}
+use Rattle.gq_sessions.specs.Trading.{Trading, AreOf, IsTrading, account_of, asked, client_of, fresh, node_of, server_of, session_at, session_in, store_of}
+use Rattle.gq_sessions.specs.Trading.{upgraded}
 use Rattle.gq_sessions.specs.Trading.{with_ask, with_more}
 use Rattle.gq_sessions.proofs.Definition.{asked_is, given_is, number_is}
 use Rattle.gq_trade.specs.declared.node.Stage.TheVariants.{Live, Ended}
 use Rattle.gq_trade.specs.Trades.{Trades, IsLive, IsTrades, with_trading}
 use Rattle.gq_slots.specs.Slots.{Slots, Frame, leaves_seen, memory_of, world_seen}
 use Rattle.gq_slots.specs.Calls.{asking, more_for, opening, upgrading, with_trades}
-use Rattle.gq_slots.specs.internal.Holds.{AreObjects, IsSlots, session_things, things_of}
+use Rattle.gq_slots.specs.internal.Holds.{AreObjects, AreUnmade, IsSlots, IsUnmade, session_things, things_of}
 use Rattle.gq_slots.proofs.Spots.{session_same, slots_long}
 use Rattle.gq_slots.proofs.Worlds.{session_there}
-use Rattle.gq_slots.proofs.Answering.{object_at, objects_set, of_parts}
+use Rattle.gq_slots.proofs.Answering.{of_parts, sound_set}
 use Rattle.gq_slots.proofs.Alike.{Alike, alike, alike_behind, alike_is, alike_more, holder_alike}
 
 -- THE WORLD
@@ -96,7 +97,7 @@ opened_world f s c p v e n =
     })
 
 -- a session for which more is given
-map_set : (g : Session → world.Session) (ss : List (Option Session)) (k : ℕ) (v : Session)
+pub map_set : (g : Session → world.Session) (ss : List (Option Session)) (k : ℕ) (v : Session)
     → map (seen_in g) (set ss k (Some v)) ≡ set (map (seen_in g) ss) k (Some (g v))
 map_set g [] k v = refl
 map_set g (o ∷ ss) zero v = refl
@@ -163,11 +164,53 @@ added_objects c p v e n [] a = (tt, tt)
 added_objects c p v e n (None ∷ ss) a = (tt, a)
 added_objects c p v e n (Some q ∷ ss) a = (a.0, added_objects c p v e n ss a.1)
 
-pub opened_kept : (s : Slots) (c : ℕ) (p : Spot) (v e : ℕ) (n : Amount) → IsSlots s
-    → IsOpen s.trades.trading.memory.ledger.accounts (account_of s.trades.trading c)
+-- the sessions that were there are found as before
+added_at : (q : Session) (ss : List (Option Session)) (j : ℕ) → IsTaken ss j → session_in (added q ss) j ≡ session_in ss j
+added_at q [] j t = absurd (none_taken j t)
+added_at q (None ∷ ss) zero t = cc
+added_at q (None ∷ ss) (suc j) t = refl
+added_at q (Some y ∷ ss) zero t = refl
+added_at q (Some y ∷ ss) (suc j) t = added_at q ss j t
+
+added_here : (q : Session) (ss : List (Option Session)) → session_in (added q ss) (free_number ss) ≡ q
+added_here q [] = refl
+added_here q (None ∷ ss) = refl
+added_here q (Some y ∷ ss) = added_here q ss
+
+-- a request more
+unmade_more : (ss : List (Option Session)) (rs : List Request) (r : Request) → AreUnmade ss rs → IsUnmade r.ask (session_in ss r.session).object
+    → AreUnmade ss (rs ++ r ∷ [])
+unmade_more ss [] r a b = (b, tt)
+unmade_more ss (q ∷ rs) r a b = (a.0, unmade_more ss rs r a.1 b)
+
+unmade_added : (q : Session) (ss : List (Option Session)) (rs : List Request) → AreOf ss rs → AreUnmade ss rs → AreUnmade (added q ss) rs
+unmade_added q ss [] o a = tt
+unmade_added q ss (r ∷ rs) o a =
+    (subst (λ y. IsUnmade r.ask y.object) (sym (added_at q ss r.session o.0)) a.0, unmade_added q ss rs o.2 a.1)
+
+-- a request of a session that is there, and no request to open
+pub asked_kept : (s : Slots) (k : ℕ) (a : Ask) → ((t : Thing) → IsUnmade a t) → IsSlots s
+    → IsSlots (with_trades s (with_ask s.trades.trading k a))
+asked_kept s k a none i =
+    let t = s.trades.trading in
+    record {
+      count = i.count;
+      heaps = i.heaps;
+      long = record { own = i.long.own; slots = i.long.slots };
+      sound = record {
+        objects = i.sound.objects;
+        unmade = unmade_more t.sessions t.requests (record { session = k; server = server_of t k; ask = a }) i.sound.unmade (none (session_at t k).object);
+      };
+      holders = λ x h lt.
+          let o = i.holders x h lt in
+          record { keeps = o.keeps; ram = o.ram; caps = o.caps; peaked = o.peaked };
+    }
+
+pub opened_kept : (s : Slots) (c : ℕ) (p : Spot) (v e : ℕ) (n : Amount) → AreOf s.trades.trading.sessions s.trades.trading.requests
+    → IsSlots s → IsOpen s.trades.trading.memory.ledger.accounts (account_of s.trades.trading c)
     → IsOpen s.trades.trading.memory.ledger.accounts (account_of s.trades.trading v) → IsBalanced s.trades.trading.memory.ledger
     → IsBalanced (asked s.trades.trading (fresh c p v e n)).memory.ledger → IsSlots (with_trades s (asked s.trades.trading (fresh c p v e n)))
-opened_kept s c p v e n i co vo b d =
+opened_kept s c p v e n of i co vo b d =
     let t = s.trades.trading in
     let q = fresh c p v e n in
     let m = with_trades s (asked t q) in
@@ -175,7 +218,11 @@ opened_kept s c p v e n i co vo b d =
       count = i.count;
       heaps = i.heaps;
       long = record { own = i.long.own; slots = λ j u. added_long c p v e n t.sessions j u i.long.slots };
-      objects = added_objects c p v e n t.sessions i.objects;
+      sound = record {
+        objects = added_objects c p v e n t.sessions i.sound.objects;
+        unmade = unmade_more (added q t.sessions) t.requests (record { session = free_number t.sessions; server = v; ask = Open })
+            (unmade_added q t.sessions t.requests of i.sound.unmade) (ap (λ (y : Session). y.object) (added_here q t.sessions));
+      };
       holders = λ x h lt. holder_alike s m x (get_or s.heaps x h) (λ k. record { size = refl; bytes = λ j. refl })
           (alike_behind (get_or s.own x []) (session_things x t.sessions) (session_things x (added q t.sessions)) (alike_added x c p v e n t.sessions))
           (used_kept t.memory.ledger.accounts (account_of t c) (account_of t v) n (account_of t x) co vo) refl b d (i.holders x h lt);
@@ -189,11 +236,16 @@ upgraded_kept s k n there i co vo b d =
     let t = s.trades.trading in
     let q = session_at t k in
     let m = with_trades s (upgraded t k n) in
+    let changed = sound_set t k (with_more q n) refl i.sound in
     record {
       count = i.count;
       heaps = i.heaps;
       long = record { own = i.long.own; slots = λ j u. slots_long t.sessions k (with_more q n) j u (i.long.slots k there) i.long.slots };
-      objects = objects_set k t.sessions (with_more q n) i.objects (object_at k t.sessions i.objects);
+      sound = record {
+        objects = changed.objects;
+        unmade = unmade_more (set t.sessions k (Some (with_more q n))) t.requests (record { session = k; server = server_of (upgraded t k n) k; ask = Upgrade })
+            changed.unmade tt;
+      };
       holders = λ x h lt. holder_alike s m x (get_or s.heaps x h) (λ j. record { size = refl; bytes = λ o. refl })
           (alike_behind (get_or s.own x []) (session_things x t.sessions) (session_things x (set t.sessions k (Some (with_more q n))))
           (alike_is (session_things x t.sessions) (session_things x (set t.sessions k (Some (with_more q n))))

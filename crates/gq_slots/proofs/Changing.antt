@@ -27,7 +27,7 @@ use Rattle.gq_sessions.specs.Trading.{Trading, AreBetween, IsTrading, account_of
 use Rattle.gq_slots.specs.Slots.{Slots, Frame, IsSpot, IsHeapOf, memory_of, holder, thing_at, world_seen, leaf_seen, settled_in}
 use Rattle.gq_slots.specs.Slots.{raised_in}
 use Rattle.gq_slots.specs.Calls.{Puts, SameAccounts, SameBeside, Settles}
-use Rattle.gq_slots.specs.internal.Holds.{AreLong, AreObjects, IsHolder, IsSlots, counted, held_by, things}
+use Rattle.gq_slots.specs.internal.Holds.{AreLong, AreObjects, AreSound, IsHolder, IsSlots, counted, held_by, things}
 use Rattle.gq_slots.specs.internal.Put.{peaks_in, put, with_peaks_at, with_store}
 use Rattle.gq_slots.proofs.Spots.{back, front, holder_put, long_put, others, split, split_now, spot_put}
 use Rattle.gq_slots.proofs.Worlds.{leaf_at, same_peaks, world_after}
@@ -83,7 +83,7 @@ others_stay s m p i w there rest y lt ne =
     ne (w.apart y x yl xl (w.nodes.apart (get_or s.trades.trading.leaves y 0) (get_or s.trades.trading.leaves x 0) (w.leaves y yl) (w.leaves x xl) e)))
 
 -- a leaf that keeps what it had
-holder_same : (s v : Slots) (x : ℕ) (h : Heap) → memory_of v x ≡ memory_of s x → things v x ≡ things s x
+pub holder_same : (s v : Slots) (x : ℕ) (h : Heap) → memory_of v x ≡ memory_of s x → things v x ≡ things s x
     → (its_account v.trades.trading x).quota ≡ (its_account s.trades.trading x).quota
     → v.trades.trading.memory.ledger.price ≡ s.trades.trading.memory.ledger.price
     → IsHolder s x h → IsHolder v x h
@@ -238,7 +238,7 @@ module _ (s : Slots) (m : Memory) (p : Spot) (before after : Heap) (t u : Thing)
       holder_same s then_ y (get_or s.heaps y h) (put_memory (with_store s m x after) p u y ∙ c.others y lt ne) (other_things y ne)
       (ap (λ a. a.quota) (put_account (with_store s m x after) p u y) ∙ quota_same (account_of s.trades.trading y)) price_then (i.holders y h lt)
 
-  module _ (objects : AreObjects then_.trades.trading.sessions)
+  module _ (sound : AreSound then_.trades.trading)
       (peaked : raised_by (places_used new (front s p ++ u ∷ back s p)) classes (peaks after) ≡ peaks after) where
     its_holder : IsHolder then_ x after
     its_holder = record {
@@ -264,7 +264,7 @@ module _ (s : Slots) (m : Memory) (p : Spot) (before after : Heap) (t u : Thing)
       count = count_then ∙ i.count ∙ sym (put_leaves (with_store s m x after) p u);
       heaps = length-set s.heaps x after ∙ i.heaps ∙ sym (put_leaves (with_store s m x after) p u);
       long = long_put (with_store s m x after) p u (spot_with s m x after p c.spot) (long_with s m x after i.long);
-      objects = objects;
+      sound = sound;
       holders = λ y h lt. holder_at y h (eqb y x) refl (omega (arith, lt, count_then));
     }
 

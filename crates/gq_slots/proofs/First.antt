@@ -18,7 +18,7 @@ use Rattle.gq_sessions.specs.declared.session.Session.{Session}
 use Rattle.gq_trade.specs.declared.node.Node.{Node}
 use Rattle.gq_trade.specs.Plans.{IsFirst, IsPlan}
 use Rattle.gq_slots.specs.Slots.{AreNew, IsNew, Slots, memory_of}
-use Rattle.gq_slots.specs.internal.Holds.{AreObjects, IsHolder, IsSlots, held_by, session_things, things}
+use Rattle.gq_slots.specs.internal.Holds.{AreObjects, AreUnmade, IsHolder, IsSlots, held_by, session_things, things}
 use Rattle.gq_slots.proofs.Sums.{raised_same}
 
 new_one : (hs : List Heap) (g : Heap) → IsNew g → ((x : ℕ) (h : Heap) → x < length hs → IsNew (get_or hs x h))
@@ -96,7 +96,10 @@ first_slots total caps ps ns xs os n s plan first own new =
         own = λ x lt. ap length (bank x lt);
         slots = λ k t. absurd (none_taken k (subst (λ ss. IsTaken ss k) first.sessions t));
       };
-      objects = subst AreObjects (sym first.sessions) tt;
+      sound = record {
+        objects = subst AreObjects (sym first.sessions) tt;
+        unmade = subst (AreUnmade s.trades.trading.sessions) (sym first.requests) tt;
+      };
       holders = λ x h lt. holder_first s x (get_or s.heaps x h) (bank x lt) first.sessions (new.each x h (omega (arith, lt, count)))
           (first.unused (node_of s.trades.trading x) (subst (λ ys. get_or ys x 0 < length ps) (sym first.leaves) (plan.within x (omega (arith, lt, count)))));
     }

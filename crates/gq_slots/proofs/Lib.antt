@@ -12,3 +12,4 @@ pub mod Alike
 pub mod Asking
 pub mod Marks
 pub mod Again
+pub mod Accepting

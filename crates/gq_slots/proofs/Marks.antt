@@ -19,7 +19,7 @@ use Rattle.gq_slots.specs.Calls.{Puts}
 use Rattle.gq_slots.specs.internal.Holds.{IsSlots}
 use Rattle.gq_slots.specs.internal.Put.{put, put_own, put_trading, with_store}
 use Rattle.gq_slots.proofs.Changing.{IsCall, kept_then, puts_then, stays_raised}
-use Rattle.gq_slots.proofs.Answering.{of_parts, objects_put, same_heap}
+use Rattle.gq_slots.proofs.Answering.{of_parts, same_heap, sound_put, with_sound}
 
 mark_holds : (t : Thing) → IsMark t → HoldsNone t
 mark_holds Empty m = empty_holds
@@ -80,7 +80,7 @@ marked s p h t u i w lt l there is heap a b =
     let st = memory_of s (holder s p) in
     let up = stays_raised s m p h h t u i w lt c (λ k. omega (arith, mark_places k st t a, mark_places k st u b)) in (
       subst IsSlots (same_parts s p h u heap)
-          (kept_then s m p h h t u i w lt c (objects_put (with_store s m (holder s p) h) p u l i.objects) up),
+          (kept_then s m p h h t u i w lt c (sound_put (with_store s m (holder s p) h) p u l (with_sound s m (holder s p) h i.sound)) up),
       subst (λ n. Puts s n p (seen st u)) (same_parts s p h u heap) (puts_then s m p h h t u i w lt c refl),
     )
 

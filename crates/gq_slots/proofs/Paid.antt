@@ -27,11 +27,11 @@ leaf_below leaf st (ts ∷ own) (h ∷ hs) (suc x) l e =
     omega (arith, lt)
 
 -- the heap of a leaf
-record HasHeap (hs : List Heap) (x : ℕ) : Type 0 where
-  heap : Heap
-  is : get_or hs x heap ≡ heap
+pub record HasHeap (hs : List Heap) (x : ℕ) : Type 0 where
+  pub heap : Heap
+  pub is : get_or hs x heap ≡ heap
 
-heap_in : (hs : List Heap) (x : ℕ) → x < length hs → HasHeap hs x
+pub heap_in : (hs : List Heap) (x : ℕ) → x < length hs → HasHeap hs x
 heap_in [] x lt = absurd (omega (arith, lt))
 heap_in (h ∷ hs) zero lt = record { heap = h; is = refl }
 heap_in (h ∷ hs) (suc x) lt = let r = heap_in hs x (omega (arith, lt)) in record { heap = r.heap; is = r.is }
@@ -56,7 +56,7 @@ paid_here f s x h i b o =
       caps = λ ne. caps_here t.memory.ledger.price a.used.caps a.quota.caps (held_by Caps s x h) (eqb t.memory.ledger.price 0) refl
           (b.caps_within (account_of t x)) o.caps ne ∙ sym caps;
       peaked = ap (λ ps. record (leaf_seen (f.leaf x) (memory_of s x) (get_or s.own x []) h) { peaks = ps })
-          (raised_is f s x h (f.leaf x) classes (peaks h) i.objects ∙ o.peaked);
+          (raised_is f s x h (f.leaf x) classes (peaks h) i.sound.objects ∙ o.peaked);
     }
 
 pub paid_at : (f : Frame) (s : Slots) (x : ℕ) (l : world.Leaf) → IsSlots s → IsBalanced s.trades.trading.memory.ledger

@@ -175,14 +175,14 @@ long_put s (InObject k) v there long =
     record { own = long.own; slots = λ j t. slots_long ss k (with_object (session_in ss k) v) j t (long.slots k there) long.slots }
 
 -- each slot stays where something else stands in one, and its leaf is the same
-taken_set : (ss : List (Option Session)) (k : ℕ) (v : Session) (j : ℕ) → IsTaken ss j → IsTaken (set ss k (Some v)) j
+pub taken_set : (ss : List (Option Session)) (k : ℕ) (v : Session) (j : ℕ) → IsTaken ss j → IsTaken (set ss k (Some v)) j
 taken_set [] k v j t = t
 taken_set (o ∷ ss) zero v zero t = refl
 taken_set (o ∷ ss) zero v (suc j) t = t
 taken_set (o ∷ ss) (suc k) v zero t = t
 taken_set (o ∷ ss) (suc k) v (suc j) t = taken_set ss k v j t
 
-server_set : (ss : List (Option Session)) (k : ℕ) (v : Session) (j : ℕ) → v.server ≡ (session_in ss k).server
+pub server_set : (ss : List (Option Session)) (k : ℕ) (v : Session) (j : ℕ) → v.server ≡ (session_in ss k).server
     → (session_in (set ss k (Some v)) j).server ≡ (session_in ss j).server
 server_set [] k v j e = refl
 server_set (o ∷ ss) zero v zero e = e

@@ -26,7 +26,7 @@ use Rattle.gq_slots.proofs.Spots.{back, front}
 
 -- LISTS
 
-get_set : {A : Type 0} (xs : List A) (x : ℕ) (a : A) → x < length xs → slice_get (set xs x a) x ≡ Some a
+pub get_set : {A : Type 0} (xs : List A) (x : ℕ) (a : A) → x < length xs → slice_get (set xs x a) x ≡ Some a
 get_set [] x a lt = absurd (omega (arith, lt))
 get_set (b ∷ xs) zero a lt = refl
 get_set (b ∷ xs) (suc x) a lt = get_set xs x a (omega (arith, lt))
@@ -48,7 +48,7 @@ get_map f [] i d lt = absurd (omega (arith, lt))
 get_map f (a ∷ xs) zero d lt = refl
 get_map f (a ∷ xs) (suc i) d lt = get_map f xs i d (omega (arith, lt))
 
-set_there : {A : Type 0} (xs : List A) (x : ℕ) (a : A) → slice_get xs x ≡ Some a → set xs x a ≡ xs
+pub set_there : {A : Type 0} (xs : List A) (x : ℕ) (a : A) → slice_get xs x ≡ Some a → set xs x a ≡ xs
 set_there [] x a e = refl
 set_there (b ∷ xs) zero a e = let f : b ≡ a = cc in ap (λ c. c ∷ xs) (sym f)
 set_there (b ∷ xs) (suc x) a e = ap (λ ys. b ∷ ys) (set_there xs x a e)
@@ -58,7 +58,7 @@ there_below [] x a e = cc
 there_below (b ∷ xs) zero a e = omega arith
 there_below (b ∷ xs) (suc x) a e = let lt = there_below xs x a e in omega (arith, lt)
 
-some_same : {A : Type 0} (a b : A) → Some a ≡ Some b → a ≡ b
+pub some_same : {A : Type 0} (a b : A) → Some a ≡ Some b → a ≡ b
 some_same a b e = cc
 
 -- THINGS THAT READ AS BEFORE

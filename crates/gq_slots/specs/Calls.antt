@@ -1,13 +1,19 @@
 -- What a call on a slot changes.
-use Rattle.std.specs.Prelude.{◌≡◌, ℕ, [], ◌∷◌, ◌++◌, Option, Some, None}
+use Rattle.std.specs.Prelude.{◌≡◌, ℕ, suc, true, List, [], ◌∷◌, ◌++◌, replicate, Option, Some, None}
 use Rattle.gq_tariff.specs.declared.amount.Amount.{Amount}
 use Rattle.gq_model.specs.machine.Amounts.{plus}
 use Rattle.gq_model.specs.machine.Requests.{add_session, free_place}
+use Rattle.gq_model.specs.declared.program.Form.TheVariants as form
 use Rattle.gq_model.specs.machine.World as world
+use Rattle.gq_model.specs.machine.Step as step
+use Rattle.gq_requests.specs.declared.requests.Ask.{Ask}
+use Rattle.gq_requests.specs.declared.requests.Ask.TheVariants.{Open, Upgrade, Close, Call}
+use Rattle.gq_requests.specs.declared.requests.Request.{Request}
+use Rattle.gq_requests.specs.Seen.{request_seen}
 use Rattle.gq_ram.specs.Entries.{account_at}
 use Rattle.gq_sessions.specs.declared.session.Spot.{Spot}
 use Rattle.gq_sessions.specs.Seen.{spot_seen}
-use Rattle.gq_sessions.specs.Trading.{Trading}
+use Rattle.gq_sessions.specs.Trading.{Trading, Accepts, object_size}
 use Rattle.gq_trade.specs.Trades.{with_trading}
 use Rattle.gq_slots.specs.Slots.{Slots, Frame, IsSpot, holder, settled_in, world_seen}
 
@@ -60,3 +66,30 @@ more_for w k n (Some q) = world.with_session w k (record q { donation = plus q.d
 -- so much more is given for the session k, and its request to upgrade is behind all others
 abbrev pub upgrading : world.World → ℕ → Amount → world.World
 upgrading w k n = asking (more_for w k n (world.session_at w k)) k world.Ask_upgrade
+
+-- WHAT A REQUEST BEGINS
+
+-- an open makes an object of n bytes, an upgrade raises the level
+abbrev pub begun : Ask → ℕ → world.Session → world.Session
+begun Open n q = record q { accepted = true; object = world.Bytes form.Slice n (replicate n 0) }
+begun Upgrade n q = record q { level = suc q.level }
+begun Close n q = q
+begun (Call a) n q = q
+
+abbrev pub begun_at : world.World → ℕ → Ask → ℕ → Option world.Session → world.World
+begun_at w k a n None = w
+begun_at w k a n (Some q) = world.with_session w k (begun a n q)
+
+-- a request of the session k, whose object has n bytes, is at hand, and these are left
+abbrev pub accepting : world.World → ℕ → Ask → ℕ → List world.Request → world.World
+accepting w k a n rest = begun_at (record w { requests = rest }) k a n (world.session_at w k)
+
+-- The oldest request to the leaf x is at hand, and what it asks for has begun.
+pub record TakesOldest (old new : Slots) (x : ℕ) (r : Request) : Type 0 where
+  pub accepts : Accepts old.trades.trading new.trades.trading x r
+  pub oldest : (f : Frame) → step.oldest (world_seen f old) x (world_seen f old).requests ≡ Some (request_seen r, (world_seen f new).requests)
+  pub seen_so : (f : Frame) → world_seen f new
+      ≡ accepting (world_seen f old) r.session r.ask (object_size old.trades.trading r.session) (world_seen f new).requests
+  pub nodes : new.trades.nodes ≡ old.trades.nodes
+  pub spots : (q : Spot) → IsSpot old q → IsSpot new q
+  pub holders : (q : Spot) → holder new q ≡ holder old q

@@ -1,7 +1,7 @@
 // What every slot of a scenario holds, in the memory of the leaf that pays for it.
 ghost use Rattle.std.specs.Prelude.{◌≡◌, ℕ, ◌+◌, ◌<◌, ◌≤◌, ◌*◌, ◌%◌, ◌↔◌, [], ◌∷◌, length, get_or, slice_index, slice_range, replicate, Some, None, true};
 ghost use Rattle.std.specs.Prelude.{false, IsTrue};
-ghost use Rattle.std.specs.Prelude.{IfOk, IfSome, OnOk, OnErr, IsErrOf};
+ghost use Rattle.std.specs.Prelude.{IfOk, IfNone, IfSome, OnOk, OnErr, IsErrOf};
 ghost use Rattle.gq_tariff.specs.Prices.{up};
 ghost use Rattle.gq_model.specs.declared.program.Form.TheVariants as form;
 ghost use Rattle.gq_model.specs.machine.Program.{little, spelled};
@@ -16,17 +16,20 @@ ghost use Rattle.gq_model.specs.machine.Requests.{new_session};
 ghost use Rattle.gq_numbered.specs.Numbers.{IsTaken, free_number};
 ghost use Rattle.gq_ram.specs.Entries.{available, available_caps};
 ghost use Rattle.gq_requests.specs.declared.requests.Ask.TheVariants as ask;
-ghost use Rattle.gq_sessions.specs.Trading.{account_no, asked, client_of, fresh, its_account, server_of, upgraded, with_ask, with_memory};
+ghost use Rattle.gq_requests.specs.Queues.{oldest_to};
+ghost use Rattle.gq_sessions.specs.Trading.{IsOfOldest, LacksBytes, LacksCaps, account_no, asked, client_of, fresh, its_account, server_of, session_at};
+ghost use Rattle.gq_sessions.specs.Trading.{upgraded, with_ask, with_memory};
 ghost use Rattle.gq_trade.specs.Waiting.{IsIdle};
 ghost use Rattle.gq_trade.specs.Plans.{IsFirst, IsPlan};
 ghost use Rattle.gq_trade.specs.Trades.{IsLive, IsTrades, with_trading};
 ghost use Rattle.gq_slots.specs.Slots.{AreNew, ArePaidFor, Frame, IsHeapOf, IsMark, IsPaidBy, IsSlot, IsSpot, holder, memory_of, slot_of, thing_at};
 ghost use Rattle.gq_slots.specs.Slots.{world_seen};
-ghost use Rattle.gq_slots.specs.Calls.{Puts, Settles, asking, opening, upgrading, with_trades};
+ghost use Rattle.gq_slots.specs.Calls.{Puts, Settles, TakesOldest, asking, opening, upgrading, with_trades};
 
 use crate::places::{clear, fill, replace};
 use gq_heap::Heap;
 use gq_ram::AccountFault;
+use gq_requests::Request;
 use gq_sessions::Spot;
 use gq_store::GrowFault;
 use gq_tariff::Amount;
@@ -489,6 +492,28 @@ impl Slots {
     {
         let _own = &self.own;
         self.trades.ask_close(session);
+    }
+
+    /// Takes the oldest request to a server, if there is one. A request to open makes the session's object, a slice which its server pays for and which
+    /// reads 0; one to upgrade raises the level.
+    ///
+    /// Refused as `Exceeded` where the object's bytes can't be paid, else as `CapsExceeded` where the server has no capability left; then nothing
+    /// changes.
+    pub fn accept(&mut self, server: usize) -> Result<Option<Request>, GrowFault>
+        requires server { IsLive self.old.trades server }
+        requires level { IfSome (oldest_to server self.old.trades.trading.requests)
+            (λ p. p.0.ask ≡ ask.Upgrade → (session_at self.old.trades.trading p.0.session).level < 3) }
+        ensures none { IfOk result (λ o. IfNone o ((oldest_to server self.old.trades.trading.requests ≡ None) × (self.new ≡ self.old))) }
+        ensures some { IfOk result (λ o. IfSome o (λ r. TakesOldest self.old self.new server r)) }
+        ensures unchanged { OnErr result (self.new ≡ self.old) }
+        ensures exceeded { IsErrOf result GrowFault.Exceeded
+            ↔ IsOfOldest (oldest_to server self.old.trades.trading.requests) (λ r. LacksBytes r.ask self.old.trades.trading r.session) }
+        ensures caps_exceeded { IsErrOf result GrowFault.CapsExceeded
+            ↔ IsOfOldest (oldest_to server self.old.trades.trading.requests) (λ r. LacksCaps r.ask self.old.trades.trading r.session) }
+    {
+        let _own = &self.own;
+        self.trades.laws();
+        self.trades.accept(server)
     }
 
     /// The sessions with the accounts.

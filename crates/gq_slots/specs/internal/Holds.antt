@@ -7,12 +7,15 @@ use Rattle.gq_store.specs.Store.{plus_caps}
 use Rattle.gq_heap.specs.declared.heap.Heap.{Heap}
 use Rattle.gq_heap.specs.Heap.{peaks}
 use Rattle.gq_numbered.specs.Numbers.{IsTaken}
+use Rattle.gq_requests.specs.declared.requests.Ask.{Ask}
+use Rattle.gq_requests.specs.declared.requests.Ask.TheVariants.{Open, Upgrade, Close, Call}
+use Rattle.gq_requests.specs.declared.requests.Request.{Request}
 use Rattle.gq_things.specs.declared.thing.Thing.{Thing}
 use Rattle.gq_things.specs.declared.thing.Thing.TheVariants.{Empty, Block, Slice, Space, Pool, Link, Waiting}
 use Rattle.gq_things.specs.Kept.{Keeps}
 use Rattle.gq_things.specs.Paid.{cost, places_used, raised_by}
 use Rattle.gq_sessions.specs.declared.session.Session.{Session}
-use Rattle.gq_sessions.specs.Trading.{its_account, session_at}
+use Rattle.gq_sessions.specs.Trading.{Trading, its_account, session_at, session_in}
 use Rattle.gq_slots.specs.Slots.{Slots, memory_of}
 
 -- WHAT A LEAF PAYS FOR
@@ -68,9 +71,24 @@ AreObjects [] = Unit {0}
 AreObjects (None ∷ ss) = AreObjects ss
 AreObjects (Some s ∷ ss) = IsObject s.object × AreObjects ss
 
+-- of a session whose request to open waits there is no object yet
+abbrev pub IsUnmade : Ask → Thing → Type 0
+IsUnmade Open t = t ≡ Empty
+IsUnmade Upgrade t = Unit {0}
+IsUnmade Close t = Unit {0}
+IsUnmade (Call n) t = Unit {0}
+
+abbrev pub AreUnmade : List (Option Session) → List Request → Type 0
+AreUnmade ss [] = Unit {0}
+AreUnmade ss (r ∷ rs) = IsUnmade r.ask (session_in ss r.session).object × AreUnmade ss rs
+
+pub record AreSound (w : Trading) : Type 0 where
+  pub objects : AreObjects w.sessions
+  pub unmade : AreUnmade w.sessions w.requests
+
 pub record IsSlots (s : Slots) : Type 0 where
   pub count : length s.own ≡ length s.trades.trading.leaves
   pub heaps : length s.heaps ≡ length s.trades.trading.leaves
   pub long : AreLong s
-  pub objects : AreObjects s.trades.trading.sessions
+  pub sound : AreSound s.trades.trading
   pub holders : (x : ℕ) (h : Heap) → x < length s.own → IsHolder s x (get_or s.heaps x h)

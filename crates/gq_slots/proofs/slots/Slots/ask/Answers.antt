@@ -23,7 +23,7 @@ invariant_of-self c =
     kept_or_not c.ask-asked.result s c.ask-asked.new.self
     (asked s.trades.trading (fresh c.args.client c.args.spot c.args.server c.args.service c.args.donation)) c.ask-asked.ensures.asked
     c.ask-asked.ensures.unchanged c.self.invariant
-    (λ ok. opened_kept s c.args.client c.args.spot c.args.server c.args.service c.args.donation c.self.invariant co vo b
+    (λ ok. opened_kept s c.args.client c.args.spot c.args.server c.args.service c.args.donation l.trading.requests c.self.invariant co vo b
     (subst (λ y. IsBalanced y.trading.memory.ledger) ok d))
 
 pub returns-clause-world : goal.returns-clause-world

@@ -1,8 +1,16 @@
+use Rattle.std.proofs.Common.{sym, subst}
 use Rattle.gq_requests.specs.declared.requests.Ask.TheVariants as ask
 use Rattle.gq_slots.specs.Slots.{Slots}
-use Rattle.gq_slots.proofs.Asking.{asked_world}
+use Rattle.gq_slots.specs.internal.Holds.{IsSlots}
+use Rattle.gq_slots.proofs.Answering.{of_parts}
+use Rattle.gq_slots.proofs.Asking.{asked_kept, asked_world}
 use Rattle.gq_slots.proofs.Inside.{slots_of}
 use Rattle.gq_slots.proofs.slots.Slots.ask_call.Goals as goal
+
+pub invariant_of-self : goal.invariant_of-self
+invariant_of-self c =
+    let s : Slots = slots_of c.self.inside in
+    subst (λ y. IsSlots (of_parts y s.own s.heaps)) (sym c.ask_call.ensures) (asked_kept s c.args.session (ask.Call c.args.value) (λ t. tt) c.self.invariant)
 
 pub returns-clause-world : goal.returns-clause-world
 returns-clause-world c f =

@@ -65,7 +65,7 @@ returns c =
     c.as_slice-2.ensures.value ∙ c.in_ok-handed.ensures ∙ ap (map handed) c.as_slice.ensures.value in
     let es = c.hand_out.new.accounts.accounts in
     subst (λ (y : Trading). IsFirst c.args.total c.args.caps a.parents.items a.nodes.items a.leaves.items a.objects.items c.args.room
-        (record { trading = y; nodes = a.nodes.items })) (sym c.in_ok-sessions.ensures)
+    (record { trading = y; nodes = a.nodes.items })) (sym c.in_ok-sessions.ensures)
     (record {
       nodes = refl;
       parents = c.in_ok-tree.ensures.parents;
@@ -75,11 +75,11 @@ returns c =
       room = refl;
       requests = refl;
       unused = λ i lt. ap (λ (l : Ledger). (account_at l.accounts (number tree i)).used) lm ∙ e.used (number tree i)
-        ∙ unused_at c.args.total c.args.caps a.parents.items a.nodes.items a.leaves.items a.objects.items c.requires.plan tree
-        c.in_ok-tree.ensures.parents c.as_slice-2.result.now hp c.in_ok-accounts.accounts c.in_ok-accounts.ensures
-        c.open.new.accounts.accounts c.in_ok-tree.ensures.opened i
-        (omega (arith, lt, ap length c.in_ok-tree.ensures.parents));
+          ∙ unused_at c.args.total c.args.caps a.parents.items a.nodes.items a.leaves.items a.objects.items c.requires.plan tree
+          c.in_ok-tree.ensures.parents c.as_slice-2.result.now hp c.in_ok-accounts.accounts c.in_ok-accounts.ensures
+          c.open.new.accounts.accounts c.in_ok-tree.ensures.opened i
+          (omega (arith, lt, ap length c.in_ok-tree.ensures.parents));
       ledger = lm ∙ e.same ∙ ap (λ (l : Ledger). with_accounts l es) (c.in_ok-tree.ensures.same)
-        ∙ ap (λ (l : Ledger). with_accounts l es) c.in_ok-accounts.ensures
-        ∙ ap (λ (l : Ledger). with_accounts (first_ledger c.args.total c.args.caps) l.accounts) (sym lm);
+          ∙ ap (λ (l : Ledger). with_accounts l es) c.in_ok-accounts.ensures
+          ∙ ap (λ (l : Ledger). with_accounts (first_ledger c.args.total c.args.caps) l.accounts) (sym lm);
     })
