@@ -1,6 +1,7 @@
 -- What a leaf keeps, where its slots are others that hold the same, and another memory has the same bytes.
 use Rattle.std.proofs.Common.{◌≡◌, ℕ, zero, suc, ◌+◌, ◌-◌, ◌≤◌, Bool, true, false, cond, eqb, List, [], ◌∷◌, ◌++◌, replicate, Some, None, refl, sym, ap}
 use Rattle.std.proofs.Common.{subst, ◌∙◌, arith}
+use Rattle.std.proofs.lemmas.Bool.Decides.{nat_tests}
 use Rattle.gq_tariff.specs.Prices.{classes}
 use Rattle.gq_model.specs.machine.Amounts.{Resource, Ram, Caps}
 use Rattle.gq_store.specs.Store.{Store, SameChunk, plus_caps}
@@ -8,7 +9,8 @@ use Rattle.gq_heap.specs.declared.heap.Heap.{Heap}
 use Rattle.gq_heap.specs.Counts.{times}
 use Rattle.gq_heap.specs.Heap.{peaks}
 use Rattle.gq_heap.proofs.Callers.{heap_stays}
-use Rattle.gq_ram.specs.Ledgers.{IsBalanced}
+use Rattle.gq_ram.specs.Entries.{account_at}
+use Rattle.gq_ram.specs.Ledgers.{IsBalanced, Ledger}
 use Rattle.gq_things.specs.declared.thing.Thing.{Thing}
 use Rattle.gq_things.specs.declared.thing.Thing.TheVariants.{Empty}
 use Rattle.gq_things.specs.Things.{chunks, places}
@@ -72,11 +74,26 @@ alike_one ts = record {
   used_is = λ st c. omega arith;
 }
 
+alike_less : (ts : List Thing) → Alike (Empty ∷ ts) ts
+alike_less ts = record {
+  chunks_same = refl;
+  places_same = λ st. refl;
+  are = λ st a. a.1;
+  cost_is = λ r st. omega arith;
+  used_is = λ st c. omega arith;
+}
+
 -- more slots, which are empty
 pub alike_more : (n : ℕ) (ts : List Thing) → Alike ts (replicate n Empty ++ ts)
 alike_more zero ts = alike ts
 alike_more (suc n) ts =
     alike_then ts (replicate n Empty ++ ts) (Empty ∷ (replicate n Empty ++ ts)) (alike_more n ts) (alike_one (replicate n Empty ++ ts))
+
+-- fewer of them
+pub alike_fewer : (n : ℕ) (ts : List Thing) → Alike (replicate n Empty ++ ts) ts
+alike_fewer zero ts = alike ts
+alike_fewer (suc n) ts =
+    alike_then (Empty ∷ (replicate n Empty ++ ts)) (replicate n Empty ++ ts) ts (alike_less (replicate n Empty ++ ts)) (alike_fewer n ts)
 
 -- WHAT IS KEPT
 
@@ -106,19 +123,32 @@ keeps_alike h st ts us a k = record {
   once = λ x. subst (λ cs. times x cs ≤ 1) (sym a.chunks_same) (k.once x);
 }
 
+-- what an account uses is within its quota, of capabilities where they are counted
+pub record IsWithin (l : Ledger) (a : ℕ) : Type 0 where
+  pub ram : (account_at l.accounts a).used.ram ≤ (account_at l.accounts a).quota.ram
+  pub caps : (l.price ≡ 0 → ⊥) → (account_at l.accounts a).used.caps ≤ (account_at l.accounts a).quota.caps
+
+pub within : (l : Ledger) (a : ℕ) → IsBalanced l → IsWithin l a
+within l a b = record { ram = b.within a; caps = λ ne. b.caps_within a }
+
+counts : (price : ℕ) → eqb price 0 ≡ false → price ≡ 0 → ⊥
+counts price e f = grind (arith, nat_tests, e, f)
+
 -- quota that changes, of capabilities
-caps_then : (b : Bool) (used old new held : ℕ) → used ≤ old → used ≤ new → plus_caps held (cond b None (Some (old - used))) ≡ cond b None (Some old)
+caps_then : (b : Bool) (used old new held : ℕ) → (b ≡ false → used ≤ old) → (b ≡ false → used ≤ new)
+    → plus_caps held (cond b None (Some (old - used))) ≡ cond b None (Some old)
     → plus_caps held (cond b None (Some (new - used))) ≡ cond b None (Some new)
 caps_then true used old new held a c e = refl
 caps_then false used old new held a c e =
     let f : old - used + held ≡ old = cc in
-    let g : new - used + held ≡ new = omega (arith, f, a, c) in
+    let g : new - used + held ≡ new = omega (arith, f, a refl, c refl) in
     ap Some g
 
 module _ (s n : Slots) (x : ℕ) (h : Heap) (same : (k : ℕ) → SameChunk (memory_of s x) (memory_of n x) k) (a : Alike (things s x) (things n x))
     (used : (its_account n.trades.trading x).used ≡ (its_account s.trades.trading x).used)
-    (price : n.trades.trading.memory.ledger.price ≡ s.trades.trading.memory.ledger.price) (b : IsBalanced s.trades.trading.memory.ledger)
-    (d : IsBalanced n.trades.trading.memory.ledger) (i : IsHolder s x h) where
+    (price : n.trades.trading.memory.ledger.price ≡ s.trades.trading.memory.ledger.price)
+    (b : IsWithin s.trades.trading.memory.ledger (account_of s.trades.trading x))
+    (d : IsWithin n.trades.trading.memory.ledger (account_of n.trades.trading x)) (i : IsHolder s x h) where
   on : KeepsOn h (memory_of s x) (memory_of n x) (things s x)
   on = keeps_on h (memory_of s x) (memory_of n x) (things s x) same i.keeps
 
@@ -131,9 +161,6 @@ module _ (s n : Slots) (x : ℕ) (h : Heap) (same : (k : ℕ) → SameChunk (mem
   used_same : (c : ℕ) → places_used (memory_of n x) (things n x) c ≡ places_used (memory_of s x) (things s x) c
   used_same c = a.used_is (memory_of n x) c ∙ counts_same c (memory_of s x) (memory_of n x) (things s x) on.seen
 
-  abbrev old_account : ℕ
-  old_account = account_of s.trades.trading x
-
   caps_same : plus_caps (held_by Caps n x h) (memory_of n x).caps ≡ counted n.trades.trading.memory.ledger.price (its_account n.trades.trading x).quota.caps
   caps_same =
       let p = s.trades.trading.memory.ledger.price in
@@ -141,8 +168,8 @@ module _ (s n : Slots) (x : ℕ) (h : Heap) (same : (k : ℕ) → SameChunk (mem
       let q = (its_account s.trades.trading x).quota.caps in
       let m = (its_account n.trades.trading x).quota.caps in
       let v = ap (λ y. y.caps) used in
-      let le : u ≤ m = subst (λ y. y ≤ m) v (d.caps_within (account_of n.trades.trading x)) in
-      let now = caps_then (eqb p 0) u q m (held_by Caps s x h) (b.caps_within (account_of s.trades.trading x)) le i.caps in
+      let le : eqb p 0 ≡ false → u ≤ m = λ e. subst (λ y. y ≤ m) v (d.caps (λ z. counts p e (sym price ∙ z))) in
+      let now = caps_then (eqb p 0) u q m (held_by Caps s x h) (λ e. b.caps (counts p e)) le i.caps in
       (λ k. plus_caps (held_same Caps k) (cond (eqb (price k) 0) None (Some (m - v k)))) ∙ now ∙ (λ k. cond (eqb (sym price k) 0) None (Some m))
 
   pub holder_alike : IsHolder n x h
@@ -150,7 +177,7 @@ module _ (s n : Slots) (x : ℕ) (h : Heap) (same : (k : ℕ) → SameChunk (mem
     keeps = keeps_alike h (memory_of n x) (things s x) (things n x) a on.keeps;
     ram =
         let v = ap (λ y. y.ram) used in
-        omega (arith, v, held_same Ram, i.ram, b.within (account_of s.trades.trading x), d.within (account_of n.trades.trading x));
+        omega (arith, v, held_same Ram, i.ram, b.ram, d.ram);
     caps = caps_same;
     peaked = (λ k. raised_by (λ c. used_same c k) classes (peaks h)) ∙ i.peaked;
   }

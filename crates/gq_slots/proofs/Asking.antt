@@ -35,7 +35,7 @@ use Rattle.gq_slots.specs.internal.Holds.{AreObjects, AreUnmade, IsSlots, IsUnma
 use Rattle.gq_slots.proofs.Spots.{session_same, slots_long}
 use Rattle.gq_slots.proofs.Worlds.{session_there}
 use Rattle.gq_slots.proofs.Answering.{of_parts, sound_set}
-use Rattle.gq_slots.proofs.Alike.{Alike, alike, alike_behind, alike_is, alike_more, holder_alike}
+use Rattle.gq_slots.proofs.Alike.{Alike, alike, alike_behind, alike_is, alike_more, holder_alike, within}
 
 -- THE WORLD
 
@@ -70,7 +70,7 @@ leaves_same leaf old new (ts ∷ own) (h ∷ hs) e =
     let f = leaves_same (λ y. leaf (suc y)) (λ y. old (suc y)) (λ y. new (suc y)) own hs (λ y t. e (suc y) t) in
     λ k. record (leaf 0) { slots = map (λ t. e 0 t k) ts; peaks = peaks h } ∷ f k
 
-leaves_donated : (f : Frame) (s : Slots) (es : Entries)
+pub leaves_donated : (f : Frame) (s : Slots) (es : Entries)
     → leaves_seen f.leaf (λ y. store_at (with_accounts s.trades.trading.memory.ledger es) (account_of s.trades.trading y)) s.own s.heaps
     ≡ (world_seen f s).leaves
 leaves_donated f s es =
@@ -225,7 +225,8 @@ opened_kept s c p v e n of i co vo b d =
       };
       holders = λ x h lt. holder_alike s m x (get_or s.heaps x h) (λ k. record { size = refl; bytes = λ j. refl })
           (alike_behind (get_or s.own x []) (session_things x t.sessions) (session_things x (added q t.sessions)) (alike_added x c p v e n t.sessions))
-          (used_kept t.memory.ledger.accounts (account_of t c) (account_of t v) n (account_of t x) co vo) refl b d (i.holders x h lt);
+          (used_kept t.memory.ledger.accounts (account_of t c) (account_of t v) n (account_of t x) co vo) refl
+          (within t.memory.ledger (account_of t x) b) (within m.trades.trading.memory.ledger (account_of t x) d) (i.holders x h lt);
     }
 
 pub upgraded_kept : (s : Slots) (k : ℕ) (n : Amount) → IsTaken s.trades.trading.sessions k → IsSlots s
@@ -250,7 +251,8 @@ upgraded_kept s k n there i co vo b d =
           (alike_behind (get_or s.own x []) (session_things x t.sessions) (session_things x (set t.sessions k (Some (with_more q n))))
           (alike_is (session_things x t.sessions) (session_things x (set t.sessions k (Some (with_more q n))))
           (session_same x k t.sessions (with_more q n) there refl)))
-          (used_kept t.memory.ledger.accounts (account_of t q.client) (account_of t q.server) n (account_of t x) co vo) refl b d (i.holders x h lt);
+          (used_kept t.memory.ledger.accounts (account_of t q.client) (account_of t q.server) n (account_of t x) co vo) refl
+          (within t.memory.ledger (account_of t x) b) (within m.trades.trading.memory.ledger (account_of t x) d) (i.holders x h lt);
     }
 
 -- AS THE CONTRACTS SAY IT

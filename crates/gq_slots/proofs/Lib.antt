@@ -13,3 +13,4 @@ pub mod Asking
 pub mod Marks
 pub mod Again
 pub mod Accepting
+pub mod Closing

@@ -41,7 +41,7 @@ taken_below (o ∷ ss) zero t = omega arith
 taken_below (o ∷ ss) (suc k) t = let lt = taken_below ss k t in omega (arith, lt)
 
 -- the session k among the others
-session_split : (x k : ℕ) (ss : List (Option Session)) (v : Session) → k < length ss
+pub session_split : (x k : ℕ) (ss : List (Option Session)) (v : Session) → k < length ss
     → session_things x (set ss k (Some v)) ≡ session_things x (take k ss) ++ (things_of x v ++ session_things x (drop (suc k) ss))
 session_split x k [] v lt = absurd (omega (arith, lt))
 session_split x zero (o ∷ ss) v lt = refl

@@ -1,5 +1,5 @@
 -- What a call on a slot changes.
-use Rattle.std.specs.Prelude.{◌≡◌, ℕ, suc, true, List, [], ◌∷◌, ◌++◌, replicate, Option, Some, None}
+use Rattle.std.specs.Prelude.{◌≡◌, ℕ, suc, true, List, [], ◌∷◌, ◌++◌, replicate, slice_set, Option, Some, None}
 use Rattle.gq_tariff.specs.declared.amount.Amount.{Amount}
 use Rattle.gq_model.specs.machine.Amounts.{plus}
 use Rattle.gq_model.specs.machine.Requests.{add_session, free_place}
@@ -12,8 +12,9 @@ use Rattle.gq_requests.specs.declared.requests.Request.{Request}
 use Rattle.gq_requests.specs.Seen.{request_seen}
 use Rattle.gq_ram.specs.Entries.{account_at}
 use Rattle.gq_sessions.specs.declared.session.Spot.{Spot}
+use Rattle.gq_sessions.specs.declared.session.Spot.TheVariants.{InLeaf, InSession, InObject}
 use Rattle.gq_sessions.specs.Seen.{spot_seen}
-use Rattle.gq_sessions.specs.Trading.{Trading, Accepts, object_size}
+use Rattle.gq_sessions.specs.Trading.{Trading, Accepts, Closes, object_size}
 use Rattle.gq_trade.specs.Trades.{with_trading}
 use Rattle.gq_slots.specs.Slots.{Slots, Frame, IsSpot, holder, settled_in, world_seen}
 
@@ -93,3 +94,24 @@ pub record TakesOldest (old new : Slots) (x : ℕ) (r : Request) : Type 0 where
   pub nodes : new.trades.nodes ≡ old.trades.nodes
   pub spots : (q : Spot) → IsSpot old q → IsSpot new q
   pub holders : (q : Spot) → holder new q ≡ holder old q
+
+-- SESSIONS THAT END
+
+-- the session k is there no more
+abbrev pub ending : world.World → ℕ → world.World
+ending w k = record w { sessions = slice_set w.sessions k None }
+
+-- it is no slot of the session k, and not its object
+abbrev pub IsBeside : ℕ → Spot → Type 0
+IsBeside k (InLeaf x i) = Unit {0}
+IsBeside k (InSession j i) = j ≡ k → ⊥
+IsBeside k (InObject j) = j ≡ k → ⊥
+
+-- What was given for the session k is its client's again, and the machine's world has the session no more; all else of it is as before, whatever the
+-- leaves do.
+pub record EndsSession (old new : Slots) (k : ℕ) : Type 0 where
+  pub closes : Closes old.trades.trading new.trades.trading k
+  pub seen_so : (f : Frame) → world_seen f new ≡ ending (world_seen f old) k
+  pub nodes : new.trades.nodes ≡ old.trades.nodes
+  pub spots : (q : Spot) → IsBeside k q → IsSpot old q → IsSpot new q
+  pub holders : (q : Spot) → IsBeside k q → holder new q ≡ holder old q

@@ -18,13 +18,14 @@ ghost use Rattle.gq_ram.specs.Entries.{available, available_caps};
 ghost use Rattle.gq_requests.specs.declared.requests.Ask.TheVariants as ask;
 ghost use Rattle.gq_requests.specs.Queues.{oldest_to};
 ghost use Rattle.gq_sessions.specs.Trading.{IsOfOldest, LacksBytes, LacksCaps, account_no, asked, client_of, fresh, its_account, server_of, session_at};
-ghost use Rattle.gq_sessions.specs.Trading.{upgraded, with_ask, with_memory};
+ghost use Rattle.gq_sessions.specs.Trading.{AreOfOthers, bytes_then, caps_then, upgraded, with_ask, with_memory};
+ghost use Rattle.gq_sessions.specs.declared.session.Spot.TheVariants.{InObject, InSession};
 ghost use Rattle.gq_trade.specs.Waiting.{IsIdle};
 ghost use Rattle.gq_trade.specs.Plans.{IsFirst, IsPlan};
 ghost use Rattle.gq_trade.specs.Trades.{IsLive, IsTrades, with_trading};
 ghost use Rattle.gq_slots.specs.Slots.{AreNew, ArePaidFor, Frame, IsHeapOf, IsMark, IsPaidBy, IsSlot, IsSpot, holder, memory_of, slot_of, thing_at};
 ghost use Rattle.gq_slots.specs.Slots.{world_seen};
-ghost use Rattle.gq_slots.specs.Calls.{Puts, Settles, TakesOldest, asking, opening, upgrading, with_trades};
+ghost use Rattle.gq_slots.specs.Calls.{EndsSession, Puts, Settles, TakesOldest, asking, opening, upgrading, with_trades};
 
 use crate::places::{clear, fill, replace};
 use gq_heap::Heap;
@@ -514,6 +515,34 @@ impl Slots {
         let _own = &self.own;
         self.trades.laws();
         self.trades.accept(server)
+    }
+
+    /// Ends a session at the reply to its close: its object is free, what was given for it goes back to its client, through every init on the way, and
+    /// its number is free. Its slots are empty, and no request of it waits.
+    ///
+    /// Refused as `Exceeded` where its server could not pay the bytes back even then, else as `CapsExceeded` where it could not pay the
+    /// capabilities back; then nothing changes.
+    pub fn closed(&mut self, session: usize) -> Result<(), AccountFault>
+        requires there { IsTaken self.old.trades.trading.sessions session }
+        requires object { thing_at self.old (InObject session) ≡ thing.Empty → ⊥ }
+        requires empty { (i : ℕ) → i < 8 → thing_at self.old (InSession session i) ≡ thing.Empty }
+        requires none_waits { AreOfOthers session self.old.trades.trading.requests }
+        ensures ends { OnOk result (EndsSession self.old self.new session) }
+        ensures unchanged { OnErr result (self.new ≡ self.old) }
+        ensures exceeded { IsErrOf result AccountFault.Exceeded
+            ↔ (bytes_then self.old.trades.trading session < (session_at self.old.trades.trading session).donation.ram) }
+        ensures caps_exceeded { IsErrOf result AccountFault.CapsExceeded
+            ↔ (((session_at self.old.trades.trading session).donation.ram ≤ bytes_then self.old.trades.trading session)
+            × (caps_then self.old.trades.trading session < (session_at self.old.trades.trading session).donation.caps)) }
+        ensures only { OnErr result ((session_at self.old.trades.trading session).donation.ram ≤ bytes_then self.old.trades.trading session
+            → caps_then self.old.trades.trading session < (session_at self.old.trades.trading session).donation.caps) }
+    {
+        let _own = &self.own;
+        self.trades.laws();
+        self.trades.memory().accounts().laws();
+        let closed = self.trades.closed(session);
+        self.trades.memory().accounts().laws();
+        closed
     }
 
     /// The sessions with the accounts.
