@@ -61,10 +61,11 @@ none_taken zero t = cc
 none_taken (suc k) t = cc
 
 -- an empty leaf x, whose heap is new, with nothing in use
-module _ (s : Slots) (x : ℕ) (h : Heap) (own : get_or s.own x [] ≡ replicate 64 Empty) (none : s.trades.trading.sessions ≡ []) (new : IsNew h)
+module _ (s : Slots) (x : ℕ) (h : Heap) (own : get_or s.own x [] ≡ replicate 64 Empty) (none : session_things x s.trades.trading.sessions ≡ [])
+    (new : IsNew h)
     (unused : (its_account s.trades.trading x).used ≡ no_amount) where
   things_are : things s x ≡ replicate 64 Empty
-  things_are = (λ k. own k ++ session_things x (none k)) ∙ append-nil (replicate 64 Empty)
+  things_are = (λ k. own k ++ none k) ∙ append-nil (replicate 64 Empty)
 
   held_none : (r : Resource) → held_by r s x h ≡ 0
   held_none r =
@@ -100,6 +101,6 @@ first_slots total caps ps ns xs os n s plan first own new =
         objects = subst AreObjects (sym first.sessions) tt;
         unmade = subst (AreUnmade s.trades.trading.sessions) (sym first.requests) tt;
       };
-      holders = λ x h lt. holder_first s x (get_or s.heaps x h) (bank x lt) first.sessions (new.each x h (omega (arith, lt, count)))
+      holders = λ x h lt. holder_first s x (get_or s.heaps x h) (bank x lt) (ap (session_things x) first.sessions) (new.each x h (omega (arith, lt, count)))
           (first.unused (node_of s.trades.trading x) (subst (λ ys. get_or ys x 0 < length ps) (sym first.leaves) (plan.within x (omega (arith, lt, count)))));
     }

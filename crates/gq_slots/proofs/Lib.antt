@@ -14,3 +14,4 @@ pub mod Marks
 pub mod Again
 pub mod Accepting
 pub mod Closing
+pub mod Ending

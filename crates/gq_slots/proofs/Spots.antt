@@ -53,7 +53,7 @@ session_split x (suc k) (Some t ∷ ss) v lt =
 things_own : (x : ℕ) (s : Session) → s.server ≡ x → things_of x s ≡ s.object ∷ s.slots
 things_own x s e = let b : eqb s.server x ≡ true = grind (arith, nat_tests, e) in ap (λ c. cond c (s.object ∷ s.slots) []) b
 
-things_none : (x : ℕ) (s : Session) → (s.server ≡ x → ⊥) → things_of x s ≡ []
+pub things_none : (x : ℕ) (s : Session) → (s.server ≡ x → ⊥) → things_of x s ≡ []
 things_none x s ne = let b : eqb s.server x ≡ false = grind (arith, nat_tests, ne) in ap (λ c. cond c (s.object ∷ s.slots) []) b
 
 -- a thing in the middle of a list

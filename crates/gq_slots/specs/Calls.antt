@@ -1,5 +1,5 @@
 -- What a call on a slot changes.
-use Rattle.std.specs.Prelude.{◌≡◌, ℕ, suc, true, List, [], ◌∷◌, ◌++◌, replicate, slice_set, Option, Some, None}
+use Rattle.std.specs.Prelude.{◌≡◌, ℕ, suc, true, List, [], ◌∷◌, ◌++◌, replicate, slice_get, slice_set, Option, Some, None}
 use Rattle.gq_tariff.specs.declared.amount.Amount.{Amount}
 use Rattle.gq_model.specs.machine.Amounts.{plus}
 use Rattle.gq_model.specs.machine.Requests.{add_session, free_place}
@@ -15,6 +15,7 @@ use Rattle.gq_sessions.specs.declared.session.Spot.{Spot}
 use Rattle.gq_sessions.specs.declared.session.Spot.TheVariants.{InLeaf, InSession, InObject}
 use Rattle.gq_sessions.specs.Seen.{spot_seen}
 use Rattle.gq_sessions.specs.Trading.{Trading, Accepts, Closes, object_size}
+use Rattle.gq_trade.specs.Ends.{Ends}
 use Rattle.gq_trade.specs.Trades.{with_trading}
 use Rattle.gq_slots.specs.Slots.{Slots, Frame, IsSpot, holder, settled_in, world_seen}
 
@@ -115,3 +116,25 @@ pub record EndsSession (old new : Slots) (k : ℕ) : Type 0 where
   pub nodes : new.trades.nodes ≡ old.trades.nodes
   pub spots : (q : Spot) → IsBeside k q → IsSpot old q → IsSpot new q
   pub holders : (q : Spot) → IsBeside k q → holder new q ≡ holder old q
+
+-- LEAVES THAT END
+
+-- a leaf that holds nothing
+abbrev pub bare : world.Leaf → world.Leaf
+bare leaf = record leaf { slots = replicate 64 world.Empty; peaks = replicate 8 0 }
+
+abbrev pub bare_in : world.World → ℕ → Option world.Leaf → world.World
+bare_in w x None = w
+bare_in w x (Some leaf) = world.with_leaf w x (bare leaf)
+
+-- the leaf x holds nothing
+abbrev pub emptied : world.World → ℕ → world.World
+emptied w x = bare_in w x (slice_get w.leaves x)
+
+-- The account of the leaf x is closed, and the node that starts after it has its quantum. In the machine's world the leaf holds nothing, and all else is as
+-- before, whatever the leaves do.
+pub record EndsLeaf (old new : Slots) (x : ℕ) : Type 0 where
+  pub ends : Ends old.trades new.trades x
+  pub seen_so : (f : Frame) → world_seen f new ≡ emptied (world_seen f old) x
+  pub spots : (q : Spot) → IsSpot old q → IsSpot new q
+  pub holders : (q : Spot) → holder new q ≡ holder old q

@@ -20,14 +20,15 @@ ghost use Rattle.gq_requests.specs.Queues.{oldest_to};
 ghost use Rattle.gq_sessions.specs.Trading.{IsOfOldest, LacksBytes, LacksCaps, account_no, asked, client_of, fresh, its_account, server_of, session_at};
 ghost use Rattle.gq_sessions.specs.Trading.{AreOfOthers, bytes_then, caps_then, upgraded, with_ask, with_memory};
 ghost use Rattle.gq_sessions.specs.declared.session.Spot.TheVariants.{InObject, InSession};
+ghost use Rattle.gq_trade.specs.Ends.{HasNoSessions};
 ghost use Rattle.gq_trade.specs.Waiting.{IsIdle};
 ghost use Rattle.gq_trade.specs.Plans.{IsFirst, IsPlan};
 ghost use Rattle.gq_trade.specs.Trades.{IsLive, IsTrades, with_trading};
 ghost use Rattle.gq_slots.specs.Slots.{AreNew, ArePaidFor, Frame, IsHeapOf, IsMark, IsPaidBy, IsSlot, IsSpot, holder, memory_of, slot_of, thing_at};
 ghost use Rattle.gq_slots.specs.Slots.{world_seen};
-ghost use Rattle.gq_slots.specs.Calls.{EndsSession, Puts, Settles, TakesOldest, asking, opening, upgrading, with_trades};
+ghost use Rattle.gq_slots.specs.Calls.{EndsLeaf, EndsSession, Puts, Settles, TakesOldest, asking, opening, upgrading, with_trades};
 
-use crate::places::{clear, fill, replace};
+use crate::places::{clear, clear_all, fill, replace};
 use gq_heap::Heap;
 use gq_ram::AccountFault;
 use gq_requests::Request;
@@ -543,6 +544,21 @@ impl Slots {
         let closed = self.trades.closed(session);
         self.trades.memory().accounts().laws();
         closed
+    }
+
+    /// Ends a leaf from which and to which there is no session: its slots are empty, its account is closed with all that it has in memory, and its quota of
+    /// both kinds goes to its init. A node that starts after it has its quantum from now on. The root's account pays.
+    pub fn end(&mut self, leaf: usize)
+        requires leaf { IsLive self.old.trades leaf }
+        requires alone { HasNoSessions self.old.trades.trading leaf }
+        ensures { EndsLeaf self.old self.new leaf }
+    {
+        self.trades.laws();
+        self.trades.memory().accounts().laws();
+        self.trades.end(leaf);
+        self.trades.memory().accounts().laws();
+        clear_all(&mut self.own, leaf);
+        self.heaps[leaf] = Heap::new();
     }
 
     /// The sessions with the accounts.
