@@ -231,6 +231,14 @@ def others(benchmark):
         row(f"{name}, entries of 16 bytes", f"{took[name]:.0f} ns")
 
 
+def sessions(benchmark):
+    """Sessions from the ask to the close, beside others."""
+    table("Others that are open", "A session", "Two replies")
+    for count in [1, 100, 10000]:
+        took = medians([benchmark, "sessions", 100000, count])
+        row(count, f"{took['session']:.0f} ns", f"{took['two replies']:.0f} ns")
+
+
 def main():
     benchmark, trade = sys.argv[1], sys.argv[2]
     programs(benchmark, trade)
@@ -240,6 +248,7 @@ def main():
     frames(benchmark)
     blocks(benchmark)
     others(benchmark)
+    sessions(benchmark)
 
 
 if __name__ == "__main__":

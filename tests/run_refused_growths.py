@@ -25,7 +25,7 @@ SOME_CASES = "code-run", "check-two-leaves", "check-client-and-server", "check-t
 SOURCE = TOP / "tests" / "refuse_growth.c"
 SECONDS = 120
 REFUSED = b"", b"trade: host memory refused\n", 3
-SOME_WORKS = "words 1", "heap 1 64", "slices 1 64", "pool 1 64"
+SOME_WORKS = "words 1", "heap 1 64", "slices 1 64", "pool 1 64", "sessions 1 1"
 
 
 def built(room):

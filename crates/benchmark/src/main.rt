@@ -7,7 +7,8 @@
 //!   before; and the numbers in a `Vec`;
 //! - `frames`: frames that are taken and given back, and what is made for 64 MiB;
 //! - `heap` and `list`: blocks of SIZE bytes of the heap, and of the kit's heap with a list of holes;
-//! - `slices` and `pool`: slices of SIZE bytes, and the entries of a pool.
+//! - `slices` and `pool`: slices of SIZE bytes, and the entries of a pool;
+//! - `sessions`: sessions between two leaves, from the ask to the close, while SIZE others are open.
 //!
 //! What the work gives is told on standard output. On standard error stands a line for each thing that was measured: its name, how often it was done,
 //! and the nanoseconds in all.
@@ -19,6 +20,7 @@ mod heaps;
 mod lists;
 mod pools;
 mod programs;
+mod sessions;
 mod timing;
 mod words;
 
@@ -41,6 +43,7 @@ enum Work {
     List,
     Slices,
     Pool,
+    Sessions,
 }
 
 impl Work {
@@ -58,6 +61,7 @@ impl Work {
             "list" => Some(Work::List),
             "slices" => Some(Work::Slices),
             "pool" => Some(Work::Pool),
+            "sessions" => Some(Work::Sessions),
             _ => None,
         }
     }
@@ -96,6 +100,7 @@ fn measured(rt: &HostRuntime) -> Result<(), Fault> {
         Work::List => lists::measured(rt, times, size)?,
         Work::Slices => pools::slices(rt, times, size)?,
         Work::Pool => pools::entries(rt, times)?,
+        Work::Sessions => sessions::measured(rt, times, size)?,
     };
     writeln!(rt.stdout(), "{given}")?;
     Ok(())
