@@ -12,7 +12,7 @@ def may_be_wide(name, line):
 
 
 def main():
-    listed = subprocess.run(["git", "ls-files", "*.rt", "*.antt", "*.md"], check=True, stdout=subprocess.PIPE, text=True)
+    listed = subprocess.run(["git", "ls-files", "--cached", "--others", "--exclude-standard", "*.rt", "*.antt", "*.md"], check=True, stdout=subprocess.PIPE, text=True)
     for name in listed.stdout.splitlines():
         with open(name, encoding="utf-8", errors="replace") as lines:
             for number, line in enumerate(lines, 1):

@@ -16,7 +16,7 @@ use Rattle.gq_things.specs.Things.{seen}
 use Rattle.gq_sessions.specs.declared.session.Session.{Session}
 use Rattle.gq_sessions.specs.declared.session.Spot.TheVariants.{InLeaf}
 use Rattle.gq_sessions.specs.Trading as trading
-use Rattle.gq_sessions.specs.Trading.{Accepts, AreOfOthers, Begins, Trading, asked, fresh, opened, session_at, session_in, with_ask, with_requests, with_session}
+use Rattle.gq_sessions.specs.Trading.{Accepts, Begins, Trading, asked, fresh, opened, session_at, session_in, with_ask, with_requests, with_session}
 use Rattle.gq_trade.specs.Waiting.{IsIdle, clients_in, AreOther}
 use Rattle.gq_tariff.specs.declared.amount.Amount.{Amount}
 use Rattle.gq_trade.specs.Balances.{node_at}
