@@ -1,9 +1,9 @@
 -- Blocks whose places are kept in a list, the last one made at its end.
-use Rattle.std.proofs.Common.{◌≡◌, ℕ, List, [], ◌∷◌, ◌++◌, append_assoc, append-nil, refl, sym, ap, subst, ◌∙◌}
+use Rattle.std.proofs.Common.{ℕ, List, [], ◌∷◌, ◌++◌, append_assoc, append-nil, refl, sym}
 use Rattle.gq_store.specs.Store.{Store}
 use Rattle.gq_heap.specs.declared.heap.Heap.{Heap}
 use Rattle.gq_heap.specs.declared.heap.Place.{Place}
-use Rattle.gq_heap.specs.Heap.{Keeps, Inserts, AreInUse, Allocates, Frees}
+use Rattle.gq_heap.specs.Heap.{AreInUse, Allocates, Frees}
 use Rattle.gq_heap.proofs.Callers.{fewer_in_use}
 
 pub last_made : (before after : Heap) (old new : Store) (n : ℕ) (p : Place) (places : List Place) → AreInUse before old places

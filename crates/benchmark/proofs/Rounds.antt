@@ -1,5 +1,5 @@
 -- What holds of the two leaves and their sessions after each call.
-use Rattle.std.proofs.Common.{◌≡◌, ℕ, zero, suc, ◌<◌, ◌≤◌, eqb, true, false, List, [], ◌∷◌, ◌++◌, length, length-set, set, get_or, replicate, if◌then◌else◌}
+use Rattle.std.proofs.Common.{◌≡◌, ℕ, suc, ◌<◌, ◌≤◌, eqb, List, [], ◌∷◌, ◌++◌, length, length-set, set, get_or, replicate, if◌then◌else◌}
 use Rattle.std.proofs.Common.{Option, Some, None, IfSome, refl, sym, ap, subst, ◌∙◌, arith}
 use Rattle.std.proofs.lemmas.List.{get_or-replicate}
 use Rattle.gq_numbered.specs.Numbers.{IsTaken, added, free_number}
@@ -7,7 +7,7 @@ use Rattle.gq_model.specs.declared.program.Form.TheVariants as form
 use Rattle.gq_model.specs.machine.World as world
 use Rattle.gq_store.specs.Store.{Store}
 use Rattle.gq_requests.specs.declared.requests.Ask.{Ask}
-use Rattle.gq_requests.specs.declared.requests.Ask.TheVariants.{Open, Upgrade, Close, Call}
+use Rattle.gq_requests.specs.declared.requests.Ask.TheVariants.{Open, Upgrade}
 use Rattle.gq_requests.specs.declared.requests.Request.{Request}
 use Rattle.gq_requests.specs.Queues.{kept_before, oldest_to}
 use Rattle.gq_things.specs.declared.thing.Thing.{Thing}
@@ -25,7 +25,7 @@ use Rattle.gq_slots.specs.Slots.{Slots}
 use Rattle.gq_slots.specs.Calls.{TakesOldest, with_trades}
 use Rattle.gq_slots.proofs.Again.{session_put, set_again}
 use Rattle.gq_slots.proofs.Spots.{taken_set}
-use Rattle.benchmark.specs.Rounds.{Calls, CanClose, Closes, HasRoom, IsCalm, Opens, sessions_of}
+use Rattle.benchmark.specs.Rounds.{CanClose, IsCalm, Opens, sessions_of}
 
 -- NUMBERS
 

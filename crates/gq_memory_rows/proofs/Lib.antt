@@ -1,3 +1,4 @@
 pub mod Lines
 pub mod Markets
 pub mod Plans
+pub mod Serves

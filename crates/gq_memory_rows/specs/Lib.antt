@@ -1,2 +1,3 @@
 pub mod Markets
 pub mod Stays
+pub mod Serves

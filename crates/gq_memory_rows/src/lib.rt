@@ -2,6 +2,8 @@
 #![tactic(auto)]
 
 #[cfg(test)]
+mod buffers_rows;
+#[cfg(test)]
 mod dataspace_rows;
 #[cfg(test)]
 mod heap_rows;

@@ -140,6 +140,7 @@ labelled_world f s k l b there =
 record Began (s n : Slots) (k : ℕ) (a : Ask) (m : ℕ) (rest : List Request) : Type 0 where
   kept : IsSlots n
   seen_so : (f : Frame) → world_seen f n ≡ accepting (world_seen f s) k a m (map request_seen rest)
+  leaves : n.trades.trading.leaves ≡ s.trades.trading.leaves
   spots : (q : Spot) → IsSpot s q → IsSpot n q
   holders : (q : Spot) → holder n q ≡ holder s q
 
@@ -192,6 +193,7 @@ module _ (s : Slots) (k m : ℕ) (rest : List Request) (i : IsSlots s) (there : 
               (session_there (λ y. session_seen f.names (memory_of s y.server) y) s.trades.trading.sessions k there) z;
           requests = map request_seen rest;
         }));
+    leaves = refl;
     spots = spots_so s (with_requests s.trades.trading rest) (λ j t. t);
     holders = holders_so s (with_requests s.trades.trading rest) (λ j. refl);
   }
@@ -210,6 +212,7 @@ module _ (s : Slots) (k m : ℕ) (rest : List Request) (i : IsSlots s) (there : 
             ∙ (λ z. world.with_session (record (world_seen f s) { requests = map request_seen rest }) k
             (record (its_session f s k) { level = level_more q.level z }))
             ∙ sym (begun_is f s k Upgrade m rest there);
+        leaves = refl;
         spots = spots_so s v (λ j t. taken_set s.trades.trading.sessions k (raised q) j t);
         holders = holders_so s v (λ j. server_set s.trades.trading.sessions k (raised q) j refl);
       }
@@ -375,6 +378,7 @@ module _ (s : Slots) (v : Trading) (k : ℕ) (rest : List Request) (i : IsSlots 
           requests = w0.requests;
         })
         ∙ sym (begun_is f s k Open m rest there);
+    leaves = refl;
     spots = λ y l. spots_so made (with_session made.trades.trading k (labelled (session_at made.trades.trading k) q.level true))
         (λ j t. taken_set made.trades.trading.sessions k (labelled (session_at made.trades.trading k) q.level true) j t) y
         (made_puts.rest.spots y (spots_so s t0 (λ j t. t) y l));
@@ -436,6 +440,7 @@ takes_oldest s v x r t w i e a =
       oldest = λ f. oldest_is (world_seen f s) x s.trades.trading.requests (served f s s.trades.trading.requests w.requests) ∙ ap taken_seen a.oldest;
       seen_so = d.seen_so;
       nodes = refl;
+      leaves = d.leaves;
       spots = d.spots;
       holders = d.holders;
     })

@@ -332,6 +332,7 @@ module _ (s : Slots) (v : Trading) (k : ℕ) (i : IsSlots s) (w : IsTrading s.tr
     closes = record { between = m; frees = c.frees; is = refl };
     seen_so = world_then;
     nodes = refl;
+    leaves = refl;
     spots = spots_left s k ended.trades.trading refl;
     holders = holders_left s k ended.trades.trading refl;
   }

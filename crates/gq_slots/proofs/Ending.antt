@@ -304,6 +304,7 @@ leaf_ends z s v own hs x h q i t w b live alone e new f g =
     let same = same_slots s v own hs x h l.is f g in
     subst (λ y. EndsLeaf y (of_parts v own hs) x) q (record {
       ends = e;
+      leaves = ap (λ (y : Slots). y.trades.trading.leaves) same;
       seen_so = λ k. ap (world_seen k) same ∙ world_bare s x h v i w live.there alone new l k;
       spots = λ p lt. subst (λ y. IsSpot y p) (sym same) (spots_stay s x h v i w live.there alone new l p lt);
       holders = λ p. ap (λ y. holder y p) same ∙ holders_stay s x h v i w live.there alone new l p;

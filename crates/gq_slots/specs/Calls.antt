@@ -93,6 +93,7 @@ pub record TakesOldest (old new : Slots) (x : ℕ) (r : Request) : Type 0 where
   pub seen_so : (f : Frame) → world_seen f new
       ≡ accepting (world_seen f old) r.session r.ask (object_size old.trades.trading r.session) (world_seen f new).requests
   pub nodes : new.trades.nodes ≡ old.trades.nodes
+  pub leaves : new.trades.trading.leaves ≡ old.trades.trading.leaves
   pub spots : (q : Spot) → IsSpot old q → IsSpot new q
   pub holders : (q : Spot) → holder new q ≡ holder old q
 
@@ -114,6 +115,7 @@ pub record EndsSession (old new : Slots) (k : ℕ) : Type 0 where
   pub closes : Closes old.trades.trading new.trades.trading k
   pub seen_so : (f : Frame) → world_seen f new ≡ ending (world_seen f old) k
   pub nodes : new.trades.nodes ≡ old.trades.nodes
+  pub leaves : new.trades.trading.leaves ≡ old.trades.trading.leaves
   pub spots : (q : Spot) → IsBeside k q → IsSpot old q → IsSpot new q
   pub holders : (q : Spot) → IsBeside k q → holder new q ≡ holder old q
 
@@ -136,5 +138,6 @@ emptied w x = bare_in w x (slice_get w.leaves x)
 pub record EndsLeaf (old new : Slots) (x : ℕ) : Type 0 where
   pub ends : Ends old.trades new.trades x
   pub seen_so : (f : Frame) → world_seen f new ≡ emptied (world_seen f old) x
+  pub leaves : new.trades.trading.leaves ≡ old.trades.trading.leaves
   pub spots : (q : Spot) → IsSpot old q → IsSpot new q
   pub holders : (q : Spot) → holder new q ≡ holder old q

@@ -1,4 +1,4 @@
-use Rattle.std.proofs.Common.{◌≡◌, [], ◌∷◌, ◌++◌, List, refl, sym, subst, append-nil}
+use Rattle.std.proofs.Common.{[], ◌∷◌, ◌++◌, List, refl, sym, subst, append-nil}
 use Rattle.gq_heap.specs.declared.heap.Place.{Place}
 use Rattle.gq_heap.specs.Heap.{AreInUse}
 use Rattle.gq_heap.proofs.Callers.{one_in_use}

@@ -1,4 +1,4 @@
-use Rattle.std.proofs.Common.{◌≡◌, ℕ, Some, length, set, ap, ◌∙◌}
+use Rattle.std.proofs.Common.{Some, length, ap, ◌∙◌}
 use Rattle.gq_tariff.specs.Prices.{up}
 use Rattle.gq_pages.specs.Bytes.{zeros}
 use Rattle.gq_dataspace.specs.Dataspaces.{Contents, content_of}

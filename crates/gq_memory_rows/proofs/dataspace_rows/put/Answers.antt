@@ -1,4 +1,4 @@
-use Rattle.std.proofs.Common.{◌≡◌, ◌+◌, ◌<◌, ℕ, List, Some, length, set, arith, ap, ◌∙◌}
+use Rattle.std.proofs.Common.{◌<◌, ℕ, List, Some, length, arith, ap, ◌∙◌}
 use Rattle.std.specs.Int.{w32, to_le_bytes}
 use Rattle.gq_pages.specs.Bytes.{with_bytes}
 use Rattle.gq_dataspace.specs.Dataspaces.{Contents, content_of}

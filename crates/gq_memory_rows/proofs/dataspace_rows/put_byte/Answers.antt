@@ -1,4 +1,4 @@
-use Rattle.std.proofs.Common.{◌≡◌, ◌+◌, ◌<◌, ℕ, List, Some, length, set, arith, ap, ◌∙◌, length-set}
+use Rattle.std.proofs.Common.{◌<◌, ℕ, List, Some, length, set, arith, ap, ◌∙◌, length-set}
 use Rattle.gq_dataspace.specs.Dataspaces.{Contents, content_of}
 use Rattle.gq_dataspace.proofs.Callers.{content_there, content_set}
 use Rattle.gq_dataspace.proofs.Callers.{content_other}

@@ -1,0 +1,112 @@
+// A buffer that a server shares with its client.
+ghost use Rattle.std.specs.Prelude.{◌≡◌, IfOk, IfSome, IsTrue};
+ghost use Rattle.gq_memory_rows.specs.Serves.{IsMarket, Serves};
+
+use crate::trade_rows::live;
+use gq_addresses::Addresses;
+use gq_sessions::Spot;
+use gq_slots::Slots;
+use gq_tariff::Amount;
+use gq_things::Thing;
+use gq_trade::Plan;
+use std::alloc::{AllocError, Global};
+use std::test::Fail;
+
+// A server without a quantum, and a client with three pages. A session's object has no bytes.
+fn market(alloc: Global) -> Result<Slots, AllocError>
+    ensures { IfOk result (λ s. IsMarket s) }
+{
+    let plan = Plan {
+        parents: vec![in alloc; 0, 0, 0]?,
+        nodes: vec![in alloc; live(65536, 0), live(0, 0), live(12288, 0)]?,
+        leaves: vec![in alloc; 1, 2]?,
+        objects: vec![in alloc; 0]?,
+    };
+    Slots::new(alloc, 65536, None, plan, 24)
+}
+
+// Opens a session with two pages, and tells its number.
+fn opened(slots: &mut Slots) -> Option<usize>
+    requires { IsMarket slots.old }
+    ensures { IfSome result (λ k. Serves slots.new k) }
+{
+    let amount = Amount { ram: 8192, caps: 0 };
+    let Ok(session) = slots.ask(1, Spot::InLeaf(1, 0), 0, 0, amount) else {
+        return None;
+    };
+    match slots.accept(0) {
+        Ok(Some(_)) => Some(session),
+        Ok(None) | Err(_) => None,
+    }
+}
+
+// The server makes a space in the first slot of a session, unless something is there, and says whether it did.
+fn make_buffer(slots: &mut Slots, session: usize) -> bool
+    requires { Serves slots.old session }
+    ensures { IsTrue result → Serves slots.new session }
+{
+    let buffer = Spot::InSession(session, 0);
+    slots.pay_by(0);
+    if !slots.thing(buffer).is_empty() {
+        return false;
+    }
+    match slots.make_space(buffer, 16) {
+        Ok(()) => true,
+        Err(_) => false,
+    }
+}
+
+// The client's slot is a link to its session from now on, unless it holds memory. Says whether it is.
+fn link(slots: &mut Slots, session: usize) -> bool
+    requires { Serves slots.old session }
+    ensures { IsTrue result → Serves slots.new session }
+{
+    let slot = Spot::InLeaf(1, 0);
+    match slots.thing(slot) {
+        Thing::Empty | Thing::Link(_) | Thing::Waiting(_) => {
+            slots.mark(slot, Thing::Link(session as u32));
+            true
+        }
+        _ => false,
+    }
+}
+
+// The client writes to its address 3, and says whether a byte lies there.
+fn write(slots: &mut Slots, addresses: &Addresses, session: usize, value: u8) -> bool
+    requires { Serves slots.old session }
+    ensures { IsTrue result → Serves slots.new session }
+{
+    slots.pay_by(1);
+    match slots.thing(Spot::InLeaf(1, 0)) {
+        Thing::Link(other) if other as usize == session => { addresses.store(slots, 1, 3, value) }
+        _ => false,
+    }
+}
+
+// What the server reads in the byte 3 of its buffer.
+fn read(slots: &mut Slots, session: usize) -> Option<u8>
+    requires { Serves slots.old session }
+{
+    let buffer = Spot::InSession(session, 0);
+    slots.pay_by(0);
+    if slots.thing(buffer).size() > 3 {
+        Some(slots.load(buffer, 3))
+    } else {
+        None
+    }
+}
+
+#[test]
+fn shares_a_buffer(rt: HostRuntime) -> Result<(), Fail> {
+    let mut slots = market(rt.alloc())?;
+    let addresses = Addresses::new(vec![in rt.alloc(); 16]?);
+    let Some(session) = opened(&mut slots) else {
+        panic!(rt; "not opened");
+    };
+    assert!(rt; make_buffer(&mut slots, session));
+    assert!(rt; link(&mut slots, session));
+    assert!(rt; write(&mut slots, &addresses, session, 77));
+    assert_eq!(rt; read(&mut slots, session), Some(77));
+    assert_eq!(rt; slots.trades().free_pages(), 14);
+    Ok(())
+}
