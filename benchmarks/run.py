@@ -237,6 +237,10 @@ def sessions(benchmark):
     for count in [1, 100, 10000]:
         took = medians([benchmark, "sessions", 100000, count])
         row(count, f"{took['session']:.0f} ns", f"{took['two replies']:.0f} ns")
+    took = medians([benchmark, "accesses", 1000000])
+    table("A byte of a space", "Time")
+    for name in ["byte by slot", "byte by address"]:
+        row(name, f"{took[name]:.1f} ns")
 
 
 def main():

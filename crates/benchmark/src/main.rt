@@ -8,12 +8,14 @@
 //! - `frames`: frames that are taken and given back, and what is made for 64 MiB;
 //! - `heap` and `list`: blocks of SIZE bytes of the heap, and of the kit's heap with a list of holes;
 //! - `slices` and `pool`: slices of SIZE bytes, and the entries of a pool;
+//! - `accesses`: bytes of a space, by its slot and by their addresses;
 //! - `sessions`: sessions between two leaves, from the ask to the close, while SIZE others are open.
 //!
 //! What the work gives is told on standard output. On standard error stands a line for each thing that was measured: its name, how often it was done,
 //! and the nanoseconds in all.
 #![tactic(auto)]
 
+mod accesses;
 mod fault;
 mod frames;
 mod heaps;
@@ -44,6 +46,7 @@ enum Work {
     Slices,
     Pool,
     Sessions,
+    Accesses,
 }
 
 impl Work {
@@ -62,6 +65,7 @@ impl Work {
             "slices" => Some(Work::Slices),
             "pool" => Some(Work::Pool),
             "sessions" => Some(Work::Sessions),
+            "accesses" => Some(Work::Accesses),
             _ => None,
         }
     }
@@ -101,6 +105,7 @@ fn measured(rt: &HostRuntime) -> Result<(), Fault> {
         Work::Slices => pools::slices(rt, times, size)?,
         Work::Pool => pools::entries(rt, times)?,
         Work::Sessions => sessions::measured(rt, times, size)?,
+        Work::Accesses => accesses::measured(rt, times)?,
     };
     writeln!(rt.stdout(), "{given}")?;
     Ok(())

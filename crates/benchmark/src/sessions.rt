@@ -42,7 +42,7 @@ pub fn measured(rt: &HostRuntime, times: u32, open: u32) -> Result<usize, Fault>
 }
 
 // Two leaves, of which the first serves the second. A session's object has 100 bytes.
-fn market(alloc: Global) -> Result<Slots, AllocError>
+pub fn market(alloc: Global) -> Result<Slots, AllocError>
     ensures { IfOk result (λ s. HasRoom 0 s) }
 {
     let plan = Plan {
