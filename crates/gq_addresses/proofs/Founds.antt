@@ -22,7 +22,7 @@ use Rattle.gq_addresses.specs.Addresses.{AreFound, AreThere, byte_of, bytes_behi
 use Rattle.gq_addresses.specs.Addresses.{put_slot, put_there}
 
 -- it has as many bytes as it says
-length_seen : (st : Store) (t : Thing) → length (bytes_in (seen st t)) ≡ size_of t
+pub length_seen : (st : Store) (t : Thing) → length (bytes_in (seen st t)) ≡ size_of t
 length_seen st Empty = refl
 length_seen st (Block p n) = length-listed n _
 length_seen st (Slice k n) = length-listed n _

@@ -85,8 +85,8 @@ impl Addresses {
         }
     }
 
-    // The bytes of the buffer of a service.
-    fn buffer(&self, service: usize) -> u32
+    /// The bytes of the buffer of a service, 0 where it shares none.
+    pub fn buffer(&self, service: usize) -> u32
         ensures { result ≡ get_or self.now service 0 }
     {
         match self.buffers.get(service) {

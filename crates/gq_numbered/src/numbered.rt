@@ -54,6 +54,13 @@ impl<T: Copy> Numbered<T> {
         number
     }
 
+    /// What holds of all values: no more numbers have been used than there is room for. It does nothing.
+    pub fn laws(&self)
+        ensures { length self.now.values ≤ self.now.room }
+    {
+        let _places = &self.places;
+    }
+
     /// The value of a number that is taken.
     pub fn get(&self, number: usize) -> T
         requires { IsTaken self.now.values number }

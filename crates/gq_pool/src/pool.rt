@@ -53,6 +53,20 @@ impl Pool {
         })
     }
 
+    /// The bytes of an entry.
+    pub fn size(&self) -> u32
+        ensures { result ≡ self.now.size }
+    {
+        self.size
+    }
+
+    /// How many entries there are, absent or there.
+    pub fn count(&self) -> u32
+        ensures { result ≡ self.now.count }
+    {
+        self.count
+    }
+
     /// Adds the entry, whose bytes read 0, and says whether it did: not where it was there.
     ///
     /// Refused as `Exceeded` where the heap's charge must rise by more than can be paid, else as `CapsExceeded` where it must rise and there is no

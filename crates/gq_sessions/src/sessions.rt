@@ -362,11 +362,13 @@ impl Sessions {
     }
 
     /// What holds in every `Sessions`: the nodes and their accounts stand in a tree, client and server of each session are two of the leaves, and each
-    /// request is of a session that is there. It does nothing.
+    /// request is of a session that is there; and no more numbers of sessions have been used than there is room for. It does nothing.
     pub fn laws(&self)
-        ensures { IsTrading self.now }
+        ensures trading { IsTrading self.now }
+        ensures numbers { length self.now.sessions ≤ self.now.room }
     {
         let _leaves = &self.leaves;
+        self.sessions.laws();
     }
 
     /// The memory of all accounts.

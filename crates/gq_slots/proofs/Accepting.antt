@@ -93,7 +93,7 @@ fewer_kept s rs u i = record {
   sound = record { objects = i.sound.objects; unmade = u };
   holders = λ x h lt.
       let o = i.holders x h lt in
-      record { keeps = o.keeps; ram = o.ram; caps = o.caps; peaked = o.peaked };
+      record { keeps = o.keeps; ram = o.ram; caps = o.caps; peaked = o.peaked; eight = o.eight };
 }
 
 -- a session at another level, and accepted or not
@@ -311,6 +311,7 @@ module _ (s : Slots) (v : Trading) (k : ℕ) (rest : List Request) (i : IsSlots 
             (slice_object (store_at v.memory.ledger (account_of s.trades.trading x)) o.object m (replicate m 0) o.makes.seen);
         unmade = unmade_other s.trades.trading.sessions k (with_object (session_at s.trades.trading k) o.object) rest alone u;
       }) (stays_raised fewer v.memory (InObject k) h h Empty o.object fewer_slots fewer_trading below call_here (λ c. omega (arith, no_places c)))
+      (λ e. e)
 
   made_puts : Puts fewer made (InObject k) (world.Bytes form.Slice m (replicate m 0))
   made_puts =

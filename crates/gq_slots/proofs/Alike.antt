@@ -180,4 +180,5 @@ module _ (s n : Slots) (x : ℕ) (h : Heap) (same : (k : ℕ) → SameChunk (mem
         omega (arith, v, held_same Ram, i.ram, b.ram, d.ram);
     caps = caps_same;
     peaked = (λ k. raised_by (λ c. used_same c k) classes (peaks h)) ∙ i.peaked;
+    eight = i.eight;
   }

@@ -30,7 +30,7 @@ use Rattle.gq_slots.specs.internal.Put.{put, with_object, put_own, put_trading, 
 use Rattle.gq_slots.proofs.Spots.{back, front, put_same, split_now}
 use Rattle.gq_slots.proofs.Changing.{IsCall, around, others_stay, same_quotas, kept_then, puts_then, settles_then, stays_raised, spot_with, long_with}
 use Rattle.gq_slots.proofs.Facts.{pays_none}
-use Rattle.gq_slots.proofs.Sums.{raised_again}
+use Rattle.gq_slots.proofs.Sums.{raised_again, raised_long}
 
 -- what the account that pays has
 abbrev pub paying : Trades → Store
@@ -232,7 +232,7 @@ module _ (s : Slots) (v : Trades) (p : Spot) (h g : Heap) (t u : Thing) (slot : 
   pub kept_same : peaks g ≡ peaks h → ((k : ℕ) → slot_places k slot ≤ slot_places k (slot_of s p)) → IsSlots n
   kept_same same le =
       subst IsSlots (sym is) (kept_then s v.trading.memory p h g t u a.kept w a.there the_call (sound g)
-      (ap (raised_by in_use classes) same ∙ stays_so le ∙ sym same))
+      (ap (raised_by in_use classes) same ∙ stays_so le ∙ sym same) (λ e. ap length same ∙ e))
 
   pub puts_same : peaks g ≡ peaks h → Puts s n p slot
   puts_same same =
@@ -242,7 +242,8 @@ module _ (s : Slots) (v : Trades) (p : Spot) (h g : Heap) (t u : Thing) (slot : 
   pub kept_raised : raised_by in_use classes (peaks h) ≡ peaks g → IsSlots n
   kept_raised e =
       subst IsSlots (sym is) (kept_then s v.trading.memory p h g t u a.kept w a.there the_call (sound g)
-      (ap (raised_by in_use classes) (sym e) ∙ raised_again in_use classes (peaks h) ∙ e))
+      (ap (raised_by in_use classes) (sym e) ∙ raised_again in_use classes (peaks h) ∙ e)
+      (λ z. sym (ap length e) ∙ raised_long in_use classes (peaks h) z))
 
   pub settles_raised : raised_by in_use classes (peaks h) ≡ peaks g → Settles s n p slot
   settles_raised e =

@@ -203,7 +203,7 @@ asked_kept s k a none i =
       };
       holders = λ x h lt.
           let o = i.holders x h lt in
-          record { keeps = o.keeps; ram = o.ram; caps = o.caps; peaked = o.peaked };
+          record { keeps = o.keeps; ram = o.ram; caps = o.caps; peaked = o.peaked; eight = o.eight };
     }
 
 pub opened_kept : (s : Slots) (c : ℕ) (p : Spot) (v e : ℕ) (n : Amount) → AreOf s.trades.trading.sessions s.trades.trading.requests

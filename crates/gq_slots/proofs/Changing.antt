@@ -98,6 +98,7 @@ holder_same s v x h st ts q p i = record {
       ∙ ap (λ a. counted v.trades.trading.memory.ledger.price a.caps) (sym q);
   peaked = ap (λ a. raised_by (places_used a (things v x)) classes (peaks h)) st ∙ ap (λ a. raised_by (places_used (memory_of s x) a) classes (peaks h)) ts
       ∙ i.peaked;
+  eight = i.eight;
 }
 
 -- what stands in a slot bears on no account
@@ -239,7 +240,8 @@ module _ (s : Slots) (m : Memory) (p : Spot) (before after : Heap) (t u : Thing)
       (ap (λ a. a.quota) (put_account (with_store s m x after) p u y) ∙ quota_same (account_of s.trades.trading y)) price_then (i.holders y h lt)
 
   module _ (sound : AreSound then_.trades.trading)
-      (peaked : raised_by (places_used new (front s p ++ u ∷ back s p)) classes (peaks after) ≡ peaks after) where
+      (peaked : raised_by (places_used new (front s p ++ u ∷ back s p)) classes (peaks after) ≡ peaks after)
+      (eight : length (peaks before) ≡ 8 → length (peaks after) ≡ 8) where
     its_holder : IsHolder then_ x after
     its_holder = record {
       keeps = subst (λ a. Keeps after a (things then_ x)) (sym memory_then) (subst (Keeps after new) (sym things_then) beside.keeps);
@@ -247,6 +249,7 @@ module _ (s : Slots) (m : Memory) (p : Spot) (before after : Heap) (t u : Thing)
       caps = caps_then;
       peaked = ap (λ a. raised_by (places_used a (things then_ x)) classes (peaks after)) memory_then
           ∙ ap (λ a. raised_by (places_used new a) classes (peaks after)) things_then ∙ peaked;
+      eight = eight now.eight;
     }
 
     holder_at : (y : ℕ) (h : Heap) (b : Bool) → eqb y x ≡ b → y < length s.own → IsHolder then_ y (get_or then_.heaps y h)

@@ -273,7 +273,7 @@ module _ (s : Slots) (v : Trading) (k : ℕ) (i : IsSlots s) (w : IsTrading s.tr
       subst IsSlots freed_is (kept_then s m (InObject k) h h q.object Empty i w below free_call (record {
         objects = objects_set k s.trades.trading.sessions (with_object q Empty) i.sound.objects tt;
         unmade = other_unmade s.trades.trading.sessions k (with_object q Empty) s.trades.trading.requests none i.sound.unmade;
-      }) (stays_raised s m (InObject k) h h q.object Empty i w below free_call (λ a. omega arith)))
+      }) (stays_raised s m (InObject k) h h q.object Empty i w below free_call (λ a. omega arith)) (λ e. e))
 
   freed_puts : Puts s freed (InObject k) world.Empty
   freed_puts =

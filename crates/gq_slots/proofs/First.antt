@@ -82,6 +82,7 @@ module _ (s : Slots) (x : ℕ) (h : Heap) (own : get_or s.own x [] ≡ replicate
         (ap (λ a. a.caps) unused);
     peaked = (λ k. raised_by (places_used (memory_of s x) (things_are k)) classes (new.peaks k))
         ∙ raised_same (places_used (memory_of s x) (replicate 64 Empty)) (λ c. 0) classes (replicate 8 0) (no_places (memory_of s x) 64) ∙ sym new.peaks;
+    eight = ap length new.peaks;
   }
 
 pub first_slots : (total : ℕ) (caps : Option ℕ) (ps : List ℕ) (ns : List Node) (xs os : List ℕ) (n : ℕ) (s : Slots) → IsPlan total caps ps ns xs os

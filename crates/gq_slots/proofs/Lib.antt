@@ -6,6 +6,7 @@ pub mod Answering
 pub mod Facts
 mod Inside
 pub mod Paid
+pub mod Rising
 pub mod First
 pub mod Callers
 pub mod Alike

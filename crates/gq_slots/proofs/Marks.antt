@@ -80,7 +80,8 @@ marked s p h t u i w lt l there is heap a b =
     let st = memory_of s (holder s p) in
     let up = stays_raised s m p h h t u i w lt c (λ k. omega (arith, mark_places k st t a, mark_places k st u b)) in (
       subst IsSlots (same_parts s p h u heap)
-          (kept_then s m p h h t u i w lt c (sound_put (with_store s m (holder s p) h) p u l (with_sound s m (holder s p) h i.sound)) up),
+          (kept_then s m p h h t u i w lt c (sound_put (with_store s m (holder s p) h) p u l (with_sound s m (holder s p) h i.sound)) up
+          (λ e. e)),
       subst (λ n. Puts s n p (seen st u)) (same_parts s p h u heap) (puts_then s m p h h t u i w lt c refl),
     )
 

@@ -17,7 +17,7 @@ use Rattle.gq_slots.specs.internal.Holds.{IsHolder, IsSlots, held_by}
 use Rattle.gq_slots.proofs.Sums.{held_is, raised_is}
 use Rattle.gq_slots.proofs.Worlds.{leaf_at}
 
-leaf_below : (leaf : ℕ → world.Leaf) (st : ℕ → Store) (own : List (List Thing)) (hs : List Heap) (x : ℕ) (l : world.Leaf)
+pub leaf_below : (leaf : ℕ → world.Leaf) (st : ℕ → Store) (own : List (List Thing)) (hs : List Heap) (x : ℕ) (l : world.Leaf)
     → slice_get (leaves_seen leaf st own hs) x ≡ Some l → x < length own
 leaf_below leaf st [] hs x l e = cc
 leaf_below leaf st (ts ∷ own) [] x l e = cc
@@ -41,7 +41,7 @@ caps_here : (price used quota held : ℕ) (b : Bool) → eqb price 0 ≡ b → u
 caps_here price used quota held true e le q ne = absurd (ne (grind (arith, nat_tests, e)))
 caps_here price used quota held false e le q ne = let f : quota - used + held ≡ quota = cc in omega (arith, f, le)
 
-some_is : {A : Type 0} (a b : A) → Some a ≡ Some b → a ≡ b
+pub some_is : {A : Type 0} (a b : A) → Some a ≡ Some b → a ≡ b
 some_is a b e = cc
 
 paid_here : (f : Frame) (s : Slots) (x : ℕ) (h : Heap) → IsSlots s → IsBalanced s.trades.trading.memory.ledger → IsHolder s x h

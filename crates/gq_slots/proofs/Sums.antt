@@ -1,5 +1,6 @@
 -- What a leaf holds and has in use in the world, as sums over the things that it pays for.
-use Rattle.std.proofs.Common.{◌≡◌, ℕ, ◌+◌, ◌≤◌, max, Bool, true, false, cond, eqb, List, [], ◌∷◌, ◌++◌, map, get_or, Option, Some, None, refl, ap, arith}
+use Rattle.std.proofs.Common.{◌≡◌, ℕ, ◌+◌, ◌≤◌, max, Bool, true, false, cond, eqb, List, [], ◌∷◌, ◌++◌, map, get_or, length, Option, Some, None, refl, ap}
+use Rattle.std.proofs.Common.{arith}
 use Rattle.std.specs.Prelude.{sum_by}
 use Rattle.std.proofs.lemmas.Bool.Decides.{nat_tests}
 use Rattle.std.proofs.lemmas.List.Sums.{sum_by-cons}
@@ -66,6 +67,11 @@ pub raised_again : (f : ℕ → ℕ) (cs ps : List ℕ) → raised_by f cs (rais
 raised_again f [] ps = refl
 raised_again f (c ∷ cs) [] = refl
 raised_again f (c ∷ cs) (p ∷ ps) = let a = max_again p (f c) in let b = raised_again f cs ps in λ k. a k ∷ b k
+
+pub raised_long : (f : ℕ → ℕ) (cs ps : List ℕ) → length ps ≡ length cs → length (raised_by f cs ps) ≡ length cs
+raised_long f [] ps e = refl
+raised_long f (c ∷ cs) [] e = e
+raised_long f (c ∷ cs) (p ∷ ps) e = let rest = raised_long f cs ps (omega (arith, e)) in omega (arith, rest)
 
 -- THE WORLD
 

@@ -1,20 +1,27 @@
 -- What every slot of a scenario holds, those of its leaves and those of its sessions, as the account machine has it.
-use Rattle.std.specs.Prelude.{◌≡◌, ℕ, suc, ◌<◌, List, [], ◌∷◌, length, map, get_or, replicate, slice_get, Option, Some, None}
-use Rattle.gq_model.specs.machine.Amounts.{Ram, Caps}
+use Rattle.std.specs.Prelude.{◌≡◌, ℕ, suc, ◌+◌, ◌<◌, ◌≤◌, ◌==◌, if◌then◌else◌, List, [], ◌∷◌, length, map, get_or, replicate, slice_get, Option, Some, None}
+use Rattle.gq_tariff.specs.Prices.{classes, size_for}
+use Rattle.gq_model.specs.machine.Amounts.{Resource, Ram, Caps}
+use Rattle.gq_model.specs.machine.Prices.{heap as class_prices}
 use Rattle.gq_model.specs.machine.World as world
-use Rattle.gq_model.specs.machine.Sums.{held, with_peaks}
+use Rattle.gq_model.specs.machine.Sums.{held, places, with_peaks}
 use Rattle.gq_store.specs.Store.{Store}
 use Rattle.gq_heap.specs.declared.heap.Heap.{Heap}
-use Rattle.gq_heap.specs.Heap.{Keeps, peaks}
+use Rattle.gq_heap.specs.Heap.{Keeps, peaks, rise, rise_caps}
 use Rattle.gq_numbered.specs.Numbers.{IsTaken}
+use Rattle.gq_requests.specs.declared.requests.Ask.{Ask}
+use Rattle.gq_requests.specs.declared.requests.Ask.TheVariants as ask
+use Rattle.gq_requests.specs.declared.requests.Request.{Request}
 use Rattle.gq_requests.specs.Seen.{request_seen}
 use Rattle.gq_things.specs.declared.thing.Thing.{Thing}
 use Rattle.gq_things.specs.declared.thing.Thing.TheVariants.{Empty, Block, Slice, Space, Pool, Link, Waiting}
-use Rattle.gq_things.specs.Things.{seen}
+use Rattle.gq_things.specs.Things.{entry_size, seen}
+use Rattle.gq_things.specs.Paid.{raised_by}
 use Rattle.gq_sessions.specs.declared.session.Spot.{Spot}
 use Rattle.gq_sessions.specs.declared.session.Spot.TheVariants.{InLeaf, InSession, InObject}
-use Rattle.gq_sessions.specs.Seen.{sessions_seen}
-use Rattle.gq_sessions.specs.Trading.{Trading, session_at, server_of, store_of, account_no, its_account}
+use Rattle.gq_sessions.specs.Seen.{sessions_seen, spot_seen}
+use Rattle.gq_sessions.specs.declared.session.Session.{Session}
+use Rattle.gq_sessions.specs.Trading.{Trading, session_at, session_in, server_of, store_of, account_no, its_account}
 use Rattle.gq_trade.specs.Trades.{Trades}
 
 -- sessions over accounts, and of each leaf its own slots and its heap
@@ -122,6 +129,67 @@ pub record IsPaidFor (w : world.World) (t : Trading) (x : ℕ) (leaf : world.Lea
 
 abbrev pub ArePaidFor : Slots → Type 0
 ArePaidFor s = (f : Frame) (x : ℕ) (leaf : world.Leaf) → slice_get (world_seen f s).leaves x ≡ Some leaf → IsPaidFor (world_seen f s) s.trades.trading x leaf
+
+-- WHAT STANDS WHERE
+
+-- each slot reads in the machine's world as what is in it
+abbrev pub AreRead : Slots → Type 0
+AreRead s = (f : Frame) (p : Spot) → IsSpot s p → world.slot_at (world_seen f s) (spot_seen p) ≡ Some (slot_of s p)
+
+-- each leaf has 64 slots, and each session 8
+pub record AreLong (s : Slots) : Type 0 where
+  pub own : (x : ℕ) → x < length s.own → length (get_or s.own x []) ≡ 64
+  pub slots : (k : ℕ) → IsTaken s.trades.trading.sessions k → length (session_at s.trades.trading k).slots ≡ 8
+
+-- an object is a slice, once it is there
+abbrev pub IsObject : Thing → Type 0
+IsObject Empty = Unit {0}
+IsObject (Block p n) = ⊥
+IsObject (Slice k n) = Unit {0}
+IsObject (Space k n) = ⊥
+IsObject (Pool p) = ⊥
+IsObject (Link k) = ⊥
+IsObject (Waiting k) = ⊥
+
+abbrev pub AreObjects : List (Option Session) → Type 0
+AreObjects [] = Unit {0}
+AreObjects (None ∷ ss) = AreObjects ss
+AreObjects (Some s ∷ ss) = IsObject s.object × AreObjects ss
+
+-- of a session whose request to open waits there is no object yet
+abbrev pub IsUnmade : Ask → Thing → Type 0
+IsUnmade ask.Open t = t ≡ Empty
+IsUnmade ask.Upgrade t = Unit {0}
+IsUnmade ask.Close t = Unit {0}
+IsUnmade (ask.Call n) t = Unit {0}
+
+abbrev pub AreUnmade : List (Option Session) → List Request → Type 0
+AreUnmade ss [] = Unit {0}
+AreUnmade ss (r ∷ rs) = IsUnmade r.ask (session_in ss r.session).object × AreUnmade ss rs
+
+pub record AreSound (w : Trading) : Type 0 where
+  pub objects : AreObjects w.sessions
+  pub unmade : AreUnmade w.sessions w.requests
+
+-- WHAT ONE PLACE MORE COSTS
+
+-- places in use of each class, with one more of the class of a block of n bytes
+abbrev pub one_more_of : ℕ → (ℕ → ℕ) → ℕ → ℕ
+one_more_of n f c = f c + (if size_for n == c then 1 else 0)
+
+-- how much the price of a heap rises by such a block, of each kind
+abbrev pub rise_of : Resource → Heap → ℕ → ℕ
+rise_of Ram h n = rise h n
+rise_of Caps h n = rise_caps h n
+
+-- With one place more in use of the class of n bytes, the classes of a leaf's heap cost so much more, by the peaks that are raised to that.
+abbrev pub AreRises : Slots → Type 0
+AreRises s = (r : Resource) (f : Frame) (x : ℕ) (h : Heap) (leaf : world.Leaf) (n : ℕ) → IsHeapOf s x h → slice_get (world_seen f s).leaves x ≡ Some leaf
+    → n ≤ 2048 → class_prices r (raised_by (one_more_of n (places (world_seen f s) x leaf)) classes leaf.peaks) ≡ class_prices r leaf.peaks + rise_of r h n
+
+-- an entry of a pool is a place of a class: it has at most 2048 bytes
+abbrev pub AreSmallEntries : Slots → Type 0
+AreSmallEntries s = (p : Spot) → IsSpot s p → entry_size (thing_at s p) ≤ 2048
 
 -- AT FIRST
 

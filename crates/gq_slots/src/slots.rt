@@ -24,8 +24,8 @@ ghost use Rattle.gq_trade.specs.Ends.{HasNoSessions};
 ghost use Rattle.gq_trade.specs.Waiting.{IsIdle};
 ghost use Rattle.gq_trade.specs.Plans.{IsFirst, IsPlan};
 ghost use Rattle.gq_trade.specs.Trades.{IsLive, IsTrades, with_trading};
-ghost use Rattle.gq_slots.specs.Slots.{AreNew, ArePaidFor, Frame, IsHeapOf, IsMark, IsPaidBy, IsSlot, IsSpot, holder, memory_of, slot_of, thing_at};
-ghost use Rattle.gq_slots.specs.Slots.{world_seen};
+ghost use Rattle.gq_slots.specs.Slots.{AreLong, AreNew, ArePaidFor, AreRead, AreRises, AreSmallEntries, AreSound, Frame, IsHeapOf, IsMark, IsPaidBy};
+ghost use Rattle.gq_slots.specs.Slots.{IsSlot, IsSpot, holder, memory_of, slot_of, thing_at, world_seen};
 ghost use Rattle.gq_slots.specs.Calls.{EndsLeaf, EndsSession, Puts, Settles, TakesOldest, asking, opening, upgrading, with_trades};
 
 use crate::places::{clear, clear_all, fill, replace};
@@ -569,11 +569,19 @@ impl Slots {
     }
 
     /// What holds in all `Slots`: what each leaf uses, of bytes and where they are counted of capabilities, is what the machine's definition says that it
-    /// holds, and its peaks are no less than what is in use. It does nothing.
+    /// holds, and its peaks are no less than what is in use; a heap's price rises by `rise` where one place more of a class is in use, and an entry of a
+    /// pool is such a place. Each slot reads in the machine's world as what is in it; a leaf has 64 slots and a session has 8; and a session's object is a
+    /// slice, or nothing before its request to open is accepted. It does nothing.
     pub fn laws(&self)
         ensures trades { IsTrades self.now.trades }
         ensures leaves { length self.now.own ≡ length self.now.trades.trading.leaves }
+        ensures numbers { length self.now.trades.trading.sessions ≤ self.now.trades.trading.room }
         ensures held { ArePaidFor self.now }
+        ensures rises { AreRises self.now }
+        ensures entries { AreSmallEntries self.now }
+        ensures reads { AreRead self.now }
+        ensures long { AreLong self.now }
+        ensures sound { AreSound self.now.trades.trading }
     {
         let _own = &self.own;
         self.trades.laws();

@@ -101,6 +101,16 @@ entry_size (Pool p) = p.size
 entry_size (Link k) = 0
 entry_size (Waiting k) = 0
 
+-- the bytes of an entry and how many entries it has, if it is a pool
+abbrev pub shape_of : Thing → Option (ℕ × ℕ)
+shape_of Empty = None
+shape_of (Block p n) = None
+shape_of (Slice k n) = None
+shape_of (Space k n) = None
+shape_of (Pool p) = Some (p.size, p.count)
+shape_of (Link k) = None
+shape_of (Waiting k) = None
+
 -- SLOTS
 
 -- the bytes of a slot, or none

@@ -38,7 +38,7 @@ impl Thing {
     ghost use Rattle.gq_heap.specs.Heap.{rise, peaks};
     ghost use Rattle.gq_store.specs.Store.{one_more};
     ghost use Rattle.gq_things.specs.declared.thing.Thing.TheVariants as thing;
-    ghost use Rattle.gq_things.specs.Things.{IsSlice, seen, size_of, bytes_in, put_in, entry_count, entry_size, entry_in, with_entry, added, removed};
+    ghost use Rattle.gq_things.specs.Things.{IsSlice, seen, shape_of, size_of, bytes_in, put_in, entry_count, entry_size, entry_in, with_entry, added, removed};
     ghost use Rattle.gq_model.specs.machine.Memory.{entry_byte, entry_with};
     ghost use Rattle.gq_things.specs.Kept.{IsAmong, Changes};
     ghost use Rattle.gq_things.specs.Paid.{Pays, Raises};
@@ -66,6 +66,21 @@ impl Thing {
             Thing::Block(_, size) | Thing::Slice(_, size) => u64::from(size),
             Thing::Space(_, size) => round_up(u64::from(size)),
             Thing::Empty | Thing::Pool(_) | Thing::Link(_) | Thing::Waiting(_) => 0,
+        }
+    }
+
+    /// The bytes of an entry and how many entries there are, where it is a pool.
+    pub fn entries(&self) -> Option<(u32, u32)>
+        ensures { result ≡ shape_of self.now }
+    {
+        match *self {
+            Thing::Pool(pool) => Some((pool.size(), pool.count())),
+            Thing::Empty
+            | Thing::Block(_, _)
+            | Thing::Slice(_, _)
+            | Thing::Space(_, _)
+            | Thing::Link(_)
+            | Thing::Waiting(_) => None,
         }
     }
 

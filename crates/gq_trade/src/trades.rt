@@ -407,6 +407,7 @@ impl Trades {
     pub fn laws(&self)
         ensures trades { IsTrades self.now }
         ensures trading { IsTrading self.now.trading }
+        ensures numbers { length self.now.trading.sessions ≤ self.now.trading.room }
     {
         let _nodes = &self.nodes;
         self.sessions.laws();

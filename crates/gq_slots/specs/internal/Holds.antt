@@ -6,17 +6,13 @@ use Rattle.gq_model.specs.machine.Prices.{heap as class_prices}
 use Rattle.gq_store.specs.Store.{plus_caps}
 use Rattle.gq_heap.specs.declared.heap.Heap.{Heap}
 use Rattle.gq_heap.specs.Heap.{peaks}
-use Rattle.gq_numbered.specs.Numbers.{IsTaken}
-use Rattle.gq_requests.specs.declared.requests.Ask.{Ask}
-use Rattle.gq_requests.specs.declared.requests.Ask.TheVariants.{Open, Upgrade, Close, Call}
-use Rattle.gq_requests.specs.declared.requests.Request.{Request}
 use Rattle.gq_things.specs.declared.thing.Thing.{Thing}
-use Rattle.gq_things.specs.declared.thing.Thing.TheVariants.{Empty, Block, Slice, Space, Pool, Link, Waiting}
 use Rattle.gq_things.specs.Kept.{Keeps}
 use Rattle.gq_things.specs.Paid.{cost, places_used, raised_by}
 use Rattle.gq_sessions.specs.declared.session.Session.{Session}
-use Rattle.gq_sessions.specs.Trading.{Trading, its_account, session_at, session_in}
+use Rattle.gq_sessions.specs.Trading.{its_account}
 use Rattle.gq_slots.specs.Slots.{Slots, memory_of}
+pub use Rattle.gq_slots.specs.Slots.{AreLong, AreObjects, AreSound, AreUnmade, IsObject, IsUnmade}
 
 -- WHAT A LEAF PAYS FOR
 
@@ -50,41 +46,8 @@ pub record IsHolder (s : Slots) (x : ℕ) (h : Heap) : Type 0 where
   pub ram : (memory_of s x).left + held_by Ram s x h ≡ (its_account s.trades.trading x).quota.ram
   pub caps : plus_caps (held_by Caps s x h) (memory_of s x).caps ≡ counted s.trades.trading.memory.ledger.price (its_account s.trades.trading x).quota.caps
   pub peaked : raised_by (places_used (memory_of s x) (things s x)) classes (peaks h) ≡ peaks h
-
--- each leaf has 64 slots, and each session 8
-pub record AreLong (s : Slots) : Type 0 where
-  pub own : (x : ℕ) → x < length s.own → length (get_or s.own x []) ≡ 64
-  pub slots : (k : ℕ) → IsTaken s.trades.trading.sessions k → length (session_at s.trades.trading k).slots ≡ 8
-
--- an object is a slice, once it is there
-abbrev pub IsObject : Thing → Type 0
-IsObject Empty = Unit {0}
-IsObject (Block p n) = ⊥
-IsObject (Slice k n) = Unit {0}
-IsObject (Space k n) = ⊥
-IsObject (Pool p) = ⊥
-IsObject (Link k) = ⊥
-IsObject (Waiting k) = ⊥
-
-abbrev pub AreObjects : List (Option Session) → Type 0
-AreObjects [] = Unit {0}
-AreObjects (None ∷ ss) = AreObjects ss
-AreObjects (Some s ∷ ss) = IsObject s.object × AreObjects ss
-
--- of a session whose request to open waits there is no object yet
-abbrev pub IsUnmade : Ask → Thing → Type 0
-IsUnmade Open t = t ≡ Empty
-IsUnmade Upgrade t = Unit {0}
-IsUnmade Close t = Unit {0}
-IsUnmade (Call n) t = Unit {0}
-
-abbrev pub AreUnmade : List (Option Session) → List Request → Type 0
-AreUnmade ss [] = Unit {0}
-AreUnmade ss (r ∷ rs) = IsUnmade r.ask (session_in ss r.session).object × AreUnmade ss rs
-
-pub record AreSound (w : Trading) : Type 0 where
-  pub objects : AreObjects w.sessions
-  pub unmade : AreUnmade w.sessions w.requests
+  -- there is a peak for each class
+  pub eight : length (peaks h) ≡ 8
 
 pub record IsSlots (s : Slots) : Type 0 where
   pub count : length s.own ≡ length s.trades.trading.leaves

@@ -12,7 +12,8 @@ invariant_of-self c =
     let w : Trades = trades_of c.self.inside in
     let v : w ≡ c.args.self.now = c.self.view_is in
     let e = c.ask.ensures in
-    asked_by c.ask.result w c.ask.new.self (fresh c.args.client c.args.spot c.args.server c.args.service c.args.donation) c.self.invariant c.laws.ensures
+    asked_by c.ask.result w c.ask.new.self (fresh c.args.client c.args.spot c.args.server c.args.service c.args.donation) c.self.invariant
+    c.laws.ensures.trading
     (subst (λ (a : Trades). IsLive a c.args.client) (sym v) c.requires.client) (subst (λ (a : Trades). IsLive a c.args.server) (sym v) c.requires.server)
     c.requires.apart (λ z. c.requires.counted (ap (λ (a : Trades). a.trading.memory.ledger.price) (sym v) ∙ z))
     (subst (λ (a : Trades). IsIdle a.trading c.args.client) (sym v) c.requires.idle) refl
@@ -22,5 +23,5 @@ pub ask-requires-clause-few : goal.ask-requires-clause-few
 ask-requires-clause-few c =
     let w : Trades = trades_of c.self.inside in
     let v : w ≡ c.args.self.now = c.self.view_is in
-    few_wait w c.self.invariant c.laws.ensures c.args.client (subst (λ (a : Trades). IsLive a c.args.client) (sym v) c.requires.client).there
+    few_wait w c.self.invariant c.laws.ensures.trading c.args.client (subst (λ (a : Trades). IsLive a c.args.client) (sym v) c.requires.client).there
     (subst (λ (a : Trades). IsIdle a.trading c.args.client) (sym v) c.requires.idle)

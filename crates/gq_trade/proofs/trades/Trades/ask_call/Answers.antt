@@ -14,7 +14,8 @@ invariant_of-self c =
     let v : w ≡ c.args.self.now = c.self.view_is in
     let k = c.args.session in
     subst (λ y. IsTrades (with_trading w y)) (sym c.ask_call.ensures)
-    (with_ask_kept w c.self.invariant c.laws.ensures k (Call c.args.value) (subst (λ (a : Trades). IsTaken a.trading.sessions k) (sym v) c.requires.there)
+    (with_ask_kept w c.self.invariant c.laws.ensures.trading k (Call c.args.value)
+    (subst (λ (a : Trades). IsTaken a.trading.sessions k) (sym v) c.requires.there)
     (subst (λ (a : Trades). IsIdle a.trading (client_of a.trading k)) (sym v) c.requires.idle))
 
 pub ask_call-requires-clause-few : goal.ask_call-requires-clause-few
@@ -23,5 +24,5 @@ ask_call-requires-clause-few c =
     let v : w ≡ c.args.self.now = c.self.view_is in
     let k = c.args.session in
     let taken = subst (λ (a : Trades). IsTaken a.trading.sessions k) (sym v) c.requires.there in
-    few_wait w c.self.invariant c.laws.ensures (client_of w.trading k) (parties w c.self.invariant c.laws.ensures k taken).client
+    few_wait w c.self.invariant c.laws.ensures.trading (client_of w.trading k) (parties w c.self.invariant c.laws.ensures.trading k taken).client
     (subst (λ (a : Trades). IsIdle a.trading (client_of a.trading k)) (sym v) c.requires.idle)

@@ -27,11 +27,11 @@ invariant_of-self c =
     let alone : HasNoSessions w.trading x = subst (λ (a : Trades). HasNoSessions a.trading x) (sym v) c.requires.alone in
     let node : c.node-node.result ≡ node_of w.trading x = c.node-node.ensures in
     let h = c.self.invariant in
-    let inside : node_of w.trading x < length w.nodes = omega (arith, c.laws.ensures.leaves x live.there, h.settled.count) in
+    let inside : node_of w.trading x < length w.nodes = omega (arith, c.laws.ensures.trading.leaves x live.there, h.settled.count) in
     let old : c.index-old.result.now ≡ node_at w.nodes c.node-node.result =
     item w.nodes c.node-node.result c.index-old.result.now no_node (omega (arith, inside, node)) c.index-old.ensures in
-    let k = left_kept w h c.laws.ensures (subst IsBalanced (ap (λ m. m.ledger) c.memory.ensures) (subst IsBalanced c.accounts.ensures c.laws-2.ensures)) x
-    live alone c.close.new.self c.close.ensures in
+    let k = left_kept w h c.laws.ensures.trading (subst IsBalanced (ap (λ m. m.ledger) c.memory.ensures) (subst IsBalanced c.accounts.ensures c.laws-2.ensures))
+    x live alone c.close.new.self c.close.ensures in
     subst (λ (n : Node). IsTrades (record { trading = c.close.new.self; nodes = slice_set w.nodes c.node-node.result (with_stage n Ended) })) (sym old)
     (subst (λ j. IsTrades (record { trading = c.close.new.self; nodes = staged w.nodes j Ended })) (sym node) k)
 
@@ -44,13 +44,13 @@ returns-clause-follower c =
     let alone : HasNoSessions w.trading x = subst (λ (a : Trades). HasNoSessions a.trading x) (sym v) c.requires.alone in
     let node : c.node-node.result ≡ node_of w.trading x = c.node-node.ensures in
     let h = c.self.invariant in
-    let inside : node_of w.trading x < length w.nodes = omega (arith, c.laws.ensures.leaves x live.there, h.settled.count) in
+    let inside : node_of w.trading x < length w.nodes = omega (arith, c.laws.ensures.trading.leaves x live.there, h.settled.count) in
     let old : c.index-old.result.now ≡ node_at w.nodes c.node-node.result =
     item w.nodes c.node-node.result c.index-old.result.now no_node (omega (arith, inside, node)) c.index-old.ensures in
     let b = subst IsBalanced (ap (λ m. m.ledger) c.memory.ensures) (subst IsBalanced c.accounts.ensures c.laws-2.ensures) in
     let n = node_of w.trading x in
     let k = if_follower n (staged w.nodes n Ended) (CanStart (record { trading = c.close.new.self; nodes = staged w.nodes n Ended }))
-    (can_start w h c.laws.ensures b x live alone c.close.new.self c.close.ensures) (follower n (staged w.nodes n Ended)) refl in
+    (can_start w h c.laws.ensures.trading b x live alone c.close.new.self c.close.ensures) (follower n (staged w.nodes n Ended)) refl in
     subst (λ (a : Trades). IfSome (follower (node_of a.trading x) (slice_set w.nodes c.node-node.result (with_stage c.index-old.result.now Ended)))
     (λ i. CanStart (record { trading = c.close.new.self; nodes = slice_set w.nodes c.node-node.result (with_stage c.index-old.result.now Ended) }) i)) v
     (subst (λ (y : Node). IfSome (follower n (slice_set w.nodes c.node-node.result (with_stage y Ended)))

@@ -9,5 +9,5 @@ pub invariant_of-self : goal.invariant_of-self
 invariant_of-self c =
     let w : Trades = trades_of c.self.inside in
     let v : w ≡ c.args.self.now = c.self.view_is in
-    slot_kept w c.put.new.self c.args.session c.args.slot c.args.contents c.self.invariant c.laws.ensures
+    slot_kept w c.put.new.self c.args.session c.args.slot c.args.contents c.self.invariant c.laws.ensures.trading
     (subst (λ (a : Trades). IsTaken a.trading.sessions c.args.session) (sym v) c.requires.there) c.put.ensures

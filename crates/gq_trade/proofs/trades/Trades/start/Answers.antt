@@ -17,7 +17,7 @@ invariant_of-self c =
     let can : CanStart w i = subst (λ (a : Trades). CanStart a i) (sym v) c.requires in
     let inside : i < length w.nodes = omega (arith, can.there, c.self.invariant.settled.count) in
     let old : c.index-old.result.now ≡ node_at w.nodes i = item w.nodes i c.index-old.result.now no_node inside c.index-old.ensures in
-    let k = started_kept w c.self.invariant c.laws.ensures i can.below can.there can.pending can.ram can.caps in
+    let k = started_kept w c.self.invariant c.laws.ensures.trading i can.below can.there can.pending can.ram can.caps in
     let e : c.hand.new.self ≡ handed_on w.trading i (node_at w.nodes i).quantum =
     c.hand.ensures ∙ ap (λ (n : Node). handed_on w.trading i n.quantum) old in
     subst (λ (n : Node). IsTrades (record { trading = c.hand.new.self; nodes = slice_set w.nodes i (with_stage n Live) })) (sym old)

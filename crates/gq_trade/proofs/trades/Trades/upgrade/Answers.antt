@@ -14,7 +14,7 @@ invariant_of-self c =
     let w : Trades = trades_of c.self.inside in
     let v : w ≡ c.args.self.now = c.self.view_is in
     let e = c.upgrade.ensures in
-    upgraded_by c.upgrade.result w c.upgrade.new.self c.args.session c.args.donation c.self.invariant c.laws.ensures
+    upgraded_by c.upgrade.result w c.upgrade.new.self c.args.session c.args.donation c.self.invariant c.laws.ensures.trading
     (subst (λ (a : Trades). IsTaken a.trading.sessions c.args.session) (sym v) c.requires.there)
     (λ z. c.requires.counted (ap (λ (a : Trades). a.trading.memory.ledger.price) (sym v) ∙ z))
     (subst (λ (a : Trades). IsIdle a.trading (client_of a.trading c.args.session)) (sym v) c.requires.idle)
@@ -27,7 +27,7 @@ upgrade-requires-clause-few c =
     let v : w ≡ c.args.self.now = c.self.view_is in
     let k = c.args.session in
     let taken = subst (λ (a : Trades). IsTaken a.trading.sessions k) (sym v) c.requires.there in
-    few_wait w c.self.invariant c.laws.ensures (client_of w.trading k) (parties w c.self.invariant c.laws.ensures k taken).client
+    few_wait w c.self.invariant c.laws.ensures.trading (client_of w.trading k) (parties w c.self.invariant c.laws.ensures.trading k taken).client
     (subst (λ (a : Trades). IsIdle a.trading (client_of a.trading k)) (sym v) c.requires.idle)
 
 pub upgrade-requires-clause-small : goal.upgrade-requires-clause-small

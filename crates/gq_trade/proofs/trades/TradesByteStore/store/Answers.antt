@@ -3,4 +3,4 @@ use Rattle.gq_trade.proofs.Kept.{rest_kept}
 use Rattle.gq_trade.proofs.trades.TradesByteStore.store.Goals as goal
 
 pub invariant_of-self : goal.invariant_of-self
-invariant_of-self c = rest_kept (trades_of c.self.inside) c.store.new.self c.self.invariant c.laws.ensures c.store.ensures.rest
+invariant_of-self c = rest_kept (trades_of c.self.inside) c.store.new.self c.self.invariant c.laws.ensures.trading c.store.ensures.rest
