@@ -1,0 +1,14 @@
+pub mod Balanced
+pub mod Paid
+pub mod Lacking
+pub mod Written
+pub mod Made
+pub mod Places
+pub mod Heaped
+pub mod Sums
+pub mod Marked
+pub mod Short
+pub mod Asked
+pub mod Begun
+pub mod Ended
+pub mod Standing

@@ -1,0 +1,75 @@
+-- What a slot of the world, and what holds inside slots, tell of what stands there.
+use Rattle.std.proofs.Common.{◌≡◌, ℕ, zero, suc, ◌<◌, inl, inr, true, List, [], ◌∷◌, map, get_or, length, Option, Some, None, refl, ap, subst, arith}
+use Rattle.std.proofs.lemmas.Bool.{and_parts}
+use Rattle.std.proofs.lemmas.Bool.Decides.{eqb_tells}
+use Rattle.gq_model.specs.declared.program.Form.{Form}
+use Rattle.gq_model.specs.machine.Step.{all_empty, is_empty}
+use Rattle.gq_model.specs.machine.World as world
+use Rattle.gq_model.proofs.Small.{some_same, none_some}
+use Rattle.gq_store.specs.Store.{Store}
+use Rattle.gq_pool.specs.declared.pool.Pool.{Pool}
+use Rattle.gq_things.specs.declared.thing.Thing.{Thing}
+use Rattle.gq_things.specs.declared.thing.Thing.TheVariants as thing
+use Rattle.gq_things.specs.Things.{seen}
+use Rattle.gq_requests.specs.declared.requests.Ask.TheVariants.{Open}
+use Rattle.gq_requests.specs.declared.requests.Request.{Request}
+use Rattle.gq_requests.specs.Queues.{kept_before, oldest_to}
+use Rattle.gq_sessions.specs.declared.session.Session.{Session}
+use Rattle.gq_sessions.specs.Trading.{session_in}
+use Rattle.gq_slots.specs.internal.Holds.{AreUnmade, IsObject, IsUnmade}
+
+-- nothing stands where the test finds nothing
+tested_empty : (st : Store) (t : Thing) → is_empty (seen st t) ≡ true → t ≡ thing.Empty
+tested_empty st thing.Empty e = refl
+tested_empty st (thing.Block p n) e = cc
+tested_empty st (thing.Slice k n) e = cc
+tested_empty st (thing.Space k n) e = cc
+tested_empty st (thing.Pool p) e = cc
+tested_empty st (thing.Link k) e = cc
+tested_empty st (thing.Waiting k) e = cc
+
+pub empty_thing : (st : Store) (t : Thing) → seen st t ≡ world.Empty → t ≡ thing.Empty
+empty_thing st t e = tested_empty st t (ap is_empty e)
+
+-- so it is of all slots of a session
+pub empty_things : (st : Store) (ts : List Thing) → all_empty (map (seen st) ts) ≡ true → (i : ℕ) → i < length ts → get_or ts i thing.Empty ≡ thing.Empty
+empty_things st [] e i lt = absurd (omega (arith, lt))
+empty_things st (t ∷ ts) e zero lt = tested_empty st t (and_parts (is_empty (seen st t)) (all_empty (map (seen st) ts)) e).0
+empty_things st (t ∷ ts) e (suc i) lt =
+    empty_things st ts (and_parts (is_empty (seen st t)) (all_empty (map (seen st) ts)) e).1 i (omega (arith, lt))
+
+-- what reads as bytes is no pool
+pub bytes_no_pool : (st : Store) (t : Thing) (g : Form) (n : ℕ) (bytes : List ℕ) → seen st t ≡ world.Bytes g n bytes → (p : Pool) → t ≡ thing.Pool p → ⊥
+bytes_no_pool st t g n bytes e p is = is_pool (ap (seen st) is)
+  where
+    is_pool : seen st t ≡ seen st (thing.Pool p) → ⊥
+    is_pool h = cc
+
+-- INSIDE SLOTS
+
+-- an object is no pool
+pub object_no_pool : (t : Thing) → IsObject t → (p : Pool) → t ≡ thing.Pool p → ⊥
+object_no_pool t o p e = subst IsObject e o
+
+-- of a session whose request to open is the oldest there is no object yet
+unmade_taken : (ss : List (Option Session)) (x : ℕ) (rs : List Request) (p : Request × List Request) → AreUnmade ss rs → oldest_to x rs ≡ Some p
+    → IsUnmade p.0.ask (session_in ss p.0.session).object
+unmade_taken ss x [] p u e = absurd (none_some e)
+unmade_taken ss x (r ∷ rs) p u e = elim (eqb_tells r.server x) [
+  | inl t ↦ first (r, rs) u.0 (rw t.0 at e)
+  | inr n ↦ later (oldest_to x rs) (λ q f. unmade_taken ss x rs q u.1 f) (rw n.0 at e)
+]
+  where
+    first : (q : Request × List Request) → IsUnmade q.0.ask (session_in ss q.0.session).object → Some q ≡ Some p
+        → IsUnmade p.0.ask (session_in ss p.0.session).object
+    first q v f = subst (λ (y : Request × List Request). IsUnmade y.0.ask (session_in ss y.0.session).object) (some_same f) v
+
+    later : (o : Option (Request × List Request)) → ((q : Request × List Request) → o ≡ Some q → IsUnmade q.0.ask (session_in ss q.0.session).object)
+        → kept_before r o ≡ Some p → IsUnmade p.0.ask (session_in ss p.0.session).object
+    later None all f = absurd (none_some f)
+    later (Some q) all f = first (q.0, r ∷ q.1) (all q refl) f
+
+pub unmade_oldest : (ss : List (Option Session)) (x : ℕ) (rs : List Request) (r : Request) (others : List Request) → AreUnmade ss rs
+    → oldest_to x rs ≡ Some (r, others) → r.ask ≡ Open → (session_in ss r.session).object ≡ thing.Empty
+unmade_oldest ss x rs r others u e is =
+    subst (λ a. IsUnmade a (session_in ss r.session).object) is (unmade_taken ss x rs (r, others) u e)
