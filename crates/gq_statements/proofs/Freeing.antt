@@ -1,0 +1,62 @@
+-- Memory that a statement frees.
+use Rattle.std.proofs.Common.{◌≡◌, ◌&&◌, ℕ, Bool, true, false, not, get_or, length, List, Some, sym, ap, ◌∙◌}
+use Rattle.std.specs.Prelude.{nat_lt, Ok, Err}
+use Rattle.gq_model.specs.declared.program.Place.{Place}
+use Rattle.gq_model.specs.machine.Scenario.{System}
+use Rattle.gq_model.specs.machine.World as world
+use Rattle.gq_model.specs.machine.Sums.{paid}
+use Rattle.gq_model.specs.machine.Doing.{Doing, Quiet, if_paid, need, standing, when}
+use Rattle.gq_model.specs.declared.fault.Wrong.TheVariants.{ExceededQuota, WrongKind}
+use Rattle.gq_model.specs.machine.Memory.{free, is_kept, is_memory, shares_buffer}
+use Rattle.gq_numbered.specs.Numbers.{IsTaken}
+use Rattle.gq_sessions.specs.declared.session.Spot.{Spot}
+use Rattle.gq_sessions.specs.Seen.{session_seen, spot_seen}
+use Rattle.gq_sessions.specs.Trading.{IsTrading, session_at}
+use Rattle.gq_sessions.proofs.Kept.{between_at}
+use Rattle.gq_slots.specs.Slots.{Frame, Slots, memory_of, world_seen}
+use Rattle.gq_slots.specs.Calls.{Puts}
+use Rattle.gq_slots.proofs.Worlds.{session_there}
+use Rattle.gq_addresses.specs.Addresses.{AreBuffers, place_seen}
+use Rattle.gq_paid.specs.Systems.{AreLawful, IsOf}
+use Rattle.gq_paid.proofs.Paid.{all_paid}
+use Rattle.gq_statements.specs.declared.actor.Actor.{Actor}
+use Rattle.gq_statements.specs.Statements.{IsBy, hand_seen}
+use Rattle.gq_statements.proofs.Founds.{same_spot}
+use Rattle.gq_statements.proofs.Makings.{still_of}
+
+-- the buffer of a session's service
+pub buffer_is : (f : Frame) (system : System) (bs : List ℕ) (s : Slots) (k : ℕ) → IsTrading s.trades.trading → IsTaken s.trades.trading.sessions k
+    → AreBuffers system f s bs
+    → nat_lt 0 (get_or bs (session_at s.trades.trading k).service 0) ≡ shares_buffer system (world.session_at (world_seen f s) k)
+buffer_is f system bs s k w t a =
+    let q = session_at s.trades.trading k in
+    let b = between_at (length s.trades.trading.leaves) (length s.trades.trading.objects) s.trades.trading.sessions k w.between t in
+    ap (nat_lt 0) (a q.service b.service)
+    ∙ sym (ap (λ o. shares_buffer system (world.joined o)) (session_there (λ z. session_seen f.names (memory_of s z.server) z) s.trades.trading.sessions k t))
+
+module _ (d : Doing) (a : Actor) (place : Place) (f : Frame) (s : Slots) (p : Spot) (h : IsBy d a)
+    (e : place_seen (Some p) ≡ world.spot_of a.leaf (hand_seen a.hand) place) (we : standing d d.leaf ≡ world_seen f s) where
+  abbrev tested : Bool
+  tested = is_memory (world.slot_at (world_seen f s) (spot_seen p))
+
+  abbrev freed : world.World
+  freed = world.with_slot (world_seen f s) (spot_seen p) world.Empty
+
+  free_is : free d place ≡ when (tested && not (is_kept d d.leaf.hand place)) WrongKind (if_paid d.system freed Quiet)
+  free_is =
+      ap (λ w. need (world.spot_of d.x d.leaf.hand place) WrongKind (λ spot.
+      when (is_memory (world.slot_at w spot) && not (is_kept d d.leaf.hand place)) WrongKind (if_paid d.system (world.with_slot w spot world.Empty) Quiet)))
+      we
+      ∙ ap (λ o. need o WrongKind (λ spot.
+      when (is_memory (world.slot_at (world_seen f s) spot) && not (is_kept d d.leaf.hand place)) WrongKind
+      (if_paid d.system (world.with_slot (world_seen f s) spot world.Empty) Quiet))) (same_spot d a place (Some p) h e)
+
+  pub free_other : tested ≡ false → free d place ≡ Err WrongKind
+  free_other n = free_is ∙ ap (λ b. when (b && not (is_kept d d.leaf.hand place)) WrongKind (if_paid d.system freed Quiet)) n
+
+  pub free_some : (t : Slots) → tested ≡ true → is_kept d d.leaf.hand place ≡ false → Puts s t p world.Empty → AreLawful s → AreLawful t
+      → IsOf d.system f s → free d place ≡ Ok (world_seen f t, Quiet)
+  free_some t m n puts l k o =
+      free_is ∙ (λ j. when (m j && not (n j)) WrongKind (if_paid d.system freed Quiet))
+      ∙ ap (λ y. when (paid d.system y) ExceededQuota (Ok (y, Quiet))) (sym (puts.seen_so f))
+      ∙ ap (λ b. when b ExceededQuota (Ok (world_seen f t, Quiet))) (all_paid d.system f t k (still_of d.system f s t l k puts.rest o))

@@ -1,0 +1,10 @@
+pub mod Entries
+pub mod Founds
+pub mod Moves
+pub mod Numbers
+pub mod Spots
+pub mod Worlds
+pub mod Makings
+pub mod Refusals
+pub mod Takings
+pub mod Freeing

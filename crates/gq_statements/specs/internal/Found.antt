@@ -1,0 +1,52 @@
+-- Which bytes a statement names.
+use Rattle.std.specs.Prelude.{◌≡◌, ℕ, List, [], Option, Some, None, Err}
+use Rattle.gq_tariff.specs.Prices.{up}
+use Rattle.gq_model.specs.declared.program.Place.{Place}
+use Rattle.gq_model.specs.machine.World as world
+use Rattle.gq_model.specs.machine.Doing.{Doing, Stepped}
+use Rattle.gq_model.specs.declared.fault.Wrong.TheVariants.{WrongKind}
+use Rattle.gq_model.specs.machine.Memory.{bytes_at, pool_at}
+use Rattle.gq_things.specs.declared.thing.Thing.{Thing}
+use Rattle.gq_things.specs.declared.thing.Thing.TheVariants.{Empty, Block, Slice, Space, Pool, Link, Waiting}
+use Rattle.gq_things.specs.Things.{bytes_in}
+use Rattle.gq_sessions.specs.declared.session.Spot.{Spot}
+use Rattle.gq_sessions.specs.Seen.{spot_seen}
+use Rattle.gq_slots.specs.Slots.{Slots, slot_of}
+
+-- how many bytes it has, if it is one of bytes
+abbrev pub byte_count : Thing → Option ℕ
+byte_count Empty = None
+byte_count (Block p n) = Some n
+byte_count (Slice k n) = Some n
+byte_count (Space k n) = Some (up n)
+byte_count (Pool p) = None
+byte_count (Link k) = None
+byte_count (Waiting k) = None
+
+-- a slot with other bytes
+abbrev pub with_bytes : List ℕ → world.Slot → world.Slot
+with_bytes new world.Empty = world.Empty
+with_bytes new (world.Bytes f n bytes) = world.Bytes f n new
+with_bytes new (world.Pool n entries) = world.Pool n entries
+with_bytes new (world.Link k) = world.Link k
+with_bytes new (world.Waiting k) = world.Waiting k
+
+-- A step goes on with the bytes of this slot in the world w, or none are named.
+abbrev pub IsFound : Doing → world.World → Place → Slots → Option (Spot × ℕ) → Type 0
+IsFound d w place s None = (go : List ℕ → (List ℕ → world.World) → Stepped) → bytes_at d w place go ≡ Err WrongKind
+IsFound d w place s (Some f) = (go : List ℕ → (List ℕ → world.World) → Stepped) → bytes_at d w place go
+    ≡ go (bytes_in (slot_of s f.0)) (λ new. world.with_slot w (spot_seen f.0) (with_bytes new (slot_of s f.0)))
+
+-- the entries of a pool
+abbrev pub entries_in : world.Slot → List (Option (List ℕ))
+entries_in world.Empty = []
+entries_in (world.Bytes f n bytes) = []
+entries_in (world.Pool n entries) = entries
+entries_in (world.Link k) = []
+entries_in (world.Waiting k) = []
+
+-- A step goes on with the pool of this slot in the world w, whose entries have so many bytes, or none is named.
+abbrev pub IsPool : Doing → world.World → Place → Slots → Option (Spot × ℕ × ℕ) → Type 0
+IsPool d w place s None = (go : ℕ → List (Option (List ℕ)) → (List (Option (List ℕ)) → world.World) → Stepped) → pool_at d w place go ≡ Err WrongKind
+IsPool d w place s (Some p) = (go : ℕ → List (Option (List ℕ)) → (List (Option (List ℕ)) → world.World) → Stepped) → pool_at d w place go
+    ≡ go p.1 (entries_in (slot_of s p.0)) (λ new. world.with_slot w (spot_seen p.0) (world.Pool p.1 new))

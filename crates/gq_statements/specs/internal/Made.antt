@@ -1,0 +1,26 @@
+-- Memory that a statement makes.
+use Rattle.std.specs.Prelude.{◌≡◌, false, Option, Some, None, Err}
+use Rattle.gq_model.specs.declared.program.Place.{Place}
+use Rattle.gq_model.specs.machine.Scenario.{System}
+use Rattle.gq_model.specs.machine.World as world
+use Rattle.gq_model.specs.machine.Sums.{paid}
+use Rattle.gq_model.specs.machine.Doing.{Doing, Stepped, fill, need}
+use Rattle.gq_model.specs.declared.fault.Wrong.TheVariants.{WrongKind}
+use Rattle.gq_sessions.specs.declared.session.Spot.{Spot}
+use Rattle.gq_sessions.specs.Seen.{spot_seen}
+use Rattle.gq_slots.specs.Slots.{Frame, Slots, holder, settled_in, world_seen}
+use Rattle.gq_paid.specs.Systems.{IsOf}
+
+-- a step goes on with something new in the slot that it names
+abbrev pub filling : Doing → world.World → Place → world.Slot → (world.World → Stepped) → Stepped
+filling d w place slot go = need (world.spot_of d.x d.leaf.hand place) WrongKind (λ spot. fill w spot (world.slot_at w spot) slot go)
+
+-- It goes on with this slot, which is empty in the world w, or none that is empty is named.
+abbrev pub IsFilled : Doing → world.World → Place → Option Spot → Type 0
+IsFilled d w place None = (slot : world.Slot) (go : world.World → Stepped) → filling d w place slot go ≡ Err WrongKind
+IsFilled d w place (Some p) = (slot : world.Slot) (go : world.World → Stepped) → filling d w place slot go ≡ go (world.with_slot w (spot_seen p) slot)
+
+-- with this in the slot the world would not be paid for
+abbrev pub IsUnpaid : Slots → Spot → world.Slot → Type 0
+IsUnpaid s p slot = (system : System) (f : Frame) → IsOf system f s
+    → paid system (settled_in (holder s p) (world.with_slot (world_seen f s) (spot_seen p) slot)) ≡ false

@@ -1,0 +1,160 @@
+// Statements that read and write bytes.
+ghost use Rattle.std.specs.Prelude.{◌≡◌, ◌+◌, ◌≤◌, ◌∷◌, List, ℕ, nat_le, slice_range, IfSome, IsTrue, OnErr};
+ghost use Rattle.gq_model.specs.machine.Doing.{Doing, standing, with_operands};
+ghost use Rattle.gq_model.specs.machine.Memory as memory;
+ghost use Rattle.gq_model.specs.texts.Operands.{is_slot_or_object};
+ghost use Rattle.gq_trade.specs.Trades.{IsLive};
+ghost use Rattle.gq_slots.specs.Slots.{Frame, IsPaidBy, IsSpot, holder, slot_of, thing_at, world_seen};
+ghost use Rattle.gq_slots.specs.Calls.{Puts, SameBeside};
+ghost use Rattle.gq_things.specs.Things.{size_of};
+ghost use Rattle.gq_addresses.specs.Addresses.{AreBuffers};
+ghost use Rattle.gq_statements.specs.Statements.{AreLinked, IsAtHand, IsBy, done, read};
+ghost use Rattle.gq_model.specs.machine.Program.{bytes_of, little, spelled};
+ghost use Rattle.gq_things.specs.Things.{bytes_in, put_in};
+ghost use Rattle.gq_statements.specs.internal.Found.{IsFound, byte_count};
+
+use crate::actor::Actor;
+use gq_addresses::Addresses;
+use gq_model::fault::Wrong;
+use gq_model::program::{Place, Width};
+use gq_sessions::Spot;
+use gq_slots::Slots;
+use gq_things::Thing;
+
+// How many bytes a thing has, if it is one of bytes.
+fn byte_count(thing: Thing) -> Option<u64>
+    ensures { result ≡ byte_count thing }
+{
+    match thing {
+        Thing::Block(_, _) | Thing::Slice(_, _) | Thing::Space(_, _) => Some(thing.size()),
+        Thing::Empty | Thing::Pool(_) | Thing::Link(_) | Thing::Waiting(_) => None,
+    }
+}
+
+impl Actor {
+    // Where the bytes stand that a statement names, and how many they are. `None` where it names none.
+    fn bytes(self, addresses: &Addresses, slots: &Slots, place: Place) -> Option<(Spot, u64)>
+        requires place { IsTrue (is_slot_or_object place) }
+        requires live { IsLive slots.now.trades self.leaf }
+        requires hand { IsAtHand slots.now self.leaf self.hand }
+        requires linked { AreLinked slots.now }
+        ensures there { IfSome result (λ f. IsSpot slots.now f.0) }
+        ensures live { IfSome result (λ f. IsLive slots.now.trades (holder slots.now f.0)) }
+        ensures size { IfSome result (λ f. f.1 ≡ size_of (thing_at slots.now f.0)) }
+        ensures found { (f : Frame) (d : Doing) → IsBy d self → AreBuffers d.system f slots.now addresses.now
+            → IsFound d (world_seen f slots.now) place slots.now result }
+    {
+        slots.laws();
+        slots.trades().laws();
+        let named = self.spot(place)?;
+        let spot = addresses.bytes_spot(slots, named)?;
+        let count = byte_count(slots.thing(spot))?;
+        Some((spot, count))
+    }
+
+    /// Reads a byte or a word, from an index of the bytes in a slot on, the least byte first.
+    ///
+    /// `WrongKind` where the slot is not there or holds no bytes, and no buffer that it leads to does; else `UnmappedByte` where not all that is read
+    /// is among them. Nothing changes.
+    pub fn load(
+        self,
+        addresses: &Addresses,
+        slots: &mut Slots,
+        width: Width,
+        place: Place,
+        index: u32,
+    ) -> Result<u32, Wrong>
+        requires place { IsTrue (is_slot_or_object place) }
+        requires live { IsLive slots.old.trades self.leaf }
+        requires paid { IsPaidBy slots.old self.leaf }
+        requires hand { IsAtHand slots.old self.leaf self.hand }
+        requires linked { AreLinked slots.old }
+        ensures step { (f : Frame) (d : Doing) (rest : List ℕ) → IsBy d self → AreBuffers d.system f slots.old addresses.now → d.world ≡ world_seen f slots.old
+            → d.leaf.operands ≡ index ∷ rest → memory.load d width place ≡ read d rest result }
+        ensures same { slots.new ≡ slots.old }
+    {
+        let Some((spot, count)) = self.bytes(addresses, slots, place) else {
+            return Err(Wrong::WrongKind);
+        };
+        if !is_inside(width, index, count) {
+            return Err(Wrong::UnmappedByte);
+        }
+        let payer = slots.holder(spot);
+        slots.pay_by(payer);
+        let number = read_number(slots, spot, width, index);
+        slots.pay_by(self.leaf);
+        Ok(number)
+    }
+
+    /// Writes a byte of a number, or all four as a word, to an index of the bytes in a slot, the least byte first. Wrong as in `load`; then nothing
+    /// changes.
+    pub fn store(
+        self,
+        addresses: &Addresses,
+        slots: &mut Slots,
+        width: Width,
+        place: Place,
+        index: u32,
+        value: u32,
+    ) -> Result<(), Wrong>
+        requires place { IsTrue (is_slot_or_object place) }
+        requires live { IsLive slots.old.trades self.leaf }
+        requires paid { IsPaidBy slots.old self.leaf }
+        requires hand { IsAtHand slots.old self.leaf self.hand }
+        requires linked { AreLinked slots.old }
+        ensures step { (f : Frame) (d : Doing) (rest : List ℕ) → IsBy d self → AreBuffers d.system f slots.old addresses.now
+            → standing d (with_operands d rest) ≡ world_seen f slots.old → d.leaf.operands ≡ value ∷ index ∷ rest
+            → memory.store d width place ≡ done result (world_seen f slots.new) }
+        ensures beside { SameBeside slots.old slots.new }
+        ensures unchanged { OnErr result (slots.new ≡ slots.old) }
+    {
+        let Some((spot, count)) = self.bytes(addresses, slots, place) else {
+            return Err(Wrong::WrongKind);
+        };
+        if !is_inside(width, index, count) {
+            return Err(Wrong::UnmappedByte);
+        }
+        let payer = slots.holder(spot);
+        slots.pay_by(payer);
+        write_number(slots, spot, width, index, value);
+        slots.pay_by(self.leaf);
+        Ok(())
+    }
+}
+
+// Whether the bytes of a width from an index on are among so many.
+fn is_inside(width: Width, index: u32, count: u64) -> bool
+    ensures { result ≡ nat_le (index + bytes_of width) count }
+{
+    let bytes = match width {
+        Width::Byte => 1,
+        Width::Word => 4,
+    };
+    u64::from(index) + bytes <= count
+}
+
+// Reads a byte or a word of a slot.
+fn read_number(slots: &Slots, spot: Spot, width: Width, index: u32) -> u32
+    requires there { IsSpot slots.now spot }
+    requires paid { IsPaidBy slots.now (holder slots.now spot) }
+    requires inside { index + bytes_of width ≤ size_of (thing_at slots.now spot) }
+    ensures { result ≡ little (slice_range (bytes_in (slot_of slots.now spot)) index (index + bytes_of width)) }
+{
+    match width {
+        Width::Byte => u32::from(slots.load(spot, index)),
+        Width::Word => slots.load4(spot, index),
+    }
+}
+
+// Writes a byte or a word of a slot.
+fn write_number(slots: &mut Slots, spot: Spot, width: Width, index: u32, value: u32)
+    requires there { IsSpot slots.old spot }
+    requires paid { IsPaidBy slots.old (holder slots.old spot) }
+    requires inside { index + bytes_of width ≤ size_of (thing_at slots.old spot) }
+    ensures { Puts slots.old slots.new spot (put_in index (spelled (bytes_of width) value) (slot_of slots.old spot)) }
+{
+    match width {
+        Width::Byte => slots.store(spot, index, (value % 256) as u8),
+        Width::Word => slots.store4(spot, index, value),
+    }
+}

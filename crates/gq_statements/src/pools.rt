@@ -1,0 +1,118 @@
+// Statements on the entries of pools.
+ghost use Rattle.std.specs.Prelude.{◌≡◌, ◌∷◌, List, ℕ, IfSome, IsTrue, OnErr, Some};
+ghost use Rattle.gq_model.specs.machine.Doing.{Doing, standing, with_operands};
+ghost use Rattle.gq_model.specs.machine.Memory as memory;
+ghost use Rattle.gq_model.specs.machine.World.{Pool, slot_at};
+ghost use Rattle.gq_model.specs.texts.Operands.{is_slot};
+ghost use Rattle.gq_trade.specs.Trades.{IsLive};
+ghost use Rattle.gq_slots.specs.Slots.{Frame, IsPaidBy, IsSlot, IsSpot, holder, slot_of, thing_at, world_seen};
+ghost use Rattle.gq_sessions.specs.Seen.{spot_seen};
+ghost use Rattle.gq_slots.specs.Calls.{SameBeside};
+ghost use Rattle.gq_things.specs.Things.{entry_count, entry_size};
+ghost use Rattle.gq_statements.specs.Statements.{IsAtHand, IsBy, Pushes, done, read, told};
+ghost use Rattle.gq_statements.specs.internal.Found.{IsPool, entries_in};
+
+use crate::actor::Actor;
+use gq_model::fault::Wrong;
+use gq_model::program::Place;
+use gq_sessions::Spot;
+use gq_slots::Slots;
+
+impl Actor {
+    // The pool that a statement names: where it stands, the bytes of an entry, and how many entries there are. `None` where it names none.
+    pub(crate) fn pool(self, slots: &Slots, place: Place) -> Option<(Spot, u32, u32)>
+        requires place { IsTrue (is_slot place) }
+        requires live { IsLive slots.now.trades self.leaf }
+        requires hand { IsAtHand slots.now self.leaf self.hand }
+        ensures there { IfSome result (λ p. IsSpot slots.now p.0) }
+        ensures kind { IfSome result (λ p. IsSlot p.0) }
+        ensures holder { IfSome result (λ p. holder slots.now p.0 ≡ self.leaf) }
+        ensures size { IfSome result (λ p. p.1 ≡ entry_size (thing_at slots.now p.0)) }
+        ensures count { IfSome result (λ p. p.2 ≡ entry_count (thing_at slots.now p.0)) }
+        ensures reads { IfSome result (λ p. (f : Frame) → slot_at (world_seen f slots.now) (spot_seen p.0) ≡ Some (slot_of slots.now p.0)) }
+        ensures slot { IfSome result (λ p. slot_of slots.now p.0 ≡ Pool p.1 (entries_in (slot_of slots.now p.0))) }
+        ensures found { (f : Frame) (d : Doing) → IsBy d self → IsPool d (world_seen f slots.now) place slots.now result }
+    {
+        slots.laws();
+        let spot = self.spot(place)?;
+        let (size, count) = slots.thing(spot).entries()?;
+        Some((spot, size, count))
+    }
+
+    /// The byte of an entry of a pool, 0 where the entry is absent.
+    ///
+    /// `WrongKind` where the slot is not there or holds no pool, else `UnmappedByte` where the pool has no such entry, or its entries have no such
+    /// byte.
+    pub fn peek(self, slots: &Slots, place: Place, index: u32, offset: u32) -> Result<u32, Wrong>
+        requires place { IsTrue (is_slot place) }
+        requires live { IsLive slots.now.trades self.leaf }
+        requires paid { IsPaidBy slots.now self.leaf }
+        requires hand { IsAtHand slots.now self.leaf self.hand }
+        ensures step { (f : Frame) (d : Doing) (rest : List ℕ) → IsBy d self → d.world ≡ world_seen f slots.now
+            → d.leaf.operands ≡ offset ∷ index ∷ rest → memory.peek d place ≡ read d rest result }
+    {
+        let Some((spot, size, count)) = self.pool(slots, place) else {
+            return Err(Wrong::WrongKind);
+        };
+        if index >= count {
+            return Err(Wrong::UnmappedByte);
+        }
+        if offset >= size {
+            return Err(Wrong::UnmappedByte);
+        }
+        Ok(u32::from(slots.peek(spot, index, offset)))
+    }
+
+    /// Sets the byte of an entry of a pool to the lowest byte of a number; where the entry is absent nothing changes. Wrong as in `peek`; then nothing
+    /// changes.
+    pub fn poke(
+        self,
+        slots: &mut Slots,
+        place: Place,
+        index: u32,
+        offset: u32,
+        value: u32,
+    ) -> Result<(), Wrong>
+        requires place { IsTrue (is_slot place) }
+        requires live { IsLive slots.old.trades self.leaf }
+        requires paid { IsPaidBy slots.old self.leaf }
+        requires hand { IsAtHand slots.old self.leaf self.hand }
+        ensures step { (f : Frame) (d : Doing) (rest : List ℕ) → IsBy d self → standing d (with_operands d rest) ≡ world_seen f slots.old
+            → d.leaf.operands ≡ value ∷ offset ∷ index ∷ rest → memory.poke d place ≡ done result (world_seen f slots.new) }
+        ensures beside { SameBeside slots.old slots.new }
+        ensures unchanged { OnErr result (slots.new ≡ slots.old) }
+    {
+        let Some((spot, size, count)) = self.pool(slots, place) else {
+            return Err(Wrong::WrongKind);
+        };
+        if index >= count {
+            return Err(Wrong::UnmappedByte);
+        }
+        if offset >= size {
+            return Err(Wrong::UnmappedByte);
+        }
+        slots.poke(spot, index, offset, (value % 256) as u8);
+        Ok(())
+    }
+
+    /// Removes an entry of a pool, and says whether it did: not where it was absent. `WrongKind` as in `peek`, else `UnmappedByte` where the pool has no
+    /// such entry; then nothing changes.
+    pub fn give(self, slots: &mut Slots, place: Place, index: u32) -> Result<bool, Wrong>
+        requires place { IsTrue (is_slot place) }
+        requires live { IsLive slots.old.trades self.leaf }
+        requires paid { IsPaidBy slots.old self.leaf }
+        requires hand { IsAtHand slots.old self.leaf self.hand }
+        ensures step { (f : ℕ → Frame) (d : Doing) (rest : List ℕ) → IsBy d self → Pushes d rest f slots.old
+            → memory.give_entry d rest place index ≡ told f slots.new result }
+        ensures beside { SameBeside slots.old slots.new }
+        ensures unchanged { OnErr result (slots.new ≡ slots.old) }
+    {
+        let Some((spot, _size, count)) = self.pool(slots, place) else {
+            return Err(Wrong::WrongKind);
+        };
+        if index >= count {
+            return Err(Wrong::UnmappedByte);
+        }
+        Ok(slots.give(spot, index))
+    }
+}
