@@ -1,9 +1,11 @@
 -- Worlds of two frames that differ in one leaf.
-use Rattle.std.proofs.Common.{◌≡◌, ◌<◌, ℕ, zero, suc, List, [], ◌∷◌, get_or, length, Some, sym, ap, ◌∙◌, arith}
+use Rattle.std.proofs.Common.{map, ◌≡◌, ◌<◌, ℕ, zero, suc, List, [], ◌∷◌, get_or, length, Some, sym, ap, ◌∙◌, arith}
 use Rattle.std.specs.Prelude.{slice_get, slice_set}
 use Rattle.gq_model.specs.machine.World as world
 use Rattle.gq_store.specs.Store.{Store}
 use Rattle.gq_heap.specs.declared.heap.Heap.{Heap}
+use Rattle.gq_heap.specs.Heap.{peaks}
+use Rattle.gq_things.specs.Things.{seen}
 use Rattle.gq_things.specs.declared.thing.Thing.{Thing}
 use Rattle.gq_slots.specs.Slots.{Frame, Slots, leaf_seen, leaves_seen, memory_of, world_seen}
 use Rattle.gq_sessions.specs.Seen.{sessions_seen}
@@ -67,3 +69,14 @@ changed_frame f g s x leaf there e =
       sessions = sessions_seen (e.names k) s.trades.trading;
       requests = (world_seen f s).requests;
     }
+
+stands_alike : (leaf l : world.Leaf) (slots : List world.Slot) (peaks : List ℕ) → leaf ≡ record l { slots = slots; peaks = peaks }
+    → leaf ≡ record l { slots = leaf.slots; peaks = leaf.peaks }
+stands_alike leaf l slots peaks e = e ∙ sym (λ k. record l { slots = (e k).slots; peaks = (e k).peaks })
+
+-- the leaf in the world is the frame's, but for its slots and its peaks
+pub seen_leaf : (f : Frame) (s : Slots) (x : ℕ) (leaf : world.Leaf) → slice_get (world_seen f s).leaves x ≡ Some leaf
+    → leaf ≡ record (f.leaf x) { slots = leaf.slots; peaks = leaf.peaks }
+seen_leaf f s x leaf there =
+    let is = found_leaf f.leaf (memory_of s) s.own s.heaps x leaf no_heap there in
+    stands_alike leaf (f.leaf x) (map (seen (memory_of s x)) (get_or s.own x [])) (peaks (get_or s.heaps x no_heap)) is

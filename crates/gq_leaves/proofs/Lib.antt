@@ -1,3 +1,4 @@
 pub mod Frames
 pub mod Instructed
 pub mod Pushes
+pub mod Stepping

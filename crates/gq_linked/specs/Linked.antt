@@ -1,0 +1,91 @@
+-- What linked slots say of a session, of a request and of what is at a leaf's hand.
+use Rattle.std.specs.Prelude.{◌≡◌, ℕ, ◌⊎◌, true, false, List, Option, Some, None, slice_get}
+use Rattle.gq_model.specs.declared.phase.Phase.TheVariants.{Blocked}
+use Rattle.gq_model.specs.machine.Routes as routes
+use Rattle.gq_model.specs.machine.Scenario.{System, Component}
+use Rattle.gq_model.specs.machine.World as world
+use Rattle.gq_numbered.specs.Numbers.{IsTaken}
+use Rattle.gq_pool.specs.declared.pool.Pool.{Pool}
+use Rattle.gq_requests.specs.declared.requests.Ask.{Ask}
+use Rattle.gq_requests.specs.declared.requests.Ask.TheVariants.{Open, Upgrade, Close, Call}
+use Rattle.gq_requests.specs.declared.requests.Request.{Request}
+use Rattle.gq_things.specs.declared.thing.Thing.{Thing}
+use Rattle.gq_things.specs.declared.thing.Thing.TheVariants as thing
+use Rattle.gq_sessions.specs.declared.session.Session.{Session}
+use Rattle.gq_sessions.specs.declared.session.Spot.{Spot}
+use Rattle.gq_sessions.specs.declared.session.Spot.TheVariants.{InObject}
+use Rattle.gq_sessions.specs.Trading.{AreOfOthers, client_of, server_of, session_at}
+use Rattle.gq_slots.specs.Slots.{Frame, IsMark, IsSlot, IsSpot, Slots, holder, thing_at}
+
+-- SESSIONS AND THEIR SLOTS
+
+-- it leads to the session k, or waits for a reply from it
+abbrev pub Names : Thing → ℕ → Type 0
+Names t k = (t ≡ thing.Link k) ⊎ (t ≡ thing.Waiting k)
+
+-- the session k is there, and this is the slot of its client in which it stands
+pub record IsSlotOf (s : Slots) (p : Spot) (k : ℕ) : Type 0 where
+  pub there : IsTaken s.trades.trading.sessions k
+  pub spot : (session_at s.trades.trading k).spot ≡ p
+  pub client : client_of s.trades.trading k ≡ holder s p
+  pub slot : IsSlot p
+
+-- what is at hand, if there is anything, is of another session
+abbrev pub IsOfOther : ℕ → Option world.Hand → Type 0
+IsOfOther k None = Unit {0}
+IsOfOther k (Some hand) = hand.session ≡ k → ⊥
+
+-- a session is accepted, and no request of it waits or is at its server's hand
+pub record IsAtRest (f : Frame) (s : Slots) (k : ℕ) : Type 0 where
+  pub accepted : (session_at s.trades.trading k).accepted ≡ true
+  pub none_waits : AreOfOthers k s.trades.trading.requests
+  pub not_at_hand : IsOfOther k (f.leaf (server_of s.trades.trading k)).hand
+
+-- what a session's slot holds: a link to a session at rest, or else a mark that the slot waits
+abbrev pub Tells : Frame → Slots → ℕ → Thing → Type 0
+Tells f s k t = (IsAtRest f s k × (t ≡ thing.Link k)) ⊎ ((IsAtRest f s k → ⊥) × (t ≡ thing.Waiting k))
+
+-- a session stands in a slot of its client, which tells how it stands
+pub record IsInSlot (f : Frame) (s : Slots) (k : ℕ) : Type 0 where
+  pub there : IsSpot s (session_at s.trades.trading k).spot
+  pub slot : IsSlot (session_at s.trades.trading k).spot
+  pub holder_is : holder s (session_at s.trades.trading k).spot ≡ client_of s.trades.trading k
+  pub tells : Tells f s k (thing_at s (session_at s.trades.trading k).spot)
+  pub mark : IsMark (thing_at s (session_at s.trades.trading k).spot)
+
+-- REQUESTS
+
+-- the client of a session waits for a reply: it is blocked, and the session's slot waits
+pub record IsAwaited (f : Frame) (s : Slots) (k : ℕ) : Type 0 where
+  pub there : IsTaken s.trades.trading.sessions k
+  pub waits : thing_at s (session_at s.trades.trading k).spot ≡ thing.Waiting k
+  pub blocked : (f.leaf (client_of s.trades.trading k)).phase ≡ Blocked
+
+-- a request to open is of a session that is not accepted and has no object, every other one of an accepted session
+abbrev pub IsFor : Ask → Session → Type 0
+IsFor Open q = (q.accepted ≡ false) × (q.object ≡ thing.Empty)
+IsFor Upgrade q = q.accepted ≡ true
+IsFor Close q = q.accepted ≡ true
+IsFor (Call n) q = q.accepted ≡ true
+
+-- a request that waits for the leaf x
+pub record IsAsked (f : Frame) (s : Slots) (x : ℕ) (r : Request) : Type 0 where
+  pub awaited : IsAwaited f s r.session
+  pub server : server_of s.trades.trading r.session ≡ x
+  pub session : IsFor r.ask (session_at s.trades.trading r.session)
+
+-- what is at the hand of the leaf x: an accepted session to it, with an object, whose client waits for the reply
+pub record IsHandled (f : Frame) (s : Slots) (x : ℕ) (hand : world.Hand) : Type 0 where
+  pub awaited : IsAwaited f s hand.session
+  pub server : server_of s.trades.trading hand.session ≡ x
+  pub accepted : (session_at s.trades.trading hand.session).accepted ≡ true
+  pub object : thing_at s (InObject hand.session) ≡ thing.Empty → ⊥
+  pub no_pool : (p : Pool) → thing_at s (InObject hand.session) ≡ thing.Pool p → ⊥
+  pub none_waits : AreOfOthers hand.session s.trades.trading.requests
+
+-- LEAVES
+
+-- no component's route leads to the leaf x
+abbrev pub ProvidesNothing : System → ℕ → Type 0
+ProvidesNothing system x =
+    (y : ℕ) (c : Component) (service : List ℕ) → slice_get system.components y ≡ Some c → routes.server_of system c service ≡ Some x → ⊥
