@@ -1,0 +1,4 @@
+pub mod Leads
+pub mod Asks
+pub mod Kept
+pub mod Opens

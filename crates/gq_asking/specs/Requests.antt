@@ -1,0 +1,59 @@
+-- What a leaf that asks for something makes of the slots and of the machine's world.
+use Rattle.std.specs.Prelude.{◌≡◌, ℕ, Option, Some, None}
+use Rattle.gq_tariff.specs.declared.amount.Amount.{Amount}
+use Rattle.gq_model.specs.declared.phase.Phase.TheVariants as phase
+use Rattle.gq_model.specs.declared.program.Place.{Place}
+use Rattle.gq_model.specs.machine.Amounts.{amount}
+use Rattle.gq_model.specs.machine.Doing.{Doing, standing}
+use Rattle.gq_model.specs.machine.Scenario.{interface_in, upgrade_caps}
+use Rattle.gq_model.specs.machine.World as world
+use Rattle.gq_numbered.specs.Numbers.{IsTaken}
+use Rattle.gq_things.specs.declared.thing.Thing.TheVariants.{Link}
+use Rattle.gq_sessions.specs.Trading.{client_of}
+use Rattle.gq_sessions.specs.declared.session.Spot.{Spot}
+use Rattle.gq_slots.specs.Slots.{Frame, IsSpot, Slots, holder, thing_at, world_seen}
+
+-- each link in a slot that the leaf x pays for leads to a session that is there, and whose client is x
+abbrev pub OwnsLinks : Slots → ℕ → Type 0
+OwnsLinks s x = (p : Spot) → IsSpot s p → holder s p ≡ x → (k : ℕ) → thing_at s p ≡ Link k
+    → IsTaken s.trades.trading.sessions k × (client_of s.trades.trading k ≡ x)
+
+-- WHICH SESSION A STATEMENT NAMES
+
+-- the session to which a link leads; no other slot leads to one
+abbrev pub leads_to : Option world.Slot → Option ℕ
+leads_to (Some (world.Link k)) = Some k
+leads_to _ = None
+
+abbrev pub leads_from : world.World → Option world.Spot → Option ℕ
+leads_from w None = None
+leads_from w (Some p) = leads_to (world.slot_at w p)
+
+-- the session to which the slot leads that an operand names
+abbrev pub session_named : Doing → Place → Option ℕ
+session_named d place = leads_from d.world (world.spot_of d.x d.leaf.hand place)
+
+-- this is what the session that an operand names needs for its next level: n bytes, and the capabilities that its service asks for then
+abbrev pub IsNextLevel : Doing → Place → ℕ → Amount → Type 0
+IsNextLevel d place n donation = (k : ℕ) (q : world.Session) → session_named d place ≡ Some k → world.session_at d.world k ≡ Some q
+    → donation ≡ amount n (upgrade_caps (interface_in q.service d.system.interfaces) q.level)
+
+-- A LEAF THAT WAITS
+
+-- The step is one of the slots' world as the frame `before` has it. With this leaf, which is blocked, the world is as the frame `after` has it.
+pub record Blocks (d : Doing) (leaf : world.Leaf) (before after : Frame) (s : Slots) : Type 0 where
+  pub world_before : d.world ≡ world_seen before s
+  pub world_after : standing d (record leaf { phase = phase.Blocked }) ≡ world_seen after s
+
+-- All accounts, who pays and who stands where are as before; there may be a session more, and other requests and quotas.
+pub record Stays (old new : Slots) : Type 0 where
+  pub nodes : new.trades.nodes ≡ old.trades.nodes
+  pub tree : new.trades.trading.tree ≡ old.trades.trading.tree
+  pub leaves : new.trades.trading.leaves ≡ old.trades.trading.leaves
+  pub objects : new.trades.trading.objects ≡ old.trades.trading.objects
+  pub room : new.trades.trading.room ≡ old.trades.trading.room
+  pub payer : new.trades.trading.memory.payer ≡ old.trades.trading.memory.payer
+  pub price : new.trades.trading.memory.ledger.price ≡ old.trades.trading.memory.ledger.price
+  -- each slot stays, and is paid for by the same leaf
+  pub spots : (q : Spot) → IsSpot old q → IsSpot new q
+  pub holders : (q : Spot) → IsSpot old q → holder new q ≡ holder old q

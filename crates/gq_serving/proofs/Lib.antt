@@ -1,0 +1,10 @@
+pub mod Begun
+pub mod Clients
+pub mod Closed
+pub mod Emptied
+pub mod Exits
+pub mod Lawful
+pub mod Lists
+pub mod Outcomes
+pub mod Replied
+pub mod Taken
