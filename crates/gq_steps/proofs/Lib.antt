@@ -1,0 +1,11 @@
+pub mod Codes
+pub mod Running
+pub mod Standing
+pub mod Ranges
+pub mod Leading
+pub mod Instructing
+pub mod Telling
+pub mod Blocking
+pub mod Upgrading
+pub mod Ending
+pub mod Beginning
