@@ -86,7 +86,7 @@ source_given entries = by (text_at (codes "program") entries) (code_in entries) 
     by None (Some code) e = code_bytes (text_at (codes "code") entries) code e
     by None None e = tt
 
-each_append : (P : LeafNode → Type 0) (xs ys : List LeafNode) → Each P xs → Each P ys → Each P (xs ++ ys)
+pub each_append : (P : LeafNode → Type 0) (xs ys : List LeafNode) → Each P xs → Each P ys → Each P (xs ++ ys)
 each_append P [] ys h k = k
 each_append P (x ∷ xs) ys h k = (h.0, each_append P xs ys h.1 k)
 

@@ -16,10 +16,10 @@ use Rattle.gq_sound.proofs.Differing.{names_differ}
 use Rattle.gq_sound.proofs.Programs.{nodes_given, programs_are}
 use Rattle.gq_sound.proofs.Services.{services_fair}
 
-same_scenario : {F : Type 0} (s t : Scenario) → ◌≡◌ {A = Result Scenario F} (Ok s) (Ok t) → s ≡ t
+pub same_scenario : {F : Type 0} (s t : Scenario) → ◌≡◌ {A = Result Scenario F} (Ok s) (Ok t) → s ≡ t
 same_scenario s t e = cc
 
-not_ok : {F : Type 0} (f : F) (s : Scenario) → ◌≡◌ {A = Result Scenario F} (Err f) (Ok s) → ⊥
+pub not_ok : {F : Type 0} (f : F) (s : Scenario) → ◌≡◌ {A = Result Scenario F} (Err f) (Ok s) → ⊥
 not_ok f s e = cc
 
 no_refusal : (r : Option Refusal) → refused r ≡ None → r ≡ None

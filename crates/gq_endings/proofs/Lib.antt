@@ -1,0 +1,4 @@
+pub mod Rows
+pub mod Followers
+pub mod Afters
+pub mod Endings
