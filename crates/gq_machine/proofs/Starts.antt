@@ -1,76 +1,217 @@
--- The start of a machine.
-use Rattle.std.proofs.Common.{◌≡◌, ℕ, zero, suc, ◌+◌, ◌<◌, true, ◌&&◌, List, [], ◌∷◌, length, map, drop, sum, Option, IfSome, refl, ap, sym, ◌∙◌, arith}
-use Rattle.std.proofs.Common.{add-one}
-use Rattle.std.proofs.lemmas.List.Sums.{sum_by-cons}
-use Rattle.std.specs.Prelude.{slice_get, is_none}
-use Rattle.gq_model.specs.machine.Amounts.{Ram}
-use Rattle.gq_model.specs.machine.Program.{Statements, Program, section_in, body_of}
-use Rattle.gq_model.specs.declared.program.Section.{Section}
-use Rattle.gq_model.specs.declared.program.Section.TheVariants.{Main, Opening, Upgrading, Calling, Closing}
-use Rattle.gq_model.specs.texts.Code.{is_body}
-use Rattle.gq_model.specs.machine.Scenario.{Route, Nodes, End, Leaf_node, Init_node, Level, Component, components_of}
-use Rattle.gq_model.specs.machine.World.{Leaf, first_phase, start_leaf, start_leaves}
-use Rattle.gq_model.specs.rules.Resolve.{first_handed, handed_out}
-use Rattle.gq_machine.specs.Reading.{all_run}
-use Rattle.gq_machine.specs.Alone.{leaf_of}
-use Rattle.gq_machine.specs.Plain.{are_plain_sections, is_plain_program, are_plain_programs, first_of, are_leaves, stands_alone, all_alone, programs_of}
-use Rattle.gq_machine.specs.Plain.{quanta_of}
-use Rattle.gq_machine.specs.Machines.{all_simple, quotas_of}
-use Rattle.gq_machine.proofs.Nexts.{none_of}
-use Rattle.std.proofs.lemmas.Bool.{and_parts}
+-- The machine at the start of a scenario.
+use Rattle.std.proofs.Common.{◌≡◌, ◌==◌, ◌<◌, ℕ, zero, suc, Bool, true, false, cond, List, [], ◌∷◌, length, replicate, map, get_or, Option, Some, None}
+use Rattle.std.proofs.Common.{refl, sym, ap, subst, ◌∙◌, arith}
+use Rattle.std.specs.Prelude.{is_some, slice_get}
+use Rattle.std.proofs.lemmas.Option.{slice_get_within}
+use Rattle.gq_model.specs.declared.program.Instruction.{Instruction}
+use Rattle.gq_model.specs.declared.program.Section.TheVariants.{Main}
+use Rattle.gq_model.specs.declared.phase.Phase.{Phase}
+use Rattle.gq_model.specs.machine.Amounts.{Resource, Ram, Caps, counted_in}
+use Rattle.gq_model.specs.machine.Program.{Done, Program, Statements, body_of, section_in}
+use Rattle.gq_model.specs.machine.Scenario.{Scenario, Component, components, system}
+use Rattle.gq_model.specs.machine.World as world
+use Rattle.gq_model.proofs.Small.{get_within, none_some}
+use Rattle.gq_laws.specs.Links.{IsLinkedWorld}
+use Rattle.gq_laws.proofs.linking.Linked_worlds.{start_linked}
+use Rattle.gq_laws.proofs.paying.Places.{starts_after}
+use Rattle.gq_room.specs.Room.{IsRoomy}
+use Rattle.gq_room.proofs.Worlds.{start_roomy}
+use Rattle.gq_progress.proofs.Phases.{AreReady, start_ready}
+use Rattle.gq_init.proofs.Rows.{places-count}
+use Rattle.gq_ready.specs.Ready.{IsReady}
+use Rattle.gq_plans.proofs.Firsts.{afters_fit}
+use Rattle.gq_plans.proofs.Kept.{first_kept, quantum_of, stage_of}
+use Rattle.gq_plans.specs.Nodes.{AreNodesOf}
+use Rattle.gq_plans.specs.Plans.{first_stage}
+use Rattle.gq_flat.specs.Cores.{Core}
+use Rattle.gq_flat.specs.Programs.{AreFound, IsCodeOfProgram, ProgramCode, code_in}
+use Rattle.gq_flat.specs.Views.{state_of}
+use Rattle.gq_flat.specs.declared.operation.Operation.{Operation}
+use Rattle.gq_flat.proofs.Named.{started}
+use Rattle.gq_flat.proofs.Parts.{found_body}
+use Rattle.gq_store.specs.Store.{Store}
+use Rattle.gq_heap.specs.declared.heap.Heap.{Heap}
+use Rattle.gq_heap.specs.Heap.{peaks}
+use Rattle.gq_requests.specs.declared.requests.Request.{Request}
+use Rattle.gq_requests.specs.Seen.{request_seen}
+use Rattle.gq_things.specs.declared.thing.Thing.{Thing}
+use Rattle.gq_things.specs.declared.thing.Thing.TheVariants.{Empty}
+use Rattle.gq_things.specs.Things.{seen}
+use Rattle.gq_sessions.specs.declared.session.Session.{Session}
+use Rattle.gq_sessions.specs.Seen.{sessions_seen}
+use Rattle.gq_sessions.specs.Trading.{Trading}
+use Rattle.gq_trade.specs.Balances.{node_at}
+use Rattle.gq_slots.specs.Slots.{Slots, leaf_seen, leaves_seen, memory_of}
+use Rattle.gq_paid.specs.Systems.{IsOf, counted_at, stage_in}
+use Rattle.gq_prepared.specs.Prepared.{AreServices, names_of}
+use Rattle.gq_leaves.specs.Leaves.{leaf_of, body_in}
+use Rattle.gq_steps.specs.Coded.{Coded, first_state}
+use Rattle.gq_steps.proofs.Codes.{code_found}
+use Rattle.gq_machine.specs.Worlds.{frame_of, leaf_in, world_of}
+use Rattle.gq_machine.specs.declared.state.Fixed.{Fixed}
+use Rattle.gq_machine.specs.declared.state.State.{State}
+use Rattle.gq_machine.specs.internal.Holds.{Holds, room}
+use Rattle.gq_machine.specs.internal.Starts.{AreFirst, AreFirstSlots, ArePrepared, IsFirstOf}
+use Rattle.gq_machine.proofs.Frames.{leaf_at}
 
--- QUANTA
+-- ONE LEAF
 
-pub sum-cons : (x : ℕ) (xs : List ℕ) → sum (x ∷ xs) ≡ x + sum xs
-sum-cons x xs = sum_by-cons (λ n. n) x xs
+abbrev first_core : Core
+first_core = record { position = 0; operands = []; locals = replicate 8 0; rounds = replicate 4 0 }
 
-quanta-drop_suc : (cs : List Component) (i q : ℕ) → i < length cs → IfSome (slice_get cs i) (λ c. q ≡ c.node.quantum.ram)
-    → quanta_of (drop i cs) ≡ q ∷ quanta_of (drop (suc i) cs)
-quanta-drop_suc [] i q less h = absurd (omega (arith, less))
-quanta-drop_suc (c ∷ cs) zero q less h = ap (λ n. n ∷ quanta_of cs) (sym h)
-quanta-drop_suc (c ∷ cs) (suc i) q less h = quanta-drop_suc cs i q (omega (arith, less)) h
+record Begins (body : Statements) : Type 0 where
+  todo : (state_of body first_core 0).todo ≡ body
+  loops : (state_of body first_core 0).loops ≡ []
 
-pub quanta-drop : (cs : List Component) (i q : ℕ) → i < length cs → IfSome (slice_get cs i) (λ c. q ≡ c.node.quantum.ram)
-    → quanta_of (drop i cs) ≡ q ∷ quanta_of (drop (i + 1) cs)
-quanta-drop cs i q less h = quanta-drop_suc cs i q less h ∙ ap (λ n. q ∷ quanta_of (drop n cs)) (sym (add-one i))
+-- the first place of `main` is its first statement, and in no loop
+begins : (code : ProgramCode) (p : Program) → IsCodeOfProgram code p.sections → Begins (body_of (section_in Main p.sections))
+begins code p of = by (code_in Main code.sections) refl
+  where
+    without : (o : Option Statements) → AreFound None code.longs o → Begins (body_of o)
+    without None h = record { todo = refl; loops = refl }
+    without (Some body) h = absurd h
 
--- leaves that start at once are handed their quanta
-pub handed_out-leaves : (label : List ℕ) (routes : Option (List Route)) (siblings : Nodes) (above : List Level) (nodes : Nodes) → are_leaves nodes ≡ true
-    → all_alone (components_of label routes siblings above nodes) ≡ true
-    → handed_out Ram nodes ≡ sum (quanta_of (components_of label routes siblings above nodes))
-handed_out-leaves label routes siblings above End h a = refl
-handed_out-leaves label routes siblings above (Leaf_node node rest) h a =
-    let cs = components_of label routes siblings above rest in
-    let both = and_parts (is_none node.provides && is_none node.after) (all_alone cs) a in
-    let after = none_of node.after (and_parts (is_none node.provides) (is_none node.after) both.0).1 in
-    ap (λ o. first_handed o node.quantum.ram + handed_out Ram rest) after
-    ∙ (ap (λ n. node.quantum.ram + n) (handed_out-leaves label routes siblings above rest h both.1) ∙ sym (sum-cons node.quantum.ram (quanta_of cs)))
-handed_out-leaves label routes siblings above (Init_node node children rest) h a = cc
+    by : (found : Option (List Operation)) → code_in Main code.sections ≡ found → Begins (body_of (section_in Main p.sections))
+    by None e = without (section_in Main p.sections) (found_body code Main None p.sections (sym e) of)
+    by (Some ops) e =
+        let s = started ops code.longs (body_of (section_in Main p.sections)) first_core 0 (code_found code Main ops p e of).is in
+        record { todo = s.todo; loops = s.loops }
 
--- STATES
+first_body : (after : Option (List ℕ)) (body : Statements) → body_in (world.first_phase after) body ≡ body
+first_body None body = refl
+first_body (Some name) body = refl
 
-pub start-alone : (cs : List Component) → all_alone cs ≡ true → map leaf_of (map first_of (programs_of cs)) ≡ start_leaves cs
-start-alone [] a = refl
-start-alone (c ∷ cs) a =
-    let both = and_parts (stands_alone c) (all_alone cs) a in
-    let after = none_of c.node.after (and_parts (is_none c.node.provides) (is_none c.node.after) both.0).1 in
-    let leaf : Option (List ℕ) → Leaf = λ o. record (leaf_of (first_of c.node.program)) { phase = first_phase o } in
-    ap (λ l. l ∷ map leaf_of (map first_of (programs_of cs))) (ap leaf (sym after)) ∙ ap (λ l. start_leaf c ∷ l) (start-alone cs both.1)
+map_replicate : {A B : Type 0} (f : A → B) (n : ℕ) (a : A) → map f (replicate n a) ≡ replicate n (f a)
+map_replicate f zero a = refl
+map_replicate f (suc n) a = ap (λ l. f a ∷ l) (map_replicate f n a)
 
-runs_main : (sections : List (Section × Statements)) → are_plain_sections sections ≡ true → all_run (body_of (section_in Main sections)) ≡ true
-runs_main [] h = cc
-runs_main ((Main, body) ∷ []) h = (and_parts (all_run body) (is_body 0 body) h).0
-runs_main ((Main, body) ∷ q ∷ rest) h = cc
-runs_main ((Opening, body) ∷ rest) h = cc
-runs_main ((Upgrading l, body) ∷ rest) h = cc
-runs_main ((Calling l, body) ∷ rest) h = cc
-runs_main ((Closing l, body) ∷ rest) h = cc
+one_first : (c : Component) (l : Coded) (st : Store) (h : Heap) → peaks h ≡ replicate 8 0 → IsFirstOf c l
+    → leaf_seen (leaf_of c.node.program l.state) st (replicate 64 Empty) h ≡ world.start_leaf c
+one_first c l st h none first =
+    let p = c.node.program in
+    let after = c.node.after in
+    let body = body_of (section_in Main p.sections) in
+    let b = begins l.code p first.code in
+    let same = first_body after body in
+    let todo : (state_of (body_in (world.first_phase after) body) first_core 0).todo ≡ body = ap (λ s. (state_of s first_core 0).todo) same ∙ b.todo in
+    let loops : (state_of (body_in (world.first_phase after) body) first_core 0).loops ≡ [] = ap (λ s. (state_of s first_core 0).loops) same ∙ b.loops in
+    let slots = map_replicate (seen st) 64 Empty in
+    ap (λ s. leaf_seen (leaf_of p s) st (replicate 64 Empty) h) first.state
+    ∙ (λ j. record {
+      phase = world.first_phase after;
+      hand = None;
+      todo = todo j;
+      loops = loops j;
+      operands = [];
+      locals = replicate 8 0;
+      slots = slots j;
+      peaks = none j;
+      steps = 0;
+    })
 
-pub all_simple-first : (ps : List Program) → are_plain_programs ps ≡ true → all_simple (map first_of ps) ≡ true
-all_simple-first [] h = refl
-all_simple-first (p ∷ ps) h =
-    let both = and_parts (is_plain_program p) (are_plain_programs ps) h in rw (runs_main p.sections both.0, all_simple-first ps both.1) refl
+-- ALL LEAVES
 
-pub quotas-first : (cs : List Component) → quanta_of cs ≡ quotas_of cs (map first_of (programs_of cs))
-quotas-first [] = refl
-quotas-first (c ∷ cs) = ap (λ l. c.node.quantum.ram ∷ l) (quotas-first cs)
+all_first : (cs : List Component) (ls : List Coded) (st : ℕ → Store) (hs : List Heap) → length hs ≡ length cs
+    → ((x : ℕ) (h : Heap) → x < length cs → peaks (get_or hs x h) ≡ replicate 8 0) → AreFirst cs (length cs) ls
+    → leaves_seen (λ x. leaf_in (slice_get cs x) (slice_get ls x)) st (replicate (length cs) (replicate 64 Empty)) hs ≡ world.start_leaves cs
+all_first [] ls st hs count none first = refl
+all_first (c ∷ cs) [] st hs count none first = let few = first.count in absurd (omega (arith, few))
+all_first (c ∷ cs) (l ∷ ls) st [] count none first = absurd (omega (arith, count))
+all_first (c ∷ cs) (l ∷ ls) st (h ∷ hs) count none first =
+    let many = first.count in
+    let here = one_first c l (st 0) h (none 0 h (omega arith)) (first.each 0 c l refl refl) in
+    let further = all_first cs ls (λ x. st (suc x)) hs (omega (arith, count)) (λ x k less. none (suc x) k (omega (arith, less)))
+    (record { count = omega (arith, many); each = λ x d m ed em. first.each (suc x) d m ed em }) in
+    λ j. here j ∷ further j
+
+map_none : {A B : Type 0} (f : A → B) (xs : List A) → xs ≡ [] → map f xs ≡ []
+map_none f xs e = ap (map f) e
+
+module _ (s : Scenario) (ls : List Coded) (t : Slots) (first : AreFirst (components s) (length (components s)) ls) (empty : AreFirstSlots s t) where
+  leaf_count : length empty.leaves ≡ length (components s)
+  leaf_count = ap length empty.plan.leaves ∙ places-count s
+
+  pub first_world : world_of s ls t ≡ world.start (system s)
+  first_world =
+      let frame = frame_of s ls in
+      let count = leaf_count in
+      let heaps = empty.heaps.count in
+      let own : t.own ≡ replicate (length (components s)) (replicate 64 Empty) =
+      empty.own ∙ ap (λ n. replicate n (replicate 64 Empty)) count in
+      let leaves = ap (λ o. leaves_seen frame.leaf (memory_of t) o t.heaps) own
+      ∙ all_first (components s) ls (memory_of t) t.heaps (omega (arith, heaps, count))
+      (λ x h less. (empty.heaps.each x h (omega (arith, less, count))).peaks) first in
+      let sessions = map_none _ t.trades.trading.sessions empty.trades.sessions in
+      let requests = map_none request_seen t.trades.trading.requests empty.trades.requests in
+      λ j. record { leaves = leaves j; sessions = sessions j; requests = requests j }
+
+  length-replicate : {A : Type 0} (n : ℕ) (a : A) → length (replicate n a) ≡ n
+  length-replicate zero a = refl
+  length-replicate (suc n) a = ap suc (length-replicate n a)
+
+  pub own_count : length (components s) ≡ length t.own
+  own_count =
+      let count = leaf_count in
+      let own = ap length empty.own ∙ length-replicate (length empty.leaves) (replicate 64 Empty) in
+      omega (arith, count, own)
+
+-- HOW ALL STANDS
+
+stage_first : (after : Option (List ℕ)) → first_stage after ≡ stage_in (world.first_phase after)
+stage_first None = refl
+stage_first (Some name) = refl
+
+counted_first : (version price : ℕ) → price ≡ cond (version == 2) 1 0 → counted_in version ≡ counted_at price
+counted_first version price e = by (version == 2) ∙ sym (ap counted_at e)
+  where
+    by : (b : Bool) → cond b (Ram ∷ Caps ∷ []) (Ram ∷ []) ≡ counted_at (cond b 1 0)
+    by true = refl
+    by false = refl
+
+none_of : (provides : Option (List ℕ)) → is_some provides ≡ false → provides ≡ None
+none_of None e = refl
+none_of (Some name) e = absurd cc
+
+-- who starts after another provides nothing
+bare : (s : Scenario) → IsReady s → (x : ℕ) (c : Component) (name : List ℕ) → slice_get (components s) x ≡ Some c → c.node.after ≡ Some name
+    → c.node.provides ≡ None
+bare s ready x c name there after =
+    none_of c.node.provides
+    (starts_after (components s) [] (components s) (afters_fit s ready.resolved.fits) x c name there after).0.provides
+
+pub holds_first : (f : Fixed) (m : State) → IsReady f.table → AreFirst (components f.table) (length (components f.table)) m.leaves.items
+    → AreFirstSlots f.table m.slots → ArePrepared f.table (length (components f.table)) m.leaves.items f.prepared.items → AreServices f.table f.services
+    → Holds f m
+holds_first f m ready first empty prepared services =
+    let s = f.table in
+    let ls = m.leaves.items in
+    let t = m.slots in
+    let same = first_world s ls t first empty in
+    let nodes : AreNodesOf s t.trades =
+    first_kept s empty.parents empty.nodes empty.leaves empty.objects room t.trades empty.plan empty.trades in
+    record {
+      ready = ready;
+      services = services;
+      count = first.count;
+      count_prepared = prepared.count;
+      prepared = prepared.each;
+      nodes = nodes;
+      room_is = empty.trades.room;
+      of = record {
+        count = own_count s ls t first empty;
+        counted = counted_first s.version t.trades.trading.memory.ledger.price nodes.price;
+        quanta = λ x c e. quantum_of s t.trades x c ready nodes e;
+        stages = λ x less.
+            (let count = own_count s ls t first empty in
+            let all = first.count in
+            let c = get_within (components s) x (omega (arith, less, count)) in
+            let l = get_within ls x (omega (arith, less, count, all)) in
+            stage_of s empty.parents empty.nodes empty.leaves empty.objects room t.trades x c.0 empty.plan empty.trades c.1
+            ∙ stage_first c.0.node.after
+            ∙ sym (ap (λ (y : world.Leaf). stage_in y.phase) (leaf_at s ls x c.0 l.0 c.1 l.1)
+            ∙ ap (λ y. stage_in y.phase) (first.each x c.0 l.0 c.1 l.1).state));
+      };
+      linked = subst (IsLinkedWorld (system s)) (sym same) (start_linked (system s));
+      roomy = subst IsRoomy (sym same) (start_roomy (system s));
+      phases = subst (AreReady (system s)) (sym same) (start_ready (system s) (bare s ready));
+    }

@@ -1,9 +1,4 @@
 pub mod Events
-pub mod Reading
-pub mod Alone
-pub mod Leaves
-pub mod Plain
 pub mod Machines
-pub mod Held
-pub mod Seen
+pub mod Worlds
 pub mod internal

@@ -1,2 +1,11 @@
-pub mod Fetched
-pub mod Phases
+pub mod Endings
+pub mod Gifts
+pub mod Held
+pub mod Holds
+pub mod Kinds
+pub mod Longs
+pub mod Replies
+pub mod Requests
+pub mod Scenes
+pub mod Shows
+pub mod Starts

@@ -1,22 +1,24 @@
-//! The machine: runs the code of leaves, a step at a time.
+//! The machine: runs the programs of leaves over their memory and sessions, a step at a time.
 //!
 //! ```rust
 //! use arrayvec::ArrayVec;
 //! use gq_machine::machine::Machine;
 //!
-//! // The table of an accepted scenario, from `gq_load`.
+//! // The table of a scenario that is read and resolved, from `gq_load`.
 //! let mut machine = Machine::new(alloc, table)?;
 //! let mut line = ArrayVec::new();
-//! let event = machine.step(leaf, &mut line);
+//! let event = machine.step_tested(leaf, &mut line);
 //! ```
 #![tactic(auto)]
 
+mod asking;
+mod endings;
 pub mod event;
-mod fetch;
-mod leaf;
 pub mod machine;
-pub mod plain;
-
-pub use event::Event;
-pub use gq_model::fault::Wrong;
-pub use gq_model::phase::Phase;
+mod others;
+mod replies;
+mod requests;
+mod state;
+mod statements;
+mod steps;
+mod turns;

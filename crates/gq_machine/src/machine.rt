@@ -1,43 +1,56 @@
-// The machine: the leaves of a scenario, and the balances of its accounts.
-ghost use Rattle.std.specs.Prelude.{ℕ, List, ◌≡◌, ◌≢◌, ◌≤◌, ◌<◌, ◌+◌, ◌*◌, [], true, map, sum, length, slice_get, IfOk, IfErr, IfSome, IsOk, OnErr, Ok, Err};
-ghost use Rattle.std.specs.Prelude.{◌^◌};
+// The machine: the leaves of a scenario over their memory and sessions.
+ghost use Rattle.std.specs.Prelude.{◌≡◌, ℕ, ◌+◌, ◌*◌, ◌<◌, ◌≤◌, ◌^◌, List, [], IfErr, IfOk, IfSome, OnErr, OnOk, Ok, Err, length, slice_get};
 ghost use Rattle.gq_model.specs.machine.Amounts.{Ram, Caps};
-ghost use Rattle.gq_model.specs.machine.Scenario.{components, system};
-ghost use Rattle.gq_model.specs.machine.World.{start};
-ghost use Rattle.gq_model.specs.machine.Sums.{held};
 ghost use Rattle.gq_model.specs.machine.Accounts.{accounts};
-ghost use Rattle.gq_model.specs.rules.Resolve.{handed_out};
+ghost use Rattle.gq_model.specs.machine.Scenario.{Component, components, system};
 ghost use Rattle.gq_model.specs.machine.Step.{next};
-ghost use Rattle.gq_machine.specs.Events.{event_of};
+ghost use Rattle.gq_model.specs.machine.Sums.{held};
+ghost use Rattle.gq_model.specs.machine.World.{first_phase, start};
 ghost use Rattle.gq_init.specs.NodeTables.{node_rows};
-ghost use Rattle.gq_machine.specs.Held.{held_by_all};
-ghost use Rattle.gq_machine.specs.Plain.{is_plain, is_plain_program, are_plain_programs, first_of, quanta_of};
+ghost use Rattle.gq_ready.specs.Ready.{IsReady};
+ghost use Rattle.gq_flat.specs.Programs.{IsCodeOfProgram};
+ghost use Rattle.gq_plans.specs.Nodes.{caps_of};
+ghost use Rattle.gq_quotas.specs.Held.{held_by_all};
+ghost use Rattle.gq_steps.specs.Coded.{Coded};
+ghost use Rattle.gq_machine.specs.internal.Holds.{IsPrepared};
+ghost use Rattle.gq_machine.specs.internal.Held.{held_before};
+ghost use Rattle.gq_machine.specs.Events.{event_of};
+ghost use Rattle.gq_machine.specs.Machines.{IsCountable};
+ghost use Rattle.gq_machine.specs.declared.event.Event as event;
+ghost use Rattle.gq_machine.specs.internal.Starts.{AreFirst, ArePrepared, IsFirstOf, AreFirstSlots};
 
-use crate::event::Event;
-use crate::leaf::{LINE, Leaf};
-use arrayvec::ArrayVec;
-use gq_code::encode::encode_body;
+use crate::state::{Fixed, Prepared, State};
+use crate::statements::lawful;
+use gq_flat::Code;
 use gq_init::NodeTable;
-use gq_model::fault::Wrong;
 use gq_model::phase::Phase;
-use gq_program::program::Program;
+use gq_plans::plan_of;
+use gq_prepared::openings::openings;
+use gq_prepared::sections::sections_of;
+use gq_prepared::services::Services;
 use gq_scenario::node::NodeNo;
-use gq_scenario::scenario::LeafNo;
+use gq_scenario::scenario::{LeafNo, Version};
+use gq_slots::Slots;
+use gq_steps::Leaf;
 use gq_tariff::price::PAGE;
+use gq_trade::Stage;
 use std::alloc::{AllocError, Global};
 use std::marker::Model;
 
-/// The leaves of a scenario between two steps, with what its accounts have.
+// How many sessions there is room for: more than there can be at a time.
+const ROOM: u32 = 16449;
+
+/// The leaves of a scenario between two steps, with all that they have in memory and sessions.
 #[derive(Drop)]
 pub struct Machine {
-    table: NodeTable,
-    leaves: Vec<Leaf>,
-    quotas: Vec<u64>,
-    root: u64,
+    pub(crate) fixed: Fixed,
+    pub(crate) state: State,
 }
 
 impl Model for Machine {
     ghost use Rattle.gq_machine.specs.Machines.{Machine};
+    ghost use Rattle.gq_machine.specs.internal.Holds.{Holds};
+    ghost use Rattle.gq_machine.specs.internal.Starts.{machine_seen};
     ghost use Rattle.gq_model.specs.internal.Stored.{statements_code, nodes_code};
     ghost use Rattle.std.specs.Coded.{codes};
 
@@ -49,80 +62,132 @@ impl Model for Machine {
       nodes_code (Prim.hlevel (codes, statements_code (Prim.hlevel codes))) (Prim.hlevel codes),
     ) };
 
-    ghost use Rattle.gq_machine.specs.Seen.{machine_seen, Holds};
-
     ghost view = { machine_seen };
 
-    ghost invariant = { Holds };
+    ghost invariant = { λ m. Holds m.fixed m.state };
+}
+
+// The phase in which a leaf starts.
+fn first_phase(table: &NodeTable, leaf: LeafNo) -> Phase
+    requires ready { IsReady table.now }
+    requires leaf { leaf < length (components table.now) }
+    ensures { IfSome (slice_get (components table.now) leaf) (λ c. result ≡ first_phase c.node.after) }
+{
+    match table.after(leaf) {
+        None => Phase::Running,
+        Some(_) => Phase::Pending,
+    }
+}
+
+// The leaf of this number at the start of its program.
+fn first_leaf(alloc: Global, table: &NodeTable, leaf: LeafNo) -> Result<Leaf, AllocError>
+    requires ready { IsReady table.now }
+    requires leaf { leaf < length (components table.now) }
+    ensures { IfOk result (λ l. IfSome (slice_get (components table.now) leaf) (λ c. IsFirstOf c l)) }
+{
+    let phase = first_phase(table, leaf);
+    Leaf::new(alloc, &table.programs()[leaf.index()], phase)
+}
+
+// All leaves at the start of their programs.
+fn first_leaves(alloc: Global, table: &NodeTable) -> Result<Vec<Leaf>, AllocError>
+    requires ready { IsReady table.now }
+    ensures { IfOk result (λ ls. AreFirst (components table.now) (length (components table.now)) ls.items) }
+{
+    let mut leaves = Vec::new(alloc);
+    for number in 0..table.leaf_count() {
+        leaves.push(first_leaf(alloc, table, LeafNo::new(number as u32))?)?;
+    }
+    Ok(leaves)
+}
+
+// What is prepared of a leaf with this code.
+fn prepared_of(
+    alloc: Global,
+    table: &NodeTable,
+    leaf: LeafNo,
+    code: &Code,
+) -> Result<Prepared, AllocError>
+    requires ready { IsReady table.now }
+    requires leaf { leaf < length (components table.now) }
+    requires code { IfSome (slice_get (components table.now) leaf) (λ c. IsCodeOfProgram code.now c.node.program.sections) }
+    ensures { IfOk result (λ p. (c : Component) (l : Coded) → slice_get (components table.now) leaf ≡ Some c → l.code ≡ code.now → IsPrepared table.now c l p) }
+{
+    let openings = openings(alloc, table, leaf, code)?;
+    Ok(Prepared {
+        openings,
+        sections: sections_of(code),
+    })
+}
+
+// What is prepared of all leaves.
+fn prepared(alloc: Global, table: &NodeTable, leaves: &[Leaf]) -> Result<Vec<Prepared>, AllocError>
+    requires ready { IsReady table.now }
+    requires first { AreFirst (components table.now) (length (components table.now)) leaves.now }
+    ensures { IfOk result (λ ps. ArePrepared table.now (length (components table.now)) leaves.now ps.items) }
+{
+    let mut prepared = Vec::new(alloc);
+    for number in 0..table.leaf_count() {
+        let code = leaves[number].code();
+        prepared.push(prepared_of(alloc, table, LeafNo::new(number as u32), code)?)?;
+    }
+    Ok(prepared)
+}
+
+// The capabilities that there are, where they are counted.
+fn caps_of(table: &NodeTable) -> Option<u64>
+    ensures { result ≡ caps_of table.now }
+{
+    let scenario = table.scenario();
+    match scenario.version() {
+        Version::One => None,
+        Version::Two => Some(u64::from(scenario.total().caps())),
+    }
+}
+
+// The slots of all leaves, which are empty, over their first accounts.
+fn first_slots(alloc: Global, table: &NodeTable) -> Result<Slots, AllocError>
+    requires { IsReady table.now }
+    ensures { IfOk result (λ t. AreFirstSlots table.now t) }
+{
+    table.scenario().laws();
+    let plan = plan_of(alloc, table)?;
+    let slots = Slots::new(
+        alloc,
+        table.scenario().total().ram(),
+        caps_of(table),
+        plan,
+        ROOM,
+    )?;
+    Ok(slots)
 }
 
 impl Machine {
-    /// The machine at the start of a scenario that it runs so far: each leaf has its quantum, and the root what is left. Refused only for want
-    /// of host memory.
+    /// The machine at the start of a scenario that is read and resolved. Refused only for want of host memory.
     pub fn new(alloc: Global, table: NodeTable) -> Result<Machine, AllocError>
-        requires plain { is_plain table ≡ true }
-        requires fits { handed_out Ram table.nodes ≤ table.total.ram }
+        requires ready { IsReady table }
         ensures scenario { IfOk result (λ m. m.scenario ≡ table) }
         ensures world { IfOk result (λ m. m.world ≡ start (system table)) }
     {
-        let leaves = first_leaves(alloc, table.programs())?;
-        let (root, quotas) = hand_out(alloc, &table)?;
+        let slots = first_slots(alloc, &table)?;
+        let leaves = first_leaves(alloc, &table)?;
+        let prepared = prepared(alloc, &table, leaves.as_slice())?;
+        let services = Services::new(alloc, &table)?;
         Ok(Machine {
-            table,
-            leaves,
-            quotas,
-            root,
+            fixed: Fixed {
+                table,
+                prepared,
+                services,
+            },
+            state: State { leaves, slots },
         })
     }
 
-    /// One turn of a leaf, tested: where the leaf can run it is one step. After it the line has the text that was given,
-    /// without label and line feed, and is empty where none was. Where the step is wrong, nothing is changed.
-    pub fn step_tested(
-        &mut self,
-        leaf: LeafNo,
-        line: &mut ArrayVec<u8, LINE>,
-    ) -> Result<Event, Wrong>
-        requires { leaf < length (components self.old.scenario) }
-        ensures scenario { self.new.scenario ≡ self.old.scenario }
-        ensures stepped { IfOk result (λ event. next (system self.old.scenario) self.old.world leaf ≡ Ok (self.new.world, event_of event line.new.items)) }
-        ensures no_line { IfOk result (λ event. event ≢ Event.Line → line.new.items ≡ []) }
-        ensures wrong { IfErr result (λ wrong. next (system self.old.scenario) self.old.world leaf ≡ Err wrong) }
-        ensures unchanged { OnErr result (self.new ≡ self.old) }
-    {
-        let place = leaf.index();
-        let state = &mut self.leaves[place];
-        match state.step(line) {
-            Err(wrong) => Err(wrong),
-            Ok(event) => match state.phase() {
-                Phase::Exited => {
-                    self.root += self.quotas[place];
-                    self.quotas[place] = 0;
-                    Ok(event)
-                }
-                _ => Ok(event),
-            },
-        }
-    }
-
-    /// One turn of a leaf whose next step is not wrong, as of `step_tested`.
-    pub fn step(&mut self, leaf: LeafNo, line: &mut ArrayVec<u8, LINE>) -> Event
-        requires leaf { leaf < length (components self.old.scenario) }
-        requires defined { IsOk (next (system self.old.scenario) self.old.world leaf) }
-        ensures scenario { self.new.scenario ≡ self.old.scenario }
-        ensures stepped { next (system self.old.scenario) self.old.world leaf ≡ Ok (self.new.world, event_of result line.new.items) }
-        ensures no_line { result ≢ Event.Line → line.new.items ≡ [] }
-    {
-        match self.step_tested(leaf, line) {
-            Ok(event) => event,
-            Err(_) => unreachable!(),
-        }
-    }
-
-    /// The nodes of the scenario that runs.
+    /// The nodes of the scenario.
     pub fn table(&self) -> &NodeTable
         ensures { result.now ≡ self.now.scenario }
     {
-        &self.table
+        &self.fixed.table
     }
 
     /// What a leaf does.
@@ -130,7 +195,7 @@ impl Machine {
         requires { leaf < length (components self.now.scenario) }
         ensures { IfSome (slice_get self.now.world.leaves leaf) (λ l. result ≡ l.phase) }
     {
-        self.leaves[leaf.index()].phase()
+        self.state.leaves[leaf.index()].phase()
     }
 
     /// The steps that a leaf has taken.
@@ -138,7 +203,7 @@ impl Machine {
         requires { leaf < length (components self.now.scenario) }
         ensures { IfSome (slice_get self.now.world.leaves leaf) (λ l. result ≡ l.steps) }
     {
-        self.leaves[leaf.index()].steps()
+        self.state.leaves[leaf.index()].steps()
     }
 
     /// The RAM quota of a node, in bytes.
@@ -146,11 +211,12 @@ impl Machine {
         requires { node < length (node_rows self.now.scenario) }
         ensures { (told : List ℕ) → IfSome (slice_get (accounts self.now.scenario self.now.world told) node) (λ a. result ≡ a.quota.ram) }
     {
-        let place = node.index();
-        if place == 0 {
-            return self.root;
+        lawful(&self.state.slots);
+        let trades = self.state.slots.trades();
+        match trades.stage(node.index()) {
+            Stage::Ended => 0,
+            Stage::Pending | Stage::Live => trades.quota(node.index()),
         }
-        self.quotas[place - 1]
     }
 
     /// The quota of capabilities of a node: none is counted in version 1.
@@ -158,11 +224,15 @@ impl Machine {
         requires { node < length (node_rows self.now.scenario) }
         ensures { (told : List ℕ) → IfSome (slice_get (accounts self.now.scenario self.now.world told) node) (λ a. result ≡ a.quota.caps) }
     {
-        // Opens the facts of the model.
-        let _leaves = &self.leaves;
-        // The same for each node: version 1 counts none.
-        let _node = node.index();
-        0
+        lawful(&self.state.slots);
+        let trades = self.state.slots.trades();
+        match trades.stage(node.index()) {
+            Stage::Ended => 0,
+            Stage::Pending | Stage::Live => match self.fixed.table.scenario().version() {
+                Version::One => 0,
+                Version::Two => trades.caps(node.index()),
+            },
+        }
     }
 
     /// What a leaf holds, in bytes.
@@ -170,79 +240,51 @@ impl Machine {
         requires { leaf < length (components self.now.scenario) }
         ensures { IfSome (slice_get self.now.world.leaves leaf) (λ l. result ≡ held Ram self.now.world leaf l) }
     {
-        // Opens the facts of the model.
-        let _leaves = &self.leaves;
-        // The same for each leaf: none holds memory yet.
-        let _leaf = leaf.index();
-        0
+        let place = leaf.index();
+        lawful(&self.state.slots);
+        let trades = self.state.slots.trades();
+        match self.state.leaves[place].phase() {
+            Phase::Exited => 0,
+            _ => trades.used(self.fixed.table.node(leaf).index()),
+        }
     }
 
-    /// The capabilities that a leaf holds.
+    /// The capabilities that a leaf holds, in version 2, where they are counted. In version 1 nothing is promised of the answer.
     pub fn caps_used(&self, leaf: LeafNo) -> u64
         requires { leaf < length (components self.now.scenario) }
-        ensures { IfSome (slice_get self.now.world.leaves leaf) (λ l. result ≡ held Caps self.now.world leaf l) }
+        ensures { self.now.scenario.version ≡ 2 → IfSome (slice_get self.now.world.leaves leaf) (λ l. result ≡ held Caps self.now.world leaf l) }
     {
-        // Opens the facts of the model.
-        let _leaves = &self.leaves;
-        // The same for each leaf: none holds a capability yet.
-        let _leaf = leaf.index();
-        0
+        let place = leaf.index();
+        lawful(&self.state.slots);
+        let trades = self.state.slots.trades();
+        match self.state.leaves[place].phase() {
+            Phase::Exited => 0,
+            _ => trades.caps_used(self.fixed.table.node(leaf).index()),
+        }
     }
 
-    /// The pages, of 4096 bytes, that no leaf holds.
+    // What the leaves from the first to one hold, in bytes.
+    fn used_before(&self, end: usize) -> u64
+        requires { end ≤ length (components self.now.scenario) }
+        ensures { result ≡ held_before Ram self.now.world 0 end self.now.world.leaves }
+    {
+        lawful(&self.state.slots);
+        let _leaves = self.fixed.table.leaf_count();
+        let mut sum = 0;
+        for number in 0..end {
+            sum += self.used(LeafNo::new(number as u32));
+        }
+        sum
+    }
+
+    /// The pages, of 4096 bytes, that no leaf holds, where the leaves hold no more than there is.
     pub fn free_pages(&self) -> u64
+        requires { held_by_all Ram self.now.world ≤ self.now.scenario.total.ram }
         ensures { result * 4096 + held_by_all Ram self.now.world ≡ self.now.scenario.total.ram }
     {
-        let scenario = self.table.scenario();
+        let scenario = self.fixed.table.scenario();
         scenario.laws();
-        scenario.total().ram() / PAGE
+        let used = self.used_before(self.fixed.table.leaf_count());
+        (scenario.total().ram() - used) / PAGE
     }
-}
-
-// The bytes that a leaf is given.
-fn quantum_of(table: &NodeTable, leaf: LeafNo) -> u64
-    requires { leaf < length (components table.now) }
-    ensures { IfSome (slice_get (components table.now) leaf) (λ c. result ≡ c.node.quantum.ram) }
-{
-    let node = table.node(leaf);
-    table.quantum(node).ram()
-}
-
-// What the root is left with, and what each leaf is handed: its quantum.
-fn hand_out(alloc: Global, table: &NodeTable) -> Result<(u64, Vec<u64>), AllocError>
-    requires { sum (quanta_of (components table.now)) ≤ table.now.total.ram }
-    ensures quotas { IfOk result (λ p. p.1.items ≡ quanta_of (components table.now)) }
-    ensures root { IfOk result (λ p. p.0 + sum (quanta_of (components table.now)) ≡ table.now.total.ram) }
-    ensures bounded { IfOk result (λ _. table.now.total.ram < 2 ^ 64) }
-{
-    let mut root = table.scenario().total().ram();
-    let mut quotas = Vec::new(alloc);
-    for number in 0..table.leaf_count() {
-        let quantum = quantum_of(table, LeafNo::new(number as u32));
-        root -= quantum;
-        quotas.push(quantum)?;
-    }
-    Ok((root, quotas))
-}
-
-// A leaf at the start of a program's `main`.
-fn first_leaf(alloc: Global, program: &Program) -> Result<Leaf, AllocError>
-    requires { is_plain_program program.now ≡ true }
-    ensures { IfOk result (λ leaf. leaf ≡ first_of program.now) }
-{
-    let (_, body) = &program.sections()[0];
-    let code = encode_body(alloc, body)?;
-    Ok(Leaf::new(code))
-}
-
-// The leaves at the start of these programs.
-fn first_leaves(alloc: Global, programs: &[Program]) -> Result<Vec<Leaf>, AllocError>
-    requires { are_plain_programs programs.now ≡ true }
-    ensures { IfOk result (λ leaves. leaves.items ≡ map first_of programs.now) }
-{
-    let mut leaves = Vec::new(alloc);
-    for program in programs {
-        leaves.push(first_leaf(alloc, program)?)?;
-    }
-    Ok(leaves)
 }

@@ -1,16 +1,24 @@
-use Rattle.std.proofs.Common.{◌≡◌, IfSome, length, subst, ap, arith}
-use Rattle.std.specs.Prelude.{slice_get}
-use Rattle.gq_model.specs.machine.Accounts.{accounts}
-use Rattle.gq_init.specs.NodeTables.{node_rows}
-use Rattle.gq_machine.specs.Machines.{Machine}
-use Rattle.gq_machine.proofs.Balances.{rows-leaves, caps-at}
+-- The quota of capabilities of a node.
+use Rattle.std.proofs.Common.{ap, inl, inr, sym, ◌∙◌}
+use Rattle.gq_model.specs.machine.Scenario.{Scenario}
+use Rattle.gq_scenario.specs.Trees.{version_number}
+use Rattle.gq_trade.specs.Balances.{node_at, quota}
+use Rattle.gq_machine.proofs.Readers.{all_caps_read, no_caps_read, none_left}
 use Rattle.gq_machine.proofs.machine.Machine.caps.Goals as goal
 
-pub returns : goal.returns
-returns c = λ told.
-    let P : Machine → Type 0 = λ v. IfSome (slice_get (accounts v.scenario v.world told) c.args.node) (λ a. 0 ≡ a.quota.caps) in
-    let h = c.self.invariant in
-    let s = c.self.inside.table in
-    subst P c.self.view_is
-    (caps-at s c.self.inside.leaves.items told c.args.node h.version h.leaves h.count
-    (omega (arith, c.requires, ap (λ w. length (node_rows w.scenario)) c.self.view_is, rows-leaves s h.leaves)))
+pub returns-in-Ended : goal.returns-in-Ended
+returns-in-Ended c told =
+    no_caps_read c.self.inside c.args.self.now c.self.view_is c.self.invariant c.lawful.ensures told c.args.node
+    (inr (none_left c.self.inside c.args.self.now c.self.view_is c.self.invariant c.lawful.ensures c.args.node c.requires
+    ((λ j. (node_at (sym c.trades-trades.ensures j).nodes (sym c.index.ensures j)).stage) ∙ sym c.stage.ensures ∙ c.in-Ended.is)).1)
+
+pub returns-in-One : goal.returns-in-One
+returns-in-One c told =
+    no_caps_read c.self.inside c.args.self.now c.self.view_is c.self.invariant c.lawful.ensures told c.args.node
+    (inl (sym (ap (λ (s : Scenario). s.version) c.scenario.ensures) ∙ sym c.version.ensures ∙ ap version_number c.in-One.is))
+
+pub returns-in-Two : goal.returns-in-Two
+returns-in-Two c told =
+    all_caps_read c.self.inside c.args.self.now c.self.view_is c.self.invariant c.lawful.ensures told c.args.node c.caps.result
+    (sym (ap (λ (s : Scenario). s.version) c.scenario.ensures) ∙ sym c.version.ensures ∙ ap version_number c.in-Two.is)
+    (c.caps.ensures ∙ (λ j. quota (λ n. n.caps) (c.trades-trades.ensures j).trading (c.index-in-Two.ensures j)))

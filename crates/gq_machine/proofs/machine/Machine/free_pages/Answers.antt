@@ -1,15 +1,31 @@
-use Rattle.std.proofs.Common.{◌≡◌, ◌+◌, ◌*◌, ◌/◌, ◌%◌, ◌∙◌, ap, subst}
-use Rattle.gq_model.specs.machine.Amounts.{Ram}
-use Rattle.gq_machine.specs.Held.{held_by_all}
+-- The pages that no leaf holds.
+use Rattle.std.proofs.Common.{ap, arith, sym, ◌≡◌, ◌∙◌}
+use Rattle.gq_model.specs.machine.Amounts.{Amount, Ram}
+use Rattle.gq_model.specs.machine.Scenario.{Scenario}
 use Rattle.gq_machine.specs.Machines.{Machine}
-use Rattle.gq_machine.proofs.Balances.{free_pages-alone}
+use Rattle.gq_quotas.specs.Held.{held_by_all}
+use Rattle.gq_machine.proofs.Pages.{all_pages}
+use Rattle.gq_machine.proofs.Readers.{free_read}
 use Rattle.gq_machine.proofs.machine.Machine.free_pages.Goals as goal
+
+pub overflow_sub-result : goal.overflow_sub-result
+overflow_sub-result c =
+    let all = free_read c.self.inside c.args.self.now c.self.view_is c.self.invariant c.leaf_count.result c.used_before-used.result c.leaf_count.ensures.count
+    c.used_before-used.ensures in
+    let ram : c.ram.result ≡ c.self.inside.fixed.table.total.ram =
+    c.ram.ensures.ram ∙ ap (λ (a : Amount). a.ram) c.total.ensures ∙ ap (λ (s : Scenario). s.total.ram) c.scenario-scenario.ensures in
+    let same = ap (λ (m : Machine). m.scenario.total.ram) c.self.view_is in
+    let less = c.requires in
+    omega (arith, all, ram, same, less)
 
 pub returns : goal.returns
 returns c =
-    let m = c.self.inside in
-    let told : c.ram.result ≡ c.scenario-scenario.result.now.total.ram = c.ram.ensures.ram ∙ ap (λ q. q.ram) c.total.ensures in
-    let same = told ∙ ap (λ s. s.total.ram) c.scenario-scenario.ensures in
-    let whole = ap (λ n. n % 4096) told ∙ c.laws.ensures.memory.whole in
-    let P : Machine → Type 0 = λ v. c.ram.result / 4096 * 4096 + held_by_all Ram v.world ≡ v.scenario.total.ram in
-    subst P c.self.view_is (free_pages-alone m.leaves.items m.table.total.ram c.ram.result same whole)
+    let all = free_read c.self.inside c.args.self.now c.self.view_is c.self.invariant c.leaf_count.result c.used_before-used.result c.leaf_count.ensures.count
+    c.used_before-used.ensures in
+    let ram : c.ram.result ≡ c.self.inside.fixed.table.total.ram =
+    c.ram.ensures.ram ∙ ap (λ (a : Amount). a.ram) c.total.ensures ∙ ap (λ (s : Scenario). s.total.ram) c.scenario-scenario.ensures in
+    let same = ap (λ (m : Machine). m.scenario.total.ram) c.self.view_is in
+    let less = c.requires in
+    let memory = ap (λ (s : Scenario). s.total.ram) c.scenario-scenario.ensures in
+    all_pages c.args.self.now.world c.args.self.now.scenario.total.ram c.ram.result c.used_before-used.result c.scenario-scenario.result.now.total.ram
+    (ram ∙ same) (memory ∙ same) all c.laws.ensures.memory.whole less

@@ -1,0 +1,9 @@
+-- The steps of a leaf.
+use Rattle.std.proofs.Common.{refl}
+use Rattle.gq_machine.proofs.Readers.{read}
+use Rattle.gq_machine.proofs.machine.Machine.steps.Goals as goal
+
+pub returns : goal.returns
+returns c =
+    read c.self.inside c.args.self.now c.self.view_is c.self.invariant (λ l. l.steps) (λ leaf st ts h. refl) c.args.leaf c.requires c.index.result
+    c.index-2.result.now c.index-2.ensures c.index.ensures c.steps.result (λ d. c.steps.ensures)

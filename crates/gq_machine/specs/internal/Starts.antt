@@ -1,0 +1,47 @@
+-- A machine by its fields, and how it is at the start.
+use Rattle.std.specs.Prelude.{◌≡◌, ℕ, List, length, replicate, slice_get, Some}
+use Rattle.gq_model.specs.machine.Scenario.{Scenario, Component, components}
+use Rattle.gq_model.specs.machine.World.{first_phase}
+use Rattle.gq_flat.specs.Programs.{IsCodeOfProgram}
+use Rattle.gq_things.specs.declared.thing.Thing.TheVariants.{Empty}
+use Rattle.gq_trade.specs.declared.node.Node.{Node}
+use Rattle.gq_trade.specs.Plans.{IsFirst}
+use Rattle.gq_slots.specs.Slots.{AreNew, Slots}
+use Rattle.gq_plans.specs.Nodes.{caps_of}
+use Rattle.gq_plans.specs.Plans.{IsPlanOf}
+use Rattle.gq_steps.specs.Coded.{Coded, first_state}
+use Rattle.gq_machine.specs.Machines.{Machine}
+use Rattle.gq_machine.specs.Worlds.{world_of}
+use Rattle.gq_machine.specs.declared.machine.Machine.TheInside.{Inside}
+use Rattle.gq_machine.specs.declared.state.Prepared.{Prepared}
+use Rattle.gq_machine.specs.internal.Holds.{IsPrepared, room}
+
+abbrev pub machine_seen : Inside → Machine
+machine_seen m = record { scenario = m.fixed.table; world = world_of m.fixed.table m.state.leaves.items m.state.slots }
+
+-- the leaf is at the start of its program
+pub record IsFirstOf (c : Component) (l : Coded) : Type 0 where
+  pub state : l.state ≡ first_state (first_phase c.node.after)
+  pub code : IsCodeOfProgram l.code c.node.program.sections
+
+-- these are the first leaves of the components
+pub record AreFirst (cs : List Component) (n : ℕ) (ls : List Coded) : Type 0 where
+  pub count : length ls ≡ n
+  pub each : (x : ℕ) (c : Component) (l : Coded) → slice_get cs x ≡ Some c → slice_get ls x ≡ Some l → IsFirstOf c l
+
+-- all that is prepared of the first leaves
+pub record ArePrepared (s : Scenario) (n : ℕ) (ls : List Coded) (ps : List Prepared) : Type 0 where
+  pub count : length ps ≡ n
+  pub each : (x : ℕ) (c : Component) (l : Coded) (p : Prepared) → slice_get (components s) x ≡ Some c → slice_get ls x ≡ Some l → slice_get ps x ≡ Some p
+      → IsPrepared s c l p
+
+-- the empty slots of all leaves, over accounts that are made from the scenario's plan
+pub record AreFirstSlots (s : Scenario) (t : Slots) : Type 0 where
+  pub parents : List ℕ
+  pub nodes : List Node
+  pub leaves : List ℕ
+  pub objects : List ℕ
+  pub plan : IsPlanOf s parents nodes leaves objects
+  pub trades : IsFirst s.total.ram (caps_of s) parents nodes leaves objects room t.trades
+  pub own : t.own ≡ replicate (length leaves) (replicate 64 Empty)
+  pub heaps : AreNew (length leaves) t.heaps

@@ -1,0 +1,53 @@
+// Turns of a machine's leaves.
+ghost use Rattle.std.specs.Prelude.{◌≡◌, ◌<◌, [], IfErr, IfOk, IsOk, OnErr, Err, Ok, length};
+ghost use Rattle.gq_model.specs.machine.Scenario.{components, system};
+ghost use Rattle.gq_model.specs.machine.Step.{next};
+ghost use Rattle.gq_machine.specs.Events.{event_of};
+ghost use Rattle.gq_machine.specs.Machines.{IsCountable};
+ghost use Rattle.gq_machine.specs.declared.event.Event.TheVariants as event;
+
+use crate::event::Event;
+use crate::machine::Machine;
+use crate::others::LINE;
+use crate::statements::lawful;
+use crate::steps::turn;
+use arrayvec::ArrayVec;
+use gq_model::fault::Wrong;
+use gq_scenario::scenario::LeafNo;
+
+impl Machine {
+    /// One turn of a leaf, tested: where the leaf can run it is one step. After it the line has the text that was given, without label and line feed, and
+    /// is empty where none was. Where the step is wrong, nothing is changed. It takes no host memory.
+    pub fn step_tested(
+        &mut self,
+        leaf: LeafNo,
+        line: &mut ArrayVec<u8, LINE>,
+    ) -> Result<Event, Wrong>
+        requires leaf { leaf < length (components self.old.scenario) }
+        requires countable { IsCountable self.old.world leaf }
+        ensures scenario { self.new.scenario ≡ self.old.scenario }
+        ensures stepped { IfOk result (λ event. next (system self.old.scenario) self.old.world leaf ≡ Ok (self.new.world, event_of event line.new.items)) }
+        ensures no_line { IfOk result (λ e. (e ≡ event.Line → ⊥) → line.new.items ≡ []) }
+        ensures wrong { IfErr result (λ wrong. next (system self.old.scenario) self.old.world leaf ≡ Err wrong) }
+        ensures unchanged { OnErr result (self.new ≡ self.old) }
+    {
+        lawful(&self.state.slots);
+        turn(&self.fixed, &mut self.state, leaf.index(), line)
+    }
+
+    /// One turn of a leaf whose step is not wrong. After it the line has the text that was given, without label and line feed, and is empty where none was.
+    /// It takes no host memory.
+    pub fn step(&mut self, leaf: LeafNo, line: &mut ArrayVec<u8, LINE>) -> Event
+        requires leaf { leaf < length (components self.old.scenario) }
+        requires countable { IsCountable self.old.world leaf }
+        requires defined { IsOk (next (system self.old.scenario) self.old.world leaf) }
+        ensures scenario { self.new.scenario ≡ self.old.scenario }
+        ensures stepped { next (system self.old.scenario) self.old.world leaf ≡ Ok (self.new.world, event_of result line.new.items) }
+        ensures no_line { (result ≡ event.Line → ⊥) → line.new.items ≡ [] }
+    {
+        match self.step_tested(leaf, line) {
+            Ok(event) => event,
+            Err(_) => unreachable!(),
+        }
+    }
+}
