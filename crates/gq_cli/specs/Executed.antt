@@ -4,7 +4,6 @@ use Rattle.std.specs.Io.KnownBytes.{Appends, Consumes, IsAtEnd}
 use Rattle.gq_world.specs.declared.counted.Counted.{Counted}
 use Rattle.gq_world.specs.Counts.{written_to, failures_of}
 use Rattle.gq_world.specs.Writes.{IsFront, IsRaised}
-use Rattle.gq_world.specs.Outcomes.{IsNotYet, not_yet_text}
 use Rattle.gq_world.specs.Whole.{Written, refused_with, run_written, check_written, asm_written}
 use Rattle.gq_world.specs.Headline.{WritesPromised}
 use Rattle.gq_command.specs.Stored.{parted}
@@ -55,7 +54,7 @@ written_of (Text_of text) = Ok text
 -- the line that refuses it is the definition's, or, until the machine runs the whole language, it says of an accepted scenario that it is not run yet
 abbrev pub IsRefusedBy : Asked → List ℕ → Type 0
 IsRefusedBy (Check_of scenario) line = check_written scenario ≡ Err line
-IsRefusedBy (Run_of scenario turns) line = (run_written scenario turns ≡ Err line) ⊎ ((line ≡ refused_with not_yet_text) × IsNotYet scenario)
+IsRefusedBy (Run_of scenario turns) line = run_written scenario turns ≡ Err line
 IsRefusedBy (Asm_of scenario leaf) line = asm_written scenario leaf ≡ Err line
 IsRefusedBy (Text_of text) line = ⊥
 

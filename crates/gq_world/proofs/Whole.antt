@@ -21,9 +21,9 @@ use Rattle.gq_load.specs.Faults.{load_fault_text, Refuses}
 use Rattle.gq_load.specs.declared.fault.LoadFault.{LoadFault}
 use Rattle.gq_load.specs.declared.fault.LoadError.TheVariants as error
 use Rattle.gq_world.specs.declared.fault.RunFault.{RunFault}
-use Rattle.gq_world.specs.declared.fault.RunFault.TheVariants.{Load, NotYet, NoComponent, Turns, Memory, Write}
+use Rattle.gq_world.specs.declared.fault.RunFault.TheVariants.{Load, NoComponent, Turns, Memory, Write}
 use Rattle.gq_world.specs.Headline.{Upholding, WritesPromised}
-use Rattle.gq_world.specs.Outcomes.{IsFaultOf, IsNotYet, GivesOf}
+use Rattle.gq_world.specs.Outcomes.{IsFaultOf, GivesOf}
 use Rattle.gq_world.specs.Whole.{Written, whole_of, refused_with, turn_fault_text, with_scenario, written_turns, run_written}
 use Rattle.gq_world.specs.internal.Going.{AreBelow}
 use Rattle.gq_world.proofs.Below.{AreBelowIn, turned_below}
@@ -98,9 +98,8 @@ load_by fault (Ok s) go h = absurd h
 load_by fault (Err f) go h = ap (λ t. Err (refused_with t)) (sym h)
 
 -- why nothing is loaded is why nothing is written
-pub load_is : (fault : RunFault) (scenario text : List ℕ) → GivesOf fault scenario → IsFaultOf (IsNotYet scenario) fault (run_written scenario text)
+pub load_is : (fault : RunFault) (scenario text : List ℕ) → GivesOf fault scenario → IsFaultOf fault (run_written scenario text)
 load_is (Load fault) scenario text h = load_by fault (loaded scenario) (λ s. written_turns s (turned (components s) text)) h
-load_is NotYet scenario text h = h
 load_is (NoComponent name) scenario text h = absurd h
 load_is (Turns fault line) scenario text h = absurd h
 load_is Memory scenario text h = tt

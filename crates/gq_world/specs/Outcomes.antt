@@ -1,25 +1,18 @@
 -- How a command ends, by what the definition says of its texts.
-use Rattle.std.specs.Prelude.{◌≡◌, ℕ, List, ◌++◌, Bool, false, Option, Ok, Err, codes}
+use Rattle.std.specs.Prelude.{◌≡◌, ℕ, List, ◌++◌, Option, Ok, Err, codes}
 use Rattle.std.specs.Io.KnownBytes.{Appends}
-use Rattle.gq_model.specs.machine.Scenario.{Scenario}
 use Rattle.gq_load.specs.Load.{loaded}
 use Rattle.gq_load.specs.Faults.{load_fault_text, Refuses}
 use Rattle.gq_load.specs.declared.fault.LoadError.{LoadError}
 use Rattle.gq_load.specs.declared.fault.LoadError.TheVariants as error
-use Rattle.gq_machine.specs.Plain.{is_plain}
 use Rattle.gq_world.specs.declared.fault.RunFault.{RunFault}
-use Rattle.gq_world.specs.declared.fault.RunFault.TheVariants.{Load, NotYet, NoComponent, Turns, Memory, Write}
+use Rattle.gq_world.specs.declared.fault.RunFault.TheVariants.{Load, NoComponent, Turns, Memory, Write}
 use Rattle.gq_world.specs.Writes.{IsFront}
 use Rattle.gq_world.specs.Whole.{Written, refused_with, turn_fault_text}
-
--- what is said of an accepted scenario that the machine does not run yet
-abbrev pub not_yet_text : List ℕ
-not_yet_text = codes "N1 NotYet"
 
 -- the line that a fault prints
 abbrev pub run_fault_text : RunFault → List ℕ
 run_fault_text (Load fault) = load_fault_text fault
-run_fault_text NotYet = not_yet_text
 run_fault_text (NoComponent name) = codes "no component " ++ name.now
 run_fault_text (Turns fault line) = turn_fault_text fault line
 run_fault_text Memory = codes "host memory refused"
@@ -42,34 +35,25 @@ pub record IsCutShort (w : Written) (before after : Option (List ℕ)) : Type 0 
   pub given : w ≡ Ok text
   pub written : IsFront before after text
 
--- the scenario is accepted, and none of those that the machine runs so far
-pub record IsNotYet (scenario : List ℕ) : Type 0 where
-  pub accepted : Scenario
-  pub loads : loaded scenario ≡ Ok accepted
-  pub plain : is_plain accepted ≡ false
-
--- a fault of the texts is the definition's, by its line; a failed write comes where there is a text; that nothing runs yet is said where this holds
-abbrev pub IsFaultOf : Type 0 → RunFault → Written → Type 0
-IsFaultOf not_yet (Load fault) w = w ≡ Err (refused_with (load_fault_text fault))
-IsFaultOf not_yet NotYet w = not_yet
-IsFaultOf not_yet (NoComponent name) w = w ≡ Err (refused_with (codes "no component " ++ name.now))
-IsFaultOf not_yet (Turns fault line) w = w ≡ Err (refused_with (turn_fault_text fault line))
-IsFaultOf not_yet Memory w = Unit {0}
-IsFaultOf not_yet Write w = (text : List ℕ) × (w ≡ Ok text)
+-- a fault of the texts is the definition's, by its line; a failed write comes where there is a text
+abbrev pub IsFaultOf : RunFault → Written → Type 0
+IsFaultOf (Load fault) w = w ≡ Err (refused_with (load_fault_text fault))
+IsFaultOf (NoComponent name) w = w ≡ Err (refused_with (codes "no component " ++ name.now))
+IsFaultOf (Turns fault line) w = w ≡ Err (refused_with (turn_fault_text fault line))
+IsFaultOf Memory w = Unit {0}
+IsFaultOf Write w = (text : List ℕ) × (w ≡ Ok text)
 
 -- nothing was to be written: the fault is no failed write
 abbrev pub IsBefore : RunFault → Type 0
 IsBefore (Load fault) = Unit {0}
-IsBefore NotYet = Unit {0}
 IsBefore (NoComponent name) = Unit {0}
 IsBefore (Turns fault line) = Unit {0}
 IsBefore Memory = Unit {0}
 IsBefore Write = ⊥
 
--- why a scenario is not run: it is refused, or it is accepted and the machine does not run it yet
+-- why a scenario is not run: it is refused
 abbrev pub GivesOf : RunFault → List ℕ → Type 0
 GivesOf (Load fault) text = Refuses (error.Fault fault) (loaded text)
-GivesOf NotYet text = IsNotYet text
 GivesOf (NoComponent name) text = ⊥
 GivesOf (Turns fault line) text = ⊥
 GivesOf Memory text = Unit {0}

@@ -32,7 +32,7 @@ fn hexadecimal_line(alloc: Global, bytes: &[u8]) -> Result<String, AllocError>
 // The line of the code of a leaf.
 fn leaf_line<'a>(alloc: Global, scenario: &Scenario, name: &'a str) -> Result<String, RunFault<'a>>
     ensures line { IfOk result (λ line. asm_from (Ok scenario.now) name.now ≡ Ok (string_bytes line)) }
-    ensures refused { IfErr result (λ f. IsFaultOf ⊥ f (asm_from (Ok scenario.now) name.now)) }
+    ensures refused { IfErr result (λ f. IsFaultOf f (asm_from (Ok scenario.now) name.now)) }
     ensures before { IfErr result (λ f. IsBefore f) }
 {
     let components = components(alloc, scenario)?;
@@ -58,7 +58,7 @@ pub fn asm<'a, W: Write>(
     ensures counted { OnOk result (failures_of out.new ≡ failures_of out.old) }
 
     // The fault is that of the definition; then nothing was written.
-    ensures refused { IfErr result (λ f. IsFaultOf ⊥ f (asm_written scenario.now name.now)) }
+    ensures refused { IfErr result (λ f. IsFaultOf f (asm_written scenario.now name.now)) }
     ensures silent { IfErr result (λ f. IsBefore f → out.new ≡ out.old) }
 
     // A write failed, and was counted; a front of the line went out.

@@ -37,7 +37,7 @@ pub fn check<W: Write>(
     ensures counted { OnOk result (failures_of out.new ≡ failures_of out.old) }
 
     // The fault is that of the definition.
-    ensures refused { IfErr result (λ fault. IsFaultOf ⊥ fault (check_written scenario.now)) }
+    ensures refused { IfErr result (λ fault. IsFaultOf fault (check_written scenario.now)) }
     ensures silent { IfErr result (λ fault. IsBefore fault → out.new ≡ out.old) }
 
     // A write failed, and was counted; a front of the lines went out.

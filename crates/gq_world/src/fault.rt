@@ -13,8 +13,6 @@ use std::fmt::{self, Debug, Display, Formatter, Write};
 pub enum RunFault<'a> {
     /// The scenario is refused, or the text or the code of the leaf that was asked for is no program.
     Load(LoadFault),
-    /// The scenario is accepted, but the machine does not run all that it has yet.
-    NotYet,
     /// No leaf has this name.
     NoComponent(&'a str),
     /// The text of the turns is refused, at this line from 1; a text that is too long at line 0.
@@ -54,7 +52,6 @@ impl<'a> Display for RunFault<'a> {
     fn fmt<W: Write>(&self, f: &mut Formatter<W>) -> fmt::Result {
         match self {
             RunFault::Load(fault) => write!(f, "{fault}"),
-            RunFault::NotYet => f.write_str("N1 NotYet"),
             RunFault::NoComponent(name) => write!(f, "no component {name}"),
             RunFault::Turns { fault, line } => write!(f, "{fault} line {line}"),
             RunFault::Memory => f.write_str("host memory refused"),

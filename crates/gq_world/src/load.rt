@@ -4,7 +4,6 @@ ghost use Rattle.gq_model.specs.machine.Scenario.{system};
 ghost use Rattle.gq_model.specs.machine.World.{start};
 ghost use Rattle.gq_model.specs.rules.Accept.{IsAccepted};
 ghost use Rattle.gq_load.specs.Load.{loaded};
-ghost use Rattle.gq_machine.specs.Plain.{is_plain};
 ghost use Rattle.gq_world.specs.Headline.{Upholding};
 ghost use Rattle.gq_world.specs.Outcomes.{GivesOf};
 
@@ -13,13 +12,12 @@ use crate::world::World;
 use gq_laws::accepted::accepted_laws;
 use gq_load::accepted::Accepted;
 use gq_machine::machine::Machine;
-use gq_machine::plain::is_plain;
 use gq_sound::loaded::loaded_laws;
+use gq_sound::read::read_laws;
 use std::alloc::Global;
 
 impl World {
-    /// The world at the start of the scenario of a text in TOML. Refused with the first fault of `Accepted::read`, and, until the machine
-    /// runs the whole language, where it does not run all that the scenario has: then that is what is told, and no more.
+    /// The world at the start of the scenario of a text in TOML. Refused with the first fault of `Accepted::read`, or where host memory is.
     pub fn load(alloc: Global, text: &[u8]) -> Result<World, RunFault<'static>>
         ensures loaded { IfOk result (λ w. loaded text.now ≡ Ok w.scenario) }
         ensures world { IfOk result (λ w. w.world ≡ start (system w.scenario)) }
@@ -34,12 +32,10 @@ impl World {
     {
         accepted_laws();
         loaded_laws();
+        read_laws();
         let accepted = Accepted::read(alloc, text)?;
         accepted.laws();
         let (table, budgets) = accepted.into_parts();
-        if !is_plain(&table) {
-            return Err(RunFault::NotYet);
-        }
         let machine = Machine::new(alloc, table)?;
         Ok(World::start(machine, budgets))
     }

@@ -9,7 +9,7 @@ ghost use Rattle.gq_world.specs.Writes.{IsFront, IsRaised};
 ghost use Rattle.gq_world.specs.internal.Going.{AreBelow, HasRun, IsCut};
 ghost use Rattle.gq_world.specs.Whole.{run_written, whole_of};
 ghost use Rattle.gq_world.specs.Headline.{WritesPromised};
-ghost use Rattle.gq_world.specs.Outcomes.{IsBefore, IsCutShort, IsFaultOf, IsNotYet, IsWhole};
+ghost use Rattle.gq_world.specs.Outcomes.{IsBefore, IsCutShort, IsFaultOf, IsWhole};
 
 use crate::account_line::write_accounts;
 use crate::counted::{Counted, WriteFault};
@@ -105,8 +105,8 @@ pub fn run<W: Write>(
     ensures promised { OnOk result (WritesPromised scenario.now turns.now (written_to W.contents out.old) (written_to W.contents out.new)) }
     ensures counted { OnOk result (failures_of out.new ≡ failures_of out.old) }
 
-    // The fault is that of the definition; until the machine runs the whole language, it may say that the scenario is accepted and not run yet.
-    ensures refused { IfErr result (λ fault. IsFaultOf (IsNotYet scenario.now) fault (run_written scenario.now turns.now)) }
+    // The fault is that of the definition.
+    ensures refused { IfErr result (λ fault. IsFaultOf fault (run_written scenario.now turns.now)) }
     ensures silent { IfErr result (λ fault. IsBefore fault → out.new ≡ out.old) }
 
     // A write failed: a front of the text was written.

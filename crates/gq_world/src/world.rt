@@ -8,7 +8,7 @@ ghost use Rattle.gq_model.specs.machine.Step.{next};
 ghost use Rattle.gq_model.specs.rules.Accept as accept;
 ghost use Rattle.gq_init.specs.NodeTables.{IsNodeOf, node_rows};
 ghost use Rattle.gq_laws.specs.Stands.{Stands};
-ghost use Rattle.gq_machine.specs.Held.{held_by_all};
+ghost use Rattle.gq_quotas.specs.Held.{held_by_all};
 ghost use Rattle.gq_scenario.specs.Trees.{version_number};
 ghost use Rattle.gq_world.specs.Counts.{written_to, failures_of};
 ghost use Rattle.gq_world.specs.Headline.{Upheld};
@@ -130,6 +130,7 @@ impl World {
     pub fn free_pages(&self) -> u64
         ensures { result * 4096 + held_by_all Ram self.now.world ≡ self.now.scenario.total.ram }
     {
+        accepted_laws();
         self.machine.free_pages()
     }
 

@@ -15,7 +15,7 @@ use Rattle.gq_init.proofs.Rows.{leaf_at, label_of_node}
 use Rattle.gq_world.specs.Worlds.{World, line_told}
 use Rattle.gq_world.specs.internal.Keeping.{IsBudgeted}
 use Rattle.gq_world.proofs.Known.{appends_nothing}
-use Rattle.gq_world.proofs.Turns.{Keeps, defined, stands_after, label_told, silent, shown-event_of}
+use Rattle.gq_world.proofs.Turns.{Keeps, countable, defined, stands_after, label_told, silent, shown-event_of}
 use Rattle.gq_world.proofs.world.World.turn.Goals as goal
 
 -- what stands stands after the step, and the budgets stay
@@ -36,6 +36,10 @@ stepped s w v old x e a b n =
 
 pub step-requires-clause-defined : goal.step-requires-clause-defined
 step-requires-clause-defined g c = defined c.accepted_laws.ensures.promises c.self.inside.machine.scenario c.self.inside.machine.world c.args.leaf
+    c.self.invariant.stands
+
+pub step-requires-clause-countable : goal.step-requires-clause-countable
+step-requires-clause-countable g c = countable c.accepted_laws.ensures.promises c.self.inside.machine.scenario c.self.inside.machine.world c.args.leaf
     c.self.invariant.stands
 
 pub invariant_of-self : goal.invariant_of-self
