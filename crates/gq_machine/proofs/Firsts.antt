@@ -20,10 +20,10 @@ use Rattle.gq_ram.specs.Entries.{no_amount}
 use Rattle.gq_plans.specs.internal.Firsts.{first_leaf}
 use Rattle.gq_flat.specs.Programs.{IsCodeOfProgram, ProgramCode}
 use Rattle.gq_steps.specs.Coded.{Coded}
-use Rattle.gq_machine.specs.declared.state.Prepared.{Prepared}
-use Rattle.gq_machine.specs.internal.Holds.{IsPrepared}
+use Rattle.gq_transitions.specs.declared.state.Prepared.{Prepared}
+use Rattle.gq_transitions.specs.internal.Holds.{IsPrepared}
 use Rattle.gq_machine.specs.internal.Starts.{AreFirst, ArePrepared, IsFirstOf}
-use Rattle.gq_machine.proofs.Standing.{item_there}
+use Rattle.gq_transitions.proofs.Standing.{item_there}
 
 running : (after : Option (List ℕ)) → stage.Live ≡ first_stage after → Running ≡ first_phase after
 running None e = refl

@@ -1,4 +1,3 @@
 pub mod Events
 pub mod Machines
-pub mod Worlds
 pub mod internal

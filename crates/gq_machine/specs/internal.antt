@@ -1,11 +1,4 @@
-pub mod Endings
-pub mod Gifts
 pub mod Held
-pub mod Holds
 pub mod Kinds
-pub mod Longs
-pub mod Replies
-pub mod Requests
-pub mod Scenes
 pub mod Shows
 pub mod Starts

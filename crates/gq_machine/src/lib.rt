@@ -11,14 +11,8 @@
 //! ```
 #![tactic(auto)]
 
-mod asking;
-mod endings;
 pub mod event;
 pub mod machine;
 mod others;
-mod replies;
-mod requests;
-mod state;
-mod statements;
 mod steps;
 mod turns;

@@ -12,15 +12,13 @@ ghost use Rattle.gq_flat.specs.Programs.{IsCodeOfProgram};
 ghost use Rattle.gq_plans.specs.Nodes.{caps_of};
 ghost use Rattle.gq_quotas.specs.Held.{held_by_all};
 ghost use Rattle.gq_steps.specs.Coded.{Coded};
-ghost use Rattle.gq_machine.specs.internal.Holds.{IsPrepared};
+ghost use Rattle.gq_transitions.specs.internal.Holds.{IsPrepared};
 ghost use Rattle.gq_machine.specs.internal.Held.{held_before};
 ghost use Rattle.gq_machine.specs.Events.{event_of};
 ghost use Rattle.gq_machine.specs.Machines.{IsCountable};
 ghost use Rattle.gq_machine.specs.declared.event.Event as event;
 ghost use Rattle.gq_machine.specs.internal.Starts.{AreFirst, ArePrepared, IsFirstOf, AreFirstSlots};
 
-use crate::state::{Fixed, Prepared, State};
-use crate::statements::lawful;
 use gq_flat::Code;
 use gq_init::NodeTable;
 use gq_model::phase::Phase;
@@ -34,6 +32,8 @@ use gq_slots::Slots;
 use gq_steps::Leaf;
 use gq_tariff::price::PAGE;
 use gq_trade::Stage;
+use gq_transitions::state::{Fixed, Prepared, State};
+use gq_transitions::statements::lawful;
 use std::alloc::{AllocError, Global};
 use std::marker::Model;
 
@@ -49,7 +49,7 @@ pub struct Machine {
 
 impl Model for Machine {
     ghost use Rattle.gq_machine.specs.Machines.{Machine};
-    ghost use Rattle.gq_machine.specs.internal.Holds.{Holds};
+    ghost use Rattle.gq_transitions.specs.internal.Holds.{Holds};
     ghost use Rattle.gq_machine.specs.internal.Starts.{machine_seen};
     ghost use Rattle.gq_model.specs.internal.Stored.{statements_code, nodes_code};
     ghost use Rattle.std.specs.Coded.{codes};

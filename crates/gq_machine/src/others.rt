@@ -9,21 +9,21 @@ ghost use Rattle.gq_statements.specs.Statements.{done};
 ghost use Rattle.gq_steps.specs.Coded.{OthersActNext};
 ghost use Rattle.gq_machine.specs.Events.{event_of};
 ghost use Rattle.gq_machine.specs.declared.event.Event.TheVariants as event;
-ghost use Rattle.gq_machine.specs.internal.Holds.{CanStep, Goes, Holds, IsNext, OfLeaf};
+ghost use Rattle.gq_transitions.specs.internal.Holds.{CanStep, Goes, Holds, IsNext, OfLeaf};
 ghost use Rattle.gq_machine.specs.internal.Kinds.{is_quiet};
 ghost use Rattle.gq_machine.specs.internal.Shows.{Gives};
 
-use crate::asking::{open, upgrade};
-use crate::endings::exit;
 use crate::event::Event;
-use crate::replies::reply;
-use crate::state::{Fixed, State};
-use crate::statements::{call, close, memory, say, serve, show};
 use arrayvec::ArrayVec;
 use gq_flat::Operation;
 use gq_model::fault::Wrong;
 use gq_model::program::Instruction;
 use gq_scenario::scenario::LeafNo;
+use gq_transitions::asking::{open, upgrade};
+use gq_transitions::endings::exit;
+use gq_transitions::replies::reply;
+use gq_transitions::state::{Fixed, State};
+use gq_transitions::statements::{call, close, memory, say, serve, show};
 use itoa::Buffer;
 
 /// The greatest number of bytes of a line's text.

@@ -9,11 +9,11 @@ ghost use Rattle.gq_machine.specs.declared.event.Event.TheVariants as event;
 use crate::event::Event;
 use crate::machine::Machine;
 use crate::others::LINE;
-use crate::statements::lawful;
 use crate::steps::turn;
 use arrayvec::ArrayVec;
 use gq_model::fault::Wrong;
 use gq_scenario::scenario::LeafNo;
+use gq_transitions::statements::lawful;
 
 impl Machine {
     /// One turn of a leaf, tested: where the leaf can run it is one step. After it the line has the text that was given, without label and line feed, and

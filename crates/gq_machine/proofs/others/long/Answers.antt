@@ -7,12 +7,12 @@ use Rattle.gq_model.specs.declared.program.Place.{Place}
 use Rattle.gq_model.specs.machine.Doing.{Line}
 use Rattle.gq_flat.specs.declared.operation.Operation.TheVariants.{Long}
 use Rattle.gq_steps.specs.Coded.{Coded, operation_of}
-use Rattle.gq_machine.specs.Worlds.{world_of}
-use Rattle.gq_machine.specs.declared.state.State.{State}
-use Rattle.gq_machine.specs.internal.Holds.{IsLong, OfLeaf}
-use Rattle.gq_machine.specs.internal.Longs.{IsLongOne}
-use Rattle.gq_machine.proofs.Opens.{long_is, prepared_at}
-use Rattle.gq_machine.proofs.Standing.{item_there, of_leaf}
+use Rattle.gq_transitions.specs.Worlds.{world_of}
+use Rattle.gq_transitions.specs.declared.state.State.{State}
+use Rattle.gq_transitions.specs.internal.Holds.{IsLong, OfLeaf}
+use Rattle.gq_transitions.specs.internal.Longs.{IsLongOne}
+use Rattle.gq_transitions.proofs.Opens.{long_is, prepared_at}
+use Rattle.gq_transitions.proofs.Standing.{item_there, of_leaf}
 use Rattle.gq_machine.proofs.others.long.Goals as goal
 
 none_else : (i : Instruction) → IsLongOne i → ((text : List ℕ) → i ≡ Say text → ⊥) → ((place : Place) (name : List ℕ) (n : ℕ) → i ≡ Open place name n → ⊥)

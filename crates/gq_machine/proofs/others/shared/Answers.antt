@@ -5,9 +5,9 @@ use Rattle.gq_flat.specs.Cores.{is_shared}
 use Rattle.gq_flat.specs.declared.operation.Operation.{Operation}
 use Rattle.gq_flat.specs.declared.operation.Operation.TheVariants.{End, Long, Out}
 use Rattle.gq_steps.specs.Coded.{Coded, OthersActNext, operation_of}
-use Rattle.gq_machine.specs.internal.Holds.{OfLeaf}
+use Rattle.gq_transitions.specs.internal.Holds.{OfLeaf}
 use Rattle.gq_machine.specs.internal.Kinds.{is_quiet}
-use Rattle.gq_machine.proofs.Standing.{item_there, of_leaf}
+use Rattle.gq_transitions.proofs.Standing.{item_there, of_leaf}
 use Rattle.gq_machine.proofs.others.shared.Goals as goal
 
 quiet_else : (does : Operation) → IsTrue (is_shared does) → (does ≡ Out → ⊥) → ((n : ℕ) → does ≡ Long n → ⊥) → (does ≡ End → ⊥) → IsTrue (is_quiet does)

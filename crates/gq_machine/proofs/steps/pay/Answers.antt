@@ -5,9 +5,9 @@ use Rattle.gq_model.specs.machine.Scenario.{components}
 use Rattle.gq_model.proofs.Small.{get_within}
 use Rattle.gq_slots.specs.Slots.{IsPaidBy, Slots}
 use Rattle.gq_steps.specs.Coded.{Coded}
-use Rattle.gq_machine.specs.Worlds.{world_of}
+use Rattle.gq_transitions.specs.Worlds.{world_of}
 use Rattle.gq_machine.proofs.Same.{holds_paid, paid_by}
-use Rattle.gq_machine.proofs.Standing.{of_leaf}
+use Rattle.gq_transitions.proofs.Standing.{of_leaf}
 use Rattle.gq_machine.proofs.steps.pay.Goals as goal
 
 pub returns-clause-can : goal.returns-clause-can

@@ -4,9 +4,9 @@ use Rattle.std.specs.Prelude.{slice_get}
 use Rattle.std.specs.Vec.{with_item}
 use Rattle.gq_flat.specs.Nexts.{Active}
 use Rattle.gq_steps.specs.Coded.{Coded}
-use Rattle.gq_machine.specs.declared.state.State.{State}
+use Rattle.gq_transitions.specs.declared.state.State.{State}
 use Rattle.gq_machine.proofs.Pausing.{still, still_active, still_can, still_holds, still_missing, still_shared, took, took_holds}
-use Rattle.gq_machine.proofs.Standing.{item_there, of_leaf}
+use Rattle.gq_transitions.proofs.Standing.{item_there, of_leaf}
 use Rattle.gq_machine.proofs.steps.step_alone.Goals as goal
 
 one_left : (left : ℕ) → (left ≡ 0 → ⊥) → left ≤ 1 → 1 - left ≡ 0

@@ -6,10 +6,10 @@ use Rattle.gq_model.specs.declared.phase.Phase.TheVariants as phase
 use Rattle.gq_model.specs.machine.Scenario.{components, system}
 use Rattle.gq_model.proofs.Small.{get_within}
 use Rattle.gq_steps.specs.Phases.{Rests}
-use Rattle.gq_machine.specs.Worlds.{frame_of}
-use Rattle.gq_machine.specs.internal.Holds.{Holds}
+use Rattle.gq_transitions.specs.Worlds.{frame_of}
+use Rattle.gq_transitions.specs.internal.Holds.{Holds}
 use Rattle.gq_machine.proofs.Same.{holds_same, from_err}
-use Rattle.gq_machine.proofs.Standing.{item_there, standing}
+use Rattle.gq_transitions.proofs.Standing.{item_there, standing}
 use Rattle.gq_machine.proofs.steps.turn.Goals as goal
 
 at_rest : (p : Phase) → (p ≡ phase.Pending) ⊎ ((p ≡ phase.Blocked) ⊎ (p ≡ phase.Exited)) → Rests p

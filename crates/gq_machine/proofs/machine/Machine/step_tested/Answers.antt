@@ -4,7 +4,7 @@ use Rattle.std.specs.Prelude.{slice_get}
 use Rattle.gq_model.specs.machine.Scenario.{components}
 use Rattle.gq_steps.specs.Coded.{Coded}
 use Rattle.gq_machine.specs.Machines.{IsCountable, Machine}
-use Rattle.gq_machine.specs.internal.Holds.{OfLeaf}
+use Rattle.gq_transitions.specs.internal.Holds.{OfLeaf}
 use Rattle.gq_machine.proofs.Counting.{counted_there}
 use Rattle.gq_machine.proofs.machine.Machine.step_tested.Goals as goal
 

@@ -1,0 +1,14 @@
+pub mod Exiting
+pub mod Frames
+pub mod Giving
+pub mod Kept
+pub mod Longs
+pub mod Opens
+pub mod Providing
+pub mod Releasing
+pub mod Replying
+pub mod Scenes
+pub mod Sections
+pub mod Servers
+pub mod Standing
+pub mod Taking

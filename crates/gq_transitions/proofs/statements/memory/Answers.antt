@@ -1,0 +1,57 @@
+-- A statement on memory.
+use Rattle.std.proofs.Common.{◌≡◌, refl, sym, ap, subst, ◌∙◌}
+use Rattle.std.specs.Prelude.{OnOk, Result, slice_get, slice_set}
+use Rattle.gq_model.specs.declared.fault.Wrong.{Wrong}
+use Rattle.gq_statements.specs.Statements.{done}
+use Rattle.gq_model.specs.machine.Scenario.{system}
+use Rattle.gq_model.specs.machine.Doing.{Quiet}
+use Rattle.gq_flat.specs.Nexts.{Active}
+use Rattle.gq_paid.specs.Systems.{stage_in}
+use Rattle.gq_steps.specs.Coded.{Coded, IsStanding}
+use Rattle.gq_steps.specs.Steps.{on}
+use Rattle.gq_transitions.specs.Worlds.{frame_of, world_of}
+use Rattle.gq_transitions.proofs.Frames.{elsewhere, leaf_set}
+use Rattle.gq_transitions.proofs.Kept.{kept_one}
+use Rattle.gq_transitions.proofs.Standing.{at_hand, item_there, links, of_leaf, on_ok, standing}
+use Rattle.gq_transitions.proofs.Scenes.{scene_beside}
+use Rattle.gq_transitions.proofs.statements.memory.Goals as goal
+
+pub memory-done-requires-clause-hand : goal.memory-done-requires-clause-hand
+memory-done-requires-clause-hand c =
+    let can = c.requires.can in
+    let there = item_there c.args.state.now.leaves.items c.args.number can.leaf c.index_mut-leaf.result.now can.leaf_is c.index_mut-leaf.ensures.value in
+    at_hand c.args.fixed.now c.args.state.now can.holds c.lawful.ensures c.args.number can.component c.index_mut-leaf.result.now can.component_is there
+
+pub memory-done-requires-clause-linked : goal.memory-done-requires-clause-linked
+memory-done-requires-clause-linked c = links c.args.fixed.now c.args.state.now c.requires.can.holds c.lawful.ensures
+
+pub returns-clause-step : goal.returns-clause-step
+returns-clause-step c =
+    let can = c.requires.can in
+    let f = c.args.fixed.now in
+    let ls = c.args.state.now.leaves.items in
+    let x = c.args.number in
+    let old = c.index_mut-leaf.result.now in
+    let new = c.memory-done.new.self in
+    let there = item_there ls x can.leaf old can.leaf_is c.index_mut-leaf.ensures.value in
+    c.memory-done.ensures.step (system f.table) (frame_of f.table ls) (frame_of f.table (slice_set ls x new)) can.component c.lawful.ensures
+    (subst (IsStanding (system f.table) (frame_of f.table ls) c.args.state.now.slots x can.component old) (sym c.addresses.ensures)
+    (standing f c.args.state.now can.holds c.lawful.ensures x can.component old can.component_is there))
+    (of_leaf (λ l. Active l.state.phase) (slice_get ls x) old there c.requires.next.active) (elsewhere f.table ls x new)
+    (leaf_set f.table ls x can.component old new can.component_is there)
+
+pub returns-clause-holds : goal.returns-clause-holds
+returns-clause-holds c = on_ok c.memory-done.result _ (λ e.
+    let can = c.requires.can in
+    let f = c.args.fixed.now in
+    let m = c.args.state.now in
+    let x = c.args.number in
+    let old = c.index_mut-leaf.result.now in
+    let new = c.memory-done.new.self in
+    let there = item_there m.leaves.items x can.leaf old can.leaf_is c.index_mut-leaf.ensures.value in
+    let to : new ≡ on old new.state.registers.operands = subst (λ (r : Result (Unit {0}) Wrong). OnOk r (new ≡ on old new.state.registers.operands)) e
+    c.memory-done.ensures.stays in
+    kept_one f m _ x can.component old new Quiet can.holds c.lawful.ensures c.lawful-2.ensures can.component_is there refl
+    (ap (λ (l : Coded). l.code) to) (ap (λ (l : Coded). stage_in l.state.phase) to)
+    (scene_beside m.slots c.memory-done.new.slots c.memory-done.ensures.beside)
+    (returns-clause-step c ∙ ap (λ r. done r (world_of f.table (slice_set m.leaves.items x new) c.memory-done.new.slots)) e))
