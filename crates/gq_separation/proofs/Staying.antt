@@ -1,0 +1,99 @@
+-- Changes of leaves and sessions outside a group leave it untouched.
+use Rattle.std.proofs.Common.{◌≡◌, ◌≢◌, ℕ, zero, suc, ◌||◌, Bool, true, false, cond, List, [], ◌∷◌, Option, Some, None, refl, ap, sym, ◌∙◌}
+use Rattle.std.specs.Prelude.{slice_get, slice_set}
+use Rattle.gq_model.specs.machine.World.{Slot, Spot, In_leaf, In_session, In_object, Session, Leaf, World, joined, session_at, with_leaf}
+use Rattle.gq_model.specs.machine.World.{with_slot, put_leaf_slot, put_session_slot, put_object}
+use Rattle.gq_model.specs.machine.Step.{active_again, unblocked}
+use Rattle.gq_model.specs.machine.Requests.{add_session}
+use Rattle.gq_laws.proofs.linking.Worlds.{set_else}
+use Rattle.gq_separation.specs.Separation.{own_session, IsUntouched}
+
+module _ (group : ℕ → Bool) where
+  abbrev own : Option Session → Option Session
+  own = own_session group
+
+  pub outside_ne : (x y : ℕ) → group x ≡ false → group y ≡ true → y ≢ x
+  outside_ne x y out inside e = false_true (sym out ∙ (ap group (sym e) ∙ inside))
+    where
+      false_true : false ≡ true → ⊥
+      false_true e = cc
+
+  -- a session is foreign where its client and its server are outside
+  pub foreign : (s : Session) → group s.client ≡ false → group s.server ≡ false → own (Some s) ≡ None
+  foreign s client server = ap (λ b. cond (b || group s.server) (Some s) None) client ∙ ap (λ b. cond b (Some s) None) server
+
+  set_own : (items : List (Option Session)) (k j : ℕ) (o : Option Session) → own (joined (slice_get items k)) ≡ None → own o ≡ None
+      → own (joined (slice_get (slice_set items k o) j)) ≡ own (joined (slice_get items j))
+  set_own [] k j o was is = refl
+  set_own (a ∷ items) zero zero o was is = is ∙ sym was
+  set_own (a ∷ items) zero (suc j) o was is = refl
+  set_own (a ∷ items) (suc k) zero o was is = refl
+  set_own (a ∷ items) (suc k) (suc j) o was is = set_own items k j o was is
+
+  add_own : (items : List (Option Session)) (s : Session) (j : ℕ) → own (Some s) ≡ None
+      → own (joined (slice_get (add_session s items) j)) ≡ own (joined (slice_get items j))
+  add_own [] s zero is = is
+  add_own [] s (suc j) is = refl
+  add_own (None ∷ items) s zero is = is
+  add_own (None ∷ items) s (suc j) is = refl
+  add_own (Some t ∷ items) s zero is = refl
+  add_own (Some t ∷ items) s (suc j) is = add_own items s j is
+
+  module _ (old : World) where
+    abbrev Kept : World → Type 0
+    Kept w = IsUntouched group old w
+
+    pub kept_self : Kept old
+    kept_self = record { leaves = λ y e. refl; sessions = λ k. refl }
+
+    pub kept_leaf : (w : World) (x : ℕ) (leaf : Leaf) → group x ≡ false → Kept w → Kept (with_leaf w x leaf)
+    kept_leaf w x leaf out h =
+        record { leaves = λ y e. set_else w.leaves x y leaf (outside_ne x y out e) ∙ h.leaves y e; sessions = h.sessions }
+
+    -- a place of the sessions where no session of the group is
+    pub kept_place : (w : World) (k : ℕ) (o : Option Session) → own (session_at old k) ≡ None → own o ≡ None → Kept w
+        → Kept (record w { sessions = slice_set w.sessions k o })
+    kept_place w k o was is h =
+        record { leaves = h.leaves; sessions = λ j. set_own w.sessions k j o (h.sessions k ∙ was) is ∙ h.sessions j }
+
+    pub kept_added : (w : World) (s : Session) → own (Some s) ≡ None → Kept w → Kept (record w { sessions = add_session s w.sessions })
+    kept_added w s is h = record { leaves = h.leaves; sessions = λ j. add_own w.sessions s j is ∙ h.sessions j }
+
+    -- a spot of a leaf outside, or of a session that is not the group's
+    abbrev pub IsFar : Spot → Type 0
+    IsFar (In_leaf x i) = group x ≡ false
+    IsFar (In_session k i) = own (session_at old k) ≡ None
+    IsFar (In_object k) = own (session_at old k) ≡ None
+
+    -- a session with other slots and another object is as foreign as it was
+    pub kept_slot : (w : World) (q : Spot) (slot : Slot) → IsFar q → Kept w → Kept (with_slot w q slot)
+    kept_slot w (In_leaf x i) slot far h = by (slice_get w.leaves x)
+      where
+        by : (o : Option Leaf) → Kept (put_leaf_slot w o x i slot)
+        by None = h
+        by (Some leaf) = kept_leaf w x _ far h
+    kept_slot w (In_session k i) slot far h = by (session_at w k) (h.sessions k ∙ far)
+      where
+        still : (s : Session) (b : Bool) → cond b (Some s) None ≡ None → cond b (Some (record s { slots = slice_set s.slots i slot })) None ≡ None
+        still s true e = absurd cc
+        still s false e = refl
+
+        by : (o : Option Session) → own o ≡ None → Kept (put_session_slot w o k i slot)
+        by None e = h
+        by (Some s) e = kept_place w k _ far (still s (group s.client || group s.server) e) h
+    kept_slot w (In_object k) slot far h = by (session_at w k) (h.sessions k ∙ far)
+      where
+        still : (s : Session) (b : Bool) → cond b (Some s) None ≡ None → cond b (Some (record s { object = slot })) None ≡ None
+        still s true e = absurd cc
+        still s false e = refl
+
+        by : (o : Option Session) → own o ≡ None → Kept (put_object w o k slot)
+        by None e = h
+        by (Some s) e = kept_place w k _ far (still s (group s.client || group s.server) e) h
+
+    pub kept_active : (w : World) (x : ℕ) (f : List ℕ → List ℕ) → group x ≡ false → Kept w → Kept (unblocked w x f)
+    kept_active w x f out h = by (slice_get w.leaves x)
+      where
+        by : (o : Option Leaf) → Kept (active_again w x f o)
+        by None = h
+        by (Some leaf) = kept_leaf w x _ out h
