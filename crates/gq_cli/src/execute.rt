@@ -1,7 +1,7 @@
 //! Doing what a command line asks for.
 ghost use Rattle.std.specs.Prelude.{◌≡◌, ◌≢◌, ◌⊎◌, true, false, string_bytes, Ok, Err, IfErr, OnOk};
-ghost use Rattle.gq_world.specs.Counts.{written_to, failures_of};
-ghost use Rattle.gq_world.specs.Writes.{IsRaised};
+ghost use Rattle.gq_lines.specs.Counts.{written_to, failures_of};
+ghost use Rattle.gq_lines.specs.Writes.{IsRaised};
 ghost use Rattle.gq_world.specs.Outcomes.{IsCutShort, IsWhole};
 ghost use Rattle.gq_world.specs.Headline.{WritesPromised};
 ghost use Rattle.gq_command.specs.Input.{GivesAtMost};
@@ -14,9 +14,9 @@ use gq_command::command::Command;
 use gq_command::input::{InputError, read_input};
 use gq_command::status::Status;
 use gq_command::stored::parted;
+use gq_lines::counted::{Counted, put};
 use gq_world::asm::asm;
 use gq_world::check::check;
-use gq_world::counted::{Counted, put};
 use gq_world::fault::RunFault;
 use gq_world::run::run;
 use std::alloc::{AllocError, Global};

@@ -1,6 +1,6 @@
 -- What a clause reads of a writer that counts its failures.
 use Rattle.std.specs.Prelude.{ℕ, List, Option}
-use Rattle.gq_world.specs.declared.counted.Counted.{Counted}
+use Rattle.gq_lines.specs.declared.counted.Counted.{Counted}
 
 -- the writer that it hands its writes to
 abbrev pub writer_of : {W : Type 0} → Counted W → W

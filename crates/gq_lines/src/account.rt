@@ -26,7 +26,7 @@ impl Model for LeafAccount {
 
 impl LeafAccount {
     /// A leaf that holds so much, has taken so many steps of its budget, and does this.
-    pub(crate) fn new(used: Amount, steps: u64, budget: u64, phase: Phase) -> LeafAccount
+    pub fn new(used: Amount, steps: u64, budget: u64, phase: Phase) -> LeafAccount
         ensures { result ≡ record { used = used; steps = steps; budget = budget; phase = phase } }
     {
         LeafAccount {
@@ -81,7 +81,7 @@ pub struct Account {
 }
 
 impl Model for Account {
-    ghost use Rattle.gq_world.specs.Lines.{Told};
+    ghost use Rattle.gq_lines.specs.Told.{Told};
 
     ghost Value = { Told };
 
@@ -92,7 +92,7 @@ impl Model for Account {
 
 impl Account {
     /// An account with this quota, of a leaf or of a node with children.
-    pub(crate) fn new(quota: Amount, leaf: Option<LeafAccount>) -> Account
+    pub fn new(quota: Amount, leaf: Option<LeafAccount>) -> Account
         ensures { result ≡ record { quota = quota; leaf = leaf } }
     {
         Account { quota, leaf }

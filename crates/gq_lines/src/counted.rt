@@ -2,8 +2,8 @@
 ghost use Rattle.std.specs.Prelude.{◌≡◌, ◌+◌, ◌-◌, ◌^◌, ◌<◌, ◌≤◌, ℕ, length, min, IfOk, IfErr, OnOk, OnErr, MatchResult};
 ghost use Rattle.std.specs.Io.{WritesAtMost};
 ghost use Rattle.std.specs.Io.KnownBytes.{WriteAppends, Keeps, Appends};
-ghost use Rattle.gq_world.specs.Counts.{writer_of, written_to, failures_of};
-ghost use Rattle.gq_world.specs.Writes.{failures_after, IsFront, IsRaised};
+ghost use Rattle.gq_lines.specs.Counts.{writer_of, written_to, failures_of};
+ghost use Rattle.gq_lines.specs.Writes.{failures_after, IsFront, IsRaised};
 
 use std::io;
 use std::io::Write;

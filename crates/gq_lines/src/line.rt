@@ -8,10 +8,10 @@ use gq_model::phase::Phase;
 use itoa::Buffer;
 
 /// The greatest number of bytes of a line, its line feed included.
-pub(crate) const GREATEST_LINE: usize = 320;
+pub const GREATEST_LINE: usize = 320;
 
 /// A line of text, with room for the longest.
-pub(crate) type Line = ArrayVec<u8, GREATEST_LINE>;
+pub type Line = ArrayVec<u8, GREATEST_LINE>;
 
 /// Puts bytes at the end of a line.
 pub(crate) fn extend(line: &mut Line, bytes: &[u8])
@@ -62,7 +62,7 @@ pub(crate) fn phase_word(phase: Phase) -> &'static [u8]
 }
 
 /// The line of a leaf with this label.
-pub(crate) fn labelled(label: &[u8], text: &[u8]) -> Line
+pub fn labelled(label: &[u8], text: &[u8]) -> Line
     requires label { length label.now ≤ GREATEST_LABEL }
     requires text { length text.now ≤ 64 }
     ensures { result.items ≡ codes "[" ++ label.now ++ codes "] " ++ text.now ++ 10 ∷ [] }

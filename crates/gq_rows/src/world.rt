@@ -1,5 +1,5 @@
 // A world in memory, turn by turn, and writers that fail.
-use gq_machine::event::Event;
+use gq_world::event::Event;
 use gq_model::phase::Phase;
 use gq_scenario::node::NodeNo;
 use gq_world::asm::asm;

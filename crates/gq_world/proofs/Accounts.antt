@@ -17,7 +17,8 @@ use Rattle.gq_scenario.specs.Sizes.{node_count}
 use Rattle.gq_init.specs.NodeTables.{NodeRow, leaf_node, init_node, rows_of, node_rows}
 use Rattle.gq_laws.specs.Stands.{Stands}
 use Rattle.gq_world.specs.Worlds as worlds
-use Rattle.gq_world.specs.Lines.{Told, TellsOf, all_accounts, told_of, with_label}
+use Rattle.gq_lines.specs.Told.{Told, told_of, with_label}
+use Rattle.gq_world.specs.Lines.{TellsOf, all_accounts}
 
 -- LEAVES
 

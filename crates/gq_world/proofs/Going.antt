@@ -15,7 +15,7 @@ use Rattle.gq_model.specs.machine.Run.{Ran, label_at, line_of, after_step, turn_
 use Rattle.gq_machine.specs.declared.event.Event.{Event}
 use Rattle.gq_world.specs.Worlds.{World, IsTurn, StopsWriting, line_told}
 use Rattle.gq_world.specs.internal.Going.{going, AreBelow, HasRun, HasLeft, IsCut}
-use Rattle.gq_world.proofs.Known.{appends_nothing, appends_both}
+use Rattle.gq_lines.proofs.Known.{appends_nothing, appends_both}
 
 -- TEXTS GROW
 

@@ -1,4 +1,3 @@
-pub mod Known
 pub mod Accounts
 pub mod Turns
 pub mod Going

@@ -3,7 +3,5 @@ pub mod Tested
 pub mod Worlds
 pub mod Headline
 pub mod Lines
-pub mod Counts
-pub mod Writes
 pub mod Outcomes
 pub mod internal

@@ -1,6 +1,5 @@
--- What is told of the accounts of a world, and their lines.
-use Rattle.std.specs.Prelude.{◌≡◌, ℕ, List, Option, Some, IfSome, slice_get, slice_index}
-use Rattle.gq_model.specs.machine.Amounts.{Amount}
+-- The accounts of a world, and their lines.
+use Rattle.std.specs.Prelude.{◌≡◌, ℕ, List, Some, IfSome, slice_get, slice_index}
 use Rattle.gq_model.specs.machine.Scenario.{Component, components}
 use Rattle.gq_model.specs.machine.World.{Leaf}
 use Rattle.gq_model.specs.rules.Accept.{budgets, step_budgets}
@@ -10,17 +9,6 @@ use Rattle.gq_world.specs.Worlds.{World}
 -- the accounts of all nodes, with the step budgets of the scenario
 unfoldable pub all_accounts : World → List Account
 all_accounts w = accounts w.scenario w.world (step_budgets (budgets w.scenario))
-
--- an account without its label
-pub record Told : Type 0 where
-  pub quota : Amount
-  pub leaf : Option LeafAccount
-
-abbrev pub told_of : Account → Told
-told_of a = record { quota = a.quota; leaf = a.leaf }
-
-abbrev pub with_label : List ℕ → Told → Account
-with_label label told = record { label = label; quota = told.quota; leaf = told.leaf }
 
 -- their lines
 abbrev pub accounts_text : World → List ℕ

@@ -1,15 +1,15 @@
 // The code of a leaf's program.
 ghost use Rattle.std.specs.Prelude.{◌≡◌, ◌∷◌, ◌++◌, [], Ok, Err, IfOk, IfErr, OnOk, string_bytes};
 ghost use Rattle.gq_model.specs.texts.Code.{hex_of};
-ghost use Rattle.gq_world.specs.Counts.{written_to, failures_of};
+ghost use Rattle.gq_lines.specs.Counts.{written_to, failures_of};
 ghost use Rattle.gq_world.specs.Outcomes.{IsBefore, IsCutShort, IsFaultOf, IsWhole};
 ghost use Rattle.gq_world.specs.Whole.{asm_from, asm_written};
-ghost use Rattle.gq_world.specs.Writes.{IsRaised};
+ghost use Rattle.gq_lines.specs.Writes.{IsRaised};
 ghost use Rattle.gq_world.specs.declared.fault.RunFault.TheVariants as fault;
 
-use crate::counted::{Counted, put};
 use crate::fault::RunFault;
 use gq_code::program_code::encode;
+use gq_lines::counted::{Counted, put};
 use gq_load::fault::LoadFault;
 use gq_load::named::leaf_named;
 use gq_load::programs::read_program;

@@ -2,13 +2,13 @@
 ghost use Rattle.std.specs.Prelude.{◌≡◌, Ok, Err, IfOk, IfErr, OnOk};
 ghost use Rattle.gq_load.specs.Faults.{Refuses};
 ghost use Rattle.gq_load.specs.Load.{loaded};
-ghost use Rattle.gq_world.specs.Counts.{written_to, failures_of};
+ghost use Rattle.gq_lines.specs.Counts.{written_to, failures_of};
 ghost use Rattle.gq_world.specs.Outcomes.{IsBefore, IsCutShort, IsFaultOf, IsWhole};
 ghost use Rattle.gq_world.specs.Whole.{check_written};
-ghost use Rattle.gq_world.specs.Writes.{IsRaised};
+ghost use Rattle.gq_lines.specs.Writes.{IsRaised};
 
-use crate::counted::{Counted, put};
 use crate::fault::RunFault;
+use gq_lines::counted::{Counted, put};
 use gq_load::accepted::Accepted;
 use gq_load::fault::LoadError;
 use std::alloc::Global;

@@ -12,16 +12,15 @@
 //! ```
 #![tactic(auto)]
 
-pub mod account;
-mod account_line;
+mod account_lines;
 pub mod asm;
 pub mod check;
-pub mod counted;
 pub mod fault;
-mod line;
 pub mod load;
 pub mod run;
 pub mod world;
 
-pub use counted::Counted;
 pub use fault::RunFault;
+pub use gq_lines::counted::Counted;
+pub use gq_lines::{account, counted};
+pub use gq_machine::event;

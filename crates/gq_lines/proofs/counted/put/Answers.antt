@@ -3,8 +3,8 @@ use Rattle.std.proofs.Math.Seq.{take-add}
 use Rattle.std.proofs.lemmas.List.{take_rest}
 use Rattle.std.proofs.lemmas.Bool.Decides.{nat_tests}
 use Rattle.std.specs.Io.KnownBytes.{Appends}
-use Rattle.gq_world.proofs.Known.{appends_both}
-use Rattle.gq_world.proofs.counted.put.Goals as goal
+use Rattle.gq_lines.proofs.Known.{appends_both}
+use Rattle.gq_lines.proofs.counted.put.Goals as goal
 
 pub loop-done-preserved : goal.loop-done-preserved
 loop-done-preserved g c =

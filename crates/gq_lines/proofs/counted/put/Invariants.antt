@@ -1,6 +1,6 @@
 use Rattle.std.proofs.Common.{◌≡◌, ◌-◌, ◌≤◌, length, take}
 use Rattle.std.specs.Io.KnownBytes.{Appends}
-use Rattle.gq_world.proofs.counted.put.Given as goal
+use Rattle.gq_lines.proofs.counted.put.Given as goal
 
 -- so many bytes were written, without failure
 abbrev pub invariant-loop-done : goal.invariant-loop-done

@@ -3,10 +3,10 @@ use Rattle.std.proofs.lemmas.Result.{err_from_is_err_and}
 use Rattle.std.specs.Io.KnownBytes.{Appends}
 use Rattle.gq_model.specs.machine.Accounts.{account_lines}
 use Rattle.gq_world.specs.Lines.{all_accounts, IsAccountLine}
-use Rattle.gq_world.specs.Writes.{IsFront}
-use Rattle.gq_world.proofs.Known.{appends_nothing}
+use Rattle.gq_lines.specs.Writes.{IsFront}
+use Rattle.gq_lines.proofs.Known.{appends_nothing}
 use Rattle.gq_world.proofs.Fronts.{next_line, next_front, all_lines}
-use Rattle.gq_world.proofs.account_line.write_accounts.Goals as goal
+use Rattle.gq_world.proofs.account_lines.write_accounts.Goals as goal
 
 pub loop-number-init : goal.loop-number-init
 loop-number-init g c = record { written = appends_nothing (g.W.Write.contents c.args.out.now.writer); counted = refl }

@@ -2,7 +2,7 @@ use Rattle.std.proofs.Common.{◌≡◌, take}
 use Rattle.std.specs.Io.KnownBytes.{Appends}
 use Rattle.gq_model.specs.machine.Accounts.{account_lines}
 use Rattle.gq_world.specs.Lines.{all_accounts}
-use Rattle.gq_world.proofs.account_line.write_accounts.Given as goal
+use Rattle.gq_world.proofs.account_lines.write_accounts.Given as goal
 
 -- the lines of the nodes so far were written
 abbrev pub invariant-loop-number : goal.invariant-loop-number

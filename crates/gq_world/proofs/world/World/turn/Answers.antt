@@ -14,7 +14,7 @@ use Rattle.gq_init.specs.NodeTables.{node_rows}
 use Rattle.gq_init.proofs.Rows.{leaf_at, label_of_node}
 use Rattle.gq_world.specs.Worlds.{World, line_told}
 use Rattle.gq_world.specs.internal.Keeping.{IsBudgeted}
-use Rattle.gq_world.proofs.Known.{appends_nothing}
+use Rattle.gq_lines.proofs.Known.{appends_nothing}
 use Rattle.gq_world.proofs.Turns.{Keeps, countable, defined, stands_after, label_told, silent, shown-event_of}
 use Rattle.gq_world.proofs.world.World.turn.Goals as goal
 
