@@ -6,12 +6,15 @@ of a scenario, and the code of a leaf. For each growth that the run asks for, on
 other, the program is run with that growth refused. It then has to write nothing to standard output, to tell
 `trade: host memory refused`, and to end with status 3. With none refused it has to write the text of the example or the case.
 
+Turns take no host memory: each case of a run asks for as many growths where each line of its turns has one turn as where it has all of its own.
+
 The crates of component memory are run so by the program `benchmark`: with a growth refused it has to write nothing to standard
 output, to end standard error with a line after `benchmark: `, and to end with status 1.
 
 A program that the C compiler `cc` builds (tests/refuse_growth.c) refuses the growths. The last line is 'N passed, M failed',
 and the exit status is 1 where a run failed.
 """
+import itertools
 import os
 import pathlib
 import subprocess
@@ -71,6 +74,23 @@ def works(benchmark, shared, room):
             yield f"{work}, refused: growth {number} of {growths}", (b"", True, 1), (out, told, status)
 
 
+def turns_of_one(turns):
+    """As many lines of turns, of one turn each."""
+    lines = [line.split(b" ") for line in turns.splitlines()]
+    return b"".join(line[0] + b" 1\n" if len(line) == 2 else b" ".join(line) + b"\n" for line in lines)
+
+
+def turns_alone(program, shared, room):
+    """The growths that a case of a run asks for with one turn on each line, and with all of its turns."""
+    cases = [(case / "scenario.toml", case / "turns") for case in sorted(CASES.glob("run-*")) if (case / "turns").exists()]
+    for scenario, turns in cases + [(example, example.with_suffix(".turns")) for example in sorted(EXAMPLES.glob("*.toml"))]:
+        few = room / "few"
+        few.write_bytes(turns_of_one(turns.read_bytes()))
+        (_, _, status), growths = result_of(program, shared, room, ["run", str(scenario), str(turns)], b"", 0)
+        if status == 0:
+            yield f"{scenario}, growths", result_of(program, shared, room, ["run", str(scenario), str(few)], b"", 0)[1], growths
+
+
 def main(words):
     if len(words) != 2 or words[0].startswith("-"):
         sys.exit(__doc__)
@@ -93,7 +113,7 @@ def main(words):
                     continue
                 failed += 1
                 print(f"FAILED {name}, refused: {what}\n  wanted {wanted}\n  got    {got}")
-        for what, wanted, got in works(benchmark, shared, room):
+        for what, wanted, got in itertools.chain(turns_alone(program, shared, room), works(benchmark, shared, room)):
             if wanted == got:
                 passed += 1
             else:

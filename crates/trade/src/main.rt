@@ -8,8 +8,11 @@ use gq_cli::status::Status;
 use gq_world::Counted;
 use std::env;
 use std::fs::File;
-use std::io::{self, ErrorKind, Stderr, Write};
+use std::io::{self, BufWriter, ErrorKind, Stderr, Write};
 use std::process::ExitCode;
+
+// How many bytes of output are gathered before they leave the process.
+const BUFFER: usize = 65536;
 
 fn main(rt: HostRuntime) -> ExitCode {
     let mut err = Counted::new(rt.stderr());
@@ -52,9 +55,12 @@ fn given(rt: &HostRuntime) -> Result<Vec<String>, Status> {
     Ok(words)
 }
 
-// Does what a command asks for, on its files or standard input. What it writes has to leave the process, too.
+// Does what a command asks for, on its files or standard input. What it writes is gathered, and has to leave the process, too.
 fn perform(rt: &HostRuntime, command: &Command, err: &mut Counted<Stderr>) -> Status {
-    let mut out = Counted::new(rt.stdout());
+    let mut out = match BufWriter::with_capacity(rt.alloc(), BUFFER, rt.stdout()) {
+        Ok(writer) => Counted::new(writer),
+        Err(_) => return tell(err, Status::HostMemory),
+    };
     let status = match command {
         Command::Run(scenario, turns) => match open(rt, scenario.as_str(), turns.as_str()) {
             Ok((mut scenario, mut turns)) => execute(

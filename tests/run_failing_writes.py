@@ -1,0 +1,99 @@
+#!/usr/bin/env python3
+"""Runs a program whose output can not be written, or not all of it: run_failing_writes.py PROGRAM
+
+Standard output is a full device, or a pipe whose reader closes it after some bytes. The program then has to tell `trade: file fault` and to end with
+status 4, and what the reader has got is a front of what the run writes where all is written. The runs are those of the examples, and one of 200,000 lines,
+which is longer than a pipe holds. The last line is 'N passed, M failed', and the exit status is 1 where a run failed.
+"""
+import os
+import pathlib
+import subprocess
+import sys
+import tempfile
+
+TOP = pathlib.Path(__file__).resolve().parent.parent
+EXAMPLES = TOP / "examples"
+LINES = 200_000
+SECONDS = 120
+FAULT = b"trade: file fault\n", 4
+LONG = '''
+version = 1
+ram = "4K"
+[[start]]
+name = "a"
+quantum = "4K"
+program = """
+main
+loop 4
+loop 65535
+index 0
+out
+end
+end
+end
+"""
+'''
+
+
+def whole(program, words):
+    """What the run writes."""
+    return subprocess.run([program, *words], capture_output=True, timeout=SECONDS, check=True).stdout
+
+
+def to_full_device(program, words):
+    """What is told and the status where nothing can be written."""
+    with open("/dev/full", "wb") as full:
+        ran = subprocess.run([program, *words], stdout=full, stderr=subprocess.PIPE, timeout=SECONDS)
+    return ran.stderr, ran.returncode
+
+
+def to_closed_pipe(program, words, count):
+    """What a reader got that closes the pipe after so many bytes, what is told, and the status."""
+    source, target = os.pipe()
+    if not count:
+        os.close(source)
+    ran = subprocess.Popen([program, *words], stdout=target, stderr=subprocess.PIPE)
+    os.close(target)
+    got = b""
+    if count:
+        while len(got) < count and (more := os.read(source, count - len(got))):
+            got += more
+        os.close(source)
+    told = ran.communicate(timeout=SECONDS)[1]
+    return got, (told, ran.returncode)
+
+
+def results(program, room):
+    """What was wanted of each run, and what came."""
+    for scenario in sorted(EXAMPLES.glob("*.toml")):
+        words = ["run", str(scenario), str(scenario.with_suffix(".turns"))]
+        yield f"{scenario.name} to a full device", FAULT, to_full_device(program, words)
+        yield f"{scenario.name} to a closed pipe", (b"", FAULT), to_closed_pipe(program, words, 0)
+    scenario, turns = room / "long.toml", room / "turns"
+    scenario.write_text(LONG)
+    turns.write_text(f"a {3 * LINES + 10}\n")
+    words = ["run", str(scenario), str(turns)]
+    text = whole(program, words)
+    yield "lines of a long run", True, text.count(b"\n") >= LINES
+    yield "a long run to a full device", FAULT, to_full_device(program, words)
+    for count in (0, 1, 17, 65535, 65536, 65537, 1_000_000):
+        yield f"a long run to a pipe closed after {count}", (text[:count], FAULT), to_closed_pipe(program, words, count)
+
+
+def main(words):
+    if len(words) != 1 or words[0].startswith("-"):
+        sys.exit(__doc__)
+    passed = failed = 0
+    with tempfile.TemporaryDirectory() as folder:
+        for what, wanted, got in results(str(pathlib.Path(words[0]).resolve()), pathlib.Path(folder)):
+            if wanted == got:
+                passed += 1
+            else:
+                failed += 1
+                print(f"FAILED {what}\n  wanted {str(wanted)[:200]}\n  got    {str(got)[:200]}")
+    print(f"{passed} passed, {failed} failed")
+    return 1 if failed or not passed else 0
+
+
+if __name__ == "__main__":
+    sys.exit(main(sys.argv[1:]))
