@@ -1,8 +1,11 @@
 pub mod Counting
 pub mod Firsts
+pub mod Going
 pub mod Pages
 pub mod Pausing
 pub mod Provided
 pub mod Readers
+pub mod Resting
 pub mod Same
+pub mod Several
 pub mod Starts

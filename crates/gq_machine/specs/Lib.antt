@@ -1,3 +1,4 @@
+pub mod Bursts
 pub mod Events
 pub mod Machines
 pub mod internal

@@ -11,3 +11,7 @@ pub record Machine : Type 0 where
 -- a step more of the x-th leaf can be counted
 abbrev pub IsCountable : World → ℕ → Type 0
 IsCountable w x = IfSome (slice_get w.leaves x) (λ (l : Leaf). l.steps + 1 < 2 ^ 64)
+
+-- so many steps more of the x-th leaf can be counted
+abbrev pub AreCountable : World → ℕ → ℕ → Type 0
+AreCountable w x n = IfSome (slice_get w.leaves x) (λ (l : Leaf). l.steps + n < 2 ^ 64)

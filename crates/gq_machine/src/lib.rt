@@ -11,6 +11,7 @@
 //! ```
 #![tactic(auto)]
 
+mod bursts;
 pub mod event;
 pub mod machine;
 mod others;

@@ -1,11 +1,13 @@
 // Turns of a machine's leaves.
-ghost use Rattle.std.specs.Prelude.{◌≡◌, ◌<◌, [], IfErr, IfOk, IsOk, OnErr, Err, Ok, length};
+ghost use Rattle.std.specs.Prelude.{◌≡◌, ◌-◌, ◌<◌, ◌≤◌, [], IfErr, IfOk, IsOk, OnErr, Err, Ok, length};
 ghost use Rattle.gq_model.specs.machine.Scenario.{components, system};
 ghost use Rattle.gq_model.specs.machine.Step.{next};
 ghost use Rattle.gq_machine.specs.Events.{event_of};
-ghost use Rattle.gq_machine.specs.Machines.{IsCountable};
+ghost use Rattle.gq_machine.specs.Bursts.{Takes};
+ghost use Rattle.gq_machine.specs.Machines.{AreCountable, IsCountable};
 ghost use Rattle.gq_machine.specs.declared.event.Event.TheVariants as event;
 
+use crate::bursts::take_turns;
 use crate::event::Event;
 use crate::machine::Machine;
 use crate::others::LINE;
@@ -33,6 +35,29 @@ impl Machine {
     {
         lawful(&self.state.slots);
         turn(&self.fixed, &mut self.state, leaf.index(), line)
+    }
+
+    /// Turns of a leaf, tested, at most so many: up to the first that gives a line or is wrong. It tells what the last turn showed, or what is wrong with it,
+    /// and how many turns are left: none, where the last one gave no line and is not wrong. After it the line has the text that was given, without label and
+    /// line feed, and is empty where none was. Where a step is wrong, it changes nothing. Turns of a leaf that can't run are passed over at once, whatever
+    /// their number. It takes no host memory.
+    pub fn turns_tested(
+        &mut self,
+        leaf: LeafNo,
+        count: u32,
+        line: &mut ArrayVec<u8, LINE>,
+    ) -> (Result<Event, Wrong>, u32)
+        requires leaf { leaf < length (components self.old.scenario) }
+        requires countable { AreCountable self.old.world leaf count }
+        ensures scenario { self.new.scenario ≡ self.old.scenario }
+        ensures left { result.1 ≤ count }
+        ensures less { 0 < count → result.1 < count }
+        ensures took { Takes self.old.scenario leaf (count - result.1) self.old.world self.new.world result.0 line.new.items }
+        ensures over { IfOk result.0 (λ e. (e ≡ event.Line → ⊥) → result.1 ≡ 0) }
+        ensures no_line { IfOk result.0 (λ e. (e ≡ event.Line → ⊥) → line.new.items ≡ []) }
+    {
+        lawful(&self.state.slots);
+        take_turns(&self.fixed, &mut self.state, leaf.index(), count, line)
     }
 
     /// One turn of a leaf whose step is not wrong. After it the line has the text that was given, without label and line feed, and is empty where none was.

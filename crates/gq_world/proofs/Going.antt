@@ -1,19 +1,18 @@
 -- Turns, one after the other.
-use Rattle.std.proofs.Common.{◌≡◌, ℕ, zero, suc, ◌+◌, ◌-◌, ◌<◌, List, [], ◌∷◌, ◌++◌, take, drop, Option, Some, None, Ok, Err, length, get_or, refl, ap, sym}
+use Rattle.std.proofs.Common.{◌≡◌, ℕ, zero, suc, ◌+◌, ◌-◌, ◌<◌, ◌≤◌, List, [], ◌∷◌, ◌++◌, take, drop, Option, Some, None, Ok, Err, length, get_or, refl, ap, sym}
 use Rattle.std.proofs.Common.{◌∙◌, subst, arith, add-one, append_assoc, append-nil}
 use Rattle.std.proofs.lemmas.List.{take-append-drop}
 use Rattle.std.proofs.Math.Seq.{drop-cons}
 use Rattle.std.specs.Prelude.{slice_get, false}
 use Rattle.std.specs.Io.KnownBytes.{Appends}
 use Rattle.gq_model.specs.machine.Scenario.{Scenario, System, system}
-use Rattle.gq_model.specs.machine.World as model
-use Rattle.gq_model.specs.machine.Doing as doing
 use Rattle.gq_model.specs.declared.fault.Wrong.{Wrong}
 use Rattle.gq_model.specs.machine.Doing.{Stepped}
 use Rattle.gq_model.specs.machine.Step.{next}
 use Rattle.gq_model.specs.machine.Run.{Ran, label_at, line_of, after_step, turn_from, turns_of, run_on}
-use Rattle.gq_machine.specs.declared.event.Event.{Event}
-use Rattle.gq_world.specs.Worlds.{World, IsTurn, StopsWriting, line_told}
+use Rattle.gq_machine.proofs.Several.{turns_then}
+use Rattle.gq_world.specs.Worlds.{World}
+use Rattle.gq_lines.specs.Writes.{IsFront}
 use Rattle.gq_world.specs.internal.Going.{going, AreBelow, HasRun, HasLeft, IsCut}
 use Rattle.gq_lines.proofs.Known.{appends_nothing, appends_both}
 
@@ -41,67 +40,70 @@ turns_grow system x (suc n) ran =
     let b = turns_grow system x n (turn_from system x ran ran.wrong) in
     (a.0 ++ b.0, b.1 ∙ (ap (λ t. t ++ b.0) a.1 ∙ append_assoc ran.text a.0 b.0))
 
--- ONE TURN
+-- TURNS UP TO A LINE
 
--- a turn more
-turned : (s : Scenario) (w v : model.World) (x m : ℕ) (step : doing.Event) (front : List ℕ) → next (system s) w x ≡ Ok (v, step)
-    → turns_of (system s) x (suc m) (going w front) ≡ turns_of (system s) x m (going v (front ++ line_told s x step))
-turned s w v x m step front e = ap (λ r. turns_of (system s) x m (after_step (system s) x (going w front) r)) e
+joined_here : (front text cut more : List ℕ) → (front ++ text) ++ cut ++ more ≡ front ++ (text ++ cut) ++ more
+joined_here front text cut more = ap (λ l. l ++ more) (append_assoc front text cut)
 
 -- a line between what came before it and what follows, parted
-parted : (front text line more : List ℕ) (k : ℕ) → ((front ++ text) ++ line) ++ more ≡ front ++ (text ++ take k line) ++ (drop k line ++ more)
-parted front text line more k =
-    append_assoc (front ++ text) line more
-    ∙ (append_assoc front text (line ++ more)
-    ∙ (ap (λ l. front ++ l)
-    (ap (λ l. text ++ (l ++ more)) (sym (take-append-drop k line))
-    ∙ (ap (λ l. text ++ l) (append_assoc (take k line) (drop k line) more) ∙ sym (append_assoc text (take k line) (drop k line ++ more))))
-    ∙ sym (append_assoc front (text ++ take k line) (drop k line ++ more))))
+parted : (front line more : List ℕ) (k : ℕ) → (front ++ line) ++ more ≡ front ++ take k line ++ (drop k line ++ more)
+parted front line more k =
+    append_assoc front line more
+    ∙ (ap (λ l. front ++ (l ++ more)) (sym (take-append-drop k line))
+    ∙ (ap (λ l. front ++ l) (append_assoc (take k line) (drop k line) more) ∙ sym (append_assoc front (take k line) (drop k line ++ more))))
 
-one_less : (count i : ℕ) → i < count → count - i ≡ suc (count - (i + 1))
-one_less count i less = omega (arith, less)
+whole_is : (count left : ℕ) → left ≤ count → count ≡ (count - left) + left
+whole_is count left less = omega (arith, less)
 
-module _ (s : Scenario) (x count i : ℕ) (less : i < count) (old now new : World) (same : now.scenario ≡ s) (before between after : Option (List ℕ)) where
-  abbrev left : ℕ → Ran → Ran
-  left n = turns_of (system s) x n
+-- turns, as those up to a place and the rest
+split : (system : System) (x count left : ℕ) → left ≤ count → (r : Ran)
+    → turns_of system x count r ≡ turns_of system x left (turns_of system x (count - left) r)
+split system x count left less r = ap (λ n. turns_of system x n r) (whole_is count left less) ∙ turns_then system x (count - left) left r
 
-  -- what is left, as one turn and the rest
-  split : (step : doing.Event) → next (system now.scenario) now.world x ≡ Ok (new.world, step) → (front : List ℕ)
-      → left (count - i) (going now.world front) ≡ left (count - (i + 1)) (going new.world (front ++ line_told s x step))
-  split step e front =
-      ap (λ n. left n (going now.world front)) (one_less count i less)
-      ∙ turned s now.world new.world x (count - (i + 1)) step front (subst (λ (t : Scenario). next (system t) now.world x ≡ Ok (new.world, step)) same e)
+module _ (s : Scenario) (x count left : ℕ) (less : left ≤ count) (old new : World) (line : List ℕ)
+    (took : (front : List ℕ) → turns_of (system s) x (count - left) (going old.world front) ≡ going new.world (front ++ line)) where
+  pub has_run : (before after : Option (List ℕ)) → Appends before after line → new.stopped ≡ false
+      → HasRun (turns_of (system s) x (count - left)) old new before after
+  has_run before after written running = record { text = line; written = written; ran = took; running = running }
 
-  line_same : (step : doing.Event) → line_told now.scenario x step ≡ line_told s x step
-  line_same step = ap (λ t. line_told t x step) same
-
-  pub goes_on : (event : Event) → HasLeft (left (count - i)) (left count) old now before between → IsTurn now new x event between after → new.stopped ≡ false
-      → HasLeft (left (count - (i + 1))) (left count) old new before after
-  goes_on event h t r =
-      let line = line_told s x t.step in
+  pub is_cut : (before after : Option (List ℕ)) → IsFront before after line → IsCut (turns_of (system s) x count) old before after
+  is_cut before after front =
+      let rest : (f : List ℕ) → (more : List ℕ) × ((turns_of (system s) x left (going new.world (f ++ line))).text ≡ (f ++ line) ++ more) =
+      λ f. turns_grow (system s) x left (going new.world (f ++ line)) in
       record {
-        text = h.text ++ line;
-        written = appends_both before between after h.text line h.written (subst (Appends between after) (line_same t.step) t.written);
-        same = λ front. ap (λ l. left (count - (i + 1)) (going new.world l)) (sym (append_assoc front h.text line))
-            ∙ (sym (split t.step t.next (front ++ h.text)) ∙ h.same front);
-        running = r;
+        text = take front.0 line;
+        more = λ f. drop front.0 line ++ (rest f).0;
+        written = front.1;
+        front = λ f.
+            ap (λ (r : Ran). r.text) (split (system s) x count left less (going old.world f))
+            ∙ (ap (λ (r : Ran). (turns_of (system s) x left r).text) (took f) ∙ ((rest f).1 ∙ parted f line (rest f).0 front.0));
       }
 
-  pub is_cut : HasLeft (left (count - i)) (left count) old now before between → StopsWriting now new x between after → IsCut (left count) old before after
-  is_cut h t =
-      let line = line_told s x t.step in
-      let k = t.written.0 in
-      let rest : (front : List ℕ) → (more : List ℕ) × ((left (count - (i + 1)) (going new.world ((front ++ h.text) ++ line))).text ≡ ((front ++ h.text) ++ line)
-      ++ more) =
-      λ front. turns_grow (system s) x (count - (i + 1)) (going new.world ((front ++ h.text) ++ line)) in
+module _ (s : Scenario) (x l r : ℕ) (less : r ≤ l) (all : Ran → Ran) (old now new : World) (same : now.scenario ≡ s) (before between after : Option (List ℕ)) where
+  pub goes_on : HasLeft (turns_of (system s) x l) all old now before between
+      → HasRun (turns_of (system now.scenario) x (l - r)) now new between after → HasLeft (turns_of (system s) x r) all old new before after
+  goes_on h run =
+      let q = subst (λ (t : Scenario). HasRun (turns_of (system t) x (l - r)) now new between after) same run in
       record {
-        text = h.text ++ take k line;
-        more = λ front. drop k line ++ (rest front).0;
-        written = appends_both before between after h.text (take k line) h.written
-            (subst (λ (l : List ℕ). Appends between after (take k l)) (line_same t.step) t.written.1);
+        text = h.text ++ q.text;
+        written = appends_both before between after h.text q.text h.written q.written;
+        same = λ front. ap (λ t. turns_of (system s) x r (going new.world t)) (sym (append_assoc front h.text q.text))
+            ∙ (ap (turns_of (system s) x r) (sym (q.ran (front ++ h.text)))
+            ∙ (sym (split (system s) x l r less (going now.world (front ++ h.text))) ∙ h.same front));
+        running = q.running;
+      }
+
+  pub cut_on : HasLeft (turns_of (system s) x l) all old now before between → IsCut (turns_of (system now.scenario) x l) now between after
+      → IsCut all old before after
+  cut_on h cut =
+      let k = subst (λ (t : Scenario). IsCut (turns_of (system t) x l) now between after) same cut in
+      record {
+        text = h.text ++ k.text;
+        more = λ front. k.more (front ++ h.text);
+        written = appends_both before between after h.text k.text h.written k.written;
         front = λ front.
-            ap (λ (r : Ran). r.text) (sym (h.same front))
-            ∙ (ap (λ (r : Ran). r.text) (split t.step t.next (front ++ h.text)) ∙ ((rest front).1 ∙ parted front h.text line (rest front).0 k));
+            ap (λ (q : Ran). q.text) (sym (h.same front))
+            ∙ (k.front (front ++ h.text) ∙ joined_here front h.text k.text (k.more (front ++ h.text)));
       }
 
 -- at the start all is left

@@ -1,6 +1,6 @@
 -- What a turn of a world leaves.
 use Rattle.std.proofs.Common.{◌≡◌, ◌≢◌, ℕ, ◌+◌, ◌<◌, ◌^◌, List, None, [], ◌∷◌, length, Option, Some, IfSome, refl, ap, sym, ◌∙◌, subst, zero, suc, arith}
-use Rattle.std.specs.Prelude.{slice_get, Ok, IsOk, is_ok}
+use Rattle.std.specs.Prelude.{slice_get, Ok, Err, IsOk, is_ok}
 use Rattle.std.proofs.Math.Logic.{∥∥₁_elim}
 use Rattle.std.specs.Coded.{Coded-set, coded_bool, le_prop}
 use Rattle.std.proofs.lemmas.Option.{slice_get_within}
@@ -10,14 +10,19 @@ use Rattle.gq_model.specs.machine.World as model
 use Rattle.gq_model.specs.machine.Doing as doing
 use Rattle.gq_model.specs.machine.Doing.{Stepped}
 use Rattle.gq_model.specs.machine.Step.{next}
-use Rattle.gq_model.specs.machine.Run.{label_at, line_of}
+use Rattle.gq_model.specs.declared.fault.Wrong.{Wrong}
+use Rattle.gq_model.specs.machine.Run.{Ran, after_step, label_at, line_of, turn_from, turns_of}
 use Rattle.gq_model.specs.Promises.{IsUpheld}
 use Rattle.gq_laws.specs.Stands.{Stands}
 use Rattle.gq_machine.specs.Events.{event_of}
-use Rattle.gq_machine.specs.Machines.{IsCountable}
+use Rattle.gq_machine.specs.Machines.{AreCountable, IsCountable}
 use Rattle.gq_machine.specs.declared.event.Event.{Event}
 use Rattle.gq_machine.specs.declared.event.Event.TheVariants as events
-use Rattle.gq_world.specs.Worlds.{shown}
+use Rattle.gq_machine.specs.Bursts.{Takes, came_to}
+use Rattle.gq_model.specs.rules.Accept.{Budget, budgets}
+use Rattle.gq_world.specs.Worlds.{World, line_told, shown}
+use Rattle.gq_world.specs.internal.Keeping.{IsBudgeted}
+use Rattle.gq_world.specs.internal.Going.{going}
 
 there_is : {A : Type 0} (xs : List A) (i : ℕ) → i < length xs → (a : A) × (slice_get xs i ≡ Some a)
 there_is [] i less = absurd (omega (arith, less))
@@ -40,11 +45,11 @@ pub defined : Promises → (s : Scenario) (w : model.World) (x : ℕ) → ∥ St
 defined promises s w x stands =
     ∥∥₁_elim stands (Coded-set coded_bool _ _) (λ h. let g = (promises s w h).goes_on x in defined_in (next (system s) w x) g.0 g.1)
 
--- a step more of a leaf can be counted
-pub countable : Promises → (s : Scenario) (w : model.World) (x : ℕ) → ∥ Stands s w ∥₁ → IsCountable w x
-countable promises s w x stands = by (slice_get w.leaves x) refl
+-- so many steps more of a leaf can be counted
+pub countable_turns : Promises → (s : Scenario) (w : model.World) (x n : ℕ) → n < 2 ^ 32 → ∥ Stands s w ∥₁ → AreCountable w x n
+countable_turns promises s w x n few stands = by (slice_get w.leaves x) refl
   where
-    by : (o : Option model.Leaf) → slice_get w.leaves x ≡ o → IfSome o (λ (l : model.Leaf). l.steps + 1 < 2 ^ 64)
+    by : (o : Option model.Leaf) → slice_get w.leaves x ≡ o → IfSome o (λ (l : model.Leaf). l.steps + n < 2 ^ 64)
     by None e = tt
     by (Some leaf) e = ∥∥₁_elim stands le_prop (λ h.
         let less = slice_get_within w.leaves x leaf e in
@@ -54,7 +59,10 @@ countable promises s w x stands = by (slice_get w.leaves x) refl
         let steps = keeps.steps in
         let limited = keeps.limited in
         let same = ap (λ (l : model.Leaf). l.steps) (some_same (sym keeps.there ∙ e)) in
-        omega (arith, steps, limited, same))
+        omega (arith, steps, limited, same, few))
+
+pub countable : Promises → (s : Scenario) (w : model.World) (x : ℕ) → ∥ Stands s w ∥₁ → IsCountable w x
+countable promises s w x stands = countable_turns promises s w x 1 (omega arith) stands
 
 pub stands_after : Keeps → (s : Scenario) (w after : model.World) (x : ℕ) (e : doing.Event) → next (system s) w x ≡ Ok (after, e) → ∥ Stands s w ∥₁
     → ∥ Stands s after ∥₁
@@ -67,6 +75,66 @@ upheld_here promises s w stands = ∥∥₁_elim stands (hlevel) (λ h. ∣ prom
 pub stands_seen : (s t : Scenario) (v w : model.World) → s ≡ t → v ≡ w → ∥ Stands s v ∥₁ → ∥ Stands t w ∥₁
 stands_seen s t v w e f h = subst (λ (r : Scenario). ∥ Stands r w ∥₁) e (subst (λ (u : model.World). ∥ Stands s u ∥₁) f h)
 
+-- MANY TURNS
+
+-- no step so far was wrong, and all stands
+record IsRight (s : Scenario) (r : Ran) : Type 0 where
+  none : r.wrong ≡ None
+  good : Stands s r.world
+
+not_wrong : {p : model.World × doing.Event} {wrong : Wrong} → ◌≡◌ {A = Stepped} (Ok p) (Err wrong) → ⊥
+not_wrong e = cc
+
+right_step : Promises → Keeps → (s : Scenario) (x : ℕ) (ran : Ran) (r : Stepped) → next (system s) ran.world x ≡ r → IsRight s ran
+    → IsRight s (after_step (system s) x ran r)
+right_step promises keeps s x ran (Ok p) e h = record { none = refl; good = keeps s ran.world x p.0 p.1 h.good e }
+right_step promises keeps s x ran (Err wrong) e h = absurd (not_wrong (sym ((promises s ran.world h.good).goes_on x).1 ∙ e))
+
+right_turn : Promises → Keeps → (s : Scenario) (x : ℕ) (ran : Ran) → IsRight s ran → IsRight s (turn_from (system s) x ran ran.wrong)
+right_turn promises keeps s x ran h =
+    subst (λ o. IsRight s (turn_from (system s) x ran o)) (sym h.none) (right_step promises keeps s x ran (next (system s) ran.world x) refl h)
+
+right_turns : Promises → Keeps → (s : Scenario) (x n : ℕ) (ran : Ran) → IsRight s ran → IsRight s (turns_of (system s) x n ran)
+right_turns promises keeps s x zero ran h = h
+right_turns promises keeps s x (suc n) ran h =
+    right_turns promises keeps s x n (turn_from (system s) x ran ran.wrong) (right_turn promises keeps s x ran h)
+
+right_end : Promises → Keeps → (s : Scenario) (w : model.World) (x n : ℕ) (r : Ran) → turns_of (system s) x n (going w []) ≡ r → Stands s w → IsRight s r
+right_end promises keeps s w x n r e h =
+    let was : IsRight s (going w []) = record { none = refl; good = h } in
+    subst (IsRight s) e (right_turns promises keeps s x n (going w []) was)
+
+-- after turns of a world that stands, all stands
+pub stands_then : Promises → Keeps → (s : Scenario) (w : model.World) (x n : ℕ) (r : Ran) → turns_of (system s) x n (going w []) ≡ r → ∥ Stands s w ∥₁
+    → ∥ Stands s r.world ∥₁
+stands_then promises keeps s w x n r e stands = ∥∥₁_elim stands (hlevel) (λ h. ∣ (right_end promises keeps s w x n r e h).good ∣₁)
+
+some_none : {A : Type 0} {a : A} → ◌≡◌ {A = Option A} (Some a) None → ⊥
+some_none e = cc
+
+-- and no step of them is wrong
+pub never_wrong : Promises → Keeps → (s : Scenario) (w : model.World) (x n : ℕ) (r : Ran) (p : ℕ × Wrong) → turns_of (system s) x n (going w []) ≡ r
+    → r.wrong ≡ Some p → ∥ Stands s w ∥₁ → ⊥
+never_wrong promises keeps s w x n r p e wrong stands =
+    ∥∥₁_elim stands (hlevel) (λ h. some_none (sym wrong ∙ (right_end promises keeps s w x n r e h).none))
+
+-- turns, as of the world that contracts see
+pub took_seen : (s : Scenario) (w v u : model.World) (old : World) (x n : ℕ) (e : Event) (text : List ℕ) → s ≡ old.scenario → w ≡ old.world → u ≡ v
+    → Takes s x n w v (Ok e) text → Takes old.scenario x n old.world u (Ok e) text
+took_seen s w v u old x n e text a b same takes =
+    subst (λ z. Takes old.scenario x n old.world z (Ok e) text) (sym same)
+    (subst (λ z. Takes old.scenario x n z v (Ok e) text) b (subst (λ t. Takes t x n w v (Ok e) text) a takes))
+
+-- what stands stands after them, and the budgets stay
+pub kept_then : Promises → Keeps → (s t : Scenario) (w v : model.World) (all : List Budget) (x n : ℕ) (e : Event) (text : List ℕ) → t ≡ s
+    → Takes s x n w v (Ok e) text → IsBudgeted s w all → IsBudgeted t v all
+kept_then promises keeps s t w v all x n e text same takes h =
+    record {
+      stands = subst (λ (r : Scenario). ∥ Stands r v ∥₁) (sym same)
+          (stands_then promises keeps s w x n (came_to s x (Ok e) text v []) (takes []) h.stands);
+      budgets_are = h.budgets_are ∙ ap budgets (sym same);
+    }
+
 -- LINES
 
 pub label_told : (cs : List Component) (x : ℕ) (label : List ℕ) → x < length cs → IfSome (slice_get cs x) (λ c. label ≡ c.label)
@@ -75,6 +143,12 @@ label_told cs x label less h =
     let c = there_is cs x less in
     let P : Option Component → Type 0 = λ o. IfSome o (λ c. label ≡ c.label) in
     let known : label ≡ c.0.label = subst P c.1 h in known ∙ ap label_at (sym c.1)
+
+-- a line of the text, as of the world that contracts see
+pub told_in : (P : List ℕ → Type 0) (t : Scenario) (old : World) (x : ℕ) (text read : List ℕ) → t ≡ old.scenario → read ≡ text
+    → P (line_told t x (doing.Line read)) → P (line_told old.scenario x (doing.Line text))
+told_in P t old x text read same is h =
+    subst (λ l. P (line_told old.scenario x (doing.Line l))) is (subst (λ (r : Scenario). P (line_told r x (doing.Line read))) same h)
 
 pub silent : (event : Event) (text label : List ℕ) → event ≢ events.Line → line_of label (event_of event text) ≡ []
 silent events.Idle text label h = refl

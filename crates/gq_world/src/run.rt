@@ -13,7 +13,7 @@ ghost use Rattle.gq_world.specs.Outcomes.{IsBefore, IsCutShort, IsFaultOf, IsWho
 
 use crate::account_lines::write_accounts;
 use crate::fault::RunFault;
-use crate::world::{Stop, World};
+use crate::world::World;
 use gq_init::turns::{TurnsError, read_turns};
 use gq_lines::counted::{Counted, WriteFault};
 use gq_scenario::scenario::LeafNo;
@@ -37,12 +37,9 @@ pub(crate) fn take_turns<W: Write>(
         (written_to W.contents out.new)) }
     ensures raised { OnErr result (IsRaised (failures_of out.old) (failures_of out.new)) }
 {
-    for turn in 0..count {
-        match world.turn(leaf, out) {
-            Ok(_) => (),
-            Err(Stop::Write) => return Err(WriteFault),
-            Err(Stop::Stopped) => unreachable!(),
-        }
+    let mut left = count;
+    while left > 0 {
+        left = world.turns(leaf, left, out)?;
     }
     Ok(())
 }

@@ -1,9 +1,12 @@
 // A world: an accepted scenario that runs.
 ghost use Rattle.std.specs.Prelude.{ℕ, ◌==◌, if◌then◌else◌, ◌≡◌, ◌↔◌, ◌<◌, ◌≤◌, ◌+◌, ◌*◌, true, false, length, slice_get, Some, Ok, Err, IfOk, IfErr, IfSome};
-ghost use Rattle.std.specs.Prelude.{IsOk, OnOk};
+ghost use Rattle.std.specs.Prelude.{◌-◌, IsOk, OnOk, OnErr};
+ghost use Rattle.std.specs.Io.KnownBytes.{Appends};
 ghost use Rattle.gq_model.specs.machine.Amounts.{Ram};
 ghost use Rattle.gq_model.specs.machine.Routes.{numbered};
 ghost use Rattle.gq_model.specs.machine.Scenario.{components, system};
+ghost use Rattle.gq_model.specs.machine.Doing.{Line};
+ghost use Rattle.gq_model.specs.machine.Run.{turns_of};
 ghost use Rattle.gq_model.specs.machine.Step.{next};
 ghost use Rattle.gq_model.specs.rules.Accept as accept;
 ghost use Rattle.gq_init.specs.NodeTables.{IsNodeOf, node_rows};
@@ -14,7 +17,8 @@ ghost use Rattle.gq_lines.specs.Counts.{written_to, failures_of};
 ghost use Rattle.gq_world.specs.Headline.{Upheld};
 ghost use Rattle.gq_lines.specs.Told.{told_of};
 ghost use Rattle.gq_world.specs.Lines.{all_accounts, IsAccountLine, TellsOf};
-ghost use Rattle.gq_world.specs.Worlds.{IsTurn, StopsWriting};
+ghost use Rattle.gq_world.specs.Worlds.{IsTurn, StopsWriting, line_told};
+ghost use Rattle.gq_world.specs.internal.Going.{HasRun, IsCut};
 ghost use Rattle.gq_lines.specs.Writes.{IsFront, IsRaised};
 
 use arrayvec::ArrayVec;
@@ -22,7 +26,7 @@ use gq_init::NodeTable;
 use gq_laws::accepted::accepted_laws;
 use gq_lines::account::{Account, LeafAccount};
 use gq_lines::account_line::account_line;
-use gq_lines::counted::{Counted, put};
+use gq_lines::counted::{Counted, WriteFault, put};
 use gq_lines::line::{Line, labelled};
 use gq_load::budget::Budget;
 use gq_machine::event::Event;
@@ -77,6 +81,15 @@ fn counted(version: Version, caps: u64) -> u64
         Version::One => 0,
         Version::Two => caps,
     }
+}
+
+// The line of a leaf that gives this text, with its label.
+fn line_of_leaf(table: &NodeTable, leaf: LeafNo, text: &[u8]) -> Line
+    requires leaf { leaf < length (components table.now) }
+    requires text { length text.now ≤ 64 }
+    ensures { result.items ≡ line_told table.now leaf (Line text.now) }
+{
+    labelled(table.label(table.node(leaf)), text)
 }
 
 impl World {
@@ -224,18 +237,76 @@ impl World {
         accepted_laws();
         let mut text = ArrayVec::new();
         match self.machine.step(leaf, &mut text) {
-            Event::Line => {
-                let table = self.machine.table();
-                let line = labelled(table.label(table.node(leaf)), text.as_slice());
-                match put(out, line.as_slice()) {
-                    Ok(()) => Ok(Event::Line),
-                    Err(_) => {
-                        self.stopped = true;
-                        Err(Stop::Write)
-                    }
-                }
-            }
+            Event::Line => match self.tell(leaf, text.as_slice(), out) {
+                Ok(()) => Ok(Event::Line),
+                Err(_) => Err(Stop::Write),
+            },
             event => Ok(event),
+        }
+    }
+
+    // Turns of a leaf, at most so many, up to the first that gives a line, which is written with the leaf's label. It tells how many are left. After a failed
+    // write the world is stopped. The turns take no host memory.
+    pub(crate) fn turns<W: Write>(
+        &mut self,
+        leaf: LeafNo,
+        count: u32,
+        out: &mut Counted<W>,
+    ) -> Result<u32, WriteFault>
+        requires leaf { leaf < length (components self.old.scenario) }
+        requires running { self.old.stopped ≡ false }
+        ensures scenario { self.new.scenario ≡ self.old.scenario }
+        ensures left { IfOk result (λ left. left ≤ count) }
+        ensures less { 0 < count → IfOk result (λ left. left < count) }
+        ensures ran { IfOk result (λ left. HasRun (turns_of (system self.old.scenario) leaf (count - left)) self.old self.new
+            (written_to W.contents out.old) (written_to W.contents out.new)) }
+        ensures counted { OnOk result (failures_of out.new ≡ failures_of out.old) }
+        ensures cut { OnErr result (IsCut (turns_of (system self.old.scenario) leaf count) self.old (written_to W.contents out.old)
+            (written_to W.contents out.new)) }
+        ensures raised { OnErr result (IsRaised (failures_of out.old) (failures_of out.new)) }
+    {
+        accepted_laws();
+        let mut text = ArrayVec::new();
+        let (last, left) = self.machine.turns_tested(leaf, count, &mut text);
+        match last {
+            Err(_) => unreachable!(),
+            Ok(event) => match event {
+                Event::Line => {
+                    self.tell(leaf, text.as_slice(), out)?;
+                    Ok(left)
+                }
+                Event::Idle | Event::Quiet | Event::Finished => Ok(left),
+            },
+        }
+    }
+
+    // Writes the line of a leaf that gives this text. After a failed write the world is stopped.
+    fn tell<W: Write>(
+        &mut self,
+        leaf: LeafNo,
+        text: &[u8],
+        out: &mut Counted<W>,
+    ) -> Result<(), WriteFault>
+        requires leaf { leaf < length (components self.old.scenario) }
+        requires text { length text.now ≤ 64 }
+        ensures scenario { self.new.scenario ≡ self.old.scenario }
+        ensures world { self.new.world ≡ self.old.world }
+        ensures written { OnOk result (Appends (written_to W.contents out.old) (written_to W.contents out.new)
+            (line_told self.old.scenario leaf (Line text.now))) }
+        ensures running { OnOk result (self.new.stopped ≡ self.old.stopped) }
+        ensures counted { OnOk result (failures_of out.new ≡ failures_of out.old) }
+        ensures front { OnErr result (IsFront (written_to W.contents out.old) (written_to W.contents out.new)
+            (line_told self.old.scenario leaf (Line text.now))) }
+        ensures stopped { OnErr result (self.new.stopped ≡ true) }
+        ensures raised { OnErr result (IsRaised (failures_of out.old) (failures_of out.new)) }
+    {
+        let line = line_of_leaf(self.machine.table(), leaf, text);
+        match put(out, line.as_slice()) {
+            Ok(()) => Ok(()),
+            Err(fault) => {
+                self.stopped = true;
+                Err(fault)
+            }
         }
     }
 }

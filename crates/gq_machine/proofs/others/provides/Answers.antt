@@ -1,5 +1,5 @@
 -- Whether a leaf provides a service.
-use Rattle.std.proofs.Common.{◌≡◌, ◌<◌, ℕ, Bool, length, Option, Some, None, refl, sym, ap, subst, ◌∙◌, arith}
+use Rattle.std.proofs.Common.{◌≡◌, ◌<◌, ℕ, Bool, length, Option, refl, sym, ap, subst, ◌∙◌}
 use Rattle.std.specs.Prelude.{IfSome, is_some, slice_get}
 use Rattle.gq_model.specs.machine.Scenario.{Component, Scenario, components}
 use Rattle.gq_init.specs.NodeTables.{LeafRow, interface_number, leaf_rows, number_named}

@@ -1,5 +1,5 @@
 -- A step of a leaf in which others have a part.
-use Rattle.std.proofs.Common.{◌≡◌, ℕ, Option, Some, refl, sym, ap, subst, ◌∙◌}
+use Rattle.std.proofs.Common.{◌≡◌, ℕ, Some, refl, sym, subst}
 use Rattle.std.specs.Prelude.{IsTrue, slice_get}
 use Rattle.gq_flat.specs.Cores.{is_shared}
 use Rattle.gq_flat.specs.declared.operation.Operation.{Operation}

@@ -1,12 +1,12 @@
 -- A leaf pays.
-use Rattle.std.proofs.Common.{◌≡◌, ◌+◌, ◌<◌, ◌^◌, ℕ, length, Option, Some, refl, sym, ap, subst, ◌∙◌, arith}
+use Rattle.std.proofs.Common.{◌+◌, ◌<◌, ◌^◌, refl, sym, ap, subst, arith}
 use Rattle.std.specs.Prelude.{slice_get}
 use Rattle.gq_model.specs.machine.Scenario.{components}
 use Rattle.gq_model.proofs.Small.{get_within}
 use Rattle.gq_slots.specs.Slots.{IsPaidBy, Slots}
 use Rattle.gq_steps.specs.Coded.{Coded}
 use Rattle.gq_transitions.specs.Worlds.{world_of}
-use Rattle.gq_machine.proofs.Same.{holds_paid, paid_by}
+use Rattle.gq_machine.proofs.Same.{holds_paid}
 use Rattle.gq_transitions.proofs.Standing.{of_leaf}
 use Rattle.gq_machine.proofs.steps.pay.Goals as goal
 

@@ -1,21 +1,15 @@
 -- One turn of a leaf.
-use Rattle.std.proofs.Common.{◌≡◌, ◌⊎◌, inl, inr, sym, subst, ◌∙◌, arith}
+use Rattle.std.proofs.Common.{◌≡◌, subst, arith}
 use Rattle.std.specs.Prelude.{slice_get}
-use Rattle.gq_model.specs.declared.phase.Phase.{Phase}
-use Rattle.gq_model.specs.declared.phase.Phase.TheVariants as phase
 use Rattle.gq_model.specs.machine.Scenario.{components, system}
 use Rattle.gq_model.proofs.Small.{get_within}
 use Rattle.gq_steps.specs.Phases.{Rests}
 use Rattle.gq_transitions.specs.Worlds.{frame_of}
 use Rattle.gq_transitions.specs.internal.Holds.{Holds}
+use Rattle.gq_machine.proofs.Resting.{at_rest}
 use Rattle.gq_machine.proofs.Same.{holds_same, from_err}
 use Rattle.gq_transitions.proofs.Standing.{item_there, standing}
 use Rattle.gq_machine.proofs.steps.turn.Goals as goal
-
-at_rest : (p : Phase) → (p ≡ phase.Pending) ⊎ ((p ≡ phase.Blocked) ⊎ (p ≡ phase.Exited)) → Rests p
-at_rest p (inl e) = subst Rests (sym e) tt
-at_rest p (inr (inl e)) = subst Rests (sym e) tt
-at_rest p (inr (inr e)) = subst Rests (sym e) tt
 
 pub returns-in-Pending-clause-step : goal.returns-in-Pending-clause-step
 returns-in-Pending-clause-step c =

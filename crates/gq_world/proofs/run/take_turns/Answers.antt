@@ -1,27 +1,37 @@
-use Rattle.std.proofs.Common.{◌∙◌, ap}
-use Rattle.std.specs.Prelude.{Err}
-use Rattle.gq_world.proofs.Going.{goes_on, is_cut}
+use Rattle.std.proofs.Common.{◌∙◌, arith}
+use Rattle.std.proofs.lemmas.Result.{err_from_is_err_and}
+use Rattle.gq_model.specs.machine.Run.{turns_of}
+use Rattle.gq_model.specs.machine.Scenario.{system}
+use Rattle.gq_world.proofs.Going.{cut_on, goes_on}
 use Rattle.gq_world.proofs.run.take_turns.Goals as goal
 
-pub returns-in-Err-Write-clause-cut : goal.returns-in-Err-Write-clause-cut
-returns-in-Err-Write-clause-cut g c =
-    let l = c.loop-turn in
+pub returns-in_err-left-clause-cut : goal.returns-in_err-left-clause-cut
+returns-in_err-left-clause-cut g c =
+    let l = c.loop-left in
+    let s = c.args.world.now.scenario in
+    let x = c.args.leaf in
     let a = g.W.Write.contents c.args.out.now.writer in
     let b = g.W.Write.contents l.out.writer in
-    let d = g.W.Write.contents c.turn.new.out.writer in
-    is_cut c.args.world.now.scenario c.args.leaf c.args.count l.turn c.loop-turn-test.true c.args.world.now l.world c.turn.new.self l.invariant.scenario a b d
-    l.invariant.left (c.in-Err-Write.ensures.stops (ap Err c.in-Err-Write.field-0-is))
+    let d = g.W.Write.contents c.turns.new.out.writer in
+    let p = err_from_is_err_and c.from_residual.result c.from_residual.ensures.1 in
+    rw (p.1) (cut_on s x l.left 0 (omega arith) (turns_of (system s) x c.args.count) c.args.world.now l.world c.turns.new.self l.invariant.scenario a b d
+    l.invariant.left c.in_err-left.ensures.cut)
 
-pub loop-turn-preserved : goal.loop-turn-preserved
-loop-turn-preserved g c =
-    let l = c.loop-turn in
+pub loop-left-preserved : goal.loop-left-preserved
+loop-left-preserved g c =
+    let l = c.loop-left in
+    let s = c.args.world.now.scenario in
+    let x = c.args.leaf in
     let a = g.W.Write.contents c.args.out.now.writer in
     let b = g.W.Write.contents l.out.writer in
-    let d = g.W.Write.contents c.turn.new.out.writer in
-    let e = c.in-Ok.ensures in
+    let d = g.W.Write.contents c.turns.new.out.writer in
+    let e = c.in_ok-left.ensures in
+    let few = e.left in
+    let less = l.invariant.few in
     record {
       scenario = e.scenario ∙ l.invariant.scenario;
-      left = goes_on c.args.world.now.scenario c.args.leaf c.args.count l.turn c.loop-turn-test.true c.args.world.now l.world c.turn.new.self
-          l.invariant.scenario a b d c.in-Ok.field-0 l.invariant.left e.turned e.goes_on;
+      few = omega (arith, few, less);
+      left = goes_on s x l.left c.in_ok-left.left few (turns_of (system s) x c.args.count) c.args.world.now l.world c.turns.new.self l.invariant.scenario a b d
+          l.invariant.left e.ran;
       counted = e.counted ∙ l.invariant.counted;
     }

@@ -16,4 +16,4 @@ turn-requires-clause-countable c =
     let less = subst (λ (v : Machine). x < length (components v.scenario)) (sym c.self.view_is) c.requires.leaf in
     let count = subst (λ (v : Machine). IsCountable v.world x) (sym c.self.view_is) c.requires.countable in
     subst (λ y. OfLeaf (λ (k : Coded). k.state.steps + 1 < 2 ^ 64) (slice_get m.leaves.items y)) (sym c.index.ensures)
-    (counted_there f m c.self.invariant c.lawful.ensures x less count)
+    (counted_there f m c.self.invariant c.lawful.ensures x 1 less count)
