@@ -1,6 +1,6 @@
 -- Turns, one after the other.
-use Rattle.std.proofs.Common.{◌≡◌, ℕ, zero, suc, ◌+◌, ◌-◌, ◌<◌, ◌≤◌, List, [], ◌∷◌, ◌++◌, take, drop, Option, Some, None, Ok, Err, length, get_or, refl, ap, sym}
-use Rattle.std.proofs.Common.{◌∙◌, subst, arith, add-one, append_assoc, append-nil}
+use Rattle.std.proofs.Common.{◌≡◌, ℕ, zero, suc, ◌+◌, ◌-◌, ◌<◌, ◌≤◌, List, [], ◌∷◌, ◌++◌, take, drop, Option, Some, None, Ok, Err, length, get_or}
+use Rattle.std.proofs.Common.{refl, ap, sym, ◌∙◌, subst, arith, add-one, append_assoc, append-nil}
 use Rattle.std.proofs.lemmas.List.{take-append-drop}
 use Rattle.std.proofs.Math.Seq.{drop-cons}
 use Rattle.std.specs.Prelude.{slice_get, false}
@@ -79,7 +79,8 @@ module _ (s : Scenario) (x count left : ℕ) (less : left ≤ count) (old new : 
             ∙ (ap (λ (r : Ran). (turns_of (system s) x left r).text) (took f) ∙ ((rest f).1 ∙ parted f line (rest f).0 front.0));
       }
 
-module _ (s : Scenario) (x l r : ℕ) (less : r ≤ l) (all : Ran → Ran) (old now new : World) (same : now.scenario ≡ s) (before between after : Option (List ℕ)) where
+module _ (s : Scenario) (x l r : ℕ) (less : r ≤ l) (all : Ran → Ran) (old now new : World) (same : now.scenario ≡ s)
+    (before between after : Option (List ℕ)) where
   pub goes_on : HasLeft (turns_of (system s) x l) all old now before between
       → HasRun (turns_of (system now.scenario) x (l - r)) now new between after → HasLeft (turns_of (system s) x r) all old new before after
   goes_on h run =
