@@ -1,14 +1,14 @@
 -- Sums over sessions know only those of the group, so the account of a leaf inside stays.
 use Rattle.std.proofs.Common.{◌≡◌, ℕ, zero, suc, ◌||◌, ◌+◌, ◌-◌, ◌==◌, inl, inr, Bool, true, false, cond, List, [], ◌∷◌, Option, Some, None, refl, ap, sym, ◌∙◌}
 use Rattle.std.proofs.Common.{arith}
-use Rattle.std.specs.Prelude.{slice_get, sum_by}
+use Rattle.std.specs.Prelude.{◌&&◌, nat_le, slice_get, sum_by}
 use Rattle.std.proofs.lemmas.Bool.Decides.{eqb_tells}
 use Rattle.std.proofs.lemmas.List.Sums.{sum_by-cons}
 use Rattle.gq_model.specs.machine.Amounts.{Resource, Ram, Caps, part}
 use Rattle.gq_model.specs.machine.Scenario.{System, Component}
 use Rattle.gq_model.specs.machine.World.{Session, Leaf, World, joined}
 use Rattle.gq_model.specs.machine.Prices.{heap}
-use Rattle.gq_model.specs.machine.Sums.{slot_price, bank_price, donated, to_leaf, from_leaf, held, lent, received, handed, quota}
+use Rattle.gq_model.specs.machine.Sums.{slot_price, bank_price, donated, to_leaf, from_leaf, held, lent, received, handed, quota, is_paid, are_paid}
 use Rattle.gq_model.specs.machine.Accounts.{Account, amount_in, account_at}
 use Rattle.gq_separation.specs.Separation.{own_session, IsUntouched, SameAccounts}
 
@@ -46,7 +46,7 @@ module _ (group : ℕ → Bool) (y : ℕ) (inside : group y ≡ true) where
   to_else f s true e = refl
   to_else f s false e = ap (λ b. cond b (f s) 0) e
 
-  to_known : (f : Session → ℕ) (o : Option Session) → to_leaf y f o ≡ to_leaf y f (own_session group o)
+  pub to_known : (f : Session → ℕ) (o : Option Session) → to_leaf y f o ≡ to_leaf y f (own_session group o)
   to_known f None = refl
   to_known f (Some s) = elim (eqb_tells s.server y) [
     | inl t ↦ ap (to_leaf y f) (sym (shown s (ap (λ b. group s.client || b) (ap group t.1 ∙ inside) ∙ or_true (group s.client))))
@@ -57,7 +57,7 @@ module _ (group : ℕ → Bool) (y : ℕ) (inside : group y ≡ true) where
   from_else f s true e = refl
   from_else f s false e = ap (λ b. cond b (f s) 0) e
 
-  from_known : (f : Session → ℕ) (o : Option Session) → from_leaf y f o ≡ from_leaf y f (own_session group o)
+  pub from_known : (f : Session → ℕ) (o : Option Session) → from_leaf y f o ≡ from_leaf y f (own_session group o)
   from_known f None = refl
   from_known f (Some s) = elim (eqb_tells s.client y) [
     | inl t ↦ ap (from_leaf y f) (sym (shown s (ap (λ a. a || group s.server) (ap group t.1 ∙ inside))))
@@ -78,6 +78,15 @@ module _ (group : ℕ → Bool) (y : ℕ) (inside : group y ≡ true) where
     quota_same r c leaf =
         ap (λ n. handed leaf.phase (part r c.node.quantum) + n - lent r new y) (to_same (donated r))
         ∙ ap (λ n. handed leaf.phase (part r c.node.quantum) + received r old y - n) (from_same (donated r))
+
+    one_paid : (r : Resource) (c : Component) (leaf : Leaf) → is_paid new y c leaf r ≡ is_paid old y c leaf r
+    one_paid r c leaf =
+        λ t. nat_le (held_same r leaf t + from_same (donated r) t) (handed leaf.phase (part r c.node.quantum) + to_same (donated r) t)
+
+    -- a leaf inside is paid for as it was
+    pub paid_same : (c : Component) (leaf : Leaf) (resources : List Resource) → are_paid new y c leaf resources ≡ are_paid old y c leaf resources
+    paid_same c leaf [] = refl
+    paid_same c leaf (r ∷ resources) = λ t. one_paid r c leaf t && paid_same c leaf resources t
 
     account_by : (version : ℕ) (c : Component) (leaf : Leaf) (budget ram caps used taken : ℕ) → List Account
     account_by version c leaf budget ram caps used taken =

@@ -1,7 +1,7 @@
 -- A step of a leaf outside leaves a group that is apart untouched.
 use Rattle.std.proofs.Common.{◌≡◌, ℕ, zero, suc, ◌&&◌, ◌||◌, ◌==◌, inl, inr, Bool, true, false, cond, not, List, [], ◌∷◌, Option}
 use Rattle.std.proofs.Common.{Some, None, Ok, refl, ap, sym, ◌∙◌, subst}
-use Rattle.std.specs.Prelude.{slice_get, slice_set}
+use Rattle.std.specs.Prelude.{is_some, slice_get, slice_set}
 use Rattle.std.proofs.lemmas.Bool.Decides.{eqb_tells}
 use Rattle.std.proofs.lemmas.Bool.{true≢false}
 use Rattle.gq_model.specs.machine.Program.{Statements, Done, Do, If, Loop}
@@ -17,12 +17,13 @@ use Rattle.gq_model.specs.declared.phase.Phase.TheVariants.{Pending, Running, Bl
 use Rattle.gq_model.specs.declared.fault.Wrong.TheVariants.{WrongKind, ExceededQuota}
 use Rattle.gq_model.specs.machine.Scenario.{System, Component}
 use Rattle.gq_model.specs.machine.World.{Slot, Empty, Bytes, Pool, Link, Waiting, Spot, In_leaf, In_session, In_object, Session, Ask, Ask_open, Ask_upgrade}
-use Rattle.gq_model.specs.machine.World.{Ask_close, Ask_call, Request, Hand, Round, Leaf, World, session_at, slot_at, with_leaf, with_slot, spot_of}
+use Rattle.gq_model.specs.machine.World.{Ask_close, Ask_call, Request, Hand, Round, Leaf, World, joined, session_at, slot_at, with_leaf, with_slot, spot_of}
 use Rattle.gq_model.specs.machine.Sums.{paid}
 use Rattle.gq_model.specs.machine.Doing.{Doing, Event, Quiet, Stepped, fill, standing, with_operands, settled, if_paid}
 use Rattle.gq_model.specs.machine.Memory.{behind, bytes_spot, bytes_in, bytes_at, pool_in, pool_at, make, free, is_memory, is_kept}
-use Rattle.gq_model.specs.machine.Requests.{new_session, asked, link_in, link_at, open_session, upgrade, call, close}
-use Rattle.gq_model.specs.machine.Step.{instruct, is_to, oldest, accepted_as, accept, all_empty, serving, replied, reply_close, reply, is_named, released}
+use Rattle.gq_model.specs.machine.Requests.{free_place, new_session, asked, link_in, link_at, open_session, upgrade, call, close}
+use Rattle.gq_model.specs.machine.Step.{instruct, is_to, kept_before, oldest, accepted_as, accept, all_empty, serving, replied, reply_close, reply, is_named}
+use Rattle.gq_model.specs.machine.Step.{released}
 use Rattle.gq_model.specs.machine.Step.{all_released, exited, exit_of, main_ended, section_ended, body_ended, perform, accept_oldest, step_in, step_of, next}
 use Rattle.gq_model.proofs.Small.{some_same, none_some}
 use Rattle.gq_laws.specs.Links.{Leads, naming_in, outline, outline_in, stance, Links, links, Belongs, AreLinked, IsLinkedWorld}
@@ -32,11 +33,12 @@ use Rattle.gq_laws.proofs.turning.Instructs.{accept_by}
 use Rattle.gq_laws.proofs.turning.Outcomes.{closed}
 use Rattle.gq_laws.proofs.linking.Quiet.{stood}
 use Rattle.gq_laws.proofs.linking.Accepted.{oldest_found, stand_slots}
-use Rattle.gq_separation.specs.Separation.{own_session, IsApart, IsUntouched}
-use Rattle.gq_separation.proofs.Staying.{foreign, kept_self, kept_leaf, kept_place, kept_added, IsFar, kept_slot, kept_active}
+use Rattle.gq_separation.specs.Separation.{own_session, own_requests, IsApart, IsUntouched, SameRequests}
+use Rattle.gq_separation.proofs.Staying.{foreign, IsKept, same_requests, kept_request, kept_requests, kept_self, kept_leaf, kept_place, kept_added, IsFar}
+use Rattle.gq_separation.proofs.Staying.{kept_slot, kept_active}
 
 -- a session whose outline is this
-outlined : (o : Option Session) (s : Session) → outline_in o ≡ Some s → (u : Session) × (o ≡ Some u) × (outline u ≡ s)
+pub outlined : (o : Option Session) (s : Session) → outline_in o ≡ Some s → (u : Session) × (o ≡ Some u) × (outline u ≡ s)
 outlined None s e = absurd (none_some e)
 outlined (Some u) s e = (u, refl, some_same e)
 
@@ -56,6 +58,12 @@ released_same name [] leaves y h = refl
 released_same name (c ∷ cs) [] y h = refl
 released_same name (c ∷ cs) (leaf ∷ leaves) zero h = ap (λ p. Some (record leaf { phase = p })) (released_phase name c.node.after leaf.phase (h c refl))
 released_same name (c ∷ cs) (leaf ∷ leaves) (suc y) h = released_same name cs leaves y h
+
+-- no session stands at the first free place
+pub free_none : (items : List (Option Session)) → joined (slice_get items (free_place items)) ≡ None
+free_none [] = refl
+free_none (None ∷ items) = refl
+free_none (Some s ∷ items) = free_none items
 
 module _ (group : ℕ → Bool) where
   client_out : (s : Session) → own_session group (Some s) ≡ None → group s.client ≡ false
@@ -88,7 +96,7 @@ module _ (group : ℕ → Bool) where
     L = links d.world
 
     abbrev K : World → Type 0
-    K w = IsUntouched group d.world w
+    K w = IsKept group d.world w
 
     abbrev Far : Spot → Type 0
     Far q = IsFar group d.world q
@@ -218,11 +226,11 @@ module _ (group : ℕ → Bool) where
 
     -- REQUESTS
 
-    asked_ends : (leaf : Leaf) (w : World) (q : Spot) (k : ℕ) (ask : Ask) → Far q → K w → Ends K (asked (record d { leaf = leaf }) w q k ask)
-    asked_ends leaf w q k ask far i =
+    asked_ends : (leaf : Leaf) (w : World) (q : Spot) (k : ℕ) (ask : Ask) → Far q → Foreign k → K w → Ends K (asked (record d { leaf = leaf }) w q k ask)
+    asked_ends leaf w q k ask far foreign i =
         let blocked = record leaf { phase = Blocked } in
         let j = writes (with_leaf w d.x blocked) q (Waiting k) far (kept_leaf group d.world w d.x blocked out i) in
-        when_ends K _ _ _ (gives _ _ (record { leaves = j.leaves; sessions = j.sessions }))
+        when_ends K _ _ _ (gives _ _ (kept_request group d.world _ _ foreign j))
 
     link_ends : (q : Spot) (o : Option Slot) (go : ℕ → Session → Stepped) → slot_at d.world q ≡ o → Far q
         → ((k : ℕ) (s : Session) → session_at d.world k ≡ Some s → Foreign k → Ends K (go k s)) → Ends K (link_in d.world o go)
@@ -240,22 +248,22 @@ module _ (group : ℕ → Bool) where
 
     upgrade_ends : (place : Place) (n : ℕ) → Ends K (upgrade d place n)
     upgrade_ends place n = link_at_ends place _ (λ q k s far there foreign.
-        asked_ends d.leaf _ q k Ask_upgrade far
+        asked_ends d.leaf _ q k Ask_upgrade far foreign
         (kept_place group d.world d.world k _ foreign (like s _ refl refl (ap (own_session group) (sym there) ∙ foreign)) same))
 
     call_ends : (place : Place) → Ends K (call d place)
     call_ends place = pop_ends K _ _ (λ a rest. link_at_ends place (λ q k s. asked (record d { leaf = with_operands d rest }) d.world q k (Ask_call a))
-        (λ q k s far there foreign. asked_ends (with_operands d rest) d.world q k (Ask_call a) far same))
+        (λ q k s far there foreign. asked_ends (with_operands d rest) d.world q k (Ask_call a) far foreign same))
 
     close_ends : (place : Place) → Ends K (close d place)
-    close_ends place = link_at_ends place _ (λ q k s far there foreign. asked_ends d.leaf d.world q k Ask_close far same)
+    close_ends place = link_at_ends place _ (λ q k s far there foreign. asked_ends d.leaf d.world q k Ask_close far foreign same)
 
     open_ends : (place : Place) (service : List ℕ) (n : ℕ) → Ends K (open_session d place service n)
     open_ends place service n = need_found K (spot_of d.x d.leaf.hand place) _ _ (λ q e.
         let far = named_far place d.leaf.hand q refl e in
         fill_ends d.world q (slot_at d.world q) _ _ (writes d.world q _ far same) (λ w k.
         need_found K _ _ _ (λ server routed.
-        asked_ends d.leaf _ q _ Ask_open far
+        asked_ends d.leaf _ q _ Ask_open far (ap (own_session group) (free_none d.world.sessions))
         (kept_added group d.world w _
         (foreign group (new_session d.x q server service _) out (sym (apart.routes d.x server d.component service component routed) ∙ out)) k))))
 
@@ -284,12 +292,43 @@ module _ (group : ℕ → Bool) where
 
     -- SECTIONS
 
+    -- the oldest request for a leaf outside is none of the group's
+    oldest_later : (r : Request) (rs : List Request) (o : Option (Request × List Request))
+        → ((p : Request × List Request) → o ≡ Some p → own_requests group d.world p.1 ≡ own_requests group d.world rs)
+        → (p : Request × List Request) → kept_before r o ≡ Some p → own_requests group d.world p.1 ≡ own_requests group d.world (r ∷ rs)
+    oldest_later r rs None f p e = absurd (none_some e)
+    oldest_later r rs (Some q) f p e =
+        ap (λ (p : Request × List Request). own_requests group d.world p.1) (sym (some_same e))
+        ∙ ap (λ l. cond (is_some (own_session group (session_at d.world r.session))) (r ∷ l) l) (f q refl)
+
+    to_out : (o : Option Session) (k : ℕ) → session_at d.world k ≡ o → is_to d.x o ≡ true → own_session group o ≡ None
+    to_out None k there e = refl
+    to_out (Some s) k there e = elim (eqb_tells s.server d.x) [
+      | inl t ↦ ap (own_session group) (sym there) ∙ far_server k s there (ap group t.1 ∙ out)
+      | inr t ↦ absurd (true≢false (sym e ∙ t.0))
+    ]
+
+    oldest_by : (r : Request) (rs : List Request) (b : Bool) → is_to d.x (session_at d.world r.session) ≡ b → (o : Option (Request × List Request))
+        → ((p : Request × List Request) → o ≡ Some p → own_requests group d.world p.1 ≡ own_requests group d.world rs)
+        → (p : Request × List Request) → cond b (Some (r, rs)) (kept_before r o) ≡ Some p
+        → own_requests group d.world p.1 ≡ own_requests group d.world (r ∷ rs)
+    oldest_by r rs true to o f p e =
+        ap (λ (p : Request × List Request). own_requests group d.world p.1) (sym (some_same e))
+        ∙ sym (ap (λ o. cond (is_some o) (r ∷ own_requests group d.world rs) (own_requests group d.world rs))
+        (to_out (session_at d.world r.session) r.session refl to))
+    oldest_by r rs false to o f p e = oldest_later r rs o f p e
+
+    oldest_out : (rs : List Request) (p : Request × List Request) → oldest d.world d.x rs ≡ Some p
+        → own_requests group d.world p.1 ≡ own_requests group d.world rs
+    oldest_out [] p e = absurd (none_some e)
+    oldest_out (r ∷ rs) p e =
+        oldest_by r rs (is_to d.x (session_at d.world r.session)) refl (oldest d.world d.x rs) (λ q f. oldest_out rs q f) p e
+
     accept_ends : (p : Request × List Request) → oldest d.world d.x d.world.requests ≡ Some p → Ends K (accept d p.0 p.1)
     accept_ends p e = accept_by K d p.0 p.1 (λ old there.
         let foreign = far_server p.0.session old there (ap group (server old there) ∙ out) in
-        let j = stands _ in
         kept_place group d.world _ p.0.session _ foreign (accepted_like d.system p.0.ask old (ap (own_session group) (sym there) ∙ foreign))
-        (record { leaves = j.leaves; sessions = j.sessions }))
+        (kept_requests group d.world _ p.1 (oldest_out d.world.requests p e) (stands _)))
       where
         told : (s : Session) → (s.server == d.x) ≡ true → s.server ≡ d.x
         told s e = elim (eqb_tells s.server d.x) [ inl t ↦ t.1 | inr t ↦ absurd (true≢false (sym e ∙ t.0)) ]
@@ -327,8 +366,11 @@ module _ (group : ℕ → Bool) where
     exit_kept : K (exit_of d)
     exit_kept =
         record {
-          leaves = λ y inside. released_same d.component.node.name d.system.components _ y (unnamed y inside) ∙ j.leaves y inside;
-          sessions = j.sessions;
+          untouched = record {
+            leaves = λ y inside. released_same d.component.node.name d.system.components _ y (unnamed y inside) ∙ j.untouched.leaves y inside;
+            sessions = j.untouched.sessions;
+          };
+          requests = j.requests;
         }
       where
         j : K (standing d (exited d.leaf))
@@ -356,7 +398,7 @@ module _ (group : ℕ → Bool) where
   module _ (d : Doing) (t : Takes d) (h : AreLinked d.system (links d.world)) (apart : IsApart d.system group) (out : group d.x ≡ false)
       (component : slice_get d.system.components d.x ≡ Some d.component) where
     abbrev Kept : World → Type 0
-    Kept w = IsUntouched group d.world w
+    Kept w = IsKept group d.world w
 
     perform_ends : (todo : Statements) → Ends Kept (perform d todo)
     perform_ends Done = body_ends d t h apart out component d.leaf.loops
@@ -378,14 +420,20 @@ module _ (group : ℕ → Bool) where
     step_ends Exited = gives _ _ (kept_self group d.world)
 
   next_by : (system : System) (w : World) (x : ℕ) (c : Option Component) (leaf : Option Leaf) → IsLinkedWorld system w → IsApart system group
-      → group x ≡ false → slice_get system.components x ≡ c → slice_get w.leaves x ≡ leaf → Ends (IsUntouched group w) (step_of system w x c leaf)
+      → group x ≡ false → slice_get system.components x ≡ c → slice_get w.leaves x ≡ leaf → Ends (IsKept group w) (step_of system w x c leaf)
   next_by system w x (Some c) (Some leaf) h apart out component there =
       step_ends (record { system = system; world = w; x = x; component = c; leaf = record leaf { steps = suc leaf.steps } })
       (record { old = leaf; there = there; slots = refl; phase = refl; hand = refl }) h apart out component leaf.phase
   next_by system w x (Some c) None h apart out component there = gives _ _ (kept_self group w)
   next_by system w x None leaf h apart out component there = gives _ _ (kept_self group w)
 
-  pub step_untouched : (system : System) (w : World) (x : ℕ) (new : World) (event : Event) → IsLinkedWorld system w → IsApart system group → group x ≡ false
-      → next system w x ≡ Ok (new, event) → IsUntouched group w new
-  step_untouched system w x new event h apart out e =
-      (next_by system w x (slice_get system.components x) (slice_get w.leaves x) h apart out refl refl).holds new event e
+  module _ (system : System) (w : World) (x : ℕ) (new : World) (event : Event) (h : IsLinkedWorld system w) (apart : IsApart system group)
+      (out : group x ≡ false) (e : next system w x ≡ Ok (new, event)) where
+    kept : IsKept group w new
+    kept = (next_by system w x (slice_get system.components x) (slice_get w.leaves x) h apart out refl refl).holds new event e
+
+    pub step_untouched : IsUntouched group w new
+    step_untouched = kept.untouched
+
+    pub step_requests : SameRequests group w new
+    step_requests = same_requests group w new kept

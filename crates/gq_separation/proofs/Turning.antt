@@ -9,9 +9,9 @@ use Rattle.gq_model.specs.machine.Run.{Ran, after_step, turn_from, turns_of, run
 use Rattle.gq_laws.specs.Links.{IsLinkedWorld}
 use Rattle.gq_laws.proofs.linking.Linked_worlds.{kept_linked}
 use Rattle.gq_laws.proofs.gathering.Worlds.{reached_linked}
-use Rattle.gq_separation.specs.Separation.{IsApart, IsUntouched, AreOutside, TurnsTouchNothing}
+use Rattle.gq_separation.specs.Separation.{IsApart, IsUntouched, SameRequests, AreOutside, TurnsTouchNothing}
 use Rattle.gq_separation.proofs.Staying.{kept_self}
-use Rattle.gq_separation.proofs.Stepping.{step_untouched}
+use Rattle.gq_separation.proofs.Stepping.{step_untouched, step_requests}
 use Rattle.gq_separation.proofs.Accounting.{same_accounts}
 
 module _ (real : System) (group : ℕ → Bool) (apart : IsApart real group) (old : World) where
@@ -19,6 +19,7 @@ module _ (real : System) (group : ℕ → Bool) (apart : IsApart real group) (ol
   pub record IsStill (ran : Ran) : Type 0 where
     pub linked : IsLinkedWorld real ran.world
     pub still : IsUntouched group old ran.world
+    pub requests : SameRequests group old ran.world
 
   one_step : (ran : Ran) (x : ℕ) (r : Stepped) → next real ran.world x ≡ r → group x ≡ false → IsStill ran → IsStill (after_step real x ran r)
   one_step ran x (Ok p) e out h =
@@ -26,8 +27,9 @@ module _ (real : System) (group : ℕ → Bool) (apart : IsApart real group) (ol
       record {
         linked = kept_linked real ran.world x p.0 p.1 h.linked e;
         still = record { leaves = λ y inside. u.leaves y inside ∙ h.still.leaves y inside; sessions = λ k. u.sessions k ∙ h.still.sessions k };
+        requests = step_requests group real ran.world x p.0 p.1 h.linked apart out e ∙ h.requests;
       }
-  one_step ran x (Err wrong) e out h = record { linked = h.linked; still = h.still }
+  one_step ran x (Err wrong) e out h = record { linked = h.linked; still = h.still; requests = h.requests }
 
   one_turn : (ran : Ran) (x : ℕ) (o : Option (ℕ × Wrong)) → group x ≡ false → IsStill ran → IsStill (turn_from real x ran o)
   one_turn ran x None out h = one_step ran x (next real ran.world x) refl out h
@@ -45,5 +47,9 @@ pub turns_touch_nothing : (s : Scenario) (group : ℕ → Bool) (turns : List (�
 turns_touch_nothing s group turns apart more out =
     let ran = run (system s) turns in
     let h = all_turns (system s) group apart ran.world ran more out
-    (record { linked = reached_linked s ran.world (record { turns = turns; is = refl }); still = kept_self group ran.world }) in
-    (h.still, same_accounts (system s) group ran.world (run_on (system s) more ran).world h.still)
+    (record {
+      linked = reached_linked s ran.world (record { turns = turns; is = refl });
+      still = (kept_self group ran.world).untouched;
+      requests = refl;
+    }) in
+    (h.still, h.requests, same_accounts (system s) group ran.world (run_on (system s) more ran).world h.still)

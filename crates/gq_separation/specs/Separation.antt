@@ -1,8 +1,8 @@
 -- Groups of leaves that share nothing with the others, and what stays of them.
-use Rattle.std.specs.Prelude.{◌≡◌, ℕ, if◌then◌else◌, Bool, true, false, ◌||◌, List, Option, Some, None, slice_get}
+use Rattle.std.specs.Prelude.{◌≡◌, ℕ, if◌then◌else◌, Bool, true, false, ◌||◌, List, [], ◌∷◌, Option, Some, None, is_some, slice_get}
 use Rattle.gq_model.specs.machine.Scenario.{System, Component}
 use Rattle.gq_model.specs.machine.Routes.{server_of}
-use Rattle.gq_model.specs.machine.World.{Session, World, session_at}
+use Rattle.gq_model.specs.machine.World.{Session, Request, World, session_at}
 use Rattle.gq_model.specs.machine.Step.{is_named}
 use Rattle.gq_model.specs.machine.Accounts.{account_at}
 use Rattle.gq_model.specs.machine.Run.{run, run_on}
@@ -29,6 +29,16 @@ pub record IsUntouched (group : ℕ → Bool) (old new : World) : Type 0 where
   pub leaves : (y : ℕ) → group y ≡ true → slice_get new.leaves y ≡ slice_get old.leaves y
   pub sessions : (k : ℕ) → own_session group (session_at new k) ≡ own_session group (session_at old k)
 
+-- those of these requests that are for a session of the group, in their order
+abbrev pub own_requests : (ℕ → Bool) → World → List Request → List Request
+own_requests group w [] = []
+own_requests group w (r ∷ rest) =
+    if is_some (own_session group (session_at w r.session)) then r ∷ own_requests group w rest else own_requests group w rest
+
+-- the same requests of the group wait, in the same order
+abbrev pub SameRequests : (ℕ → Bool) → World → World → Type 0
+SameRequests group old new = own_requests group new new.requests ≡ own_requests group old old.requests
+
 -- the account of each leaf inside is the same, in either version and by any budget
 abbrev pub SameAccounts : System → (ℕ → Bool) → World → World → Type 0
 SameAccounts system group old new =
@@ -42,9 +52,10 @@ SameAccounts system group old new =
 abbrev pub AreOutside : (ℕ → Bool) → List (ℕ × ℕ) → Type 0
 AreOutside group turns = Each (λ t. group t.0 ≡ false) turns
 
--- turns of leaves outside that come after these change no leaf inside, no session of the group and no account of a leaf inside
+-- turns of leaves outside that come after these change no leaf inside, no session and no request of the group, and no account of a leaf inside
 abbrev pub TurnsTouchNothing : System → (ℕ → Bool) → List (ℕ × ℕ) → Type 0
 TurnsTouchNothing system group turns =
     (more : List (ℕ × ℕ)) → AreOutside group more
     → IsUntouched group (run system turns).world (run_on system more (run system turns)).world
+    × SameRequests group (run system turns).world (run_on system more (run system turns)).world
     × SameAccounts system group (run system turns).world (run_on system more (run system turns)).world

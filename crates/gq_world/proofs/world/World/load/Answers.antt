@@ -1,8 +1,10 @@
-use Rattle.std.proofs.Common.{◌≡◌, ◌∙◌, sym, subst}
+use Rattle.std.proofs.Common.{◌≡◌, ◌∙◌, Result, Ok, ap, sym, subst}
 use Rattle.gq_model.specs.machine.Scenario.{Scenario, system}
 use Rattle.gq_model.specs.machine.World as model
 use Rattle.gq_model.specs.machine.World.{start}
+use Rattle.gq_model.specs.rules.Accept.{IsAccepted}
 use Rattle.gq_laws.specs.Stands.{Stands}
+use Rattle.gq_load.specs.Load.{Fault}
 use Rattle.gq_world.specs.Headline.{Upholding}
 use Rattle.gq_world.proofs.world.World.load.Goals as goal
 
@@ -26,3 +28,21 @@ returns-clause-upheld c =
     let s = c.in_ok-accepted.accepted in
     let same = c.start.ensures.scenario ∙ (c.in_ok-machine.ensures.scenario ∙ c.into_parts-table.ensures.table) in
     subst Upholding (sym same) (λ turns. c.loaded_laws.ensures.runs c.args.text.now s turns c.in_ok-accepted.ensures.loaded)
+
+pub returns-clause-loaded : goal.returns-clause-loaded
+returns-clause-loaded c =
+    let same = c.start.ensures.scenario ∙ (c.in_ok-machine.ensures.scenario ∙ c.into_parts-table.ensures.table) in
+    c.in_ok-accepted.ensures.loaded ∙ ap (λ (r : Scenario). let o : Result Scenario Fault = Ok r in o) (sym same)
+
+pub returns-clause-world : goal.returns-clause-world
+returns-clause-world c =
+    let table = c.start.ensures.scenario ∙ c.in_ok-machine.ensures.scenario in
+    c.start.ensures.world ∙ (c.in_ok-machine.ensures.world ∙ ap (λ (r : Scenario). start (system r)) (sym table))
+
+pub returns-clause-running : goal.returns-clause-running
+returns-clause-running c = c.start.ensures.running
+
+pub returns-clause-accepted : goal.returns-clause-accepted
+returns-clause-accepted c =
+    let same = c.start.ensures.scenario ∙ (c.in_ok-machine.ensures.scenario ∙ c.into_parts-table.ensures.table) in
+    subst IsAccepted (sym same) c.laws.ensures

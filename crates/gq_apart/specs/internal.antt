@@ -1,0 +1,2 @@
+-- How two runs of the same scenario correspond, up to the numbers of their sessions.
+pub mod Renamed
