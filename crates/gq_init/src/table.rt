@@ -310,6 +310,7 @@ impl NodeTable {
         requires entries { entries ≡ all_rows scenario }
         ensures { result ≡ scenario }
     {
+        let _leaves = scenario.leaf_count();
         NodeTable {
             scenario,
             programs,
@@ -338,7 +339,6 @@ impl NodeTable {
         ensures count { result ≡ length (components self.now) }
         ensures few { result ≤ 64 }
     {
-        let _leaves = self.scenario.leaf_count();
         self.programs.len()
     }
 
