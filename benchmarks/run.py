@@ -231,7 +231,7 @@ def others(benchmark):
         row(f"{name}, entries of 16 bytes", f"{took[name]:.0f} ns")
 
 
-def sessions(benchmark):
+def trades(benchmark):
     """Sessions from the ask to the close, beside others."""
     table("Others that are open", "A session", "Two replies")
     for count in [1, 100, 10000]:
@@ -243,6 +243,69 @@ def sessions(benchmark):
         row(name, f"{took[name]:.1f} ns")
 
 
+def system(leaves, service=""):
+    """A scenario of these leaves, each a name, keys and a program, with all memory that there can be."""
+    head = 'version = 1\nram = "64M"\ndefault-route = [{ any-service = true, any-child = true }]\n' + service
+    return head + "".join(f'[[start]]\nname = "{name}"\n{keys}\nprogram = """\n{text}\n"""\n' for name, keys, text in leaves)
+
+
+def rounds(body, before="", after=""):
+    """A program that does this in 65535 * 1000 rounds."""
+    return "\n".join(["main", *before.split(", "), "loop 1000", "loop 65535", *body.split(", "), "end", "end", *after.split(", "), "end"]).replace("\n\n", "\n")
+
+
+def words_of(size):
+    """Reads and writes words, 16 bytes apart, over a space of so many bytes."""
+    body = f"index 0, push 16, mul, mod {size - 3}, dup, load4 o0, store4 o0"
+    return system([("a", f"quantum = {size}", rounds(body, f"space o0 {size}", "free o0"))])
+
+
+def answered(trade, scenario, turns):
+    """The processor seconds of a run."""
+    with tempfile.TemporaryDirectory() as room:
+        paths = [os.path.join(room, name) for name in ("scenario.toml", "turns")]
+        for path, text in zip(paths, (scenario, turns)):
+            with open(path, "w", encoding="utf-8") as file:
+                file.write(text)
+        with open(os.devnull, "wb") as null:
+            running = subprocess.Popen([trade, "run", *paths], stdout=null)
+            _, status, used = os.wait4(running.pid, 0)
+    if status:
+        sys.exit(f"a run ended with status {status}")
+    return used.ru_utime + used.ru_stime
+
+
+def turn(trade, scenario, turns):
+    """The nanoseconds of a turn: the least of some runs, less the least without turns."""
+    count = sum(int(line.split(" ")[1]) for line in turns.splitlines())
+    whole, idle = (min(answered(trade, scenario, text) for _ in range(ROUNDS)) for text in (turns, ""))
+    return f"{(whole - idle) / count * 1e9:.1f}"
+
+
+def runs(trade):
+    """A turn of a run, by what it does, by how many leaves there are, and by how much memory is in use."""
+    service = '[interface.echo]\narg = 1000\nreply = 2000\nneed = "8K"\nobject = 100\n'
+    server = ("srv", 'quantum = 0\nprovides = "echo"', "main\nend\nopen\nend\ncall 0\npush 2\nmul\nend\nclose 0\nend")
+    client = ("cli", 'quantum = "16K"', rounds("open o0 echo 8192, push 21, call o0, drop, close o0"))
+    table("Work", "ns a turn")
+    for name, scenario, turns in [
+        ("numbers", system([("a", 'quantum = "4K"', rounds("index 0, push 16, mul, push 3, add, drop"))]), "a 1000000\n"),
+        ("words of a space of 1 MiB", words_of(1048576), "a 1000000\n"),
+        ("blocks of 64 bytes, made and freed", system([("a", 'quantum = "4K"', rounds("block o0 64, free o0"))]), "a 1000000\n"),
+        ("a session opened, called and closed", system([server, client], service), "srv 1\n" + "cli 3\nsrv 3\n" * 100000),
+        ("lines of numbers", system([("a", 'quantum = "4K"', rounds("index 0, out"))]), "a 1000000\n"),
+    ]:
+        row(name, turn(trade, scenario, turns))
+    table("Leaves", "a turn on each line, ns", "ten on each line, ns", "all at once, ns")
+    for leaves in (1, 8, 64):
+        scenario = system([(f"l{n}", 'quantum = "4K"', rounds("index 0, push 16, mul, drop")) for n in range(leaves)])
+        lists = ["".join(f"l{n % leaves} {each}\n" for n in range(count // each)) for each, count in ((1, 200000), (10, 1000000), (10000, 1000000))]
+        row(leaves, *(turn(trade, scenario, turns) for turns in lists))
+    table("Space", "words, ns a turn")
+    for size in (4096, 65536, 1048576, 16777216, 67108864):
+        row(f"{size // 1024} KiB", turn(trade, words_of(size), "a 1000000\n"))
+
+
 def main():
     benchmark, trade = sys.argv[1], sys.argv[2]
     programs(benchmark, trade)
@@ -252,7 +315,8 @@ def main():
     frames(benchmark)
     blocks(benchmark)
     others(benchmark)
-    sessions(benchmark)
+    trades(benchmark)
+    runs(trade)
 
 
 if __name__ == "__main__":

@@ -12,6 +12,7 @@ An example is a file NAME.toml in examples/ with NAME.turns, the turns, and NAME
 
 A table is a file in tests/tables: many small cases of one frame. Its key `case` has them, and each says
   line            the line on standard error, after `trade: `, of a case that is refused; without it the case passes,
+  wrong           the leaf and the number of the first wrong step, of a run with tests,
   out             what is written to standard output, where it passes,
   status          where it is neither 0 for what passes nor 1 for what is refused.
 `command`, `scenario` and `turns` are as above, in a case or in the table for all cases; `words` are the words of a command
@@ -79,6 +80,7 @@ def tabled(table):
         words |= {name: value[1] * value[0] for name, value in words.items() if name not in ("case", "words") and isinstance(value, list)}
         scenario, turns, out = (filled(words.get(key, ""), words).encode() for key in ("scenario", "turns", "out"))
         line = b"trade: " + words["line"].encode() + b"\n" if "line" in words else b""
+        line = b"wrong " + words["wrong"].encode() + b"\n" if "wrong" in words else line
         command = words["words"] if "words" in words else words["command"]
         yield command, scenario, turns, (out, line, words.get("status", 1 if line else 0))
 
