@@ -12,11 +12,12 @@
 //! ```
 #![tactic(auto)]
 
-mod account_lines;
+pub mod account_lines;
 pub mod asm;
 pub mod check;
 pub mod fault;
 pub mod load;
+mod node_accounts;
 pub mod run;
 pub mod world;
 
