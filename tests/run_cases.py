@@ -4,7 +4,8 @@
 A case is a folder, named by what it shows. It has
   scenario.toml   the scenario,
   turns           the turns; without the file there are none,
-  command         `run`, `check`, or `asm LEAF`, or `stored` for the scenario and the turns in one text on standard input,
+  command         `run`, `check`, or `asm LEAF`, or `stored` for the scenario and the turns in one text on standard input, or
+                  `unverified` for a run with tests by the program `unverified`, where it is built, in place of PROGRAM,
   stdout, stderr, status   what the program has to write, and the exit status that it has to end with,
   length          where it is there: the number of bytes to which the scenario is filled up with number signs, which
                   a comment in its last line is made of.
@@ -32,6 +33,7 @@ TOP = pathlib.Path(__file__).resolve().parent.parent
 CASES = TOP / "tests" / "cases"
 TABLES = TOP / "tests" / "tables"
 EXAMPLES = TOP / "examples"
+UNVERIFIED = TOP / "crates" / "unverified" / "out" / "unverified"
 DEEPEST = 4
 SECONDS = 120
 
@@ -56,6 +58,8 @@ def result_of(program, command, scenario, turns):
         words, given = command, b""
         if command == "stored":
             words, given = [], scenario + (b"%%\n" + turns if turns else b"")
+        elif command == "unverified":
+            program, words = str(UNVERIFIED), list(map(str, paths))
         elif isinstance(command, str):
             name, *more = command.split(" ")
             files = paths if name == "run" else paths[:1]
@@ -108,9 +112,12 @@ def main(words):
     if not words or words[0].startswith("-"):
         sys.exit(__doc__)
     program, names = str(pathlib.Path(words[0]).resolve()), words[1:]
-    passed = failed = 0
+    passed = failed = skipped = 0
     for name, command, scenario, turns, wanted in cases():
         if names and name not in names and name.split(" ")[0] not in names:
+            continue
+        if command == "unverified" and not UNVERIFIED.exists():
+            skipped += 1
             continue
         try:
             got = result_of(program, command, scenario, turns)
@@ -125,6 +132,8 @@ def main(words):
             if want != have:
                 want, have = [shortened(it) if isinstance(it, bytes) else it for it in (want, have)]
                 print(f"  {what}: wanted {want}\n  {what}: got    {have}")
+    if skipped:
+        print(f"{skipped} cases were left out: {UNVERIFIED} is not built")
     print(f"{passed} passed, {failed} failed")
     return 1 if failed or not passed else 0
 

@@ -18,3 +18,4 @@ pub mod named;
 mod over;
 pub mod programs;
 mod steps;
+pub mod unverified;

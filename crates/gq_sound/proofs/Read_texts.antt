@@ -2,13 +2,16 @@
 use Rattle.std.proofs.Common.{◌≡◌, ℕ, List, [], ◌∷◌, Option, Some, None, Ok, Err, refl, ap, subst}
 use Rattle.std.specs.Prelude.{Result, codes}
 use Rattle.toml.specs.Data.{Members, get_member}
-use Rattle.gq_model.specs.machine.Scenario.{Scenario}
+use Rattle.gq_model.specs.machine.Scenario.{Scenario, components}
+use Rattle.gq_model.specs.rules.Accept.{Refusal, not_resolved}
+use Rattle.gq_model.specs.rules.Resolve.{Unresolved, unresolved}
 use Rattle.gq_scenario.specs.Keys.{DocumentFault, table_fault}
 use Rattle.gq_scenario.specs.Tables.{version_of, top_keys}
 use Rattle.gq_scenario.specs.Document.{table_of, list_at, described, keys_of, interfaces_fault, routes_fault, walk_fault, names_of, name_twice, counts_fault}
 use Rattle.gq_scenario.specs.Document.{document_fault}
 use Rattle.gq_scenario.specs.Reading.{ReadFault, Bad_document, described_or, read_from, document_in, scenario_in}
-use Rattle.gq_load.specs.Load.{Fault, Unread, scenario_fault, loaded_or, loaded_from, loaded}
+use Rattle.gq_load.specs.Load.{Fault, Unread, sources_fault, refused, scenario_fault, loaded_or, loaded_from, loaded}
+use Rattle.gq_load.specs.Unverified.{unverified_fault, unverified_from, unverified}
 use Rattle.gq_laws.specs.Names.{NamesDiffer}
 use Rattle.gq_laws.proofs.verified.Sound_systems.{is_resolved}
 use Rattle.gq_ready.specs.Ready.{IsRead, IsReady}
@@ -83,3 +86,32 @@ pub loaded_ready : (text : List ℕ) (s : Scenario) → loaded text ≡ Ok s →
 loaded_ready text s e =
     let sound = loaded_sound text s e in
     record { read = loaded_read text s e; resolved = record { differ = sound.formed.differ; fits = is_resolved s sound.accepted } }
+
+-- WITHOUT A VERDICT
+
+no_refusal : (o : Option Refusal) → refused o ≡ None → o ≡ None
+no_refusal None e = refl
+no_refusal (Some why) e = cc
+
+resolves : (o : Option Unresolved) → not_resolved o ≡ None → o ≡ None
+resolves None e = refl
+resolves (Some why) e = cc
+
+fits_of : (s : Scenario) → unverified_fault s ≡ None → unresolved s ≡ None
+fits_of s e =
+    resolves (unresolved s)
+    (no_refusal (not_resolved (unresolved s)) (or_first_none (sources_fault (components s)) (refused (not_resolved (unresolved s))) e).1)
+
+-- a scenario that is read and resolved can be run
+pub unverified_ready : (text : List ℕ) (s : Scenario) → unverified text ≡ Ok s → IsReady s
+unverified_ready text s e = from (scenario_in text) refl e
+  where
+    last : (t : Scenario) (o : Option Fault) → scenario_in text ≡ Ok t → unverified_fault t ≡ o → loaded_or t o ≡ Ok s → IsReady s
+    last t None r whole f =
+        subst IsReady (same_scenario t s f)
+        (record { read = text_read text t r; resolved = record { differ = text_differ text t r; fits = fits_of t whole } })
+    last t (Some fault) r whole f = absurd (not_ok fault s f)
+
+    from : (r : Result Scenario ReadFault) → scenario_in text ≡ r → unverified_from r ≡ Ok s → IsReady s
+    from (Ok t) r f = last t (unverified_fault t) r refl f
+    from (Err why) r f = absurd (not_ok (Unread why) s f)

@@ -3,6 +3,7 @@ ghost use Rattle.std.specs.Prelude.{◌≡◌, ℕ, List, Ok};
 ghost use Rattle.gq_model.specs.machine.Scenario.{Scenario};
 ghost use Rattle.gq_scenario.specs.Reading.{scenario_in};
 ghost use Rattle.gq_load.specs.Load.{loaded};
+ghost use Rattle.gq_load.specs.Unverified.{unverified};
 ghost use Rattle.gq_laws.specs.Names.{NamesDiffer};
 ghost use Rattle.gq_ready.specs.Ready.{IsRead, IsReady};
 
@@ -20,4 +21,9 @@ pub fn read_laws()
     ensures ready { (text : List ℕ) (s : Scenario) → loaded text ≡ Ok s → IsReady s }
     ensures in_text { (text : List ℕ) (s : Scenario) → scenario_in text ≡ Ok s → IsRead s }
     ensures differ { (text : List ℕ) (s : Scenario) → scenario_in text ≡ Ok s → NamesDiffer s }
+{}
+
+/// What holds of each scenario that a text is read as and that is resolved, but not judged (`unverified`): it can be run, with tests. It does nothing.
+pub fn unverified_laws()
+    ensures { (text : List ℕ) (s : Scenario) → unverified text ≡ Ok s → IsReady s }
 {}

@@ -7,18 +7,18 @@ use Rattle.std.specs.Coded.{Coded-set, coded_ℕ, le_prop}
 use Rattle.gq_model.specs.machine.Amounts.{Amount, amount}
 use Rattle.gq_model.specs.Promises as promises
 use Rattle.gq_model.specs.Promises.{KeepsAccount, AllKeep, KeepsAccounts, IsUpheld}
-use Rattle.gq_model.specs.machine.Scenario.{Route, Nodes, End, Leaf_node, Init_node, Level, level, below, Scenario, System, Component, components_of}
+use Rattle.gq_model.specs.machine.Scenario.{Route, Nodes, End, Leaf_node, Init_node, Level, level, below, Scenario, Component, components_of}
 use Rattle.gq_model.specs.machine.Scenario.{components, system}
 use Rattle.gq_model.specs.machine.World.{Leaf, World}
-use Rattle.gq_model.specs.machine.Accounts.{LeafAccount, Account, leaf_count, init_account, leaf_account, account_at, node_accounts, accounts, account_line}
+use Rattle.gq_model.specs.machine.Accounts.{LeafAccount, Account, leaf_count, leaf_account, account_at, node_accounts, accounts, account_line}
 use Rattle.gq_model.specs.machine.Accounts.{account_lines}
-use Rattle.gq_model.specs.rules.Accept.{Budget, budgets_from, budgets, step_budgets}
+use Rattle.gq_model.specs.rules.Accept.{Budget, budgets, step_budgets}
 use Rattle.gq_scenario.specs.Sizes.{node_count}
-use Rattle.gq_init.specs.NodeTables.{NodeRow, leaf_node, init_node, rows_of, node_rows}
+use Rattle.gq_init.specs.NodeTables.{NodeRow, leaf_node, rows_of, node_rows}
 use Rattle.gq_laws.specs.Stands.{Stands}
 use Rattle.gq_world.specs.Worlds as worlds
 use Rattle.gq_lines.specs.Told.{Told, told_of, with_label}
-use Rattle.gq_world.specs.Lines.{TellsOf, all_accounts}
+use Rattle.gq_world.specs.Lines.{TellsOf, accounts_by, all_accounts, accounts_text}
 
 -- LEAVES
 
@@ -156,91 +156,94 @@ same_count s w told (r ∷ rows) [] h = absurd h
 same_count s w told (r ∷ rows) (a ∷ all) h = ap suc (same_count s w told rows all h.1)
 
 -- the accounts of a world are those of its nodes
-module _ (w : worlds.World) (count : length w.world.leaves ≡ length (components w.scenario)) where
-  all_of_nodes : AreAccountsOf w.scenario w.world (step_budgets (budgets w.scenario)) (node_rows w.scenario)
-      (accounts w.scenario w.world (step_budgets (budgets w.scenario)))
-  all_of_nodes = accounts_of w.scenario w.world (step_budgets (budgets w.scenario)) (leaf_there w.scenario w.world count)
+module _ (s : Scenario) (w : World) (told : List ℕ) (count : length w.leaves ≡ length (components s)) where
+  all_of_nodes : AreAccountsOf s w told (node_rows s) (accounts s w told)
+  all_of_nodes = accounts_of s w told (leaf_there s w count)
 
-  pub accounts_count : length (all_accounts w) ≡ length (node_rows w.scenario)
-  unfolding all_accounts
-  accounts_count =
-      same_count w.scenario w.world (step_budgets (budgets w.scenario)) (node_rows w.scenario)
-      (accounts w.scenario w.world (step_budgets (budgets w.scenario))) all_of_nodes
+  pub accounts_count : length (accounts_by s w told) ≡ length (node_rows s)
+  unfolding accounts_by
+  accounts_count = same_count s w told (node_rows s) (accounts s w told) all_of_nodes
 
-  pub account_of : (n : ℕ) → n < length (node_rows w.scenario)
-      → AccountAt w.scenario w.world (step_budgets (budgets w.scenario)) (node_rows w.scenario) (all_accounts w) n
-  unfolding all_accounts
-  account_of n less =
-      at_place w.scenario w.world (step_budgets (budgets w.scenario)) (node_rows w.scenario) (accounts w.scenario w.world (step_budgets (budgets w.scenario))) n
-      all_of_nodes less
+  pub account_at_node : (n : ℕ) → n < length (node_rows s) → AccountAt s w told (node_rows s) (accounts_by s w told) n
+  unfolding accounts_by
+  account_at_node n less = at_place s w told (node_rows s) (accounts s w told) n all_of_nodes less
+
+-- so are those of a world of the code
+pub all_count : (w : worlds.World) → length w.world.leaves ≡ length (components w.scenario) → length (all_accounts w) ≡ length (node_rows w.scenario)
+unfolding all_accounts
+all_count w count = accounts_count w.scenario w.world (step_budgets (budgets w.scenario)) count
+
+-- and those that the machine has are those of its world
+pub all_by : (s : Scenario) (v : World) (bs : List Budget) (w : worlds.World) → s ≡ w.scenario → v ≡ w.world → bs ≡ budgets s
+    → accounts_by s v (step_budgets bs) ≡ all_accounts w
+unfolding all_accounts
+all_by s v bs w e f g = let same : bs ≡ budgets w.scenario = g ∙ ap budgets e in λ i. accounts_by (e i) (f i) (step_budgets (same i))
+
+pub lines_by : (s : Scenario) (v : World) (bs : List Budget) (w : worlds.World) → s ≡ w.scenario → v ≡ w.world → bs ≡ budgets s
+    → account_lines s.version (accounts_by s v (step_budgets bs)) ≡ accounts_text w
+lines_by s v bs w e f g = let all = all_by s v bs w e f g in λ i. account_lines ((e i).version) (all i)
 
 -- what was found of a node's leaf
-abbrev pub LeafRead : worlds.World → Option ℕ → Option LeafAccount → Type 0
-LeafRead w None l = l ≡ None
-LeafRead w (Some x) l = (a : LeafAccount) × (l ≡ Some a) × TellsOf w x a
+abbrev pub LeafRead : Scenario → World → List ℕ → Option ℕ → Option LeafAccount → Type 0
+LeafRead s w told None l = l ≡ None
+LeafRead s w told (Some x) l = (a : LeafAccount) × (l ≡ Some a) × TellsOf s w told x a
 
-module _ (w : worlds.World) (all : List Account) (n : ℕ)
-    (p : AccountAt w.scenario w.world (step_budgets (budgets w.scenario)) (node_rows w.scenario) all n) where
+module _ (s : Scenario) (w : World) (told : List ℕ) (all : List Account) (n : ℕ) (p : AccountAt s w told (node_rows s) all n) where
   -- the leaf that its row names is there
-  named_there : (o : Option ℕ) (x : ℕ) (a : Account) → o ≡ Some x → Tells w.scenario w.world (step_budgets (budgets w.scenario)) o a
-      → x < length (components w.scenario)
+  named_there : (o : Option ℕ) (x : ℕ) (a : Account) → o ≡ Some x → Tells s w told o a → x < length (components s)
   named_there None x a e t = cc
-  named_there (Some y) x a e t = let same : y ≡ x = cc in subst (λ (m : ℕ). m < length (components w.scenario)) same (within (components w.scenario) y t.0 t.2)
+  named_there (Some y) x a e t = let same : y ≡ x = cc in subst (λ (m : ℕ). m < length (components s)) same (within (components s) y t.0 t.2)
 
-  row_leaf : (found : Option ℕ) → IfSome (slice_get (node_rows w.scenario) n) (λ r. found ≡ r.leaf) → found ≡ p.row.leaf
+  row_leaf : (found : Option ℕ) → IfSome (slice_get (node_rows s) n) (λ r. found ≡ r.leaf) → found ≡ p.row.leaf
   row_leaf found h = subst (λ (o : Option NodeRow). IfSome o (λ r. found ≡ r.leaf)) p.row_there h
 
-  pub leaf_within : (found : Option ℕ) (x : ℕ) → IfSome (slice_get (node_rows w.scenario) n) (λ r. found ≡ r.leaf) → found ≡ Some x
-      → x < length (components w.scenario)
+  pub leaf_within : (found : Option ℕ) (x : ℕ) → IfSome (slice_get (node_rows s) n) (λ r. found ≡ r.leaf) → found ≡ Some x → x < length (components s)
   leaf_within found x h e = named_there p.row.leaf x p.account (sym (row_leaf found h) ∙ e) p.is.tells
 
-  leaf_by : (o : Option ℕ) (a : Account) (l : Option LeafAccount) → Tells w.scenario w.world (step_budgets (budgets w.scenario)) o a → LeafRead w o l
-      → l ≡ a.leaf
+  leaf_by : (o : Option ℕ) (a : Account) (l : Option LeafAccount) → Tells s w told o a → LeafRead s w told o l → l ≡ a.leaf
   leaf_by None a l t h = h ∙ sym t
   leaf_by (Some x) a l t h = h.1 ∙ (sym (h.2 t.0 t.1 t.2 t.3) ∙ ap (λ b. b.leaf) (sym t.4))
 
-  leaf_is : (found : Option ℕ) (l : Option LeafAccount) → IfSome (slice_get (node_rows w.scenario) n) (λ r. found ≡ r.leaf) → LeafRead w found l
+  leaf_is : (found : Option ℕ) (l : Option LeafAccount) → IfSome (slice_get (node_rows s) n) (λ r. found ≡ r.leaf) → LeafRead s w told found l
       → l ≡ p.account.leaf
-  leaf_is found l h k = leaf_by p.row.leaf p.account l p.is.tells (subst (λ (o : Option ℕ). LeafRead w o l) (row_leaf found h) k)
+  leaf_is found l h k = leaf_by p.row.leaf p.account l p.is.tells (subst (λ (o : Option ℕ). LeafRead s w told o l) (row_leaf found h) k)
 
   at_account : (P : Account → Type 0) → IfSome (slice_get all n) P → P p.account
   at_account P h = subst (λ (o : Option Account). IfSome o P) p.account_there h
 
   -- what is told of it
-  pub told_is : (ram caps : ℕ) (found : Option ℕ) (l : Option LeafAccount) (told : Told) → told ≡ record { quota = amount ram caps; leaf = l }
+  pub told_is : (ram caps : ℕ) (found : Option ℕ) (l : Option LeafAccount) (t : Told) → t ≡ record { quota = amount ram caps; leaf = l }
       → IfSome (slice_get all n) (λ a. ram ≡ a.quota.ram) → IfSome (slice_get all n) (λ a. caps ≡ a.quota.caps)
-      → IfSome (slice_get (node_rows w.scenario) n) (λ r. found ≡ r.leaf) → LeafRead w found l → IfSome (slice_get all n) (λ a. told ≡ told_of a)
-  told_is ram caps found l told e q k h r =
+      → IfSome (slice_get (node_rows s) n) (λ r. found ≡ r.leaf) → LeafRead s w told found l → IfSome (slice_get all n) (λ a. t ≡ told_of a)
+  told_is ram caps found l t e q k h r =
       let quota = at_account (λ a. ram ≡ a.quota.ram) q in
       let of_caps = at_account (λ a. caps ≡ a.quota.caps) k in
       let leaf = leaf_is found l h r in
-      let same : told ≡ told_of p.account = e ∙ (λ i. record { quota = amount (quota i) (of_caps i); leaf = leaf i }) in
-      subst (λ (o : Option Account). IfSome o (λ a. told ≡ told_of a)) (sym p.account_there) same
+      let same : t ≡ told_of p.account = e ∙ (λ i. record { quota = amount (quota i) (of_caps i); leaf = leaf i }) in
+      subst (λ (o : Option Account). IfSome o (λ a. t ≡ told_of a)) (sym p.account_there) same
 
   -- its line
-  pub line_is : (label line : List ℕ) (told : Told) (version : ℕ) → version ≡ w.scenario.version → line ≡ account_line version (with_label label told)
-      → IfSome (slice_get (node_rows w.scenario) n) (λ r. label ≡ r.label) → IfSome (slice_get all n) (λ a. told ≡ told_of a)
-      → IfSome (slice_get all n) (λ a. line ≡ account_line w.scenario.version a)
-  line_is label line told version v e l t =
+  pub line_is : (label line : List ℕ) (t : Told) (version : ℕ) → version ≡ s.version → line ≡ account_line version (with_label label t)
+      → IfSome (slice_get (node_rows s) n) (λ r. label ≡ r.label) → IfSome (slice_get all n) (λ a. t ≡ told_of a)
+      → IfSome (slice_get all n) (λ a. line ≡ account_line s.version a)
+  line_is label line t version v e l h =
       let named : label ≡ p.account.label = subst (λ (o : Option NodeRow). IfSome o (λ r. label ≡ r.label)) p.row_there l ∙ sym p.is.label in
-      let known = at_account (λ a. told ≡ told_of a) t in
-      let same : line ≡ account_line w.scenario.version p.account = e ∙ (λ i. account_line (v i) (with_label (named i) (known i))) in
-      subst (λ (o : Option Account). IfSome o (λ a. line ≡ account_line w.scenario.version a)) (sym p.account_there) same
+      let known = at_account (λ a. t ≡ told_of a) h in
+      let same : line ≡ account_line s.version p.account = e ∙ (λ i. account_line (v i) (with_label (named i) (known i))) in
+      subst (λ (o : Option Account). IfSome o (λ a. line ≡ account_line s.version a)) (sym p.account_there) same
 
 -- BUDGETS
-
-budgets_from_count : (version : ℕ) (all : System) (x : ℕ) (cs : List Component) → length (budgets_from version all x cs) ≡ length cs
-budgets_from_count version all x [] = refl
-budgets_from_count version all x (c ∷ cs) = ap suc (budgets_from_count version all (suc x) cs)
-
--- as many budgets as leaves
-pub budgets_count : (s : Scenario) → length (budgets s) ≡ length (components s)
-budgets_count s = budgets_from_count s.version (system s) 0 (components s)
 
 pub steps_at : (all : List Budget) (x : ℕ) (b : Budget) → x < length all → b ≡ get_or all x b → slice_index (step_budgets all) x ≡ b.steps
 steps_at [] x b less e = absurd (omega (arith, less))
 steps_at (a ∷ all) zero b less e = ap (λ c. c.steps) (sym e)
 steps_at (a ∷ all) (suc x) b less e = steps_at all x b (omega (arith, less)) e
+
+-- who has no budget is told none
+pub steps_past : (all : List Budget) (x : ℕ) → length all ≤ x → slice_index (step_budgets all) x ≡ 0
+steps_past [] x least = refl
+steps_past (a ∷ all) zero least = absurd (omega (arith, least))
+steps_past (a ∷ all) (suc x) least = steps_past all x (omega (arith, least))
 
 -- WHAT ACCOUNTS KEEP
 
@@ -266,7 +269,7 @@ module _ (low high : LeafAccount → Amount → ℕ) (by : (q : Amount) (l : Lea
   pub fits_at : ((s : Scenario) (v : World) → Stands s v → IsUpheld s v) → ((s : Scenario) (v : World) → IsUpheld s v → KeepsAccounts s v) → (w : worlds.World)
       → ∥ Stands w.scenario w.world ∥₁ → (n : ℕ) (told : Told) → n < length (all_accounts w) → IfSome (slice_get (all_accounts w) n) (λ a. told ≡ told_of a)
       → IfSome told.leaf (λ l. low l told.quota ≤ high l told.quota)
-  unfolding all_accounts
+  unfolding all_accounts accounts_by
   fits_at promised kept w stands n told less e =
       ∥∥₁_elim stands (fits_once told.quota told.leaf) (λ h.
       fits_in (accounts w.scenario w.world (step_budgets (budgets w.scenario))) n told less (kept w.scenario w.world (promised w.scenario w.world h)) e)

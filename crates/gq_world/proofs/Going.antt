@@ -130,14 +130,14 @@ ends s x count left e all old new before after h =
 
 -- ALL TURNS
 
-runs_grow : (system : System) (turns : List (ℕ × ℕ)) (ran : Ran) → (more : List ℕ) × ((run_on system turns ran).text ≡ ran.text ++ more)
+pub runs_grow : (system : System) (turns : List (ℕ × ℕ)) (ran : Ran) → (more : List ℕ) × ((run_on system turns ran).text ≡ ran.text ++ more)
 runs_grow system [] ran = ([], sym (append-nil ran.text))
 runs_grow system (t ∷ turns) ran =
     let a = turns_grow system t.0 t.1 ran in
     let b = runs_grow system turns (turns_of system t.0 t.1 ran) in
     (a.0 ++ b.0, b.1 ∙ (ap (λ l. l ++ b.0) a.1 ∙ append_assoc ran.text a.0 b.0))
 
-joined : (front text cut more after : List ℕ) → (((front ++ text) ++ cut) ++ more) ++ after ≡ front ++ (text ++ cut) ++ (more ++ after)
+pub joined : (front text cut more after : List ℕ) → (((front ++ text) ++ cut) ++ more) ++ after ≡ front ++ (text ++ cut) ++ (more ++ after)
 joined front text cut more after = append_assoc ((front ++ text) ++ cut) more after ∙ ap (λ l. l ++ (more ++ after)) (append_assoc front text cut)
 
 pub below_at : (n : ℕ) (turns : List (ℕ × ℕ)) (i : ℕ) (t : ℕ × ℕ) → drop i turns ≡ t ∷ drop (i + 1) turns → AreBelow n (drop i turns) → (t.0 < n)

@@ -11,7 +11,7 @@ use Rattle.gq_model.specs.machine.Accounts.{accounts, account_lines, text_of}
 use Rattle.gq_lines.specs.Writes.{IsFront}
 use Rattle.gq_world.specs.Worlds.{World}
 use Rattle.gq_world.specs.internal.Going.{going, HasRun, IsCut}
-use Rattle.gq_world.specs.Lines.{all_accounts, accounts_text}
+use Rattle.gq_world.specs.Lines.{accounts_by, all_accounts, accounts_text}
 use Rattle.gq_model.specs.machine.Accounts.{whole}
 use Rattle.gq_model.specs.declared.fault.TurnFault.{TurnFault}
 use Rattle.gq_model.specs.rules.Accept.{IsAccepted}
@@ -31,7 +31,7 @@ use Rattle.gq_lines.proofs.Known.{appends_both}
 use Rattle.gq_world.proofs.Fronts.{front_by, front_after}
 
 -- the text of what ran, and the rest of the whole
-rest_of : (s : Scenario) (steps : List ℕ) (ran : Ran) (wrong : Option (ℕ × Wrong)) → (rest : List ℕ) × (text_of s steps ran wrong ≡ ran.text ++ rest)
+pub rest_of : (s : Scenario) (steps : List ℕ) (ran : Ran) (wrong : Option (ℕ × Wrong)) → (rest : List ℕ) × (text_of s steps ran wrong ≡ ran.text ++ rest)
 rest_of s steps ran None = (account_lines s.version (accounts s ran.world steps), refl)
 rest_of s steps ran (Some p) = ([], sym (append-nil ran.text))
 
@@ -47,7 +47,7 @@ module _ (s : Scenario) (turns : List (ℕ × ℕ)) (old : World) (starts : old.
 
   -- the whole is what the turns gave and the accounts after them
   whole_is : (new : World) → new.scenario ≡ s → (ran : HasRun taken old new before between) → whole_of s turns ≡ ran.text ++ accounts_text new
-  unfolding whole_of all_accounts
+  unfolding whole_of all_accounts accounts_by
   whole_is new same ran =
       ap (λ r. text_of s (step_budgets (budgets s)) r r.wrong) (from_start ∙ ran.ran []) ∙ ap (λ t. ran.text ++ lines_of t new.world) (sym same)
 

@@ -1,5 +1,4 @@
 pub mod Whole
-pub mod Tested
 pub mod Worlds
 pub mod Headline
 pub mod Lines

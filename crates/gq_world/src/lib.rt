@@ -12,11 +12,13 @@
 //! ```
 #![tactic(auto)]
 
-mod account_lines;
+pub mod account_lines;
 pub mod asm;
 pub mod check;
 pub mod fault;
+pub mod leaf_lines;
 pub mod load;
+mod node_accounts;
 pub mod run;
 pub mod world;
 

@@ -11,7 +11,6 @@ ghost use Rattle.gq_world.specs.Whole.{run_written, whole_of};
 ghost use Rattle.gq_world.specs.Headline.{WritesPromised};
 ghost use Rattle.gq_world.specs.Outcomes.{IsBefore, IsCutShort, IsFaultOf, IsWhole};
 
-use crate::account_lines::write_accounts;
 use crate::fault::RunFault;
 use crate::world::World;
 use gq_init::turns::{TurnsError, read_turns};
@@ -82,7 +81,7 @@ fn run_world<W: Write>(
     ensures raised { OnErr result (IsRaised (failures_of out.old) (failures_of out.new)) }
 {
     take_all(world, turns, out)?;
-    write_accounts(world, out)
+    world.write_accounts(out)
 }
 
 /// Runs a scenario, a text in TOML, by the turns of a second text: loads it, takes all its turns, and writes the lines that

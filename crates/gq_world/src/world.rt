@@ -1,6 +1,6 @@
 // A world: an accepted scenario that runs.
-ghost use Rattle.std.specs.Prelude.{ℕ, ◌==◌, if◌then◌else◌, ◌≡◌, ◌↔◌, ◌<◌, ◌≤◌, ◌+◌, true, false, length, slice_get, Some, Ok, Err, IfOk, IfErr, IfSome};
-ghost use Rattle.std.specs.Prelude.{◌-◌, ◌*◌, IsOk, OnOk, OnErr};
+ghost use Rattle.std.specs.Prelude.{ℕ, ◌≡◌, ◌↔◌, ◌<◌, ◌≤◌, ◌+◌, ◌-◌, ◌*◌, true, false, length, slice_get, Some, Ok, Err, IfOk, IfErr, IfSome};
+ghost use Rattle.std.specs.Prelude.{IsOk, OnOk, OnErr};
 ghost use Rattle.std.specs.Io.KnownBytes.{Appends};
 ghost use Rattle.gq_model.specs.machine.Amounts.{Ram};
 ghost use Rattle.gq_model.specs.machine.Routes.{numbered};
@@ -12,28 +12,27 @@ ghost use Rattle.gq_model.specs.rules.Accept as accept;
 ghost use Rattle.gq_init.specs.NodeTables.{IsNodeOf, node_rows};
 ghost use Rattle.gq_laws.specs.Stands.{Stands};
 ghost use Rattle.gq_quotas.specs.Held.{held_by_all};
-ghost use Rattle.gq_scenario.specs.Trees.{version_number};
 ghost use Rattle.gq_lines.specs.Counts.{written_to, failures_of};
 ghost use Rattle.gq_world.specs.Headline.{Upheld};
 ghost use Rattle.gq_lines.specs.Told.{told_of};
-ghost use Rattle.gq_world.specs.Lines.{all_accounts, IsAccountLine, TellsOf};
+ghost use Rattle.gq_world.specs.Lines.{all_accounts, accounts_text};
 ghost use Rattle.gq_world.specs.Worlds.{IsTurn, StopsWriting, line_told};
 ghost use Rattle.gq_world.specs.internal.Going.{HasRun, IsCut};
 ghost use Rattle.gq_lines.specs.Writes.{IsFront, IsRaised};
 
+use crate::account_lines::write_accounts;
+use crate::leaf_lines::write_line;
+use crate::node_accounts::account_of;
 use arrayvec::ArrayVec;
 use gq_init::NodeTable;
 use gq_laws::accepted::accepted_laws;
-use gq_lines::account::{Account, LeafAccount};
-use gq_lines::account_line::account_line;
-use gq_lines::counted::{Counted, WriteFault, put};
-use gq_lines::line::{Line, labelled};
+use gq_lines::account::Account;
+use gq_lines::counted::{Counted, WriteFault};
 use gq_load::budget::Budget;
 use gq_machine::event::Event;
 use gq_machine::machine::Machine;
 use gq_scenario::node::NodeNo;
-use gq_scenario::scenario::{LeafNo, Version};
-use gq_tariff::Amount;
+use gq_scenario::scenario::LeafNo;
 use std::io::Write;
 use std::marker::Model;
 
@@ -71,25 +70,6 @@ impl Model for World {
     ghost view = { λ w. record { scenario = w.machine.scenario; world = w.machine.world; stopped = w.stopped } };
 
     ghost invariant = { λ w. IsBudgeted w.machine.scenario w.machine.world w.budgets.items };
-}
-
-// So many capabilities, where they are counted.
-fn counted(version: Version, caps: u64) -> u64
-    ensures { result ≡ (if version_number version == 2 then caps else 0) }
-{
-    match version {
-        Version::One => 0,
-        Version::Two => caps,
-    }
-}
-
-// The line of a leaf that gives this text, with its label.
-fn line_of_leaf(table: &NodeTable, leaf: LeafNo, text: &[u8]) -> Line
-    requires leaf { leaf < length (components table.now) }
-    requires text { length text.now ≤ 64 }
-    ensures { result.items ≡ line_told table.now leaf (Line text.now) }
-{
-    labelled(table.label(table.node(leaf)), text)
 }
 
 impl World {
@@ -157,39 +137,17 @@ impl World {
         ensures within_budget { IfSome result.leaf (λ l. l.steps ≤ l.budget) }
     {
         accepted_laws();
-        let quota = Amount {
-            ram: self.machine.quota(node),
-            caps: self.machine.caps(node),
-        };
-        let leaf = match self.table().leaf(node) {
-            Some(leaf) => Some(self.leaf_account(leaf)),
-            None => None,
-        };
-        Account::new(quota, leaf)
+        account_of(&self.machine, self.budgets.as_slice(), node)
     }
 
-    // What is told of a leaf beside its quota.
-    fn leaf_account(&self, leaf: LeafNo) -> LeafAccount
-        requires { leaf < length (components self.now.scenario) }
-        ensures { TellsOf self.now leaf result }
+    // Writes the lines of the accounts of all nodes in preorder, up to the first that is not written whole. They take no host memory.
+    pub(crate) fn write_accounts<W: Write>(&self, out: &mut Counted<W>) -> Result<(), WriteFault>
+        ensures written { OnOk result (Appends (written_to W.contents out.old) (written_to W.contents out.new) (accounts_text self.now)) }
+        ensures counted { OnOk result (failures_of out.new ≡ failures_of out.old) }
+        ensures front { OnErr result (IsFront (written_to W.contents out.old) (written_to W.contents out.new) (accounts_text self.now)) }
+        ensures raised { OnErr result (IsRaised (failures_of out.old) (failures_of out.new)) }
     {
-        let machine = &self.machine;
-        let budget = self.budgets[leaf.index()].steps();
-        let caps = counted(self.table().scenario().version(), machine.caps_used(leaf));
-        let ram = machine.used(leaf);
-        let used = Amount { ram, caps };
-        LeafAccount::new(used, machine.steps(leaf), budget, machine.phase(leaf))
-    }
-
-    // The line of the account of a node.
-    pub(crate) fn account_line(&self, node: NodeNo) -> Line
-        requires { node < length (node_rows self.now.scenario) }
-        ensures { IsAccountLine self.now node result.items }
-    {
-        let _stopped = self.stopped;
-        let account = self.account(node);
-        let version = self.table().scenario().version();
-        account_line(version, self.table().label(node), &account)
+        write_accounts(&self.machine, self.budgets.as_slice(), out)
     }
 
     /// The leaf of that name, if there is one.
@@ -300,8 +258,7 @@ impl World {
         ensures stopped { OnErr result (self.new.stopped ≡ true) }
         ensures raised { OnErr result (IsRaised (failures_of out.old) (failures_of out.new)) }
     {
-        let line = line_of_leaf(self.machine.table(), leaf, text);
-        match put(out, line.as_slice()) {
+        match write_line(self.machine.table(), leaf, text, out) {
             Ok(()) => Ok(()),
             Err(fault) => {
                 self.stopped = true;

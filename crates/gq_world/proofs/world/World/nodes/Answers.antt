@@ -1,6 +1,6 @@
 use Rattle.std.proofs.Common.{◌∙◌, ap, sym, length}
 use Rattle.gq_init.specs.NodeTables.{node_rows}
-use Rattle.gq_world.proofs.Accounts.{accounts_count, leaves_count}
+use Rattle.gq_world.proofs.Accounts.{all_count, leaves_count}
 use Rattle.gq_world.proofs.Turns.{stands_seen}
 use Rattle.gq_world.proofs.world.World.nodes.Goals as goal
 
@@ -10,4 +10,4 @@ returns-clause-accounts c =
     let w = c.args.self.now in
     let stands = stands_seen m.scenario w.scenario m.world w.world (ap (λ v. v.scenario) c.self.view_is)
     (ap (λ v. v.world) c.self.view_is) c.self.invariant.stands in
-    c.node_count.ensures.count ∙ (ap (λ s. length (node_rows s)) c.table.ensures ∙ sym (accounts_count w (leaves_count w.scenario w.world stands)))
+    c.node_count.ensures.count ∙ (ap (λ s. length (node_rows s)) c.table.ensures ∙ sym (all_count w (leaves_count w.scenario w.world stands)))

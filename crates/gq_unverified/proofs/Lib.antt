@@ -1,0 +1,4 @@
+pub mod Taking
+pub mod Counting
+pub mod Few
+pub mod Whole

@@ -1,0 +1,137 @@
+-- Turns with tests, one after the other.
+use Rattle.std.proofs.Common.{◌≡◌, ℕ, zero, suc, ◌+◌, ◌-◌, ◌<◌, List, [], ◌∷◌, ◌++◌, take, drop, Option, Some, None, Ok, Err, refl, ap, sym, ◌∙◌, arith}
+use Rattle.std.proofs.Common.{append_assoc, append-nil}
+use Rattle.std.proofs.lemmas.List.{take-append-drop}
+use Rattle.std.specs.Io.KnownBytes.{Appends}
+use Rattle.gq_model.specs.declared.fault.Wrong.{Wrong}
+use Rattle.gq_model.specs.machine.Doing as doing
+use Rattle.gq_model.specs.machine.Run.{Ran, after_step, turn_from, turns_of, run_on}
+use Rattle.gq_model.specs.machine.Scenario.{Scenario, System, system}
+use Rattle.gq_model.specs.machine.Step.{next}
+use Rattle.gq_model.specs.machine.World.{World}
+use Rattle.gq_lines.specs.Writes.{IsFront}
+use Rattle.gq_lines.proofs.Known.{appends_nothing, appends_both}
+use Rattle.gq_world.specs.Worlds.{line_told}
+use Rattle.gq_world.specs.internal.Going.{going}
+use Rattle.gq_world.proofs.Going.{joined}
+use Rattle.gq_unverified.specs.internal.Taking.{HasCome, HasLeft, IsCut}
+
+-- ONE TURN
+
+module _ (s : Scenario) (x : ℕ) (old new : World) (before after : Option (List ℕ)) where
+  abbrev one_turn : Ran → Ran
+  one_turn = turns_of (system s) x 1
+
+  -- a step, and its line
+  pub came : (step : doing.Event) → next (system s) old x ≡ Ok (new, step) → Appends before after (line_told s x step)
+      → HasCome one_turn old new None before after
+  came step e written =
+      record { text = line_told s x step; written = written; ran = λ front. ap (after_step (system s) x (going old front)) e }
+
+  -- a step, and a front of its line
+  pub cut_line : (step : doing.Event) → next (system s) old x ≡ Ok (new, step) → IsFront before after (line_told s x step)
+      → IsCut one_turn old before after
+  cut_line step e f =
+      let line = line_told s x step in
+      record {
+        text = take f.0 line;
+        more = λ front. drop f.0 line;
+        written = f.1;
+        front = λ front.
+            ap (λ r. (after_step (system s) x (going old front) r).text) e
+            ∙ (ap (λ l. front ++ l) (sym (take-append-drop f.0 line)) ∙ sym (append_assoc front (take f.0 line) (drop f.0 line)));
+      }
+
+-- a wrong step changes nothing
+pub came_wrong : (s : Scenario) (x : ℕ) (old new : World) (wrong : Wrong) (before : Option (List ℕ)) → next (system s) old x ≡ Err wrong → new ≡ old
+    → HasCome (turns_of (system s) x 1) old new (Some (x, wrong)) before before
+came_wrong s x old new wrong before e same =
+    record {
+      text = [];
+      written = appends_nothing before;
+      ran = λ front.
+          ap (after_step (system s) x (going old front)) e
+          ∙ (λ i. record { world = sym same i; text = sym (append-nil front) i; wrong = Some (x, wrong) });
+    }
+
+-- AFTER A WRONG STEP
+
+pub turns_stuck : (system : System) (x n : ℕ) (ran : Ran) (p : ℕ × Wrong) → ran.wrong ≡ Some p → turns_of system x n ran ≡ ran
+turns_stuck system x zero ran p e = refl
+turns_stuck system x (suc n) ran p e =
+    let same : turn_from system x ran ran.wrong ≡ ran = ap (turn_from system x ran) e in
+    ap (turns_of system x n) same ∙ turns_stuck system x n ran p e
+
+pub runs_stuck : (system : System) (turns : List (ℕ × ℕ)) (ran : Ran) (p : ℕ × Wrong) → ran.wrong ≡ Some p → run_on system turns ran ≡ ran
+runs_stuck system [] ran p e = refl
+runs_stuck system (t ∷ turns) ran p e = ap (run_on system turns) (turns_stuck system t.0 t.1 ran p e) ∙ runs_stuck system turns ran p e
+
+-- TURNS AND WHAT FOLLOWS THEM
+
+-- at the start all is left
+pub starts : (all : Ran → Ran) (old : World) (before : Option (List ℕ)) → HasLeft all all old old before before
+starts all old before =
+    record { text = []; written = appends_nothing before; same = λ front. ap (λ l. all (going old l)) (append-nil front) }
+
+-- what is left is one part, and the rest
+module _ (left rest one all : Ran → Ran) (split : (r : Ran) → left r ≡ rest (one r)) (old now : World) (before between after : Option (List ℕ))
+    (h : HasLeft left all old now before between) where
+  abbrev here : List ℕ → Ran
+  here front = going now (front ++ h.text)
+
+  pub goes_on : (new : World) → HasCome one now new None between after → HasLeft rest all old new before after
+  goes_on new t =
+      record {
+        text = h.text ++ t.text;
+        written = appends_both before between after h.text t.text h.written t.written;
+        same = λ front.
+            ap (λ l. rest (going new l)) (sym (append_assoc front h.text t.text))
+            ∙ (ap rest (sym (t.ran (front ++ h.text))) ∙ (sym (split (here front)) ∙ h.same front));
+      }
+
+  pub ends_wrong : ((r : Ran) (p : ℕ × Wrong) → r.wrong ≡ Some p → rest r ≡ r) → (new : World) (p : ℕ × Wrong)
+      → HasCome one now new (Some p) between after → HasCome all old new (Some p) before after
+  ends_wrong stuck new p t =
+      let came : List ℕ → Ran = λ l. record { world = new; text = l; wrong = Some p } in
+      record {
+        text = h.text ++ t.text;
+        written = appends_both before between after h.text t.text h.written t.written;
+        ran = λ front.
+            sym (h.same front)
+            ∙ (split (here front)
+            ∙ (ap rest (t.ran (front ++ h.text)) ∙ (stuck (came ((front ++ h.text) ++ t.text)) p refl ∙ ap came (append_assoc front h.text t.text))));
+      }
+
+  pub is_cut : ((r : Ran) → (more : List ℕ) × ((rest r).text ≡ r.text ++ more)) → IsCut one now between after → IsCut all old before after
+  is_cut grow k =
+      let more : (front : List ℕ) → (more : List ℕ) × ((rest (one (here front))).text ≡ (one (here front)).text ++ more) =
+      λ front. grow (one (here front)) in
+      record {
+        text = h.text ++ k.text;
+        more = λ front. k.more (front ++ h.text) ++ (more front).0;
+        written = appends_both before between after h.text k.text h.written k.written;
+        front = λ front.
+            ap (λ (r : Ran). r.text) (sym (h.same front))
+            ∙ (ap (λ (r : Ran). r.text) (split (here front))
+            ∙ ((more front).1
+            ∙ (ap (λ l. l ++ (more front).0) (k.front (front ++ h.text)) ∙ joined front h.text k.text (k.more (front ++ h.text)) (more front).0)));
+      }
+
+-- at the end nothing is left
+pub ends : (system : System) (x left : ℕ) → left ≡ 0 → (all : Ran → Ran) (old new : World) (before after : Option (List ℕ))
+    → HasLeft (turns_of system x left) all old new before after → HasCome all old new None before after
+ends system x left e all old new before after h =
+    record { text = h.text; written = h.written; ran = λ front. sym (h.same front) ∙ ap (λ n. turns_of system x n (going new (front ++ h.text))) e }
+
+pub ends_all : (system : System) (left : List (ℕ × ℕ)) → left ≡ [] → (all : Ran → Ran) (old new : World) (before after : Option (List ℕ))
+    → HasLeft (run_on system left) all old new before after → HasCome all old new None before after
+ends_all system left e all old new before after h =
+    record { text = h.text; written = h.written; ran = λ front. sym (h.same front) ∙ ap (λ l. run_on system l (going new (front ++ h.text))) e }
+
+one_less : (count i : ℕ) → i < count → count - i ≡ suc (count - (i + 1))
+one_less count i less = omega (arith, less)
+
+-- turns that are left are one and the rest
+pub one_of : (system : System) (x count i : ℕ) → i < count → (r : Ran)
+    → turns_of system x (count - i) r ≡ turns_of system x (count - (i + 1)) (turns_of system x 1 r)
+one_of system x count i less r = ap (λ n. turns_of system x n r) (one_less count i less)

@@ -1,0 +1,31 @@
+-- How a run with tests ends.
+use Rattle.std.specs.Prelude.{◌≡◌, ℕ, List, Option, Ok, Err}
+use Rattle.std.specs.Io.KnownBytes.{Appends}
+use Rattle.gq_model.specs.declared.fault.Wrong.{Wrong}
+use Rattle.gq_load.specs.Faults.{load_fault_text}
+use Rattle.gq_lines.specs.Writes.{IsFront}
+use Rattle.gq_world.specs.Whole.{refused_with, turn_fault_text}
+use Rattle.gq_world.specs.declared.fault.RunFault.{RunFault}
+use Rattle.gq_world.specs.declared.fault.RunFault.TheVariants.{Load, NoComponent, Turns, Memory, Write}
+use Rattle.gq_unverified.specs.Tested.{Tested}
+
+-- the definition gives a text and this wrong step, or none, and just the text was written
+pub record IsTested (t : Tested) (wrong : Option (List ℕ × Wrong)) (before after : Option (List ℕ)) : Type 0 where
+  pub text : List ℕ
+  pub given : t ≡ Ok (text, wrong)
+  pub written : Appends before after text
+
+-- the definition gives a text, and a front of it was written
+pub record IsTestedShort (t : Tested) (before after : Option (List ℕ)) : Type 0 where
+  pub text : List ℕ
+  pub wrong : Option (List ℕ × Wrong)
+  pub given : t ≡ Ok (text, wrong)
+  pub written : IsFront before after text
+
+-- a fault of the texts is the definition's, by its line; a failed write comes where there is a text
+abbrev pub IsTestFault : RunFault → Tested → Type 0
+IsTestFault (Load fault) t = t ≡ Err (refused_with (load_fault_text fault))
+IsTestFault (NoComponent name) t = ⊥
+IsTestFault (Turns fault line) t = t ≡ Err (refused_with (turn_fault_text fault line))
+IsTestFault Memory t = Unit {0}
+IsTestFault Write t = (text : List ℕ) × (wrong : Option (List ℕ × Wrong)) × (t ≡ Ok (text, wrong))

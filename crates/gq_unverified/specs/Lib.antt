@@ -1,0 +1,3 @@
+pub mod Tested
+pub mod Ends
+pub mod internal

@@ -1,0 +1,41 @@
+-- What turns do to the world of a machine, and what they write, up to a wrong step.
+use Rattle.std.specs.Prelude.{◌≡◌, ◌<◌, ◌≤◌, ◌+◌, ◌^◌, ℕ, List, [], ◌∷◌, ◌++◌, length, Option, slice_index}
+use Rattle.std.specs.Io.KnownBytes.{Appends}
+use Rattle.gq_model.specs.declared.fault.Wrong.{Wrong}
+use Rattle.gq_model.specs.machine.Run.{Ran}
+use Rattle.gq_model.specs.machine.World.{World}
+use Rattle.gq_laws.specs.Turns.{steps_of}
+use Rattle.gq_world.specs.internal.Going.{going}
+
+-- the turns were taken, up to this wrong step if there is one, and what they write was written
+pub record HasCome (turns : Ran → Ran) (old new : World) (wrong : Option (ℕ × Wrong)) (before after : Option (List ℕ)) : Type 0 where
+  pub text : List ℕ
+  pub written : Appends before after text
+  pub ran : (front : List ℕ) → turns (going old front) ≡ record { world = new; text = front ++ text; wrong = wrong }
+
+-- what is left of the turns, from here, does what all of them do from the old world
+pub record HasLeft (left all : Ran → Ran) (old now : World) (before after : Option (List ℕ)) : Type 0 where
+  pub text : List ℕ
+  pub written : Appends before after text
+  pub same : (front : List ℕ) → left (going now (front ++ text)) ≡ all (going old front)
+
+-- a front of what the turns write was written
+pub record IsCut (turns : Ran → Ran) (old : World) (before after : Option (List ℕ)) : Type 0 where
+  pub text : List ℕ
+  pub more : List ℕ → List ℕ
+  pub written : Appends before after text
+  pub front : (front : List ℕ) → (turns (going old front)).text ≡ front ++ text ++ more front
+
+-- the steps of so many turns more can be counted
+abbrev pub HasRoom : World → ℕ → Type 0
+HasRoom w n = (x : ℕ) → slice_index (steps_of w) x + n < 2 ^ 64
+
+-- so many turns lead from one world to another, at most: the leaves are there, and none has taken more steps than that
+pub record IsNear (old new : World) (n : ℕ) : Type 0 where
+  pub leaves : length new.leaves ≡ length old.leaves
+  pub steps : (x : ℕ) → slice_index (steps_of new) x ≤ slice_index (steps_of old) x + n
+
+-- how many turns these are
+abbrev pub turns_in : List (ℕ × ℕ) → ℕ
+turns_in [] = 0
+turns_in (t ∷ turns) = t.1 + turns_in turns

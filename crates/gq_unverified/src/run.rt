@@ -1,0 +1,92 @@
+// Runs with tests.
+ghost use Rattle.std.specs.Prelude.{◌≡◌, ◌<◌, ◌^◌, length, Err, IfOk, IfSome, IfErr, OnOk, OnErr};
+ghost use Rattle.std.specs.Io.KnownBytes.{Appends};
+ghost use Rattle.gq_model.specs.machine.Scenario.{components, system};
+ghost use Rattle.gq_model.specs.machine.World.{start};
+ghost use Rattle.gq_lines.specs.Counts.{written_to, failures_of};
+ghost use Rattle.gq_lines.specs.Writes.{IsFront, IsRaised};
+ghost use Rattle.gq_world.specs.internal.Going.{AreBelow};
+ghost use Rattle.gq_world.specs.Outcomes.{IsBefore};
+ghost use Rattle.gq_unverified.specs.Ends.{IsTested, IsTestedShort, IsTestFault};
+ghost use Rattle.gq_unverified.specs.Tested.{first_wrong, run_tested, tested_text};
+ghost use Rattle.gq_unverified.specs.internal.Taking.{turns_in};
+
+use crate::step::WrongStep;
+use crate::turns::take_all;
+use gq_init::turns::{TurnsError, read_turns};
+use gq_lines::counted::{Counted, WriteFault};
+use gq_load::unverified::read_unverified;
+use gq_machine::machine::Machine;
+use gq_model::fault::Wrong;
+use gq_scenario::scenario::LeafNo;
+use gq_sound::read::unverified_laws;
+use gq_world::account_lines::write_accounts;
+use gq_world::fault::RunFault;
+use std::alloc::Global;
+use std::io::Write;
+
+// All turns of a list from the start of a scenario, and, where no step is wrong, the lines of the accounts, up to the first line that is not
+// written whole. They take no host memory.
+fn run_machine<W: Write>(
+    machine: &mut Machine,
+    turns: &[(LeafNo, u32)],
+    out: &mut Counted<W>,
+) -> Result<Option<(LeafNo, Wrong)>, WriteFault>
+    requires start { machine.old.world ≡ start (system machine.old.scenario) }
+    requires leaves { AreBelow (length (components machine.old.scenario)) turns.now }
+    requires few { turns_in turns.now < 2 ^ 64 }
+    ensures scenario { machine.new.scenario ≡ machine.old.scenario }
+    ensures wrong { IfOk result (λ wrong. wrong ≡ first_wrong machine.old.scenario turns.now) }
+    ensures there { IfOk result (λ wrong. IfSome wrong (λ p. p.0 < length (components machine.old.scenario))) }
+    ensures written { OnOk result (Appends (written_to W.contents out.old) (written_to W.contents out.new) (tested_text machine.old.scenario turns.now)) }
+    ensures counted { OnOk result (failures_of out.new ≡ failures_of out.old) }
+    ensures front { OnErr result (IsFront (written_to W.contents out.old) (written_to W.contents out.new) (tested_text machine.old.scenario turns.now)) }
+    ensures raised { OnErr result (IsRaised (failures_of out.old) (failures_of out.new)) }
+{
+    match take_all(machine, turns, out) {
+        Ok(None) => match write_accounts(machine, &[], out) {
+            Ok(()) => Ok(None),
+            Err(fault) => Err(fault),
+        },
+        Ok(Some(wrong)) => Ok(Some(wrong)),
+        Err(fault) => Err(fault),
+    }
+}
+
+/// Runs a scenario, a text in TOML, by the turns of a second text, with tests: the scenario has to be read and resolved, but its programs are not judged, so
+/// a step may be wrong. Takes the turns up to the first wrong step, writes the lines that they give and, where no step is wrong, the accounts of all nodes,
+/// with 0 for each step budget. Answers the wrong step, if there is one. Nothing is written where the scenario or the turns are refused, or where host memory
+/// is, which only loading and reading the turns take.
+pub fn run_unverified<W: Write>(
+    alloc: Global,
+    scenario: &[u8],
+    turns: &[u8],
+    out: &mut Counted<W>,
+) -> Result<Option<WrongStep>, RunFault<'static>>
+    // The whole text of the definition was written, and nothing else, and the wrong step is the definition's.
+    ensures tested { IfOk result (λ wrong. IsTested (run_tested scenario.now turns.now) wrong (written_to W.contents out.old) (written_to W.contents out.new)) }
+    ensures counted { OnOk result (failures_of out.new ≡ failures_of out.old) }
+
+    // The fault is that of the definition.
+    ensures refused { IfErr result (λ fault. IsTestFault fault (run_tested scenario.now turns.now)) }
+    ensures silent { IfErr result (λ fault. IsBefore fault → out.new ≡ out.old) }
+
+    // A write failed: a front of the text was written.
+    ensures cut { result ≡ Err RunFault.Write → IsTestedShort (run_tested scenario.now turns.now) (written_to W.contents out.old)
+        (written_to W.contents out.new) }
+    ensures raised { result ≡ Err RunFault.Write → IsRaised (failures_of out.old) (failures_of out.new) }
+{
+    unverified_laws();
+    let table = read_unverified(alloc, scenario)?;
+    let turns = match read_turns(alloc, turns, &table) {
+        Ok(turns) => turns,
+        Err(TurnsError::Memory(_)) => return Err(RunFault::Memory),
+        Err(TurnsError::Fault { fault, line }) => return Err(RunFault::Turns { fault, line }),
+    };
+    let mut machine = Machine::new(alloc, table)?;
+    match run_machine(&mut machine, turns.as_slice(), out) {
+        Ok(None) => Ok(None),
+        Ok(Some((leaf, wrong))) => Ok(Some(WrongStep::of(machine.table(), leaf, wrong))),
+        Err(_) => Err(RunFault::Write),
+    }
+}

@@ -1,0 +1,26 @@
+use Rattle.std.proofs.Common.{◌≡◌, ◌∙◌, List, ℕ, Option, IfSome, ap, sym, subst}
+use Rattle.std.specs.Prelude.{slice_get, OnErr}
+use Rattle.gq_model.specs.machine.Doing as doing
+use Rattle.gq_model.specs.machine.Run.{line_of}
+use Rattle.gq_model.specs.machine.Scenario.{Component, components}
+use Rattle.gq_init.specs.NodeTables.{node_rows}
+use Rattle.gq_init.proofs.Rows.{leaf_at, label_of_node}
+use Rattle.gq_lines.specs.Writes.{IsFront}
+use Rattle.gq_world.specs.Worlds.{line_told}
+use Rattle.gq_world.proofs.Turns.{label_told}
+use Rattle.gq_world.proofs.leaf_lines.write_line.Goals as goal
+
+pub returns-clause-front : goal.returns-clause-front
+returns-clause-front g c =
+    let t = c.args.table.now in
+    let x = c.args.leaf in
+    let text = c.args.text.now in
+    let leaf = leaf_at (node_rows t) c.node.result x (components t) c.requires.leaf c.node.ensures.node in
+    let label = label_of_node (node_rows t) c.node.result leaf.component c.label.result.now leaf.node c.label.ensures.label in
+    let told : IfSome (slice_get (components t) x) (λ d. c.label.result.now ≡ d.label) =
+    subst (λ (o : Option Component). IfSome o (λ d. c.label.result.now ≡ d.label)) (sym leaf.there) label in
+    let same = label_told (components t) x c.label.result.now c.requires.leaf told in
+    let line : c.labelled-line.result.items ≡ line_told t x (doing.Line text) = c.labelled-line.ensures ∙ ap (λ l. line_of l (doing.Line text)) same in
+    let a = g.W.Write.contents c.args.out.now.writer in
+    let b = g.W.Write.contents c.put.new.out.writer in
+    subst (λ (l : List ℕ). OnErr c.put.result (IsFront a b l)) (c.as_slice.ensures.value ∙ line) c.put.ensures.front

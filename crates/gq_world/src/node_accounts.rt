@@ -1,0 +1,68 @@
+// The accounts of a machine's nodes.
+ghost use Rattle.std.specs.Prelude.{ℕ, ◌==◌, if◌then◌else◌, ◌≡◌, ◌<◌, length, slice_get, slice_index, IfSome};
+ghost use Rattle.gq_model.specs.machine.Scenario.{components};
+ghost use Rattle.gq_model.specs.rules.Accept.{step_budgets};
+ghost use Rattle.gq_init.specs.NodeTables.{node_rows};
+ghost use Rattle.gq_scenario.specs.Trees.{version_number};
+ghost use Rattle.gq_lines.specs.Told.{told_of};
+ghost use Rattle.gq_world.specs.Lines.{accounts_by, TellsOf};
+
+use gq_lines::account::{Account, LeafAccount};
+use gq_load::budget::Budget;
+use gq_machine::machine::Machine;
+use gq_scenario::node::NodeNo;
+use gq_scenario::scenario::{LeafNo, Version};
+use gq_tariff::Amount;
+
+// So many capabilities, where they are counted.
+fn counted(version: Version, caps: u64) -> u64
+    ensures { result ≡ (if version_number version == 2 then caps else 0) }
+{
+    match version {
+        Version::One => 0,
+        Version::Two => caps,
+    }
+}
+
+// The steps that are budgeted to a leaf: 0 where it has no budget.
+fn steps_of(budgets: &[Budget], leaf: LeafNo) -> u64
+    ensures { result ≡ slice_index (step_budgets budgets.now) leaf }
+{
+    if leaf.index() < budgets.len() {
+        budgets[leaf.index()].steps()
+    } else {
+        0
+    }
+}
+
+// What is told of a leaf beside its quota.
+fn leaf_account(machine: &Machine, budgets: &[Budget], leaf: LeafNo) -> LeafAccount
+    requires { leaf < length (components machine.now.scenario) }
+    ensures { TellsOf machine.now.scenario machine.now.world (step_budgets budgets.now) leaf result }
+{
+    let budget = steps_of(budgets, leaf);
+    let caps = counted(
+        machine.table().scenario().version(),
+        machine.caps_used(leaf),
+    );
+    let ram = machine.used(leaf);
+    let used = Amount { ram, caps };
+    LeafAccount::new(used, machine.steps(leaf), budget, machine.phase(leaf))
+}
+
+// The account of a node of a machine whose leaves have these budgets.
+pub(crate) fn account_of(machine: &Machine, budgets: &[Budget], node: NodeNo) -> Account
+    requires leaves { length machine.now.world.leaves ≡ length (components machine.now.scenario) }
+    requires node { node < length (node_rows machine.now.scenario) }
+    ensures { IfSome (slice_get (accounts_by machine.now.scenario machine.now.world (step_budgets budgets.now)) node) (λ a. result ≡ told_of a) }
+{
+    let quota = Amount {
+        ram: machine.quota(node),
+        caps: machine.caps(node),
+    };
+    let leaf = match machine.table().leaf(node) {
+        Some(leaf) => Some(leaf_account(machine, budgets, leaf)),
+        None => None,
+    };
+    Account::new(quota, leaf)
+}
