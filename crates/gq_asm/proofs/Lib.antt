@@ -1,3 +1,4 @@
+pub mod Spelled
 pub mod Fronts
 pub mod Statement_reads
 pub mod Blocks

@@ -16,6 +16,7 @@ mod numbers;
 mod operands;
 mod reading;
 mod says;
+mod shapes;
 mod slots;
 mod statements;
 mod text;

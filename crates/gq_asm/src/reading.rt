@@ -90,9 +90,8 @@ impl Reading {
     pub fn add(&mut self, statement: Statement) -> Result<(), LineError>
         ensures { Gives (λ _. reading_of self.new) result (Ok (with_added (tree_of (statement ∷ [])) (reading_of self.old))) }
     {
-        if let Some(mut block) = self.blocks.pop_front() {
+        if let Some(block) = self.blocks.front_mut() {
             block.before.push(statement)?;
-            self.blocks.push_front(block)?;
         }
         Ok(())
     }

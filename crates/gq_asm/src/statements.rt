@@ -10,9 +10,10 @@ use crate::faults::LineError;
 use crate::instructions::instruction;
 use crate::operands::{at_end, next_number};
 use crate::reading::{BlockKind, Reading};
+use crate::shapes::shape_with;
 use gq_model::fault::TextFault;
 use gq_program::Statement;
-use gq_program::spelling::{same_text, shape_of_word};
+use gq_program::spelling::same_text;
 use std::alloc::Global;
 
 impl Reading {
@@ -44,7 +45,7 @@ impl Reading {
             (found (shape_of_word word.now spellings) UnknownWord
             (λ shape. counted (reading_of self.old) (λ s. put s (instruction_in after.now shape (words after.now))))) }
     {
-        let Some(shape) = shape_of_word(word) else {
+        let Some(shape) = shape_with(word) else {
             return Err(LineError::Fault(TextFault::UnknownWord));
         };
         self.count_statement()?;

@@ -1,3 +1,5 @@
+pub mod Counts
 pub mod Sums
 pub mod Lists
 pub mod Kept
+pub mod Ends

@@ -2,7 +2,7 @@
 ghost use Rattle.std.specs.Prelude.{◌≡◌, IfOk, map, option_copied};
 ghost use Rattle.gq_budget.specs.internal.Rounds.{asked_of, asked_by, asks_for, asks_of, all_asks, often, leaf_round};
 
-use crate::leaf::Leaf;
+use crate::counted::CountedLeaf;
 use crate::numbers::{Numbers, table_products};
 use gq_program::Section;
 use std::alloc::{AllocError, Global};
@@ -27,9 +27,9 @@ impl Asks {
     // Of a section of the service that a leaf provides, where these leaves' routes for it lead to the leaf.
     fn new(
         alloc: Global,
-        leaves: &[Leaf<'_>],
+        leaves: &[CountedLeaf<'_, '_>],
         leads: &[bool],
-        leaf: &Leaf<'_>,
+        leaf: &CountedLeaf<'_, '_>,
         section: Section,
     ) -> Result<Asks, AllocError>
         ensures { IfOk result (λ a. a ≡ asks_for leaves.now leads.now leaf.now.provides section) }
@@ -62,7 +62,7 @@ impl Asks {
 // How often the sections of a leaf ask for a section of a service; never where it does not lead.
 fn asked_of(
     alloc: Global,
-    leaf: &Leaf<'_>,
+    leaf: &CountedLeaf<'_, '_>,
     leads: bool,
     service: &[u8],
     section: Section,
@@ -79,7 +79,7 @@ fn asked_of(
 // How often the sections of each of these leaves ask for a section of a service.
 fn asked_by(
     alloc: Global,
-    leaves: &[Leaf<'_>],
+    leaves: &[CountedLeaf<'_, '_>],
     leads: &[bool],
     service: &[u8],
     section: Section,
@@ -112,9 +112,9 @@ impl LeafAsks {
     // Of a leaf, to which the routes of these leaves lead for its service.
     fn new(
         alloc: Global,
-        leaves: &[Leaf<'_>],
+        leaves: &[CountedLeaf<'_, '_>],
         leads: &[bool],
-        leaf: &Leaf<'_>,
+        leaf: &CountedLeaf<'_, '_>,
     ) -> Result<LeafAsks, AllocError>
         ensures { IfOk result (λ a. a ≡ asks_of leaves.now leads.now leaf.now.provides leaf.now.subject.program.sections) }
     {
@@ -140,7 +140,7 @@ impl LeafAsks {
 /// Of each leaf: how often its sections run by themselves and are asked for.
 pub(crate) fn all_asks(
     alloc: Global,
-    leaves: &[Leaf<'_>],
+    leaves: &[CountedLeaf<'_, '_>],
     leads: &[Vec<bool>],
 ) -> Result<Vec<LeafAsks>, AllocError>
     ensures { IfOk result (λ a. a.items ≡ all_asks leaves.now leaves.now (map (λ v. v.items) leads.now)) }

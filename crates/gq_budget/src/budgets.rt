@@ -6,6 +6,7 @@ ghost use Rattle.gq_budget.specs.Budgets.{budgets_of};
 ghost use Rattle.gq_budget.specs.internal.Counted.{budgets_by};
 
 use crate::asks::all_asks;
+use crate::counted::counted;
 use crate::leaf::Leaf;
 use crate::numbers::Numbers;
 use crate::rounds::rounds;
@@ -33,7 +34,8 @@ pub fn step_budgets(
     ensures { (system : System) → leaves.now ≡ leaves_of system → map (λ v. v.items) leads.now ≡ leads_of system →
         IfOk result (λ steps. steps.items ≡ budgets_of system) }
 {
-    let asks = all_asks(alloc, leaves, leads)?;
+    let counted = counted(alloc, leaves)?;
+    let asks = all_asks(alloc, &counted, leads)?;
     let often = rounds(alloc, &asks, leaves.len())?;
     let steps = budgets(alloc, leaves, &often)?;
     Ok(steps)

@@ -2,11 +2,11 @@
 ghost use Rattle.std.specs.Prelude.{◌≡◌, IfOk, IsTrue, option_copied};
 ghost use Rattle.gq_model.specs.machine.Lists.{all_of};
 ghost use Rattle.gq_model.specs.texts.Code.{is_section};
-ghost use Rattle.gq_budget.specs.internal.Counted.{requests_of, costs_of};
+ghost use Rattle.gq_budget.specs.internal.Counted.{AreRequests, costs_of};
 
 use crate::numbers::Numbers;
 use gq_program::{Body, Name, Program, Section};
-use gq_verify::{Verified, section_cost};
+use gq_verify::{Requests, Verified, section_cost};
 use std::alloc::{AllocError, Global};
 use std::marker::Model;
 
@@ -68,21 +68,16 @@ impl<'a> Leaf<'a> {
         program.sections()
     }
 
-    /// How often each of its sections asks for a section of a service; 2^64 - 1 where it is more often.
-    pub(crate) fn requests(
-        &self,
-        alloc: Global,
-        service: &[u8],
-        section: Section,
-    ) -> Result<Numbers, AllocError>
-        ensures { IfOk result (λ r. r ≡ requests_of self.now.subject service.now section self.now.subject.program.sections) }
+    /// How often each of its sections asks for the sections of services.
+    pub(crate) fn requests(&self, alloc: Global) -> Result<Vec<Requests>, AllocError>
+        ensures { IfOk result (λ n. AreRequests self.now.subject self.now.subject.program.sections n.items) }
     {
         let verified = self.verified;
         let mut requests = Vec::new(alloc);
         for (from, _) in self.sections() {
-            requests.push(verified.requests(*from, service, section))?;
+            requests.push(verified.all_requests(alloc, *from)?)?;
         }
-        Ok(Numbers::new(requests))
+        Ok(requests)
     }
 
     /// The greatest number of steps of each of its sections.

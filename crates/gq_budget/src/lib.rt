@@ -3,6 +3,7 @@
 
 mod asks;
 mod budgets;
+mod counted;
 mod leaf;
 mod numbers;
 mod rounds;

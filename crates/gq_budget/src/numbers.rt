@@ -1,5 +1,5 @@
 // Lists of numbers, and sums of products.
-ghost use Rattle.std.specs.Prelude.{◌≡◌};
+ghost use Rattle.std.specs.Prelude.{◌≡◌, true};
 ghost use Rattle.gq_verify.specs.Counting.{saturated};
 ghost use Rattle.gq_budget.specs.internal.Sums.{products, table_products};
 
@@ -32,6 +32,13 @@ impl Numbers {
         ensures { result ≡ saturated (products self.now often.now) }
     {
         products(&self.numbers, &often.numbers)
+    }
+
+    /// Whether both are the same numbers.
+    pub fn is_same(&self, other: &Numbers) -> bool
+        ensures { result ≡ true → self.now ≡ other.now }
+    {
+        self.numbers.as_slice() == other.numbers.as_slice()
     }
 }
 

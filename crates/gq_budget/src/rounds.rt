@@ -1,5 +1,5 @@
 // How often sections run, round by round.
-ghost use Rattle.std.specs.Prelude.{◌≡◌, IfOk, [], suc};
+ghost use Rattle.std.specs.Prelude.{◌≡◌, true, IfOk, [], suc};
 ghost use Rattle.gq_budget.specs.internal.Rounds.{round, rounds};
 
 use crate::asks::LeafAsks;
@@ -17,7 +17,23 @@ fn round(alloc: Global, asks: &[LeafAsks], table: &[Numbers]) -> Result<Vec<Numb
     Ok(often)
 }
 
-/// How often each section of each leaf runs by chains of at most so many uses; 2^64 - 1 where it is more often.
+// Whether two tables have the same numbers, row by row.
+fn are_same(table: &[Numbers], other: &[Numbers]) -> bool
+    ensures { result ≡ true → table.now ≡ other.now }
+{
+    if table.len() != other.len() {
+        return false;
+    }
+    for (row, numbers) in table.iter().enumerate() {
+        if !numbers.is_same(&other[row]) {
+            return false;
+        }
+    }
+    true
+}
+
+/// How often each section of each leaf runs by chains of at most so many uses; 2^64 - 1 where it is more often. A round that
+/// changes nothing is the last one that is taken.
 pub(crate) fn rounds(
     alloc: Global,
     asks: &[LeafAsks],
@@ -27,7 +43,11 @@ pub(crate) fn rounds(
 {
     let mut often = round(alloc, asks, &[])?;
     for _use in 0..uses {
-        often = round(alloc, asks, &often)?;
+        let next = round(alloc, asks, &often)?;
+        if are_same(&next, &often) {
+            return Ok(often);
+        }
+        often = next;
     }
     Ok(often)
 }

@@ -1,6 +1,6 @@
 -- Statements that break no rule, one after the other.
 use Rattle.std.proofs.Common.{◌≡◌, ◌<◌, ◌+◌, ℕ, List, [], ◌∷◌, drop, length, get_or, refl, ap, sym, subst, ◌∙◌, Ok, Err, Some, None}
-use Rattle.std.proofs.Common.{◌-◌, ◌^◌, min, arith}
+use Rattle.std.proofs.Common.{◌-◌, ◌*◌, ◌^◌, min, arith, Result, OnOk}
 use Rattle.gq_model.specs.machine.Program.{Statements, Done, Do, If, Loop, size, section_in}
 use Rattle.gq_model.specs.declared.program.Section.{Section}
 use Rattle.gq_model.specs.declared.program.Instruction.{Instruction}
@@ -8,7 +8,7 @@ use Rattle.gq_model.specs.declared.fault.Rule.{Rule}
 use Rattle.gq_model.specs.declared.fault.Rule.TheVariants.{LeftoverOperand}
 use Rattle.gq_model.specs.rules.Kinds.{State, Context, Subject, inside}
 use Rattle.gq_model.specs.rules.Rules.{Judged, judged}
-use Rattle.gq_model.specs.rules.Flow.{Flowed, at, later, flow_then, is_nil, chosen_from, none_left, flow, context, start_of, body}
+use Rattle.gq_model.specs.rules.Flow.{Flowed, at, later, flow_then, is_nil, chosen_from, none_left, flow, state_or, context, start_of, body}
 use Rattle.gq_model.specs.rules.Verdict.{program_fault}
 use Rattle.gq_model.specs.machine.Program.{body_of}
 use Rattle.gq_program.specs.Trees.{tree_of}
@@ -18,6 +18,8 @@ use Rattle.gq_flow.proofs.Flows.{flow_here}
 use Rattle.gq_flow.proofs.Points.{then_ok, later_ok, must_ok, chosen_is, next_is}
 use Rattle.gq_verify.specs.internal.Requesting.{IsRight, requests_in}
 use Rattle.gq_verify.specs.Counting.{saturated}
+use Rattle.gq_verify.specs.Requested.{Requested, requests_for}
+use Rattle.gq_verify.proofs.Counts.{times}
 use Rattle.gq_model.specs.rules.Budgets.{requests}
 use Rattle.gq_program.specs.declared.program.Statement.TheVariants.{Plain}
 use Rattle.gq_program.specs.declared.program.Statement.TheVariants as statement
@@ -50,6 +52,28 @@ summed_on v r c s u items i st sum here next all less e at h p q =
     let b = requests_first v r c s st (drop (i + 1) items) in
     let d = ap (λ (u : State). requests v r c u (tree_of (drop (i + 1) items))) at in
     omega (arith, a, b, d, h, p, q)
+
+-- the same of numbers that are kept as far as they go
+pub counted_on : (v : List ℕ) (r : Section) (c : Context) (s u : State) (items : List Statement) (i : ℕ) (st : Statement) (now next all : ℕ) →
+    i < length items → st ≡ get_or items i st → u ≡ next_state c s st → saturated next ≡ saturated (now + requests_in v r c s st) →
+    saturated (now + requests v r c s (tree_of (drop i items))) ≡ all → saturated (next + requests v r c u (tree_of (drop (i + 1) items))) ≡ all
+counted_on v r c s u items i st now next all less e at h q =
+    let a = ap (λ l. requests v r c s (tree_of l)) (here_is items i st less e) in
+    let b = requests_first v r c s st (drop (i + 1) items) in
+    let d = ap (λ (u : State). requests v r c u (tree_of (drop (i + 1) items))) at in
+    omega (arith, a, b, d, h, q)
+
+-- what is left after a statement leads to the same state
+pub state_on : (c : Context) (s u d : State) (items : List Statement) (i : ℕ) (st : Statement) → i < length items → st ≡ get_or items i st →
+    u ≡ next_state c s st → IsRight c s (tree_of (drop i items)) →
+    state_or d (flow c u (tree_of (drop (i + 1) items))) ≡ state_or d (flow c s (tree_of (drop i items)))
+state_on c s u d items i st less e at (t, ok) =
+    let h = flow_here c s items i st 0 less e in
+    let k = λ (u : State). later (0 + size (tree_of (st ∷ []))) (flow c u (tree_of (drop (i + 1) items))) in
+    let p = then_ok (later 0 (flow c s (tree_of (st ∷ [])))) k t (sym (ap (later 0) ok) ∙ h) in
+    let rest = later_ok (0 + size (tree_of (st ∷ []))) (flow c p.0 (tree_of (drop (i + 1) items))) t p.2 in
+    let same = at ∙ sym (next_is c s p.0 st 0 (sym p.1)) in
+    ap (λ (u : State). state_or d (flow c u (tree_of (drop (i + 1) items)))) same ∙ (ap (state_or d) rest ∙ ap (state_or d) (sym ok))
 
 -- an instruction that breaks a rule is not right
 pub plain_right : (c : Context) (s : State) (i : Instruction) (rule : Rule) (A : Type 0) → Err rule ≡ judged c s i → IsRight c s (Do i Done) → A
@@ -84,6 +108,32 @@ broken_right c s b f n A e (t, ok) = by (flow c s b) e ok where
   by : (x : Flowed) → Err f ≡ later n x → x ≡ Ok t → A
   by (Ok u) e ok = cc
   by (Err g) e ok = cc
+
+-- COUNTING ALL REQUESTS
+
+pub on_then : {X Y : Type 0} {A B : Type 0} (x : Result X Y) → (A → B) → OnOk x A → OnOk x B
+on_then (Ok x) f a = f a
+on_then (Err y) f a = tt
+
+-- a number is added so often, though it was kept as far as it goes
+times_kept : (n a b old : ℕ) → saturated a ≡ saturated b → saturated (old + n * a) ≡ saturated (old + n * b)
+times_kept n a b old e =
+    let x = times (2 ^ 64 - 1) n a in
+    let y = times (2 ^ 64 - 1) n b in
+    let z = ap (λ (k : ℕ). min (k * n) (2 ^ 64 - 1)) e in
+    let p : a * n ≡ n * a = omega arith in
+    let q : b * n ≡ n * b = omega arith in
+    omega (arith, x, y, z, p, q)
+
+-- the requests of all rounds of a loop, counted by those of one that began with none
+pub round_counted : (v : List ℕ) (r : Section) (round start : List Requested) (k l : Context) (s t : State) (body : Statements) (n old : ℕ) → start ≡ [] →
+    l ≡ k → t ≡ s → saturated (requests_for round v r) ≡ saturated (requests_for start v r + requests v r l t body) →
+    saturated (old + n * requests_for round v r) ≡ saturated (old + n * requests v r k s body)
+round_counted v r round start k l s t body n old none at from e =
+    let a = ap (λ l. requests_for l v r) none in
+    let b = ap (λ (l : Context). requests v r l t body) at in
+    let d = ap (λ (t : State). requests v r k t body) from in
+    times_kept n (requests_for round v r) (requests v r k s body) old (omega (arith, a, b, d, e))
 
 -- SECTIONS OF A PROGRAM WITHOUT A FAULT
 

@@ -1,4 +1,5 @@
 pub mod Subjects
 pub mod Counting
+pub mod Requested
 pub mod Faults
 pub mod internal

@@ -3,3 +3,5 @@ pub mod Mains
 pub mod Starting
 pub mod Requesting
 pub mod Keeping
+pub mod Adding
+pub mod Quietness

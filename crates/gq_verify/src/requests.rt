@@ -71,7 +71,7 @@ pub(crate) enum ByLevel {
 }
 
 /// The section of a session of this level.
-fn section_by(of: ByLevel, level: u8) -> Section
+pub(crate) fn section_by(of: ByLevel, level: u8) -> Section
     requires { level ≤ 3 }
     ensures { result ≡ section_by of level }
 {

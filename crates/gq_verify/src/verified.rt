@@ -1,13 +1,17 @@
 // What is said of a program before it runs.
-ghost use Rattle.std.specs.Prelude.{◌≡◌, IfOk, IfErr, IsTrue, None, Ok, Err, option_copied};
+ghost use Rattle.std.specs.Prelude.{◌≡◌, ℕ, List, IfOk, IfErr, IsTrue, None, Ok, Err, option_copied};
 ghost use Rattle.gq_model.specs.machine.Amounts.{Ram, Caps};
+ghost use Rattle.gq_model.specs.declared.program.Section.{Section};
 ghost use Rattle.gq_model.specs.texts.Code.{is_section};
 ghost use Rattle.gq_model.specs.rules.Budgets.{own, section_requests};
 ghost use Rattle.gq_model.specs.rules.Verdict.{verdict, verified, program_fault};
 ghost use Rattle.gq_verify.specs.Counting.{saturated};
+ghost use Rattle.gq_verify.specs.Requested.{requests_for};
 ghost use Rattle.gq_verify.specs.Faults.{known_fault};
 ghost use Rattle.gq_verify.specs.Subjects.{subject_of, cost_in};
 
+use crate::asked::Requests;
+use crate::counting::section_counts;
 use crate::fault::Fault;
 use crate::own::own;
 use crate::requests::{Asked, section_requests};
@@ -17,6 +21,7 @@ use crate::steps::section_cost;
 use gq_program::{Interfaces, Name, Program, Section};
 use gq_rules::Subject;
 use gq_tariff::Amount;
+use std::alloc::{AllocError, Global};
 use std::marker::Model;
 
 /// A program that breaks no rule, with what it uses at most. Contracts see it as what it was judged by.
@@ -87,6 +92,16 @@ impl<'a> Verified<'a> {
         let subject = &self.subject;
         let starts = &self.starts;
         section_requests(subject, starts, from, &Asked { service, section })
+    }
+
+    /// The greatest numbers of requests of a section, for all sections of all services at once. It goes over the statements once, and not
+    /// over loops that make none. Refused only for want of host memory, of which it takes some for each section that is asked for.
+    pub fn all_requests(&self, alloc: Global, from: Section) -> Result<Requests, AllocError>
+        requires { IsTrue (is_section from) }
+        ensures { IfOk result (λ n. (v : List ℕ) (r : Section) → saturated (requests_for n v r) ≡ saturated (section_requests self.now from v r)) }
+    {
+        self.laws();
+        section_counts(alloc, &self.subject, &self.starts, from)
     }
 }
 

@@ -1,10 +1,11 @@
 -- What is counted of a leaf's sections.
-use Rattle.std.specs.Prelude.{ℕ, List, [], ◌∷◌}
+use Rattle.std.specs.Prelude.{◌≡◌, ℕ, List, [], ◌∷◌}
 use Rattle.gq_model.specs.machine.Program.{Statements}
 use Rattle.gq_model.specs.declared.program.Section.{Section}
 use Rattle.gq_model.specs.rules.Kinds.{Subject}
 use Rattle.gq_model.specs.rules.Budgets.{section_cost, section_requests}
 use Rattle.gq_verify.specs.Counting.{saturated}
+use Rattle.gq_verify.specs.Requested.{Requested, requests_for}
 use Rattle.gq_budget.specs.Leaves.{Leaf}
 use Rattle.gq_budget.specs.internal.Sums.{products}
 
@@ -12,6 +13,20 @@ use Rattle.gq_budget.specs.internal.Sums.{products}
 abbrev pub requests_of : Subject → List ℕ → Section → List (Section × Statements) → List ℕ
 requests_of v service section [] = []
 requests_of v service section (p ∷ rest) = saturated (section_requests v p.0 service section) ∷ requests_of v service section rest
+
+-- all requests of each of these sections of a leaf
+abbrev pub AreRequests : Subject → List (Section × Statements) → List (List Requested) → Type 0
+AreRequests v [] [] = Unit {0}
+AreRequests v (p ∷ rest) (asked ∷ more) =
+    ((service : List ℕ) (section : Section) → saturated (requests_for asked service section) ≡ saturated (section_requests v p.0 service section))
+    × AreRequests v rest more
+AreRequests v [] (asked ∷ more) = ⊥
+AreRequests v (p ∷ rest) [] = ⊥
+
+-- how many of each are for a section of a service
+abbrev pub counts_for : List (List Requested) → List ℕ → Section → List ℕ
+counts_for [] service section = []
+counts_for (asked ∷ rest) service section = saturated (requests_for asked service section) ∷ counts_for rest service section
 
 -- the steps of each of these sections
 abbrev pub costs_of : List (Section × Statements) → List ℕ

@@ -1,0 +1,52 @@
+-- The requests of sections, counted all at once.
+use Rattle.std.proofs.Common.{◌≡◌, ◌<◌, ◌≤◌, ℕ, ◌+◌, List, [], ◌∷◌, ◌++◌, drop, length, get_or, refl, ap, sym, subst, ◌∙◌, append_assoc, append-nil}
+use Rattle.std.proofs.Math.ListN.{drop_of_length-le}
+use Rattle.std.proofs.lemmas.List.{drop_more}
+use Rattle.gq_model.specs.machine.Program.{Statements}
+use Rattle.gq_model.specs.declared.program.Section.{Section}
+use Rattle.gq_model.specs.rules.Kinds.{Subject}
+use Rattle.gq_model.specs.rules.Budgets.{section_requests}
+use Rattle.gq_verify.specs.Counting.{saturated}
+use Rattle.gq_verify.specs.Requested.{Requested, requests_for}
+use Rattle.gq_budget.specs.internal.Counted.{AreRequests, counts_for, requests_of}
+
+-- the numbers for a section of a service are the requests for it
+pub counts_are : (v : Subject) (service : List ℕ) (section : Section) (ps : List (Section × Statements)) (asked : List (List Requested)) →
+    AreRequests v ps asked → counts_for asked service section ≡ requests_of v service section ps
+counts_are v service section [] [] h = refl
+counts_are v service section (p ∷ rest) (asked ∷ more) h =
+    ap (λ (n : ℕ). n ∷ counts_for more service section) (h.0 service section)
+    ∙ ap (λ (l : List ℕ). saturated (section_requests v p.0 service section) ∷ l) (counts_are v service section rest more h.1)
+counts_are v service section [] (asked ∷ more) h = absurd h
+counts_are v service section (p ∷ rest) [] h = absurd h
+
+-- with those of the sections that are left they are those of all
+abbrev pub Leads : Subject → List (Section × Statements) → List (Section × Statements) → List (List Requested) → Type 0
+Leads v all left made = (more : List (List Requested)) → AreRequests v left more → AreRequests v all (made ++ more)
+
+-- with one more
+pub leads_on : (v : Subject) (items : List (Section × Statements)) (i : ℕ) (p : Section × Statements) (made made' : List (List Requested))
+    (asked : List Requested) → i < length items → p ≡ get_or items i p → made' ≡ made ++ asked ∷ [] →
+    ((service : List ℕ) (section : Section) → saturated (requests_for asked service section) ≡ saturated (section_requests v p.0 service section)) →
+    Leads v items (drop i items) made → Leads v items (drop (i + 1) items) made'
+leads_on v items i p made made' asked less at is here before more h =
+    let left : drop i items ≡ p ∷ drop (i + 1) items = drop_more items i p less ∙ ap (λ (p : Section × Statements). p ∷ drop (i + 1) items) (sym at) in
+    let all = before (asked ∷ more) (subst (λ (l : List (Section × Statements)). AreRequests v l (asked ∷ more)) (sym left) (here, h)) in
+    let same = ap (λ (l : List (List Requested)). l ++ more) is ∙ append_assoc made (asked ∷ []) more in
+    subst (λ (l : List (List Requested)). AreRequests v items l) (sym same) all
+
+pub leads_end : (v : Subject) (items : List (Section × Statements)) (i : ℕ) (made : List (List Requested)) → length items ≤ i →
+    Leads v items (drop i items) made → AreRequests v items made
+leads_end v items i made past h =
+    let none = drop_of_length-le items past in
+    let all = h [] (subst (λ (l : List (Section × Statements)). AreRequests v l []) (sym none) tt) in
+    subst (λ (l : List (List Requested)). AreRequests v items l) (append-nil made) all
+
+-- when all sections are gone through the numbers are the requests
+pub counts_end : (v : Subject) (service : List ℕ) (section : Section) (ps : List (Section × Statements)) (items asked : List (List Requested)) (i : ℕ)
+    (counts : List ℕ) → length items ≤ i → counts ++ counts_for (drop i items) service section ≡ counts_for items service section → items ≡ asked →
+    AreRequests v ps asked → counts ≡ requests_of v service section ps
+counts_end v service section ps items asked i counts past e same h =
+    let none = ap (λ (l : List (List Requested)). counts ++ counts_for l service section) (drop_of_length-le items past) in
+    let all = ap (λ (l : List (List Requested)). counts_for l service section) same in
+    sym (append-nil counts) ∙ (sym none ∙ (e ∙ (all ∙ counts_are v service section ps asked h)))
