@@ -2,6 +2,7 @@
 use Rattle.std.proofs.Common.{◌≡◌, ◌||◌, ◌==◌, ℕ, Bool, true, List, [], ◌∷◌, ◌++◌, codes, Option, Some, refl}
 use Rattle.std.specs.Fmt.{digits}
 use Rattle.std.specs.Prelude.{slice_get}
+use Rattle.gq_model.specs.declared.program.Instruction.TheVariants.{Out, Push}
 use Rattle.gq_model.specs.machine.Scenario.{Scenario, system}
 use Rattle.gq_model.specs.machine.World.{Slot, Waiting, leaf_slot}
 use Rattle.gq_model.specs.machine.Run.{run}
@@ -63,3 +64,21 @@ client_mixed = refl
 
 client_alone : (run (system pairs) (own_turns client mixed)).text ≡ []
 client_alone = refl
+
+-- nor is it so where the scenario is not accepted: a wrong step outside ends the run, and with it the lines of the group
+abbrev wrong_beside : Scenario
+wrong_beside =
+    served [] (leaves (leaf (codes "talker") 4096 (main_of (Push 7 ∷ Out ∷ [])) ∷ leaf (codes "wrong") 4096 (main_of (Out ∷ [])) ∷ []))
+
+abbrev talker : ℕ → Bool
+talker x = x == 0
+
+abbrev wrong_first : List (ℕ × ℕ)
+wrong_first = (0, 1) ∷ (1, 1) ∷ (0, 2) ∷ []
+
+talker_beside : own_lines (system wrong_beside) talker wrong_first ≡ []
+talker_beside = refl
+
+talker_alone : (run (system wrong_beside) (own_turns talker wrong_first)).text ≡ codes "[init -> talker] 7" ++ 10 ∷ []
+unfolding digits
+talker_alone = refl
