@@ -37,10 +37,10 @@ impl Machine {
         turn(&self.fixed, &mut self.state, leaf.index(), line)
     }
 
-    /// Turns of a leaf, tested, at most so many: up to the first that gives a line or is wrong. It tells what the last turn showed, or what is wrong with it,
-    /// and how many turns are left: none, where the last one gave no line and is not wrong. After it the line has the text that was given, without label and
-    /// line feed, and is empty where none was. Where a step is wrong, it changes nothing. Turns of a leaf that can't run are passed over at once, whatever
-    /// their number. It takes no host memory.
+    /// Turns of a leaf, tested, at most so many: up to the first that gives a line or is wrong. It tells `Line` where the last of them gave one, what is wrong
+    /// with it where it is wrong, and else any other event, which says no more than that none of them gave a line; and how many turns are left: none, where the
+    /// last one gave no line and is not wrong. After it the line has the text that was given, without label and line feed, and is empty where none was. Where a
+    /// step is wrong, it changes nothing. Turns of a leaf that can't run are passed over at once, whatever their number. It takes no host memory.
     pub fn turns_tested(
         &mut self,
         leaf: LeafNo,
