@@ -161,6 +161,7 @@ fn end(fixed: &Fixed, state: &mut State, number: usize) -> Result<Event, Wrong>
 }
 
 // A step of a leaf in which others have a part.
+#[inline(never)]
 pub(crate) fn shared(
     fixed: &Fixed,
     state: &mut State,

@@ -1,5 +1,5 @@
 // Statements that read and write bytes.
-ghost use Rattle.std.specs.Prelude.{◌≡◌, ◌+◌, ◌≤◌, ◌∷◌, List, ℕ, nat_le, slice_range, IfSome, IsTrue, OnErr};
+ghost use Rattle.std.specs.Prelude.{◌≡◌, ◌+◌, ◌≤◌, ◌∷◌, List, ℕ, nat_le, slice_range, IfSome, IsTrue, OnErr, Some};
 ghost use Rattle.gq_model.specs.machine.Doing.{Doing, standing, with_operands};
 ghost use Rattle.gq_model.specs.machine.Memory as memory;
 ghost use Rattle.gq_model.specs.texts.Operands.{is_slot_or_object};
@@ -52,11 +52,65 @@ impl Actor {
         Some((spot, count))
     }
 
+    // The leaf's own slot that a statement names, and how many bytes it has; `None` where the statement names another slot, or one without bytes of its own.
+    #[inline(always)]
+    fn own_bytes(self, slots: &Slots, place: Place) -> Option<(Spot, u64)>
+        requires place { IsTrue (is_slot_or_object place) }
+        requires live { IsLive slots.now.trades self.leaf }
+        requires hand { IsAtHand slots.now self.leaf self.hand }
+        ensures there { IfSome result (λ f. IsSpot slots.now f.0) }
+        ensures own { IfSome result (λ f. holder slots.now f.0 ≡ self.leaf) }
+        ensures size { IfSome result (λ f. f.1 ≡ size_of (thing_at slots.now f.0)) }
+        ensures found { IfSome result (λ o. (f : Frame) (d : Doing) (bs : List ℕ) → IsBy d self → AreBuffers d.system f slots.now bs
+            → IsFound d (world_seen f slots.now) place slots.now (Some o)) }
+    {
+        slots.laws();
+        match place {
+            Place::Own(slot) => {
+                let spot = Spot::InLeaf(self.leaf, slot);
+                let count = byte_count(slots.thing(spot))?;
+                Some((spot, count))
+            }
+            Place::Shared(_) | Place::Object => None,
+        }
+    }
+
     /// Reads a byte or a word, from an index of the bytes in a slot on, the least byte first.
     ///
     /// `WrongKind` where the slot is not there or holds no bytes, and no buffer that it leads to does; else `UnmappedByte` where not all that is read
     /// is among them. Nothing changes.
+    #[inline(always)]
     pub fn load(
+        self,
+        addresses: &Addresses,
+        slots: &mut Slots,
+        width: Width,
+        place: Place,
+        index: u32,
+    ) -> Result<u32, Wrong>
+        requires place { IsTrue (is_slot_or_object place) }
+        requires live { IsLive slots.old.trades self.leaf }
+        requires paid { IsPaidBy slots.old self.leaf }
+        requires hand { IsAtHand slots.old self.leaf self.hand }
+        requires linked { AreLinked slots.old }
+        ensures step { (f : Frame) (d : Doing) (rest : List ℕ) → IsBy d self → AreBuffers d.system f slots.old addresses.now → d.world ≡ world_seen f slots.old
+            → d.leaf.operands ≡ index ∷ rest → memory.load d width place ≡ read d rest result }
+        ensures same { slots.new ≡ slots.old }
+    {
+        match self.own_bytes(slots, place) {
+            None => self.load_elsewhere(addresses, slots, width, place, index),
+            Some((spot, count)) => {
+                if !is_inside(width, index, count) {
+                    return Err(Wrong::UnmappedByte);
+                }
+                Ok(read_number(slots, spot, width, index))
+            }
+        }
+    }
+
+    // Reads a byte or a word wherever it stands, in memory of the leaf or of the server of a session.
+    #[inline(never)]
+    fn load_elsewhere(
         self,
         addresses: &Addresses,
         slots: &mut Slots,
@@ -88,7 +142,42 @@ impl Actor {
 
     /// Writes a byte of a number, or all four as a word, to an index of the bytes in a slot, the least byte first. Wrong as in `load`; then nothing
     /// changes.
+    #[inline(always)]
     pub fn store(
+        self,
+        addresses: &Addresses,
+        slots: &mut Slots,
+        width: Width,
+        place: Place,
+        index: u32,
+        value: u32,
+    ) -> Result<(), Wrong>
+        requires place { IsTrue (is_slot_or_object place) }
+        requires live { IsLive slots.old.trades self.leaf }
+        requires paid { IsPaidBy slots.old self.leaf }
+        requires hand { IsAtHand slots.old self.leaf self.hand }
+        requires linked { AreLinked slots.old }
+        ensures step { (f : Frame) (d : Doing) (rest : List ℕ) → IsBy d self → AreBuffers d.system f slots.old addresses.now
+            → standing d (with_operands d rest) ≡ world_seen f slots.old → d.leaf.operands ≡ value ∷ index ∷ rest
+            → memory.store d width place ≡ done result (world_seen f slots.new) }
+        ensures beside { SameBeside slots.old slots.new }
+        ensures unchanged { OnErr result (slots.new ≡ slots.old) }
+    {
+        match self.own_bytes(slots, place) {
+            None => self.store_elsewhere(addresses, slots, width, place, index, value),
+            Some((spot, count)) => {
+                if !is_inside(width, index, count) {
+                    return Err(Wrong::UnmappedByte);
+                }
+                write_number(slots, spot, width, index, value);
+                Ok(())
+            }
+        }
+    }
+
+    // Writes a byte or a word wherever it stands, in memory of the leaf or of the server of a session.
+    #[inline(never)]
+    fn store_elsewhere(
         self,
         addresses: &Addresses,
         slots: &mut Slots,
@@ -123,6 +212,7 @@ impl Actor {
 }
 
 // Whether the bytes of a width from an index on are among so many.
+#[inline(always)]
 fn is_inside(width: Width, index: u32, count: u64) -> bool
     ensures { result ≡ nat_le (index + bytes_of width) count }
 {
@@ -134,6 +224,7 @@ fn is_inside(width: Width, index: u32, count: u64) -> bool
 }
 
 // Reads a byte or a word of a slot.
+#[inline(always)]
 fn read_number(slots: &Slots, spot: Spot, width: Width, index: u32) -> u32
     requires there { IsSpot slots.now spot }
     requires paid { IsPaidBy slots.now (holder slots.now spot) }
@@ -147,6 +238,7 @@ fn read_number(slots: &Slots, spot: Spot, width: Width, index: u32) -> u32
 }
 
 // Writes a byte or a word of a slot.
+#[inline(always)]
 fn write_number(slots: &mut Slots, spot: Spot, width: Width, index: u32, value: u32)
     requires there { IsSpot slots.old spot }
     requires paid { IsPaidBy slots.old (holder slots.old spot) }

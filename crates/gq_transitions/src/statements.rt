@@ -5,7 +5,7 @@ ghost use Rattle.gq_paid.specs.Systems.{AreLawful};
 ghost use Rattle.gq_flat.specs.declared.operation.Operation.TheVariants as operation;
 ghost use Rattle.gq_steps.specs.Statements.{is_on_memory};
 ghost use Rattle.gq_steps.specs.Steps.{shows};
-ghost use Rattle.gq_transitions.specs.internal.Holds.{CanStep, Goes, Holds, IsLong, IsNext, Provides};
+ghost use Rattle.gq_transitions.specs.internal.Holds.{ActsOn, CanStep, Goes, Holds, IsLong, IsNext, Provides};
 ghost use Rattle.gq_model.specs.declared.program.Instruction.TheVariants as instruction;
 
 use crate::state::{Fixed, State};
@@ -24,6 +24,7 @@ pub fn lawful(slots: &Slots)
 }
 
 // Does a statement on memory.
+#[inline(always)]
 pub fn memory(
     fixed: &Fixed,
     state: &mut State,
@@ -35,6 +36,7 @@ pub fn memory(
     requires memory { IsTrue (is_on_memory operation) }
     ensures step { Goes fixed.now number state.old state.new (done result) }
     ensures holds { OnOk result (Holds fixed.now state.new) }
+    ensures acts { OnOk result (ActsOn state.old state.new number) }
     ensures leaves { OnErr result (state.new.leaves.items ≡ state.old.leaves.items) }
     ensures slots { OnErr result (state.new.slots ≡ state.old.slots) }
 {

@@ -67,6 +67,13 @@ pub record IsNext (m : State) (x : ℕ) (does : Operation) : Type 0 where
   pub active : OfLeaf (λ l. Active l.state.phase) (slice_get m.leaves.items x)
   pub next : OfLeaf (λ l. operation_of l ≡ Some does) (slice_get m.leaves.items x)
 
+-- after a step the leaf takes steps of its own as before, of which one more is counted, and it still pays
+pub record ActsOn (old new : State) (x : ℕ) : Type 0 where
+  pub paid : IsPaidBy new.slots x
+  pub active : OfLeaf (λ l. Active l.state.phase) (slice_get new.leaves.items x)
+  pub counted : (n : ℕ) → OfLeaf (λ l. l.state.steps + (n + 1) < 2 ^ 64) (slice_get old.leaves.items x)
+      → OfLeaf (λ l. l.state.steps + n < 2 ^ 64) (slice_get new.leaves.items x)
+
 -- the next step of the leaf x leads from one state to the other
 abbrev pub Goes : Fixed → ℕ → State → State → (world.World → Stepped) → Type 0
 Goes f x old new shown =

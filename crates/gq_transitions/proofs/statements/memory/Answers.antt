@@ -1,20 +1,33 @@
 -- A statement on memory.
-use Rattle.std.proofs.Common.{◌≡◌, refl, sym, ap, subst, ◌∙◌}
-use Rattle.std.specs.Prelude.{OnOk, Result, slice_get, slice_set}
+use Rattle.std.proofs.Common.{◌≡◌, ◌+◌, ◌<◌, ◌^◌, ℕ, suc, Some, refl, sym, ap, subst, ◌∙◌, arith}
+use Rattle.std.specs.Prelude.{OnOk, Result, get_or, slice_get, slice_set}
 use Rattle.gq_model.specs.declared.fault.Wrong.{Wrong}
 use Rattle.gq_statements.specs.Statements.{done}
 use Rattle.gq_model.specs.machine.Scenario.{system}
 use Rattle.gq_model.specs.machine.Doing.{Quiet}
 use Rattle.gq_flat.specs.Nexts.{Active}
+use Rattle.gq_laws.proofs.linking.Worlds.{set_here}
 use Rattle.gq_paid.specs.Systems.{stage_in}
 use Rattle.gq_steps.specs.Coded.{Coded, IsStanding}
 use Rattle.gq_steps.specs.Steps.{on}
+use Rattle.gq_sessions.specs.Trading.{account_no, node_of}
+use Rattle.gq_donations.specs.Trees.{number}
+use Rattle.gq_slots.specs.Slots.{IsPaidBy, Slots}
+use Rattle.gq_slots.specs.Calls.{SameBeside}
 use Rattle.gq_transitions.specs.Worlds.{frame_of, world_of}
+use Rattle.gq_transitions.specs.internal.Holds.{OfLeaf}
 use Rattle.gq_transitions.proofs.Frames.{elsewhere, leaf_set}
 use Rattle.gq_transitions.proofs.Kept.{kept_one}
 use Rattle.gq_transitions.proofs.Standing.{at_hand, item_there, links, of_leaf, on_ok, standing}
 use Rattle.gq_transitions.proofs.Scenes.{scene_beside}
 use Rattle.gq_transitions.proofs.statements.memory.Goals as goal
+
+-- who paid pays
+still_pays : (s t : Slots) (x : ℕ) → SameBeside s t → IsPaidBy s x → IsPaidBy t x
+still_pays s t x b paid =
+    let a = b.accounts in
+    let node : node_of t.trades.trading x ≡ node_of s.trades.trading x = ap (λ ns. get_or ns x 0) a.leaves in
+    a.payer ∙ paid ∙ sym (λ i. record { 0 = number (a.tree i) (node i) })
 
 pub memory-done-requires-clause-hand : goal.memory-done-requires-clause-hand
 memory-done-requires-clause-hand c =
@@ -55,3 +68,24 @@ returns-clause-holds c = on_ok c.memory-done.result _ (λ e.
     (ap (λ (l : Coded). l.code) to) (ap (λ (l : Coded). stage_in l.state.phase) to)
     (scene_beside m.slots c.memory-done.new.slots c.memory-done.ensures.beside)
     (returns-clause-step c ∙ ap (λ r. done r (world_of f.table (slice_set m.leaves.items x new) c.memory-done.new.slots)) e))
+
+pub returns-clause-acts : goal.returns-clause-acts
+returns-clause-acts c = on_ok c.memory-done.result _ (λ e.
+    let can = c.requires.can in
+    let ls = c.args.state.now.leaves.items in
+    let x = c.args.number in
+    let old = c.index_mut-leaf.result.now in
+    let new = c.memory-done.new.self in
+    let there = item_there ls x can.leaf old can.leaf_is c.index_mut-leaf.ensures.value in
+    let to : new ≡ on old new.state.registers.operands = subst (λ (r : Result (Unit {0}) Wrong). OnOk r (new ≡ on old new.state.registers.operands)) e
+    c.memory-done.ensures.stays in
+    let new_there : slice_get (slice_set ls x new) x ≡ Some new = set_here ls x new old there in
+    let steps : new.state.steps ≡ suc old.state.steps = ap (λ (l : Coded). l.state.steps) to in
+    record {
+      paid = still_pays c.args.state.now.slots c.memory-done.new.slots x c.memory-done.ensures.beside can.paid;
+      active = subst (OfLeaf (λ (l : Coded). Active l.state.phase)) (sym new_there) (subst Active (sym (ap (λ (l : Coded). l.state.phase) to))
+          (of_leaf (λ l. Active l.state.phase) (slice_get ls x) old there c.requires.next.active));
+      counted = λ n h.
+          let less = of_leaf (λ l. l.state.steps + (n + 1) < 2 ^ 64) (slice_get ls x) old there h in
+          subst (OfLeaf (λ (l : Coded). l.state.steps + n < 2 ^ 64)) (sym new_there) (omega (arith, less, steps));
+    })
