@@ -1,4 +1,5 @@
-// Statements by the shape of their operands. Each function takes what follows the statement's word on its line.
+// Statements by the shape of their operands. Each function takes what follows the statement's word on its line. Those that are inlined don't
+// pass a whole statement, with room for a text, to their caller.
 ghost use Rattle.std.specs.Prelude.{◌≡◌};
 ghost use Rattle.gq_model.specs.texts.Letters.{words};
 ghost use Rattle.gq_model.specs.texts.Spelling.{instruction_in};
@@ -11,7 +12,8 @@ use gq_model::program::Instruction;
 use gq_program::spelling::{Bare, Shape, WithAmount, WithBytes, WithNumber, WithSlot};
 
 /// Without operands.
-fn plain(statement: Bare, after: &[u8]) -> Result<Instruction, TextFault>
+#[inline(always)]
+pub fn plain(statement: Bare, after: &[u8]) -> Result<Instruction, TextFault>
     ensures { result ≡ instruction_in after.now (shape_of (Shape.Plain statement)) (words after.now) }
 {
     at_end(after)?;
@@ -19,7 +21,8 @@ fn plain(statement: Bare, after: &[u8]) -> Result<Instruction, TextFault>
 }
 
 /// With a number.
-fn with_number(statement: WithNumber, after: &[u8]) -> Result<Instruction, TextFault>
+#[inline(always)]
+pub fn with_number(statement: WithNumber, after: &[u8]) -> Result<Instruction, TextFault>
     ensures { result ≡ instruction_in after.now (shape_of (Shape.Number statement)) (words after.now) }
 {
     let (number, rest) = next_number(after, statement.low(), statement.high())?;
@@ -28,7 +31,8 @@ fn with_number(statement: WithNumber, after: &[u8]) -> Result<Instruction, TextF
 }
 
 /// With a slot.
-fn with_slot(statement: WithSlot, after: &[u8]) -> Result<Instruction, TextFault>
+#[inline(always)]
+pub fn with_slot(statement: WithSlot, after: &[u8]) -> Result<Instruction, TextFault>
     ensures { result ≡ instruction_in after.now (shape_of (Shape.Slot statement)) (words after.now) }
 {
     let (place, rest) = next_slot(after)?;
@@ -37,7 +41,8 @@ fn with_slot(statement: WithSlot, after: &[u8]) -> Result<Instruction, TextFault
 }
 
 /// With a slot, or the object, whose bytes are meant.
-fn with_bytes(statement: WithBytes, after: &[u8]) -> Result<Instruction, TextFault>
+#[inline(always)]
+pub fn with_bytes(statement: WithBytes, after: &[u8]) -> Result<Instruction, TextFault>
     ensures { result ≡ instruction_in after.now (shape_of (Shape.Bytes statement)) (words after.now) }
 {
     let (place, rest) = next_slot_or_object(after)?;
@@ -46,7 +51,8 @@ fn with_bytes(statement: WithBytes, after: &[u8]) -> Result<Instruction, TextFau
 }
 
 /// With a slot and a number.
-fn with_amount(statement: WithAmount, after: &[u8]) -> Result<Instruction, TextFault>
+#[inline(always)]
+pub fn with_amount(statement: WithAmount, after: &[u8]) -> Result<Instruction, TextFault>
     ensures { result ≡ instruction_in after.now (shape_of (Shape.Amount statement)) (words after.now) }
 {
     let (place, rest) = next_slot(after)?;

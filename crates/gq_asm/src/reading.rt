@@ -87,6 +87,7 @@ impl Reading {
     }
 
     /// Puts a statement at the end of the innermost block.
+    #[inline(always)]
     pub fn add(&mut self, statement: Statement) -> Result<(), LineError>
         ensures { Gives (λ _. reading_of self.new) result (Ok (with_added (tree_of (statement ∷ [])) (reading_of self.old))) }
     {

@@ -4,16 +4,18 @@ ghost use Rattle.gq_model.specs.texts.Letters.{words};
 ghost use Rattle.gq_model.specs.texts.Spelling.{spellings, shape_of_word, found, instruction_in};
 ghost use Rattle.gq_model.specs.declared.fault.TextFault.TheVariants.{UnknownWord};
 ghost use Rattle.gq_model.specs.texts.Text.{First_arm, Loop_body, at_end, numbered, opening, counted, nested, put, statement};
+ghost use Rattle.gq_program.specs.Spelling.{shape_of};
 ghost use Rattle.gq_asm.specs.internal.State.{Gives, reading_of};
 
 use crate::faults::LineError;
-use crate::instructions::instruction;
+use crate::instructions::{instruction, plain, with_amount, with_bytes, with_number, with_slot};
 use crate::operands::{at_end, next_number};
 use crate::reading::{BlockKind, Reading};
 use crate::shapes::shape_with;
 use gq_model::fault::TextFault;
+use gq_model::program::Instruction;
 use gq_program::Statement;
-use gq_program::spelling::same_text;
+use gq_program::spelling::{Shape, same_text};
 use std::alloc::Global;
 
 impl Reading {
@@ -39,8 +41,40 @@ impl Reading {
         self.open(alloc, BlockKind::Loop(count as u16), line)
     }
 
+    /// Puts the statement that was read at the end of the innermost block.
+    #[inline(always)]
+    fn put(&mut self, read: Result<Instruction, TextFault>) -> Result<(), LineError>
+        ensures { Gives (λ _. reading_of self.new) result (put (reading_of self.old) read) }
+    {
+        let instruction = read?;
+        self.add(Statement::Plain(instruction))
+    }
+
+    /// Reads the operands of a statement, and puts it at the end of the innermost block. It stands alone, so that only a text pays for its
+    /// room.
+    #[inline(never)]
+    fn put_long(&mut self, shape: Shape, after: &[u8]) -> Result<(), LineError>
+        ensures { Gives (λ _. reading_of self.new) result (put (reading_of self.old) (instruction_in after.now (shape_of shape) (words after.now))) }
+    {
+        self.put(instruction(shape, after))
+    }
+
+    /// The same, with a way of its own for each shape without a text.
+    fn put_shape(&mut self, shape: Shape, after: &[u8]) -> Result<(), LineError>
+        ensures { Gives (λ _. reading_of self.new) result (put (reading_of self.old) (instruction_in after.now (shape_of shape) (words after.now))) }
+    {
+        match shape {
+            Shape::Plain(statement) => self.put(plain(statement, after)),
+            Shape::Number(statement) => self.put(with_number(statement, after)),
+            Shape::Slot(statement) => self.put(with_slot(statement, after)),
+            Shape::Bytes(statement) => self.put(with_bytes(statement, after)),
+            Shape::Amount(statement) => self.put(with_amount(statement, after)),
+            Shape::Say | Shape::Pool | Shape::Open => self.put_long(shape, after),
+        }
+    }
+
     /// A statement of the table.
-    fn plain(&mut self, word: &[u8], after: &[u8]) -> Result<(), LineError>
+    fn tabled(&mut self, word: &[u8], after: &[u8]) -> Result<(), LineError>
         ensures { Gives (λ _. reading_of self.new) result
             (found (shape_of_word word.now spellings) UnknownWord
             (λ shape. counted (reading_of self.old) (λ s. put s (instruction_in after.now shape (words after.now))))) }
@@ -49,8 +83,7 @@ impl Reading {
             return Err(LineError::Fault(TextFault::UnknownWord));
         };
         self.count_statement()?;
-        let statement = instruction(shape, after)?;
-        self.add(Statement::Plain(statement))
+        self.put_shape(shape, after)
     }
 
     /// A line in a section: its first word, and what follows that.
@@ -75,6 +108,6 @@ impl Reading {
         if same_text(word, b"loop") {
             return self.open_loop(alloc, line, after);
         }
-        self.plain(word, after)
+        self.tabled(word, after)
     }
 }

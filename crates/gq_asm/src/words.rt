@@ -45,7 +45,7 @@ fn split_word(text: &[u8]) -> (&[u8], &[u8])
             return text.split_at(i);
         }
     }
-    (text, &[])
+    text.split_at(text.len())
 }
 
 /// The first word of a text and what follows it, if there is one.

@@ -6,19 +6,23 @@ ghost use Rattle.gq_budget.specs.Budgets.{budgets_of};
 ghost use Rattle.gq_budget.specs.internal.Counted.{budgets_by};
 
 use crate::asks::all_asks;
-use crate::counted::counted;
+use crate::counted::{CountedLeaf, counted};
 use crate::leaf::Leaf;
 use crate::numbers::Numbers;
 use crate::rounds::rounds;
 use std::alloc::{AllocError, Global};
 
 // What the sections of each of these leaves cost, where they run so often.
-fn budgets(alloc: Global, leaves: &[Leaf<'_>], often: &[Numbers]) -> Result<Vec<u64>, AllocError>
+fn budgets(
+    alloc: Global,
+    leaves: &[CountedLeaf<'_, '_>],
+    often: &[Numbers],
+) -> Result<Vec<u64>, AllocError>
     ensures { IfOk result (λ steps. steps.items ≡ budgets_by leaves.now often.now) }
 {
     let mut steps = Vec::new(alloc);
     for (leaf, often) in leaves.iter().zip(often) {
-        let costs = leaf.costs(alloc)?;
+        let costs = leaf.costs();
         steps.push(costs.products(often))?;
     }
     Ok(steps)
@@ -37,6 +41,6 @@ pub fn step_budgets(
     let counted = counted(alloc, leaves)?;
     let asks = all_asks(alloc, &counted, leads)?;
     let often = rounds(alloc, &asks, leaves.len())?;
-    let steps = budgets(alloc, leaves, &often)?;
+    let steps = budgets(alloc, &counted, &often)?;
     Ok(steps)
 }

@@ -2,7 +2,7 @@
 ghost use Rattle.std.specs.Prelude.{◌≡◌, IfOk, IsTrue, option_copied};
 ghost use Rattle.gq_model.specs.machine.Lists.{all_of};
 ghost use Rattle.gq_model.specs.texts.Code.{is_section};
-ghost use Rattle.gq_budget.specs.internal.Counted.{AreRequests, requests_of};
+ghost use Rattle.gq_budget.specs.internal.Counted.{AreRequests, requests_of, costs_of};
 
 use crate::leaf::Leaf;
 use crate::numbers::Numbers;
@@ -11,18 +11,20 @@ use gq_verify::Requests;
 use std::alloc::{AllocError, Global};
 use std::marker::Model;
 
-/// A leaf, with how often each of its sections asks for the sections of services.
+/// A leaf, with how often each of its sections asks for the sections of services, and the greatest number of steps of each.
 #[derive(Drop)]
 pub(crate) struct CountedLeaf<'a, 'b> {
     leaf: &'a Leaf<'b>,
     requests: Vec<Requests>,
+    costs: Numbers,
 }
 
 impl<'a, 'b> Model for CountedLeaf<'a, 'b> {
     ghost use Rattle.gq_model.specs.internal.Stored.{statements_code};
     ghost use Rattle.std.specs.Coded.{codes};
     ghost use Rattle.gq_budget.specs.Leaves.{Leaf};
-    ghost use Rattle.gq_budget.specs.internal.Counted.{AreRequests};
+    ghost use Rattle.std.specs.Prelude.{◌≡◌};
+    ghost use Rattle.gq_budget.specs.internal.Counted.{AreRequests, costs_of};
 
     ghost Value = { Leaf };
 
@@ -30,16 +32,22 @@ impl<'a, 'b> Model for CountedLeaf<'a, 'b> {
 
     ghost view = { λ l. l.leaf.now };
 
-    ghost invariant = { λ l. AreRequests l.leaf.now.subject l.leaf.now.subject.program.sections l.requests.items };
+    ghost invariant = { λ l. AreRequests l.leaf.now.subject l.leaf.now.subject.program.sections l.requests.items
+        × (l.costs ≡ costs_of l.leaf.now.subject.program.sections) };
 }
 
 impl<'a, 'b> CountedLeaf<'a, 'b> {
-    /// A leaf, its sections walked through once.
+    /// A leaf, its sections walked through for requests and at once for steps, while they are at hand.
     fn new(alloc: Global, leaf: &'a Leaf<'b>) -> Result<CountedLeaf<'a, 'b>, AllocError>
         ensures { IfOk result (λ l. l ≡ leaf.now) }
     {
         let requests = leaf.requests(alloc)?;
-        Ok(CountedLeaf { leaf, requests })
+        let costs = leaf.costs(alloc)?;
+        Ok(CountedLeaf {
+            leaf,
+            requests,
+            costs,
+        })
     }
 
     /// The service that it provides.
@@ -57,6 +65,13 @@ impl<'a, 'b> CountedLeaf<'a, 'b> {
     {
         let leaf = self.leaf;
         leaf.sections()
+    }
+
+    /// The greatest number of steps of each of its sections.
+    pub fn costs(&self) -> &Numbers
+        ensures { result.now ≡ costs_of self.now.subject.program.sections }
+    {
+        &self.costs
     }
 
     /// How often each of its sections asks for a section of a service; 2^64 - 1 where it is more often.

@@ -12,7 +12,8 @@ use Rattle.gq_model.specs.texts.Code.{greatest_statements}
 use Rattle.gq_model.specs.texts.Spelling.{Shape, Made, Number, Slot, Service, Said, spellings, shape_of_opcode}
 use Rattle.gq_model.specs.texts.Decode.{Decoded, decoded_then, first_onto, cut, number_at, checked, place_of, found, text_at, operands_at, Body}
 use Rattle.gq_model.specs.texts.Decode.{one_more, one_deeper, plain, body_at}
-use Rattle.gq_code.specs.internal.Bodies.{body_in, opened_at, arms_at, round_at, plain_at, choice_with, round_with, statement_with, continued, Fails}
+use Rattle.gq_code.specs.internal.Bodies.{body_in, opened_at, arms_at, round_at, plain_at, choice_with, round_with, statement_with, instruction_at}
+use Rattle.gq_code.specs.internal.Bodies.{continued, put_at, placed, One, Fails}
 use Rattle.gq_code.specs.declared.decode.DecodeError.{DecodeError}
 use Rattle.gq_code.specs.declared.decode.DecodeError.TheVariants.{Memory, Fault}
 use Rattle.gq_code.proofs.Decoding.{front}
@@ -294,6 +295,76 @@ loop_turn made s pushed n k m left after all h inv e p =
     ap (λ t. continued t (body_in n m after)) p
     ∙ (body_turn made n k (get_or left 0 0) m (take (length left - 1) (drop 1 left)) after s e
     ∙ (ap (λ l. continued made (body_in n k l)) (sym (front left h)) ∙ inv))
+
+placed_same : (made pushed s : Statements) (k m : ℕ) (rest after : List ℕ) → placed made (Ok (s, (k, rest))) ≡ Ok (pushed, (m, after)) →
+    ◌≡◌ {A = Decoded One} (Ok (s, (k, rest))) (Ok (s, (m, after)))
+placed_same made pushed s k m rest after p = let e : ◌≡◌ {A = One} (made then s, (k, rest)) (pushed, (m, after)) = cc in ap (λ q. Ok (s, q.1)) e
+
+placed_then : (made pushed s : Statements) (k m : ℕ) (rest after : List ℕ) → placed made (Ok (s, (k, rest))) ≡ Ok (pushed, (m, after)) →
+    pushed ≡ made then s
+placed_then made pushed s k m rest after p = let e : ◌≡◌ {A = One} (made then s, (k, rest)) (pushed, (m, after)) = cc in sym (ap (λ q. q.0) e)
+
+loop_one : (made pushed : Statements) (n k m : ℕ) (left after : List ℕ) (all : Decoded Body) (one : Decoded One) → 1 ≤ length left →
+    continued made (body_in n k left) ≡ all → statement_with body_in (get_or left 0 0) n k (take (length left - 1) (drop 1 left)) ≡ one →
+    placed made one ≡ Ok (pushed, (m, after)) → continued pushed (body_in n m after) ≡ all
+loop_one made pushed n k m left after all (Ok (s, (count, rest))) h inv e p =
+    loop_turn made s pushed n k m left after all h inv (e ∙ placed_same made pushed s count m rest after p) (placed_then made pushed s count m rest after p)
+loop_one made pushed n k m left after all (Err fault) h inv e p = cc
+
+pub loop_placed : (made pushed : Statements) (n k m : ℕ) (left after : List ℕ) (all : Decoded Body) → 1 ≤ length left →
+    continued made (body_in n k left) ≡ all →
+    placed made (statement_with body_in (get_or left 0 0) n k (take (length left - 1) (drop 1 left))) ≡ Ok (pushed, (m, after)) →
+    continued pushed (body_in n m after) ≡ all
+loop_placed made pushed n k m left after all h inv p = loop_one made pushed n k m left after all _ h inv refl p
+
+-- no statement at the end of others: it has a fault
+pub placed_stop : (e : DecodeError) (made : Statements) (one : Decoded One) → Fails e (placed made one) → Fails e one
+placed_stop (Memory error) made one h = tt
+placed_stop (Fault fault) made (Ok s) h = cc
+placed_stop (Fault fault) made (Err f) h = h
+
+-- A STATEMENT WITH NO STATEMENT IN IT, AT THE END OF OTHERS
+
+counted_on : {A : Type 0} (b : Bool) (k m : ℕ) (go : ℕ → Decoded A) → ◌≡◌ {A = Decoded ℕ} (if b then Ok k else Err TooLong) (Ok m) →
+    (if b then go k else Err TooLong) ≡ go m
+counted_on true k m go e = let p : k ≡ m = cc in ap go p
+counted_on false k m go e = cc
+
+plain_counted : (o : Option Shape) (shape : Shape) (k m : ℕ) (bytes : List ℕ) → Some shape ≡ o → one_more k (λ m. Ok m) ≡ Ok m →
+    plain_at o k bytes ≡ decoded_then (operands_at shape bytes) (λ p. Ok (p.0, (m, p.1)))
+plain_counted o shape k m bytes e c =
+    ap (λ o. plain_at o k bytes) (sym e)
+    ∙ counted_on (nat_lt k greatest_statements) (suc k) m (λ m. decoded_then (operands_at shape bytes) (λ p. Ok (p.0, (m, p.1)))) c
+
+-- what was read, at the end of others
+abbrev Placed : Statements → ℕ → Decoded (Instruction × List ℕ) → Decoded One
+Placed made m read = placed made (decoded_then (decoded_then {B = Instruction × (ℕ × List ℕ)} read (λ p. Ok (p.0, (m, p.1)))) (λ p. Ok (Do p.0 Done, p.1)))
+
+placed_ok : (made pushed : Statements) (m : ℕ) (read : Decoded (Instruction × List ℕ)) (rest : List ℕ) → put_at made read ≡ Ok (pushed, rest) →
+    Placed made m read ≡ Ok (pushed, (m, rest))
+placed_ok made pushed m (Ok (i, bytes)) rest e =
+    let p : ◌≡◌ {A = Statements × List ℕ} (made then Do i Done, bytes) (pushed, rest) = cc in
+    ap (λ q. Ok (q.0, (m, q.1))) p
+placed_ok made pushed m (Err fault) rest e = cc
+
+placed_err : (made : Statements) (m : ℕ) (read : Decoded (Instruction × List ℕ)) (fault : CodeFault) → put_at made read ≡ Err fault →
+    Placed made m read ≡ Err fault
+placed_err made m (Ok (i, bytes)) fault e = cc
+placed_err made m (Err f) fault e = cc
+
+pub coded_ok : (made pushed : Statements) (op : ℕ) (shape : Shape) (k m : ℕ) (bytes rest : List ℕ) → Some shape ≡ shape_of_opcode op spellings →
+    one_more k (λ m. Ok m) ≡ Ok m → put_at made (operands_at shape bytes) ≡ Ok (pushed, rest) →
+    placed made (instruction_at op k bytes) ≡ Ok (pushed, (m, rest))
+coded_ok made pushed op shape k m bytes rest e c p =
+    ap (λ d. placed made (decoded_then d (λ p. Ok (Do p.0 Done, p.1)))) (plain_counted (shape_of_opcode op spellings) shape k m bytes e c)
+    ∙ placed_ok made pushed m (operands_at shape bytes) rest p
+
+pub coded_err : (error : DecodeError) (made : Statements) (op : ℕ) (shape : Shape) (k m : ℕ) (bytes : List ℕ) → Some shape ≡ shape_of_opcode op spellings →
+    one_more k (λ m. Ok m) ≡ Ok m → Fails error (put_at made (operands_at shape bytes)) → Fails error (placed made (instruction_at op k bytes))
+coded_err (Memory error) made op shape k m bytes e c p = tt
+coded_err (Fault fault) made op shape k m bytes e c p =
+    ap (λ d. placed made (decoded_then d (λ p. Ok (Do p.0 Done, p.1)))) (plain_counted (shape_of_opcode op spellings) shape k m bytes e c)
+    ∙ placed_err made m (operands_at shape bytes) fault p
 
 -- a statement that has a fault
 body_stop : (made : Statements) (n k op : ℕ) (bytes : List ℕ) (fault : CodeFault) → statement_with body_in op n k bytes ≡ Err fault →

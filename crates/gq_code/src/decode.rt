@@ -1,20 +1,23 @@
 // The program that bytes spell.
-ghost use Rattle.std.specs.Prelude.{◌≡◌, ◌≤◌, ◌∷◌, [], IfOk, Ok, alloc_error, length};
-ghost use Rattle.gq_model.specs.texts.Decode.{one_more, limits_at, sections_at, decoded};
-ghost use Rattle.gq_model.specs.texts.Spelling.{spellings, shape_of_opcode};
+ghost use Rattle.std.specs.Prelude.{◌≡◌, ◌≤◌, ◌∷◌, [], IfOk, OnOk, Ok, alloc_error, length};
+ghost use Rattle.gq_model.specs.machine.Program.{Do, Done, ◌then◌};
+ghost use Rattle.gq_model.specs.texts.Decode.{one_more, limits_at, sections_at, operands_at, decoded};
+ghost use Rattle.gq_program.specs.Spelling.{shape_of};
 ghost use Rattle.gq_program.specs.Trees.{tree_of};
 ghost use Rattle.gq_code.specs.internal.Decoding.{Answers, limit_at};
-ghost use Rattle.gq_code.specs.internal.Bodies.{Reads, body_in, opened_at, arms_at, round_at, plain_at, choice_with, round_with, statement_with, section_at};
+ghost use Rattle.gq_code.specs.internal.Bodies.{Reads, body_in, opened_at, arms_at, round_at, choice_with, round_with, statement_with};
+ghost use Rattle.gq_code.specs.internal.Bodies.{instruction_at, put_at, placed, section_at};
 ghost use Rattle.gq_code.specs.Decoded.{IsDecoded};
 ghost use Rattle.gq_code.specs.declared.decode.DecodeError.TheVariants.{Memory, Fault};
 
-use crate::operands::{cut, number, operands};
+use crate::opcodes::shape_with;
+use crate::operands::{cut, number, operands, with_amount, with_bytes, with_number, with_slot};
 use crate::program_code::NO_LIMIT;
 use gq_model::fault::CodeFault;
 use gq_model::limits::{GREATEST_DEPTH, GREATEST_STATEMENTS, LOCALS};
 use gq_model::program::{Instruction, Section};
 use gq_program::program::{Body, Program, Statement};
-use gq_program::spelling::shape_of_opcode;
+use gq_program::spelling::Shape;
 use std::alloc::{AllocError, AllocFailed, Global};
 use thiserror::Error;
 
@@ -103,21 +106,81 @@ fn round(bytes: &[u8]) -> Result<(u16, &[u8], &[u8]), CodeFault>
     Ok((count as u16, body, rest))
 }
 
-/// A statement of this number with no statement in it, how many there are with it, and what follows it.
-fn plain(op: u8, bytes: &[u8], before: u32) -> Result<(Instruction, u32, &[u8]), CodeFault>
-    ensures plain { Answers (λ p. (p.0, (p.1, p.2.now))) result (plain_at (shape_of_opcode op spellings) before bytes.now) }
-    ensures rest { IfOk result (λ p. length p.2.now ≤ length bytes.now) }
+/// Puts a statement with no statement in it at the end.
+#[inline(always)]
+fn push(body: &mut Body, instruction: Instruction) -> Result<(), AllocError>
+    ensures { OnOk result (body.new ≡ body.old then Do instruction Done) }
 {
-    let Some(shape) = shape_of_opcode(op) else {
-        return Err(CodeFault::UnknownOpcode);
+    body.push(Statement::Plain(instruction))
+}
+
+/// Puts a statement with no statement in it at the end, whose operands stand in front, and gives what follows them. It stands alone, so that
+/// only a text pays for its room.
+#[inline(never)]
+fn push_long<'a>(body: &mut Body, shape: Shape, bytes: &'a [u8]) -> Result<&'a [u8], DecodeError>
+    ensures read { Reads (λ rest. (body.new, rest.now)) result (put_at body.old (operands_at (shape_of shape) bytes.now)) }
+    ensures rest { IfOk result (λ rest. length rest.now ≤ length bytes.now) }
+{
+    let (instruction, rest) = operands(shape, bytes)?;
+    push(body, instruction)?;
+    Ok(rest)
+}
+
+/// The same, with a way of its own for each shape without a text.
+fn push_plain<'a>(body: &mut Body, shape: Shape, bytes: &'a [u8]) -> Result<&'a [u8], DecodeError>
+    ensures read { Reads (λ rest. (body.new, rest.now)) result (put_at body.old (operands_at (shape_of shape) bytes.now)) }
+    ensures rest { IfOk result (λ rest. length rest.now ≤ length bytes.now) }
+{
+    match shape {
+        Shape::Plain(statement) => {
+            push(body, statement.instruction())?;
+            Ok(bytes)
+        }
+        Shape::Number(statement) => {
+            let (instruction, rest) = with_number(statement, bytes)?;
+            push(body, instruction)?;
+            Ok(rest)
+        }
+        Shape::Slot(statement) => {
+            let (instruction, rest) = with_slot(statement, bytes)?;
+            push(body, instruction)?;
+            Ok(rest)
+        }
+        Shape::Bytes(statement) => {
+            let (instruction, rest) = with_bytes(statement, bytes)?;
+            push(body, instruction)?;
+            Ok(rest)
+        }
+        Shape::Amount(statement) => {
+            let (instruction, rest) = with_amount(statement, bytes)?;
+            push(body, instruction)?;
+            Ok(rest)
+        }
+        Shape::Say | Shape::Pool | Shape::Open => push_long(body, shape, bytes),
+    }
+}
+
+/// Puts a statement of this number with no statement in it at the end, and gives how many there are with it, and what follows it.
+fn push_coded<'a>(
+    body: &mut Body,
+    op: u8,
+    bytes: &'a [u8],
+    before: u32,
+) -> Result<(u32, &'a [u8]), DecodeError>
+    ensures read { Reads (λ p. (body.new, (p.0, p.1.now))) result (placed body.old (instruction_at op before bytes.now)) }
+    ensures rest { IfOk result (λ p. length p.1.now ≤ length bytes.now) }
+{
+    let Some(shape) = shape_with(op) else {
+        return Err(DecodeError::Fault(CodeFault::UnknownOpcode));
     };
     let count = one_more(before)?;
-    let (instruction, rest) = operands(shape, bytes)?;
-    Ok((instruction, count, rest))
+    let rest = push_plain(body, shape, bytes)?;
+    Ok((count, rest))
 }
 
 /// An `if`, how many statements there are with it and those in it, and what follows it.
 #[cycle(blocks)]
+#[inline(never)]
 fn choice(
     alloc: Global,
     bytes: &[u8],
@@ -136,6 +199,7 @@ fn choice(
 
 /// A loop, how many statements there are with it and those in it, and what follows it.
 #[cycle(blocks)]
+#[inline(never)]
 fn repeated(
     alloc: Global,
     bytes: &[u8],
@@ -151,25 +215,31 @@ fn repeated(
     Ok((Statement::Loop(count, body), before, rest))
 }
 
-/// A statement of this number, how many there are with it and those in it, and what follows it.
+/// Puts a statement of this number at the end, and gives how many there are with it and those in it, and what follows it.
 #[cycle(blocks)]
-fn statement(
+fn push_statement<'a>(
     alloc: Global,
+    made: &mut Body,
     op: u8,
-    bytes: &[u8],
+    bytes: &'a [u8],
     depth: u8,
     before: u32,
-) -> Result<(Statement, u32, &[u8]), DecodeError>
-    ensures read { Reads (λ p. (tree_of (p.0 ∷ []), (p.1, p.2.now))) result (statement_with body_in op depth before bytes.now) }
-    ensures rest { IfOk result (λ p. length p.2.now ≤ length bytes.now) }
+) -> Result<(u32, &'a [u8]), DecodeError>
+    ensures read { Reads (λ p. (made.new, (p.0, p.1.now))) result (placed made.old (statement_with body_in op depth before bytes.now)) }
+    ensures rest { IfOk result (λ p. length p.1.now ≤ length bytes.now) }
 {
     match op {
-        0x40 => choice(alloc, bytes, depth, before),
-        0x41 => repeated(alloc, bytes, depth, before),
-        _ => {
-            let (instruction, count, rest) = plain(op, bytes, before)?;
-            Ok((Statement::Plain(instruction), count, rest))
+        0x40 => {
+            let (statement, count, rest) = choice(alloc, bytes, depth, before)?;
+            made.push(statement)?;
+            Ok((count, rest))
         }
+        0x41 => {
+            let (statement, count, rest) = repeated(alloc, bytes, depth, before)?;
+            made.push(statement)?;
+            Ok((count, rest))
+        }
+        _ => push_coded(made, op, bytes, before),
     }
 }
 
@@ -187,8 +257,7 @@ fn read_body(
     let mut count = before;
     let mut left = bytes;
     while let [op, rest @ ..] = left {
-        let (statement, with, after) = statement(alloc, *op, rest, depth, count)?;
-        body.push(statement)?;
+        let (with, after) = push_statement(alloc, &mut body, *op, rest, depth, count)?;
         count = with;
         left = after;
     }

@@ -38,6 +38,21 @@ fn little(bytes: &[u8]) -> u64
     }
 }
 
+/// The same without a loop for one byte and for four.
+fn spelled(bytes: &[u8]) -> u64
+    requires { length bytes.now ≤ 4 }
+    ensures number { result ≡ little bytes.now }
+    ensures small { result < 256 ^ length bytes.now }
+{
+    match bytes {
+        [only] => u64::from(*only),
+        [first, second, third, fourth] => {
+            u64::from(u32::from_le_bytes([*first, *second, *third, *fourth]))
+        }
+        _ => little(bytes),
+    }
+}
+
 /// A number of so many bytes, the least first; if there are fewer, this fault.
 pub(crate) fn number(
     bytes: &[u8],
@@ -49,8 +64,8 @@ pub(crate) fn number(
     ensures small { IfOk result (λ p. p.0 < 256 ^ width) }
     ensures rest { IfOk result (λ p. length p.1.now ≤ length bytes.now) }
 {
-    let (spelled, rest) = cut(bytes, width, fault)?;
-    Ok((little(spelled) as u32, rest))
+    let (number, rest) = cut(bytes, width, fault)?;
+    Ok((spelled(number) as u32, rest))
 }
 
 /// A number of so many bytes in a range.
@@ -130,7 +145,10 @@ fn said(bytes: &[u8]) -> Result<(Text, &[u8]), CodeFault>
 }
 
 /// A statement with a number.
-fn with_number(statement: WithNumber, bytes: &[u8]) -> Result<(Instruction, &[u8]), CodeFault>
+pub(crate) fn with_number(
+    statement: WithNumber,
+    bytes: &[u8],
+) -> Result<(Instruction, &[u8]), CodeFault>
     ensures read { Answers (λ p. (p.0, p.1.now)) result (operands_at (shape_of (Shape.Number statement)) bytes.now) }
     ensures rest { IfOk result (λ p. length p.1.now ≤ length bytes.now) }
 {
@@ -139,7 +157,10 @@ fn with_number(statement: WithNumber, bytes: &[u8]) -> Result<(Instruction, &[u8
 }
 
 /// A statement with a slot.
-fn with_slot(statement: WithSlot, bytes: &[u8]) -> Result<(Instruction, &[u8]), CodeFault>
+pub(crate) fn with_slot(
+    statement: WithSlot,
+    bytes: &[u8],
+) -> Result<(Instruction, &[u8]), CodeFault>
     ensures read { Answers (λ p. (p.0, p.1.now)) result (operands_at (shape_of (Shape.Slot statement)) bytes.now) }
     ensures rest { IfOk result (λ p. length p.1.now ≤ length bytes.now) }
 {
@@ -148,7 +169,10 @@ fn with_slot(statement: WithSlot, bytes: &[u8]) -> Result<(Instruction, &[u8]), 
 }
 
 /// A statement with a slot, or the object, whose bytes are meant.
-fn with_bytes(statement: WithBytes, bytes: &[u8]) -> Result<(Instruction, &[u8]), CodeFault>
+pub(crate) fn with_bytes(
+    statement: WithBytes,
+    bytes: &[u8],
+) -> Result<(Instruction, &[u8]), CodeFault>
     ensures read { Answers (λ p. (p.0, p.1.now)) result (operands_at (shape_of (Shape.Bytes statement)) bytes.now) }
     ensures rest { IfOk result (λ p. length p.1.now ≤ length bytes.now) }
 {
@@ -157,7 +181,10 @@ fn with_bytes(statement: WithBytes, bytes: &[u8]) -> Result<(Instruction, &[u8])
 }
 
 /// A statement with a slot and a number.
-fn with_amount(statement: WithAmount, bytes: &[u8]) -> Result<(Instruction, &[u8]), CodeFault>
+pub(crate) fn with_amount(
+    statement: WithAmount,
+    bytes: &[u8],
+) -> Result<(Instruction, &[u8]), CodeFault>
     ensures read { Answers (λ p. (p.0, p.1.now)) result (operands_at (shape_of (Shape.Amount statement)) bytes.now) }
     ensures rest { IfOk result (λ p. length p.1.now ≤ length bytes.now) }
 {

@@ -64,6 +64,14 @@ round_with body n k bytes =
 abbrev pub instruction_at : ℕ → ℕ → List ℕ → Decoded One
 instruction_at op k bytes = decoded_then (plain_at (shape_of_opcode op spellings) k bytes) (λ p. Ok (Do p.0 Done, p.1))
 
+-- an instruction at the end of these statements, and what follows it
+abbrev pub put_at : Statements → Decoded (Instruction × List ℕ) → Decoded (Statements × List ℕ)
+put_at made read = decoded_then read (λ p. Ok (made then Do p.0 Done, p.1))
+
+-- a statement at the end of these, how many there are with it and those in it, and what follows it
+abbrev pub placed : Statements → Decoded One → Decoded One
+placed made one = decoded_then one (λ p. Ok (made then p.0, p.1))
+
 -- a statement of this number, the bodies in which are read so
 abbrev pub statement_with : (ℕ → ℕ → List ℕ → Decoded Body) → ℕ → ℕ → ℕ → List ℕ → Decoded One
 statement_with body op n k bytes =

@@ -21,7 +21,7 @@ loop-leaf-preserved c =
     let x = c.in-Some.leaf.now in
     one_more c.loop-leaf.steps.items c.push.new.self.items (budgets_by xs ys) (budgets_by xs' ys') (budgets_by c.args.leaves.now c.args.often.now)
     c.products.result (saturated (products (costs_of x.subject.program.sections) c.in-Some.often.now))
-    c.in_ok-push.ensures.items (c.products.ensures ∙ ap (λ l. saturated (products l c.in-Some.often.now)) c.in_ok-costs.ensures)
+    c.in_ok-push.ensures.items (c.products.ensures ∙ ap (λ l. saturated (products l c.in-Some.often.now)) c.costs-costs.ensures)
     (budgets_first xs xs' ys ys' x c.in-Some.often.now m.0 m.1) c.loop-leaf.invariant
 
 pub returns : goal.returns

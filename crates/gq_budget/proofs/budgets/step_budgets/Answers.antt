@@ -11,5 +11,6 @@ returns c = λ system l r.
     let k = budgets_kept system c.args.leaves.now leads uses l r refl in
     let counted = c.deref.ensures.value ∙ c.in_ok-counted.ensures in
     let asks = c.deref-2.ensures.value ∙ (c.in_ok-asks.ensures ∙ ap (λ l. all_asks l l leads) counted) in
-    let often = c.deref-3.ensures.value ∙ (c.in_ok-often.ensures ∙ ap (λ a. rounds (suc uses) a []) asks) in
-    c.in_ok-steps.ensures ∙ (ap (λ t. budgets_by c.args.leaves.now t) often ∙ k)
+    let again = c.deref-3.ensures.value ∙ c.in_ok-counted.ensures in
+    let often = c.deref-4.ensures.value ∙ (c.in_ok-often.ensures ∙ ap (λ a. rounds (suc uses) a []) asks) in
+    c.in_ok-steps.ensures ∙ (ap (λ l. budgets_by l c.deref-4.result.now) again ∙ (ap (λ t. budgets_by c.args.leaves.now t) often ∙ k))

@@ -11,8 +11,8 @@ decreases-choice l = 3 * length l.bytes.now + 1
 abbrev pub decreases-repeated : goal.decreases-repeated
 decreases-repeated l = 3 * length l.bytes.now + 1
 
-abbrev pub decreases-statement : goal.decreases-statement
-decreases-statement l = 3 * length l.bytes.now + 2
+abbrev pub decreases-push_statement : goal.decreases-push_statement
+decreases-push_statement l = 3 * length l.bytes.now + 2
 
 abbrev pub decreases-read_body-loop-left : goal.decreases-read_body-loop-left
 decreases-read_body-loop-left l = length l.left

@@ -4,4 +4,4 @@ use Rattle.gq_code.proofs.operands.number.Goals as goal
 
 pub overflow_cast-result : goal.overflow_cast-result
 overflow_cast-result c =
-    below_4 c.little.result (length c.in_ok-spelled.spelled.now) c.little.ensures.small (omega (arith, c.in_ok-spelled.ensures.first, c.requires))
+    below_4 c.spelled.result (length c.in_ok-number.number.now) c.spelled.ensures.small (omega (arith, c.in_ok-number.ensures.first, c.requires))

@@ -12,5 +12,5 @@ returns c =
     let l = c.loop-requests in
     c.new.ensures
     ∙ (counts_end leaf.subject service section leaf.subject.program.sections c.deref-requests-items.result.now c.self.inside.requests.items l.requests-index
-    l.counts.items c.loop-requests-test.false l.invariant c.deref-requests-items.ensures.value c.self.invariant
+    l.counts.items c.loop-requests-test.false l.invariant c.deref-requests-items.ensures.value c.self.invariant.0
     ∙ ap (λ (l : Leaf). requests_of l.subject service section l.subject.program.sections) c.self.view_is)
