@@ -10,7 +10,7 @@ use std::io::Read;
 use thiserror::Error;
 
 /// The bytes that one read asks for.
-const CHUNK: usize = 4096;
+const CHUNK: usize = 65536;
 
 /// Why an input was not read.
 #[derive(Debug, Drop, Error)]

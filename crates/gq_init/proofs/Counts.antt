@@ -117,7 +117,6 @@ turn_in-pieces components name count =
     ]
 
 -- what a line with a name says
-pub turn_in-named : (components : List Component) (line name count : List ℕ) (x n : Option ℕ) → pieces (λ c. c == 32) line ≡ name ∷ pieces (λ c. c == 32) count
-    → is_name name ≡ true → x ≡ numbered 0 name components → n ≡ turn_count count → turn_in components (pieces (λ c. c == 32) line) ≡ turn_of x n
-turn_in-named components line name count x n split named placed counted =
-    rw (split, turn_in-pieces components name count, named, placed, counted) refl
+pub turn_in-named : (components : List Component) (name count : List ℕ) (x n : Option ℕ) → is_name name ≡ true → x ≡ numbered 0 name components
+    → n ≡ turn_count count → turn_in components (name ∷ pieces (λ c. c == 32) count) ≡ turn_of x n
+turn_in-named components name count x n named placed counted = rw (turn_in-pieces components name count, named, placed, counted) refl

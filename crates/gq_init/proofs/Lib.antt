@@ -1,3 +1,4 @@
 pub mod Turning
 pub mod Counts
 pub mod Rows
+pub mod Named

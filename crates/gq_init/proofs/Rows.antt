@@ -1,10 +1,9 @@
 -- The rows of a table of nodes.
-use Rattle.std.proofs.Common.{◌≡◌, ℕ, zero, suc, ◌+◌, ◌<◌, ◌≤◌, List, [], ◌∷◌, ◌++◌, length, map, drop, get_or, Option, Some, None, IfSome, length-append}
+use Rattle.std.proofs.Common.{◌≡◌, ℕ, zero, suc, ◌+◌, ◌<◌, ◌≤◌, List, [], ◌∷◌, ◌++◌, length, drop, get_or, Option, Some, None, IfSome, length-append}
 use Rattle.std.proofs.Common.{append_assoc, append-nil}
-use Rattle.std.proofs.Common.{refl, ap, sym, subst, ◌∙◌, arith, add-one, cond, ◌*◌, Bool, true, false}
+use Rattle.std.proofs.Common.{refl, ap, sym, subst, ◌∙◌, arith, add-one, cond, ◌*◌, true, false}
 use Rattle.std.specs.Prelude.{max}
 use Rattle.std.proofs.Math.Nat.{le-max_left, le-max_right}
-use Rattle.std.proofs.Math.Seq.{drop-cons}
 use Rattle.std.proofs.lemmas.Option.{slice_get-get_or}
 use Rattle.std.proofs.lemmas.List.{length-map}
 use Rattle.gq_model.specs.machine.Program.{text_eq}

@@ -9,6 +9,7 @@
 //! ```
 #![tactic(auto)]
 
+mod names;
 pub mod table;
 pub mod turns;
 

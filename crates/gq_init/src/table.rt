@@ -1,15 +1,17 @@
 // The nodes of a scenario as a table, with numbers in the place of names.
-ghost use Rattle.std.specs.Prelude.{◌≡◌, ◌<◌, ◌≤◌, ◌+◌, ◌*◌, ◌++◌, length, map, slice_get, IfOk, IfSome, OnOk, codes, Some, None};
+ghost use Rattle.std.specs.Prelude.{◌≡◌, ◌<◌, ◌≤◌, ◌+◌, ◌*◌, ◌++◌, length, map, slice_get, IfOk, IfSome, OnOk, codes, Some, None, IsTrue};
 ghost use Rattle.gq_model.specs.machine.Accounts.{leaf_count};
 ghost use Rattle.gq_model.specs.machine.Routes.{numbered};
 ghost use Rattle.gq_model.specs.machine.Scenario as model;
 ghost use Rattle.gq_model.specs.machine.Scenario.{below, components};
+ghost use Rattle.gq_model.specs.texts.Letters.{is_name};
 ghost use Rattle.gq_resolve.specs.Served.{server_at, AreServers};
 ghost use Rattle.gq_scenario.specs.Sizes.{node_count, leaf_places, depth};
 ghost use Rattle.gq_init.specs.NodeTables.{IsNodeOf, all_rows, interface_number, leaf_row, leaf_rows, node_rows, rows_of};
 
+use crate::names::NameIndex;
 use arrayvec::ArrayVec;
-use gq_model::limits::GREATEST_LABEL;
+use gq_model::limits::{GREATEST_LABEL, GREATEST_LEAVES};
 use gq_model::program::Name;
 use gq_program::interface::Interfaces;
 use gq_program::program::Program;
@@ -21,6 +23,9 @@ use gq_scenario::scenario::{LeafNo, Node, Nodes, Quantum, Scenario};
 use gq_scenario::tree::copied;
 use std::alloc::{AllocError, Global};
 use std::marker::Model;
+
+// How many ways are tried to spread names over the places of their index.
+const SPREADS: u32 = 64;
 
 // The label of a node.
 type Label = ArrayVec<u8, GREATEST_LABEL>;
@@ -232,6 +237,28 @@ fn leaf_entries(
     Ok(entries)
 }
 
+// Puts all leaves into an index that has none, and tells whether each has a place of its own.
+fn put_names(index: &mut NameIndex, leaves: &[LeafEntry]) -> bool {
+    let mut is_free = true;
+    for (number, leaf) in leaves.iter().enumerate() {
+        is_free &= index.put(leaf.name.as_bytes(), number.min(GREATEST_LEAVES) as u8);
+    }
+    is_free
+}
+
+// The leaves by their names, in the first of many ways to spread them that gives each a place of its own, else in the last.
+fn names_of(leaves: &[LeafEntry]) -> NameIndex {
+    let mut index = NameIndex::new();
+    for _ in 0..SPREADS {
+        if put_names(&mut index, leaves) {
+            return index;
+        }
+        index.respread();
+    }
+    put_names(&mut index, leaves);
+    index
+}
+
 /// The nodes and the leaves of a scenario, by numbers, as a table of nodes is made of them.
 #[derive(Drop)]
 pub struct Entries {
@@ -432,6 +459,30 @@ impl NodeTable {
     {
         let entry = self.row(leaf);
         entry.servers[interface as usize]
+    }
+
+    /// The leaves by their names, for `leaf_likely`. This looks at all of them, some more than once.
+    pub(crate) fn name_index(&self) -> NameIndex {
+        names_of(self.entries.leaves())
+    }
+
+    /// The leaf of this name, where an index of the table's names leads to it: in the same time whatever the number of leaves. `None` says nothing.
+    pub(crate) fn leaf_likely(&self, names: &NameIndex, name: &[u8]) -> Option<LeafNo>
+        ensures name { IfSome result (λ x. IsTrue (is_name name.now)) }
+        ensures number { IfSome result (λ x. numbered 0 name.now (components self.now) ≡ Some x) }
+        ensures there { IfSome result (λ x. x < length (components self.now)) }
+    {
+        self.scenario.laws();
+        let number = names.number(name);
+        if number >= self.leaf_count() {
+            return None;
+        }
+        let leaf = LeafNo::new(number as u32);
+        let entry = self.row(leaf);
+        if same_bytes(name, entry.name.as_bytes()) {
+            return Some(leaf);
+        }
+        None
     }
 
     /// The leaf of this name, where there is one.

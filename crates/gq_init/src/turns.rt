@@ -1,11 +1,12 @@
 // Turns, as texts say them.
-ghost use Rattle.std.specs.Prelude.{◌≡◌, ◌==◌, ◌≤◌, ◌^◌, ◌+◌, length, IfOk, IfSome, alloc_error};
+ghost use Rattle.std.specs.Prelude.{◌≡◌, ◌==◌, ◌∷◌, ◌≤◌, ◌^◌, ◌+◌, length, IfOk, IfSome, alloc_error};
 ghost use Rattle.gq_model.specs.texts.Letters.{pieces};
 ghost use Rattle.gq_model.specs.machine.Scenario.{components};
 ghost use Rattle.gq_model.specs.texts.Turns.{turned, turns_from, turn_in, turn_count, says_nothing, greatest_turns};
 ghost use Rattle.gq_model.specs.texts.Letters.{lines};
 ghost use Rattle.gq_init.specs.TurnLines.{IsTurned, line_turn};
 
+use crate::names::NameIndex;
 use crate::table::NodeTable;
 use gq_model::fault::TurnFault;
 use gq_model::letters::{is_digit, is_name};
@@ -63,14 +64,10 @@ fn read_count(text: &[u8]) -> Option<u32>
     Some(number)
 }
 
-// The leaf and the number of a line that says something.
-fn read_turn(line: &[u8], table: &NodeTable) -> Result<(LeafNo, u32), TurnFault>
-    ensures { result ≡ turn_in (components table.now) (pieces (λ c. c == 32) line.now) }
+// The leaf and the number of a line with this name and this number, by a search among all leaves.
+fn search_turn(name: &[u8], count: &[u8], table: &NodeTable) -> Result<(LeafNo, u32), TurnFault>
+    ensures { result ≡ turn_in (components table.now) (name.now ∷ pieces (λ c. c == 32) count.now) }
 {
-    let (name, rest) = next_piece(line, b' ');
-    let Some(count) = rest else {
-        return Err(TurnFault::BadLine);
-    };
     if !is_name(name) {
         return Err(TurnFault::BadLine);
     }
@@ -83,8 +80,30 @@ fn read_turn(line: &[u8], table: &NodeTable) -> Result<(LeafNo, u32), TurnFault>
     }
 }
 
+// The leaf and the number of a line that says something.
+fn read_turn(line: &[u8], table: &NodeTable, names: &NameIndex) -> Result<(LeafNo, u32), TurnFault>
+    ensures { result ≡ turn_in (components table.now) (pieces (λ c. c == 32) line.now) }
+{
+    let (name, rest) = next_piece(line, b' ');
+    let Some(count) = rest else {
+        return Err(TurnFault::BadLine);
+    };
+    let Some(leaf) = table.leaf_likely(names, name) else {
+        return search_turn(name, count, table);
+    };
+    match read_count(count) {
+        Some(count) => Ok((leaf, count)),
+        None => Err(TurnFault::BadLine),
+    }
+}
+
 // What a line says after so many turns: nothing, or a turn, unless there are too many with it.
-fn read_line(line: &[u8], turns: u32, table: &NodeTable) -> Result<Option<(LeafNo, u32)>, TurnFault>
+fn read_line(
+    line: &[u8],
+    turns: u32,
+    table: &NodeTable,
+    names: &NameIndex,
+) -> Result<Option<(LeafNo, u32)>, TurnFault>
     requires { turns ≤ greatest_turns }
     ensures answer { result ≡ line_turn (components table.now) turns line.now }
     ensures few { IfOk result (λ turn. IfSome turn (λ t. turns + t.1 ≤ greatest_turns)) }
@@ -92,7 +111,7 @@ fn read_line(line: &[u8], turns: u32, table: &NodeTable) -> Result<Option<(LeafN
     if says_nothing(line) {
         return Ok(None);
     }
-    let turn = match read_turn(line, table) {
+    let turn = match read_turn(line, table, names) {
         Ok(turn) => turn,
         Err(fault) => return Err(fault),
     };
@@ -111,6 +130,7 @@ fn read_lines(
     requires { length text.now ≤ 2 ^ 24 }
     ensures { IsTurned result (turns_from (components table.now) 1 0 (lines text.now)) }
 {
+    let names = table.name_index();
     let mut turns = Vec::new(alloc);
     let mut total: u32 = 0;
     let mut line: u64 = 0;
@@ -119,7 +139,7 @@ fn read_lines(
         let (words, after) = next_line(rest);
         left = after;
         line += 1;
-        match read_line(words, total, table) {
+        match read_line(words, total, table, &names) {
             Ok(None) => {}
             Ok(Some(turn)) => {
                 total += turn.1;

@@ -61,6 +61,20 @@ pub(crate) fn phase_word(phase: Phase) -> &'static [u8]
     }
 }
 
+/// Puts the line of a leaf with this label in the place of what a line has.
+pub fn label_line(line: &mut Line, label: &[u8], text: &[u8])
+    requires label { length label.now ≤ GREATEST_LABEL }
+    requires text { length text.now ≤ 64 }
+    ensures { line.new.items ≡ codes "[" ++ label.now ++ codes "] " ++ text.now ++ 10 ∷ [] }
+{
+    line.clear();
+    extend(line, b"[");
+    extend(line, label);
+    extend(line, b"] ");
+    extend(line, text);
+    extend(line, b"\n");
+}
+
 /// The line of a leaf with this label.
 pub fn labelled(label: &[u8], text: &[u8]) -> Line
     requires label { length label.now ≤ GREATEST_LABEL }
@@ -68,10 +82,6 @@ pub fn labelled(label: &[u8], text: &[u8]) -> Line
     ensures { result.items ≡ codes "[" ++ label.now ++ codes "] " ++ text.now ++ 10 ∷ [] }
 {
     let mut line = ArrayVec::new();
-    extend(&mut line, b"[");
-    extend(&mut line, label);
-    extend(&mut line, b"] ");
-    extend(&mut line, text);
-    extend(&mut line, b"\n");
+    label_line(&mut line, label, text);
     line
 }

@@ -1,9 +1,8 @@
 -- The lowest free place.
 use Rattle.std.proofs.Common.{◌≡◌, ℕ, zero, suc, ◌+◌, ◌<◌, ◌≤◌, inl, inr, List, [], ◌∷◌, ◌++◌, length, set, get_or, Option, Some, None, IsTrue, is_some}
-use Rattle.std.proofs.Common.{true, false, take, max, refl, sym, ap, ◌∙◌, arith}
+use Rattle.std.proofs.Common.{true, false, refl, sym, ap, ◌∙◌, arith}
 use Rattle.std.proofs.lemmas.Bool.{cases_lt}
-use Rattle.std.proofs.lemmas.List.{get_or-set_other, take_more_set, length-take-le}
-use Rattle.std.proofs.lemmas.Bool.Decides.{nat_tests}
+use Rattle.std.proofs.lemmas.List.{get_or-set_other}
 use Rattle.gq_numbered.specs.Numbers.{added, free_number, IsTaken}
 
 no_taken : {A : Type 0} (o : Option A) → o ≡ None → IsTrue (is_some o) → ⊥
@@ -99,47 +98,3 @@ reads (y ∷ ys) (suc i) x h e = reads ys i x (omega arith) e
 pub is_free : {A : Type 0} (o : Option A) → is_some o ≡ false → o ≡ None
 is_free None e = refl
 is_free (Some r) e = cc
-
--- SO MANY PLACES OF A LIST
-
-pub take_set : {A : Type 0} (n : ℕ) (xs : List A) (i : ℕ) (a : A) → i < n → take n (set xs i a) ≡ set (take n xs) i a
-take_set zero xs i a lt = absurd (omega (arith, lt))
-take_set (suc n) [] i a lt = refl
-take_set (suc n) (x ∷ xs) zero a lt = refl
-take_set (suc n) (x ∷ xs) (suc i) a lt = ap (λ ys. x ∷ ys) (take_set n xs i a (omega (arith, lt)))
-
-pub take_put : {A : Type 0} (xs : List A) (i : ℕ) (a : A) → i < length xs → take (i + 1) (set xs i a) ≡ take i xs ++ a ∷ []
-take_put xs i a lt = take_more_set xs i a lt
-
--- one more among the first n, or behind them
-pub put_free : {A : Type 0} (ps : List (Option A)) (n k m : ℕ) (s : A) → n ≤ length ps → k < length ps → k ≡ free_number (take n ps) → m ≡ max n (k + 1)
-    → take m (set ps k (Some s)) ≡ added s (take n ps)
-put_free ps n k m s le there e f =
-    let len = length-take-le n ps le in
-    let within = lowest_within (take n ps) in
-    elim (cases_lt k n) [
-      | inl lt ↦
-          let same : m ≡ n = f ∙ grind (arith, nat_tests) in
-          ap (λ j. take j (set ps k (Some s))) same ∙ take_set n ps k (Some s) lt
-          ∙ ap (λ j. set (take n ps) j (Some s)) e ∙ sym (added_at s (take n ps) (omega (arith, lt, e, len)))
-      | inr ge ↦
-          let here : k ≡ n = omega (arith, ge, e, within, len) in
-          let more : m ≡ k + 1 = f ∙ grind (arith, nat_tests) in
-          ap (λ j. take j (set ps k (Some s))) more ∙ take_put ps k (Some s) there ∙ ap (λ j. take j ps ++ Some s ∷ []) here
-          ∙ sym (added_end s (take n ps) (omega (arith, e, here, len)))
-    ]
-
-none_past : {A : Type 0} (n : ℕ) (xs : List (Option A)) (k : ℕ) → IsTaken (take n xs) k → k < n
-none_past zero xs k h = absurd (none_taken h)
-none_past (suc n) [] k h = absurd (none_taken h)
-none_past (suc n) (x ∷ xs) zero h = omega arith
-none_past (suc n) (x ∷ xs) (suc k) h = omega (arith, none_past n xs k h)
-
-pub taken_first : {A : Type 0} (xs : List (Option A)) (n k : ℕ) → IsTaken (take n xs) k → k < n
-taken_first xs n k h = none_past n xs k h
-
-pub max_right : (a b : ℕ) → b ≤ max a b
-max_right a b = grind (arith, nat_tests)
-
-pub max_least : (a b n : ℕ) → a ≤ n → b ≤ n → max a b ≤ n
-max_least a b n h k = grind (arith, nat_tests)

@@ -1,30 +1,32 @@
 // Values by their numbers.
-ghost use Rattle.std.specs.Prelude.{◌≡◌, ◌<◌, ◌≤◌, [], ℕ, Some, None, length, slice_set, get_or, IfOk, take};
+ghost use Rattle.std.specs.Prelude.{◌≡◌, ◌<◌, ◌≤◌, [], ℕ, Some, None, length, slice_set, get_or, vec_capacity, IfOk};
 ghost use Rattle.gq_numbered.specs.Numbers.{added, free_number, IsTaken};
 
 use std::alloc::{AllocError, Global};
 use std::marker::Model;
 
 /// Values by their numbers. A new one takes the lowest number that is free: in constant time where none was freed below the last one that was
-/// taken, else by a search from there. No call but `new` takes host memory.
+/// taken, else by a search from there. No call but `new` takes host memory, and what `new` takes is not touched before it is used.
 #[derive(Drop)]
 pub struct Numbered<T: Copy> {
+    // The places that have been used, with room for all.
     places: Vec<Option<T>>,
-    // How many of them have been used.
-    count: usize,
+    // How many there are at most.
+    room: usize,
     // No place below is free.
     low: usize,
 }
 
 impl<T: Copy> Model for Numbered<T> {
+    ghost use Rattle.std.specs.Prelude.{vec_capacity};
     ghost use Rattle.gq_numbered.specs.Numbers.{Numbers};
-    ghost use Rattle.gq_numbered.specs.internal.Fields.{IsNumbered, numbers_of};
+    ghost use Rattle.gq_numbered.specs.internal.Fields.{IsNumbered};
 
     ghost Value = { Numbers T };
 
-    ghost view = { λ n. numbers_of n.places.items n.count };
+    ghost view = { λ n. record { values = n.places.items; room = n.room } };
 
-    ghost invariant = { λ n. IsNumbered n.places.items n.count n.low };
+    ghost invariant = { λ n. IsNumbered n.places.items n.room (vec_capacity n.places) n.low };
 }
 
 impl<T: Copy> Numbered<T> {
@@ -32,10 +34,10 @@ impl<T: Copy> Numbered<T> {
     pub fn new(alloc: Global, room: u32) -> Result<Numbered<T>, AllocError>
         ensures { IfOk result (λ numbers. numbers ≡ record { values = []; room = room }) }
     {
-        let places = Vec::from_elem(alloc, None, room as usize)?;
+        let places = Vec::with_capacity(alloc, room as usize)?;
         Ok(Numbered {
             places,
-            count: 0,
+            room: room as usize,
             low: 0,
         })
     }
@@ -47,10 +49,9 @@ impl<T: Copy> Numbered<T> {
         ensures added { self.new.values ≡ added value self.old.values }
         ensures same_room { self.new.room ≡ self.old.room }
     {
-        let number = first_free(&self.places, self.low, self.count);
-        self.places[number] = Some(value);
+        let number = first_free(&self.places, self.low);
+        put(&mut self.places, number, value);
         self.low = number + 1;
-        self.count = self.count.max(self.low);
         number
     }
 
@@ -90,17 +91,33 @@ impl<T: Copy> Numbered<T> {
     }
 }
 
-// The first of so many places from `low` on that is free, or how many they are where none is.
-fn first_free<T: Copy>(places: &Vec<Option<T>>, low: usize, count: usize) -> usize
-    requires some { count ≤ length places.now.items }
-    requires within { low ≤ count }
-    requires below { (k : ℕ) → k < low → IsTaken (take count places.now.items) k }
-    ensures { result ≡ free_number (take count places.now.items) }
+// The first of the places from `low` on that is free, or how many they are where none is.
+fn first_free<T: Copy>(places: &Vec<Option<T>>, low: usize) -> usize
+    requires within { low ≤ length places.now.items }
+    requires below { (k : ℕ) → k < low → IsTaken places.now.items k }
+    ensures { result ≡ free_number places.now.items }
 {
-    for k in low..count {
+    for k in low..places.len() {
         if places[k].is_none() {
             return k;
         }
     }
-    count
+    places.len()
+}
+
+// Puts a value at the lowest free number: at a place that is free, or behind them all, where there is room.
+fn put<T: Copy>(places: &mut Vec<Option<T>>, number: usize, value: T)
+    requires number { number ≡ free_number places.old.items }
+    requires room { number < vec_capacity places.old }
+    ensures added { places.new.items ≡ added value places.old.items }
+    ensures capacity { vec_capacity places.old ≤ vec_capacity places.new }
+{
+    if number < places.len() {
+        places[number] = Some(value);
+        return;
+    }
+    match places.push(Some(value)) {
+        Ok(()) => (),
+        Err(_) => unreachable!(),
+    }
 }

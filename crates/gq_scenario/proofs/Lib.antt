@@ -5,3 +5,4 @@ pub mod Tree_counts
 pub mod Preorder
 pub mod Names
 pub mod Nodes_counted
+pub mod Differing

@@ -1,23 +1,9 @@
 -- Pieces and lines of a text, one after another.
-use Rattle.std.proofs.Common.{◌≡◌, ◌==◌, ℕ, zero, suc, ◌+◌, ◌<◌, ◌≤◌, ◌≢◌, Bool, true, false, cond, List, [], ◌∷◌, ◌++◌, length, get_or, take, drop, Option}
+use Rattle.std.proofs.Common.{◌≡◌, ◌==◌, ℕ, zero, suc, ◌<◌, ◌≤◌, ◌≢◌, Bool, true, false, cond, List, [], ◌∷◌, length, get_or, take, drop, Option}
 use Rattle.std.proofs.Common.{Some, None, is_some, option_map, refl, ap, ◌∙◌, arith}
 use Rattle.std.proofs.lemmas.Bool.Decides.{nat_tests}
-use Rattle.std.proofs.lemmas.List.{drop_more, drop_all, take_all, take_more}
 use Rattle.gq_model.specs.texts.Letters.{onto_first, pieces, without_return, without_returns, lines}
 use Rattle.gq_scenario.specs.Lines.{pieces_left, lines_left}
-
--- these bytes before the first of the pieces
-abbrev pub before : List ℕ → List (List ℕ) → List (List ℕ)
-before [] ps = ps
-before (x ∷ xs) ps = onto_first x (before xs ps)
-
-before-append : (xs : List ℕ) (x : ℕ) (ps : List (List ℕ)) → before (xs ++ x ∷ []) ps ≡ before xs (onto_first x ps)
-before-append [] x ps = refl
-before-append (y ∷ xs) x ps = ap (onto_first y) (before-append xs x ps)
-
-before-empty : (xs : List ℕ) (ps : List (List ℕ)) → before xs ([] ∷ ps) ≡ xs ∷ ps
-before-empty [] ps = refl
-before-empty (x ∷ xs) ps = ap (onto_first x) (before-empty xs ps)
 
 cond_true : {A : Type 0} (b : Bool) (x y : A) → b ≡ true → cond b x y ≡ x
 cond_true true x y e = refl
@@ -27,26 +13,27 @@ cond_false : {A : Type 0} (b : Bool) (x y : A) → b ≡ false → cond b x y �
 cond_false true x y e = cc
 cond_false false x y e = refl
 
--- at a separator
-pub pieces_here : (s : ℕ) (text : List ℕ) (i : ℕ) → i < length text → get_or text i 0 ≡ s
-    → before (take i text) (pieces (λ c. c == s) (drop i text)) ≡ take i text ∷ pieces (λ c. c == s) (drop (i + 1) text)
-pieces_here s text i h e =
-    let same : (get_or text i 0 == s) ≡ true = grind (arith, nat_tests) in
-    rw (drop_more text i 0 h, cond_true _ ([] ∷ pieces (λ c. c == s) (drop (i + 1) text)) _ same)
-    (before-empty (take i text) (pieces (λ c. c == s) (drop (i + 1) text)))
+-- the first separator stands there
+pub pieces_first : (s : ℕ) (text : List ℕ) (k : ℕ) → k < length text → ((j : ℕ) → j < k → get_or text j 0 ≢ s) → get_or text k 0 ≡ s
+    → pieces (λ c. c == s) text ≡ take k text ∷ pieces (λ c. c == s) (drop (suc k) text)
+pieces_first s [] k less none e = absurd (omega (arith, less))
+pieces_first s (c ∷ rest) zero less none e =
+    let same : (c == s) ≡ true = grind (arith, nat_tests, e) in
+    cond_true (c == s) ([] ∷ pieces (λ c. c == s) rest) (onto_first c (pieces (λ c. c == s) rest)) same
+pieces_first s (c ∷ rest) (suc k) less none e =
+    let first : c ≢ s = none 0 (omega arith) in
+    let other : (c == s) ≡ false = grind (arith, nat_tests) in
+    let later = pieces_first s rest k (omega (arith, less)) (λ j h. none (suc j) (omega (arith, h))) e in
+    cond_false (c == s) ([] ∷ pieces (λ c. c == s) rest) (onto_first c (pieces (λ c. c == s) rest)) other ∙ ap (onto_first c) later
 
--- at another byte
-pub pieces_more : (s : ℕ) (text : List ℕ) (i : ℕ) → i < length text → get_or text i 0 ≢ s
-    → before (take (i + 1) text) (pieces (λ c. c == s) (drop (i + 1) text)) ≡ before (take i text) (pieces (λ c. c == s) (drop i text))
-pieces_more s text i h e =
-    let other : (get_or text i 0 == s) ≡ false = grind (arith, nat_tests) in
-    let after = pieces (λ c. c == s) (drop (i + 1) text) in
-    rw (take_more text i 0 h, drop_more text i 0 h, cond_false _ ([] ∷ after) (onto_first (get_or text i 0) after) other)
-    (before-append (take i text) (get_or text i 0) after)
-
--- past the last byte
-pub pieces_last : (s : ℕ) (text : List ℕ) (i : ℕ) → length text ≤ i → before (take i text) (pieces (λ c. c == s) (drop i text)) ≡ text ∷ []
-pieces_last s text i h = rw (take_all i text h, drop_all i text h) (before-empty text [])
+-- there is no separator
+pub pieces_only : (s : ℕ) (text : List ℕ) → ((j : ℕ) → j < length text → get_or text j 0 ≢ s) → pieces (λ c. c == s) text ≡ text ∷ []
+pieces_only s [] none = refl
+pieces_only s (c ∷ rest) none =
+    let first : c ≢ s = none 0 (omega arith) in
+    let other : (c == s) ≡ false = grind (arith, nat_tests) in
+    let later = pieces_only s rest (λ j h. none (suc j) (omega (arith, h))) in
+    cond_false (c == s) ([] ∷ pieces (λ c. c == s) rest) (onto_first c (pieces (λ c. c == s) rest)) other ∙ ap (onto_first c) later
 
 -- LINES
 

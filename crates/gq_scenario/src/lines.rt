@@ -4,6 +4,8 @@ ghost use Rattle.gq_model.specs.texts.Letters.{pieces, lines, without_return};
 ghost use Rattle.gq_model.specs.machine.Program.{text_eq};
 ghost use Rattle.gq_scenario.specs.Lines.{pieces_left, lines_left};
 
+use memchr::memchr;
+
 /// Whether two texts have the same bytes.
 pub fn same_bytes(a: &[u8], b: &[u8]) -> bool
     ensures { result ≡ text_eq a.now b.now }
@@ -16,12 +18,10 @@ pub fn next_piece(text: &[u8], separator: u8) -> (&[u8], Option<&[u8]>)
     ensures piece { pieces (λ c. c == separator) text.now ≡ result.0.now ∷ pieces_left separator (option_map (λ rest. rest.now) result.1) }
     ensures shorter { IfSome result.1 (λ rest. length rest.now < length text.now) }
 {
-    for (place, byte) in text.iter().enumerate() {
-        if *byte == separator {
-            return (&text[..place], Some(&text[place + 1..]));
-        }
+    match memchr(separator, text) {
+        Some(place) => (&text[..place], Some(&text[place + 1..])),
+        None => (text, None),
     }
-    (text, None)
 }
 
 // A line without a carriage return at its end.

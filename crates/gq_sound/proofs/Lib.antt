@@ -1,4 +1,3 @@
-pub mod Differing
 pub mod Programs
 pub mod Services
 pub mod Sound_texts

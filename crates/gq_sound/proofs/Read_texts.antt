@@ -16,7 +16,7 @@ use Rattle.gq_laws.specs.Names.{NamesDiffer}
 use Rattle.gq_laws.proofs.verified.Sound_systems.{is_resolved}
 use Rattle.gq_ready.specs.Ready.{IsRead, IsReady}
 use Rattle.gq_model.proofs.Small.{or_first_none}
-use Rattle.gq_sound.proofs.Differing.{names_differ}
+use Rattle.gq_scenario.proofs.Differing.{names_differ}
 use Rattle.gq_sound.proofs.Read_interfaces.{services_plain, declared_in}
 use Rattle.gq_sound.proofs.Read_nodes.{IsDeclared, nodes_read, each_component}
 use Rattle.gq_sound.proofs.Sound_texts.{same_scenario, not_ok, loaded_sound}

@@ -12,7 +12,7 @@ use Rattle.gq_scenario.specs.Reading.{ReadFault, Bad_document, described_or, rea
 use Rattle.gq_load.specs.Load.{Fault, Unread, sources_fault, refused, scenario_fault, loaded_or, loaded_from, loaded}
 use Rattle.gq_laws.specs.Sound.{IsSound}
 use Rattle.gq_model.proofs.Small.{none_some, or_first_none}
-use Rattle.gq_sound.proofs.Differing.{names_differ}
+use Rattle.gq_scenario.proofs.Differing.{names_differ}
 use Rattle.gq_sound.proofs.Programs.{nodes_given, programs_are}
 use Rattle.gq_sound.proofs.Services.{services_fair}
 

@@ -7,11 +7,32 @@ ghost use Rattle.gq_lines.specs.Counts.{written_to, failures_of};
 ghost use Rattle.gq_lines.specs.Writes.{IsFront, IsRaised};
 ghost use Rattle.gq_world.specs.Worlds.{line_told};
 
+use arrayvec::ArrayVec;
 use gq_init::NodeTable;
 use gq_lines::counted::{Counted, WriteFault, put};
-use gq_lines::line::labelled;
+use gq_lines::line::{Line, label_line};
 use gq_scenario::scenario::LeafNo;
 use std::io::Write;
+
+/// Writes the line of a leaf that gives this text, with the leaf's label. Where a write fails a front of it was written. The line is made in the
+/// place of what `line` has, so that whoever writes many makes room once.
+pub(crate) fn write_line_by<W: Write>(
+    line: &mut Line,
+    table: &NodeTable,
+    leaf: LeafNo,
+    text: &[u8],
+    out: &mut Counted<W>,
+) -> Result<(), WriteFault>
+    requires leaf { leaf < length (components table.now) }
+    requires text { length text.now ≤ 64 }
+    ensures written { OnOk result (Appends (written_to W.contents out.old) (written_to W.contents out.new) (line_told table.now leaf (doing.Line text.now))) }
+    ensures counted { OnOk result (failures_of out.new ≡ failures_of out.old) }
+    ensures front { OnErr result (IsFront (written_to W.contents out.old) (written_to W.contents out.new) (line_told table.now leaf (doing.Line text.now))) }
+    ensures raised { OnErr result (IsRaised (failures_of out.old) (failures_of out.new)) }
+{
+    label_line(line, table.label(table.node(leaf)), text);
+    put(out, line.as_slice())
+}
 
 /// Writes the line of a leaf that gives this text, with the leaf's label. Where a write fails a front of it was written.
 pub fn write_line<W: Write>(
@@ -27,6 +48,6 @@ pub fn write_line<W: Write>(
     ensures front { OnErr result (IsFront (written_to W.contents out.old) (written_to W.contents out.new) (line_told table.now leaf (doing.Line text.now))) }
     ensures raised { OnErr result (IsRaised (failures_of out.old) (failures_of out.new)) }
 {
-    let line = labelled(table.label(table.node(leaf)), text);
-    put(out, line.as_slice())
+    let mut line = ArrayVec::new();
+    write_line_by(&mut line, table, leaf, text, out)
 }

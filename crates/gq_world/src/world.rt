@@ -21,13 +21,14 @@ ghost use Rattle.gq_world.specs.internal.Going.{HasRun, IsCut};
 ghost use Rattle.gq_lines.specs.Writes.{IsFront, IsRaised};
 
 use crate::account_lines::write_accounts;
-use crate::leaf_lines::write_line;
+use crate::leaf_lines::write_line_by;
 use crate::node_accounts::account_of;
 use arrayvec::ArrayVec;
 use gq_init::NodeTable;
 use gq_laws::accepted::accepted_laws;
 use gq_lines::account::Account;
 use gq_lines::counted::{Counted, WriteFault};
+use gq_lines::line::Line;
 use gq_load::budget::Budget;
 use gq_machine::event::Event;
 use gq_machine::machine::Machine;
@@ -51,6 +52,7 @@ pub struct World {
     machine: Machine,
     budgets: Vec<Budget>,
     stopped: bool,
+    line: Line,
 }
 
 impl Model for World {
@@ -85,6 +87,7 @@ impl World {
             machine,
             budgets,
             stopped: false,
+            line: ArrayVec::new(),
         }
     }
 
@@ -258,7 +261,7 @@ impl World {
         ensures stopped { OnErr result (self.new.stopped ≡ true) }
         ensures raised { OnErr result (IsRaised (failures_of out.old) (failures_of out.new)) }
     {
-        match write_line(self.machine.table(), leaf, text, out) {
+        match write_line_by(&mut self.line, self.machine.table(), leaf, text, out) {
             Ok(()) => Ok(()),
             Err(fault) => {
                 self.stopped = true;

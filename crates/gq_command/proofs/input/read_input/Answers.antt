@@ -4,7 +4,7 @@ use Rattle.std.proofs.KnownBytes.{Consumes-trans}
 use Rattle.gq_command.proofs.input.read_input.Goals as goal
 
 -- one more read of what there is room for
-still_fits : (held room buffer : List ℕ) (asked taken size : ℕ) → length held ≡ size → size ≤ 18874369 → asked ≡ min 4096 (18874369 - size)
+still_fits : (held room buffer : List ℕ) (asked taken size : ℕ) → length held ≡ size → size ≤ 18874369 → asked ≡ min 65536 (18874369 - size)
     → length room ≡ length (take asked buffer) → taken ≤ length room → length (held ++ take taken room) ≤ 18874369
 still_fits held room buffer asked taken size a b d e h = omega (arith, length-append held (take taken room), length-take taken room, length-take asked buffer)
 

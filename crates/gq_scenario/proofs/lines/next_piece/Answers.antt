@@ -1,19 +1,20 @@
-use Rattle.std.proofs.Common.{◌+◌, sym, ◌∙◌, arith}
+use Rattle.std.proofs.Common.{◌==◌, ◌+◌, get_or, sym, add-one, ap, ◌∙◌, ◌∷◌, take, drop, arith}
+use Rattle.std.proofs.lemmas.Bool.{eq-eqb, eqb-true}
 use Rattle.std.proofs.lemmas.List.{take_rest}
-use Rattle.gq_scenario.proofs.Pieces.{pieces_here, pieces_more, pieces_last}
+use Rattle.gq_model.specs.texts.Letters.{pieces}
+use Rattle.gq_scenario.proofs.Pieces.{pieces_first, pieces_only}
 use Rattle.gq_scenario.proofs.lines.next_piece.Goals as goal
 
-pub returns-then-byte-separator-clause-piece : goal.returns-then-byte-separator-clause-piece
-returns-then-byte-separator-clause-piece c =
+pub returns-in-Some-clause-piece : goal.returns-in-Some-clause-piece
+returns-in-Some-clause-piece c =
     let text = c.args.text.now in
-    let place = c.loop-place.place in
-    let here = pieces_here c.args.separator text place c.loop-place-test.true c.if-byte-separator.true in
-    rw (take_rest text (place + 1)) (sym c.loop-place.invariant ∙ here)
+    let place = c.in-Some.place in
+    let found = c.in-Some.ensures in
+    let first = pieces_first c.args.separator text place found.0.high (λ j h e. found.0.before j (omega arith) h (eq-eqb (get_or text j 0) c.args.separator e))
+    (eqb-true (get_or text place 0) c.args.separator found.1) in
+    rw (take_rest text (place + 1)) (first ∙ ap (λ n. take place text ∷ pieces (λ c'. c' == c.args.separator) (drop n text)) (sym (add-one place)))
 
-pub loop-place-preserved : goal.loop-place-preserved
-loop-place-preserved c =
-    pieces_more c.args.separator c.args.text.now c.loop-place.place c.loop-place-test.true c.if-byte-separator.false ∙ c.loop-place.invariant
-
-pub returns-clause-piece : goal.returns-clause-piece
-returns-clause-piece c =
-    sym c.loop-place.invariant ∙ pieces_last c.args.separator c.args.text.now c.loop-place.place (omega arith)
+pub returns-in-None-clause-piece : goal.returns-in-None-clause-piece
+returns-in-None-clause-piece c =
+    let text = c.args.text.now in
+    pieces_only c.args.separator text (λ j h e. c.in-None.ensures j (omega arith) h (eq-eqb (get_or text j 0) c.args.separator e))

@@ -1,6 +1,5 @@
-use Rattle.std.proofs.Common.{◌≡◌, ◌<◌, ◌∙◌, ℕ, length, get_or, ap, sym, arith}
-use Rattle.gq_model.specs.machine.Scenario.{Scenario, components}
-use Rattle.gq_init.specs.NodeTables.{LeafRow, leaf_rows}
+use Rattle.std.proofs.Common.{◌∙◌, ℕ, length, get_or, ap, arith}
+use Rattle.gq_init.specs.NodeTables.{leaf_rows}
 use Rattle.gq_init.proofs.Rows.{leaf_rows-count, row_here, node_here, servers_here}
 use Rattle.gq_init.proofs.table.NodeTable.row.Goals as goal
 

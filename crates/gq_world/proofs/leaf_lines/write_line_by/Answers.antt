@@ -8,7 +8,7 @@ use Rattle.gq_init.proofs.Rows.{leaf_at, label_of_node}
 use Rattle.gq_lines.specs.Writes.{IsFront}
 use Rattle.gq_world.specs.Worlds.{line_told}
 use Rattle.gq_world.proofs.Turns.{label_told}
-use Rattle.gq_world.proofs.leaf_lines.write_line.Goals as goal
+use Rattle.gq_world.proofs.leaf_lines.write_line_by.Goals as goal
 
 pub returns-clause-front : goal.returns-clause-front
 returns-clause-front g c =
@@ -20,7 +20,7 @@ returns-clause-front g c =
     let told : IfSome (slice_get (components t) x) (λ d. c.label.result.now ≡ d.label) =
     subst (λ (o : Option Component). IfSome o (λ d. c.label.result.now ≡ d.label)) (sym leaf.there) label in
     let same = label_told (components t) x c.label.result.now c.requires.leaf told in
-    let line : c.labelled-line.result.items ≡ line_told t x (doing.Line text) = c.labelled-line.ensures ∙ ap (λ l. line_of l (doing.Line text)) same in
+    let line : c.label_line.new.line.items ≡ line_told t x (doing.Line text) = c.label_line.ensures ∙ ap (λ l. line_of l (doing.Line text)) same in
     let a = g.W.Write.contents c.args.out.now.writer in
     let b = g.W.Write.contents c.put.new.out.writer in
     subst (λ (l : List ℕ). OnErr c.put.result (IsFront a b l)) (c.as_slice.ensures.value ∙ line) c.put.ensures.front

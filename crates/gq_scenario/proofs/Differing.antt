@@ -8,11 +8,14 @@ use Rattle.gq_scenario.specs.Document.{names_of, name_twice}
 use Rattle.gq_scenario.specs.Keys.{NameTwice}
 use Rattle.gq_scenario.specs.Sizes.{leaves_in}
 use Rattle.gq_scenario.proofs.Preorder.{components-leaves_in}
-use Rattle.gq_laws.specs.Shapes.{Each}
-use Rattle.gq_laws.specs.Names.{NamesDiffer}
 use Rattle.gq_model.proofs.Small.{none_some, some_same}
 use Rattle.gq_model.proofs.Small.{text_self}
 use Rattle.std.proofs.lemmas.Bool.{or_parts, true≢false}
+
+-- so it is for each of these
+abbrev Each : (List ℕ → Type 0) → List (List ℕ) → Type 0
+Each P [] = Unit {0}
+Each P (a ∷ rest) = P a × Each P rest
 
 -- each of these is another than the ones before it
 abbrev Other : List ℕ → List ℕ → Type 0
@@ -121,7 +124,8 @@ name_at [] i c e = absurd (none_some e)
 name_at (d ∷ cs) zero c e = ap (λ (c : Component). Some c.node.name) (some_same e)
 name_at (d ∷ cs) (suc i) c e = name_at cs i c e
 
-pub names_differ : (s : Scenario) (seen : List (List ℕ)) → name_twice seen (names_of s.nodes) ≡ None → NamesDiffer s
+pub names_differ : (s : Scenario) (seen : List (List ℕ)) → name_twice seen (names_of s.nodes) ≡ None → (x y : ℕ) (c d : Component)
+    → slice_get (components s) x ≡ Some c → slice_get (components s) y ≡ Some d → c.node.name ≡ d.node.name → x ≡ y
 names_differ s seen e x y c d there at same =
     let differ = leaves_differ s.nodes (differ_by seen (names_of s.nodes) e).0 in
     let is = components-leaves_in s in
