@@ -1,17 +1,20 @@
 -- A request of a leaf.
-use Rattle.std.proofs.Common.{refl, ap, ◌∙◌}
+use Rattle.std.proofs.Common.{◌≡◌, ◌<◌, ◌+◌, ◌^◌, Some, refl, sym, ap, subst, ◌∙◌}
 use Rattle.std.specs.Prelude.{slice_get, slice_set}
+use Rattle.std.proofs.lemmas.Result.{on_err_weaker}
 use Rattle.gq_model.specs.machine.Doing.{Quiet}
 use Rattle.gq_model.specs.machine.Scenario.{system}
+use Rattle.gq_model.proofs.Small.{set_there, some_same}
 use Rattle.gq_flat.specs.Nexts.{Active}
+use Rattle.gq_flat.specs.declared.operation.Operation.TheVariants as operation
 use Rattle.gq_paid.specs.Systems.{stage_in}
 use Rattle.gq_statements.specs.Statements.{done}
-use Rattle.gq_steps.specs.Coded.{Coded}
+use Rattle.gq_steps.specs.Coded.{Coded, operation_of}
 use Rattle.gq_steps.proofs.Blocking.{active_stage}
 use Rattle.gq_transitions.specs.Worlds.{frame_of, world_of}
 use Rattle.gq_transitions.proofs.Frames.{elsewhere, leaf_set}
 use Rattle.gq_transitions.proofs.Kept.{kept_one}
-use Rattle.gq_transitions.proofs.Standing.{active_awake, at_hand, is_idle, item_there, of_leaf, on_ok, own_links, standing, waits_to}
+use Rattle.gq_transitions.proofs.Standing.{active_awake, active_live, at_hand, is_idle, item_there, live, of_leaf, on_ok, own_links, standing, waits_to}
 use Rattle.gq_transitions.proofs.Scenes.{scene_asked}
 use Rattle.gq_transitions.proofs.statements.call.Goals as goal
 
@@ -63,3 +66,39 @@ returns-clause-holds c = on_ok c.call-done.result _ (λ e.
     (ap (λ (l : Coded). l.code) to) (ap (λ (l : Coded). stage_in l.state.phase) to ∙ active_stage old.state.phase active)
     (scene_asked m.slots c.call-done.new.slots c.call-done.ensures.stays)
     (returns-clause-step c ∙ ap (λ r. done r (world_of f.table (slice_set m.leaves.items x new) c.call-done.new.slots)) e))
+
+pub call-done-requires-clause-next : goal.call-done-requires-clause-next
+call-done-requires-clause-next c =
+    let can = c.requires.can in
+    let m = c.args.state.now in
+    let old = c.index_mut-leaf.result.now in
+    let there = item_there m.leaves.items c.args.number can.leaf old can.leaf_is c.index_mut-leaf.ensures.value in
+    of_leaf (λ l. operation_of l ≡ Some (operation.Call c.args.place)) (slice_get m.leaves.items c.args.number) old there c.requires.next.next
+
+pub call-done-requires-clause-countable : goal.call-done-requires-clause-countable
+call-done-requires-clause-countable c =
+    let can = c.requires.can in
+    let m = c.args.state.now in
+    let old = c.index_mut-leaf.result.now in
+    let there = item_there m.leaves.items c.args.number can.leaf old can.leaf_is c.index_mut-leaf.ensures.value in
+    subst (λ (l : Coded). l.state.steps + 1 < 2 ^ 64) (some_same (sym can.leaf_is ∙ there)) can.countable
+
+pub call-done-requires-clause-live : goal.call-done-requires-clause-live
+call-done-requires-clause-live c =
+    let can = c.requires.can in
+    let m = c.args.state.now in
+    live c.args.fixed.now m can.holds c.lawful.ensures c.args.number can.component can.leaf can.component_is can.leaf_is
+    (active_live can.leaf.state.phase (of_leaf (λ l. Active l.state.phase) (slice_get m.leaves.items c.args.number) can.leaf can.leaf_is
+    c.requires.next.active))
+
+pub returns-clause-leaves : goal.returns-clause-leaves
+returns-clause-leaves c =
+    let can = c.requires.can in
+    let m = c.args.state.now in
+    let old = c.index_mut-leaf.result.now in
+    let there = item_there m.leaves.items c.args.number can.leaf old can.leaf_is c.index_mut-leaf.ensures.value in
+    on_err_weaker c.call-done.result (λ same. ap (slice_set m.leaves.items c.args.number) same ∙ set_there m.leaves.items c.args.number old there)
+    c.call-done.ensures.same
+
+pub returns-clause-slots : goal.returns-clause-slots
+returns-clause-slots c = c.call-done.ensures.unchanged

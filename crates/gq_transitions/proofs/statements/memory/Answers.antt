@@ -1,14 +1,16 @@
 -- A statement on memory.
 use Rattle.std.proofs.Common.{◌≡◌, ◌+◌, ◌<◌, ◌^◌, ℕ, suc, Some, refl, sym, ap, subst, ◌∙◌, arith}
 use Rattle.std.specs.Prelude.{OnOk, Result, get_or, slice_get, slice_set}
+use Rattle.std.proofs.lemmas.Result.{on_err_weaker}
 use Rattle.gq_model.specs.declared.fault.Wrong.{Wrong}
 use Rattle.gq_statements.specs.Statements.{done}
 use Rattle.gq_model.specs.machine.Scenario.{system}
 use Rattle.gq_model.specs.machine.Doing.{Quiet}
+use Rattle.gq_model.proofs.Small.{set_there, some_same}
 use Rattle.gq_flat.specs.Nexts.{Active}
 use Rattle.gq_laws.proofs.linking.Worlds.{set_here}
 use Rattle.gq_paid.specs.Systems.{stage_in}
-use Rattle.gq_steps.specs.Coded.{Coded, IsStanding}
+use Rattle.gq_steps.specs.Coded.{Coded, IsStanding, operation_of}
 use Rattle.gq_steps.specs.Steps.{on}
 use Rattle.gq_sessions.specs.Trading.{account_no, node_of}
 use Rattle.gq_donations.specs.Trees.{number}
@@ -18,7 +20,7 @@ use Rattle.gq_transitions.specs.Worlds.{frame_of, world_of}
 use Rattle.gq_transitions.specs.internal.Holds.{OfLeaf}
 use Rattle.gq_transitions.proofs.Frames.{elsewhere, leaf_set}
 use Rattle.gq_transitions.proofs.Kept.{kept_one}
-use Rattle.gq_transitions.proofs.Standing.{at_hand, item_there, links, of_leaf, on_ok, standing}
+use Rattle.gq_transitions.proofs.Standing.{active_live, at_hand, item_there, links, live, of_leaf, on_ok, standing}
 use Rattle.gq_transitions.proofs.Scenes.{scene_beside}
 use Rattle.gq_transitions.proofs.statements.memory.Goals as goal
 
@@ -89,3 +91,45 @@ returns-clause-acts c = on_ok c.memory-done.result _ (λ e.
           let less = of_leaf (λ l. l.state.steps + (n + 1) < 2 ^ 64) (slice_get ls x) old there h in
           subst (OfLeaf (λ (l : Coded). l.state.steps + n < 2 ^ 64)) (sym new_there) (omega (arith, less, steps));
     })
+
+pub memory-done-requires-clause-memory : goal.memory-done-requires-clause-memory
+memory-done-requires-clause-memory c = c.requires.memory
+
+pub memory-done-requires-clause-paid : goal.memory-done-requires-clause-paid
+memory-done-requires-clause-paid c = c.requires.can.paid
+
+pub memory-done-requires-clause-next : goal.memory-done-requires-clause-next
+memory-done-requires-clause-next c =
+    let can = c.requires.can in
+    let m = c.args.state.now in
+    let old = c.index_mut-leaf.result.now in
+    let there = item_there m.leaves.items c.args.number can.leaf old can.leaf_is c.index_mut-leaf.ensures.value in
+    of_leaf (λ l. operation_of l ≡ Some (c.args.operation)) (slice_get m.leaves.items c.args.number) old there c.requires.next.next
+
+pub memory-done-requires-clause-countable : goal.memory-done-requires-clause-countable
+memory-done-requires-clause-countable c =
+    let can = c.requires.can in
+    let m = c.args.state.now in
+    let old = c.index_mut-leaf.result.now in
+    let there = item_there m.leaves.items c.args.number can.leaf old can.leaf_is c.index_mut-leaf.ensures.value in
+    subst (λ (l : Coded). l.state.steps + 1 < 2 ^ 64) (some_same (sym can.leaf_is ∙ there)) can.countable
+
+pub memory-done-requires-clause-live : goal.memory-done-requires-clause-live
+memory-done-requires-clause-live c =
+    let can = c.requires.can in
+    let m = c.args.state.now in
+    live c.args.fixed.now m can.holds c.lawful.ensures c.args.number can.component can.leaf can.component_is can.leaf_is
+    (active_live can.leaf.state.phase (of_leaf (λ l. Active l.state.phase) (slice_get m.leaves.items c.args.number) can.leaf can.leaf_is
+    c.requires.next.active))
+
+pub returns-clause-leaves : goal.returns-clause-leaves
+returns-clause-leaves c =
+    let can = c.requires.can in
+    let m = c.args.state.now in
+    let old = c.index_mut-leaf.result.now in
+    let there = item_there m.leaves.items c.args.number can.leaf old can.leaf_is c.index_mut-leaf.ensures.value in
+    on_err_weaker c.memory-done.result (λ same. ap (slice_set m.leaves.items c.args.number) same ∙ set_there m.leaves.items c.args.number old there)
+    c.memory-done.ensures.same
+
+pub returns-clause-slots : goal.returns-clause-slots
+returns-clause-slots c = c.memory-done.ensures.unchanged

@@ -1,12 +1,14 @@
 -- A text that is said.
-use Rattle.std.proofs.Common.{◌≡◌, refl, ap, Some}
+use Rattle.std.proofs.Common.{◌≡◌, ◌<◌, ◌+◌, ◌^◌, ◌∙◌, refl, ap, subst, sym, Some}
 use Rattle.std.specs.Prelude.{slice_get, slice_set}
 use Rattle.gq_model.specs.declared.program.Instruction.TheVariants as instruction
 use Rattle.gq_model.specs.machine.Doing.{Line}
 use Rattle.gq_model.specs.machine.Scenario.{system}
+use Rattle.gq_model.proofs.Small.{some_same}
 use Rattle.gq_flat.specs.Nexts.{Active}
+use Rattle.gq_flat.specs.declared.operation.Operation.TheVariants as operation
 use Rattle.gq_paid.specs.Systems.{stage_in}
-use Rattle.gq_steps.specs.Coded.{Coded}
+use Rattle.gq_steps.specs.Coded.{Coded, operation_of}
 use Rattle.gq_transitions.specs.Worlds.{frame_of}
 use Rattle.gq_transitions.proofs.Frames.{elsewhere, leaf_set}
 use Rattle.gq_transitions.proofs.Kept.{kept_one}
@@ -43,3 +45,19 @@ returns-clause-holds c text said =
     kept_one f m _ x can.component old new (Line text) can.holds c.lawful.ensures c.lawful.ensures can.component_is there refl
     (ap (λ (l : Coded). l.code) c.said.ensures.stays) (ap (λ (l : Coded). stage_in l.state.phase) c.said.ensures.stays) (scene_self m.slots)
     (returns-clause-step c text said)
+
+pub said-requires-clause-next : goal.said-requires-clause-next
+said-requires-clause-next c =
+    let can = c.requires.can in
+    let m = c.args.state.now in
+    let old = c.index_mut-leaf.result.now in
+    let there = item_there m.leaves.items c.args.number can.leaf old can.leaf_is c.index_mut-leaf.ensures.value in
+    of_leaf (λ l. operation_of l ≡ Some (operation.Long c.args.statement)) (slice_get m.leaves.items c.args.number) old there c.requires.next.next
+
+pub said-requires-clause-countable : goal.said-requires-clause-countable
+said-requires-clause-countable c =
+    let can = c.requires.can in
+    let m = c.args.state.now in
+    let old = c.index_mut-leaf.result.now in
+    let there = item_there m.leaves.items c.args.number can.leaf old can.leaf_is c.index_mut-leaf.ensures.value in
+    subst (λ (l : Coded). l.state.steps + 1 < 2 ^ 64) (some_same (sym can.leaf_is ∙ there)) can.countable

@@ -1,11 +1,14 @@
 -- The top operand that is written.
-use Rattle.std.proofs.Common.{refl, ap}
+use Rattle.std.proofs.Common.{◌≡◌, ◌<◌, ◌+◌, ◌^◌, ◌∙◌, refl, ap, subst, sym, Some}
 use Rattle.std.specs.Prelude.{decimal, slice_get, slice_set}
+use Rattle.std.proofs.lemmas.Result.{on_err_weaker}
 use Rattle.gq_model.specs.machine.Doing.{Line}
 use Rattle.gq_model.specs.machine.Scenario.{system}
+use Rattle.gq_model.proofs.Small.{set_there, some_same}
 use Rattle.gq_flat.specs.Nexts.{Active}
+use Rattle.gq_flat.specs.declared.operation.Operation.TheVariants as operation
 use Rattle.gq_paid.specs.Systems.{stage_in}
-use Rattle.gq_steps.specs.Coded.{Coded}
+use Rattle.gq_steps.specs.Coded.{Coded, operation_of}
 use Rattle.gq_transitions.specs.Worlds.{frame_of}
 use Rattle.gq_transitions.proofs.Frames.{elsewhere, leaf_set}
 use Rattle.gq_transitions.proofs.Kept.{kept_one}
@@ -55,3 +58,28 @@ returns-clause-holds c =
     kept_one f m _ x can.component old new (Line (decimal n)) can.holds c.lawful.ensures c.lawful.ensures can.component_is there refl
     (ap (λ (l : Coded). l.code) both.1) (ap (λ (l : Coded). stage_in l.state.phase) both.1) (scene_self m.slots) both.0)
     (if_both c.show.result _ _ (returns-clause-step c) c.show.ensures.stays)
+
+pub show-requires-clause-next : goal.show-requires-clause-next
+show-requires-clause-next c =
+    let can = c.requires.can in
+    let m = c.args.state.now in
+    let old = c.index_mut-leaf.result.now in
+    let there = item_there m.leaves.items c.args.number can.leaf old can.leaf_is c.index_mut-leaf.ensures.value in
+    of_leaf (λ l. operation_of l ≡ Some (operation.Out)) (slice_get m.leaves.items c.args.number) old there c.requires.next.next
+
+pub show-requires-clause-countable : goal.show-requires-clause-countable
+show-requires-clause-countable c =
+    let can = c.requires.can in
+    let m = c.args.state.now in
+    let old = c.index_mut-leaf.result.now in
+    let there = item_there m.leaves.items c.args.number can.leaf old can.leaf_is c.index_mut-leaf.ensures.value in
+    subst (λ (l : Coded). l.state.steps + 1 < 2 ^ 64) (some_same (sym can.leaf_is ∙ there)) can.countable
+
+pub returns-clause-leaves : goal.returns-clause-leaves
+returns-clause-leaves c =
+    let can = c.requires.can in
+    let m = c.args.state.now in
+    let old = c.index_mut-leaf.result.now in
+    let there = item_there m.leaves.items c.args.number can.leaf old can.leaf_is c.index_mut-leaf.ensures.value in
+    on_err_weaker c.show.result (λ same. ap (slice_set m.leaves.items c.args.number) same ∙ set_there m.leaves.items c.args.number old there)
+    c.show.ensures.unchanged
