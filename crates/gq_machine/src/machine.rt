@@ -10,6 +10,7 @@ ghost use Rattle.gq_init.specs.NodeTables.{node_rows};
 ghost use Rattle.gq_ready.specs.Ready.{IsReady};
 ghost use Rattle.gq_flat.specs.Programs.{IsCodeOfProgram};
 ghost use Rattle.gq_plans.specs.Nodes.{caps_of};
+ghost use Rattle.gq_prepared.specs.Prepared.{AreServices};
 ghost use Rattle.gq_quotas.specs.Held.{held_by_all};
 ghost use Rattle.gq_steps.specs.Coded.{Coded};
 ghost use Rattle.gq_transitions.specs.internal.Holds.{IsPrepared};
@@ -162,6 +163,34 @@ fn first_slots(alloc: Global, table: &NodeTable) -> Result<Slots, AllocError>
     Ok(slots)
 }
 
+// What changes, at the start of a scenario.
+fn first_state(alloc: Global, table: &NodeTable) -> Result<State, AllocError>
+    requires { IsReady table.now }
+    ensures slots { IfOk result (λ m. AreFirstSlots table.now m.slots) }
+    ensures leaves { IfOk result (λ m. AreFirst (components table.now) (length (components table.now)) m.leaves.items) }
+{
+    let slots = first_slots(alloc, table)?;
+    let leaves = first_leaves(alloc, table)?;
+    Ok(State { leaves, slots })
+}
+
+// What is fixed at load of a scenario whose leaves start with this code.
+fn fixed_of(alloc: Global, table: NodeTable, leaves: &[Leaf]) -> Result<Fixed, AllocError>
+    requires ready { IsReady table }
+    requires first { AreFirst (components table) (length (components table)) leaves.now }
+    ensures table { IfOk result (λ f. f.table ≡ table) }
+    ensures prepared { IfOk result (λ f. ArePrepared table (length (components table)) leaves.now f.prepared.items) }
+    ensures services { IfOk result (λ f. AreServices table f.services) }
+{
+    let prepared = prepared(alloc, &table, leaves)?;
+    let services = Services::new(alloc, &table)?;
+    Ok(Fixed {
+        table,
+        prepared,
+        services,
+    })
+}
+
 impl Machine {
     /// The machine at the start of a scenario that is read and resolved. Refused only for want of host memory.
     pub fn new(alloc: Global, table: NodeTable) -> Result<Machine, AllocError>
@@ -169,18 +198,9 @@ impl Machine {
         ensures scenario { IfOk result (λ m. m.scenario ≡ table) }
         ensures world { IfOk result (λ m. m.world ≡ start (system table)) }
     {
-        let slots = first_slots(alloc, &table)?;
-        let leaves = first_leaves(alloc, &table)?;
-        let prepared = prepared(alloc, &table, leaves.as_slice())?;
-        let services = Services::new(alloc, &table)?;
-        Ok(Machine {
-            fixed: Fixed {
-                table,
-                prepared,
-                services,
-            },
-            state: State { leaves, slots },
-        })
+        let state = first_state(alloc, &table)?;
+        let fixed = fixed_of(alloc, table, state.leaves.as_slice())?;
+        Ok(Machine { fixed, state })
     }
 
     /// The nodes of the scenario.
