@@ -6,7 +6,7 @@ ghost use Rattle.std.specs.Io.KnownBytes.{Appends};
 ghost use Rattle.gq_model.specs.machine.World.{start};
 ghost use Rattle.gq_lines.specs.Counts.{written_to, failures_of};
 ghost use Rattle.gq_lines.specs.Writes.{IsFront, IsRaised};
-ghost use Rattle.gq_world.specs.internal.Going.{AreBelow, HasRun, IsCut};
+ghost use Rattle.gq_world.specs.internal.Going.{AreBelow, HasRun, HasWritten, IsCut, turns_written};
 ghost use Rattle.gq_world.specs.Whole.{run_written, whole_of};
 ghost use Rattle.gq_world.specs.Headline.{WritesPromised};
 ghost use Rattle.gq_world.specs.Outcomes.{IsBefore, IsCutShort, IsFaultOf, IsWhole};
@@ -84,6 +84,34 @@ fn run_world<W: Write>(
     world.write_accounts(out)
 }
 
+// Reads turns, takes all of them from the start of a scenario, and writes the lines that they give and then those of its accounts.
+fn run_turns<W: Write>(
+    alloc: Global,
+    world: &mut World,
+    turns: &[u8],
+    out: &mut Counted<W>,
+) -> Result<(), RunFault<'static>>
+    requires start { world.old.world ≡ start (system world.old.scenario) }
+    requires running { world.old.stopped ≡ false }
+    ensures written { OnOk result (HasWritten world.old.scenario turns.now (written_to W.contents out.old) (written_to W.contents out.new)) }
+    ensures counted { OnOk result (failures_of out.new ≡ failures_of out.old) }
+    ensures refused { IfErr result (λ fault. IsFaultOf fault (turns_written world.old.scenario turns.now)) }
+    ensures silent { IfErr result (λ fault. IsBefore fault → out.new ≡ out.old) }
+    ensures cut { result ≡ Err RunFault.Write → IsCutShort (turns_written world.old.scenario turns.now) (written_to W.contents out.old)
+        (written_to W.contents out.new) }
+    ensures raised { result ≡ Err RunFault.Write → IsRaised (failures_of out.old) (failures_of out.new) }
+{
+    let turns = match read_turns(alloc, turns, world.table()) {
+        Ok(turns) => turns,
+        Err(TurnsError::Memory(_)) => return Err(RunFault::Memory),
+        Err(TurnsError::Fault { fault, line }) => return Err(RunFault::Turns { fault, line }),
+    };
+    match run_world(world, turns.as_slice(), out) {
+        Ok(()) => Ok(()),
+        Err(_) => Err(RunFault::Write),
+    }
+}
+
 /// Runs a scenario, a text in TOML, by the turns of a second text: loads it, takes all its turns, and writes the lines that
 /// they give and then the accounts of all nodes. Nothing is written where the scenario or the turns are refused, or where host
 /// memory is, which only loading and reading the turns take.
@@ -111,13 +139,5 @@ pub fn run<W: Write>(
     ensures raised { result ≡ Err RunFault.Write → IsRaised (failures_of out.old) (failures_of out.new) }
 {
     let mut world = World::load(alloc, scenario)?;
-    let turns = match read_turns(alloc, turns, world.table()) {
-        Ok(turns) => turns,
-        Err(TurnsError::Memory(_)) => return Err(RunFault::Memory),
-        Err(TurnsError::Fault { fault, line }) => return Err(RunFault::Turns { fault, line }),
-    };
-    match run_world(&mut world, turns.as_slice(), out) {
-        Ok(()) => Ok(()),
-        Err(_) => Err(RunFault::Write),
-    }
+    run_turns(alloc, &mut world, turns, out)
 }

@@ -1,8 +1,11 @@
 -- What turns do to a world, and what they write.
-use Rattle.std.specs.Prelude.{◌≡◌, ◌<◌, ℕ, false, List, [], ◌∷◌, ◌++◌, Option, None}
+use Rattle.std.specs.Prelude.{◌≡◌, ◌<◌, ℕ, false, List, [], ◌∷◌, ◌++◌, Option, None, Ok}
 use Rattle.std.specs.Io.KnownBytes.{Appends}
 use Rattle.gq_model.specs.machine.World as model
 use Rattle.gq_model.specs.machine.Run.{Ran}
+use Rattle.gq_model.specs.machine.Scenario.{Scenario, components}
+use Rattle.gq_model.specs.texts.Turns.{turned}
+use Rattle.gq_world.specs.Whole.{Written, whole_of, written_turns}
 use Rattle.gq_world.specs.Worlds.{World}
 
 -- a run of which no step was wrong
@@ -34,3 +37,13 @@ pub record IsCut (turns : Ran → Ran) (old : World) (before after : Option (Lis
 abbrev pub AreBelow : ℕ → List (ℕ × ℕ) → Type 0
 AreBelow n [] = Unit {0}
 AreBelow n (t ∷ turns) = (t.0 < n) × AreBelow n turns
+
+-- what a run of this scenario by a text of turns writes, or the first fault of the turns
+abbrev pub turns_written : Scenario → List ℕ → Written
+turns_written s text = written_turns s (turned (components s) text)
+
+-- the turns of the text were taken, and what they write and the accounts were written
+pub record HasWritten (s : Scenario) (text : List ℕ) (before after : Option (List ℕ)) : Type 0 where
+  pub taken : List (ℕ × ℕ)
+  pub reads : turned (components s) text ≡ Ok taken
+  pub written : Appends before after (whole_of s taken)

@@ -1,44 +1,49 @@
-use Rattle.std.proofs.Common.{sym, subst, length, ℕ, List}
-use Rattle.std.specs.Io.KnownBytes.{Appends}
-use Rattle.gq_model.specs.machine.Scenario.{components}
-use Rattle.gq_world.specs.internal.Going.{AreBelow}
-use Rattle.gq_world.specs.Whole.{whole_of}
-use Rattle.gq_world.proofs.Whole.{below_of, written_is, promised}
+use Rattle.std.proofs.Common.{◌≡◌, ap, sym, subst, refl, List, ℕ, Result, Ok, Err, ◌∙◌}
+use Rattle.std.specs.Prelude.{IfErr, OnOk}
+use Rattle.gq_model.specs.machine.Scenario.{Scenario, components}
+use Rattle.gq_model.specs.texts.Turns.{turned}
+use Rattle.gq_load.specs.Load.{loaded}
+use Rattle.gq_world.specs.Headline.{WritesPromised}
+use Rattle.gq_world.specs.Outcomes.{IsFaultOf, IsWhole}
+use Rattle.gq_world.specs.internal.Going.{HasWritten, turns_written}
+use Rattle.gq_world.specs.Whole.{run_written, with_scenario, whole_of, written_turns}
+use Rattle.gq_world.proofs.Whole.{promised}
 use Rattle.gq_world.proofs.run.run.Goals as goal
 
-pub run_world-requires-clause-leaves : goal.run_world-requires-clause-leaves
-run_world-requires-clause-leaves g c =
-    let s = c.in_ok-world.world.scenario in
-    subst (λ (t : List (ℕ × ℕ)). AreBelow (length (components s)) t) (sym c.as_slice.ensures.value)
-    (below_of s c.table.result.now c.args.turns.now c.in-Ok.turns.items c.table.ensures c.in-Ok.ensures)
+-- what is written for a text that is loaded
+runs : (scenario text : List ℕ) (s : Scenario) → loaded scenario ≡ Ok s → run_written scenario text ≡ turns_written s text
+runs scenario text s load = ap (λ l. with_scenario l (λ r. written_turns r (turned (components r) text))) load
 
-pub returns-in-Ok-run_world-clause-written : goal.returns-in-Ok-run_world-clause-written
-returns-in-Ok-run_world-clause-written g c =
-    let s = c.in_ok-world.world.scenario in
-    let turns = c.in-Ok.turns.items in
-    let a = g.W.Write.contents c.args.out.now.writer in
-    let b = g.W.Write.contents c.run_world.new.out.writer in
-    record {
-      text = whole_of s turns;
-      given = written_is c.args.scenario.now c.args.turns.now s c.table.result.now turns c.in_ok-world.ensures.loaded c.table.ensures c.in-Ok.ensures;
-      written = subst (λ (t : List (ℕ × ℕ)). Appends a b (whole_of s t)) c.as_slice.ensures.value c.in-Ok-run_world.ensures.written;
-    }
+on_ok_then : {A B : Type 0} (r : Result A B) (P Q : Type 0) → (P → Q) → OnOk r P → OnOk r Q
+on_ok_then (Ok a) P Q f h = f h
+on_ok_then (Err b) P Q f h = h
 
-pub returns-in-Ok-run_world-clause-promised : goal.returns-in-Ok-run_world-clause-promised
-returns-in-Ok-run_world-clause-promised g c =
+pub returns-clause-written : goal.returns-clause-written
+returns-clause-written g c =
     let s = c.in_ok-world.world.scenario in
-    let turns = c.in-Ok.turns.items in
+    let scenario = c.args.scenario.now in
+    let text = c.args.turns.now in
     let a = g.W.Write.contents c.args.out.now.writer in
-    let b = g.W.Write.contents c.run_world.new.out.writer in
-    let written = subst (λ (t : List (ℕ × ℕ)). Appends a b (whole_of s t)) c.as_slice.ensures.value c.in-Ok-run_world.ensures.written in
-    promised c.args.scenario.now c.args.turns.now s c.table.result.now turns a b c.in_ok-world.ensures.loaded c.table.ensures c.in-Ok.ensures
-    c.in_ok-world.ensures.accepted c.in_ok-world.ensures.upheld written
+    let b = g.W.Write.contents c.run_turns.new.out.writer in
+    on_ok_then c.run_turns.result (HasWritten s text a b) (IsWhole (run_written scenario text) a b)
+    (λ h. record {
+      text = whole_of s h.taken;
+      given = runs scenario text s c.in_ok-world.ensures.loaded ∙ ap (written_turns s) h.reads;
+      written = h.written;
+    }) c.run_turns.ensures.written
+
+pub returns-clause-promised : goal.returns-clause-promised
+returns-clause-promised g c =
+    let s = c.in_ok-world.world.scenario in
+    let scenario = c.args.scenario.now in
+    let text = c.args.turns.now in
+    let a = g.W.Write.contents c.args.out.now.writer in
+    let b = g.W.Write.contents c.run_turns.new.out.writer in
+    on_ok_then c.run_turns.result (HasWritten s text a b) (WritesPromised scenario text a b)
+    (λ h. promised scenario text s s h.taken a b c.in_ok-world.ensures.loaded refl h.reads c.in_ok-world.ensures.accepted c.in_ok-world.ensures.upheld
+    h.written) c.run_turns.ensures.written
 
 pub returns-clause-refused : goal.returns-clause-refused
 returns-clause-refused g c =
-    let s = c.in_ok-world.world.scenario in
-    let turns = c.in-Ok.turns.items in (
-      whole_of s turns,
-      written_is c.args.scenario.now c.args.turns.now s c.table.result.now turns c.in_ok-world.ensures.loaded c.table.ensures
-          c.in-Ok.ensures,
-    )
+    let same = runs c.args.scenario.now c.args.turns.now c.in_ok-world.world.scenario c.in_ok-world.ensures.loaded in
+    subst (λ w. IfErr c.run_turns.result (λ fault. IsFaultOf fault w)) (sym same) c.run_turns.ensures.refused
