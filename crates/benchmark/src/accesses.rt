@@ -5,6 +5,7 @@ ghost use Rattle.gq_things.specs.Things.{size_of};
 ghost use Rattle.gq_trade.specs.Trades.{IsLive};
 ghost use Rattle.gq_slots.specs.Slots.{IsPaidBy, IsSpot, thing_at};
 ghost use Rattle.benchmark.specs.Accesses.{IsNoLink};
+ghost use Rattle.benchmark.specs.Rounds.{HasRoom};
 
 use crate::fault::Fault;
 use crate::sessions::market;
@@ -21,6 +22,19 @@ const SIZE: u32 = 16384;
 /// Measures so many bytes of a space that are read in sequence, each by the space's slot, and then each by its address. Gives what they are together.
 pub fn measured(rt: &HostRuntime, times: u32) -> Result<usize, Fault> {
     let mut slots = market(rt.alloc())?;
+    let addresses = Addresses::new(Vec::new(rt.alloc()));
+    in_slots(rt, &mut slots, &addresses, times)
+}
+
+// The same in slots in which no session is open.
+fn in_slots(
+    rt: &HostRuntime,
+    slots: &mut Slots,
+    addresses: &Addresses,
+    times: u32,
+) -> Result<usize, Fault>
+    requires { HasRoom 0 slots.old }
+{
     slots.laws();
     slots.pay_by(1);
     let slot = Spot::InLeaf(1, 0);
@@ -28,8 +42,7 @@ pub fn measured(rt: &HostRuntime, times: u32) -> Result<usize, Fault> {
         return Err(Fault::Account);
     }
     slots.make_space(slot, SIZE)?;
-    let addresses = Addresses::new(Vec::new(rt.alloc()));
-    both(rt, &mut slots, &addresses, times)
+    both(rt, slots, addresses, times)
 }
 
 fn both(

@@ -25,16 +25,24 @@ pub fn measured(rt: &HostRuntime, times: u32, open: u32) -> Result<usize, Fault>
         return Err(Fault::Usage);
     }
     let mut slots = market(rt.alloc())?;
-    if !open_all(&mut slots, open) {
+    in_slots(rt, &mut slots, times, open)
+}
+
+// The same in slots in which no session is open, while so many others are.
+fn in_slots(rt: &HostRuntime, slots: &mut Slots, times: u32, others: u32) -> Result<usize, Fault>
+    requires room { HasRoom 0 slots.old }
+    requires others { others ≤ 10000 }
+{
+    if !open_all(slots, others) {
         return Err(Fault::Account);
     }
     let start = Instant::now(rt)?;
-    if !rounds(&mut slots, times) {
+    if !rounds(slots, times) {
         return Err(Fault::Account);
     }
     tell(rt, "session", u64::from(times), start)?;
     let start = Instant::now(rt)?;
-    if !replies(&mut slots, times) {
+    if !replies(slots, times) {
         return Err(Fault::Account);
     }
     tell(rt, "two replies", u64::from(times), start)?;

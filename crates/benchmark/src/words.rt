@@ -23,12 +23,22 @@ const BLOCKS: u32 = 512;
 /// Measures numbers that are written and read, each as often as there are numbers, and blocks of bytes that are cleared, so many times over: in a dataspace
 /// whose frames follow one another, in one where none follows the one before, and in a `Vec`. Gives a sum of what was read.
 pub fn measured(rt: &HostRuntime, times: u32) -> Result<usize, Fault> {
-    let (mut accounts, ds) = with_dataspace(rt)?;
-    let in_row = in_a_dataspace(rt, &mut accounts, ds, times, "dataspace")?;
-    let (mut accounts, ds) = with_scattered(rt)?;
-    let scattered = in_a_dataspace(rt, &mut accounts, ds, times, "scattered")?;
+    let in_row = in_row(rt, times)?;
+    let scattered = scattered(rt, times)?;
     let in_vec = in_a_vec(rt, times)?;
     Ok((in_row ^ scattered ^ in_vec) as usize)
+}
+
+// In a dataspace whose frames follow one another.
+fn in_row(rt: &HostRuntime, times: u32) -> Result<u32, Fault> {
+    let (mut accounts, ds) = with_dataspace(rt)?;
+    in_a_dataspace(rt, &mut accounts, ds, times, "dataspace")
+}
+
+// In a dataspace in which no frame follows the one before.
+fn scattered(rt: &HostRuntime, times: u32) -> Result<u32, Fault> {
+    let (mut accounts, ds) = with_scattered(rt)?;
+    in_a_dataspace(rt, &mut accounts, ds, times, "scattered")
 }
 
 // In a dataspace that an account pays for, whose frames lie so.

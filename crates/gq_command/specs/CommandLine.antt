@@ -32,10 +32,14 @@ abbrev pub asm_app : App
 asm_app = two_words (codes "asm") (codes "SCENARIO") (codes "LEAF")
 
 -- the program's command line, without the program's name: one of its commands
+abbrev pub trade_of_check : App
+trade_of_check = with_subcommand (on_top (λ s. record s { no_binary_name = true; subcommand_required = true }) (new_app (codes "trade"))) check_app.top
+
+abbrev pub trade_without_asm : App
+trade_without_asm = with_subcommand trade_of_check run_app.top
+
 abbrev pub trade : App
-trade =
-    with_subcommand (with_subcommand (with_subcommand (on_top (λ s. record s { no_binary_name = true; subcommand_required = true }) (new_app (codes "trade")))
-    check_app.top) run_app.top) asm_app.top
+trade = with_subcommand trade_without_asm asm_app.top
 
 -- what is wanted of the file of a scenario: its budgets, its run over the turns in a second file, or the code of a leaf
 pub data Wanted : Type 0 where

@@ -1,9 +1,9 @@
 //! From the words of a command line to the command that they name.
-ghost use Rattle.std.specs.Prelude.{◌≡◌, ◌≢◌, IfOk, IfErr, None, false, map, option_map, codes};
+ghost use Rattle.std.specs.Prelude.{◌≡◌, ◌≢◌, IfOk, IfErr, None, Some, false, map, option_map, codes};
 ghost use Rattle.clap.specs.declared.builder.command.Command.TheViews.{out-Command};
 ghost use Rattle.clap.specs.Words.{app_of, first_of, found_of, kind_of, rows_of, rule_of, subcommand_rows_of};
 ghost use Rattle.gq_command.specs.declared.command.CommandError.TheVariants.{Usage};
-ghost use Rattle.gq_command.specs.CommandLine.{IsAsked, IsHelp, IsMisused, IsWanted, both_of, wanted_in, wanted_of, two_words, check_app, word_rule, trade};
+ghost use Rattle.gq_command.specs.CommandLine.{Asm_wanted, IsAsked, IsHelp, IsMisused, IsWanted, Run_wanted, both_of, wanted_in, wanted_of, two_words, check_app, word_rule, trade, trade_of_check, trade_without_asm};
 
 use crate::command::{Command, CommandError};
 use clap::error::ErrorKind;
@@ -62,18 +62,36 @@ pub fn command<'a>(alloc: Global, words: &'a [&'a str]) -> Result<Command, Comma
 fn command_line<'a>(alloc: Global) -> Result<clap::Command<'a>, AllocError>
     ensures { IfOk result (λ line. app_of line ≡ trade) }
 {
+    let line = with_run(alloc)?;
+    match scenario_command(alloc, "asm", ASM_ABOUT, "LEAF", "The name of the leaf") {
+        Ok(asm) => line.subcommand(asm),
+        Err(refused) => Err(refused),
+    }
+}
+
+// The same without `asm`.
+fn with_run<'a>(alloc: Global) -> Result<clap::Command<'a>, AllocError>
+    ensures { IfOk result (λ line. app_of line ≡ trade_without_asm) }
+{
+    let line = with_check(alloc)?;
+    match scenario_command(alloc, "run", RUN_ABOUT, "TURNS", "The file of the turns") {
+        Ok(run) => line.subcommand(run),
+        Err(refused) => Err(refused),
+    }
+}
+
+// The same with `check` alone.
+fn with_check<'a>(alloc: Global) -> Result<clap::Command<'a>, AllocError>
+    ensures { IfOk result (λ line. app_of line ≡ trade_of_check) }
+{
     let check = check_command(alloc)?;
-    let run = scenario_command(alloc, "run", RUN_ABOUT, "TURNS", "The file of the turns")?;
-    let asm = scenario_command(alloc, "asm", ASM_ABOUT, "LEAF", "The name of the leaf")?;
     clap::Command::new(alloc, "trade")
         .about(ABOUT)
         .override_usage(USAGE)
         .after_help(AFTER)
         .no_binary_name(true)
         .subcommand_required(true)
-        .subcommand(check)?
-        .subcommand(run)?
-        .subcommand(asm)
+        .subcommand(check)
 }
 
 // The command that checks the file of a scenario.
@@ -138,25 +156,41 @@ fn named(alloc: Global, name: &str, found: &ArgMatches<'_>) -> Result<Command, C
     }
     if name == "run" {
         return match both_named(found, "SCENARIO", "TURNS") {
-            Some((scenario, turns)) => {
-                let scenario = String::from_str(alloc, scenario)?;
-                let turns = String::from_str(alloc, turns)?;
-                Ok(Command::Run(scenario, turns))
-            }
+            Some((scenario, turns)) => run_of(alloc, scenario, turns),
             None => Err(CommandError::Usage),
         };
     }
     if name == "asm" {
         return match both_named(found, "SCENARIO", "LEAF") {
-            Some((scenario, leaf)) => {
-                let scenario = String::from_str(alloc, scenario)?;
-                let leaf = String::from_str(alloc, leaf)?;
-                Ok(Command::Asm(scenario, leaf))
-            }
+            Some((scenario, leaf)) => asm_of(alloc, scenario, leaf),
             None => Err(CommandError::Usage),
         };
     }
     Err(CommandError::Usage)
+}
+
+// The command that runs the scenario of a file over the turns of another.
+fn run_of(alloc: Global, scenario: &str, turns: &str) -> Result<Command, CommandError>
+    ensures asked { IfOk result (IsWanted (Some (Run_wanted scenario.now turns.now))) }
+    ensures refused { IfErr result (λ e. e ≢ Usage) }
+{
+    let scenario = String::from_str(alloc, scenario)?;
+    match String::from_str(alloc, turns) {
+        Ok(turns) => Ok(Command::Run(scenario, turns)),
+        Err(refused) => Err(CommandError::Memory(refused)),
+    }
+}
+
+// The command that gives the code of a leaf of the scenario of a file.
+fn asm_of(alloc: Global, scenario: &str, leaf: &str) -> Result<Command, CommandError>
+    ensures asked { IfOk result (IsWanted (Some (Asm_wanted scenario.now leaf.now))) }
+    ensures refused { IfErr result (λ e. e ≢ Usage) }
+{
+    let scenario = String::from_str(alloc, scenario)?;
+    match String::from_str(alloc, leaf) {
+        Ok(leaf) => Ok(Command::Asm(scenario, leaf)),
+        Err(refused) => Err(CommandError::Memory(refused)),
+    }
 }
 
 // The first values of two arguments.

@@ -93,18 +93,33 @@ fn scattered(alloc: Global) -> Result<(Spaces, DsId, DsId), Fail>
     Ok((spaces, between, scattered))
 }
 
+// The word across both frames before and after its bytes are written, and then the first byte, the word behind it and the last byte of the dataspace between.
+fn read_across(spaces: &mut Spaces, between: DsId, scattered: DsId) -> (u32, u32, u8, u32, u8)
+    requires first { length (content_of spaces.old.spaces between.0) ≡ 4096 }
+    requires second { length (content_of spaces.old.spaces scattered.0) ≡ 8192 }
+    requires apart { between.0 ≢ scattered.0 }
+{
+    let before = spaces.load4(scattered, 4094);
+    put_byte(spaces, scattered, 4094, 1);
+    put_byte(spaces, scattered, 4095, 2);
+    put_byte(spaces, scattered, 4096, 3);
+    put_byte(spaces, scattered, 4097, 4);
+    (
+        before,
+        spaces.load4(scattered, 4094),
+        spaces.load(between, 0),
+        spaces.load4(between, 1),
+        spaces.load(between, 4095),
+    )
+}
+
 #[test]
 fn reads_a_word_across_scattered_frames(rt: HostRuntime) -> Result<(), Fail> {
     let (mut spaces, between, scattered) = scattered(rt.alloc())?;
-    assert_eq!(rt; spaces.load4(scattered, 4094), 0);
-    put_byte(&mut spaces, scattered, 4094, 1);
-    put_byte(&mut spaces, scattered, 4095, 2);
-    put_byte(&mut spaces, scattered, 4096, 3);
-    put_byte(&mut spaces, scattered, 4097, 4);
-    assert_eq!(rt; spaces.load4(scattered, 4094), 67305985);
-    assert_eq!(rt; spaces.load(between, 0), 7);
-    assert_eq!(rt; spaces.load4(between, 1), 0);
-    assert_eq!(rt; spaces.load(between, 4095), 9);
+    assert_eq!(rt;
+        read_across(&mut spaces, between, scattered),
+        (0, 67305985, 7, 0, 9)
+    );
     Ok(())
 }
 

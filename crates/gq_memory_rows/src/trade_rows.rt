@@ -327,6 +327,14 @@ fn turns_of_line(alloc: Global) -> Result<[(u64, u64); 3], Fail> {
 // The capabilities before a session with one is asked for, once it is accepted, and once it is closed.
 fn trade_with_caps(alloc: Global) -> Result<[Caps; 3], Fail> {
     let mut market = pair_with_caps(alloc)?;
+    trade_caps(&mut market)
+}
+
+fn trade_caps(market: &mut Market) -> Result<[Caps; 3], Fail>
+    requires parties { AreParties market.old.trades market.old.server market.old.client }
+    requires quiet { IsQuiet market.old.trades }
+    requires counted { market.old.trades.trading.memory.ledger.price ≡ 1 }
+{
     let before = market.caps();
     market.ask(Amount { ram: 8192, caps: 1 })?;
     market.accept()?;
@@ -338,22 +346,36 @@ fn trade_with_caps(alloc: Global) -> Result<[Caps; 3], Fail> {
 // Why a session is refused with a capability too many, and with a byte too many beside that; and what there is then.
 fn refusals(alloc: Global) -> Result<Option<(AccountFault, AccountFault, Bytes, Caps)>, Fail> {
     let mut market = pair_with_caps(alloc)?;
+    Ok(refused_asks(&mut market))
+}
+
+fn refused_asks(market: &mut Market) -> Option<(AccountFault, AccountFault, Bytes, Caps)>
+    requires parties { AreParties market.old.trades market.old.server market.old.client }
+    requires quiet { IsQuiet market.old.trades }
+    requires counted { market.old.trades.trading.memory.ledger.price ≡ 1 }
+{
     let Err(lacks_caps) = market.ask(Amount { ram: 8192, caps: 2 }) else {
-        return Ok(None);
+        return None;
     };
     let Err(lacks_bytes) = market.ask(Amount {
         ram: 16385,
         caps: 2,
     }) else {
-        return Ok(None);
+        return None;
     };
-    Ok(Some((lacks_caps, lacks_bytes, market.bytes(), market.caps())))
+    Some((lacks_caps, lacks_bytes, market.bytes(), market.caps()))
 }
 
 // The second client asks, then the first. The session of the request that the server accepts, and that of the one which waits then.
 fn serve_first(alloc: Global) -> Result<(Option<usize>, Option<usize>), Fail> {
     let mut trades = trio(alloc)?;
-    both_ask(&mut trades)?;
+    serve_one(&mut trades)
+}
+
+fn serve_one(trades: &mut Trades) -> Result<(Option<usize>, Option<usize>), Fail>
+    requires { IsTrio trades.old }
+{
+    both_ask(trades)?;
     let accepted = trades.accept(SERVER)?;
     let waits = trades.waiting(SERVER);
     Ok((accepted.map(|r| r.session), waits.map(|r| r.session)))

@@ -1,18 +1,21 @@
 // Runs with tests.
-ghost use Rattle.std.specs.Prelude.{◌≡◌, ◌<◌, ◌^◌, length, Err, IfOk, IfSome, IfErr, OnOk, OnErr};
+ghost use Rattle.std.specs.Prelude.{◌≡◌, ◌<◌, ◌^◌, length, Ok, Err, IfOk, IfSome, IfErr, OnOk, OnErr};
 ghost use Rattle.std.specs.Io.KnownBytes.{Appends};
 ghost use Rattle.gq_model.specs.machine.Scenario.{components, system};
 ghost use Rattle.gq_model.specs.machine.World.{start};
+ghost use Rattle.gq_model.specs.texts.Turns.{turned};
+ghost use Rattle.gq_ready.specs.Ready.{IsReady};
 ghost use Rattle.gq_lines.specs.Counts.{written_to, failures_of};
 ghost use Rattle.gq_lines.specs.Writes.{IsFront, IsRaised};
 ghost use Rattle.gq_world.specs.internal.Going.{AreBelow};
 ghost use Rattle.gq_world.specs.Outcomes.{IsBefore};
 ghost use Rattle.gq_unverified.specs.Ends.{IsTested, IsTestedShort, IsTestFault};
-ghost use Rattle.gq_unverified.specs.Tested.{first_wrong, run_tested, tested_text};
+ghost use Rattle.gq_unverified.specs.Tested.{first_wrong, run_tested, tested_text, tested_turns};
 ghost use Rattle.gq_unverified.specs.internal.Taking.{turns_in};
 
 use crate::step::WrongStep;
 use crate::turns::take_all;
+use gq_init::NodeTable;
 use gq_init::turns::{TurnsError, read_turns};
 use gq_lines::counted::{Counted, WriteFault};
 use gq_load::unverified::read_unverified;
@@ -53,6 +56,71 @@ fn run_machine<W: Write>(
     }
 }
 
+// The same, with the wrong step by its leaf's name.
+fn run_named<W: Write>(
+    machine: &mut Machine,
+    turns: &[(LeafNo, u32)],
+    out: &mut Counted<W>,
+) -> Result<Option<WrongStep>, RunFault<'static>>
+    requires start { machine.old.world ≡ start (system machine.old.scenario) }
+    requires leaves { AreBelow (length (components machine.old.scenario)) turns.now }
+    requires few { turns_in turns.now < 2 ^ 64 }
+    ensures tested { IfOk result (λ wrong. IsTested (tested_turns machine.old.scenario (Ok turns.now)) wrong (written_to W.contents out.old) (written_to W.contents out.new)) }
+    ensures counted { OnOk result (failures_of out.new ≡ failures_of out.old) }
+    ensures refused { IfErr result (λ fault. IsTestFault fault (tested_turns machine.old.scenario (Ok turns.now))) }
+    ensures silent { IfErr result (λ fault. IsBefore fault → out.new ≡ out.old) }
+    ensures cut { result ≡ Err RunFault.Write → IsTestedShort (tested_turns machine.old.scenario (Ok turns.now)) (written_to W.contents out.old)
+        (written_to W.contents out.new) }
+    ensures raised { result ≡ Err RunFault.Write → IsRaised (failures_of out.old) (failures_of out.new) }
+{
+    match run_machine(machine, turns, out) {
+        Ok(None) => Ok(None),
+        Ok(Some((leaf, wrong))) => Ok(Some(WrongStep::of(machine.table(), leaf, wrong))),
+        Err(_) => Err(RunFault::Write),
+    }
+}
+
+// A run with tests of a scenario that was read, over turns that were.
+fn run_table<W: Write>(
+    alloc: Global,
+    table: NodeTable,
+    turns: &[(LeafNo, u32)],
+    out: &mut Counted<W>,
+) -> Result<Option<WrongStep>, RunFault<'static>>
+    requires ready { IsReady table }
+    requires leaves { AreBelow (length (components table)) turns.now }
+    requires few { turns_in turns.now < 2 ^ 64 }
+    ensures tested { IfOk result (λ wrong. IsTested (tested_turns table (Ok turns.now)) wrong (written_to W.contents out.old) (written_to W.contents out.new)) }
+    ensures counted { OnOk result (failures_of out.new ≡ failures_of out.old) }
+    ensures refused { IfErr result (λ fault. IsTestFault fault (tested_turns table (Ok turns.now))) }
+    ensures silent { IfErr result (λ fault. IsBefore fault → out.new ≡ out.old) }
+    ensures cut { result ≡ Err RunFault.Write → IsTestedShort (tested_turns table (Ok turns.now)) (written_to W.contents out.old)
+        (written_to W.contents out.new) }
+    ensures raised { result ≡ Err RunFault.Write → IsRaised (failures_of out.old) (failures_of out.new) }
+{
+    match Machine::new(alloc, table) {
+        Ok(mut machine) => run_named(&mut machine, turns, out),
+        Err(_) => Err(RunFault::Memory),
+    }
+}
+
+// The turns that a text says, or the fault that a run tells.
+fn listed(
+    alloc: Global,
+    text: &[u8],
+    table: &NodeTable,
+) -> Result<Vec<(LeafNo, u32)>, RunFault<'static>>
+    ensures turned { IfOk result (λ turns. turned (components table.now) text.now ≡ Ok turns.items) }
+    ensures refused { IfErr result (λ fault. IsTestFault fault (tested_turns table.now (turned (components table.now) text.now))) }
+    ensures before { IfErr result (λ fault. IsBefore fault) }
+{
+    match read_turns(alloc, text, table) {
+        Ok(turns) => Ok(turns),
+        Err(TurnsError::Memory(_)) => Err(RunFault::Memory),
+        Err(TurnsError::Fault { fault, line }) => Err(RunFault::Turns { fault, line }),
+    }
+}
+
 /// Runs a scenario, a text in TOML, by the turns of a second text, with tests: the scenario has to be read and resolved, but its programs are not judged, so
 /// a step may be wrong. Takes the turns up to the first wrong step, writes the lines that they give and, where no step is wrong, the accounts of all nodes,
 /// with 0 for each step budget. Answers the wrong step, if there is one. Nothing is written where the scenario or the turns are refused, or where host memory
@@ -78,15 +146,6 @@ pub fn run_unverified<W: Write>(
 {
     unverified_laws();
     let table = read_unverified(alloc, scenario)?;
-    let turns = match read_turns(alloc, turns, &table) {
-        Ok(turns) => turns,
-        Err(TurnsError::Memory(_)) => return Err(RunFault::Memory),
-        Err(TurnsError::Fault { fault, line }) => return Err(RunFault::Turns { fault, line }),
-    };
-    let mut machine = Machine::new(alloc, table)?;
-    match run_machine(&mut machine, turns.as_slice(), out) {
-        Ok(None) => Ok(None),
-        Ok(Some((leaf, wrong))) => Ok(Some(WrongStep::of(machine.table(), leaf, wrong))),
-        Err(_) => Err(RunFault::Write),
-    }
+    let turns = listed(alloc, turns, &table)?;
+    run_table(alloc, table, turns.as_slice(), out)
 }

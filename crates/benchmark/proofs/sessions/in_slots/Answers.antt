@@ -2,10 +2,10 @@ use Rattle.std.proofs.Common.{arith, refl}
 use Rattle.std.proofs.lemmas.Bool.Decides.{nat_tests}
 use Rattle.benchmark.proofs.Rounds.{free_below}
 use Rattle.benchmark.specs.Rounds.{sessions_of}
-use Rattle.benchmark.proofs.sessions.measured.Goals as goal
+use Rattle.benchmark.proofs.sessions.in_slots.Goals as goal
 
 pub rounds-requires-clause-room : goal.rounds-requires-clause-room
 rounds-requires-clause-room c =
     let e = free_below (sessions_of c.open_all.new.slots) in
     let f = (c.if-not-open_all.ensures refl).few in
-    grind (arith, nat_tests, e, f, c.if-open-gt10000.false)
+    grind (arith, nat_tests, e, f, c.requires.others)
