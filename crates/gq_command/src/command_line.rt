@@ -3,7 +3,8 @@ ghost use Rattle.std.specs.Prelude.{◌≡◌, ◌≢◌, IfOk, IfErr, None, Som
 ghost use Rattle.clap.specs.declared.builder.command.Command.TheViews.{out-Command};
 ghost use Rattle.clap.specs.Words.{app_of, first_of, found_of, kind_of, rows_of, rule_of, subcommand_rows_of};
 ghost use Rattle.gq_command.specs.declared.command.CommandError.TheVariants.{Usage};
-ghost use Rattle.gq_command.specs.CommandLine.{Asm_wanted, IsAsked, IsHelp, IsMisused, IsWanted, Run_wanted, both_of, wanted_in, wanted_of, two_words, check_app, word_rule, trade, trade_of_check, trade_without_asm};
+ghost use Rattle.gq_command.specs.CommandLine.{Asm_wanted, IsAsked, IsHelp, IsMisused, IsWanted, Run_wanted, both_of, wanted_in, wanted_of};
+ghost use Rattle.gq_command.specs.CommandLine.{two_words, check_app, word_rule, trade, trade_of_check, trade_without_asm};
 
 use crate::command::{Command, CommandError};
 use clap::error::ErrorKind;

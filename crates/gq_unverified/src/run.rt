@@ -65,7 +65,8 @@ fn run_named<W: Write>(
     requires start { machine.old.world ≡ start (system machine.old.scenario) }
     requires leaves { AreBelow (length (components machine.old.scenario)) turns.now }
     requires few { turns_in turns.now < 2 ^ 64 }
-    ensures tested { IfOk result (λ wrong. IsTested (tested_turns machine.old.scenario (Ok turns.now)) wrong (written_to W.contents out.old) (written_to W.contents out.new)) }
+    ensures tested { IfOk result (λ wrong. IsTested (tested_turns machine.old.scenario (Ok turns.now)) wrong
+        (written_to W.contents out.old) (written_to W.contents out.new)) }
     ensures counted { OnOk result (failures_of out.new ≡ failures_of out.old) }
     ensures refused { IfErr result (λ fault. IsTestFault fault (tested_turns machine.old.scenario (Ok turns.now))) }
     ensures silent { IfErr result (λ fault. IsBefore fault → out.new ≡ out.old) }
