@@ -65,12 +65,17 @@ fn writes_words(rt: HostRuntime) -> Result<(), Fail> {
     let ds = spaces.create(10000)?;
     assert_eq!(rt; spaces.size(ds), 12288);
     spaces.store4(ds, 8190, 0x04030201);
-    assert_eq!(rt; spaces.load(ds, 8189), 0);
-    assert_eq!(rt; spaces.load(ds, 8190), 1);
-    assert_eq!(rt; spaces.load(ds, 8192), 3);
+    let bytes = [
+        spaces.load(ds, 8189),
+        spaces.load(ds, 8190),
+        spaces.load(ds, 8192),
+    ];
+    assert_eq!(rt; bytes, [0, 1, 3]);
     spaces.store4(ds, 12284, 0x08070605);
-    assert_eq!(rt; spaces.load(ds, 12287), 8);
-    assert_eq!(rt; spaces.load4(ds, 12283), 0x07060500);
+    assert_eq!(rt;
+        (spaces.load(ds, 12287), spaces.load4(ds, 12283)),
+        (8, 0x07060500)
+    );
     Ok(())
 }
 
@@ -135,12 +140,15 @@ fn finds_each_page_of_a_large_space(rt: HostRuntime) -> Result<(), Fail> {
     put(&mut spaces, ds, 1044480, 14);
     put(&mut spaces, ds, 1048576, 15);
     put(&mut spaces, ds, 1228796, 16);
-    assert_eq!(rt; spaces.load4(ds, 0), 11);
-    assert_eq!(rt; spaces.load4(ds, 61440), 12);
-    assert_eq!(rt; spaces.load4(ds, 65536), 13);
-    assert_eq!(rt; spaces.load4(ds, 1044480), 14);
-    assert_eq!(rt; spaces.load4(ds, 1048576), 15);
-    assert_eq!(rt; spaces.load4(ds, 1228796), 16);
+    let words = [
+        spaces.load4(ds, 0),
+        spaces.load4(ds, 61440),
+        spaces.load4(ds, 65536),
+        spaces.load4(ds, 1044480),
+        spaces.load4(ds, 1048576),
+        spaces.load4(ds, 1228796),
+    ];
+    assert_eq!(rt; words, [11, 12, 13, 14, 15, 16]);
     removed(&mut spaces, ds);
     assert_eq!(rt; spaces.free_frames(), 300);
     Ok(())

@@ -129,17 +129,17 @@ fn gives_large_blocks_back(rt: HostRuntime) -> Result<(), Fail> {
     let mut store = ListStore::new(rt.alloc(), 2, Some(1))?;
     let mut heap = Heap::new();
     let large = heap.alloc(&mut store, 2049).ok().ok_or("large")?;
-    assert_eq!(rt; heap.charge(), 4096);
-    assert_eq!(rt; heap.charge_caps(), 1);
+    assert_eq!(rt; (heap.charge(), heap.charge_caps()), (4096, 1));
     heap.free(&mut store, large);
-    assert_eq!(rt; heap.charge(), 0);
-    assert_eq!(rt; heap.charge_caps(), 0);
+    assert_eq!(rt; (heap.charge(), heap.charge_caps()), (0, 0));
     let small = heap.alloc(&mut store, 2048).ok().ok_or("small")?;
     assert_eq!(rt; heap.charge(), 4096);
     heap.free(&mut store, small);
-    assert_eq!(rt; heap.charge(), 4096);
-    assert_eq!(rt; heap.charge_caps(), 1);
-    assert_eq!(rt; heap.alloc(&mut store, 32), Err(GrowFault::CapsExceeded));
-    assert_eq!(rt; heap.alloc(&mut store, 8193), Err(GrowFault::Exceeded));
+    assert_eq!(rt; (heap.charge(), heap.charge_caps()), (4096, 1));
+    let refused = [heap.alloc(&mut store, 32), heap.alloc(&mut store, 8193)];
+    assert_eq!(rt;
+        refused,
+        [Err(GrowFault::CapsExceeded), Err(GrowFault::Exceeded)]
+    );
     Ok(())
 }

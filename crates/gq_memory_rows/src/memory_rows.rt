@@ -55,8 +55,11 @@ fn read_words(memory: &mut Memory) -> Result<(u32, u32), GrowFault> {
 fn keeps_what_each_account_has(rt: HostRuntime) -> Result<(), Fail> {
     let (mut accounts, a, b) = two_members(rt.alloc(), None)?;
     let root = accounts.root();
-    assert_eq!(rt; moved(&mut accounts, root, a, 4096), Ok(()));
-    assert_eq!(rt; moved(&mut accounts, root, b, 4096), Ok(()));
+    let moves = [
+        moved(&mut accounts, root, a, 4096),
+        moved(&mut accounts, root, b, 4096),
+    ];
+    assert_eq!(rt; moves, [Ok(()), Ok(())]);
     let mut memory = Memory::new(accounts, root);
     assert_eq!(rt; read_both(&mut memory, a, b), Ok((7, 9)));
     assert_eq!(rt; memory.payer(), b);
@@ -70,13 +73,26 @@ fn keeps_what_each_account_has(rt: HostRuntime) -> Result<(), Fail> {
 fn refuses_bytes_before_capabilities(rt: HostRuntime) -> Result<(), Fail> {
     let (mut accounts, a, _b) = two_members(rt.alloc(), Some(2))?;
     let root = accounts.root();
-    assert_eq!(rt; moved(&mut accounts, root, a, 8192), Ok(()));
-    assert_eq!(rt; moved_caps(&mut accounts, root, a, 1), Ok(()));
+    let moves = [
+        moved(&mut accounts, root, a, 8192),
+        moved_caps(&mut accounts, root, a, 1),
+    ];
+    assert_eq!(rt; moves, [Ok(()), Ok(())]);
     let mut memory = Memory::new(accounts, a);
     assert_eq!(rt; memory.grow(3), Err(GrowFault::Exceeded));
     assert_eq!(rt; read_words(&mut memory), Ok((67305985, 67108865)));
-    assert!(rt; memory.grow(1).is_ok());
-    assert_eq!(rt; memory.grow(2), Err(GrowFault::Exceeded));
-    assert_eq!(rt; memory.grow(1), Err(GrowFault::CapsExceeded));
+    let grown = [
+        memory.grow(1).err(),
+        memory.grow(2).err(),
+        memory.grow(1).err(),
+    ];
+    assert_eq!(rt;
+        grown,
+        [
+            None,
+            Some(GrowFault::Exceeded),
+            Some(GrowFault::CapsExceeded)
+        ]
+    );
     Ok(())
 }

@@ -5,12 +5,13 @@ use std::test::Fail;
 #[test]
 fn has_two_frames(rt: HostRuntime) -> Result<(), Fail> {
     let mut pages = Pages::new(rt.alloc(), 2)?;
-    assert_eq!(rt; pages.free_count(), 2);
+    let free = pages.free_count();
     let first = pages.take()?;
     let second = pages.take()?;
-    assert!(rt; first != second);
-    assert_eq!(rt; pages.free_count(), 0);
-    assert_eq!(rt; pages.take(), Err(NoFrame));
+    assert_eq!(rt;
+        (free, first == second, pages.free_count(), pages.take()),
+        (2, false, 0, Err(NoFrame))
+    );
     Ok(())
 }
 
@@ -22,14 +23,19 @@ fn clears_a_frame_that_was_given_back(rt: HostRuntime) -> Result<(), Fail> {
     pages.set_byte(second, 9, 7);
     pages.set_byte(first, 0, 1);
     pages.set_byte(first, 4095, 5);
-    assert_eq!(rt; pages.byte(first, 4095), 5);
+    let last = pages.byte(first, 4095);
     pages.give(first);
-    assert_eq!(rt; pages.free_count(), 1);
+    let free = pages.free_count();
     let again = pages.take()?;
-    assert_eq!(rt; again, first);
-    assert_eq!(rt; pages.byte(again, 0), 0);
-    assert_eq!(rt; pages.byte(again, 4095), 0);
-    assert_eq!(rt; pages.byte(second, 9), 7);
+    assert_eq!(rt; (last, free, again), (5, 1, first));
+    assert_eq!(rt;
+        [
+            pages.byte(again, 0),
+            pages.byte(again, 4095),
+            pages.byte(second, 9)
+        ],
+        [0, 0, 7]
+    );
     Ok(())
 }
 
@@ -38,11 +44,13 @@ fn has_the_lowest_byte_of_a_word_first(rt: HostRuntime) -> Result<(), Fail> {
     let mut pages = Pages::new(rt.alloc(), 1)?;
     let frame = pages.take()?;
     pages.set_word(frame, 4092, 0x04030201);
-    assert_eq!(rt; pages.byte(frame, 4092), 1);
-    assert_eq!(rt; pages.byte(frame, 4095), 4);
-    assert_eq!(rt; pages.word(frame, 4091), 0x03020100);
+    let bytes = [pages.byte(frame, 4092), pages.byte(frame, 4095)];
+    let before = pages.word(frame, 4091);
     pages.zero(frame);
-    assert_eq!(rt; pages.word(frame, 4092), 0);
+    assert_eq!(rt;
+        (bytes, before, pages.word(frame, 4092)),
+        ([1, 4], 0x03020100, 0)
+    );
     Ok(())
 }
 
@@ -56,11 +64,12 @@ fn takes_what_was_given_last(rt: HostRuntime) -> Result<(), Fail> {
     pages.give(first);
     pages.give(third);
     pages.give(second);
-    assert_eq!(rt; pages.free_count(), 16384);
-    assert_eq!(rt; pages.take(), Ok(second));
-    assert_eq!(rt; pages.take(), Ok(third));
-    assert_eq!(rt; pages.take(), Ok(first));
-    assert_eq!(rt; pages.free_count(), 16381);
-    assert_eq!(rt; pages.frame_count(), 16384);
+    let free = pages.free_count();
+    let again = [pages.take(), pages.take(), pages.take()];
+    assert_eq!(rt; again, [Ok(second), Ok(third), Ok(first)]);
+    assert_eq!(rt;
+        [free, pages.free_count(), pages.frame_count()],
+        [16384, 16381, 16384]
+    );
     Ok(())
 }

@@ -84,25 +84,39 @@ pub(crate) fn two_members(
 fn trades_bytes(rt: HostRuntime) -> Result<(), Fail> {
     let (mut accounts, a, b) = two_members(rt.alloc(), None)?;
     let root = accounts.root();
-    assert_eq!(rt; moved(&mut accounts, root, a, 4096), Ok(()));
-    assert_eq!(rt;
+    let moves = [
+        moved(&mut accounts, root, a, 4096),
         moved(&mut accounts, a, b, 1),
-        Err(AccountFault::NotRelated)
+        moved(&mut accounts, a, root, 4097),
+    ];
+    let refusals = [
+        made(&mut accounts, a, 0).err(),
+        made(&mut accounts, a, 4097).err(),
+        made(&mut accounts, a, 1).err(),
+    ];
+    assert_eq!(rt;
+        moves,
+        [
+            Ok(()),
+            Err(AccountFault::NotRelated),
+            Err(AccountFault::Exceeded)
+        ]
     );
     assert_eq!(rt;
-        moved(&mut accounts, a, root, 4097),
-        Err(AccountFault::Exceeded)
+        refusals,
+        [
+            Some(AccountFault::ZeroSize),
+            Some(AccountFault::Exceeded),
+            None
+        ]
     );
-    assert_eq!(rt; made(&mut accounts, a, 0), Err(AccountFault::ZeroSize));
-    assert_eq!(rt; made(&mut accounts, a, 4097), Err(AccountFault::Exceeded));
-    assert_eq!(rt; made(&mut accounts, a, 1).is_ok(), true);
-    assert_eq!(rt; accounts.used(a), 4096);
-    assert_eq!(rt; accounts.avail(a), 0);
-    assert_eq!(rt; accounts.free_pages(), 15);
+    assert_eq!(rt;
+        (accounts.used(a), accounts.avail(a), accounts.free_pages()),
+        (4096, 0, 15)
+    );
     assert_eq!(rt; closed(&mut accounts, a), Ok(()));
     let root = accounts.root();
-    assert_eq!(rt; accounts.quota(root), 65536);
-    assert_eq!(rt; accounts.free_pages(), 16);
+    assert_eq!(rt; (accounts.quota(root), accounts.free_pages()), (65536, 16));
     Ok(())
 }
 
@@ -122,18 +136,26 @@ fn closes_no_account_with_members(rt: HostRuntime) -> Result<(), Fail> {
 fn trades_capabilities(rt: HostRuntime) -> Result<(), Fail> {
     let (mut accounts, a, b) = two_members(rt.alloc(), Some(1))?;
     let root = accounts.root();
-    assert_eq!(rt; moved_caps(&mut accounts, root, a, 1), Ok(()));
-    assert_eq!(rt;
-        moved_caps(&mut accounts, a, b, 1),
-        Err(AccountFault::NotRelated)
-    );
-    assert_eq!(rt;
+    let moves = [
         moved_caps(&mut accounts, root, a, 1),
-        Err(AccountFault::CapsExceeded)
+        moved_caps(&mut accounts, a, b, 1),
+        moved_caps(&mut accounts, root, a, 1),
+        moved(&mut accounts, root, a, 8192),
+    ];
+    let refusals = [
+        made(&mut accounts, a, 1).err(),
+        made(&mut accounts, a, 1).err(),
+    ];
+    assert_eq!(rt;
+        moves,
+        [
+            Ok(()),
+            Err(AccountFault::NotRelated),
+            Err(AccountFault::CapsExceeded),
+            Ok(())
+        ]
     );
-    assert_eq!(rt; moved(&mut accounts, root, a, 8192), Ok(()));
-    assert_eq!(rt; made(&mut accounts, a, 1).is_ok(), true);
-    assert_eq!(rt; made(&mut accounts, a, 1), Err(AccountFault::CapsExceeded));
+    assert_eq!(rt; refusals, [None, Some(AccountFault::CapsExceeded)]);
     assert_eq!(rt; accounts.caps_used(a), 1);
     assert_eq!(rt; closed(&mut accounts, a), Ok(()));
     let root = accounts.root();

@@ -9,13 +9,27 @@ fn takes_the_lowest_place(rt: HostRuntime) -> Result<(), Fail> {
     let first = map.attach(7, 8192)?;
     assert_eq!(rt; first, Base(0));
     assert_eq!(rt; map.attach(9, 4096), Ok(Base(67108864)));
-    assert_eq!(rt; map.resolve(67108865), Some((9, 1)));
-    assert_eq!(rt; map.resolve(67112959), Some((9, 4095)));
-    assert_eq!(rt; map.resolve(67112960), None);
-    assert_eq!(rt; map.resolve(8191), Some((7, 8191)));
-    assert_eq!(rt; map.resolve(8192), None);
-    assert_eq!(rt; map.resolve(134217728), None);
-    assert_eq!(rt; map.resolve(u64::MAX), None);
+    let resolved = [
+        map.resolve(67108865),
+        map.resolve(67112959),
+        map.resolve(67112960),
+        map.resolve(8191),
+        map.resolve(8192),
+        map.resolve(134217728),
+        map.resolve(u64::MAX),
+    ];
+    assert_eq!(rt;
+        resolved,
+        [
+            Some((9, 1)),
+            Some((9, 4095)),
+            None,
+            Some((7, 8191)),
+            None,
+            None,
+            None
+        ]
+    );
     assert_eq!(rt; map.attach(1, 1), Err(Full));
     map.detach(Base(0));
     assert_eq!(rt; map.resolve(0), None);

@@ -34,10 +34,10 @@ fn gives_slices_back_whole(rt: HostRuntime) -> Result<(), Fail> {
     let mut store = ListStore::new(rt.alloc(), 1, Some(1))?;
     let sliced = Sliced::new();
     let seen = see_a_page(&sliced, &mut store).ok().ok_or("a page")?;
-    assert_eq!(rt; seen.before, 0);
-    assert_eq!(rt; seen.after, 7);
-    assert_eq!(rt; seen.size, 4064);
-    assert_eq!(rt; seen.second, Err(GrowFault::Exceeded));
+    assert_eq!(rt;
+        (seen.before, seen.after, seen.size, seen.second),
+        (0, 7, 4064, Err(GrowFault::Exceeded))
+    );
     assert_eq!(rt; sliced.alloc(&mut store, 4065), Err(GrowFault::Exceeded));
     assert!(rt; sliced.alloc(&mut store, 1).is_ok());
     Ok(())
@@ -48,9 +48,12 @@ fn gives_slices_back_whole(rt: HostRuntime) -> Result<(), Fail> {
 fn takes_whole_pages(rt: HostRuntime) -> Result<(), Fail> {
     let sliced = Sliced::new();
     let mut store = ListStore::new(rt.alloc(), 2, None)?;
-    assert!(rt; sliced.alloc(&mut store, 4064).is_ok());
-    assert_eq!(rt; sliced.alloc(&mut store, 4065), Err(GrowFault::Exceeded));
-    assert!(rt; sliced.alloc(&mut store, 4064).is_ok());
+    let made = [
+        sliced.alloc(&mut store, 4064).err(),
+        sliced.alloc(&mut store, 4065).err(),
+        sliced.alloc(&mut store, 4064).err(),
+    ];
+    assert_eq!(rt; made, [None, Some(GrowFault::Exceeded), None]);
     let mut store = ListStore::new(rt.alloc(), 2, None)?;
     assert!(rt; sliced.alloc(&mut store, 4065).is_ok());
     assert_eq!(rt; sliced.alloc(&mut store, 0), Err(GrowFault::Exceeded));
@@ -61,15 +64,30 @@ fn takes_whole_pages(rt: HostRuntime) -> Result<(), Fail> {
 fn wants_a_capability(rt: HostRuntime) -> Result<(), Fail> {
     let mut store = ListStore::new(rt.alloc(), 2, Some(1))?;
     let sliced = Sliced::new();
-    assert!(rt; sliced.alloc(&mut store, 0).is_ok());
-    assert_eq!(rt; sliced.alloc(&mut store, 0), Err(GrowFault::CapsExceeded));
-    assert_eq!(rt; sliced.alloc(&mut store, 4065), Err(GrowFault::Exceeded));
+    let made = [
+        sliced.alloc(&mut store, 0).err(),
+        sliced.alloc(&mut store, 0).err(),
+        sliced.alloc(&mut store, 4065).err(),
+    ];
+    assert_eq!(rt;
+        made,
+        [
+            None,
+            Some(GrowFault::CapsExceeded),
+            Some(GrowFault::Exceeded)
+        ]
+    );
     Ok(())
 }
 
 #[test]
 fn costs_more_than_its_bytes(rt: HostRuntime) {
-    assert_eq!(rt; Sliced::overhead(0), 4096);
-    assert_eq!(rt; Sliced::overhead(4064), 32);
-    assert_eq!(rt; Sliced::overhead(4065), 4127);
+    assert_eq!(rt;
+        [
+            Sliced::overhead(0),
+            Sliced::overhead(4064),
+            Sliced::overhead(4065)
+        ],
+        [4096, 32, 4127]
+    );
 }
