@@ -31,13 +31,15 @@ run_app = two_words (codes "run") (codes "SCENARIO") (codes "TURNS")
 abbrev pub asm_app : App
 asm_app = two_words (codes "asm") (codes "SCENARIO") (codes "LEAF")
 
--- the program's command line, without the program's name: one of its commands
+-- the program's command line with `check` alone, and without the program's name
 abbrev pub trade_of_check : App
 trade_of_check = with_subcommand (on_top (λ s. record s { no_binary_name = true; subcommand_required = true }) (new_app (codes "trade"))) check_app.top
 
+-- with `check` and `run`
 abbrev pub trade_without_asm : App
 trade_without_asm = with_subcommand trade_of_check run_app.top
 
+-- the program's command line, without the program's name: one of its commands
 abbrev pub trade : App
 trade = with_subcommand trade_without_asm asm_app.top
 
