@@ -51,7 +51,7 @@ written_of (Run_of scenario turns) = run_written scenario turns
 written_of (Asm_of scenario leaf) = asm_written scenario leaf
 written_of (Text_of text) = Ok text
 
--- the line that refuses it is the definition's, or, until the machine runs the whole language, it says of an accepted scenario that it is not run yet
+-- the line that refuses it is the definition's
 abbrev pub IsRefusedBy : Asked → List ℕ → Type 0
 IsRefusedBy (Check_of scenario) line = check_written scenario ≡ Err line
 IsRefusedBy (Run_of scenario turns) line = run_written scenario turns ≡ Err line

@@ -1,9 +1,10 @@
 //! From the words of a command line to the command that they name.
-ghost use Rattle.std.specs.Prelude.{◌≡◌, ◌≢◌, IfOk, IfErr, None, Some, false, map, option_map, codes};
+ghost use Rattle.std.specs.Prelude.{◌≡◌, ◌≢◌, IfOk, IfErr, None, Some, false, map, option_map, codes, string_bytes};
 ghost use Rattle.clap.specs.declared.builder.command.Command.TheViews.{out-Command};
 ghost use Rattle.clap.specs.Words.{app_of, first_of, found_of, kind_of, rows_of, rule_of, subcommand_rows_of};
 ghost use Rattle.gq_command.specs.declared.command.CommandError.TheVariants.{Usage};
-ghost use Rattle.gq_command.specs.CommandLine.{Asm_wanted, IsAsked, IsHelp, IsMisused, IsWanted, Run_wanted, both_of, wanted_in, wanted_of};
+ghost use Rattle.gq_command.specs.CommandLine.{IsAsked, IsHelp, IsMisused, IsWanted, both_of, wanted_in, wanted_of};
+ghost use Rattle.gq_command.specs.internal.Meant.{meant};
 ghost use Rattle.gq_command.specs.CommandLine.{two_words, check_app, word_rule, trade, trade_of_check, trade_without_asm};
 
 use crate::command::{Command, CommandError};
@@ -133,64 +134,79 @@ fn word_argument<'a>(alloc: Global, name: &'a str, help: &'a str) -> Arg<'a>
     Arg::new(alloc, name).help(help).required(true)
 }
 
+// What is wanted of the file of a scenario.
+#[derive(Clone, Copy)]
+enum Wanted<'a> {
+    // Its budgets.
+    Check(&'a str),
+    // Its run over the turns in a second file.
+    Run(&'a str, &'a str),
+    // The code of a leaf.
+    Asm(&'a str, &'a str),
+}
+
 // The command that a parse found.
 fn matched(alloc: Global, matches: &ArgMatches<'_>) -> Result<Command, CommandError>
     ensures asked { IfOk result (IsWanted (wanted_in (subcommand_rows_of matches.now))) }
     ensures misused { IfErr result (λ e. e ≡ Usage → wanted_in (subcommand_rows_of matches.now) ≡ None) }
 {
-    match matches.subcommand() {
-        Some((name, found)) => named(alloc, name, found),
+    let Some((name, found)) = matches.subcommand() else {
+        return Err(CommandError::Usage);
+    };
+    match wanted_of(name, found) {
+        Some(wanted) => command_of(alloc, wanted),
         None => Err(CommandError::Usage),
     }
 }
 
-// The command of this name, with what a parse found of it.
-fn named(alloc: Global, name: &str, found: &ArgMatches<'_>) -> Result<Command, CommandError>
-    ensures asked { IfOk result (IsWanted (wanted_of name.now (rows_of (found_of found.now)))) }
-    ensures misused { IfErr result (λ e. e ≡ Usage → wanted_of name.now (rows_of (found_of found.now)) ≡ None) }
+// What the command of this name asks for, by what a parse found of it.
+fn wanted_of<'a>(name: &str, found: &ArgMatches<'a>) -> Option<Wanted<'a>>
+    ensures { option_map meant result ≡ wanted_of name.now (rows_of (found_of found.now)) }
 {
     if name == "check" {
-        return match first_named(found, "SCENARIO") {
-            Some(scenario) => Ok(Command::Check(String::from_str(alloc, scenario)?)),
-            None => Err(CommandError::Usage),
-        };
+        let scenario = first_named(found, "SCENARIO")?;
+        return Some(Wanted::Check(scenario));
     }
     if name == "run" {
-        return match both_named(found, "SCENARIO", "TURNS") {
-            Some((scenario, turns)) => run_of(alloc, scenario, turns),
-            None => Err(CommandError::Usage),
-        };
+        let (scenario, turns) = both_named(found, "SCENARIO", "TURNS")?;
+        return Some(Wanted::Run(scenario, turns));
     }
     if name == "asm" {
-        return match both_named(found, "SCENARIO", "LEAF") {
-            Some((scenario, leaf)) => asm_of(alloc, scenario, leaf),
-            None => Err(CommandError::Usage),
-        };
+        let (scenario, leaf) = both_named(found, "SCENARIO", "LEAF")?;
+        return Some(Wanted::Asm(scenario, leaf));
     }
-    Err(CommandError::Usage)
+    None
 }
 
-// The command that runs the scenario of a file over the turns of another.
-fn run_of(alloc: Global, scenario: &str, turns: &str) -> Result<Command, CommandError>
-    ensures asked { IfOk result (IsWanted (Some (Run_wanted scenario.now turns.now))) }
+// The command for what is wanted, which owns its words.
+fn command_of(alloc: Global, wanted: Wanted<'_>) -> Result<Command, CommandError>
+    ensures asked { IfOk result (IsWanted (Some (meant wanted.entry))) }
     ensures refused { IfErr result (λ e. e ≢ Usage) }
 {
-    let scenario = String::from_str(alloc, scenario)?;
-    match String::from_str(alloc, turns) {
-        Ok(turns) => Ok(Command::Run(scenario, turns)),
-        Err(refused) => Err(CommandError::Memory(refused)),
+    match wanted {
+        Wanted::Check(scenario) => match String::from_str(alloc, scenario) {
+            Ok(scenario) => Ok(Command::Check(scenario)),
+            Err(refused) => Err(CommandError::Memory(refused)),
+        },
+        Wanted::Run(scenario, turns) => match both_owned(alloc, scenario, turns) {
+            Ok((scenario, turns)) => Ok(Command::Run(scenario, turns)),
+            Err(refused) => Err(CommandError::Memory(refused)),
+        },
+        Wanted::Asm(scenario, leaf) => match both_owned(alloc, scenario, leaf) {
+            Ok((scenario, leaf)) => Ok(Command::Asm(scenario, leaf)),
+            Err(refused) => Err(CommandError::Memory(refused)),
+        },
     }
 }
 
-// The command that gives the code of a leaf of the scenario of a file.
-fn asm_of(alloc: Global, scenario: &str, leaf: &str) -> Result<Command, CommandError>
-    ensures asked { IfOk result (IsWanted (Some (Asm_wanted scenario.now leaf.now))) }
-    ensures refused { IfErr result (λ e. e ≢ Usage) }
+// Copies of two words.
+fn both_owned(alloc: Global, first: &str, second: &str) -> Result<(String, String), AllocError>
+    ensures { IfOk result (λ both. (string_bytes both.0 ≡ first.now) × (string_bytes both.1 ≡ second.now)) }
 {
-    let scenario = String::from_str(alloc, scenario)?;
-    match String::from_str(alloc, leaf) {
-        Ok(leaf) => Ok(Command::Asm(scenario, leaf)),
-        Err(refused) => Err(CommandError::Memory(refused)),
+    let first = String::from_str(alloc, first)?;
+    match String::from_str(alloc, second) {
+        Ok(second) => Ok((first, second)),
+        Err(refused) => Err(refused),
     }
 }
 
