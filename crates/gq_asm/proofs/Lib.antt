@@ -1,4 +1,3 @@
-pub mod Spelled
 pub mod Fronts
 pub mod Statement_reads
 pub mod Blocks

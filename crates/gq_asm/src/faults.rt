@@ -20,7 +20,7 @@ pub enum AssembleError {
 }
 
 /// Why a line is refused.
-#[derive(Debug, Drop)]
+#[derive(Drop)]
 pub enum LineError {
     /// Host memory was refused.
     Memory,

@@ -11,11 +11,11 @@ use crate::faults::LineError;
 use crate::instructions::{instruction, plain, with_amount, with_bytes, with_number, with_slot};
 use crate::operands::{at_end, next_number};
 use crate::reading::{BlockKind, Reading};
-use crate::shapes::shape_with;
 use gq_model::fault::TextFault;
 use gq_model::program::Instruction;
 use gq_program::Statement;
 use gq_program::spelling::{Shape, same_text};
+use gq_words::shape_with;
 use std::alloc::Global;
 
 impl Reading {

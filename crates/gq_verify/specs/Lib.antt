@@ -1,5 +1,5 @@
+pub use Rattle.gq_counts.specs.Counting
+pub use Rattle.gq_counts.specs.Requested
 pub mod Subjects
-pub mod Counting
-pub mod Requested
 pub mod Faults
 pub mod internal

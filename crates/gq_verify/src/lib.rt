@@ -9,20 +9,15 @@
 //! ```
 #![tactic(auto)]
 
-mod asked;
-mod counting;
 mod ends;
 mod fault;
-mod next;
 mod own;
-mod quiet;
 mod requests;
 mod sections;
+mod sizes;
 mod starts;
-mod steps;
 mod verified;
 
-pub use asked::Requests;
 pub use fault::Fault;
-pub use steps::section_cost;
+pub use gq_counts::{Requests, section_cost};
 pub use verified::{Verified, verify};

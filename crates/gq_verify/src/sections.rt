@@ -10,9 +10,10 @@ ghost use Rattle.gq_verify.specs.internal.Walks.{reached};
 
 use crate::ends::section_end;
 use crate::fault::Fault;
+use crate::sizes::count;
 use crate::starts::{Starts, walk};
-use crate::steps::{count, section_cost};
 use gq_caps::Totals;
+use gq_counts::section_cost;
 use gq_model::fault::Rule;
 use gq_model::limits::GREATEST_STEPS;
 use gq_program::{Body, Interface, Section};

@@ -1,0 +1,11 @@
+use Rattle.std.proofs.Common.{◌≡◌, ◌≤◌, ◌+◌, ◌-◌, ◌^◌, drop}
+use Rattle.gq_counts.specs.Counting.{saturated}
+use Rattle.gq_counts.specs.Requested.{requests_for}
+use Rattle.gq_counts.proofs.asked.Requests.count_for.Given as goal
+
+-- the sum so far, with those that are left, is that of all
+abbrev pub invariant-loop-entry : goal.invariant-loop-entry
+invariant-loop-entry l = record {
+  summed : saturated (l.sum + requests_for (drop l.entry-index l.entry-items) l.service l.section) ≡ saturated (requests_for l.entry-items l.service l.section);
+  fits : l.sum ≤ 2 ^ 64 - 1;
+}

@@ -1,0 +1,35 @@
+use Rattle.std.proofs.Common.{◌≡◌, ◌+◌, ◌-◌, ◌*◌, ◌∷◌, [], ℕ, List, drop, length, IsTrue}
+use Rattle.gq_model.specs.declared.program.Section.{Section}
+use Rattle.gq_model.specs.machine.Program.{size}
+use Rattle.gq_model.specs.rules.Budgets.{requests}
+use Rattle.gq_model.specs.rules.Flow.{flow, state_or}
+use Rattle.gq_program.specs.Trees.{tree_of}
+use Rattle.gq_rules.specs.Flowing.{few_loops}
+use Rattle.gq_counts.specs.Counting.{saturated}
+use Rattle.gq_counts.specs.Requested.{requests_for}
+use Rattle.gq_counts.specs.Rights.{IsRight}
+use Rattle.gq_counts.proofs.counting.+counting.Given as goal
+
+abbrev pub decreases-count : goal.decreases-count
+decreases-count l = 3 * size l.body.now + 2
+
+abbrev pub decreases-count_in : goal.decreases-count_in
+decreases-count_in l = 3 * size (tree_of (l.statement.now ∷ [])) + 1
+
+abbrev pub decreases-count_if : goal.decreases-count_if
+decreases-count_if l = 3 * (1 + size l.arm.now + size l.other.now)
+
+abbrev pub decreases-count_loop : goal.decreases-count_loop
+decreases-count_loop l = 3 * (1 + size l.body.now)
+
+-- those so far, with the requests of the statements that are left, are those of all; what is left leads to the same state
+abbrev pub invariant-count-loop-statement : goal.invariant-count-loop-statement
+invariant-count-loop-statement l = record {
+  stated : state_or l.fn.state (flow l.context l.state (tree_of (drop l.statement-index l.statement-items))) ≡
+      state_or l.fn.state (flow l.context l.fn.state (tree_of l.statement-items));
+  counted : (v : List ℕ) (r : Section) →
+      saturated (requests_for l.asked v r + requests v r l.context l.state (tree_of (drop l.statement-index l.statement-items))) ≡
+      saturated (requests_for l.fn.asked v r + requests v r l.context l.fn.state (tree_of l.statement-items));
+  loops : IsTrue (few_loops (4 - length l.context.counts) (tree_of (drop l.statement-index l.statement-items)));
+  right : IsRight l.context l.state (tree_of (drop l.statement-index l.statement-items));
+}

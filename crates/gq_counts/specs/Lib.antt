@@ -1,0 +1,4 @@
+pub mod Counting
+pub mod Requested
+pub mod Rights
+pub mod internal

@@ -1,0 +1,192 @@
+// How many requests statements make at most, of all sections of all services at once.
+ghost use Rattle.std.specs.Prelude.{◌≡◌, ◌≤◌, ◌+◌, ◌-◌, ◌*◌, ◌∷◌, [], max, IsTrue, IfOk, OnOk, List, ℕ, length};
+ghost use Rattle.gq_model.specs.declared.program.Section.{Section};
+ghost use Rattle.gq_model.specs.machine.Program.{size, Done, If, Loop};
+ghost use Rattle.gq_model.specs.rules.Budgets.{by_link, asks, requests};
+ghost use Rattle.gq_model.specs.rules.Kinds.{kind_at, inside};
+ghost use Rattle.gq_model.specs.rules.Rules.{link_kind};
+ghost use Rattle.gq_model.specs.rules.Flow.{flow, state_or};
+ghost use Rattle.gq_program.specs.Trees.{tree_of};
+ghost use Rattle.gq_rules.specs.Flowing.{few_loops};
+ghost use Rattle.gq_flow.specs.internal.Steps.{chosen, next_state};
+ghost use Rattle.gq_counts.specs.Counting.{saturated};
+ghost use Rattle.gq_counts.specs.Requested.{requests_for};
+ghost use Rattle.gq_counts.specs.internal.Adding.{Adds};
+ghost use Rattle.gq_counts.specs.Rights.{IsRight};
+ghost use Rattle.gq_counts.specs.internal.Requesting.{requests_in, section_by};
+
+use crate::asked::Requests;
+use crate::asking::{ByLevel, section_by};
+use crate::next::next;
+use crate::quiet::is_quiet;
+use gq_program::{Body, Instruction, Place, Section, Statement};
+use gq_rules::{Context, State};
+use std::alloc::{AllocError, Global};
+
+/// One request more, on the link in a slot, which is for the section of a level.
+fn count_link(
+    context: &Context<'_>,
+    state: &State,
+    asked: &mut Requests,
+    place: Place,
+    of: ByLevel,
+) -> Result<(), AllocError>
+    ensures { OnOk result (Adds asked.new asked.old (λ v r. by_link v r (link_kind (kind_at context.now state.now place)) (section_by of))) }
+{
+    match context.link_at(state, place) {
+        Some(link) => asked.add(link.service(), section_by(of, link.level()), 1),
+        None => Ok(()),
+    }
+}
+
+/// The request of an instruction more, if it makes one.
+fn count_instruction(
+    context: &Context<'_>,
+    state: &State,
+    asked: &mut Requests,
+    instruction: &Instruction,
+) -> Result<(), AllocError>
+    ensures { OnOk result (Adds asked.new asked.old (λ v r. asks v r context.now state.now instruction.now)) }
+{
+    match instruction {
+        Instruction::Open(_, service, _) => asked.add(service.as_bytes(), Section::Opening, 1),
+        Instruction::Upgrade(place, _) => {
+            count_link(context, state, asked, *place, ByLevel::Upgrading)
+        }
+        Instruction::Call(place) => count_link(context, state, asked, *place, ByLevel::Calling),
+        Instruction::Close(place) => count_link(context, state, asked, *place, ByLevel::Closing),
+        _ => Ok(()),
+    }
+}
+
+/// The requests of a list of statements more, from what is known before it to what is known after it.
+#[cycle(counting)]
+fn count(
+    alloc: Global,
+    context: &Context<'_>,
+    state: &mut State,
+    asked: &mut Requests,
+    body: &Body,
+) -> Result<(), AllocError>
+    requires few { size body.now ≤ 4096 }
+    requires loops { IsTrue (few_loops (4 - length context.now.counts) body.now) }
+    requires right { IsRight context.now state.old body.now }
+    ensures state { OnOk result (state.new ≡ state_or state.old (flow context.now state.old body.now)) }
+    ensures counted { OnOk result (Adds asked.new asked.old (λ v r. requests v r context.now state.old body.now)) }
+{
+    for statement in body.statements() {
+        count_in(alloc, context, state, asked, statement)?;
+    }
+    Ok(())
+}
+
+/// The requests of a statement and those in it more. Blocks that ask for nothing are not counted through.
+#[cycle(counting)]
+fn count_in(
+    alloc: Global,
+    context: &Context<'_>,
+    state: &mut State,
+    asked: &mut Requests,
+    statement: &Statement,
+) -> Result<(), AllocError>
+    requires few { size (tree_of (statement.now ∷ [])) ≤ 4096 }
+    requires loops { IsTrue (few_loops (4 - length context.now.counts) (tree_of (statement.now ∷ []))) }
+    requires right { IsRight context.now state.old (tree_of (statement.now ∷ [])) }
+    ensures state { OnOk result (state.new ≡ next_state context.now state.old statement.now) }
+    ensures counted { OnOk result (Adds asked.new asked.old (λ v r. requests_in v r context.now state.old statement.now)) }
+{
+    match statement {
+        Statement::Plain(instruction) => {
+            count_instruction(context, state, asked, instruction)?;
+            next(context, state, statement);
+            Ok(())
+        }
+        Statement::If(arm, other) => {
+            if is_quiet(arm) && is_quiet(other) {
+                next(context, state, statement);
+                Ok(())
+            } else {
+                count_if(alloc, context, state, asked, arm, other)
+            }
+        }
+        Statement::Loop(times, body) => {
+            if is_quiet(body) {
+                Ok(())
+            } else {
+                count_loop(alloc, context, state, asked, *times, body)
+            }
+        }
+    }
+}
+
+/// The requests of the arm of an `if` that makes more. It stands alone, so that only an `if` pays for room for a state.
+#[cycle(counting)]
+#[inline(never)]
+fn count_if(
+    alloc: Global,
+    context: &Context<'_>,
+    state: &mut State,
+    asked: &mut Requests,
+    arm: &Body,
+    other: &Body,
+) -> Result<(), AllocError>
+    requires few { 1 + size arm.now + size other.now ≤ 4096 }
+    requires loops { IsTrue (few_loops (4 - length context.now.counts) (If arm.now other.now Done)) }
+    requires right { IsRight context.now state.old (If arm.now other.now Done) }
+    ensures state { OnOk result (state.new ≡ state_or (chosen state.old) (flow context.now (chosen state.old) arm.now)) }
+    ensures counted { OnOk result (Adds asked.new asked.old (λ v r.
+        max (requests v r context.now (chosen state.old) arm.now) (requests v r context.now (chosen state.old) other.now))) }
+{
+    state.drop_operands();
+    let mut second = state.copy();
+    let mut most = Requests::new(alloc);
+    count(alloc, context, state, &mut most, arm)?;
+    let mut others = Requests::new(alloc);
+    count(alloc, context, &mut second, &mut others, other)?;
+    most.raise(&others)?;
+    asked.add_all(&most, 1)
+}
+
+/// The requests of all rounds of a loop. It stands alone, so that only a loop pays for room for a state.
+#[cycle(counting)]
+#[inline(never)]
+fn count_loop(
+    alloc: Global,
+    context: &Context<'_>,
+    state: &State,
+    asked: &mut Requests,
+    times: u16,
+    body: &Body,
+) -> Result<(), AllocError>
+    requires few { 1 + size body.now ≤ 4096 }
+    requires loops { IsTrue (few_loops (4 - length context.now.counts) (Loop times body.now Done)) }
+    requires right { IsRight context.now state.now (Loop times body.now Done) }
+    ensures { OnOk result (Adds asked.new asked.old (λ v r. times * requests v r (inside context.now times) state.now body.now)) }
+{
+    let mut inner = state.copy();
+    let mut round = Requests::new(alloc);
+    count(alloc, &context.inside(times), &mut inner, &mut round, body)?;
+    asked.add_all(&round, u64::from(times))
+}
+
+/// The greatest numbers of requests of a list of statements that breaks no rule, from what is known before it, for all sections of all
+/// services at once; 2^64 - 1 where there are more. It goes over the statements once, and not over blocks that ask for nothing. Refused
+/// only for want of host memory, of which it takes some for each section that is asked for.
+pub fn all_requests(
+    alloc: Global,
+    context: &Context<'_>,
+    state: &mut State,
+    body: &Body,
+) -> Result<Requests, AllocError>
+    requires few { size body.now ≤ 4096 }
+    requires loops { IsTrue (few_loops (4 - length context.now.counts) body.now) }
+    requires right { IsRight context.now state.old body.now }
+    ensures { IfOk result (λ n. (v : List ℕ) (r : Section) → saturated (requests_for n v r) ≡ saturated (requests v r context.now state.old body.now)) }
+{
+    if is_quiet(body) {
+        return Ok(Requests::new(alloc));
+    }
+    let mut asked = Requests::new(alloc);
+    count(alloc, context, state, &mut asked, body)?;
+    Ok(asked)
+}
