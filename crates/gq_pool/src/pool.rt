@@ -15,7 +15,7 @@ const ENTRY: u32 = POOL_ENTRY as u32;
 /// A pool of so many entries of so many bytes. Each entry is absent or there; at first all are absent.
 ///
 /// All calls are given the store and the heap, which the pool holds no part of.
-#[derive(Clone, Copy, Debug, PartialEq, Eq)]
+#[derive(Clone, Copy)]
 pub struct Pool {
     // the chunk of the table
     table: u32,

@@ -11,7 +11,7 @@ use gq_model::program::Name;
 use std::marker::Model;
 
 /// What a client gives more for the next level: bytes of RAM, and capabilities (0 in version 1).
-#[derive(Clone, Copy, Debug, Default, PartialEq, Eq)]
+#[derive(Clone, Copy, Default)]
 pub struct Upgrade {
     ram: u32,
     caps: u32,

@@ -11,7 +11,7 @@ use gq_model::limits::{GREATEST_DEPTH, GREATEST_SIZE, LOCALS};
 use gq_model::program::{Form, Instruction, Operator, Place, Width};
 
 /// A statement without operands.
-#[derive(Clone, Copy, Debug, PartialEq, Eq)]
+#[derive(Clone, Copy)]
 pub enum Bare {
     Out,
     Drop,
@@ -20,7 +20,7 @@ pub enum Bare {
 }
 
 /// A statement with a number.
-#[derive(Clone, Copy, Debug, PartialEq, Eq)]
+#[derive(Clone, Copy)]
 pub enum WithNumber {
     Push,
     Divide,
@@ -31,7 +31,7 @@ pub enum WithNumber {
 }
 
 /// A statement with a slot.
-#[derive(Clone, Copy, Debug, PartialEq, Eq)]
+#[derive(Clone, Copy)]
 pub enum WithSlot {
     Free,
     Take,
@@ -43,21 +43,21 @@ pub enum WithSlot {
 }
 
 /// A statement with a slot, or the object, whose bytes are meant.
-#[derive(Clone, Copy, Debug, PartialEq, Eq)]
+#[derive(Clone, Copy)]
 pub enum WithBytes {
     Load(Width),
     Store(Width),
 }
 
 /// A statement with a slot and a number.
-#[derive(Clone, Copy, Debug, PartialEq, Eq)]
+#[derive(Clone, Copy)]
 pub enum WithAmount {
     Make(Form),
     Upgrade,
 }
 
 /// A statement but `if` and `loop`, by the shape of its operands.
-#[derive(Clone, Copy, Debug, PartialEq, Eq)]
+#[derive(Clone, Copy)]
 pub enum Shape {
     /// A text to say.
     Say,

@@ -19,7 +19,7 @@ use Rattle.gq_scenario.specs.Document.{nodes_by, node_onto, is_init, init_of, le
 use Rattle.gq_scenario.specs.Document.{described, routes_fault, interfaces_fault, node_fault}
 use Rattle.gq_scenario.specs.Document.{first_of, walk_fault, init_count, is_long, has_long_routes, has_too_many, counts_fault, names_of, name_twice}
 use Rattle.gq_scenario.specs.Document.{document_fault}
-use Rattle.gq_reader.specs.internal.Parts.{interfaces_at, are_too_many}
+use Rattle.gq_reader.specs.internal.Parts.{interfaces_at, are_too_many, parts_fault}
 use Rattle.gq_scenario.specs.Made.{IsScenario}
 use Rattle.gq_scenario.specs.Sizes.{IsQuantum, IsMemory, depth}
 use Rattle.std.proofs.Math.Nat.{max-le}
@@ -185,6 +185,15 @@ many_is s = parted (nat_lt 64 (leaf_count s.nodes)) (nat_lt 64 (init_count s.nod
 fault_by : Bool → Bool → Option DocumentFault → Option DocumentFault
 fault_by interfaces parts twice = or_first (cond (interfaces || parts) (Some TooMany) None) twice
 
+by_parts : (b : Bool) (o : Option DocumentFault) → fault_by false b o ≡ cond b (Some TooMany) o
+unfolding fault_by
+by_parts true o = refl
+by_parts false o = refl
+
+none_left : (b : Bool) (o : Option DocumentFault) → cond b (Some TooMany) o ≡ None → (b ≡ false) × (o ≡ None)
+none_left true o e = absurd cc
+none_left false o e = (refl, e)
+
 none_first : (a b : Option DocumentFault) → a ≡ None → or_first a b ≡ b
 none_first None b e = refl
 none_first (Some d) b e = cc
@@ -215,19 +224,15 @@ module _ (top : Members) (no_fault : walk_fault top ≡ None) where
     after_interfaces = later ∙ ap (λ b. fault_by b (are_too_many (described top).default_routes (described top).nodes) (twice_in (described top)))
         (le-ltb 64 (length (keys_of (interfaces_at top))) few)
 
-    pub many_parts : are_too_many (described top).default_routes (described top).nodes ≡ true → document_fault top ≡ Some TooMany
-    unfolding fault_by
-    many_parts e = after_interfaces ∙ ap (λ b. fault_by false b (twice_in (described top))) e
-
-    pub names_left : are_too_many (described top).default_routes (described top).nodes ≡ false
-        → document_fault top ≡ name_twice (codes "init" ∷ []) (names_of (described top).nodes)
-    unfolding fault_by twice_in
-    names_left e = after_interfaces ∙ ap (λ b. fault_by false b (twice_in (described top))) e
+    pub parts_left : document_fault top ≡ parts_fault (described top).default_routes (described top).nodes
+    unfolding twice_in
+    parts_left = after_interfaces ∙ by_parts (are_too_many (described top).default_routes (described top).nodes) (twice_in (described top))
 
     -- such a document describes a scenario
-    pub is_scenario : are_too_many (described top).default_routes (described top).nodes ≡ false
-        → name_twice (codes "init" ∷ []) (names_of (described top).nodes) ≡ None → IsScenario (described top)
-    is_scenario e single =
+    pub is_scenario : parts_fault (described top).default_routes (described top).nodes ≡ None → IsScenario (described top)
+    is_scenario none =
+        let (e, single) = none_left (are_too_many (described top).default_routes (described top).nodes)
+        (name_twice (codes "init" ∷ []) (names_of (described top).nodes)) none in
         let interfaces : nat_lt 64 (length (described top).interfaces) ≡ false =
         ap (nat_lt 64) (interfaces_length (version_of top) (interfaces_at top)) ∙ le-ltb 64 (length (keys_of (interfaces_at top))) few in
         let sound = (walked top no_fault).sound in

@@ -5,3 +5,4 @@ pub mod Interface_tables
 pub mod Documents
 pub mod Described
 pub mod Texts
+pub mod Upgrades

@@ -2,7 +2,7 @@
 ghost use Rattle.std.specs.Prelude.{◌≡◌, ◌≤◌, ◌∷◌, [], None, length, option_map, codes, IfOk};
 ghost use Rattle.toml.specs.View.{table_view};
 ghost use Rattle.gq_scenario.specs.Document.{keys_of, names_of, name_twice, walk_fault, described, document_fault};
-ghost use Rattle.gq_reader.specs.internal.Parts.{interfaces_at, are_too_many};
+ghost use Rattle.gq_reader.specs.internal.Parts.{interfaces_at, are_too_many, parts_fault};
 ghost use Rattle.gq_scenario.specs.Made.{scenario_made};
 ghost use Rattle.gq_scenario.specs.Reading.{described_or, scenario_in};
 ghost use Rattle.gq_scenario.specs.Words.{Tells, IsRead};
@@ -51,6 +51,20 @@ fn repeated_name(alloc: Global, nodes: &Nodes) -> Result<Option<ScenarioFault>, 
     Ok(name_twice(names.as_slice()))
 }
 
+// The first fault that is left in a tree and the root's routes, after the faults of the tables.
+fn parts_fault(
+    alloc: Global,
+    default_routes: Option<&[Route]>,
+    nodes: &Nodes,
+) -> Result<Option<ScenarioFault>, AllocError>
+    ensures { IfOk result (λ fault. Tells fault (parts_fault (option_map (λ r. r.now) default_routes.entry) nodes.now)) }
+{
+    if are_too_many(default_routes, nodes) {
+        return Ok(Some(ScenarioFault::TooMany));
+    }
+    repeated_name(alloc, nodes)
+}
+
 // The parts of a table that the walk has passed, with no more than 64 interfaces.
 fn read_parts(alloc: Global, top: &Table) -> Result<Parts, AllocError>
     requires walked { walk_fault (table_view top.now) ≡ None }
@@ -82,13 +96,10 @@ fn document_scenario(alloc: Global, top: &Table) -> Result<Scenario, ScenarioErr
         return Err(ScenarioError::Fault(ScenarioFault::TooMany));
     }
     let parts = read_parts(alloc, top)?;
-    if are_too_many(told(&parts.default_routes), &parts.nodes) {
-        return Err(ScenarioError::Fault(ScenarioFault::TooMany));
+    match parts_fault(alloc, told(&parts.default_routes), &parts.nodes)? {
+        Some(fault) => Err(ScenarioError::Fault(fault)),
+        None => Ok(Scenario::new(parts)),
     }
-    if let Some(fault) = repeated_name(alloc, &parts.nodes)? {
-        return Err(ScenarioError::Fault(fault));
-    }
-    Ok(Scenario::new(parts))
 }
 
 /// The scenario that a text describes, a TOML document of either version. Each leaf has its program as text or as code.

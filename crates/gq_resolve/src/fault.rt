@@ -1,5 +1,5 @@
 // Why a scenario is not resolved.
-ghost use Rattle.std.specs.Prelude.{◌≡◌, Some, alloc_error};
+ghost use Rattle.std.specs.Prelude.{◌≡◌, ◌++◌, Some, MatchOption, alloc_error, codes};
 ghost use Rattle.gq_model.specs.texts.Fault_texts.{unresolved_text};
 ghost use Rattle.gq_resolve.specs.Resolved.{fault_of};
 
@@ -68,29 +68,34 @@ impl From<ResolveFault> for ResolveError {
     }
 }
 
+impl ResolveFault {
+    // The words before the name, the name, and the service where it tells one.
+    fn parts(&self) -> (&'static str, &Name, Option<&Name>)
+        ensures { MatchOption result.2 (unresolved_text (fault_of self.now) ≡ result.0.now ++ result.1.now)
+            (λ service. unresolved_text (fault_of self.now) ≡ result.0.now ++ (result.1.now ++ (codes " " ++ service.now))) }
+    {
+        match self {
+            ResolveFault::NoRoute { leaf, service } => ("S8 NoRoute ", leaf, Some(service)),
+            ResolveFault::Ambiguous { leaf, service } => ("S9 Ambiguous ", leaf, Some(service)),
+            ResolveFault::Cycle(leaf) => ("S10 Cycle ", leaf, None),
+            ResolveFault::QuantaExceed(init) => ("S11 QuantaExceed ", init, None),
+            ResolveFault::ProvidesDiffers { leaf, service } => {
+                ("S12 ProvidesDiffers ", leaf, Some(service))
+            }
+            ResolveFault::BadAfter(leaf) => ("S13 BadAfter ", leaf, None),
+            ResolveFault::CapsExceed(init) => ("S14 CapsExceed ", init, None),
+        }
+    }
+}
+
 impl Display for ResolveFault {
     ghost output = { λ fault. Some (unresolved_text (fault_of fault)) };
 
     fn fmt<W: Write>(&self, f: &mut Formatter<W>) -> fmt::Result {
-        match self {
-            ResolveFault::NoRoute { leaf, service } => {
-                write!(f, "S8 NoRoute {} {}", leaf.as_str(), service.as_str())
-            }
-            ResolveFault::Ambiguous { leaf, service } => {
-                write!(f, "S9 Ambiguous {} {}", leaf.as_str(), service.as_str())
-            }
-            ResolveFault::Cycle(leaf) => write!(f, "S10 Cycle {}", leaf.as_str()),
-            ResolveFault::QuantaExceed(init) => write!(f, "S11 QuantaExceed {}", init.as_str()),
-            ResolveFault::ProvidesDiffers { leaf, service } => {
-                write!(
-                    f,
-                    "S12 ProvidesDiffers {} {}",
-                    leaf.as_str(),
-                    service.as_str()
-                )
-            }
-            ResolveFault::BadAfter(leaf) => write!(f, "S13 BadAfter {}", leaf.as_str()),
-            ResolveFault::CapsExceed(init) => write!(f, "S14 CapsExceed {}", init.as_str()),
+        let (words, name, service) = self.parts();
+        match service {
+            Some(service) => write!(f, "{words}{} {}", name.as_str(), service.as_str()),
+            None => write!(f, "{words}{}", name.as_str()),
         }
     }
 }

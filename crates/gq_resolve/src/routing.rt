@@ -12,7 +12,7 @@ use gq_scenario::scenario::{Node, Nodes, Route, Target};
 use std::marker::Model;
 
 /// Why a service leads to no leaf.
-#[derive(Clone, Copy, Debug, PartialEq, Eq)]
+#[derive(Clone, Copy)]
 pub enum RouteFault {
     /// No entry fits, no child has that name or provides the service, or the question goes beyond the root.
     NoRoute,

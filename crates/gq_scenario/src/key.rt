@@ -8,7 +8,7 @@ ghost use Rattle.gq_scenario.specs.Words.{key_text, printed_key};
 use std::fmt::{Display, Error, Formatter, Write};
 
 /// A key of a scenario's tables.
-#[derive(Clone, Copy, Debug, PartialEq, Eq)]
+#[derive(Clone, Copy)]
 pub enum Key {
     Version,
     Ram,

@@ -16,7 +16,7 @@ use gq_program::interface::Interfaces;
 use std::marker::Model;
 
 /// The place of a leaf among a scenario's leaves in preorder, from 0.
-#[derive(Clone, Copy, Debug, PartialEq, Eq, PartialOrd, Ord)]
+#[derive(Clone, Copy, PartialEq, Eq)]
 pub struct LeafNo {
     place: u32,
 }
@@ -55,7 +55,7 @@ impl LeafNo {
 }
 
 /// The version of a scenario.
-#[derive(Clone, Copy, Debug, PartialEq, Eq)]
+#[derive(Clone, Copy)]
 pub enum Version {
     /// RAM alone is counted.
     One,
@@ -76,7 +76,7 @@ impl Version {
 }
 
 /// What a component is given: bytes of RAM, at most 2 to the 40, and capabilities, at most 65536 (0 in version 1).
-#[derive(Clone, Copy, Debug, PartialEq, Eq)]
+#[derive(Clone, Copy)]
 pub struct Quantum {
     ram: u64,
     caps: u32,

@@ -74,6 +74,16 @@ module _ (total : ℕ) (caps : Option ℕ) (ps : List ℕ) (ns : List Node) (xs 
         ap (λ k. (account_at es k).used) o.root ∙ ap (λ x. (its_account x).used) (o.kept ∙ ap (λ (m : Ledger). get_or m.accounts 0 None) lp)
     unused_at (suc i) lt = ap (λ x. (its_account x).used) (o.empty (suc i) (omega arith) lt)
 
+    -- the root's account has all that its node is handed, and every other has nothing yet
+    pub first_at : (account_at es (number t 0)).quota ≡ get_or hs 0 no_amount
+    first_at =
+        let live : handed (node_at ns 0) ≡ (node_at ns 0).quantum = ap (λ s. while_live s (node_at ns 0).quantum) p.root in
+        ap (λ k. (account_at es k).quota) o.root
+        ∙ (ap (λ x. (its_account x).quota) (o.kept ∙ ap (λ (m : Ledger). get_or m.accounts 0 None) lp) ∙ sym (handed_at 0 ∙ (live ∙ p.whole)))
+
+    pub empty_at : (i : ℕ) → 0 < i → i < length t.parents → (account_at es (number t i)).quota ≡ no_amount
+    empty_at i below lt = ap (λ x. (its_account x).quota) (o.empty i below lt)
+
     refers : (i : ℕ) (r : AccountNo) → i < length t.parents → (account_at es (number t i)).reference ≡ Some r → (0 < i) × (number t (parent t i) ≡ r.0)
     refers zero r lt e = absurd (none_some r (sym (ap (λ k. (account_at es k).reference) o.root ∙ root_alone) ∙ e))
     refers (suc i) r lt e = (

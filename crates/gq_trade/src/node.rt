@@ -7,7 +7,7 @@ use gq_tariff::Amount;
 use std::alloc::{AllocError, Global};
 
 /// Whether a node has its quantum.
-#[derive(Clone, Copy, Debug, PartialEq, Eq)]
+#[derive(Clone, Copy)]
 pub enum Stage {
     /// It starts after a leaf that has not ended, and has nothing.
     Pending,
@@ -18,7 +18,7 @@ pub enum Stage {
 }
 
 /// A node: its quantum of bytes and capabilities, the node that it starts after, if there is one, and whether it has its quantum.
-#[derive(Clone, Copy, Debug)]
+#[derive(Clone, Copy)]
 pub struct Node {
     pub quantum: Amount,
     pub after: Option<usize>,

@@ -76,10 +76,10 @@ impl Trades {
         requires plan { IsPlan total caps plan.parents.items plan.nodes.items plan.leaves.items plan.objects.items }
         ensures { IfOk result (λ t. IsFirst total caps plan.parents.items plan.nodes.items plan.leaves.items plan.objects.items room t) }
     {
+        let handed = handed_to(alloc, plan.nodes.as_slice())?;
         let mut accounts = Accounts::new(alloc, total, caps)?;
         let root = accounts.root();
         let tree = AccountTree::open(alloc, &mut accounts, plan.parents)?;
-        let handed = handed_to(alloc, plan.nodes.as_slice())?;
         tree.hand_out(&mut accounts, handed.as_slice());
         let memory = Memory::new(accounts, root);
         let sessions = Sessions::new(alloc, memory, tree, plan.leaves, plan.objects, room)?;

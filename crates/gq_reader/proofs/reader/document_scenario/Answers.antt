@@ -1,13 +1,13 @@
-use Rattle.std.proofs.Common.{◌≡◌, ◌<◌, ◌≤◌, [], ◌∷◌, None, Ok, codes, length, sym, ap, refl, subst, ◌∙◌, arith}
+use Rattle.std.proofs.Common.{◌≡◌, ◌<◌, ◌≤◌, Ok, length, sym, ap, refl, subst, ◌∙◌, arith}
 use Rattle.toml.specs.View.{table_view}
 use Rattle.gq_model.specs.machine.Scenario.{Scenario}
-use Rattle.gq_scenario.specs.Document.{keys_of, names_of, name_twice, walk_fault, document_fault}
+use Rattle.gq_scenario.specs.Document.{keys_of, walk_fault, document_fault}
 use Rattle.gq_scenario.specs.Made.{IsScenario}
-use Rattle.gq_reader.specs.internal.Parts.{interfaces_at, are_too_many}
+use Rattle.gq_reader.specs.internal.Parts.{interfaces_at, parts_fault}
 use Rattle.gq_scenario.specs.Words.{Tells}
 use Rattle.gq_reader.proofs.Described.{fault_read}
 use Rattle.gq_tables.proofs.Faults.{tells_none}
-use Rattle.gq_reader.proofs.Documents.{many_interfaces, many_parts, names_left, is_scenario}
+use Rattle.gq_reader.proofs.Documents.{many_interfaces, parts_left, is_scenario}
 use Rattle.gq_reader.proofs.reader.document_scenario.Goals as goal
 
 pub returns-then-interface_count-gt-GREATEST_COUNT : goal.returns-then-interface_count-gt-GREATEST_COUNT
@@ -17,47 +17,29 @@ returns-then-interface_count-gt-GREATEST_COUNT c =
     let many : 64 < length (keys_of (interfaces_at top)) = omega (arith, c.interface_count.ensures) in
     rw (many_interfaces top walked many) refl
 
-pub returns-then-are_too_many : goal.returns-then-are_too_many
-returns-then-are_too_many c =
-    let top = table_view c.args.top.now in
-    let walked = tells_none (walk_fault top) (rw c.in_default.is at c.walk_fault.ensures) in
-    let few : length (keys_of (interfaces_at top)) ≤ 64 = omega (arith, c.interface_count.ensures) in
-    let P : Scenario → Type 0 = λ s. c.are_too_many.result ≡ are_too_many s.default_routes s.nodes in
-    let counted = subst P c.in_ok-parts.ensures (rw c.told.ensures at c.are_too_many.ensures) in
-    rw (many_parts top walked few (sym counted ∙ c.if-are_too_many.true)) refl
-
 pub returns-in-Some-2 : goal.returns-in-Some-2
 returns-in-Some-2 c =
     let top = table_view c.args.top.now in
     let walked = tells_none (walk_fault top) (rw c.in_default.is at c.walk_fault.ensures) in
     let few : length (keys_of (interfaces_at top)) ≤ 64 = omega (arith, c.interface_count.ensures) in
-    let P : Scenario → Type 0 = λ s. c.are_too_many.result ≡ are_too_many s.default_routes s.nodes in
-    let counted = subst P c.in_ok-parts.ensures (rw c.told.ensures at c.are_too_many.ensures) in
-    let left = names_left top walked few (sym counted ∙ c.if-are_too_many.false) in
-    let Q : Scenario → Type 0 = λ s. Tells c.in_ok-fault.field-0 (name_twice (codes "init" ∷ []) (names_of s.nodes)) in
-    let told = rw c.in-Some-2.is at (subst Q c.in_ok-parts.ensures c.in_ok-fault.ensures) in
-    fault_read top c.in-Some-2.fault (document_fault top) (rw left told)
+    let Q : Scenario → Type 0 = λ s. Tells c.in_ok-fault.field-0 (parts_fault s.default_routes s.nodes) in
+    let told = rw c.in-Some-2.is at (subst Q c.in_ok-parts.ensures (rw c.told.ensures at c.in_ok-fault.ensures)) in
+    fault_read top c.in-Some-2.fault (document_fault top) (rw (parts_left top walked few) told)
 
 pub new-requires : goal.new-requires
 new-requires c =
     let top = table_view c.args.top.now in
     let walked = tells_none (walk_fault top) (rw c.in_default.is at c.walk_fault.ensures) in
     let few : length (keys_of (interfaces_at top)) ≤ 64 = omega (arith, c.interface_count.ensures) in
-    let P : Scenario → Type 0 = λ s. c.are_too_many.result ≡ are_too_many s.default_routes s.nodes in
-    let counted = subst P c.in_ok-parts.ensures (rw c.told.ensures at c.are_too_many.ensures) in
-    let Q : Scenario → Type 0 = λ s. Tells c.in_ok-fault.field-0 (name_twice (codes "init" ∷ []) (names_of s.nodes)) in
-    let told = rw c.in_default-2.is at (subst Q c.in_ok-parts.ensures c.in_ok-fault.ensures) in
-    subst IsScenario (sym c.in_ok-parts.ensures) (is_scenario top walked few (sym counted ∙ c.if-are_too_many.false) (tells_none _ told))
+    let Q : Scenario → Type 0 = λ s. Tells c.in_ok-fault.field-0 (parts_fault s.default_routes s.nodes) in
+    let told = rw c.in-None.is at (subst Q c.in_ok-parts.ensures (rw c.told.ensures at c.in_ok-fault.ensures)) in
+    subst IsScenario (sym c.in_ok-parts.ensures) (is_scenario top walked few (tells_none _ told))
 
-pub returns : goal.returns
-returns c =
+pub returns-in-None : goal.returns-in-None
+returns-in-None c =
     let top = table_view c.args.top.now in
     let walked = tells_none (walk_fault top) (rw c.in_default.is at c.walk_fault.ensures) in
     let few : length (keys_of (interfaces_at top)) ≤ 64 = omega (arith, c.interface_count.ensures) in
-    let P : Scenario → Type 0 = λ s. c.are_too_many.result ≡ are_too_many s.default_routes s.nodes in
-    let counted = subst P c.in_ok-parts.ensures (rw c.told.ensures at c.are_too_many.ensures) in
-    let left = names_left top walked few (sym counted ∙ c.if-are_too_many.false) in
-    let Q : Scenario → Type 0 = λ s. Tells c.in_ok-fault.field-0 (name_twice (codes "init" ∷ []) (names_of s.nodes)) in
-    let told = rw c.in_default-2.is at (subst Q c.in_ok-parts.ensures c.in_ok-fault.ensures) in
-    let none : document_fault top ≡ None = left ∙ tells_none _ told in
-    rw none (ap Ok (sym (c.new.ensures ∙ c.in_ok-parts.ensures)))
+    let Q : Scenario → Type 0 = λ s. Tells c.in_ok-fault.field-0 (parts_fault s.default_routes s.nodes) in
+    let told = rw c.in-None.is at (subst Q c.in_ok-parts.ensures (rw c.told.ensures at c.in_ok-fault.ensures)) in
+    rw (parts_left top walked few, tells_none _ told) (ap Ok (sym (c.new.ensures ∙ c.in_ok-parts.ensures)))

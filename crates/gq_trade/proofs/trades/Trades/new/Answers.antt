@@ -1,14 +1,62 @@
 use Rattle.std.proofs.Common.{◌≡◌, ℕ, ◌+◌, ◌<◌, length, get_or, map, refl, sym, ap, subst, ◌∙◌, arith}
+use Rattle.std.proofs.lemmas.List.{length-map}
 use Rattle.gq_ram.specs.Entries.{account_at, no_amount}
-use Rattle.gq_donations.specs.Trees.{account_of, number}
+use Rattle.gq_donations.specs.Trees.{AreNodes, account_of, number}
 use Rattle.gq_donations.specs.Handing.{spent}
 use Rattle.gq_ram.specs.Ledgers.{Ledger, first_ledger, with_accounts}
 use Rattle.gq_sessions.specs.Trading.{Trading}
 use Rattle.gq_trade.specs.Balances.{handed}
 use Rattle.gq_trade.specs.Trades.{IsTrades}
 use Rattle.gq_trade.specs.Plans.{IsFirst}
-use Rattle.gq_trade.proofs.First.{counted_here, first_kept, fits_here, unused_at}
+use Rattle.gq_trade.proofs.First.{counted_here, empty_at, first_at, first_kept, fits_here, unused_at}
 use Rattle.gq_trade.proofs.trades.Trades.new.Goals as goal
+
+pub hand_out-requires-clause-nodes : goal.hand_out-requires-clause-nodes
+hand_out-requires-clause-nodes c = c.in_ok-tree.ensures.opened.nodes
+
+pub hand_out-requires-clause-opened : goal.hand_out-requires-clause-opened
+hand_out-requires-clause-opened c = c.in_ok-tree.ensures.opened.opened
+
+pub hand_out-requires-clause-count : goal.hand_out-requires-clause-count
+hand_out-requires-clause-count c =
+    let a = c.args.plan in
+    let hp : c.as_slice-2.result.now ≡ map handed a.nodes.items =
+    c.as_slice-2.ensures.value ∙ c.in_ok-handed.ensures ∙ ap (map handed) c.as_slice.ensures.value in
+    ap length hp ∙ (length-map a.nodes.items handed ∙ (c.requires.plan.count ∙ sym (ap length c.in_ok-tree.ensures.parents)))
+
+pub hand_out-requires-clause-some : goal.hand_out-requires-clause-some
+hand_out-requires-clause-some c =
+    let a = c.args.plan in
+    let hp : c.as_slice-2.result.now ≡ map handed a.nodes.items =
+    c.as_slice-2.ensures.value ∙ c.in_ok-handed.ensures ∙ ap (map handed) c.as_slice.ensures.value in
+    omega (arith, ap length hp ∙ length-map a.nodes.items handed, c.requires.plan.count, c.requires.plan.some)
+
+pub hand_out-requires-clause-first : goal.hand_out-requires-clause-first
+hand_out-requires-clause-first c =
+    let a = c.args.plan in
+    let hp : c.as_slice-2.result.now ≡ map handed a.nodes.items =
+    c.as_slice-2.ensures.value ∙ c.in_ok-handed.ensures ∙ ap (map handed) c.as_slice.ensures.value in
+    first_at c.args.total c.args.caps a.parents.items a.nodes.items a.leaves.items a.objects.items c.requires.plan c.in_ok-tree.tree
+    c.in_ok-tree.ensures.parents c.as_slice-2.result.now hp c.in_ok-accounts.accounts c.in_ok-accounts.ensures c.open.new.accounts.accounts
+    c.in_ok-tree.ensures.opened
+
+pub hand_out-requires-clause-empty : goal.hand_out-requires-clause-empty
+hand_out-requires-clause-empty c =
+    let a = c.args.plan in
+    let hp : c.as_slice-2.result.now ≡ map handed a.nodes.items =
+    c.as_slice-2.ensures.value ∙ c.in_ok-handed.ensures ∙ ap (map handed) c.as_slice.ensures.value in
+    empty_at c.args.total c.args.caps a.parents.items a.nodes.items a.leaves.items a.objects.items c.requires.plan c.in_ok-tree.tree
+    c.in_ok-tree.ensures.parents c.as_slice-2.result.now hp c.in_ok-accounts.accounts c.in_ok-accounts.ensures c.open.new.accounts.accounts
+    c.in_ok-tree.ensures.opened
+
+pub hand_out-requires-clause-unused : goal.hand_out-requires-clause-unused
+hand_out-requires-clause-unused c =
+    let a = c.args.plan in
+    let hp : c.as_slice-2.result.now ≡ map handed a.nodes.items =
+    c.as_slice-2.ensures.value ∙ c.in_ok-handed.ensures ∙ ap (map handed) c.as_slice.ensures.value in
+    unused_at c.args.total c.args.caps a.parents.items a.nodes.items a.leaves.items a.objects.items c.requires.plan c.in_ok-tree.tree
+    c.in_ok-tree.ensures.parents c.as_slice-2.result.now hp c.in_ok-accounts.accounts c.in_ok-accounts.ensures c.open.new.accounts.accounts
+    c.in_ok-tree.ensures.opened
 
 pub hand_out-requires-clause-fits : goal.hand_out-requires-clause-fits
 hand_out-requires-clause-fits c =
@@ -34,6 +82,13 @@ hand_out-requires-clause-counted c =
     counted_here c.args.total c.args.caps a.parents.items a.nodes.items a.leaves.items a.objects.items c.requires.plan c.in_ok-tree.tree
     c.in_ok-tree.ensures.parents c.as_slice-2.result.now hp c.open.new.accounts.price
     (ap (λ (l : Ledger). l.price) c.in_ok-tree.ensures.same ∙ ap (λ (l : Ledger). l.price) c.in_ok-accounts.ensures)
+
+pub new-requires-2-clause-nodes : goal.new-requires-2-clause-nodes
+new-requires-2-clause-nodes c =
+    subst (λ (l : Ledger). AreNodes c.in_ok-tree.tree l.accounts) (sym (ap (λ x. x.ledger) c.new-memory.ensures)) c.hand_out.ensures.nodes
+
+pub new-requires-2-clause-leaves : goal.new-requires-2-clause-leaves
+new-requires-2-clause-leaves c = λ x lt. omega (arith, c.requires.plan.within x lt, ap length c.in_ok-tree.ensures.parents)
 
 pub invariant_of-result : goal.invariant_of-result
 invariant_of-result c =
