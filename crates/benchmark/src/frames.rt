@@ -24,21 +24,39 @@ const PAIRS: u32 = 65536;
 /// number of a frame.
 pub fn measured(rt: &HostRuntime, times: u32) -> Result<usize, Fault> {
     let fresh = first_takes(rt, times)?;
-    let pairs = u64::from(times) * u64::from(PAIRS);
+    let taken = pairs(rt, times)?;
+    let last = vecs(rt, times, taken)?;
+    new_for_all(rt, times)?;
+    Ok((fresh ^ last) as usize)
+}
+
+// A frame is taken and given back.
+fn pairs(rt: &HostRuntime, times: u32) -> Result<u32, Fault> {
     let mut pages = Pages::new(rt.alloc(), 2)?;
+    pairs_of(rt, &mut pages, times)
+}
+
+fn pairs_of(rt: &HostRuntime, pages: &mut Pages, times: u32) -> Result<u32, Fault> {
     let start = Instant::now(rt)?;
     let mut last = 0;
     for _ in 0..times {
-        last = take_and_give(&mut pages, last);
+        last = take_and_give(pages, last);
     }
+    let pairs = u64::from(times) * u64::from(PAIRS);
     tell(rt, "frame take and give", pairs, start)?;
+    Ok(last)
+}
+
+// A `Vec` of a frame's bytes is made and dropped.
+fn vecs(rt: &HostRuntime, times: u32, before: u32) -> Result<u32, Fault> {
     let start = Instant::now(rt)?;
+    let mut last = before;
     for _ in 0..times {
         last = make_and_drop(rt.alloc(), last)?;
     }
+    let pairs = u64::from(times) * u64::from(PAIRS);
     tell(rt, "Vec of a frame", pairs, start)?;
-    new_for_all(rt, times)?;
-    Ok((fresh ^ last) as usize)
+    Ok(last)
 }
 
 // All frames of 64 MiB are taken for the first time.
@@ -46,10 +64,9 @@ fn first_takes(rt: &HostRuntime, times: u32) -> Result<u32, Fault> {
     let mut nanoseconds = 0;
     let mut last = 0;
     for _ in 0..times {
-        let mut pages = Pages::new(rt.alloc(), FRAMES)?;
-        let start = Instant::now(rt)?;
-        last = take_all(&mut pages);
-        nanoseconds = since(rt, start)?.saturating_add(nanoseconds);
+        let taken = first_take(rt)?;
+        last = taken.0;
+        nanoseconds = taken.1.saturating_add(nanoseconds);
     }
     tell_all(
         rt,
@@ -58,6 +75,18 @@ fn first_takes(rt: &HostRuntime, times: u32) -> Result<u32, Fault> {
         nanoseconds,
     )?;
     Ok(last)
+}
+
+// The number of the last frame, and the nanoseconds that all of them take.
+fn first_take(rt: &HostRuntime) -> Result<(u32, u128), Fault> {
+    let mut pages = Pages::new(rt.alloc(), FRAMES)?;
+    first_take_of(rt, &mut pages)
+}
+
+fn first_take_of(rt: &HostRuntime, pages: &mut Pages) -> Result<(u32, u128), Fault> {
+    let start = Instant::now(rt)?;
+    let last = take_all(pages);
+    Ok((last, since(rt, start)?))
 }
 
 // Takes all frames, and gives the number of the last one.

@@ -18,14 +18,6 @@ const BYTES: u32 = 262144;
 // How often a block is made and freed in a round.
 const PAIRS: u32 = 65536;
 
-/// The nanoseconds of each phase.
-#[derive(Clone, Copy, Debug)]
-struct Phases {
-    first: u128,
-    free: u128,
-    again: u128,
-}
-
 /// Measures blocks of `size` bytes, 1 to 2048, so many times over: as many as the store has room for, but for one; the same freed, last to first; the same
 /// once more; one beside all of these, made and freed over and over; and one of 2048 bytes, whose place is cleared each time. Gives how many blocks
 /// there were in a round.
@@ -34,18 +26,19 @@ pub fn measured(rt: &HostRuntime, times: u32, size: u32) -> Result<usize, Fault>
         return Err(Fault::Usage);
     }
     let count = BYTES / size - 1;
-    let mut phases = Phases {
-        first: 0,
-        free: 0,
-        again: 0,
-    };
+    let mut first = 0;
+    let mut free = 0;
+    let mut again = 0;
     for _ in 0..times {
-        round(rt, size, count, &mut phases)?;
+        let [a, b, c] = round(rt, size, count)?;
+        first = a.saturating_add(first);
+        free = b.saturating_add(free);
+        again = c.saturating_add(again);
     }
     let operations = u64::from(times) * u64::from(count);
-    tell_all(rt, "heap first alloc", operations, phases.first)?;
-    tell_all(rt, "heap free", operations, phases.free)?;
-    tell_all(rt, "heap alloc again", operations, phases.again)?;
+    tell_all(rt, "heap first alloc", operations, first)?;
+    tell_all(rt, "heap free", operations, free)?;
+    tell_all(rt, "heap alloc again", operations, again)?;
     pairs(rt, size, 0, times, "heap alloc and free, no other block")?;
     pairs(
         rt,
@@ -59,25 +52,36 @@ pub fn measured(rt: &HostRuntime, times: u32, size: u32) -> Result<usize, Fault>
 }
 
 // A round over a fresh store and heap.
-fn round(rt: &HostRuntime, size: u32, count: u32, phases: &mut Phases) -> Result<(), Fault>
+fn round(rt: &HostRuntime, size: u32, count: u32) -> Result<[u128; 3], Fault>
     requires { (1 ≤ size) × (size ≤ 2048) }
 {
+    let mut places = Vec::with_capacity(rt.alloc(), count as usize)?;
     let mut store = ListStore::new(rt.alloc(), PAGES, None)?;
     let mut heap = Heap::new();
-    let mut places = Vec::with_capacity(rt.alloc(), count as usize)?;
+    measured_in(rt, &mut heap, &mut store, &mut places, size, count)
+}
+
+// The nanoseconds of so many blocks: made for the first time, freed, and made again.
+fn measured_in<S: ByteStore>(
+    rt: &HostRuntime,
+    heap: &mut Heap,
+    store: &mut S,
+    places: &mut Vec<Place>,
+    size: u32,
+    count: u32,
+) -> Result<[u128; 3], Fault>
+    requires size { (1 ≤ size) × (size ≤ 2048) }
+    requires kept { AreInUse heap.old (S.state store.old) places.old.items }
+{
     let start = Instant::now(rt)?;
-    alloc_all(&mut heap, &mut store, &mut places, size, count)?;
+    alloc_all(heap, store, places, size, count)?;
     let first = since(rt, start)?;
     let start = Instant::now(rt)?;
-    free_all(&mut heap, &mut store, &mut places);
+    free_all(heap, store, places);
     let free = since(rt, start)?;
     let start = Instant::now(rt)?;
-    alloc_all(&mut heap, &mut store, &mut places, size, count)?;
-    let again = since(rt, start)?;
-    phases.first = phases.first.saturating_add(first);
-    phases.free = phases.free.saturating_add(free);
-    phases.again = phases.again.saturating_add(again);
-    Ok(())
+    alloc_all(heap, store, places, size, count)?;
+    Ok([first, free, since(rt, start)?])
 }
 
 // Makes so many blocks, and keeps their places.
@@ -132,13 +136,28 @@ fn free_last<S: ByteStore>(heap: &mut Heap, store: &mut S, places: &mut Vec<Plac
 fn pairs(rt: &HostRuntime, size: u32, count: u32, times: u32, name: &str) -> Result<(), Fault>
     requires { (1 ≤ size) × (size ≤ 2048) }
 {
+    let mut places = Vec::with_capacity(rt.alloc(), count as usize)?;
     let mut store = ListStore::new(rt.alloc(), PAGES, None)?;
     let mut heap = Heap::new();
-    let mut places = Vec::with_capacity(rt.alloc(), count as usize)?;
     alloc_all(&mut heap, &mut store, &mut places, size, count)?;
+    pairs_in(rt, &mut heap, &mut store, size, times, name)
+}
+
+// One is made and freed over and over.
+fn pairs_in<S: ByteStore>(
+    rt: &HostRuntime,
+    heap: &mut Heap,
+    store: &mut S,
+    size: u32,
+    times: u32,
+    name: &str,
+) -> Result<(), Fault>
+    requires size { (1 ≤ size) × (size ≤ 2048) }
+    requires kept { IsHeap heap.old (S.state store.old) }
+{
     let start = Instant::now(rt)?;
     for _ in 0..times {
-        alloc_and_free(&mut heap, &mut store, size)?;
+        alloc_and_free(heap, store, size)?;
     }
     tell(rt, name, u64::from(times) * u64::from(PAIRS), start)
 }

@@ -37,14 +37,24 @@ pub fn measured(rt: &HostRuntime, times: u32, size: u32) -> Result<usize, Fault>
 fn round(rt: &HostRuntime, size: u32, count: u32) -> Result<[u128; 3], Fault> {
     let heap = LocalHeap::new(rt.alloc(), ROOM)?;
     let mut blocks = Vec::with_capacity(rt.alloc(), count as usize)?;
+    measured_in(rt, &heap, &mut blocks, size, count)
+}
+
+fn measured_in<'a>(
+    rt: &HostRuntime,
+    heap: &'a LocalHeap,
+    blocks: &mut Vec<Vec<u8, &'a LocalHeap>>,
+    size: u32,
+    count: u32,
+) -> Result<[u128; 3], Fault> {
     let start = Instant::now(rt)?;
-    alloc_all(&heap, &mut blocks, size, count)?;
+    alloc_all(heap, blocks, size, count)?;
     let first = since(rt, start)?;
     let start = Instant::now(rt)?;
-    free_all(&mut blocks);
+    free_all(blocks);
     let free = since(rt, start)?;
     let start = Instant::now(rt)?;
-    alloc_all(&heap, &mut blocks, size, count)?;
+    alloc_all(heap, blocks, size, count)?;
     Ok([first, free, since(rt, start)?])
 }
 

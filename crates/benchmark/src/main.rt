@@ -93,20 +93,20 @@ fn main(rt: HostRuntime) -> ExitCode {
 fn measured(rt: &HostRuntime) -> Result<(), Fault> {
     let Request { work, times, size } = asked(rt)?;
     let given = match work {
-        Work::Assemble => programs::assembled(rt, times)?,
-        Work::Decode => programs::decoded(rt, times)?,
-        Work::Encode => programs::encoded(rt, times)?,
-        Work::Verify => programs::verified(rt, times)?,
-        Work::Read => programs::read(rt, times)?,
-        Work::Words => words::measured(rt, times)?,
-        Work::Frames => frames::measured(rt, times)?,
-        Work::Heap => heaps::measured(rt, times, size)?,
-        Work::List => lists::measured(rt, times, size)?,
-        Work::Slices => pools::slices(rt, times, size)?,
-        Work::Pool => pools::entries(rt, times)?,
-        Work::Sessions => sessions::measured(rt, times, size)?,
-        Work::Accesses => accesses::measured(rt, times)?,
-    };
+        Work::Assemble => programs::assembled(rt, times),
+        Work::Decode => programs::decoded(rt, times),
+        Work::Encode => programs::encoded(rt, times),
+        Work::Verify => programs::verified(rt, times),
+        Work::Read => programs::read(rt, times),
+        Work::Words => words::measured(rt, times),
+        Work::Frames => frames::measured(rt, times),
+        Work::Heap => heaps::measured(rt, times, size),
+        Work::List => lists::measured(rt, times, size),
+        Work::Slices => pools::slices(rt, times, size),
+        Work::Pool => pools::entries(rt, times),
+        Work::Sessions => sessions::measured(rt, times, size),
+        Work::Accesses => accesses::measured(rt, times),
+    }?;
     writeln!(rt.stdout(), "{given}")?;
     Ok(())
 }

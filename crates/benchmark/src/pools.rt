@@ -29,16 +29,23 @@ pub fn slices(rt: &HostRuntime, times: u32, size: u32) -> Result<usize, Fault> {
         return Err(Fault::Usage);
     }
     let mut store = ListStore::new(rt.alloc(), PAGES, None)?;
+    slices_in(rt, &mut store, times, size)
+}
+
+fn slices_in<S: ByteStore>(
+    rt: &HostRuntime,
+    store: &mut S,
+    times: u32,
+    size: u32,
+) -> Result<usize, Fault>
+    requires { size ≤ 65536 }
+{
     let start = Instant::now(rt)?;
     for _ in 0..times {
-        alloc_and_free(&mut store, size)?;
+        alloc_and_free(store, size)?;
     }
-    tell(
-        rt,
-        "slice alloc and free",
-        u64::from(times) * u64::from(PAIRS),
-        start,
-    )?;
+    let pairs = u64::from(times) * u64::from(PAIRS);
+    tell(rt, "slice alloc and free", pairs, start)?;
     Ok((u64::from(size) + Sliced::overhead(u64::from(size))) as usize)
 }
 
@@ -75,15 +82,25 @@ pub fn entries(rt: &HostRuntime, times: u32) -> Result<usize, Fault> {
 fn round(rt: &HostRuntime) -> Result<[u128; 3], Fault> {
     let mut store = ListStore::new(rt.alloc(), PAGES, None)?;
     let mut heap = Heap::new();
-    let pool = made(&mut store, &heap)?;
+    measured_in(rt, &mut store, &mut heap)
+}
+
+fn measured_in<S: ByteStore>(
+    rt: &HostRuntime,
+    store: &mut S,
+    heap: &mut Heap,
+) -> Result<[u128; 3], Fault>
+    requires { IsHeap heap.old (S.state store.old) }
+{
+    let pool = made(store, heap)?;
     let start = Instant::now(rt)?;
-    take_all(&pool, &mut store, &mut heap)?;
+    take_all(&pool, store, heap)?;
     let first = since(rt, start)?;
     let start = Instant::now(rt)?;
-    give_all(&pool, &mut store, &mut heap);
+    give_all(&pool, store, heap);
     let removed = since(rt, start)?;
     let start = Instant::now(rt)?;
-    take_all(&pool, &mut store, &mut heap)?;
+    take_all(&pool, store, heap)?;
     Ok([first, since(rt, start)?, removed])
 }
 

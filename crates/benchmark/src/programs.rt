@@ -4,7 +4,7 @@ use crate::timing::tell;
 use gq_asm::assemble;
 use gq_code::decode::decode;
 use gq_code::program_code::encode;
-use gq_code::{Interface, Interfaces};
+use gq_code::{Interface, Interfaces, Program};
 use gq_model::program::Name;
 use gq_reader::reader::read_scenario;
 use gq_verify::verify;
@@ -22,10 +22,14 @@ fn input(rt: &HostRuntime) -> Result<Vec<u8>, Fault> {
 /// Assembles a text so often, and gives the number of its sections.
 pub fn assembled(rt: &HostRuntime, times: u32) -> Result<usize, Fault> {
     let text = input(rt)?;
+    assembled_from(rt, text.as_slice(), times)
+}
+
+fn assembled_from(rt: &HostRuntime, text: &[u8], times: u32) -> Result<usize, Fault> {
     let start = Instant::now(rt)?;
     let mut given = 0;
     for _ in 0..times {
-        match assemble(rt.alloc(), text.as_slice()) {
+        match assemble(rt.alloc(), text) {
             Ok(program) => given = program.sections().len(),
             Err(error) => return Err(Fault::Text(error)),
         }
@@ -37,10 +41,14 @@ pub fn assembled(rt: &HostRuntime, times: u32) -> Result<usize, Fault> {
 /// Decodes a code so often, and gives the number of its sections.
 pub fn decoded(rt: &HostRuntime, times: u32) -> Result<usize, Fault> {
     let code = input(rt)?;
+    decoded_from(rt, code.as_slice(), times)
+}
+
+fn decoded_from(rt: &HostRuntime, code: &[u8], times: u32) -> Result<usize, Fault> {
     let start = Instant::now(rt)?;
     let mut given = 0;
     for _ in 0..times {
-        match decode(rt.alloc(), code.as_slice()) {
+        match decode(rt.alloc(), code) {
             Ok(program) => given = program.sections().len(),
             Err(error) => return Err(Fault::Code(error)),
         }
@@ -49,17 +57,26 @@ pub fn decoded(rt: &HostRuntime, times: u32) -> Result<usize, Fault> {
     Ok(given)
 }
 
+/// The program of a text from standard input.
+fn program(rt: &HostRuntime) -> Result<Program, Fault> {
+    let text = input(rt)?;
+    match assemble(rt.alloc(), text.as_slice()) {
+        Ok(program) => Ok(program),
+        Err(error) => Err(Fault::Text(error)),
+    }
+}
+
 /// Encodes the program of a text so often, and gives the length of its code.
 pub fn encoded(rt: &HostRuntime, times: u32) -> Result<usize, Fault> {
-    let text = input(rt)?;
-    let program = match assemble(rt.alloc(), text.as_slice()) {
-        Ok(program) => program,
-        Err(error) => return Err(Fault::Text(error)),
-    };
+    let program = program(rt)?;
+    encoded_from(rt, &program, times)
+}
+
+fn encoded_from(rt: &HostRuntime, program: &Program, times: u32) -> Result<usize, Fault> {
     let start = Instant::now(rt)?;
     let mut given = 0;
     for _ in 0..times {
-        given = encode(rt.alloc(), &program)?.len();
+        given = encode(rt.alloc(), program)?.len();
     }
     tell(rt, "encode", u64::from(times), start)?;
     Ok(given)
@@ -82,16 +99,21 @@ fn interfaces(rt: &HostRuntime) -> Result<Interfaces, Fault> {
 
 /// Verifies the program of a text so often, with 64 interfaces, and gives the bytes of its own that it uses at most.
 pub fn verified(rt: &HostRuntime, times: u32) -> Result<usize, Fault> {
-    let text = input(rt)?;
-    let program = match assemble(rt.alloc(), text.as_slice()) {
-        Ok(program) => program,
-        Err(error) => return Err(Fault::Text(error)),
-    };
     let interfaces = interfaces(rt)?;
+    let program = program(rt)?;
+    verified_from(rt, &program, &interfaces, times)
+}
+
+fn verified_from(
+    rt: &HostRuntime,
+    program: &Program,
+    interfaces: &Interfaces,
+    times: u32,
+) -> Result<usize, Fault> {
     let start = Instant::now(rt)?;
     let mut given = 0;
     for _ in 0..times {
-        match verify(&program, None, &interfaces) {
+        match verify(program, None, interfaces) {
             Ok(verified) => given = verified.own(),
             Err(fault) => return Err(Fault::Refused(fault)),
         }
@@ -103,10 +125,14 @@ pub fn verified(rt: &HostRuntime, times: u32) -> Result<usize, Fault> {
 /// Reads a scenario so often, and gives the number of its leaves.
 pub fn read(rt: &HostRuntime, times: u32) -> Result<usize, Fault> {
     let text = input(rt)?;
+    read_from(rt, text.as_slice(), times)
+}
+
+fn read_from(rt: &HostRuntime, text: &[u8], times: u32) -> Result<usize, Fault> {
     let start = Instant::now(rt)?;
     let mut given = 0;
     for _ in 0..times {
-        match read_scenario(rt.alloc(), text.as_slice()) {
+        match read_scenario(rt.alloc(), text) {
             Ok(scenario) => given = scenario.leaf_count(),
             Err(error) => return Err(Fault::Scenario(error)),
         }

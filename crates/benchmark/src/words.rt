@@ -31,14 +31,36 @@ pub fn measured(rt: &HostRuntime, times: u32) -> Result<usize, Fault> {
 
 // In a dataspace whose frames follow one another.
 fn in_row(rt: &HostRuntime, times: u32) -> Result<u32, Fault> {
-    let (mut accounts, ds) = with_dataspace(rt)?;
-    in_a_dataspace(rt, &mut accounts, ds, times, "dataspace")
+    let mut accounts = Accounts::new(rt.alloc(), 2 * SIZE, None)?;
+    in_new(rt, &mut accounts, times, "dataspace")
 }
 
 // In a dataspace in which no frame follows the one before.
 fn scattered(rt: &HostRuntime, times: u32) -> Result<u32, Fault> {
-    let (mut accounts, ds) = with_scattered(rt)?;
-    in_a_dataspace(rt, &mut accounts, ds, times, "scattered")
+    let mut accounts = Accounts::new(rt.alloc(), SIZE, None)?;
+    in_scattered(rt, &mut accounts, times)
+}
+
+// The same once another account had each frame and gave it back: the last of them first.
+fn in_scattered(rt: &HostRuntime, accounts: &mut Accounts, times: u32) -> Result<u32, Fault> {
+    let root = accounts.root();
+    let member = accounts.add(root)?;
+    open_and_close(accounts, member);
+    in_new(rt, accounts, times, "scattered")
+}
+
+// In a dataspace that the root account makes, whose frames lie so.
+fn in_new(
+    rt: &HostRuntime,
+    accounts: &mut Accounts,
+    times: u32,
+    frames: &str,
+) -> Result<u32, Fault> {
+    let root = accounts.root();
+    match accounts.alloc(root, SIZE) {
+        Ok(ds) => in_a_dataspace(rt, accounts, ds, times, frames),
+        Err(_) => Err(Fault::Account),
+    }
 }
 
 // In a dataspace that an account pays for, whose frames lie so.
@@ -94,33 +116,6 @@ fn tell_of(
     let nanoseconds = since(rt, start)?;
     let name = format!(in rt.alloc(); "{frames} {what}")?;
     tell_all(rt, name.as_str(), times, nanoseconds)
-}
-
-// Accounts for two such dataspaces, of which the root account has one.
-fn with_dataspace(rt: &HostRuntime) -> Result<(Accounts, DsId), Fault>
-    ensures { IfOk result (λ x. length (content_of x.0.spaces.spaces x.1.0) ≡ 1048576) }
-{
-    let mut accounts = Accounts::new(rt.alloc(), 2 * SIZE, None)?;
-    let root = accounts.root();
-    match accounts.alloc(root, SIZE) {
-        Ok(ds) => Ok((accounts, ds)),
-        Err(_) => Err(Fault::Account),
-    }
-}
-
-// Accounts for one such dataspace, which the root account has once another account had each frame and gave it back: the last of them first.
-fn with_scattered(rt: &HostRuntime) -> Result<(Accounts, DsId), Fault>
-    ensures { IfOk result (λ x. length (content_of x.0.spaces.spaces x.1.0) ≡ 1048576) }
-{
-    let mut accounts = Accounts::new(rt.alloc(), SIZE, None)?;
-    let root = accounts.root();
-    let member = accounts.add(root)?;
-    open_and_close(&mut accounts, member);
-    let root = accounts.root();
-    match accounts.alloc(root, SIZE) {
-        Ok(ds) => Ok((accounts, ds)),
-        Err(_) => Err(Fault::Account),
-    }
 }
 
 // An account gets all quota, takes each frame by itself, and is closed.
@@ -230,27 +225,33 @@ pub fn zeros(alloc: Global, n: usize) -> Result<Vec<u8>, AllocError>
 // The same in a `Vec`.
 fn in_a_vec(rt: &HostRuntime, times: u32) -> Result<u32, Fault> {
     let mut bytes = zeros(rt.alloc(), SIZE as usize)?;
+    in_bytes(rt, &mut bytes, times)
+}
+
+fn in_bytes(rt: &HostRuntime, bytes: &mut Vec<u8>, times: u32) -> Result<u32, Fault>
+    requires { length bytes.old.items ≡ 1048576 }
+{
     let operations = u64::from(times) * u64::from(WORDS);
     let start = Instant::now(rt)?;
     for round in 0..times {
-        vec_store_all(&mut bytes, round);
+        vec_store_all(bytes, round);
     }
     tell(rt, "Vec store4 in sequence", operations, start)?;
     let start = Instant::now(rt)?;
     let mut sum = 0;
     for _ in 0..times {
-        sum = vec_load_all(&bytes, sum);
+        sum = vec_load_all(bytes, sum);
     }
     tell(rt, "Vec load4 in sequence", operations, start)?;
     let start = Instant::now(rt)?;
     let mut state = 1;
     for _ in 0..times {
-        state = vec_store_anywhere(&mut bytes, state);
+        state = vec_store_anywhere(bytes, state);
     }
     tell(rt, "Vec store4 at random", operations, start)?;
     let start = Instant::now(rt)?;
     for _ in 0..times {
-        sum = vec_load_anywhere(&bytes, sum);
+        sum = vec_load_anywhere(bytes, sum);
     }
     tell(rt, "Vec load4 at random", operations, start)?;
     Ok(sum)

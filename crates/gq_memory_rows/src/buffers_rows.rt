@@ -96,17 +96,44 @@ fn read(slots: &mut Slots, session: usize) -> Option<u8>
     }
 }
 
+// What the server reads in its buffer once the client has written 77 there, and how many pages are free then. Nothing where a step fails.
+fn share(slots: &mut Slots, addresses: &Addresses) -> Option<(Option<u8>, u32)>
+    requires { IsMarket slots.old }
+{
+    let session = opened(slots)?;
+    if !make_buffer(slots, session) {
+        return None;
+    }
+    if !link(slots, session) {
+        return None;
+    }
+    if !write(slots, addresses, session, 77) {
+        return None;
+    }
+    let value = read(slots, session);
+    Some((value, slots.trades().free_pages()))
+}
+
+// The same by addresses of its own, over one service with a buffer of 16 bytes.
+fn share_by_addresses(
+    alloc: Global,
+    slots: &mut Slots,
+) -> Result<Option<(Option<u8>, u32)>, AllocError>
+    requires { IsMarket slots.old }
+{
+    let addresses = Addresses::new(vec![in alloc; 16]?);
+    Ok(share(slots, &addresses))
+}
+
+fn shared(alloc: Global) -> Result<Option<(Option<u8>, u32)>, AllocError> {
+    match market(alloc) {
+        Ok(mut slots) => share_by_addresses(alloc, &mut slots),
+        Err(refused) => Err(refused),
+    }
+}
+
 #[test]
 fn shares_a_buffer(rt: HostRuntime) -> Result<(), Fail> {
-    let mut slots = market(rt.alloc())?;
-    let addresses = Addresses::new(vec![in rt.alloc(); 16]?);
-    let Some(session) = opened(&mut slots) else {
-        panic!(rt; "not opened");
-    };
-    assert!(rt; make_buffer(&mut slots, session));
-    assert!(rt; link(&mut slots, session));
-    assert!(rt; write(&mut slots, &addresses, session, 77));
-    assert_eq!(rt; read(&mut slots, session), Some(77));
-    assert_eq!(rt; slots.trades().free_pages(), 14);
+    assert_eq!(rt; shared(rt.alloc())?, Some((Some(77), 14)));
     Ok(())
 }

@@ -5,7 +5,7 @@ ghost use Rattle.gq_dataspace.specs.Dataspaces.{IsLive, content_of};
 
 use gq_dataspace::{DsId, SpaceFault, Spaces};
 use gq_pages::Pages;
-use std::alloc::Global;
+use std::alloc::{AllocError, Global};
 use std::test::Fail;
 
 // `create`, by sizes.
@@ -45,101 +45,108 @@ fn removed(spaces: &mut Spaces, ds: DsId)
     spaces.destroy(ds);
 }
 
-#[test]
-fn refuses_more_than_is_free(rt: HostRuntime) -> Result<(), Fail> {
-    let pages = Pages::new(rt.alloc(), 2)?;
-    let mut spaces = Spaces::new(rt.alloc(), pages)?;
-    let ds = spaces.create(1)?;
-    assert_eq!(rt; spaces.size(ds), 4096);
-    assert_eq!(rt; spaces.free_frames(), 1);
-    assert_eq!(rt; spaces.create(8192), Err(SpaceFault::NoFrames));
+// Dataspaces over so many frames.
+fn over(alloc: Global, frames: u32) -> Result<Spaces, AllocError>
+    requires { (1 ≤ frames) × (frames ≤ 16384) }
+{
+    let pages = Pages::new(alloc, frames)?;
+    Spaces::new(alloc, pages)
+}
+
+// The size of a dataspace of a byte, how many frames are free then, what two pages more are answered, and how many frames are free once it is destroyed.
+fn refused(spaces: &mut Spaces) -> Option<(u64, u32, SpaceFault, u32)> {
+    let ds = spaces.create(1).ok()?;
+    let size = spaces.size(ds);
+    let free = spaces.free_frames();
+    let Err(fault) = spaces.create(8192) else {
+        return None;
+    };
     spaces.destroy(ds);
-    assert_eq!(rt; spaces.free_frames(), 2);
-    Ok(())
+    Some((size, free, fault, spaces.free_frames()))
 }
 
 #[test]
-fn writes_words(rt: HostRuntime) -> Result<(), Fail> {
-    let pages = Pages::new(rt.alloc(), 4)?;
-    let mut spaces = Spaces::new(rt.alloc(), pages)?;
+fn refuses_more_than_is_free(rt: HostRuntime) -> Result<(), Fail> {
+    let mut spaces = over(rt.alloc(), 2)?;
+    assert_eq!(rt;
+        refused(&mut spaces),
+        Some((4096, 1, SpaceFault::NoFrames, 2))
+    );
+    Ok(())
+}
+
+// The size of a dataspace of 10,000 bytes; bytes around a word that is written across two of its pages; and its last byte and the word before that, once
+// its last word is written.
+fn written(spaces: &mut Spaces) -> Result<(u64, [u8; 3], u8, u32), SpaceFault> {
     let ds = spaces.create(10000)?;
-    assert_eq!(rt; spaces.size(ds), 12288);
+    let size = spaces.size(ds);
     spaces.store4(ds, 8190, 0x04030201);
     let bytes = [
         spaces.load(ds, 8189),
         spaces.load(ds, 8190),
         spaces.load(ds, 8192),
     ];
-    assert_eq!(rt; bytes, [0, 1, 3]);
     spaces.store4(ds, 12284, 0x08070605);
-    assert_eq!(rt;
-        (spaces.load(ds, 12287), spaces.load4(ds, 12283)),
-        (8, 0x07060500)
-    );
+    Ok((size, bytes, spaces.load(ds, 12287), spaces.load4(ds, 12283)))
+}
+
+#[test]
+fn writes_words(rt: HostRuntime) -> Result<(), Fail> {
+    let mut spaces = over(rt.alloc(), 4)?;
+    assert_eq!(rt; written(&mut spaces), Ok((12288, [0, 1, 3], 8, 0x07060500)));
     Ok(())
 }
 
-// Over three frames: a dataspace with 7 and 9 at its ends, and one of the two frames beside its own.
-fn scattered(alloc: Global) -> Result<(Spaces, DsId, DsId), Fail>
-    ensures first { IfOk result (λ x. length (content_of x.0.spaces x.1.0) ≡ 4096) }
-    ensures second { IfOk result (λ x. length (content_of x.0.spaces x.2.0) ≡ 8192) }
-    ensures apart { IfOk result (λ x. x.1.0 ≢ x.2.0) }
+// A dataspace of a page with 7 and 9 at its ends, and one of the two frames beside it, where there are three frames.
+fn scattered(spaces: &mut Spaces) -> Result<(DsId, DsId), SpaceFault>
+    ensures first { IfOk result (λ x. length (content_of spaces.new.spaces x.0.0) ≡ 4096) }
+    ensures second { IfOk result (λ x. length (content_of spaces.new.spaces x.1.0) ≡ 8192) }
+    ensures apart { IfOk result (λ x. x.0.0 ≢ x.1.0) }
 {
-    let pages = Pages::new(alloc, 3)?;
-    let mut spaces = Spaces::new(alloc, pages)?;
-    let before = made(&mut spaces, 4096)?;
-    let between = made(&mut spaces, 4096)?;
-    let behind = made(&mut spaces, 4096)?;
-    put_byte(&mut spaces, between, 0, 7);
-    put_byte(&mut spaces, between, 4095, 9);
-    removed(&mut spaces, before);
-    removed(&mut spaces, behind);
-    let scattered = made(&mut spaces, 8192)?;
-    Ok((spaces, between, scattered))
+    let before = made(spaces, 4096)?;
+    let between = made(spaces, 4096)?;
+    let behind = made(spaces, 4096)?;
+    put_byte(spaces, between, 0, 7);
+    put_byte(spaces, between, 4095, 9);
+    removed(spaces, before);
+    removed(spaces, behind);
+    let scattered = made(spaces, 8192)?;
+    Ok((between, scattered))
 }
 
 // The word across both frames before and after its bytes are written, and then the first byte, the word behind it and the last byte of the dataspace between.
-fn read_across(spaces: &mut Spaces, between: DsId, scattered: DsId) -> (u32, u32, u8, u32, u8)
-    requires first { length (content_of spaces.old.spaces between.0) ≡ 4096 }
-    requires second { length (content_of spaces.old.spaces scattered.0) ≡ 8192 }
-    requires apart { between.0 ≢ scattered.0 }
-{
+fn read_across(spaces: &mut Spaces) -> Result<(u32, u32, u8, u32, u8), SpaceFault> {
+    let (between, scattered) = scattered(spaces)?;
     let before = spaces.load4(scattered, 4094);
     put_byte(spaces, scattered, 4094, 1);
     put_byte(spaces, scattered, 4095, 2);
     put_byte(spaces, scattered, 4096, 3);
     put_byte(spaces, scattered, 4097, 4);
-    (
+    Ok((
         before,
         spaces.load4(scattered, 4094),
         spaces.load(between, 0),
         spaces.load4(between, 1),
         spaces.load(between, 4095),
-    )
+    ))
 }
 
 #[test]
 fn reads_a_word_across_scattered_frames(rt: HostRuntime) -> Result<(), Fail> {
-    let (mut spaces, between, scattered) = scattered(rt.alloc())?;
-    assert_eq!(rt;
-        read_across(&mut spaces, between, scattered),
-        (0, 67305985, 7, 0, 9)
-    );
+    let mut spaces = over(rt.alloc(), 3)?;
+    assert_eq!(rt; read_across(&mut spaces), Ok((0, 67305985, 7, 0, 9)));
     Ok(())
 }
 
-// A dataspace of 300 pages: the way to a page has one, two or three links.
-#[test]
-fn finds_each_page_of_a_large_space(rt: HostRuntime) -> Result<(), Fail> {
-    let pages = Pages::new(rt.alloc(), 300)?;
-    let mut spaces = Spaces::new(rt.alloc(), pages)?;
-    let ds = made(&mut spaces, 1228800)?;
-    put(&mut spaces, ds, 0, 11);
-    put(&mut spaces, ds, 61440, 12);
-    put(&mut spaces, ds, 65536, 13);
-    put(&mut spaces, ds, 1044480, 14);
-    put(&mut spaces, ds, 1048576, 15);
-    put(&mut spaces, ds, 1228796, 16);
+// What words read in a dataspace of 300 pages, where the way to a page has one, two or three links; and how many frames are free once it is destroyed.
+fn read_far(spaces: &mut Spaces) -> Result<([u32; 6], u32), SpaceFault> {
+    let ds = made(spaces, 1228800)?;
+    put(spaces, ds, 0, 11);
+    put(spaces, ds, 61440, 12);
+    put(spaces, ds, 65536, 13);
+    put(spaces, ds, 1044480, 14);
+    put(spaces, ds, 1048576, 15);
+    put(spaces, ds, 1228796, 16);
     let words = [
         spaces.load4(ds, 0),
         spaces.load4(ds, 61440),
@@ -148,8 +155,13 @@ fn finds_each_page_of_a_large_space(rt: HostRuntime) -> Result<(), Fail> {
         spaces.load4(ds, 1048576),
         spaces.load4(ds, 1228796),
     ];
-    assert_eq!(rt; words, [11, 12, 13, 14, 15, 16]);
-    removed(&mut spaces, ds);
-    assert_eq!(rt; spaces.free_frames(), 300);
+    removed(spaces, ds);
+    Ok((words, spaces.free_frames()))
+}
+
+#[test]
+fn finds_each_page_of_a_large_space(rt: HostRuntime) -> Result<(), Fail> {
+    let mut spaces = over(rt.alloc(), 300)?;
+    assert_eq!(rt; read_far(&mut spaces), Ok(([11, 12, 13, 14, 15, 16], 300)));
     Ok(())
 }

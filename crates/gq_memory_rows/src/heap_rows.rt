@@ -82,33 +82,64 @@ fn free_two<S: ByteStore>(heap: &mut Heap, store: &mut S, a: Place, b: Place)
     heap.free(store, b);
 }
 
+// What two blocks read once each is written, where two others were freed before, and what the heap costs then.
+fn read_again<S: ByteStore>(heap: &mut Heap, store: &mut S) -> Result<((u8, u8), u64), GrowFault>
+    requires { IsHeap heap.old (S.state store.old) }
+{
+    let (a, b) = make_two(heap, store)?;
+    free_two(heap, store, a, b);
+    let (c, d) = make_two(heap, store)?;
+    let read = write_two(heap, store, c, d);
+    Ok((read, heap.charge()))
+}
+
 #[test]
 fn keeps_two_blocks_apart_in_places_that_were_freed(rt: HostRuntime) -> Result<(), Fail> {
     let mut store = ListStore::new(rt.alloc(), 1, None)?;
     let mut heap = Heap::new();
-    let (a, b) = make_two(&mut heap, &mut store).ok().ok_or("two")?;
-    free_two(&mut heap, &mut store, a, b);
-    let (c, d) = make_two(&mut heap, &mut store).ok().ok_or("again")?;
-    assert_eq!(rt; write_two(&heap, &mut store, c, d), (7, 9));
-    assert_eq!(rt; heap.charge(), 4096);
+    assert_eq!(rt; read_again(&mut heap, &mut store), Ok(((7, 9), 4096)));
     Ok(())
+}
+
+// Makes so many blocks of 16 bytes, and says whether each was made.
+fn fill<S: ByteStore>(heap: &mut Heap, store: &mut S, count: u32) -> bool
+    requires { IsHeap heap.old (S.state store.old) }
+    ensures { IsHeap heap.new (S.state store.new) }
+{
+    let mut all = true;
+    for _ in 0..count {
+        if heap.alloc(store, 16).is_err() {
+            all = false;
+        }
+    }
+    all
+}
+
+// What the last three places of a page read once each is written, whether the three that are made once these are freed are apart, and what those read.
+fn read_last<S: ByteStore>(
+    heap: &mut Heap,
+    store: &mut S,
+) -> Result<((u8, u8, u8), bool, (u8, u8, u8)), GrowFault>
+    requires { IsHeap heap.old (S.state store.old) }
+{
+    let (a, b, c) = make_three(heap, store)?;
+    let written = write_three(heap, store, a, b, c);
+    free_three(heap, store, a, b, c);
+    let (d, e, f) = make_three(heap, store)?;
+    let are_apart = d != e && d != f && e != f;
+    Ok((written, are_apart, read_three(heap, store, d, e, f)))
 }
 
 #[test]
 fn uses_freed_places_again(rt: HostRuntime) -> Result<(), Fail> {
     let mut store = ListStore::new(rt.alloc(), 1, None)?;
     let mut heap = Heap::new();
-    for _ in 0..253 {
-        assert!(rt; heap.alloc(&mut store, 16).is_ok());
-    }
-    let (a, b, c) = make_three(&mut heap, &mut store).ok().ok_or("three")?;
-    assert_eq!(rt; write_three(&heap, &mut store, a, b, c), (7, 8, 9));
-    free_three(&mut heap, &mut store, a, b, c);
-    let (d, e, f) = make_three(&mut heap, &mut store).ok().ok_or("again")?;
-    assert!(rt; d != e && d != f && e != f);
-    assert_eq!(rt; read_three(&heap, &store, d, e, f), (0, 0, 0));
-    assert_eq!(rt; heap.charge(), 4096);
-    assert_eq!(rt; heap.peak(Class::Bytes16), 256);
+    let is_full = fill(&mut heap, &mut store, 253);
+    let read = read_last(&mut heap, &mut store);
+    assert_eq!(rt;
+        (is_full, read, heap.charge(), heap.peak(Class::Bytes16)),
+        (true, Ok(((7, 8, 9), true, (0, 0, 0))), 4096, 256)
+    );
     Ok(())
 }
 
@@ -116,30 +147,49 @@ fn uses_freed_places_again(rt: HostRuntime) -> Result<(), Fail> {
 fn fills_a_page(rt: HostRuntime) -> Result<(), Fail> {
     let mut store = ListStore::new(rt.alloc(), 1, None)?;
     let mut heap = Heap::new();
-    for _ in 0..256 {
-        assert!(rt; heap.alloc(&mut store, 16).is_ok());
-    }
-    assert_eq!(rt; heap.alloc(&mut store, 16), Err(GrowFault::Exceeded));
-    assert_eq!(rt; heap.alloc(&mut store, 17), Err(GrowFault::Exceeded));
+    let is_full = fill(&mut heap, &mut store, 256);
+    let refused = [
+        heap.alloc(&mut store, 16).err(),
+        heap.alloc(&mut store, 17).err(),
+    ];
+    assert_eq!(rt;
+        (is_full, refused),
+        (true, [Some(GrowFault::Exceeded), Some(GrowFault::Exceeded)])
+    );
     Ok(())
+}
+
+// What the heap costs in bytes and capabilities with a large block, without it, and once a small one is made and freed after it.
+fn charges<S: ByteStore>(heap: &mut Heap, store: &mut S) -> Result<[(u64, u64); 4], GrowFault>
+    requires { IsHeap heap.old (S.state store.old) }
+    ensures { IsHeap heap.new (S.state store.new) }
+{
+    let large = heap.alloc(store, 2049)?;
+    let with_large = (heap.charge(), heap.charge_caps());
+    heap.free(store, large);
+    let without = (heap.charge(), heap.charge_caps());
+    let small = heap.alloc(store, 2048)?;
+    let with_small = (heap.charge(), heap.charge_caps());
+    heap.free(store, small);
+    let last = (heap.charge(), heap.charge_caps());
+    Ok([with_large, without, with_small, last])
 }
 
 #[test]
 fn gives_large_blocks_back(rt: HostRuntime) -> Result<(), Fail> {
     let mut store = ListStore::new(rt.alloc(), 2, Some(1))?;
     let mut heap = Heap::new();
-    let large = heap.alloc(&mut store, 2049).ok().ok_or("large")?;
-    assert_eq!(rt; (heap.charge(), heap.charge_caps()), (4096, 1));
-    heap.free(&mut store, large);
-    assert_eq!(rt; (heap.charge(), heap.charge_caps()), (0, 0));
-    let small = heap.alloc(&mut store, 2048).ok().ok_or("small")?;
-    assert_eq!(rt; heap.charge(), 4096);
-    heap.free(&mut store, small);
-    assert_eq!(rt; (heap.charge(), heap.charge_caps()), (4096, 1));
-    let refused = [heap.alloc(&mut store, 32), heap.alloc(&mut store, 8193)];
+    let charges = charges(&mut heap, &mut store);
+    let refused = [
+        heap.alloc(&mut store, 32).err(),
+        heap.alloc(&mut store, 8193).err(),
+    ];
     assert_eq!(rt;
-        refused,
-        [Err(GrowFault::CapsExceeded), Err(GrowFault::Exceeded)]
+        (charges, refused),
+        (
+            Ok([(4096, 1), (0, 0), (4096, 1), (4096, 1)]),
+            [Some(GrowFault::CapsExceeded), Some(GrowFault::Exceeded)]
+        )
     );
     Ok(())
 }

@@ -1,4 +1,4 @@
-//! Tests of component memory: frames, dataspaces, accounts, stores of accounts and region maps; the allocators over a store of plain lists, and slots.
+//! Tests of component memory: prices, frames, dataspaces, accounts, stores of accounts and region maps; the allocators over a store of plain lists, and slots.
 #![tactic(auto)]
 
 #[cfg(test)]
@@ -25,6 +25,8 @@ mod sharing_rows;
 mod sliced_rows;
 #[cfg(test)]
 mod slots_rows;
+#[cfg(test)]
+mod tariff_rows;
 #[cfg(test)]
 mod things_rows;
 #[cfg(test)]

@@ -59,12 +59,20 @@ fn keeps_what_each_account_has(rt: HostRuntime) -> Result<(), Fail> {
         moved(&mut accounts, root, a, 4096),
         moved(&mut accounts, root, b, 4096),
     ];
-    assert_eq!(rt; moves, [Ok(()), Ok(())]);
     let mut memory = Memory::new(accounts, root);
-    assert_eq!(rt; read_both(&mut memory, a, b), Ok((7, 9)));
-    assert_eq!(rt; memory.payer(), b);
-    assert_eq!(rt; memory.grow(1), Err(GrowFault::Exceeded));
-    assert_eq!(rt; memory.accounts().free_pages(), 14);
+    let read = read_both(&mut memory, a, b);
+    let payer = memory.payer();
+    let refused = memory.grow(1).err();
+    assert_eq!(rt;
+        (moves, read, payer, refused, memory.accounts().free_pages()),
+        (
+            [Ok(()), Ok(())],
+            Ok((7, 9)),
+            b,
+            Some(GrowFault::Exceeded),
+            14
+        )
+    );
     Ok(())
 }
 
@@ -77,22 +85,26 @@ fn refuses_bytes_before_capabilities(rt: HostRuntime) -> Result<(), Fail> {
         moved(&mut accounts, root, a, 8192),
         moved_caps(&mut accounts, root, a, 1),
     ];
-    assert_eq!(rt; moves, [Ok(()), Ok(())]);
     let mut memory = Memory::new(accounts, a);
-    assert_eq!(rt; memory.grow(3), Err(GrowFault::Exceeded));
-    assert_eq!(rt; read_words(&mut memory), Ok((67305985, 67108865)));
+    let refused = memory.grow(3).err();
+    let read = read_words(&mut memory);
     let grown = [
         memory.grow(1).err(),
         memory.grow(2).err(),
         memory.grow(1).err(),
     ];
     assert_eq!(rt;
-        grown,
-        [
-            None,
+        (moves, refused, read, grown),
+        (
+            [Ok(()), Ok(())],
             Some(GrowFault::Exceeded),
-            Some(GrowFault::CapsExceeded)
-        ]
+            Ok((67305985, 67108865)),
+            [
+                None,
+                Some(GrowFault::Exceeded),
+                Some(GrowFault::CapsExceeded)
+            ]
+        )
     );
     Ok(())
 }

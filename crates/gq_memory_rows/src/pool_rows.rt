@@ -64,37 +64,68 @@ fn write<S: ByteStore>(pool: &Pool, store: &mut S, heap: &Heap, index: u32) -> (
     (before, pool.load(store, heap, index, 15))
 }
 
+// Whether entries are added one page after the other, the last of them beyond the first page, whether they are removed and added again, and whether one is
+// that is there; and what the heap costs with a page, with the entry beyond it, with all of them again and once the pool has ended.
+fn use_pool<S: ByteStore>(
+    store: &mut S,
+    heap: &mut Heap,
+) -> Result<([bool; 6], [u64; 4]), GrowFault>
+    requires { IsHeap heap.old (S.state store.old) }
+{
+    let pool = make(store, heap)?;
+    let first = take_all(&pool, store, heap, 0, 256)?;
+    let one_page = heap.charge();
+    let second = take_all(&pool, store, heap, 256, 257)?;
+    let two_pages = heap.charge();
+    let removed = give_all(&pool, store, heap, 256);
+    let third = take_all(&pool, store, heap, 128, 256)?;
+    let fourth = take_all(&pool, store, heap, 0, 128)?;
+    let again = heap.charge();
+    let there = take_all(&pool, store, heap, 0, 1)?;
+    pool.end(store, heap);
+    Ok((
+        [first, second, removed, third, fourth, there],
+        [one_page, two_pages, again, heap.charge()],
+    ))
+}
+
 #[test]
 fn keeps_the_peak_of_its_entries(rt: HostRuntime) -> Result<(), Fail> {
     let mut store = ListStore::new(rt.alloc(), 3, Some(3))?;
     let mut heap = Heap::new();
-    let pool = make(&mut store, &heap).ok().ok_or("table")?;
-    assert_eq!(rt; take_all(&pool, &mut store, &mut heap, 0, 256), Ok(true));
-    assert_eq!(rt; heap.charge(), 4096);
-    assert_eq!(rt; take_all(&pool, &mut store, &mut heap, 256, 257), Ok(true));
-    assert_eq!(rt; heap.charge(), 8192);
-    assert!(rt; give_all(&pool, &mut store, &mut heap, 256));
-    assert_eq!(rt; take_all(&pool, &mut store, &mut heap, 128, 256), Ok(true));
-    assert_eq!(rt; take_all(&pool, &mut store, &mut heap, 0, 128), Ok(true));
-    assert_eq!(rt; heap.charge(), 8192);
-    assert_eq!(rt; take_all(&pool, &mut store, &mut heap, 0, 1), Ok(false));
-    pool.end(&mut store, &mut heap);
-    assert_eq!(rt; heap.charge(), 8192);
+    assert_eq!(rt;
+        use_pool(&mut store, &mut heap),
+        Ok((
+            [true, true, true, true, true, false],
+            [4096, 8192, 8192, 8192]
+        ))
+    );
     Ok(())
+}
+
+// Whether a page of entries is added, why one more is not, what the heap costs then, and what that entry and the one before it read before and after a
+// write.
+fn refused<S: ByteStore>(
+    store: &mut S,
+    heap: &mut Heap,
+) -> Result<(bool, Option<GrowFault>, u64, [(u8, u8); 2]), GrowFault>
+    requires { IsHeap heap.old (S.state store.old) }
+{
+    let pool = make(store, heap)?;
+    let first = take_all(&pool, store, heap, 0, 256)?;
+    let fault = take_all(&pool, store, heap, 256, 257).err();
+    let beyond = write(&pool, store, heap, 256);
+    let last = write(&pool, store, heap, 255);
+    Ok((first, fault, heap.charge(), [beyond, last]))
 }
 
 #[test]
 fn refuses_an_entry_that_is_not_paid(rt: HostRuntime) -> Result<(), Fail> {
     let mut store = ListStore::new(rt.alloc(), 2, Some(3))?;
     let mut heap = Heap::new();
-    let pool = make(&mut store, &heap).ok().ok_or("table")?;
-    assert_eq!(rt; take_all(&pool, &mut store, &mut heap, 0, 256), Ok(true));
     assert_eq!(rt;
-        take_all(&pool, &mut store, &mut heap, 256, 257),
-        Err(GrowFault::Exceeded)
+        refused(&mut store, &mut heap),
+        Ok((true, Some(GrowFault::Exceeded), 4096, [(0, 0), (0, 7)]))
     );
-    assert_eq!(rt; heap.charge(), 4096);
-    assert_eq!(rt; write(&pool, &mut store, &heap, 256), (0, 0));
-    assert_eq!(rt; write(&pool, &mut store, &heap, 255), (0, 7));
     Ok(())
 }

@@ -61,11 +61,25 @@ fn closed(accounts: &mut Accounts, account: AccountNo) -> Result<(), AccountFaul
     accounts.close(account)
 }
 
+// Two members of the root.
+fn added(accounts: &mut Accounts) -> Result<(AccountNo, AccountNo), AllocError>
+    ensures first { IfOk result (λ x. IsOpen accounts.new.accounts x.0.0) }
+    ensures second { IfOk result (λ x. IsOpen accounts.new.accounts x.1.0) }
+    ensures not_root { IfOk result (λ x. 0 ≢ x.0.0) }
+    ensures apart { IfOk result (λ x. x.0.0 ≢ x.1.0) }
+{
+    let root = accounts.root();
+    let a = opened(accounts, root)?;
+    let root = accounts.root();
+    let b = opened(accounts, root)?;
+    Ok((a, b))
+}
+
 // Accounts with two members of the root.
 pub(crate) fn two_members(
     alloc: Global,
     caps: Option<u64>,
-) -> Result<(Accounts, AccountNo, AccountNo), Fail>
+) -> Result<(Accounts, AccountNo, AccountNo), AllocError>
     requires { IfSome caps (λ n. (1 ≤ n) × (n ≤ 65536)) }
     ensures first { IfOk result (λ x. IsOpen x.0.accounts x.1.0) }
     ensures second { IfOk result (λ x. IsOpen x.0.accounts x.2.0) }
@@ -73,11 +87,10 @@ pub(crate) fn two_members(
     ensures apart { IfOk result (λ x. x.1.0 ≢ x.2.0) }
 {
     let mut accounts = Accounts::new(alloc, 65536, caps)?;
-    let root = accounts.root();
-    let a = opened(&mut accounts, root)?;
-    let root = accounts.root();
-    let b = opened(&mut accounts, root)?;
-    Ok((accounts, a, b))
+    match added(&mut accounts) {
+        Ok((a, b)) => Ok((accounts, a, b)),
+        Err(refused) => Err(refused),
+    }
 }
 
 #[test]
@@ -94,41 +107,65 @@ fn trades_bytes(rt: HostRuntime) -> Result<(), Fail> {
         made(&mut accounts, a, 4097).err(),
         made(&mut accounts, a, 1).err(),
     ];
-    assert_eq!(rt;
-        moves,
-        [
-            Ok(()),
-            Err(AccountFault::NotRelated),
-            Err(AccountFault::Exceeded)
-        ]
-    );
-    assert_eq!(rt;
-        refusals,
-        [
-            Some(AccountFault::ZeroSize),
-            Some(AccountFault::Exceeded),
-            None
-        ]
-    );
-    assert_eq!(rt;
-        (accounts.used(a), accounts.avail(a), accounts.free_pages()),
-        (4096, 0, 15)
-    );
-    assert_eq!(rt; closed(&mut accounts, a), Ok(()));
+    let held = (accounts.used(a), accounts.avail(a), accounts.free_pages());
+    let end = closed(&mut accounts, a);
     let root = accounts.root();
-    assert_eq!(rt; (accounts.quota(root), accounts.free_pages()), (65536, 16));
+    assert_eq!(rt;
+        (
+            moves,
+            refusals,
+            held,
+            end,
+            accounts.quota(root),
+            accounts.free_pages()
+        ),
+        (
+            [
+                Ok(()),
+                Err(AccountFault::NotRelated),
+                Err(AccountFault::Exceeded)
+            ],
+            [
+                Some(AccountFault::ZeroSize),
+                Some(AccountFault::Exceeded),
+                None
+            ],
+            (4096, 0, 15),
+            Ok(()),
+            65536,
+            16
+        )
+    );
     Ok(())
+}
+
+// Whether an account is the reference of its member, and what its end is answered; and those of the root.
+fn refused_ends(
+    accounts: &mut Accounts,
+    a: AccountNo,
+) -> Option<(bool, AccountFault, bool, AccountFault)>
+    requires { IsOpen accounts.old.accounts a.0 }
+{
+    let c = opened(accounts, a).ok()?;
+    let is_reference = accounts.reference(c) == Some(a);
+    let Err(of_member) = accounts.close(a) else {
+        return None;
+    };
+    let root = accounts.root();
+    let has_none = accounts.reference(root).is_none();
+    let Err(of_root) = accounts.close(root) else {
+        return None;
+    };
+    Some((is_reference, of_member, has_none, of_root))
 }
 
 #[test]
 fn closes_no_account_with_members(rt: HostRuntime) -> Result<(), Fail> {
     let (mut accounts, a, _b) = two_members(rt.alloc(), None)?;
-    let c = opened(&mut accounts, a)?;
-    assert_eq!(rt; accounts.reference(c), Some(a));
-    assert_eq!(rt; accounts.close(a), Err(AccountFault::HasMembers));
-    let root = accounts.root();
-    assert_eq!(rt; accounts.reference(root), None);
-    assert_eq!(rt; accounts.close(root), Err(AccountFault::IsRoot));
+    assert_eq!(rt;
+        refused_ends(&mut accounts, a),
+        Some((true, AccountFault::HasMembers, true, AccountFault::IsRoot))
+    );
     Ok(())
 }
 
@@ -146,19 +183,23 @@ fn trades_capabilities(rt: HostRuntime) -> Result<(), Fail> {
         made(&mut accounts, a, 1).err(),
         made(&mut accounts, a, 1).err(),
     ];
-    assert_eq!(rt;
-        moves,
-        [
-            Ok(()),
-            Err(AccountFault::NotRelated),
-            Err(AccountFault::CapsExceeded),
-            Ok(())
-        ]
-    );
-    assert_eq!(rt; refusals, [None, Some(AccountFault::CapsExceeded)]);
-    assert_eq!(rt; accounts.caps_used(a), 1);
-    assert_eq!(rt; closed(&mut accounts, a), Ok(()));
+    let used = accounts.caps_used(a);
+    let end = closed(&mut accounts, a);
     let root = accounts.root();
-    assert_eq!(rt; accounts.caps(root), 1);
+    assert_eq!(rt;
+        (moves, refusals, used, end, accounts.caps(root)),
+        (
+            [
+                Ok(()),
+                Err(AccountFault::NotRelated),
+                Err(AccountFault::CapsExceeded),
+                Ok(())
+            ],
+            [None, Some(AccountFault::CapsExceeded)],
+            1,
+            Ok(()),
+            1
+        )
+    );
     Ok(())
 }

@@ -74,12 +74,20 @@ fn use_leaf(slots: &mut Slots) -> ([bool; 4], Option<u8>)
     ([five, three, two_more, two], read)
 }
 
+fn use_first_leaf(alloc: Global) -> Result<([bool; 4], Option<u8>), AllocError> {
+    match two_leaves(alloc) {
+        Ok(mut slots) => {
+            slots.pay_by(0);
+            Ok(use_leaf(&mut slots))
+        }
+        Err(refused) => Err(refused),
+    }
+}
+
 #[test]
 fn pays_for_slots_by_pages(rt: HostRuntime) -> Result<(), Fail> {
-    let mut slots = two_leaves(rt.alloc())?;
-    slots.pay_by(0);
     assert_eq!(rt;
-        use_leaf(&mut slots),
+        use_first_leaf(rt.alloc())?,
         ([false, true, false, true], Some(42))
     );
     Ok(())

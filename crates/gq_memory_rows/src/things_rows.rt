@@ -70,18 +70,13 @@ fn keeps_a_block_beside_a_space(rt: HostRuntime) -> Result<(), Fail> {
 #[test]
 fn refuses_what_is_not_paid(rt: HostRuntime) -> Result<(), Fail> {
     let mut store = ListStore::new(rt.alloc(), 1, Some(1))?;
-    assert_eq!(rt;
+    let answers = [
         Thing::make_slice(&mut store, 4096).err(),
-        Some(GrowFault::Exceeded)
-    );
-    assert_eq!(rt;
         Thing::make_space(&mut store, 4097).err(),
-        Some(GrowFault::Exceeded)
-    );
-    assert!(rt; Thing::make_space(&mut store, 4096).is_ok());
-    assert_eq!(rt;
+        Thing::make_space(&mut store, 4096).err(),
         Thing::make_pool(&mut store, 16, 1).err(),
-        Some(GrowFault::Exceeded)
-    );
+    ];
+    let exceeded = Some(GrowFault::Exceeded);
+    assert_eq!(rt; answers, [exceeded, exceeded, None, exceeded]);
     Ok(())
 }

@@ -7,5 +7,3 @@ pub mod letters;
 pub mod limits;
 pub mod phase;
 pub mod program;
-#[cfg(test)]
-mod tests;

@@ -108,27 +108,35 @@ fn run_command(alloc: Global) -> Result<Command, Fail> {
     Ok(Command::Run(scenario, turns))
 }
 
+/// Whether a run ends as a file fault with nothing written where the scenario never ends or fails at once, and where the turns do; and whether so much was
+/// read of each.
+fn is_file_fault(alloc: Global, command: &Command, fails: bool) -> bool {
+    let mut first = Endless { given: 0, fails };
+    let mut turns = b"hello 2\n".as_slice();
+    let of_scenario = ended(alloc, command, &mut first, &mut turns);
+    let mut scenario = HELLO;
+    let mut second = Endless { given: 0, fails };
+    let of_turns = ended(alloc, command, &mut scenario, &mut second);
+    let most = if fails { 0 } else { GREATEST_INPUT + 1 };
+    of_scenario.is(Status::FileFault, "", "trade: file fault\n")
+        && of_turns.is(Status::FileFault, "", "trade: file fault\n")
+        && first.given == most
+        && second.given == most
+}
+
 #[test]
 fn a_failed_read_is_a_file_fault_with_nothing_written(rt: HostRuntime) -> Result<(), Fail> {
-    let alloc = rt.alloc();
-    let command = run_command(alloc)?;
-    for fails in [true, false] {
-        let mut first = Endless { given: 0, fails };
-        let mut turns = b"hello 2\n".as_slice();
-        let run = ended(alloc, &command, &mut first, &mut turns);
-        assert!(rt; run.is(Status::FileFault, "", "trade: file fault\n"));
-        let mut scenario = HELLO;
-        let mut second = Endless { given: 0, fails };
-        let run = ended(alloc, &command, &mut scenario, &mut second);
-        assert!(rt; run.is(Status::FileFault, "", "trade: file fault\n"));
-        let most = if fails { 0 } else { GREATEST_INPUT + 1 };
-        assert!(rt; first.given == most && second.given == most);
-    }
+    let command = run_command(rt.alloc())?;
+    let are_faults = [
+        is_file_fault(rt.alloc(), &command, true),
+        is_file_fault(rt.alloc(), &command, false),
+    ];
+    assert_eq!(rt; are_faults, [true, true]);
     Ok(())
 }
 
 /// Runs with a writer that has so much room, and says whether the front of the text that fits was written, and how the command ended.
-fn is_cut(alloc: Global, command: &Command, room: usize, fails: bool) -> Result<bool, Fail> {
+fn is_cut(alloc: Global, command: &Command, room: usize, fails: bool) -> bool {
     let mut taken = Vec::new(alloc);
     let mut err = Vec::new(alloc);
     let mut out = Counted::new(Narrow {
@@ -149,57 +157,71 @@ fn is_cut(alloc: Global, command: &Command, room: usize, fails: bool) -> Result<
     drop(out);
     let front = &HELLO_RUN.as_bytes()[..room.min(HELLO_RUN.len())];
     let is_front = taken.as_slice() == front;
-    Ok(if room < HELLO_RUN.len() {
+    if room < HELLO_RUN.len() {
         is_front
             && status == Status::FileFault
             && failures == 1
             && err.as_slice() == b"trade: file fault\n".as_slice()
     } else {
         is_front && status == Status::Done && failures == 0 && err.is_empty()
-    })
+    }
+}
+
+/// Whether that holds at each room up to that of the whole text, where the writer fails and where it takes nothing.
+fn is_always_cut(alloc: Global, command: &Command) -> bool {
+    for room in 0..HELLO_RUN.len() + 1 {
+        if !is_cut(alloc, command, room, true) || !is_cut(alloc, command, room, false) {
+            return false;
+        }
+    }
+    true
 }
 
 #[test]
 fn a_failed_write_leaves_a_front_of_the_text(rt: HostRuntime) -> Result<(), Fail> {
-    let alloc = rt.alloc();
-    let command = run_command(alloc)?;
-    for room in 0..HELLO_RUN.len() + 1 {
-        assert!(rt; is_cut(alloc, &command, room, true)?);
-        assert!(rt; is_cut(alloc, &command, room, false)?);
-    }
+    let command = run_command(rt.alloc())?;
+    assert!(rt; is_always_cut(rt.alloc(), &command));
     Ok(())
 }
 
-#[test]
-fn a_line_that_can_not_be_told_changes_no_status(rt: HostRuntime) -> Result<(), Fail> {
-    let alloc = rt.alloc();
+/// How a run of a line for `init` ends, whether it wrote nothing, and what it told where there is room for nine bytes.
+fn refused(alloc: Global, command: &Command) -> (Status, bool, [u8; 9]) {
     let mut page = [0; 9];
     let mut out = Vec::new(alloc);
     let mut scenario = HELLO;
     let status = execute(
         alloc,
-        &run_command(alloc)?,
+        command,
         &mut scenario,
         &mut b"init 1\n".as_slice(),
         &mut Counted::new(Cursor::new(&mut out)),
         &mut Counted::new(page.as_mut_slice()),
     );
-    assert!(rt; status == Status::Refused && out.is_empty());
-    assert!(rt; page == *b"trade: U2");
-    Ok(())
+    (status, out.is_empty(), page)
 }
 
 #[test]
-fn shows_help_and_reads_nothing(rt: HostRuntime) -> Result<(), Fail> {
-    let alloc = rt.alloc();
+fn a_line_that_can_not_be_told_changes_no_status(rt: HostRuntime) -> Result<(), Fail> {
+    let command = run_command(rt.alloc())?;
+    let (status, is_empty, page) = refused(rt.alloc(), &command);
+    assert!(rt; status == Status::Refused && is_empty && page == *b"trade: U2");
+    Ok(())
+}
+
+/// Whether help is shown and nothing of the scenario is read.
+fn is_shown(alloc: Global, help: &Command) -> bool {
     let mut scenario = Endless {
         given: 0,
         fails: false,
     };
-    let help = Command::Help(String::from_str(alloc, "Usage: trade\n")?);
-    let shown = ended(alloc, &help, &mut scenario, &mut io::empty());
-    assert!(rt; shown.is(Status::Done, "Usage: trade\n", ""));
-    assert!(rt; scenario.given == 0);
+    let shown = ended(alloc, help, &mut scenario, &mut io::empty());
+    shown.is(Status::Done, "Usage: trade\n", "") && scenario.given == 0
+}
+
+#[test]
+fn shows_help_and_reads_nothing(rt: HostRuntime) -> Result<(), Fail> {
+    let help = Command::Help(String::from_str(rt.alloc(), "Usage: trade\n")?);
+    assert!(rt; is_shown(rt.alloc(), &help));
     Ok(())
 }
 
@@ -211,6 +233,6 @@ fn reads_one_stream_of_the_stored_form(rt: HostRuntime) {
     };
     let mut stored = HELLO_STORED;
     let run = ended(rt.alloc(), &Command::Stored, &mut stored, &mut turns);
-    assert!(rt; run.is(Status::Done, HELLO_RUN, ""));
-    assert!(rt; turns.given == 0);
+    let is_done = run.is(Status::Done, HELLO_RUN, "");
+    assert!(rt; is_done && turns.given == 0);
 }

@@ -1,6 +1,6 @@
 // Interfaces.
 use gq_program::{Interface, Interfaces, Name, Upgrade};
-use std::alloc::Global;
+use std::alloc::{AllocError, Global};
 use std::test::Fail;
 
 /// Without a buffer, of version 1.
@@ -16,66 +16,121 @@ fn log() -> Interface {
         .with_buffer(16)
 }
 
-/// A name.
-fn named(bytes: &[u8]) -> Result<Name, Fail> {
-    Ok(Name::new(bytes).ok_or("a name")?)
+/// The greatest argument and reply, and what a session needs, in bytes and in capabilities.
+fn limits(interface: &Interface) -> (u32, u32, u32, Option<u32>) {
+    (
+        interface.arg(),
+        interface.reply(),
+        interface.need(),
+        interface.need_caps(),
+    )
+}
+
+/// The bytes of the object and of the buffer, and whether the further levels are these.
+fn rest(interface: &Interface, upgrades: &[Upgrade]) -> (u32, u32, bool) {
+    (
+        interface.object(),
+        interface.buffer(),
+        interface.upgrades() == upgrades,
+    )
 }
 
 #[test]
 fn keeps_what_is_given(rt: HostRuntime) {
-    let echo = echo();
-    assert_eq!(rt; (echo.arg(), echo.reply(), echo.need()), (1000, 2000, 8192));
-    assert_eq!(rt; (echo.object(), echo.buffer()), (100, 0));
-    assert_eq!(rt; echo.need_caps(), None);
-    assert!(rt; echo.upgrades().is_empty());
-    let log = log();
-    assert_eq!(rt; (log.object(), log.buffer()), (0, 16));
-    assert_eq!(rt; log.upgrades().len(), 1);
-    assert_eq!(rt; log.upgrades()[0].ram(), 4096);
+    let (echo, log) = (echo(), log());
+    let second = Upgrade::new(4096, 0);
+    assert_eq!(rt;
+        (limits(&echo), rest(&echo, &[]), rest(&log, &[second])),
+        ((1000, 2000, 8192, None), (100, 0, true), (0, 16, true))
+    );
 }
 
 #[test]
 fn counts_capabilities_in_version_2(rt: HostRuntime) {
     let second = Upgrade::new(4096, 2);
     let counted = Interface::new(0, 0, 0, Some(3)).with_upgrade(second);
-    assert_eq!(rt; counted.need_caps(), Some(3));
-    assert_eq!(rt; counted.upgrades()[0].caps(), 2);
+    assert_eq!(rt;
+        (limits(&counted), rest(&counted, &[second]), second.caps()),
+        ((0, 0, 0, Some(3)), (0, 0, true), 2)
+    );
+}
+
+/// An entry of this name.
+fn entry(name: &[u8], interface: Interface) -> Result<(Name, Interface), Fail> {
+    match Name::new(name) {
+        Some(name) => Ok((name, interface)),
+        None => Err(Fail::from("a name")),
+    }
+}
+
+/// These two in a list.
+fn pair(
+    alloc: Global,
+    first: (Name, Interface),
+    second: (Name, Interface),
+) -> Result<Vec<(Name, Interface)>, AllocError> {
+    Ok(vec![in alloc; first, second]?)
+}
+
+/// How many interfaces there are, whether `log` and `echo` are found by their names, and whether none is by a front of a name.
+fn found(interfaces: &Interfaces) -> (usize, bool, bool, bool) {
+    (
+        interfaces.entries().len(),
+        matches!(interfaces.named(b"log"), Some(log) if log.arg() == 10),
+        matches!(interfaces.named(b"echo"), Some(echo) if echo.arg() == 1000),
+        interfaces.named(b"lo").is_none(),
+    )
+}
+
+/// What is found of `echo` and `log` in that order.
+fn found_of_both(alloc: Global) -> Result<Option<(usize, bool, bool, bool)>, Fail> {
+    let entries = pair(alloc, entry(b"echo", echo())?, entry(b"log", log())?)?;
+    Ok(match Interfaces::new(entries) {
+        Some(interfaces) => Some(found(&interfaces)),
+        None => None,
+    })
 }
 
 #[test]
 fn finds_by_name(rt: HostRuntime) -> Result<(), Fail> {
-    let alloc = rt.alloc();
-    let entries = vec![in alloc; (named(b"echo")?, echo()), (named(b"log")?, log())]?;
-    let interfaces = Interfaces::new(entries).ok_or("interfaces")?;
-    assert_eq!(rt; interfaces.entries().len(), 2);
-    assert!(rt; matches!(interfaces.named(b"log"), Some(log) if log.arg() == 10));
-    assert!(rt; matches!(interfaces.named(b"echo"), Some(echo) if echo.arg() == 1000));
-    assert!(rt; interfaces.named(b"lo").is_none());
+    assert_eq!(rt; found_of_both(rt.alloc())?, Some((2, true, true, true)));
     Ok(())
+}
+
+/// Whether there are interfaces with these two names in this order.
+fn are_in_order(alloc: Global, first: &[u8], second: &[u8]) -> Result<bool, Fail> {
+    let entries = pair(alloc, entry(first, log())?, entry(second, echo())?)?;
+    Ok(Interfaces::new(entries).is_some())
 }
 
 #[test]
 fn wants_names_in_order(rt: HostRuntime) -> Result<(), Fail> {
-    let alloc = rt.alloc();
-    let turned = vec![in alloc; (named(b"log")?, log()), (named(b"echo")?, echo())]?;
-    assert!(rt; Interfaces::new(turned).is_none());
-    let twice = vec![in alloc; (named(b"log")?, log()), (named(b"log")?, log())]?;
-    assert!(rt; Interfaces::new(twice).is_none());
+    let are_in_order = [
+        are_in_order(rt.alloc(), b"echo", b"log")?,
+        are_in_order(rt.alloc(), b"log", b"echo")?,
+        are_in_order(rt.alloc(), b"log", b"log")?,
+    ];
+    assert_eq!(rt; are_in_order, [true, false, false]);
     Ok(())
+}
+
+/// Whether so many interfaces are taken.
+fn are_taken(alloc: Global, count: u8) -> Result<bool, Fail> {
+    Ok(Interfaces::new(many(alloc, count)?).is_some())
 }
 
 /// So many interfaces.
 fn many(alloc: Global, count: u8) -> Result<Vec<(Name, Interface)>, Fail> {
     let mut entries = Vec::new(alloc);
     for i in 0..count {
-        entries.push((named(&[b'a' + i / 16, b'a' + i % 16])?, echo()))?;
+        entries.push(entry(&[b'a' + i / 16, b'a' + i % 16], echo())?)?;
     }
     Ok(entries)
 }
 
 #[test]
 fn takes_64(rt: HostRuntime) -> Result<(), Fail> {
-    assert!(rt; Interfaces::new(many(rt.alloc(), 64)?).is_some());
-    assert!(rt; Interfaces::new(many(rt.alloc(), 65)?).is_none());
+    let are_taken = [are_taken(rt.alloc(), 64)?, are_taken(rt.alloc(), 65)?];
+    assert_eq!(rt; are_taken, [true, false]);
     Ok(())
 }

@@ -1,5 +1,5 @@
-//! Tests over public surfaces of what the program's cases cannot show: programs as trees, what errors say, worlds
-//! turn by turn, and readers and writers that fail.
+//! Tests over public surfaces of what the program's cases cannot show: bytes of names, programs as trees, what errors say, worlds turn by turn, and readers
+//! and writers that fail.
 #![tactic(auto)]
 
 #[cfg(test)]
@@ -8,6 +8,8 @@ mod code;
 mod execute;
 #[cfg(test)]
 mod interfaces;
+#[cfg(test)]
+mod letters;
 #[cfg(test)]
 mod load;
 #[cfg(test)]

@@ -8,7 +8,6 @@ use gq_world::{Counted, RunFault};
 use std::alloc::Global;
 use std::io;
 use std::io::{Cursor, ErrorKind, Write};
-use std::test::Fail;
 
 const HELLO: &[u8] =
     b"version = 1\nram = \"64K\"\n[[start]]\nname = \"hello\"\nquantum = \"4K\"\nprogram = '''\nmain\nsay \"hello\"\nend\n'''\n";
@@ -27,17 +26,6 @@ fn does_hello(alloc: Global, world: &mut World) -> bool {
     turns && text.as_slice() == b"[init -> hello] hello\n".as_slice()
 }
 
-#[test]
-fn says_hello_once(rt: HostRuntime) -> Result<(), Fail> {
-    let Ok(mut world) = World::load(rt.alloc(), HELLO) else {
-        return Err(Fail::from("a world"));
-    };
-    let is_well = does_hello(rt.alloc(), &mut world);
-    drop(world);
-    assert!(rt; is_well);
-    Ok(())
-}
-
 // Whether a world is stopped once a line of it has room for four bytes alone.
 fn stops(world: &mut World) -> bool {
     let Some(hello) = world.leaf(b"hello") else {
@@ -52,24 +40,13 @@ fn stops(world: &mut World) -> bool {
 }
 
 #[test]
-fn stops_after_a_write_that_fails(rt: HostRuntime) -> Result<(), Fail> {
-    let Ok(mut world) = World::load(rt.alloc(), HELLO) else {
-        return Err(Fail::from("a world"));
-    };
-    let is_well = stops(&mut world);
-    drop(world);
-    assert!(rt; is_well);
-    Ok(())
-}
-
-#[test]
 fn a_failed_write_leaves_a_front_of_the_code(rt: HostRuntime) {
     let mut page = [0; 4];
     let mut out = Counted::new(page.as_mut_slice());
     let cut = asm(rt.alloc(), HELLO, "hello", &mut out);
-    assert!(rt; matches!(cut, Err(RunFault::Write)));
-    assert!(rt; out.failures() == 1);
-    assert!(rt; page == *b"0001");
+    let failures = out.failures();
+    let is_write = matches!(cut, Err(RunFault::Write));
+    assert!(rt; is_write && failures == 1 && page == *b"0001");
 }
 
 /// A writer that first fails, then takes nothing, and then takes all; it counts its writes.
@@ -93,20 +70,26 @@ impl Write for Unsteady {
     }
 }
 
+/// What four writes of a byte, of which the last is of none, are answered in turn, and how many had failed after the first, the second and all of them.
+fn answers(writer: &mut Unsteady) -> ([Option<usize>; 4], [u64; 3]) {
+    let mut out = Counted::new(writer);
+    let first = out.write(b"a").ok();
+    let one = out.failures();
+    let second = out.write(b"a").ok();
+    let two = out.failures();
+    let third = out.write(b"a").ok();
+    let fourth = out.write(b"").ok();
+    ([first, second, third, fourth], [one, two, out.failures()])
+}
+
 #[test]
 fn hands_each_write_on_once(rt: HostRuntime) {
     let mut writer = Unsteady { writes: 0 };
-    {
-        let mut out = Counted::new(&mut writer);
-        assert!(rt; out.write(b"a").is_err());
-        assert!(rt; out.failures() == 1);
-        assert!(rt; matches!(out.write(b"a"), Ok(0)));
-        assert!(rt; out.failures() == 2);
-        assert!(rt; matches!(out.write(b"a"), Ok(1)));
-        assert!(rt; matches!(out.write(b""), Ok(0)));
-        assert!(rt; out.failures() == 2);
-    }
-    assert!(rt; writer.writes == 4);
+    let answers = answers(&mut writer);
+    assert_eq!(rt;
+        (answers, writer.writes),
+        (([None, Some(0), Some(1), Some(0)], [1, 2, 2]), 4)
+    );
 }
 
 // Whether the accounts of a world are those before its first turn.
@@ -146,15 +129,41 @@ fn tells_last_accounts(world: &World) -> bool {
         && told.phase() == Phase::Exited
 }
 
+// Whether a world says hello once, exits, and tells its accounts before and after.
+fn tells_all(alloc: Global, world: &mut World) -> bool {
+    tells_first_accounts(world) && does_hello(alloc, world) && tells_last_accounts(world)
+}
+
+/// What is tried in a world.
+#[derive(Clone, Copy)]
+enum Trial {
+    Hello,
+    FailedWrite,
+}
+
+impl Trial {
+    fn is_well(self, alloc: Global, world: &mut World) -> bool {
+        match self {
+            Trial::Hello => tells_all(alloc, world),
+            Trial::FailedWrite => stops(world),
+        }
+    }
+}
+
+// Whether a trial in a world of its own goes well; nothing where there is no world.
+fn tried(alloc: Global, trial: Trial) -> Option<bool> {
+    match World::load(alloc, HELLO) {
+        Ok(mut world) => Some(trial.is_well(alloc, &mut world)),
+        Err(_) => None,
+    }
+}
+
 #[test]
-fn tells_accounts_before_and_after(rt: HostRuntime) -> Result<(), Fail> {
-    let Ok(mut world) = World::load(rt.alloc(), HELLO) else {
-        return Err(Fail::from("a world"));
-    };
-    let first = tells_first_accounts(&world);
-    let turns = does_hello(rt.alloc(), &mut world);
-    let last = tells_last_accounts(&world);
-    drop(world);
-    assert!(rt; first && turns && last);
-    Ok(())
+fn says_hello_once_and_tells_accounts(rt: HostRuntime) {
+    assert_eq!(rt; tried(rt.alloc(), Trial::Hello), Some(true));
+}
+
+#[test]
+fn stops_after_a_write_that_fails(rt: HostRuntime) {
+    assert_eq!(rt; tried(rt.alloc(), Trial::FailedWrite), Some(true));
 }

@@ -64,15 +64,3 @@ pub fn class_of(n: u64) -> Class
         _ => Class::Bytes2048,
     }
 }
-
-#[cfg(test)]
-mod tests {
-    use super::*;
-
-    #[test]
-    fn has_the_class_of_each_size(rt: HostRuntime) {
-        for class in Class::ALL {
-            assert_eq!(rt; class_of(class.size()), class);
-        }
-    }
-}

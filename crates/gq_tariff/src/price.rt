@@ -86,28 +86,3 @@ pub fn price_caps(held: Held) -> u64
         Held::Places(class, peak) => price_class(class, peak) / PAGE,
     }
 }
-
-#[cfg(test)]
-mod tests {
-    use super::*;
-
-    #[test]
-    fn prices_bytes(rt: HostRuntime) {
-        assert_eq!(rt; price_slice(4064), 4096);
-        assert_eq!(rt; price_slice(4065), 8192);
-        assert_eq!(rt; price_block(2048), 0);
-        assert_eq!(rt; price_block(2049), 4096);
-        assert_eq!(rt; price_pool_table(1024), 4096);
-        assert_eq!(rt; price_class(Class::Bytes16, 1024), 16384);
-    }
-
-    #[test]
-    fn prices_capabilities(rt: HostRuntime) {
-        assert_eq!(rt; price_caps(Held::Space(8192)), 1);
-        assert_eq!(rt; price_caps(Held::Slice(100)), 1);
-        assert_eq!(rt; price_caps(Held::Block(2048)), 0);
-        assert_eq!(rt; price_caps(Held::Block(2049)), 1);
-        assert_eq!(rt; price_caps(Held::Pool(1024)), 1);
-        assert_eq!(rt; price_caps(Held::Places(Class::Bytes16, 1024)), 4);
-    }
-}

@@ -72,31 +72,3 @@ fn scaled(number: u64, suffix: &[u8]) -> Result<u64, QuantityFault>
         Err(QuantityFault::TooLarge)
     }
 }
-
-#[cfg(test)]
-mod tests {
-    use super::*;
-
-    #[test]
-    fn reads_quantities(rt: HostRuntime) {
-        assert_eq!(rt; read_quantity(b"8K"), Ok(8192));
-        assert_eq!(rt; read_quantity(b"1024G"), Ok(1 << 40));
-        assert_eq!(rt; read_quantity(b""), Err(QuantityFault::Empty));
-        assert_eq!(rt; read_quantity(b"8k"), Err(QuantityFault::BadCharacter));
-        assert_eq!(rt; read_quantity(b"K"), Err(QuantityFault::BadCharacter));
-        assert_eq!(rt; read_quantity(b"2000G"), Err(QuantityFault::TooLarge));
-    }
-
-    #[test]
-    fn reads_numbers_of_any_length(rt: HostRuntime) {
-        let zeros_and_nine = b"0000000000000000000000000000000000000000000000000000000000000009M";
-        assert_eq!(rt; read_quantity(zeros_and_nine), Ok(9 << 20));
-        let nines = b"99999999999999999999999999999999999999999999999999";
-        assert_eq!(rt; read_quantity(nines), Err(QuantityFault::TooLarge));
-        let nines_and_a_bad_byte = b"99999999999999999999999999999999999999999999999999x";
-        assert_eq!(rt;
-            read_quantity(nines_and_a_bad_byte),
-            Err(QuantityFault::BadCharacter)
-        );
-    }
-}

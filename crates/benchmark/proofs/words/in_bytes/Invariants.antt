@@ -1,5 +1,5 @@
 use Rattle.std.proofs.Common.{◌≡◌, length}
-use Rattle.benchmark.proofs.words.in_a_vec.Given as goal
+use Rattle.benchmark.proofs.words.in_bytes.Given as goal
 
 abbrev pub invariant-loop-round : goal.invariant-loop-round
 invariant-loop-round l = length l.bytes.items ≡ 1048576

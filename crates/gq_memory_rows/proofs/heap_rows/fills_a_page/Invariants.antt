@@ -1,6 +1,0 @@
-use Rattle.gq_list_store.specs.View.{store_of}
-use Rattle.gq_heap.specs.Heap.{IsHeap}
-use Rattle.gq_memory_rows.proofs.heap_rows.fills_a_page.Given as goal
-
-abbrev pub invariant-loop : goal.invariant-loop
-invariant-loop g l = IsHeap l.heap (store_of l.store)
