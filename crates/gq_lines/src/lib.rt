@@ -2,10 +2,12 @@
 //!
 //! ```rust
 //! use gq_lines::counted::{Counted, put};
-//! use gq_lines::line::labelled;
+//! use gq_lines::line::label_line;
 //!
 //! let mut out = Counted::new(writer);
-//! put(&mut out, labelled(b"init -> hello", b"hello").as_slice())?;
+//! let mut line = ArrayVec::new();
+//! label_line(&mut line, b"init -> hello", b"hello");
+//! put(&mut out, line.as_slice())?;
 //! ```
 #![tactic(auto)]
 

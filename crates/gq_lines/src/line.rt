@@ -74,14 +74,3 @@ pub fn label_line(line: &mut Line, label: &[u8], text: &[u8])
     extend(line, text);
     extend(line, b"\n");
 }
-
-/// The line of a leaf with this label.
-pub fn labelled(label: &[u8], text: &[u8]) -> Line
-    requires label { length label.now ≤ GREATEST_LABEL }
-    requires text { length text.now ≤ 64 }
-    ensures { result.items ≡ codes "[" ++ label.now ++ codes "] " ++ text.now ++ 10 ∷ [] }
-{
-    let mut line = ArrayVec::new();
-    label_line(&mut line, label, text);
-    line
-}

@@ -60,7 +60,7 @@ fn write_line(line: &mut ArrayVec<u8, LINE>, bytes: &[u8])
 }
 
 // A number that is shown.
-fn out(
+pub(crate) fn out(
     fixed: &Fixed,
     state: &mut State,
     number: usize,

@@ -109,6 +109,7 @@ impl Slots {
     }
 
     /// The leaf that pays for what is in a slot: the leaf whose own it is, or the server of its session.
+    #[inline(always)]
     pub fn holder(&self, spot: Spot) -> usize
         requires { IsSpot self.now spot }
         ensures is { result ≡ holder self.now spot }
@@ -133,6 +134,7 @@ impl Slots {
     }
 
     /// What is in a slot. In the machine's world it is what `seen` says of it.
+    #[inline(always)]
     pub fn thing(&self, spot: Spot) -> Thing
         requires { IsSpot self.now spot }
         ensures is { result ≡ thing_at self.now spot }
@@ -144,6 +146,7 @@ impl Slots {
     }
 
     // What is in a slot.
+    #[inline(always)]
     fn found(&self, spot: Spot) -> Thing
         requires { IsSpot self.now spot }
         ensures { result ≡ thing_at self.now spot }
@@ -171,6 +174,7 @@ impl Slots {
     }
 
     /// The byte at an index of a block, a slice or a space.
+    #[inline(always)]
     pub fn load(&self, spot: Spot, index: u32) -> u8
         requires there { IsSpot self.now spot }
         requires paid { IsPaidBy self.now (holder self.now spot) }
@@ -184,6 +188,7 @@ impl Slots {
     }
 
     /// The number in the four bytes from an index on, the lowest first.
+    #[inline(always)]
     pub fn load4(&self, spot: Spot, index: u32) -> u32
         requires there { IsSpot self.now spot }
         requires paid { IsPaidBy self.now (holder self.now spot) }
@@ -197,6 +202,7 @@ impl Slots {
     }
 
     /// Sets the byte at an index of a block, a slice or a space.
+    #[inline(always)]
     pub fn store(&mut self, spot: Spot, index: u32, value: u8)
         requires there { IsSpot self.old spot }
         requires paid { IsPaidBy self.old (holder self.old spot) }
@@ -210,6 +216,7 @@ impl Slots {
     }
 
     /// Writes a number to the four bytes from an index on, the lowest first.
+    #[inline(always)]
     pub fn store4(&mut self, spot: Spot, index: u32, value: u32)
         requires there { IsSpot self.old spot }
         requires paid { IsPaidBy self.old (holder self.old spot) }

@@ -85,6 +85,7 @@ impl Thing {
     }
 
     /// The byte at an index.
+    #[inline(always)]
     pub fn load<S: ByteStore>(&self, store: &S, heap: &Heap, index: u32) -> u8
         requires kept { IsAmong heap.now (S.state store.now) self.now }
         requires inside { index < size_of self.now }
@@ -99,6 +100,7 @@ impl Thing {
     }
 
     /// The number in the four bytes from an index on, the lowest first.
+    #[inline(always)]
     pub fn load4<S: ByteStore>(&self, store: &S, heap: &Heap, index: u32) -> u32
         requires kept { IsAmong heap.now (S.state store.now) self.now }
         requires inside { index + 4 ≤ size_of self.now }
@@ -113,6 +115,7 @@ impl Thing {
     }
 
     /// Sets the byte at an index.
+    #[inline(always)]
     pub fn store<S: ByteStore>(&self, store: &mut S, heap: &Heap, index: u32, value: u8)
         requires kept { IsAmong heap.now (S.state store.old) self.now }
         requires inside { index < size_of self.now }
@@ -131,6 +134,7 @@ impl Thing {
     }
 
     /// Writes a number to the four bytes from an index on, the lowest first.
+    #[inline(always)]
     pub fn store4<S: ByteStore>(&self, store: &mut S, heap: &Heap, index: u32, value: u32)
         requires kept { IsAmong heap.now (S.state store.old) self.now }
         requires inside { index + 4 ≤ size_of self.now }
