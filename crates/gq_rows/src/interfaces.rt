@@ -26,22 +26,31 @@ fn limits(interface: &Interface) -> (u32, u32, u32, Option<u32>) {
     )
 }
 
-/// The bytes of the object and of the buffer, and whether the further levels are these.
-fn rest(interface: &Interface, upgrades: &[Upgrade]) -> (u32, u32, bool) {
+/// The bytes of the object and of the buffer, how many further levels there are, and the bytes and the capabilities of the first of them.
+fn rest(interface: &Interface) -> (u32, u32, usize, Option<(u32, u32)>) {
+    let upgrades = interface.upgrades();
+    let first = match upgrades {
+        [first, ..] => Some((first.ram(), first.caps())),
+        [] => None,
+    };
     (
         interface.object(),
         interface.buffer(),
-        interface.upgrades() == upgrades,
+        upgrades.len(),
+        first,
     )
 }
 
 #[test]
 fn keeps_what_is_given(rt: HostRuntime) {
     let (echo, log) = (echo(), log());
-    let second = Upgrade::new(4096, 0);
     assert_eq!(rt;
-        (limits(&echo), rest(&echo, &[]), rest(&log, &[second])),
-        ((1000, 2000, 8192, None), (100, 0, true), (0, 16, true))
+        (limits(&echo), rest(&echo), rest(&log)),
+        (
+            (1000, 2000, 8192, None),
+            (100, 0, 0, None),
+            (0, 16, 1, Some((4096, 0)))
+        )
     );
 }
 
@@ -50,8 +59,8 @@ fn counts_capabilities_in_version_2(rt: HostRuntime) {
     let second = Upgrade::new(4096, 2);
     let counted = Interface::new(0, 0, 0, Some(3)).with_upgrade(second);
     assert_eq!(rt;
-        (limits(&counted), rest(&counted, &[second]), second.caps()),
-        ((0, 0, 0, Some(3)), (0, 0, true), 2)
+        (limits(&counted), rest(&counted)),
+        ((0, 0, 0, Some(3)), (0, 0, 1, Some((4096, 2))))
     );
 }
 
