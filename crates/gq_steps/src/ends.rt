@@ -5,6 +5,7 @@ ghost use Rattle.gq_steps.specs.Ends.{begun, exited, resumed, served};
 
 use crate::leaf::Leaf;
 use gq_model::phase::Phase;
+use gq_model::program::Section;
 use gq_statements::Hand;
 
 impl Leaf {
@@ -15,6 +16,7 @@ impl Leaf {
     {
         self.phase = Phase::Serving;
         self.hand = None;
+        self.place = self.code.place(Section::Main);
         self.registers.clear();
         self.steps += 1;
     }
@@ -45,6 +47,7 @@ impl Leaf {
     {
         self.phase = Phase::Handling;
         self.hand = Some(hand);
+        self.place = self.code.place(hand.section);
         self.registers.begin();
         self.steps += 1;
     }
@@ -56,6 +59,7 @@ impl Leaf {
     {
         self.phase = Phase::Handling;
         self.hand = Some(hand);
+        self.place = self.code.place(hand.section);
         self.registers.begin_with(argument);
         self.steps += 1;
     }

@@ -10,4 +10,5 @@ invariant_of-self c =
     record {
       code = c.self.invariant.code;
       inside = first_inside i.code c.args.hand.section c.begin.new.self.position c.self.invariant.code (ap (λ (r : Core). r.position) c.begin.ensures);
+      placed = c.place-self-inside.ensures;
     }

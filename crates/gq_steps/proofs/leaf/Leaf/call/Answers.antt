@@ -39,6 +39,7 @@ invariant_of-self c =
       inside = inside_then v (operation.Call c.args.place) c.self.invariant.code (ap operation_of c.self.view_is ∙ c.requires.next) (no_end c.args.place)
           (λ size p h. h) c.advance.new.self
           (ap (λ (r : Core). r.position) c.advance.ensures ∙ ap (λ (r : Core). r.position + 1) c.pop-value.ensures.stays);
+      placed = c.self.invariant.placed;
     }
 
 pub returns-in_default-clause-step : goal.returns-in_default-clause-step

@@ -38,6 +38,7 @@ invariant_of-self c =
       inside = inside_then v (operation.Close c.args.place) c.self.invariant.code (ap operation_of c.self.view_is ∙ c.requires.next) (no_end c.args.place)
           (λ size p h. h) c.advance.new.self
           (ap (λ (r : Core). r.position) c.advance.ensures);
+      placed = c.self.invariant.placed;
     }
 
 pub returns-in-Err-clause-step : goal.returns-in-Err-clause-step

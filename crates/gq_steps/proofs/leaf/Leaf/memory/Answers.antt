@@ -44,6 +44,7 @@ invariant_of-self-in-Ok c =
       code = c.self.invariant.code;
       inside = subst P (sym after) (inside_after v does c.self.invariant.code (ap operation_of c.self.view_is ∙ c.requires.next)
           (not_end does c.requires.memory) (memory_before does c.requires.memory));
+      placed = c.self.invariant.placed;
     }
 
 pub returns-in-Err-clause-step : goal.returns-in-Err-clause-step

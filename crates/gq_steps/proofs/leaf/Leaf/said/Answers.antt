@@ -26,6 +26,7 @@ invariant_of-self c =
       code = c.self.invariant.code;
       inside = inside_then v (operation.Long c.args.number) c.self.invariant.code (ap operation_of c.self.view_is ∙ c.requires.next) (no_end c.args.number)
           (λ size p h. h) c.advance.new.self (ap (λ (r : Core). r.position) c.advance.ensures);
+      placed = c.self.invariant.placed;
     }
 
 pub returns-clause-step : goal.returns-clause-step

@@ -11,4 +11,5 @@ invariant_of-self c =
     record {
       code = c.self.invariant.code;
       inside = first_inside i.code Main c.clear.new.self.position c.self.invariant.code (ap (λ (r : Core). r.position) c.clear.ensures);
+      placed = c.place-self-inside.ensures;
     }

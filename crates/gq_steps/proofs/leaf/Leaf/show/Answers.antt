@@ -31,6 +31,7 @@ invariant_of-self-in-Some c =
       code = c.self.invariant.code;
       inside = inside_then v operation.Out c.self.invariant.code (ap operation_of c.self.view_is ∙ c.requires.next) no_end (λ size p h. h) c.advance.new.self
           after;
+      placed = c.self.invariant.placed;
     }
 
 pub returns-in-None-clause-wrong : goal.returns-in-None-clause-wrong
