@@ -3,6 +3,7 @@ ghost use Rattle.std.specs.Prelude.{◌≡◌, ℕ, ◌+◌, ◌-◌, ◌*◌, �
 ghost use Rattle.gq_store.specs.Store.{Store, word, Writes};
 ghost use Rattle.gq_heap.specs.internal.Chain.{IsSize, IsChain, place_byte, link, descending};
 
+use crate::class::spot;
 use gq_store::{ByteStore, ChunkNo};
 
 /// Chains all places of a chunk, the last one first, and gives the head.
@@ -30,7 +31,8 @@ pub fn push<S: ByteStore>(store: &mut S, size: u32, places: u32, head: u32, plac
     ensures alone { Writes (S.state store.old) (S.state store.new) (place / places) (place % places * size) 4 }
     ensures rest { S.same_rest store.old store.new }
 {
-    store.store4(ChunkNo::new(place / places), place % places * size, head);
+    let (chunk, index) = spot(place, places);
+    store.store4(ChunkNo::new(chunk), index * size, head);
     place + 1
 }
 
@@ -43,8 +45,9 @@ pub fn pop<S: ByteStore>(store: &mut S, size: u32, places: u32, place: u32) -> u
     ensures alone { Writes (S.state store.old) (S.state store.new) (place / places) (place % places * size) size }
     ensures rest { S.same_rest store.old store.new }
 {
-    let chunk = ChunkNo::new(place / places);
-    let offset = place % places * size;
+    let (chunk, index) = spot(place, places);
+    let chunk = ChunkNo::new(chunk);
+    let offset = index * size;
     let next = store.load4(chunk, offset);
     store.clear(chunk, offset, size);
     next

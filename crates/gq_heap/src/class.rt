@@ -1,9 +1,8 @@
 // The classes, as the heap counts them.
-ghost use Rattle.std.specs.Prelude.{◌≡◌, ◌<◌, ◌≤◌};
+ghost use Rattle.std.specs.Prelude.{◌≡◌, ◌/◌, ◌%◌, ◌<◌, ◌≤◌};
 ghost use Rattle.gq_tariff.specs.Prices.{class_size, size_for};
 ghost use Rattle.gq_heap.specs.Classes.{index_of, size_at, places_at, class_for};
 
-use gq_tariff::price::PAGE;
 use gq_tariff::{Class, class_of};
 
 /// The number of a class, by size, from 0.
@@ -34,7 +33,28 @@ pub fn place_size(class: Class) -> u32
 pub fn places_per_chunk(class: Class) -> u32
     ensures { result ≡ places_at (index_of class) }
 {
-    PAGE as u32 / place_size(class)
+    256 >> class_index(class)
+}
+
+/// The chunk of a place, by its number, and the place's index there, where a chunk has so many places. It divides by none of the numbers that classes have,
+/// since a division takes as long as all else that is done with a place.
+#[inline(always)]
+pub fn spot(place: u32, places: u32) -> (u32, u32)
+    requires { 0 < places }
+    ensures chunk { result.0 ≡ place / places }
+    ensures index { result.1 ≡ place % places }
+{
+    match places {
+        256 => (place / 256, place % 256),
+        128 => (place / 128, place % 128),
+        64 => (place / 64, place % 64),
+        32 => (place / 32, place % 32),
+        16 => (place / 16, place % 16),
+        8 => (place / 8, place % 8),
+        4 => (place / 4, place % 4),
+        2 => (place / 2, place % 2),
+        _ => (place / places, place % places),
+    }
 }
 
 /// The class of a block of `size` bytes.

@@ -3,7 +3,7 @@ ghost use Rattle.std.specs.Prelude.{◌≡◌, ◌+◌, ◌*◌, ◌<◌, ◌≤
 ghost use Rattle.gq_tariff.specs.Prices.{up};
 
 use crate::bin::{Bin, give, take};
-use crate::class::{class_for_size, class_index, place_size, places_per_chunk};
+use crate::class::{class_for_size, class_index, place_size, places_per_chunk, spot};
 use gq_store::{ByteStore, ChunkNo, GrowFault};
 use gq_tariff::price::{GREATEST_PLACE, PAGE};
 use gq_tariff::{Class, price_class, round_up};
@@ -22,21 +22,24 @@ impl Place {
     ghost use Rattle.gq_heap.specs.Heap.{chunk_of, offset_of};
 
     /// The chunk that it lies in.
+    #[inline(always)]
     fn chunk(&self) -> ChunkNo
         ensures { result ≡ chunk_of self.now }
     {
         match *self {
-            Place::Small(class, number) => ChunkNo::new(number / places_per_chunk(class)),
+            Place::Small(class, number) => ChunkNo::new(spot(number, places_per_chunk(class)).0),
             Place::Large(number, _) => ChunkNo::new(number),
         }
     }
 
     /// The offset of its first byte in the chunk.
+    #[inline(always)]
     fn offset(&self) -> u32
         ensures { result ≡ offset_of self.now }
     {
         match *self {
-            Place::Small(class, number) => number % places_per_chunk(class) * place_size(class),
+            Place::Small(class, number) => spot(number, places_per_chunk(class)).1
+                * place_size(class),
             Place::Large(_, _) => 0,
         }
     }
