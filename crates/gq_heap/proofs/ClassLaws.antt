@@ -1,5 +1,5 @@
 -- The classes by number.
-use Rattle.std.proofs.Common.{◌≡◌, ℕ, zero, suc, ◌/◌, ◌<◌, ◌≤◌, Bool, true, false, ltb, cond, [], ◌∷◌, get_or, refl, sym, ap, ◌∙◌, arith}
+use Rattle.std.proofs.Common.{◌≡◌, ℕ, zero, suc, ◌<◌, ◌≤◌, Bool, true, false, ltb, cond, [], ◌∷◌, get_or, refl, sym, ap, ◌∙◌, arith}
 use Rattle.std.proofs.lemmas.Bool.Decides.{nat_tests}
 use Rattle.gq_tariff.specs.Prices.{classes, class_size, size_for}
 use Rattle.gq_tariff.specs.declared.class.Class.{Class}
@@ -41,17 +41,6 @@ size_is Bytes256 = refl
 size_is Bytes512 = refl
 size_is Bytes1024 = refl
 size_is Bytes2048 = refl
-
-pub places_are : (c : Class) → 4096 / size_at (index_of c) ≡ places_at (index_of c)
-unfolding size_at places_at
-places_are Bytes16 = refl
-places_are Bytes32 = refl
-places_are Bytes64 = refl
-places_are Bytes128 = refl
-places_are Bytes256 = refl
-places_are Bytes512 = refl
-places_are Bytes1024 = refl
-places_are Bytes2048 = refl
 
 number_of_size : (c : Class) → too_small classes (class_size c) ≡ index_of c
 number_of_size Bytes16 = refl
