@@ -1,3 +1,5 @@
 pub mod Counts
+pub mod LeafLines
 pub mod Told
 pub mod Writes
+pub mod internal

@@ -2,16 +2,18 @@
 //!
 //! ```rust
 //! use gq_lines::counted::{Counted, put};
-//! use gq_lines::line::label_line;
+//! use gq_lines::leaf_line::LeafLine;
 //!
 //! let mut out = Counted::new(writer);
-//! let mut line = ArrayVec::new();
-//! label_line(&mut line, b"init -> hello", b"hello");
-//! put(&mut out, line.as_slice())?;
+//! let mut line = LeafLine::new();
+//! line.begin(b"init -> hello");
+//! line.say(b"hello");
+//! put(&mut out, line.as_bytes())?;
 //! ```
 #![tactic(auto)]
 
 pub mod account;
 pub mod account_line;
 pub mod counted;
+pub mod leaf_line;
 pub mod line;

@@ -1,5 +1,5 @@
 // Lines of text.
-ghost use Rattle.std.specs.Prelude.{◌≡◌, ◌≤◌, ◌+◌, ◌++◌, ◌∷◌, [], length, codes, decimal};
+ghost use Rattle.std.specs.Prelude.{◌≡◌, ◌≤◌, ◌+◌, ◌++◌, length, decimal};
 ghost use Rattle.gq_model.specs.machine.Accounts.{phase_word, entry};
 
 use arrayvec::ArrayVec;
@@ -59,18 +59,4 @@ pub(crate) fn phase_word(phase: Phase) -> &'static [u8]
         Phase::Handling => b"handling",
         Phase::Exited => b"exited",
     }
-}
-
-/// Puts the line of a leaf with this label in the place of what a line has.
-pub fn label_line(line: &mut Line, label: &[u8], text: &[u8])
-    requires label { length label.now ≤ GREATEST_LABEL }
-    requires text { length text.now ≤ 64 }
-    ensures { line.new.items ≡ codes "[" ++ label.now ++ codes "] " ++ text.now ++ 10 ∷ [] }
-{
-    line.clear();
-    extend(line, b"[");
-    extend(line, label);
-    extend(line, b"] ");
-    extend(line, text);
-    extend(line, b"\n");
 }

@@ -63,6 +63,7 @@ impl<T: Copy> Numbered<T> {
     }
 
     /// The value of a number that is taken.
+    #[inline(always)]
     pub fn get(&self, number: usize) -> T
         requires { IsTaken self.now.values number }
         ensures { get_or self.now.values number None ≡ Some result }
@@ -74,6 +75,7 @@ impl<T: Copy> Numbered<T> {
     }
 
     /// Puts another value at a number that is taken.
+    #[inline(always)]
     pub fn set(&mut self, number: usize, value: T)
         requires { IsTaken self.old.values number }
         ensures { self.new ≡ record { values = slice_set self.old.values number (Some value); room = self.old.room } }

@@ -205,6 +205,7 @@ impl Sessions {
     }
 
     /// The oldest request to a server, of a session to it. It stays.
+    #[inline(always)]
     pub fn waiting(&self, server: usize) -> Option<Request>
         ensures some { IfSome result (λ r. IsOldest server self.now.requests r) }
         ensures its { IfSome result (λ r. IsTaken self.now.sessions r.session × (server_of self.now r.session ≡ server)) }
@@ -268,6 +269,7 @@ impl Sessions {
     }
 
     /// The session of a number that is taken.
+    #[inline(always)]
     pub fn session(&self, session: usize) -> Session
         requires { IsTaken self.now.sessions session }
         ensures { result ≡ session_at self.now session }
@@ -276,6 +278,7 @@ impl Sessions {
     }
 
     /// What a slot of a session holds.
+    #[inline(always)]
     pub fn slot(&self, session: usize, slot: usize) -> Thing
         requires there { IsTaken self.now.sessions session }
         requires slot { slot < 8 }
@@ -352,6 +355,7 @@ impl Sessions {
     }
 
     /// Another leaf pays from now on: as a store, this has what its account has.
+    #[inline(always)]
     pub fn pay_by(&mut self, leaf: usize)
         requires leaf { leaf < length self.old.leaves }
         requires open { IsOpen self.old.memory.ledger.accounts (account_of self.old leaf) }
@@ -379,6 +383,7 @@ impl Sessions {
     }
 
     // The session of a number that is taken: its client and server are two of the leaves.
+    #[inline(always)]
     fn between(&self, session: usize) -> Session
         requires { IsTaken self.now.sessions session }
         ensures is { result ≡ session_at self.now session }

@@ -123,6 +123,7 @@ impl Slots {
     }
 
     // The server of a session.
+    #[inline(always)]
     fn server(&self, session: usize) -> usize
         requires { IsTaken self.now.trades.trading.sessions session }
         ensures is { result ≡ server_of self.now.trades.trading session }
@@ -159,6 +160,7 @@ impl Slots {
     }
 
     /// A leaf pays from now on. Each of the calls below is on a slot of the leaf that pays.
+    #[inline(always)]
     pub fn pay_by(&mut self, leaf: usize)
         requires { IsLive self.old.trades leaf }
         ensures { self.new ≡ record {

@@ -170,6 +170,7 @@ impl Trades {
     }
 
     /// The oldest request to a server, of a session to it. It stays.
+    #[inline(always)]
     pub fn waiting(&self, server: usize) -> Option<Request>
         ensures some { IfSome result (λ r. IsOldest server self.now.trading.requests r) }
         ensures its { IfSome result (λ r. IsTaken self.now.trading.sessions r.session × (server_of self.now.trading r.session ≡ server)) }
@@ -226,6 +227,7 @@ impl Trades {
     }
 
     /// The session of a number that is taken.
+    #[inline(always)]
     pub fn session(&self, session: usize) -> Session
         requires { IsTaken self.now.trading.sessions session }
         ensures { result ≡ session_at self.now.trading session }
@@ -234,6 +236,7 @@ impl Trades {
     }
 
     /// What a slot of a session holds.
+    #[inline(always)]
     pub fn slot(&self, session: usize, slot: usize) -> Thing
         requires there { IsTaken self.now.trading.sessions session }
         requires slot { slot < 8 }
@@ -322,6 +325,7 @@ impl Trades {
     }
 
     /// How many upgrades of a session were accepted.
+    #[inline(always)]
     pub fn level(&self, session: usize) -> u8
         requires { IsTaken self.now.trading.sessions session }
         ensures { result ≡ (session_at self.now.trading session).level }
@@ -391,6 +395,7 @@ impl Trades {
     }
 
     /// Another leaf pays from now on: as a store, this has what its account has.
+    #[inline(always)]
     pub fn pay_by(&mut self, leaf: usize)
         requires leaf { IsLive self.old leaf }
         ensures { self.new ≡ with_trading self.old (with_memory self.old.trading (record {

@@ -7,17 +7,16 @@ ghost use Rattle.gq_lines.specs.Counts.{written_to, failures_of};
 ghost use Rattle.gq_lines.specs.Writes.{IsFront, IsRaised};
 ghost use Rattle.gq_world.specs.Worlds.{line_told};
 
-use arrayvec::ArrayVec;
 use gq_init::NodeTable;
 use gq_lines::counted::{Counted, WriteFault, put};
-use gq_lines::line::{Line, label_line};
+use gq_lines::leaf_line::LeafLine;
 use gq_scenario::scenario::LeafNo;
 use std::io::Write;
 
-/// Writes the line of a leaf that gives this text, with the leaf's label. Where a write fails a front of it was written. The line is made in the
-/// place of what `line` has, so that whoever writes many makes room once.
+/// Writes the line of a leaf that gives this text, with the leaf's label. Where a write fails a front of it was written. The line is made in `line`, which
+/// keeps the label as long as the same leaf speaks.
 pub(crate) fn write_line_by<W: Write>(
-    line: &mut Line,
+    line: &mut LeafLine,
     table: &NodeTable,
     leaf: LeafNo,
     text: &[u8],
@@ -30,8 +29,9 @@ pub(crate) fn write_line_by<W: Write>(
     ensures front { OnErr result (IsFront (written_to W.contents out.old) (written_to W.contents out.new) (line_told table.now leaf (doing.Line text.now))) }
     ensures raised { OnErr result (IsRaised (failures_of out.old) (failures_of out.new)) }
 {
-    label_line(line, table.label(table.node(leaf)), text);
-    put(out, line.as_slice())
+    line.begin(table.label(table.node(leaf)));
+    line.say(text);
+    put(out, line.as_bytes())
 }
 
 /// Writes the line of a leaf that gives this text, with the leaf's label. Where a write fails a front of it was written.
@@ -48,6 +48,6 @@ pub fn write_line<W: Write>(
     ensures front { OnErr result (IsFront (written_to W.contents out.old) (written_to W.contents out.new) (line_told table.now leaf (doing.Line text.now))) }
     ensures raised { OnErr result (IsRaised (failures_of out.old) (failures_of out.new)) }
 {
-    let mut line = ArrayVec::new();
+    let mut line = LeafLine::new();
     write_line_by(&mut line, table, leaf, text, out)
 }

@@ -28,7 +28,7 @@ use gq_init::NodeTable;
 use gq_laws::accepted::accepted_laws;
 use gq_lines::account::Account;
 use gq_lines::counted::{Counted, WriteFault};
-use gq_lines::line::Line;
+use gq_lines::leaf_line::LeafLine;
 use gq_load::budget::Budget;
 use gq_machine::event::Event;
 use gq_machine::machine::Machine;
@@ -52,7 +52,7 @@ pub struct World {
     machine: Machine,
     budgets: Vec<Budget>,
     stopped: bool,
-    line: Line,
+    line: LeafLine,
 }
 
 impl Model for World {
@@ -87,7 +87,7 @@ impl World {
             machine,
             budgets,
             stopped: false,
-            line: ArrayVec::new(),
+            line: LeafLine::new(),
         }
     }
 
