@@ -50,7 +50,9 @@ def heights(crates, needs):
 
 
 def link(source, target):
-    """One file under two names where the file system can, else a copy of it."""
+    """One file under two names where the file system can, else a copy of it. What had the second name goes."""
+    if os.path.lexists(target):
+        os.remove(target)
     try:
         os.link(source, target)
     except OSError:

@@ -2,7 +2,7 @@
 """tools/measure_gate.py [COMMAND..]: runs ./check, or that command, and tells the processor seconds of each crate's proof, tests and edits.
 
 It looks at the running checks several times a second, so what a check takes between the last look and its end is not counted. It ends with the
-status of what it ran.
+status of what it ran. Where it is interrupted it ends what it ran, and tells what was taken so far.
 """
 import os
 import subprocess
@@ -67,9 +67,13 @@ def look(top, taken, kinds):
 def main():
     ran = subprocess.Popen(sys.argv[1:] or ["./check"], cwd=TOP)
     start, taken, kinds = time.monotonic(), {}, {}
-    while ran.poll() is None:
-        look(str(ran.pid), taken, kinds)
-        time.sleep(0.2)
+    try:
+        while ran.poll() is None:
+            look(str(ran.pid), taken, kinds)
+            time.sleep(0.2)
+    except KeyboardInterrupt:
+        ran.terminate()
+        ran.wait()
     together = {}
     for process, kind in kinds.items():
         together[kind] = together.get(kind, 0.0) + taken[process]
