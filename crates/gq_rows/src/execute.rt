@@ -118,10 +118,11 @@ fn is_file_fault(alloc: Global, command: &Command, fails: bool) -> bool {
     let mut second = Endless { given: 0, fails };
     let of_turns = ended(alloc, command, &mut scenario, &mut second);
     let most = if fails { 0 } else { GREATEST_INPUT + 1 };
-    of_scenario.is(Status::FileFault, "", "trade: file fault\n")
-        && of_turns.is(Status::FileFault, "", "trade: file fault\n")
-        && first.given == most
-        && second.given == most
+    let are_faults = of_scenario.is(Status::FileFault, "", "trade: file fault\n")
+        && of_turns.is(Status::FileFault, "", "trade: file fault\n");
+    drop(of_scenario);
+    drop(of_turns);
+    are_faults && first.given == most && second.given == most
 }
 
 #[test]
@@ -131,6 +132,7 @@ fn a_failed_read_is_a_file_fault_with_nothing_written(rt: HostRuntime) -> Result
         is_file_fault(rt.alloc(), &command, true),
         is_file_fault(rt.alloc(), &command, false),
     ];
+    drop(command);
     assert_eq!(rt; are_faults, [true, true]);
     Ok(())
 }
@@ -157,14 +159,16 @@ fn is_cut(alloc: Global, command: &Command, room: usize, fails: bool) -> bool {
     drop(out);
     let front = &HELLO_RUN.as_bytes()[..room.min(HELLO_RUN.len())];
     let is_front = taken.as_slice() == front;
-    if room < HELLO_RUN.len() {
-        is_front
-            && status == Status::FileFault
+    let is_told = if room < HELLO_RUN.len() {
+        status == Status::FileFault
             && failures == 1
             && err.as_slice() == b"trade: file fault\n".as_slice()
     } else {
-        is_front && status == Status::Done && failures == 0 && err.is_empty()
-    }
+        status == Status::Done && failures == 0 && err.is_empty()
+    };
+    drop(taken);
+    drop(err);
+    is_front && is_told
 }
 
 /// Whether that holds at each room up to that of the whole text, where the writer fails and where it takes nothing.
@@ -180,7 +184,9 @@ fn is_always_cut(alloc: Global, command: &Command) -> bool {
 #[test]
 fn a_failed_write_leaves_a_front_of_the_text(rt: HostRuntime) -> Result<(), Fail> {
     let command = run_command(rt.alloc())?;
-    assert!(rt; is_always_cut(rt.alloc(), &command));
+    let is_always_cut = is_always_cut(rt.alloc(), &command);
+    drop(command);
+    assert!(rt; is_always_cut);
     Ok(())
 }
 
@@ -197,13 +203,16 @@ fn refused(alloc: Global, command: &Command) -> (Status, bool, [u8; 9]) {
         &mut Counted::new(Cursor::new(&mut out)),
         &mut Counted::new(page.as_mut_slice()),
     );
-    (status, out.is_empty(), page)
+    let is_empty = out.is_empty();
+    drop(out);
+    (status, is_empty, page)
 }
 
 #[test]
 fn a_line_that_can_not_be_told_changes_no_status(rt: HostRuntime) -> Result<(), Fail> {
     let command = run_command(rt.alloc())?;
     let (status, is_empty, page) = refused(rt.alloc(), &command);
+    drop(command);
     assert!(rt; status == Status::Refused && is_empty && page == *b"trade: U2");
     Ok(())
 }
@@ -215,13 +224,17 @@ fn is_shown(alloc: Global, help: &Command) -> bool {
         fails: false,
     };
     let shown = ended(alloc, help, &mut scenario, &mut io::empty());
-    shown.is(Status::Done, "Usage: trade\n", "") && scenario.given == 0
+    let is_help = shown.is(Status::Done, "Usage: trade\n", "");
+    drop(shown);
+    is_help && scenario.given == 0
 }
 
 #[test]
 fn shows_help_and_reads_nothing(rt: HostRuntime) -> Result<(), Fail> {
     let help = Command::Help(String::from_str(rt.alloc(), "Usage: trade\n")?);
-    assert!(rt; is_shown(rt.alloc(), &help));
+    let is_shown = is_shown(rt.alloc(), &help);
+    drop(help);
+    assert!(rt; is_shown);
     Ok(())
 }
 
@@ -234,5 +247,6 @@ fn reads_one_stream_of_the_stored_form(rt: HostRuntime) {
     let mut stored = HELLO_STORED;
     let run = ended(rt.alloc(), &Command::Stored, &mut stored, &mut turns);
     let is_done = run.is(Status::Done, HELLO_RUN, "");
+    drop(run);
     assert!(rt; is_done && turns.given == 0);
 }

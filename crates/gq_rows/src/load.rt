@@ -48,6 +48,8 @@ fn accepts_a_client_and_its_server(rt: HostRuntime) -> Result<(), Fail> {
         return Err(Fail::from("an accepted scenario"));
     };
     let budgets = tells_budgets(rt.alloc(), &accepted);
-    assert_eq!(rt; (budgets, is_whole(accepted.table())), (Ok(true), true));
+    let is_whole = is_whole(accepted.table());
+    drop(accepted);
+    assert_eq!(rt; (budgets, is_whole), (Ok(true), true));
     Ok(())
 }

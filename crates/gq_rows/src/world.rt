@@ -153,7 +153,11 @@ impl Trial {
 // Whether a trial in a world of its own goes well; nothing where there is no world.
 fn tried(alloc: Global, trial: Trial) -> Option<bool> {
     match World::load(alloc, HELLO) {
-        Ok(mut world) => Some(trial.is_well(alloc, &mut world)),
+        Ok(mut world) => {
+            let is_well = trial.is_well(alloc, &mut world);
+            drop(world);
+            Some(is_well)
+        }
         Err(_) => None,
     }
 }
