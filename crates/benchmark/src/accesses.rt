@@ -23,7 +23,10 @@ const SIZE: u32 = 16384;
 pub fn measured(rt: &HostRuntime, times: u32) -> Result<usize, Fault> {
     let mut slots = market(rt.alloc())?;
     let addresses = Addresses::new(Vec::new(rt.alloc()));
-    in_slots(rt, &mut slots, &addresses, times)
+    let given = in_slots(rt, &mut slots, &addresses, times);
+    drop(addresses);
+    drop(slots);
+    given
 }
 
 // The same in slots in which no session is open.
@@ -63,10 +66,10 @@ fn both(
         }
         _ => return Err(Fault::Account),
     }
-    let start = Instant::now(rt)?;
+    let start = Instant::now(rt);
     let one = by_slot(slots, times);
     tell(rt, "byte by slot", u64::from(times), start)?;
-    let start = Instant::now(rt)?;
+    let start = Instant::now(rt);
     let other = by_address(slots, addresses, times);
     tell(rt, "byte by address", u64::from(times), start)?;
     Ok(usize::from(one ^ other))

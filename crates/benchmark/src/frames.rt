@@ -33,11 +33,13 @@ pub fn measured(rt: &HostRuntime, times: u32) -> Result<usize, Fault> {
 // A frame is taken and given back.
 fn pairs(rt: &HostRuntime, times: u32) -> Result<u32, Fault> {
     let mut pages = Pages::new(rt.alloc(), 2)?;
-    pairs_of(rt, &mut pages, times)
+    let given = pairs_of(rt, &mut pages, times);
+    drop(pages);
+    given
 }
 
 fn pairs_of(rt: &HostRuntime, pages: &mut Pages, times: u32) -> Result<u32, Fault> {
-    let start = Instant::now(rt)?;
+    let start = Instant::now(rt);
     let mut last = 0;
     for _ in 0..times {
         last = take_and_give(pages, last);
@@ -55,7 +57,7 @@ fn vecs(rt: &HostRuntime, times: u32, before: u32) -> Result<u32, Fault> {
         last = make_and_drop(rt.alloc(), last)?;
     }
     let pairs = u64::from(times) * u64::from(PAIRS);
-    tell(rt, "Vec of a frame", pairs, start)?;
+    tell(rt, "Vec of a frame", pairs, Ok(start))?;
     Ok(last)
 }
 
@@ -80,11 +82,13 @@ fn first_takes(rt: &HostRuntime, times: u32) -> Result<u32, Fault> {
 // The number of the last frame, and the nanoseconds that all of them take.
 fn first_take(rt: &HostRuntime) -> Result<(u32, u128), Fault> {
     let mut pages = Pages::new(rt.alloc(), FRAMES)?;
-    first_take_of(rt, &mut pages)
+    let given = first_take_of(rt, &mut pages);
+    drop(pages);
+    given
 }
 
 fn first_take_of(rt: &HostRuntime, pages: &mut Pages) -> Result<(u32, u128), Fault> {
-    let start = Instant::now(rt)?;
+    let start = Instant::now(rt);
     let last = take_all(pages);
     Ok((last, since(rt, start)?))
 }
@@ -133,20 +137,31 @@ fn touched(bytes: &mut Vec<u8>, pair: u32) -> u32
 
 // What is made for 64 MiB, and dropped.
 fn new_for_all(rt: &HostRuntime, times: u32) -> Result<(), Fault> {
+    new_pages(rt, times)?;
+    new_accounts(rt, times)?;
+    new_vecs(rt, times)
+}
+
+fn new_pages(rt: &HostRuntime, times: u32) -> Result<(), Fault> {
     let start = Instant::now(rt)?;
     for _ in 0..times {
-        let _pages = Pages::new(rt.alloc(), FRAMES)?;
+        drop(Pages::new(rt.alloc(), FRAMES)?);
     }
-    tell(rt, "Pages::new of 64 MiB", u64::from(times), start)?;
+    tell(rt, "Pages::new of 64 MiB", u64::from(times), Ok(start))
+}
+
+fn new_accounts(rt: &HostRuntime, times: u32) -> Result<(), Fault> {
     let start = Instant::now(rt)?;
     for _ in 0..times {
-        let _accounts = Accounts::new(rt.alloc(), WHOLE, None)?;
+        drop(Accounts::new(rt.alloc(), WHOLE, None)?);
     }
-    tell(rt, "Accounts::new of 64 MiB", u64::from(times), start)?;
+    tell(rt, "Accounts::new of 64 MiB", u64::from(times), Ok(start))
+}
+
+fn new_vecs(rt: &HostRuntime, times: u32) -> Result<(), Fault> {
     let start = Instant::now(rt)?;
     for _ in 0..times {
-        let _bytes = zeros(rt.alloc(), WHOLE as usize)?;
+        drop(zeros(rt.alloc(), WHOLE as usize)?);
     }
-    tell(rt, "Vec of 64 MiB", u64::from(times), start)?;
-    Ok(())
+    tell(rt, "Vec of 64 MiB", u64::from(times), Ok(start))
 }

@@ -3,7 +3,7 @@ ghost use Rattle.std.specs.Prelude.{◌≡◌, ◌≤◌, [], ◌∷◌, ◌++�
 ghost use Rattle.gq_heap.specs.Heap.{IsHeap, AreInUse};
 
 use crate::fault::Fault;
-use crate::timing::{since, tell, tell_all};
+use crate::timing::{since, tell_all};
 use gq_heap::{Heap, Place};
 use gq_list_store::ListStore;
 use gq_store::ByteStore;
@@ -26,19 +26,7 @@ pub fn measured(rt: &HostRuntime, times: u32, size: u32) -> Result<usize, Fault>
         return Err(Fault::Usage);
     }
     let count = BYTES / size - 1;
-    let mut first = 0;
-    let mut free = 0;
-    let mut again = 0;
-    for _ in 0..times {
-        let [a, b, c] = round(rt, size, count)?;
-        first = a.saturating_add(first);
-        free = b.saturating_add(free);
-        again = c.saturating_add(again);
-    }
-    let operations = u64::from(times) * u64::from(count);
-    tell_all(rt, "heap first alloc", operations, first)?;
-    tell_all(rt, "heap free", operations, free)?;
-    tell_all(rt, "heap alloc again", operations, again)?;
+    rounds(rt, times, size, count)?;
     pairs(rt, size, 0, times, "heap alloc and free, no other block")?;
     pairs(
         rt,
@@ -51,6 +39,25 @@ pub fn measured(rt: &HostRuntime, times: u32, size: u32) -> Result<usize, Fault>
     Ok(count as usize)
 }
 
+// As many blocks as the store has room for, but for one, and tells of them.
+fn rounds(rt: &HostRuntime, times: u32, size: u32, count: u32) -> Result<(), Fault>
+    requires { (1 ≤ size) × (size ≤ 2048) }
+{
+    let mut first = 0;
+    let mut free = 0;
+    let mut again = 0;
+    for _ in 0..times {
+        let [a, b, c] = round(rt, size, count)?;
+        first = a.saturating_add(first);
+        free = b.saturating_add(free);
+        again = c.saturating_add(again);
+    }
+    let operations = u64::from(times) * u64::from(count);
+    tell_all(rt, "heap first alloc", operations, first)?;
+    tell_all(rt, "heap free", operations, free)?;
+    tell_all(rt, "heap alloc again", operations, again)
+}
+
 // A round over a fresh store and heap.
 fn round(rt: &HostRuntime, size: u32, count: u32) -> Result<[u128; 3], Fault>
     requires { (1 ≤ size) × (size ≤ 2048) }
@@ -58,7 +65,11 @@ fn round(rt: &HostRuntime, size: u32, count: u32) -> Result<[u128; 3], Fault>
     let mut places = Vec::with_capacity(rt.alloc(), count as usize)?;
     let mut store = ListStore::new(rt.alloc(), PAGES, None)?;
     let mut heap = Heap::new();
-    measured_in(rt, &mut heap, &mut store, &mut places, size, count)
+    let given = measured_in(rt, &mut heap, &mut store, &mut places, size, count);
+    drop(heap);
+    drop(store);
+    drop(places);
+    given
 }
 
 // The nanoseconds of so many blocks: made for the first time, freed, and made again.
@@ -73,15 +84,30 @@ fn measured_in<S: ByteStore>(
     requires size { (1 ≤ size) × (size ≤ 2048) }
     requires kept { AreInUse heap.old (S.state store.old) places.old.items }
 {
-    let start = Instant::now(rt)?;
-    alloc_all(heap, store, places, size, count)?;
-    let first = since(rt, start)?;
-    let start = Instant::now(rt)?;
+    let first = timed_allocs(rt, heap, store, places, size, count)?;
+    let start = Instant::now(rt);
     free_all(heap, store, places);
     let free = since(rt, start)?;
+    let again = timed_allocs(rt, heap, store, places, size, count)?;
+    Ok([first, free, again])
+}
+
+// The nanoseconds in which so many blocks are made.
+fn timed_allocs<S: ByteStore>(
+    rt: &HostRuntime,
+    heap: &mut Heap,
+    store: &mut S,
+    places: &mut Vec<Place>,
+    size: u32,
+    count: u32,
+) -> Result<u128, Fault>
+    requires size { (1 ≤ size) × (size ≤ 2048) }
+    requires kept { AreInUse heap.old (S.state store.old) places.old.items }
+    ensures { OnOk result (AreInUse heap.new (S.state store.new) places.new.items) }
+{
     let start = Instant::now(rt)?;
     alloc_all(heap, store, places, size, count)?;
-    Ok([first, free, since(rt, start)?])
+    since(rt, Ok(start))
 }
 
 // Makes so many blocks, and keeps their places.
@@ -139,27 +165,32 @@ fn pairs(rt: &HostRuntime, size: u32, count: u32, times: u32, name: &str) -> Res
     let mut places = Vec::with_capacity(rt.alloc(), count as usize)?;
     let mut store = ListStore::new(rt.alloc(), PAGES, None)?;
     let mut heap = Heap::new();
-    alloc_all(&mut heap, &mut store, &mut places, size, count)?;
-    pairs_in(rt, &mut heap, &mut store, size, times, name)
+    let nanoseconds = pairs_in(rt, &mut heap, &mut store, &mut places, size, count, times);
+    drop(heap);
+    drop(store);
+    drop(places);
+    tell_all(rt, name, u64::from(times) * u64::from(PAIRS), nanoseconds?)
 }
 
-// One is made and freed over and over.
+// The nanoseconds of one that is made and freed over and over, beside so many blocks.
 fn pairs_in<S: ByteStore>(
     rt: &HostRuntime,
     heap: &mut Heap,
     store: &mut S,
+    places: &mut Vec<Place>,
     size: u32,
+    count: u32,
     times: u32,
-    name: &str,
-) -> Result<(), Fault>
+) -> Result<u128, Fault>
     requires size { (1 ≤ size) × (size ≤ 2048) }
-    requires kept { IsHeap heap.old (S.state store.old) }
+    requires kept { AreInUse heap.old (S.state store.old) places.old.items }
 {
+    alloc_all(heap, store, places, size, count)?;
     let start = Instant::now(rt)?;
     for _ in 0..times {
         alloc_and_free(heap, store, size)?;
     }
-    tell(rt, name, u64::from(times) * u64::from(PAIRS), start)
+    since(rt, Ok(start))
 }
 
 fn alloc_and_free<S: ByteStore>(heap: &mut Heap, store: &mut S, size: u32) -> Result<(), Fault>

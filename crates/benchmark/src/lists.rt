@@ -37,7 +37,10 @@ pub fn measured(rt: &HostRuntime, times: u32, size: u32) -> Result<usize, Fault>
 fn round(rt: &HostRuntime, size: u32, count: u32) -> Result<[u128; 3], Fault> {
     let heap = LocalHeap::new(rt.alloc(), ROOM)?;
     let mut blocks = Vec::with_capacity(rt.alloc(), count as usize)?;
-    measured_in(rt, &heap, &mut blocks, size, count)
+    let given = measured_in(rt, &heap, &mut blocks, size, count);
+    drop(blocks);
+    drop(heap);
+    given
 }
 
 fn measured_in<'a>(
@@ -47,15 +50,25 @@ fn measured_in<'a>(
     size: u32,
     count: u32,
 ) -> Result<[u128; 3], Fault> {
-    let start = Instant::now(rt)?;
-    alloc_all(heap, blocks, size, count)?;
-    let first = since(rt, start)?;
-    let start = Instant::now(rt)?;
+    let first = timed_allocs(rt, heap, blocks, size, count)?;
+    let start = Instant::now(rt);
     free_all(blocks);
     let free = since(rt, start)?;
+    let again = timed_allocs(rt, heap, blocks, size, count)?;
+    Ok([first, free, again])
+}
+
+// The nanoseconds in which so many blocks are made.
+fn timed_allocs<'a>(
+    rt: &HostRuntime,
+    heap: &'a LocalHeap,
+    blocks: &mut Vec<Vec<u8, &'a LocalHeap>>,
+    size: u32,
+    count: u32,
+) -> Result<u128, Fault> {
     let start = Instant::now(rt)?;
     alloc_all(heap, blocks, size, count)?;
-    Ok([first, free, since(rt, start)?])
+    since(rt, Ok(start))
 }
 
 // Makes so many blocks whose bytes are 0.

@@ -32,7 +32,7 @@ use std::io::Write;
 use std::process::ExitCode;
 
 /// What is measured.
-#[derive(Clone, Copy, Debug, PartialEq, Eq)]
+#[derive(Clone, Copy)]
 enum Work {
     Assemble,
     Decode,
@@ -72,7 +72,7 @@ impl Work {
 }
 
 /// What the words of the command line ask for: the work, how often it is to be done, and the size of what is measured.
-#[derive(Clone, Copy, Debug)]
+#[derive(Clone, Copy)]
 struct Request {
     work: Work,
     times: u32,

@@ -29,7 +29,9 @@ pub fn slices(rt: &HostRuntime, times: u32, size: u32) -> Result<usize, Fault> {
         return Err(Fault::Usage);
     }
     let mut store = ListStore::new(rt.alloc(), PAGES, None)?;
-    slices_in(rt, &mut store, times, size)
+    let given = slices_in(rt, &mut store, times, size);
+    drop(store);
+    given
 }
 
 fn slices_in<S: ByteStore>(
@@ -45,7 +47,7 @@ fn slices_in<S: ByteStore>(
         alloc_and_free(store, size)?;
     }
     let pairs = u64::from(times) * u64::from(PAIRS);
-    tell(rt, "slice alloc and free", pairs, start)?;
+    tell(rt, "slice alloc and free", pairs, Ok(start))?;
     Ok((u64::from(size) + Sliced::overhead(u64::from(size))) as usize)
 }
 
@@ -82,7 +84,10 @@ pub fn entries(rt: &HostRuntime, times: u32) -> Result<usize, Fault> {
 fn round(rt: &HostRuntime) -> Result<[u128; 3], Fault> {
     let mut store = ListStore::new(rt.alloc(), PAGES, None)?;
     let mut heap = Heap::new();
-    measured_in(rt, &mut store, &mut heap)
+    let given = measured_in(rt, &mut store, &mut heap);
+    drop(heap);
+    drop(store);
+    given
 }
 
 fn measured_in<S: ByteStore>(
@@ -93,15 +98,28 @@ fn measured_in<S: ByteStore>(
     requires { IsHeap heap.old (S.state store.old) }
 {
     let pool = made(store, heap)?;
-    let start = Instant::now(rt)?;
-    take_all(&pool, store, heap)?;
-    let first = since(rt, start)?;
-    let start = Instant::now(rt)?;
+    let first = timed_takes(rt, &pool, store, heap)?;
+    let start = Instant::now(rt);
     give_all(&pool, store, heap);
     let removed = since(rt, start)?;
+    let again = timed_takes(rt, &pool, store, heap)?;
+    Ok([first, again, removed])
+}
+
+// The nanoseconds in which all entries are added.
+fn timed_takes<S: ByteStore>(
+    rt: &HostRuntime,
+    pool: &Pool,
+    store: &mut S,
+    heap: &mut Heap,
+) -> Result<u128, Fault>
+    requires kept { IsPool pool.now heap.old (S.state store.old) }
+    requires count { count_of pool.now ≡ 1024 }
+    ensures { OnOk result (IsPool pool.now heap.new (S.state store.new)) }
+{
     let start = Instant::now(rt)?;
-    take_all(&pool, store, heap)?;
-    Ok([first, since(rt, start)?, removed])
+    take_all(pool, store, heap)?;
+    since(rt, Ok(start))
 }
 
 fn made<S: ByteStore>(store: &mut S, heap: &Heap) -> Result<Pool, Fault>

@@ -22,7 +22,9 @@ fn input(rt: &HostRuntime) -> Result<Vec<u8>, Fault> {
 /// Assembles a text so often, and gives the number of its sections.
 pub fn assembled(rt: &HostRuntime, times: u32) -> Result<usize, Fault> {
     let text = input(rt)?;
-    assembled_from(rt, text.as_slice(), times)
+    let given = assembled_from(rt, text.as_slice(), times);
+    drop(text);
+    given
 }
 
 fn assembled_from(rt: &HostRuntime, text: &[u8], times: u32) -> Result<usize, Fault> {
@@ -34,14 +36,16 @@ fn assembled_from(rt: &HostRuntime, text: &[u8], times: u32) -> Result<usize, Fa
             Err(error) => return Err(Fault::Text(error)),
         }
     }
-    tell(rt, "assemble", u64::from(times), start)?;
+    tell(rt, "assemble", u64::from(times), Ok(start))?;
     Ok(given)
 }
 
 /// Decodes a code so often, and gives the number of its sections.
 pub fn decoded(rt: &HostRuntime, times: u32) -> Result<usize, Fault> {
     let code = input(rt)?;
-    decoded_from(rt, code.as_slice(), times)
+    let given = decoded_from(rt, code.as_slice(), times);
+    drop(code);
+    given
 }
 
 fn decoded_from(rt: &HostRuntime, code: &[u8], times: u32) -> Result<usize, Fault> {
@@ -53,7 +57,7 @@ fn decoded_from(rt: &HostRuntime, code: &[u8], times: u32) -> Result<usize, Faul
             Err(error) => return Err(Fault::Code(error)),
         }
     }
-    tell(rt, "decode", u64::from(times), start)?;
+    tell(rt, "decode", u64::from(times), Ok(start))?;
     Ok(given)
 }
 
@@ -69,7 +73,9 @@ fn program(rt: &HostRuntime) -> Result<Program, Fault> {
 /// Encodes the program of a text so often, and gives the length of its code.
 pub fn encoded(rt: &HostRuntime, times: u32) -> Result<usize, Fault> {
     let program = program(rt)?;
-    encoded_from(rt, &program, times)
+    let given = encoded_from(rt, &program, times);
+    drop(program);
+    given
 }
 
 fn encoded_from(rt: &HostRuntime, program: &Program, times: u32) -> Result<usize, Fault> {
@@ -78,7 +84,7 @@ fn encoded_from(rt: &HostRuntime, program: &Program, times: u32) -> Result<usize
     for _ in 0..times {
         given = encode(rt.alloc(), program)?.len();
     }
-    tell(rt, "encode", u64::from(times), start)?;
+    tell(rt, "encode", u64::from(times), Ok(start))?;
     Ok(given)
 }
 
@@ -101,7 +107,10 @@ fn interfaces(rt: &HostRuntime) -> Result<Interfaces, Fault> {
 pub fn verified(rt: &HostRuntime, times: u32) -> Result<usize, Fault> {
     let interfaces = interfaces(rt)?;
     let program = program(rt)?;
-    verified_from(rt, &program, &interfaces, times)
+    let given = verified_from(rt, &program, &interfaces, times);
+    drop(program);
+    drop(interfaces);
+    given
 }
 
 fn verified_from(
@@ -118,14 +127,16 @@ fn verified_from(
             Err(fault) => return Err(Fault::Refused(fault)),
         }
     }
-    tell(rt, "verify", u64::from(times), start)?;
+    tell(rt, "verify", u64::from(times), Ok(start))?;
     Ok(given as usize)
 }
 
 /// Reads a scenario so often, and gives the number of its leaves.
 pub fn read(rt: &HostRuntime, times: u32) -> Result<usize, Fault> {
     let text = input(rt)?;
-    read_from(rt, text.as_slice(), times)
+    let given = read_from(rt, text.as_slice(), times);
+    drop(text);
+    given
 }
 
 fn read_from(rt: &HostRuntime, text: &[u8], times: u32) -> Result<usize, Fault> {
@@ -137,6 +148,6 @@ fn read_from(rt: &HostRuntime, text: &[u8], times: u32) -> Result<usize, Fault> 
             Err(error) => return Err(Fault::Scenario(error)),
         }
     }
-    tell(rt, "read", u64::from(times), start)?;
+    tell(rt, "read", u64::from(times), Ok(start))?;
     Ok(given)
 }

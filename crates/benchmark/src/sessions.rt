@@ -25,7 +25,9 @@ pub fn measured(rt: &HostRuntime, times: u32, open: u32) -> Result<usize, Fault>
         return Err(Fault::Usage);
     }
     let mut slots = market(rt.alloc())?;
-    in_slots(rt, &mut slots, times, open)
+    let given = in_slots(rt, &mut slots, times, open);
+    drop(slots);
+    given
 }
 
 // The same in slots in which no session is open, while so many others are.
@@ -40,12 +42,12 @@ fn in_slots(rt: &HostRuntime, slots: &mut Slots, times: u32, others: u32) -> Res
     if !rounds(slots, times) {
         return Err(Fault::Account);
     }
-    tell(rt, "session", u64::from(times), start)?;
+    tell(rt, "session", u64::from(times), Ok(start))?;
     let start = Instant::now(rt)?;
     if !replies(slots, times) {
         return Err(Fault::Account);
     }
-    tell(rt, "two replies", u64::from(times), start)?;
+    tell(rt, "two replies", u64::from(times), Ok(start))?;
     Ok(times as usize)
 }
 

@@ -8,6 +8,7 @@ use crate::timing::{since, tell, tell_all};
 use gq_dataspace::DsId;
 use gq_ram::{AccountNo, Accounts};
 use std::alloc::{AllocError, Global};
+use std::io;
 use std::time::Instant;
 
 // The bytes of the dataspace, and the numbers in it.
@@ -32,13 +33,17 @@ pub fn measured(rt: &HostRuntime, times: u32) -> Result<usize, Fault> {
 // In a dataspace whose frames follow one another.
 fn in_row(rt: &HostRuntime, times: u32) -> Result<u32, Fault> {
     let mut accounts = Accounts::new(rt.alloc(), 2 * SIZE, None)?;
-    in_new(rt, &mut accounts, times, "dataspace")
+    let given = in_new(rt, &mut accounts, times, "dataspace");
+    drop(accounts);
+    given
 }
 
 // In a dataspace in which no frame follows the one before.
 fn scattered(rt: &HostRuntime, times: u32) -> Result<u32, Fault> {
     let mut accounts = Accounts::new(rt.alloc(), SIZE, None)?;
-    in_scattered(rt, &mut accounts, times)
+    let given = in_scattered(rt, &mut accounts, times);
+    drop(accounts);
+    given
 }
 
 // The same once another account had each frame and gave it back: the last of them first.
@@ -73,35 +78,68 @@ fn in_a_dataspace(
 ) -> Result<u32, Fault>
     requires { length (content_of accounts.old.spaces.spaces ds.0) ≡ 1048576 }
 {
+    let sum = in_sequence(rt, accounts, ds, times, frames)?;
+    let sum = at_random(rt, accounts, ds, times, frames, sum)?;
+    let blocks = u64::from(times) * u64::from(BLOCKS);
+    let start = Instant::now(rt);
+    for _ in 0..times {
+        clear_all(accounts, ds);
+    }
+    tell_of(rt, frames, "clear of 2048 bytes", blocks, start)?;
+    Ok(sum)
+}
+
+// Numbers in sequence.
+fn in_sequence(
+    rt: &HostRuntime,
+    accounts: &mut Accounts,
+    ds: DsId,
+    times: u32,
+    frames: &str,
+) -> Result<u32, Fault>
+    requires { length (content_of accounts.old.spaces.spaces ds.0) ≡ 1048576 }
+    ensures { length (content_of accounts.new.spaces.spaces ds.0) ≡ 1048576 }
+{
     let words = u64::from(times) * u64::from(WORDS);
-    let start = Instant::now(rt)?;
+    let start = Instant::now(rt);
     for round in 0..times {
         store_all(accounts, ds, round);
     }
     tell_of(rt, frames, "store4 in sequence", words, start)?;
-    let start = Instant::now(rt)?;
+    let start = Instant::now(rt);
     let mut sum = 0;
     for _ in 0..times {
         sum = load_all(accounts, ds, sum);
     }
     tell_of(rt, frames, "load4 in sequence", words, start)?;
-    let start = Instant::now(rt)?;
+    Ok(sum)
+}
+
+// Numbers at random, added to a sum.
+fn at_random(
+    rt: &HostRuntime,
+    accounts: &mut Accounts,
+    ds: DsId,
+    times: u32,
+    frames: &str,
+    sum: u32,
+) -> Result<u32, Fault>
+    requires { length (content_of accounts.old.spaces.spaces ds.0) ≡ 1048576 }
+    ensures { length (content_of accounts.new.spaces.spaces ds.0) ≡ 1048576 }
+{
+    let words = u64::from(times) * u64::from(WORDS);
+    let start = Instant::now(rt);
     let mut state = 1;
     for _ in 0..times {
         state = store_anywhere(accounts, ds, state);
     }
     tell_of(rt, frames, "store4 at random", words, start)?;
-    let start = Instant::now(rt)?;
+    let start = Instant::now(rt);
+    let mut sum = sum;
     for _ in 0..times {
         sum = load_anywhere(accounts, ds, sum);
     }
     tell_of(rt, frames, "load4 at random", words, start)?;
-    let blocks = u64::from(times) * u64::from(BLOCKS);
-    let start = Instant::now(rt)?;
-    for _ in 0..times {
-        clear_all(accounts, ds);
-    }
-    tell_of(rt, frames, "clear of 2048 bytes", blocks, start)?;
     Ok(sum)
 }
 
@@ -111,7 +149,7 @@ fn tell_of(
     frames: &str,
     what: &str,
     times: u64,
-    start: Instant,
+    start: io::Result<Instant>,
 ) -> Result<(), Fault> {
     let nanoseconds = since(rt, start)?;
     let name = format!(in rt.alloc(); "{frames} {what}")?;
@@ -225,31 +263,33 @@ pub fn zeros(alloc: Global, n: usize) -> Result<Vec<u8>, AllocError>
 // The same in a `Vec`.
 fn in_a_vec(rt: &HostRuntime, times: u32) -> Result<u32, Fault> {
     let mut bytes = zeros(rt.alloc(), SIZE as usize)?;
-    in_bytes(rt, &mut bytes, times)
+    let given = in_bytes(rt, &mut bytes, times);
+    drop(bytes);
+    given
 }
 
 fn in_bytes(rt: &HostRuntime, bytes: &mut Vec<u8>, times: u32) -> Result<u32, Fault>
     requires { length bytes.old.items ≡ 1048576 }
 {
     let operations = u64::from(times) * u64::from(WORDS);
-    let start = Instant::now(rt)?;
+    let start = Instant::now(rt);
     for round in 0..times {
         vec_store_all(bytes, round);
     }
     tell(rt, "Vec store4 in sequence", operations, start)?;
-    let start = Instant::now(rt)?;
+    let start = Instant::now(rt);
     let mut sum = 0;
     for _ in 0..times {
         sum = vec_load_all(bytes, sum);
     }
     tell(rt, "Vec load4 in sequence", operations, start)?;
-    let start = Instant::now(rt)?;
+    let start = Instant::now(rt);
     let mut state = 1;
     for _ in 0..times {
         state = vec_store_anywhere(bytes, state);
     }
     tell(rt, "Vec store4 at random", operations, start)?;
-    let start = Instant::now(rt)?;
+    let start = Instant::now(rt);
     for _ in 0..times {
         sum = vec_load_anywhere(bytes, sum);
     }

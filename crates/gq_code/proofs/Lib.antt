@@ -2,7 +2,9 @@ pub mod Codes
 pub mod Programs
 pub mod Decoding
 pub mod Bodies
+pub mod Operand_parts
 pub mod Sections
+pub mod Section_bytes
 pub mod Ranges
 pub mod Lengths
 pub mod Bodies_back

@@ -147,6 +147,31 @@ fn write_operands(out: &mut Vec<u8>, instruction: &Instruction) -> Result<(), Al
     }
 }
 
+/// Puts an `if` at the end, whose arms have this code.
+fn write_if(out: &mut Vec<u8>, arm: &[u8], other: &[u8]) -> Result<(), AllocError>
+    ensures { OnOk result (out.new.items
+        ≡ out.old.items ++ 0x40 ∷ body_length arm.now ++ body_length other.now ++ arm.now ++ other.now) }
+{
+    out.push(0x40)?;
+    write_number(out, 4, arm.len() as u64)?;
+    write_number(out, 4, other.len() as u64)?;
+    out.extend_from_slice(arm)?;
+    out.extend_from_slice(other)?;
+    Ok(())
+}
+
+/// Puts a loop at the end, whose body has this code.
+fn write_loop(out: &mut Vec<u8>, count: u16, body: &[u8]) -> Result<(), AllocError>
+    ensures { OnOk result (out.new.items
+        ≡ out.old.items ++ 0x41 ∷ spelled 2 count ++ body_length body.now ++ body.now) }
+{
+    out.push(0x41)?;
+    write_number(out, 2, u64::from(count))?;
+    write_number(out, 4, body.len() as u64)?;
+    out.extend_from_slice(body)?;
+    Ok(())
+}
+
 /// Puts the code of a statement at the end: an `if` has the lengths of both arms before them, a loop its count and the length
 /// of its body.
 #[cycle(bodies)]
@@ -163,20 +188,11 @@ fn write_statement(
         Statement::If(arm, other) => {
             let arm = encode_body(alloc, arm)?;
             let other = encode_body(alloc, other)?;
-            out.push(0x40)?;
-            write_number(out, 4, arm.len() as u64)?;
-            write_number(out, 4, other.len() as u64)?;
-            out.extend_from_slice(arm.as_slice())?;
-            out.extend_from_slice(other.as_slice())?;
-            Ok(())
+            write_if(out, arm.as_slice(), other.as_slice())
         }
         Statement::Loop(count, body) => {
             let body = encode_body(alloc, body)?;
-            out.push(0x41)?;
-            write_number(out, 2, u64::from(*count))?;
-            write_number(out, 4, body.len() as u64)?;
-            out.extend_from_slice(body.as_slice())?;
-            Ok(())
+            write_loop(out, *count, body.as_slice())
         }
     }
 }

@@ -2,26 +2,21 @@
 ghost use Rattle.std.specs.Prelude.{◌≡◌, IfOk, IfSome, IsTrue};
 ghost use Rattle.gq_memory_rows.specs.Serves.{IsMarket, Serves};
 
-use crate::trade_rows::live;
+use crate::trade_rows::{live, plan};
+use crate::used::used;
 use gq_addresses::Addresses;
 use gq_sessions::Spot;
 use gq_slots::Slots;
 use gq_tariff::Amount;
 use gq_things::Thing;
-use gq_trade::Plan;
 use std::alloc::{AllocError, Global};
-use std::test::Fail;
 
 // A server without a quantum, and a client with three pages. A session's object has no bytes.
 fn market(alloc: Global) -> Result<Slots, AllocError>
     ensures { IfOk result (λ s. IsMarket s) }
 {
-    let plan = Plan {
-        parents: vec![in alloc; 0, 0, 0]?,
-        nodes: vec![in alloc; live(65536, 0), live(0, 0), live(12288, 0)]?,
-        leaves: vec![in alloc; 1, 2]?,
-        objects: vec![in alloc; 0]?,
-    };
+    let nodes = [live(65536, 0), live(0, 0), live(12288, 0)];
+    let plan = plan(alloc, &[0, 0, 0], &nodes, &[1, 2], 0)?;
     Slots::new(alloc, 65536, None, plan, 24)
 }
 
@@ -115,25 +110,14 @@ fn share(slots: &mut Slots, addresses: &Addresses) -> Option<(Option<u8>, u32)>
 }
 
 // The same by addresses of its own, over one service with a buffer of 16 bytes.
-fn share_by_addresses(
-    alloc: Global,
-    slots: &mut Slots,
-) -> Result<Option<(Option<u8>, u32)>, AllocError>
-    requires { IsMarket slots.old }
-{
-    let addresses = Addresses::new(vec![in alloc; 16]?);
-    Ok(share(slots, &addresses))
-}
-
 fn shared(alloc: Global) -> Result<Option<(Option<u8>, u32)>, AllocError> {
-    match market(alloc) {
-        Ok(mut slots) => share_by_addresses(alloc, &mut slots),
-        Err(refused) => Err(refused),
-    }
+    let addresses = Addresses::new(vec![in alloc; 16]?);
+    let seen = used(market(alloc), |slots| share(slots, &addresses));
+    drop(addresses);
+    seen
 }
 
 #[test]
-fn shares_a_buffer(rt: HostRuntime) -> Result<(), Fail> {
-    assert_eq!(rt; shared(rt.alloc())?, Some((Some(77), 14)));
-    Ok(())
+fn shares_a_buffer(rt: HostRuntime) {
+    assert_eq!(rt; shared(rt.alloc()), Ok(Some((Some(77), 14))));
 }

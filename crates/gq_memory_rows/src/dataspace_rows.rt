@@ -3,10 +3,10 @@ ghost use Rattle.std.specs.Prelude.{◌≡◌, ◌≢◌, ◌+◌, ◌^◌, ◌�
 ghost use Rattle.gq_tariff.specs.Prices.{up};
 ghost use Rattle.gq_dataspace.specs.Dataspaces.{IsLive, content_of};
 
+use crate::used::used;
 use gq_dataspace::{DsId, SpaceFault, Spaces};
 use gq_pages::Pages;
 use std::alloc::{AllocError, Global};
-use std::test::Fail;
 
 // `create`, by sizes.
 fn made(spaces: &mut Spaces, n: u64) -> Result<DsId, SpaceFault>
@@ -65,16 +65,6 @@ fn refused(spaces: &mut Spaces) -> Option<(u64, u32, SpaceFault, u32)> {
     Some((size, free, fault, spaces.free_frames()))
 }
 
-#[test]
-fn refuses_more_than_is_free(rt: HostRuntime) -> Result<(), Fail> {
-    let mut spaces = over(rt.alloc(), 2)?;
-    assert_eq!(rt;
-        refused(&mut spaces),
-        Some((4096, 1, SpaceFault::NoFrames, 2))
-    );
-    Ok(())
-}
-
 // The size of a dataspace of 10,000 bytes; bytes around a word that is written across two of its pages; and its last byte and the word before that, once
 // its last word is written.
 fn written(spaces: &mut Spaces) -> Result<(u64, [u8; 3], u8, u32), SpaceFault> {
@@ -88,13 +78,6 @@ fn written(spaces: &mut Spaces) -> Result<(u64, [u8; 3], u8, u32), SpaceFault> {
     ];
     spaces.store4(ds, 12284, 0x08070605);
     Ok((size, bytes, spaces.load(ds, 12287), spaces.load4(ds, 12283)))
-}
-
-#[test]
-fn writes_words(rt: HostRuntime) -> Result<(), Fail> {
-    let mut spaces = over(rt.alloc(), 4)?;
-    assert_eq!(rt; written(&mut spaces), Ok((12288, [0, 1, 3], 8, 0x07060500)));
-    Ok(())
 }
 
 // A dataspace of a page with 7 and 9 at its ends, and one of the two frames beside it, where there are three frames.
@@ -131,13 +114,6 @@ fn read_across(spaces: &mut Spaces) -> Result<(u32, u32, u8, u32, u8), SpaceFaul
     ))
 }
 
-#[test]
-fn reads_a_word_across_scattered_frames(rt: HostRuntime) -> Result<(), Fail> {
-    let mut spaces = over(rt.alloc(), 3)?;
-    assert_eq!(rt; read_across(&mut spaces), Ok((0, 67305985, 7, 0, 9)));
-    Ok(())
-}
-
 // What words read in a dataspace of 300 pages, where the way to a page has one, two or three links; and how many frames are free once it is destroyed.
 fn read_far(spaces: &mut Spaces) -> Result<([u32; 6], u32), SpaceFault> {
     let ds = made(spaces, 1228800)?;
@@ -159,9 +135,22 @@ fn read_far(spaces: &mut Spaces) -> Result<([u32; 6], u32), SpaceFault> {
     Ok((words, spaces.free_frames()))
 }
 
+// More bytes than are free are refused; words are written across pages, read across scattered frames, and found in each page of a large space.
 #[test]
-fn finds_each_page_of_a_large_space(rt: HostRuntime) -> Result<(), Fail> {
-    let mut spaces = over(rt.alloc(), 300)?;
-    assert_eq!(rt; read_far(&mut spaces), Ok(([11, 12, 13, 14, 15, 16], 300)));
-    Ok(())
+fn has_bytes_and_words(rt: HostRuntime) {
+    let alloc = rt.alloc();
+    assert_eq!(rt;
+        (
+            used(over(alloc, 2), refused),
+            used(over(alloc, 4), written),
+            used(over(alloc, 3), read_across),
+            used(over(alloc, 300), read_far)
+        ),
+        (
+            Ok(Some((4096, 1, SpaceFault::NoFrames, 2))),
+            Ok(Ok((12288, [0, 1, 3], 8, 0x07060500))),
+            Ok(Ok((0, 67305985, 7, 0, 9))),
+            Ok(Ok(([11, 12, 13, 14, 15, 16], 300)))
+        )
+    );
 }

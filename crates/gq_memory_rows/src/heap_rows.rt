@@ -2,10 +2,10 @@
 ghost use Rattle.std.specs.Prelude.{[], ◌∷◌, IfOk};
 ghost use Rattle.gq_heap.specs.Heap.{IsHeap, AreInUse};
 
+use crate::used::used;
 use gq_heap::{Class, Heap, Place};
 use gq_list_store::ListStore;
 use gq_store::{ByteStore, GrowFault};
-use std::test::Fail;
 
 fn make_three<S: ByteStore>(
     heap: &mut Heap,
@@ -93,14 +93,6 @@ fn read_again<S: ByteStore>(heap: &mut Heap, store: &mut S) -> Result<((u8, u8),
     Ok((read, heap.charge()))
 }
 
-#[test]
-fn keeps_two_blocks_apart_in_places_that_were_freed(rt: HostRuntime) -> Result<(), Fail> {
-    let mut store = ListStore::new(rt.alloc(), 1, None)?;
-    let mut heap = Heap::new();
-    assert_eq!(rt; read_again(&mut heap, &mut store), Ok(((7, 9), 4096)));
-    Ok(())
-}
-
 // Makes so many blocks of 16 bytes, and says whether each was made.
 fn fill<S: ByteStore>(heap: &mut Heap, store: &mut S, count: u32) -> bool
     requires { IsHeap heap.old (S.state store.old) }
@@ -130,35 +122,6 @@ fn read_last<S: ByteStore>(
     Ok((written, are_apart, read_three(heap, store, d, e, f)))
 }
 
-#[test]
-fn uses_freed_places_again(rt: HostRuntime) -> Result<(), Fail> {
-    let mut store = ListStore::new(rt.alloc(), 1, None)?;
-    let mut heap = Heap::new();
-    let is_full = fill(&mut heap, &mut store, 253);
-    let read = read_last(&mut heap, &mut store);
-    assert_eq!(rt;
-        (is_full, read, heap.charge(), heap.peak(Class::Bytes16)),
-        (true, Ok(((7, 8, 9), true, (0, 0, 0))), 4096, 256)
-    );
-    Ok(())
-}
-
-#[test]
-fn fills_a_page(rt: HostRuntime) -> Result<(), Fail> {
-    let mut store = ListStore::new(rt.alloc(), 1, None)?;
-    let mut heap = Heap::new();
-    let is_full = fill(&mut heap, &mut store, 256);
-    let refused = [
-        heap.alloc(&mut store, 16).err(),
-        heap.alloc(&mut store, 17).err(),
-    ];
-    assert_eq!(rt;
-        (is_full, refused),
-        (true, [Some(GrowFault::Exceeded), Some(GrowFault::Exceeded)])
-    );
-    Ok(())
-}
-
 // What the heap costs in bytes and capabilities with a large block, without it, and once a small one is made and freed after it.
 fn charges<S: ByteStore>(heap: &mut Heap, store: &mut S) -> Result<[(u64, u64); 4], GrowFault>
     requires { IsHeap heap.old (S.state store.old) }
@@ -175,21 +138,78 @@ fn charges<S: ByteStore>(heap: &mut Heap, store: &mut S) -> Result<[(u64, u64); 
     Ok([with_large, without, with_small, last])
 }
 
-#[test]
-fn gives_large_blocks_back(rt: HostRuntime) -> Result<(), Fail> {
-    let mut store = ListStore::new(rt.alloc(), 2, Some(1))?;
+// The same in a heap of its own.
+fn reuse_two<S: ByteStore>(store: &mut S) -> Result<((u8, u8), u64), GrowFault> {
     let mut heap = Heap::new();
-    let charges = charges(&mut heap, &mut store);
-    let refused = [
-        heap.alloc(&mut store, 32).err(),
-        heap.alloc(&mut store, 8193).err(),
-    ];
+    let read = read_again(&mut heap, store);
+    drop(heap);
+    read
+}
+
+// Whether 253 blocks were made, what the last three of the page read and what the three that are made once these are freed, what the heap costs then, and
+// how many places were in use at most.
+fn reuse_last<S: ByteStore>(
+    store: &mut S,
+) -> (
+    bool,
+    Result<((u8, u8, u8), bool, (u8, u8, u8)), GrowFault>,
+    u64,
+    u32,
+) {
+    let mut heap = Heap::new();
+    let is_full = fill(&mut heap, store, 253);
+    let read = read_last(&mut heap, store);
+    let charge = heap.charge();
+    let peak = heap.peak(Class::Bytes16);
+    drop(heap);
+    (is_full, read, charge, peak)
+}
+
+// Whether a page of blocks was made, and why one more of them was not, and one of the next class.
+fn refuse_more<S: ByteStore>(store: &mut S) -> (bool, [Option<GrowFault>; 2]) {
+    let mut heap = Heap::new();
+    let is_full = fill(&mut heap, store, 256);
+    let refused = [heap.alloc(store, 16).err(), heap.alloc(store, 17).err()];
+    drop(heap);
+    (is_full, refused)
+}
+
+// What large blocks cost, and why there is no other one then.
+fn give_back<S: ByteStore>(
+    store: &mut S,
+) -> (Result<[(u64, u64); 4], GrowFault>, [Option<GrowFault>; 2]) {
+    let mut heap = Heap::new();
+    let charges = charges(&mut heap, store);
+    let refused = [heap.alloc(store, 32).err(), heap.alloc(store, 8193).err()];
+    drop(heap);
+    (charges, refused)
+}
+
+// Blocks are apart in places that were freed, freed places are used again, and a page has 256 of them.
+#[test]
+fn uses_places_again(rt: HostRuntime) {
+    let alloc = rt.alloc();
     assert_eq!(rt;
-        (charges, refused),
         (
-            Ok([(4096, 1), (0, 0), (4096, 1), (4096, 1)]),
-            [Some(GrowFault::CapsExceeded), Some(GrowFault::Exceeded)]
+            used(ListStore::new(alloc, 1, None), reuse_two),
+            used(ListStore::new(alloc, 1, None), reuse_last),
+            used(ListStore::new(alloc, 1, None), refuse_more)
+        ),
+        (
+            Ok(Ok(((7, 9), 4096))),
+            Ok((true, Ok(((7, 8, 9), true, (0, 0, 0))), 4096, 256)),
+            Ok((true, [Some(GrowFault::Exceeded), Some(GrowFault::Exceeded)]))
         )
     );
-    Ok(())
+}
+
+#[test]
+fn gives_large_blocks_back(rt: HostRuntime) {
+    assert_eq!(rt;
+        used(ListStore::new(rt.alloc(), 2, Some(1)), give_back),
+        Ok((
+            Ok([(4096, 1), (0, 0), (4096, 1), (4096, 1)]),
+            [Some(GrowFault::CapsExceeded), Some(GrowFault::Exceeded)]
+        ))
+    );
 }

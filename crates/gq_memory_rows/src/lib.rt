@@ -31,3 +31,5 @@ mod tariff_rows;
 mod things_rows;
 #[cfg(test)]
 mod trade_rows;
+#[cfg(test)]
+mod used;

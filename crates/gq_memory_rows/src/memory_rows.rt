@@ -4,11 +4,11 @@ ghost use Rattle.gq_ram.specs.Entries.{IsOpen};
 ghost use Rattle.gq_memory.specs.Stores.{store_of};
 ghost use Rattle.gq_memory.specs.Rest.{SameRest};
 
-use crate::ram_rows::{moved, moved_caps, two_members};
+use crate::ram_rows::{added, moved, moved_caps};
 use gq_memory::Memory;
-use gq_ram::AccountNo;
+use gq_ram::{AccountFault, AccountNo, Accounts};
 use gq_store::{ByteStore, ChunkNo, GrowFault};
-use std::test::Fail;
+use std::alloc::{AllocError, Global};
 
 // A page whose last byte is `value`.
 fn page_with(memory: &mut Memory, value: u8) -> Result<ChunkNo, GrowFault>
@@ -51,60 +51,156 @@ fn read_words(memory: &mut Memory) -> Result<(u32, u32), GrowFault> {
     Ok((word, cleared))
 }
 
-#[test]
-fn keeps_what_each_account_has(rt: HostRuntime) -> Result<(), Fail> {
-    let (mut accounts, a, b) = two_members(rt.alloc(), None)?;
+// What an account is answered for a move to it.
+type Answer = Result<(), AccountFault>;
+
+// Two members of the root with a page each, and what the moves of these are answered.
+fn two_members(
+    accounts: &mut Accounts,
+) -> Result<(AccountNo, AccountNo, Answer, Answer), AllocError>
+    ensures first { IfOk result (λ x. IsOpen accounts.new.accounts x.0.0) }
+    ensures second { IfOk result (λ x. IsOpen accounts.new.accounts x.1.0) }
+    ensures apart { IfOk result (λ x. x.0.0 ≢ x.1.0) }
+{
+    let (a, b) = added(accounts)?;
     let root = accounts.root();
-    let moves = [
-        moved(&mut accounts, root, a, 4096),
-        moved(&mut accounts, root, b, 4096),
-    ];
-    let mut memory = Memory::new(accounts, root);
-    let read = read_both(&mut memory, a, b);
-    let payer = memory.payer();
-    let refused = memory.grow(1).err();
-    assert_eq!(rt;
-        (moves, read, payer, refused, memory.accounts().free_pages()),
-        (
-            [Ok(()), Ok(())],
-            Ok((7, 9)),
-            b,
-            Some(GrowFault::Exceeded),
-            14
-        )
-    );
-    Ok(())
+    let first = moved(accounts, root, a, 4096);
+    let second = moved(accounts, root, b, 4096);
+    Ok((a, b, first, second))
 }
 
-// The bytes 1, 2, 3 and 4 spell 67305985, and 1, 0, 0 and 4 spell 67108865.
-#[test]
-fn refuses_bytes_before_capabilities(rt: HostRuntime) -> Result<(), Fail> {
-    let (mut accounts, a, _b) = two_members(rt.alloc(), Some(2))?;
+// What two accounts read of their pages, whether the second one pays then, what it is answered for another page, and how many pages are free.
+fn two_pages(
+    memory: &mut Memory,
+    first: AccountNo,
+    second: AccountNo,
+) -> (Result<(u8, u8), GrowFault>, bool, Option<GrowFault>, u32)
+    requires first_open { IsOpen memory.old.ledger.accounts first.0 }
+    requires second_open { IsOpen memory.old.ledger.accounts second.0 }
+    requires apart { first.0 ≢ second.0 }
+{
+    let read = read_both(memory, first, second);
+    let is_payer = memory.payer() == second;
+    let refused = memory.grow(1).err();
+    (read, is_payer, refused, memory.accounts().free_pages())
+}
+
+// The same in memory of two members, with what the moves of a page to each were answered.
+fn keep_pages(
+    alloc: Global,
+) -> Result<
+    Option<
+        (
+            Answer,
+            Answer,
+            (Result<(u8, u8), GrowFault>, bool, Option<GrowFault>, u32),
+        ),
+    >,
+    AllocError,
+> {
+    let mut accounts = Accounts::new(alloc, 65536, None)?;
+    let members = two_members(&mut accounts);
     let root = accounts.root();
-    let moves = [
-        moved(&mut accounts, root, a, 8192),
-        moved_caps(&mut accounts, root, a, 1),
-    ];
-    let mut memory = Memory::new(accounts, a);
+    let mut memory = Memory::new(accounts, root);
+    let seen = match members {
+        Ok((a, b, first, second)) => Some((first, second, two_pages(&mut memory, a, b))),
+        Err(_) => None,
+    };
+    drop(memory);
+    Ok(seen)
+}
+
+#[test]
+fn keeps_what_each_account_has(rt: HostRuntime) {
+    assert_eq!(rt;
+        keep_pages(rt.alloc()),
+        Ok(Some((
+            Ok(()),
+            Ok(()),
+            (Ok((7, 9)), true, Some(GrowFault::Exceeded), 14)
+        )))
+    );
+}
+
+// A member of the root with two pages and one capability, and what the moves of these are answered.
+fn one_member(accounts: &mut Accounts) -> Result<(AccountNo, Answer, Answer), AllocError>
+    ensures { IfOk result (λ x. IsOpen accounts.new.accounts x.0.0) }
+{
+    let (a, _b) = added(accounts)?;
+    let root = accounts.root();
+    let bytes = moved(accounts, root, a, 8192);
+    let caps = moved_caps(accounts, root, a, 1);
+    Ok((a, bytes, caps))
+}
+
+// The memory of that member.
+fn of_member(alloc: Global) -> Result<(Memory, Answer, Answer), AllocError> {
+    let mut accounts = Accounts::new(alloc, 65536, Some(2))?;
+    match one_member(&mut accounts) {
+        Ok((a, bytes, caps)) => Ok((Memory::new(accounts, a), bytes, caps)),
+        Err(refused) => {
+            drop(accounts);
+            Err(refused)
+        }
+    }
+}
+
+// What three pages are answered, what words read, and what one page, two pages and one page again are answered.
+fn grown(
+    memory: &mut Memory,
+) -> (
+    Option<GrowFault>,
+    Result<(u32, u32), GrowFault>,
+    [Option<GrowFault>; 3],
+) {
     let refused = memory.grow(3).err();
-    let read = read_words(&mut memory);
+    let read = read_words(memory);
     let grown = [
         memory.grow(1).err(),
         memory.grow(2).err(),
         memory.grow(1).err(),
     ];
-    assert_eq!(rt;
-        (moves, refused, read, grown),
+    (refused, read, grown)
+}
+
+// The same in the memory of that member, with what the moves to it were answered.
+fn refuse_pages(
+    alloc: Global,
+) -> Result<
+    (
+        Answer,
+        Answer,
         (
-            [Ok(()), Ok(())],
-            Some(GrowFault::Exceeded),
-            Ok((67305985, 67108865)),
-            [
-                None,
+            Option<GrowFault>,
+            Result<(u32, u32), GrowFault>,
+            [Option<GrowFault>; 3],
+        ),
+    ),
+    AllocError,
+> {
+    let (mut memory, bytes, caps) = of_member(alloc)?;
+    let seen = grown(&mut memory);
+    drop(memory);
+    Ok((bytes, caps, seen))
+}
+
+// The bytes 1, 2, 3 and 4 spell 67305985, and 1, 0, 0 and 4 spell 67108865.
+#[test]
+fn refuses_bytes_before_capabilities(rt: HostRuntime) {
+    assert_eq!(rt;
+        refuse_pages(rt.alloc()),
+        Ok((
+            Ok(()),
+            Ok(()),
+            (
                 Some(GrowFault::Exceeded),
-                Some(GrowFault::CapsExceeded)
-            ]
-        )
+                Ok((67305985, 67108865)),
+                [
+                    None,
+                    Some(GrowFault::Exceeded),
+                    Some(GrowFault::CapsExceeded)
+                ]
+            )
+        ))
     );
-    Ok(())
 }

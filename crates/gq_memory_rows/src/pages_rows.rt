@@ -1,18 +1,14 @@
 // Frames on their happy paths, and what no contract can say: that the host gives memory where it has some.
+use crate::used::used;
 use gq_pages::{NoFrame, Pages};
-use std::test::Fail;
 
-#[test]
-fn has_two_frames(rt: HostRuntime) -> Result<(), Fail> {
-    let mut pages = Pages::new(rt.alloc(), 2)?;
+// How many frames are free, whether two that are taken are one, how many are free then, and what a third one is answered.
+fn taken(pages: &mut Pages) -> Result<(u32, bool, u32, Option<NoFrame>), NoFrame> {
     let free = pages.free_count();
     let first = pages.take()?;
     let second = pages.take()?;
-    assert_eq!(rt;
-        (free, first == second, pages.free_count(), pages.take()),
-        (2, false, 0, Err(NoFrame))
-    );
-    Ok(())
+    let is_one = first == second;
+    Ok((free, is_one, pages.free_count(), pages.take().err()))
 }
 
 // The last byte of a frame once it is written, how many frames are free once that is given back, its ends once it is taken again, and a byte of another
@@ -38,31 +34,20 @@ fn taken_again(pages: &mut Pages) -> Result<(u8, u32, [u8; 3]), NoFrame> {
     Ok((last, free, bytes))
 }
 
-#[test]
-fn clears_a_frame_that_was_given_back(rt: HostRuntime) -> Result<(), Fail> {
-    let mut pages = Pages::new(rt.alloc(), 2)?;
-    assert_eq!(rt; taken_again(&mut pages), Ok((5, 1, [0, 0, 7])));
-    Ok(())
-}
-
-#[test]
-fn has_the_lowest_byte_of_a_word_first(rt: HostRuntime) -> Result<(), Fail> {
-    let mut pages = Pages::new(rt.alloc(), 1)?;
+// The ends of a word once it is written, the word before it, and the word once the frame is cleared.
+fn written(pages: &mut Pages) -> Result<([u8; 2], u32, u32), NoFrame> {
     let frame = pages.take()?;
     pages.set_word(frame, 4092, 0x04030201);
     let bytes = [pages.byte(frame, 4092), pages.byte(frame, 4095)];
     let before = pages.word(frame, 4091);
     pages.zero(frame);
-    assert_eq!(rt;
-        (bytes, before, pages.word(frame, 4092)),
-        ([1, 4], 0x03020100, 0)
-    );
-    Ok(())
+    Ok((bytes, before, pages.word(frame, 4092)))
 }
 
-// How many frames are free once three are taken and given back, the second at last; whether the three that are taken then are those, the one that was given
-// back last before the others; and how many are free at last.
-fn taken_in_turn(pages: &mut Pages) -> Result<(u32, bool, u32), NoFrame> {
+// How many frames there are; how many are free once three are taken and given back, the second at last; whether the three that are taken then are those,
+// the one that was given back last before the others; and how many are free at last.
+fn taken_in_turn(pages: &mut Pages) -> Result<(u32, u32, bool, u32), NoFrame> {
+    let frames = pages.frame_count();
     let first = pages.take()?;
     let second = pages.take()?;
     let third = pages.take()?;
@@ -72,17 +57,33 @@ fn taken_in_turn(pages: &mut Pages) -> Result<(u32, bool, u32), NoFrame> {
     let free = pages.free_count();
     let again = [pages.take(), pages.take(), pages.take()];
     let is_in_turn = again == [Ok(second), Ok(third), Ok(first)];
-    Ok((free, is_in_turn, pages.free_count()))
+    Ok((frames, free, is_in_turn, pages.free_count()))
 }
 
-// The links of the chain are in the frames: those that are given back last are taken first.
+// There are two frames, and no third one.
 #[test]
-fn takes_what_was_given_last(rt: HostRuntime) -> Result<(), Fail> {
-    let mut pages = Pages::new(rt.alloc(), 16384)?;
-    let frames = pages.frame_count();
+fn has_two_frames(rt: HostRuntime) {
     assert_eq!(rt;
-        (frames, taken_in_turn(&mut pages)),
-        (16384, Ok((16384, true, 16381)))
+        used(Pages::new(rt.alloc(), 2), taken),
+        Ok(Ok((2, false, 0, Some(NoFrame))))
     );
-    Ok(())
+}
+
+// A frame that was given back is clear once it is taken again; the lowest byte of a word is its first; and the links of the chain are in the frames: those
+// that are given back last are taken first.
+#[test]
+fn keeps_frames(rt: HostRuntime) {
+    let alloc = rt.alloc();
+    assert_eq!(rt;
+        (
+            used(Pages::new(alloc, 2), taken_again),
+            used(Pages::new(alloc, 1), written),
+            used(Pages::new(alloc, 16384), taken_in_turn)
+        ),
+        (
+            Ok(Ok((5, 1, [0, 0, 7]))),
+            Ok(Ok(([1, 4], 0x03020100, 0))),
+            Ok(Ok((16384, 16384, true, 16381)))
+        )
+    );
 }

@@ -3,11 +3,11 @@ ghost use Rattle.std.specs.Prelude.{◌≡◌, ◌<◌, ◌≤◌, IfOk};
 ghost use Rattle.gq_heap.specs.Heap.{IsHeap};
 ghost use Rattle.gq_pool.specs.Pools.{IsPool, count_of, size_of};
 
+use crate::used::used;
 use gq_heap::Heap;
 use gq_list_store::ListStore;
 use gq_pool::Pool;
 use gq_store::{ByteStore, GrowFault};
-use std::test::Fail;
 
 fn make<S: ByteStore>(store: &mut S, heap: &Heap) -> Result<Pool, GrowFault>
     requires { IsHeap heap.now (S.state store.old) }
@@ -65,42 +65,42 @@ fn write<S: ByteStore>(pool: &Pool, store: &mut S, heap: &Heap, index: u32) -> (
 }
 
 // Whether entries are added one page after the other, the last of them beyond the first page, whether they are removed and added again, and whether one is
-// that is there; and what the heap costs with a page, with the entry beyond it, with all of them again and once the pool has ended.
-fn use_pool<S: ByteStore>(
+// that is there; and what the heap costs with a page, with the entry beyond it, and with all of them again.
+fn use_entries<S: ByteStore>(
+    pool: &Pool,
     store: &mut S,
     heap: &mut Heap,
-) -> Result<([bool; 6], [u64; 4]), GrowFault>
-    requires { IsHeap heap.old (S.state store.old) }
+) -> Result<([bool; 6], [u64; 3]), GrowFault>
+    requires kept { IsPool pool.now heap.old (S.state store.old) }
+    requires count { count_of pool.now ≡ 1024 }
+    ensures { IsPool pool.now heap.new (S.state store.new) }
 {
-    let pool = make(store, heap)?;
-    let first = take_all(&pool, store, heap, 0, 256)?;
+    let first = take_all(pool, store, heap, 0, 256)?;
     let one_page = heap.charge();
-    let second = take_all(&pool, store, heap, 256, 257)?;
+    let second = take_all(pool, store, heap, 256, 257)?;
     let two_pages = heap.charge();
-    let removed = give_all(&pool, store, heap, 256);
-    let third = take_all(&pool, store, heap, 128, 256)?;
-    let fourth = take_all(&pool, store, heap, 0, 128)?;
+    let removed = give_all(pool, store, heap, 256);
+    let third = take_all(pool, store, heap, 128, 256)?;
+    let fourth = take_all(pool, store, heap, 0, 128)?;
     let again = heap.charge();
-    let there = take_all(&pool, store, heap, 0, 1)?;
-    pool.end(store, heap);
+    let there = take_all(pool, store, heap, 0, 1)?;
     Ok((
         [first, second, removed, third, fourth, there],
-        [one_page, two_pages, again, heap.charge()],
+        [one_page, two_pages, again],
     ))
 }
 
-#[test]
-fn keeps_the_peak_of_its_entries(rt: HostRuntime) -> Result<(), Fail> {
-    let mut store = ListStore::new(rt.alloc(), 3, Some(3))?;
-    let mut heap = Heap::new();
-    assert_eq!(rt;
-        use_pool(&mut store, &mut heap),
-        Ok((
-            [true, true, true, true, true, false],
-            [4096, 8192, 8192, 8192]
-        ))
-    );
-    Ok(())
+// The same of a new pool, and what the heap costs once that has ended.
+fn use_pool<S: ByteStore>(
+    store: &mut S,
+    heap: &mut Heap,
+) -> Result<(Result<([bool; 6], [u64; 3]), GrowFault>, u64), GrowFault>
+    requires { IsHeap heap.old (S.state store.old) }
+{
+    let pool = make(store, heap)?;
+    let seen = use_entries(&pool, store, heap);
+    pool.end(store, heap);
+    Ok((seen, heap.charge()))
 }
 
 // Whether a page of entries is added, why one more is not, what the heap costs then, and what that entry and the one before it read before and after a
@@ -119,13 +119,40 @@ fn refused<S: ByteStore>(
     Ok((first, fault, heap.charge(), [beyond, last]))
 }
 
-#[test]
-fn refuses_an_entry_that_is_not_paid(rt: HostRuntime) -> Result<(), Fail> {
-    let mut store = ListStore::new(rt.alloc(), 2, Some(3))?;
+// The former in a heap of its own, and the latter.
+fn use_pool_anew<S: ByteStore>(
+    store: &mut S,
+) -> Result<(Result<([bool; 6], [u64; 3]), GrowFault>, u64), GrowFault> {
     let mut heap = Heap::new();
+    let seen = use_pool(store, &mut heap);
+    drop(heap);
+    seen
+}
+
+fn refused_anew<S: ByteStore>(
+    store: &mut S,
+) -> Result<(bool, Option<GrowFault>, u64, [(u8, u8); 2]), GrowFault> {
+    let mut heap = Heap::new();
+    let seen = refused(store, &mut heap);
+    drop(heap);
+    seen
+}
+
+// A pool costs the peak of its entries, and an entry that is not paid is refused.
+#[test]
+fn keeps_its_entries(rt: HostRuntime) {
+    let alloc = rt.alloc();
     assert_eq!(rt;
-        refused(&mut store, &mut heap),
-        Ok((true, Some(GrowFault::Exceeded), 4096, [(0, 0), (0, 7)]))
+        (
+            used(ListStore::new(alloc, 3, Some(3)), use_pool_anew),
+            used(ListStore::new(alloc, 2, Some(3)), refused_anew)
+        ),
+        (
+            Ok(Ok((
+                Ok(([true, true, true, true, true, false], [4096, 8192, 8192])),
+                8192
+            ))),
+            Ok(Ok((true, Some(GrowFault::Exceeded), 4096, [(0, 0), (0, 7)])))
+        )
     );
-    Ok(())
 }

@@ -1,11 +1,11 @@
 // Accounts on their happy paths and at each refusal.
-ghost use Rattle.std.specs.Prelude.{◌≢◌, ◌≤◌, ℕ, IfOk, IfSome};
+ghost use Rattle.std.specs.Prelude.{◌≢◌, ℕ, IfOk};
 ghost use Rattle.gq_ram.specs.Entries.{IsOpen};
 
+use crate::used::used;
 use gq_dataspace::DsId;
 use gq_ram::{AccountFault, AccountNo, Accounts};
-use std::alloc::{AllocError, Global};
-use std::test::Fail;
+use std::alloc::AllocError;
 
 // `add`, by which accounts are open.
 fn opened(accounts: &mut Accounts, reference: AccountNo) -> Result<AccountNo, AllocError>
@@ -62,7 +62,7 @@ fn closed(accounts: &mut Accounts, account: AccountNo) -> Result<(), AccountFaul
 }
 
 // Two members of the root.
-fn added(accounts: &mut Accounts) -> Result<(AccountNo, AccountNo), AllocError>
+pub(crate) fn added(accounts: &mut Accounts) -> Result<(AccountNo, AccountNo), AllocError>
     ensures first { IfOk result (λ x. IsOpen accounts.new.accounts x.0.0) }
     ensures second { IfOk result (λ x. IsOpen accounts.new.accounts x.1.0) }
     ensures not_root { IfOk result (λ x. 0 ≢ x.0.0) }
@@ -75,77 +75,45 @@ fn added(accounts: &mut Accounts) -> Result<(AccountNo, AccountNo), AllocError>
     Ok((a, b))
 }
 
-// Accounts with two members of the root.
-pub(crate) fn two_members(
-    alloc: Global,
-    caps: Option<u64>,
-) -> Result<(Accounts, AccountNo, AccountNo), AllocError>
-    requires { IfSome caps (λ n. (1 ≤ n) × (n ≤ 65536)) }
-    ensures first { IfOk result (λ x. IsOpen x.0.accounts x.1.0) }
-    ensures second { IfOk result (λ x. IsOpen x.0.accounts x.2.0) }
-    ensures not_root { IfOk result (λ x. 0 ≢ x.1.0) }
-    ensures apart { IfOk result (λ x. x.1.0 ≢ x.2.0) }
-{
-    let mut accounts = Accounts::new(alloc, 65536, caps)?;
-    match added(&mut accounts) {
-        Ok((a, b)) => Ok((accounts, a, b)),
-        Err(refused) => Err(refused),
-    }
-}
+// What a move or an end is answered.
+type Answer = Result<(), AccountFault>;
 
-#[test]
-fn trades_bytes(rt: HostRuntime) -> Result<(), Fail> {
-    let (mut accounts, a, b) = two_members(rt.alloc(), None)?;
+// What moves of bytes between the root and its members are answered; why an account makes no dataspace, or none where it does; what it uses and has left
+// then, and how many pages are free; what its end is answered; the quota of the root then, and how many pages are free.
+fn trade_bytes(
+    accounts: &mut Accounts,
+) -> Result<
+    (
+        [Answer; 3],
+        [Option<AccountFault>; 3],
+        (u64, u64, u32),
+        Answer,
+        (u64, u32),
+    ),
+    AllocError,
+> {
+    let (a, b) = added(accounts)?;
     let root = accounts.root();
     let moves = [
-        moved(&mut accounts, root, a, 4096),
-        moved(&mut accounts, a, b, 1),
-        moved(&mut accounts, a, root, 4097),
+        moved(accounts, root, a, 4096),
+        moved(accounts, a, b, 1),
+        moved(accounts, a, root, 4097),
     ];
     let refusals = [
-        made(&mut accounts, a, 0).err(),
-        made(&mut accounts, a, 4097).err(),
-        made(&mut accounts, a, 1).err(),
+        made(accounts, a, 0).err(),
+        made(accounts, a, 4097).err(),
+        made(accounts, a, 1).err(),
     ];
     let held = (accounts.used(a), accounts.avail(a), accounts.free_pages());
-    let end = closed(&mut accounts, a);
+    let end = closed(accounts, a);
     let root = accounts.root();
-    assert_eq!(rt;
-        (
-            moves,
-            refusals,
-            held,
-            end,
-            accounts.quota(root),
-            accounts.free_pages()
-        ),
-        (
-            [
-                Ok(()),
-                Err(AccountFault::NotRelated),
-                Err(AccountFault::Exceeded)
-            ],
-            [
-                Some(AccountFault::ZeroSize),
-                Some(AccountFault::Exceeded),
-                None
-            ],
-            (4096, 0, 15),
-            Ok(()),
-            65536,
-            16
-        )
-    );
-    Ok(())
+    let left = (accounts.quota(root), accounts.free_pages());
+    Ok((moves, refusals, held, end, left))
 }
 
 // Whether an account is the reference of its member, and what its end is answered; and those of the root.
-fn refused_ends(
-    accounts: &mut Accounts,
-    a: AccountNo,
-) -> Option<(bool, AccountFault, bool, AccountFault)>
-    requires { IsOpen accounts.old.accounts a.0 }
-{
+fn refused_ends(accounts: &mut Accounts) -> Option<(bool, AccountFault, bool, AccountFault)> {
+    let (a, _b) = added(accounts).ok()?;
     let c = opened(accounts, a).ok()?;
     let is_reference = accounts.reference(c) == Some(a);
     let Err(of_member) = accounts.close(a) else {
@@ -159,47 +127,64 @@ fn refused_ends(
     Some((is_reference, of_member, has_none, of_root))
 }
 
-#[test]
-fn closes_no_account_with_members(rt: HostRuntime) -> Result<(), Fail> {
-    let (mut accounts, a, _b) = two_members(rt.alloc(), None)?;
-    assert_eq!(rt;
-        refused_ends(&mut accounts, a),
-        Some((true, AccountFault::HasMembers, true, AccountFault::IsRoot))
-    );
-    Ok(())
-}
-
-#[test]
-fn trades_capabilities(rt: HostRuntime) -> Result<(), Fail> {
-    let (mut accounts, a, b) = two_members(rt.alloc(), Some(1))?;
+// The same of the one capability that the root has: an account that has it makes one dataspace, and no second one.
+fn trade_capabilities(
+    accounts: &mut Accounts,
+) -> Result<([Answer; 4], [Option<AccountFault>; 2], u64, Answer, u64), AllocError> {
+    let (a, b) = added(accounts)?;
     let root = accounts.root();
     let moves = [
-        moved_caps(&mut accounts, root, a, 1),
-        moved_caps(&mut accounts, a, b, 1),
-        moved_caps(&mut accounts, root, a, 1),
-        moved(&mut accounts, root, a, 8192),
+        moved_caps(accounts, root, a, 1),
+        moved_caps(accounts, a, b, 1),
+        moved_caps(accounts, root, a, 1),
+        moved(accounts, root, a, 8192),
     ];
-    let refusals = [
-        made(&mut accounts, a, 1).err(),
-        made(&mut accounts, a, 1).err(),
-    ];
+    let refusals = [made(accounts, a, 1).err(), made(accounts, a, 1).err()];
     let used = accounts.caps_used(a);
-    let end = closed(&mut accounts, a);
+    let end = closed(accounts, a);
     let root = accounts.root();
+    Ok((moves, refusals, used, end, accounts.caps(root)))
+}
+
+// Bytes and capabilities move between an account and its members alone, and come back with the end of an account; one that has members does not end.
+#[test]
+fn trades_quota(rt: HostRuntime) {
+    let alloc = rt.alloc();
     assert_eq!(rt;
-        (moves, refusals, used, end, accounts.caps(root)),
         (
-            [
+            used(Accounts::new(alloc, 65536, None), trade_bytes),
+            used(Accounts::new(alloc, 65536, Some(1)), trade_capabilities),
+            used(Accounts::new(alloc, 65536, None), refused_ends)
+        ),
+        (
+            Ok(Ok((
+                [
+                    Ok(()),
+                    Err(AccountFault::NotRelated),
+                    Err(AccountFault::Exceeded)
+                ],
+                [
+                    Some(AccountFault::ZeroSize),
+                    Some(AccountFault::Exceeded),
+                    None
+                ],
+                (4096, 0, 15),
                 Ok(()),
-                Err(AccountFault::NotRelated),
-                Err(AccountFault::CapsExceeded),
-                Ok(())
-            ],
-            [None, Some(AccountFault::CapsExceeded)],
-            1,
-            Ok(()),
-            1
+                (65536, 16)
+            ))),
+            Ok(Ok((
+                [
+                    Ok(()),
+                    Err(AccountFault::NotRelated),
+                    Err(AccountFault::CapsExceeded),
+                    Ok(())
+                ],
+                [None, Some(AccountFault::CapsExceeded)],
+                1,
+                Ok(()),
+                1
+            ))),
+            Ok(Some((true, AccountFault::HasMembers, true, AccountFault::IsRoot)))
         )
     );
-    Ok(())
 }

@@ -1,8 +1,8 @@
 // A region map on its happy path, and what no contract can say: that the host gives memory where it has some.
 ghost use Rattle.std.specs.Prelude.{◌≡◌, None, replicate};
 
+use crate::used::used;
 use gq_region::{Base, Full, RegionMap};
-use std::test::Fail;
 
 // What addresses resolve to in a map of two places: before anything is attached; once a range is at each; and the first one once its range is detached, and
 // once another is attached. Nothing where a range does not get the lowest place, or where a third one does not find the map full.
@@ -37,11 +37,10 @@ fn use_places(map: &mut RegionMap) -> Option<([Option<(u32, u32)>; 3], [Option<(
 }
 
 #[test]
-fn takes_the_lowest_place(rt: HostRuntime) -> Result<(), Fail> {
-    let mut map = RegionMap::new(rt.alloc(), 2)?;
+fn takes_the_lowest_place(rt: HostRuntime) {
     assert_eq!(rt;
-        use_places(&mut map),
-        Some((
+        used(RegionMap::new(rt.alloc(), 2), use_places),
+        Ok(Some((
             [None, None, Some((1, 0))],
             [
                 Some((9, 1)),
@@ -52,7 +51,6 @@ fn takes_the_lowest_place(rt: HostRuntime) -> Result<(), Fail> {
                 None,
                 None
             ]
-        ))
+        )))
     );
-    Ok(())
 }

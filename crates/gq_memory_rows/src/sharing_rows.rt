@@ -1,13 +1,22 @@
 // Two pools, a block and a slice in one store.
+use crate::used::used;
 use gq_heap::Heap;
 use gq_list_store::ListStore;
+use gq_store::{ByteStore, GrowFault};
 use gq_store_example::share;
-use std::test::Fail;
+
+// What each reads in a heap of its own.
+fn shared<S: ByteStore>(store: &mut S) -> Result<(u8, u8, u8), GrowFault> {
+    let mut heap = Heap::new();
+    let read = share(&mut heap, store);
+    drop(heap);
+    read
+}
 
 #[test]
-fn reads_what_each_has(rt: HostRuntime) -> Result<(), Fail> {
-    let mut store = ListStore::new(rt.alloc(), 4, Some(4))?;
-    let mut heap = Heap::new();
-    assert_eq!(rt; share(&mut heap, &mut store), Ok((7, 9, 5)));
-    Ok(())
+fn reads_what_each_has(rt: HostRuntime) {
+    assert_eq!(rt;
+        used(ListStore::new(rt.alloc(), 4, Some(4)), shared),
+        Ok(Ok((7, 9, 5)))
+    );
 }

@@ -1,12 +1,8 @@
 // The sliced heap: whole pages with the bookkeeping, and back when a slice is freed.
-ghost use Rattle.std.specs.Prelude.{◌≤◌};
-ghost use Rattle.gq_list_store.specs.Slots.{caps_or_none};
-
+use crate::used::used;
 use gq_list_store::ListStore;
 use gq_sliced::Sliced;
 use gq_store::{ByteStore, GrowFault};
-use std::alloc::{AllocError, Global};
-use std::test::Fail;
 
 // What is seen of a slice of a page: its last byte before and after a write, its size, and what a second slice is answered beside it.
 fn see_a_page<S: ByteStore>(
@@ -23,69 +19,73 @@ fn see_a_page<S: ByteStore>(
     Ok((before, after, size, second.err()))
 }
 
-#[test]
-fn gives_slices_back_whole(rt: HostRuntime) -> Result<(), Fail> {
-    let mut store = ListStore::new(rt.alloc(), 1, Some(1))?;
+// The same, and then what slices of 4065 bytes and of one byte are answered.
+fn see_pages<S: ByteStore>(
+    store: &mut S,
+) -> (
+    Result<(u8, u8, u32, Option<GrowFault>), GrowFault>,
+    [Option<GrowFault>; 2],
+) {
     let sliced = Sliced::new();
-    let seen = see_a_page(&sliced, &mut store);
-    let made = [
-        sliced.alloc(&mut store, 4065).err(),
-        sliced.alloc(&mut store, 1).err(),
-    ];
+    let seen = see_a_page(&sliced, store);
+    (
+        seen,
+        [
+            sliced.alloc(store, 4065).err(),
+            sliced.alloc(store, 1).err(),
+        ],
+    )
+}
+
+#[test]
+fn gives_slices_back_whole(rt: HostRuntime) {
     assert_eq!(rt;
-        (seen, made),
-        (
+        used(ListStore::new(rt.alloc(), 1, Some(1)), see_pages),
+        Ok((
             Ok((0, 7, 4064, Some(GrowFault::Exceeded))),
             [Some(GrowFault::Exceeded), None]
-        )
+        ))
     );
-    Ok(())
 }
 
-// What slices of so many bytes are answered in turn, in a store of two pages.
-fn answers(
-    alloc: Global,
-    caps: Option<u32>,
-    sizes: [u16; 3],
-) -> Result<[Option<GrowFault>; 3], AllocError>
-    requires { caps_or_none caps ≤ 65536 }
-{
-    let mut store = ListStore::new(alloc, 2, caps)?;
+// What slices of so many bytes are answered in turn.
+fn answers<S: ByteStore>(store: &mut S, sizes: [u16; 3]) -> [Option<GrowFault>; 3] {
     let sliced = Sliced::new();
     let [first, second, third] = sizes;
-    Ok([
-        sliced.alloc(&mut store, u32::from(first)).err(),
-        sliced.alloc(&mut store, u32::from(second)).err(),
-        sliced.alloc(&mut store, u32::from(third)).err(),
-    ])
+    [
+        sliced.alloc(store, u32::from(first)).err(),
+        sliced.alloc(store, u32::from(second)).err(),
+        sliced.alloc(store, u32::from(third)).err(),
+    ]
 }
 
-// Of 8192 bytes a slice of 4064 leaves 4096, and one of 4065 leaves none.
+// Of 8192 bytes a slice of 4064 leaves 4096, and one of 4065 leaves none. Each slice wants a capability; bytes are refused before it.
 #[test]
-fn takes_whole_pages(rt: HostRuntime) -> Result<(), Fail> {
-    let small = answers(rt.alloc(), None, [4064, 4065, 4064])?;
-    let large = answers(rt.alloc(), None, [4065, 0, 0])?;
+fn takes_whole_pages(rt: HostRuntime) {
+    let alloc = rt.alloc();
+    let exceeded = Some(GrowFault::Exceeded);
+    let lacks_caps = Some(GrowFault::CapsExceeded);
     assert_eq!(rt;
-        (small, large),
-        (
-            [None, Some(GrowFault::Exceeded), None],
-            [None, Some(GrowFault::Exceeded), Some(GrowFault::Exceeded)]
-        )
-    );
-    Ok(())
-}
-
-#[test]
-fn wants_a_capability(rt: HostRuntime) -> Result<(), Fail> {
-    assert_eq!(rt;
-        answers(rt.alloc(), Some(1), [0, 0, 4065])?,
         [
-            None,
-            Some(GrowFault::CapsExceeded),
-            Some(GrowFault::Exceeded)
+            used(
+                ListStore::new(alloc, 2, None),
+                |store| answers(store, [4064, 4065, 4064])
+            ),
+            used(
+                ListStore::new(alloc, 2, None),
+                |store| answers(store, [4065, 0, 0])
+            ),
+            used(
+                ListStore::new(alloc, 2, Some(1)),
+                |store| answers(store, [0, 0, 4065])
+            )
+        ],
+        [
+            Ok([None, exceeded, None]),
+            Ok([None, exceeded, exceeded]),
+            Ok([None, lacks_caps, exceeded])
         ]
     );
-    Ok(())
 }
 
 #[test]

@@ -5,24 +5,19 @@ ghost use Rattle.gq_trade.specs.Trades.{IsLive};
 ghost use Rattle.gq_slots.specs.Slots.{IsPaidBy, IsSlot, IsSpot, holder};
 ghost use Rattle.gq_memory_rows.specs.Stays.{Stays};
 
-use crate::trade_rows::live;
+use crate::trade_rows::{live, plan};
+use crate::used::used;
 use gq_sessions::Spot;
 use gq_slots::Slots;
-use gq_trade::Plan;
 use std::alloc::{AllocError, Global};
-use std::test::Fail;
 
 // Two leaves with four pages each.
 fn two_leaves(alloc: Global) -> Result<Slots, AllocError>
     ensures leaves { IfOk result (λ s. length s.own ≡ 2) }
     ensures live { IfOk result (λ s. IsLive s.trades 0) }
 {
-    let plan = Plan {
-        parents: vec![in alloc; 0, 0, 0]?,
-        nodes: vec![in alloc; live(65536, 0), live(16384, 0), live(16384, 0)]?,
-        leaves: vec![in alloc; 1, 2]?,
-        objects: vec![in alloc; 100]?,
-    };
+    let nodes = [live(65536, 0), live(16384, 0), live(16384, 0)];
+    let plan = plan(alloc, &[0, 0, 0], &nodes, &[1, 2], 100)?;
     Slots::new(alloc, 65536, None, plan, 24)
 }
 
@@ -74,21 +69,19 @@ fn use_leaf(slots: &mut Slots) -> ([bool; 4], Option<u8>)
     ([five, three, two_more, two], read)
 }
 
-fn use_first_leaf(alloc: Global) -> Result<([bool; 4], Option<u8>), AllocError> {
-    match two_leaves(alloc) {
-        Ok(mut slots) => {
-            slots.pay_by(0);
-            Ok(use_leaf(&mut slots))
-        }
-        Err(refused) => Err(refused),
-    }
+// The same, where the leaf does not pay yet.
+fn use_first_leaf(slots: &mut Slots) -> ([bool; 4], Option<u8>)
+    requires leaves { length slots.old.own ≡ 2 }
+    requires live { IsLive slots.old.trades 0 }
+{
+    slots.pay_by(0);
+    use_leaf(slots)
 }
 
 #[test]
-fn pays_for_slots_by_pages(rt: HostRuntime) -> Result<(), Fail> {
+fn pays_for_slots_by_pages(rt: HostRuntime) {
     assert_eq!(rt;
-        use_first_leaf(rt.alloc())?,
-        ([false, true, false, true], Some(42))
+        used(two_leaves(rt.alloc()), use_first_leaf),
+        Ok(([false, true, false, true], Some(42)))
     );
-    Ok(())
 }

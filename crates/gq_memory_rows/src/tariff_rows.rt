@@ -12,8 +12,8 @@ fn has_the_class_of_each_size(rt: HostRuntime) {
 }
 
 #[test]
-fn prices_bytes(rt: HostRuntime) {
-    let prices = [
+fn prices_bytes_and_capabilities(rt: HostRuntime) {
+    let bytes = [
         price_slice(4064),
         price_slice(4065),
         price_block(2048),
@@ -21,12 +21,7 @@ fn prices_bytes(rt: HostRuntime) {
         price_pool_table(1024),
         price_class(Class::Bytes16, 1024),
     ];
-    assert_eq!(rt; prices, [4096, 8192, 0, 4096, 4096, 16384]);
-}
-
-#[test]
-fn prices_capabilities(rt: HostRuntime) {
-    let prices = [
+    let caps = [
         price_caps(Held::Space(8192)),
         price_caps(Held::Slice(100)),
         price_caps(Held::Block(2048)),
@@ -34,7 +29,10 @@ fn prices_capabilities(rt: HostRuntime) {
         price_caps(Held::Pool(1024)),
         price_caps(Held::Places(Class::Bytes16, 1024)),
     ];
-    assert_eq!(rt; prices, [1, 1, 0, 1, 1, 4]);
+    assert_eq!(rt;
+        (bytes, caps),
+        ([4096, 8192, 0, 4096, 4096, 16384], [1, 1, 0, 1, 1, 4])
+    );
 }
 
 #[test]
@@ -46,6 +44,10 @@ fn reads_quantities(rt: HostRuntime) {
         read_quantity(b"8k"),
         read_quantity(b"K"),
         read_quantity(b"2000G"),
+        // of any length: zeros and a nine, many nines, and many nines and a bad byte
+        read_quantity(b"0000000000000000000000000000000000000000000000000000000000000009M"),
+        read_quantity(b"99999999999999999999999999999999999999999999999999"),
+        read_quantity(b"99999999999999999999999999999999999999999999999999x"),
     ];
     assert_eq!(rt;
         quantities,
@@ -55,22 +57,7 @@ fn reads_quantities(rt: HostRuntime) {
             Err(QuantityFault::Empty),
             Err(QuantityFault::BadCharacter),
             Err(QuantityFault::BadCharacter),
-            Err(QuantityFault::TooLarge)
-        ]
-    );
-}
-
-// Zeros and a nine, many nines, and many nines and a bad byte.
-#[test]
-fn reads_numbers_of_any_length(rt: HostRuntime) {
-    let quantities = [
-        read_quantity(b"0000000000000000000000000000000000000000000000000000000000000009M"),
-        read_quantity(b"99999999999999999999999999999999999999999999999999"),
-        read_quantity(b"99999999999999999999999999999999999999999999999999x"),
-    ];
-    assert_eq!(rt;
-        quantities,
-        [
+            Err(QuantityFault::TooLarge),
             Ok(9 << 20),
             Err(QuantityFault::TooLarge),
             Err(QuantityFault::BadCharacter)

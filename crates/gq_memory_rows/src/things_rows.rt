@@ -3,11 +3,11 @@ ghost use Rattle.std.specs.Prelude.{[], ◌∷◌};
 ghost use Rattle.gq_things.specs.declared.thing.Thing.TheVariants as thing;
 ghost use Rattle.gq_things.specs.Kept.{Keeps};
 
+use crate::used::used;
 use gq_heap::Heap;
 use gq_list_store::ListStore;
 use gq_store::{ByteStore, GrowFault};
 use gq_things::Thing;
-use std::test::Fail;
 
 // What a slice and an entry of a pool read, each after a byte of it was written. Then both are freed.
 fn use_slice_and_pool<S: ByteStore>(
@@ -47,36 +47,46 @@ fn use_block_and_space<S: ByteStore>(
     Ok((of_block, of_space))
 }
 
-#[test]
-fn keeps_a_slice_beside_a_pool(rt: HostRuntime) -> Result<(), Fail> {
-    let mut store = ListStore::new(rt.alloc(), 4, Some(4))?;
+// Both in heaps of their own.
+fn keep_slice_and_pool<S: ByteStore>(store: &mut S) -> Result<(u8, bool, u8), GrowFault> {
     let mut heap = Heap::new();
-    assert_eq!(rt; use_slice_and_pool(&mut store, &mut heap), Ok((7, true, 9)));
-    Ok(())
+    let read = use_slice_and_pool(store, &mut heap);
+    drop(heap);
+    read
 }
 
-#[test]
-fn keeps_a_block_beside_a_space(rt: HostRuntime) -> Result<(), Fail> {
-    let mut store = ListStore::new(rt.alloc(), 4, Some(4))?;
+fn keep_block_and_space<S: ByteStore>(store: &mut S) -> Result<(u32, u32), GrowFault> {
     let mut heap = Heap::new();
-    assert_eq!(rt;
-        use_block_and_space(&mut store, &mut heap),
-        Ok((67305985, 134678021))
-    );
-    Ok(())
+    let read = use_block_and_space(store, &mut heap);
+    drop(heap);
+    read
 }
 
-// A block of a page is a large one; a slice of a page takes two.
+// What a slice of a page, a space of two, a space of one and then a pool are answered.
+fn refuse<S: ByteStore>(store: &mut S) -> [Option<GrowFault>; 4] {
+    [
+        Thing::make_slice(store, 4096).err(),
+        Thing::make_space(store, 4097).err(),
+        Thing::make_space(store, 4096).err(),
+        Thing::make_pool(store, 16, 1).err(),
+    ]
+}
+
+// A slice is kept beside a pool, and a block beside a space. What is not paid is refused: a block of a page is a large one; a slice of a page takes two.
 #[test]
-fn refuses_what_is_not_paid(rt: HostRuntime) -> Result<(), Fail> {
-    let mut store = ListStore::new(rt.alloc(), 1, Some(1))?;
-    let answers = [
-        Thing::make_slice(&mut store, 4096).err(),
-        Thing::make_space(&mut store, 4097).err(),
-        Thing::make_space(&mut store, 4096).err(),
-        Thing::make_pool(&mut store, 16, 1).err(),
-    ];
+fn keeps_what_is_paid(rt: HostRuntime) {
+    let alloc = rt.alloc();
     let exceeded = Some(GrowFault::Exceeded);
-    assert_eq!(rt; answers, [exceeded, exceeded, None, exceeded]);
-    Ok(())
+    assert_eq!(rt;
+        (
+            used(ListStore::new(alloc, 4, Some(4)), keep_slice_and_pool),
+            used(ListStore::new(alloc, 4, Some(4)), keep_block_and_space),
+            used(ListStore::new(alloc, 1, Some(1)), refuse)
+        ),
+        (
+            Ok(Ok((7, true, 9))),
+            Ok(Ok((67305985, 134678021))),
+            Ok([exceeded, exceeded, None, exceeded])
+        )
+    );
 }

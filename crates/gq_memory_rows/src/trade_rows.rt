@@ -4,6 +4,7 @@ ghost use Rattle.gq_ram.specs.Entries.{IsOpen};
 ghost use Rattle.gq_memory_rows.specs.Markets.{AreParties, AreReady, HasAsked, HasOne, IsLine, IsQuiet, IsTrio, live_node, pending_node, request_of};
 ghost use Rattle.gq_trade.specs.Trades.{IsLive};
 
+use crate::used::used;
 use gq_heap::Heap;
 use gq_ram::{AccountFault, AccountNo};
 use gq_sessions::Spot;
@@ -11,7 +12,6 @@ use gq_store::GrowFault;
 use gq_tariff::Amount;
 use gq_trade::{Node, Plan, Stage, Trades};
 use std::alloc::{AllocError, Global};
-use std::test::Fail;
 
 // The leaves of a market.
 const SERVER: usize = 0;
@@ -169,17 +169,34 @@ fn pending(ram: u64, after: usize) -> Node
     }
 }
 
+// The nodes below these parents, which are leaves of them, and one service, whose object has so many bytes.
+pub(crate) fn plan(
+    alloc: Global,
+    parents: &[usize],
+    nodes: &[Node],
+    leaves: &[usize],
+    object: u32,
+) -> Result<Plan, AllocError>
+    ensures parents { IfOk result (λ p. p.parents.items ≡ parents.now) }
+    ensures nodes { IfOk result (λ p. p.nodes.items ≡ nodes.now) }
+    ensures leaves { IfOk result (λ p. p.leaves.items ≡ leaves.now) }
+    ensures objects { IfOk result (λ p. p.objects.items ≡ object ∷ []) }
+{
+    Ok(Plan {
+        parents: parents.to_vec(alloc)?,
+        nodes: nodes.to_vec(alloc)?,
+        leaves: leaves.to_vec(alloc)?,
+        objects: vec![in alloc; object]?,
+    })
+}
+
 // A server and a client below the root, without capabilities.
 fn pair(alloc: Global) -> Result<Market, AllocError>
     ensures parties { IfOk result (λ m. AreParties m.trades m.server m.client) }
     ensures quiet { IfOk result (λ m. IsQuiet m.trades) }
 {
-    let plan = Plan {
-        parents: vec![in alloc; 0, 0, 0]?,
-        nodes: vec![in alloc; live(65536, 0), live(4096, 0), live(16384, 0)]?,
-        leaves: vec![in alloc; 1, 2]?,
-        objects: vec![in alloc; 100]?,
-    };
+    let nodes = [live(65536, 0), live(4096, 0), live(16384, 0)];
+    let plan = plan(alloc, &[0, 0, 0], &nodes, &[1, 2], 100)?;
     Ok(Market::new(Trades::new(alloc, 65536, None, plan, 24)?))
 }
 
@@ -189,12 +206,8 @@ fn pair_with_caps(alloc: Global) -> Result<Market, AllocError>
     ensures quiet { IfOk result (λ m. IsQuiet m.trades) }
     ensures counted { IfOk result (λ m. m.trades.trading.memory.ledger.price ≡ 1) }
 {
-    let plan = Plan {
-        parents: vec![in alloc; 0, 0, 0]?,
-        nodes: vec![in alloc; live(65536, 10), live(4096, 0), live(16384, 1)]?,
-        leaves: vec![in alloc; 1, 2]?,
-        objects: vec![in alloc; 100]?,
-    };
+    let nodes = [live(65536, 10), live(4096, 0), live(16384, 1)];
+    let plan = plan(alloc, &[0, 0, 0], &nodes, &[1, 2], 100)?;
     Ok(Market::new(Trades::new(alloc, 65536, Some(10), plan, 24)?))
 }
 
@@ -203,18 +216,14 @@ fn deep_pair(alloc: Global) -> Result<Market, AllocError>
     ensures parties { IfOk result (λ m. AreParties m.trades m.server m.client) }
     ensures quiet { IfOk result (λ m. IsQuiet m.trades) }
 {
-    let plan = Plan {
-        parents: vec![in alloc; 0, 0, 0, 2, 3]?,
-        nodes: vec![in alloc;
-            live(65536, 0),
-            live(4096, 0),
-            live(40960, 0),
-            live(24576, 0),
-            live(16384, 0),
-        ]?,
-        leaves: vec![in alloc; 1, 4]?,
-        objects: vec![in alloc; 100]?,
-    };
+    let nodes = [
+        live(65536, 0),
+        live(4096, 0),
+        live(40960, 0),
+        live(24576, 0),
+        live(16384, 0),
+    ];
+    let plan = plan(alloc, &[0, 0, 0, 2, 3], &nodes, &[1, 4], 100)?;
     Ok(Market::new(Trades::new(alloc, 65536, None, plan, 24)?))
 }
 
@@ -222,17 +231,13 @@ fn deep_pair(alloc: Global) -> Result<Market, AllocError>
 fn trio(alloc: Global) -> Result<Trades, AllocError>
     ensures { IfOk result (λ w. IsTrio w) }
 {
-    let plan = Plan {
-        parents: vec![in alloc; 0, 0, 0, 0]?,
-        nodes: vec![in alloc;
-            live(65536, 0),
-            live(4096, 0),
-            live(16384, 0),
-            live(16384, 0),
-        ]?,
-        leaves: vec![in alloc; 1, 2, 3]?,
-        objects: vec![in alloc; 100]?,
-    };
+    let nodes = [
+        live(65536, 0),
+        live(4096, 0),
+        live(16384, 0),
+        live(16384, 0),
+    ];
+    let plan = plan(alloc, &[0, 0, 0, 0], &nodes, &[1, 2, 3], 100)?;
     Trades::new(alloc, 65536, None, plan, 24)
 }
 
@@ -253,17 +258,13 @@ fn line(alloc: Global) -> Result<Trades, AllocError>
     ensures { IfOk result (λ w. IsLine w
         (live_node 8192 0 ∷ live_node 8192 0 ∷ pending_node 8192 1 ∷ pending_node 4096 2 ∷ [])) }
 {
-    let plan = Plan {
-        parents: vec![in alloc; 0, 0, 0, 0]?,
-        nodes: vec![in alloc;
-            live(8192, 0),
-            live(8192, 0),
-            pending(8192, 1),
-            pending(4096, 2),
-        ]?,
-        leaves: vec![in alloc; 1, 2, 3]?,
-        objects: vec![in alloc; 100]?,
-    };
+    let nodes = [
+        live(8192, 0),
+        live(8192, 0),
+        pending(8192, 1),
+        pending(4096, 2),
+    ];
+    let plan = plan(alloc, &[0, 0, 0, 0], &nodes, &[1, 2, 3], 100)?;
     Trades::new(alloc, 8192, None, plan, 24)
 }
 
@@ -296,59 +297,34 @@ fn run_line(trades: &mut Trades) -> [(u64, u64); 3]
 }
 
 // What a market has before a session is asked for, once it is, once it is accepted, and once it is closed.
-fn trade(market: &mut Market, ram: u64) -> Result<[Bytes; 4], Fail>
+fn trade(market: &mut Market, ram: u64) -> Option<[Bytes; 4]>
     requires parties { AreParties market.old.trades market.old.server market.old.client }
     requires quiet { IsQuiet market.old.trades }
 {
     let before = market.bytes();
-    market.ask(Amount { ram, caps: 0 })?;
+    market.ask(Amount { ram, caps: 0 }).ok()?;
     let asked = market.bytes();
-    market.accept()?;
+    market.accept().ok()?;
     let accepted = market.bytes();
-    market.close()?;
-    Ok([before, asked, accepted, market.bytes()])
-}
-
-fn trade_of_pair(alloc: Global, ram: u64) -> Result<[Bytes; 4], Fail> {
-    let mut market = pair(alloc)?;
-    trade(&mut market, ram)
-}
-
-fn trade_of_deep_pair(alloc: Global, ram: u64) -> Result<[Bytes; 4], Fail> {
-    let mut market = deep_pair(alloc)?;
-    trade(&mut market, ram)
-}
-
-fn turns_of_line(alloc: Global) -> Result<[(u64, u64); 3], Fail> {
-    let mut trades = line(alloc)?;
-    Ok(run_line(&mut trades))
+    market.close().ok()?;
+    Some([before, asked, accepted, market.bytes()])
 }
 
 // The capabilities before a session with one is asked for, once it is accepted, and once it is closed.
-fn trade_with_caps(alloc: Global) -> Result<[Caps; 3], Fail> {
-    let mut market = pair_with_caps(alloc)?;
-    trade_caps(&mut market)
-}
-
-fn trade_caps(market: &mut Market) -> Result<[Caps; 3], Fail>
+fn trade_caps(market: &mut Market) -> Option<[Caps; 3]>
     requires parties { AreParties market.old.trades market.old.server market.old.client }
     requires quiet { IsQuiet market.old.trades }
     requires counted { market.old.trades.trading.memory.ledger.price ≡ 1 }
 {
     let before = market.caps();
-    market.ask(Amount { ram: 8192, caps: 1 })?;
-    market.accept()?;
+    market.ask(Amount { ram: 8192, caps: 1 }).ok()?;
+    market.accept().ok()?;
     let accepted = market.caps();
-    market.close()?;
-    Ok([before, accepted, market.caps()])
+    market.close().ok()?;
+    Some([before, accepted, market.caps()])
 }
 
 // Why a session is refused with a capability too many, and with a byte too many beside that; and what there is then.
-fn refusals(alloc: Global) -> Result<Option<(AccountFault, AccountFault, Bytes, Caps)>, Fail> {
-    let mut market = pair_with_caps(alloc)?;
-    Ok(refused_asks(&mut market))
-}
-
 fn refused_asks(market: &mut Market) -> Option<(AccountFault, AccountFault, Bytes, Caps)>
     requires parties { AreParties market.old.trades market.old.server market.old.client }
     requires quiet { IsQuiet market.old.trades }
@@ -367,23 +343,18 @@ fn refused_asks(market: &mut Market) -> Option<(AccountFault, AccountFault, Byte
 }
 
 // The second client asks, then the first. The session of the request that the server accepts, and that of the one which waits then.
-fn serve_first(alloc: Global) -> Result<(Option<usize>, Option<usize>), Fail> {
-    let mut trades = trio(alloc)?;
-    serve_one(&mut trades)
-}
-
-fn serve_one(trades: &mut Trades) -> Result<(Option<usize>, Option<usize>), Fail>
+fn serve_one(trades: &mut Trades) -> Option<(Option<usize>, Option<usize>)>
     requires { IsTrio trades.old }
 {
-    both_ask(trades)?;
-    let accepted = trades.accept(SERVER)?;
+    both_ask(trades).ok()?;
+    let accepted = trades.accept(SERVER).ok()?;
     let waits = trades.waiting(SERVER);
-    Ok((accepted.map(|r| r.session), waits.map(|r| r.session)))
+    Some((accepted.map(|r| r.session), waits.map(|r| r.session)))
 }
 
 #[test]
-fn gives_the_whole_donation_back(rt: HostRuntime) -> Result<(), Fail> {
-    let seen = trade_of_pair(rt.alloc(), 8192)?;
+fn gives_the_whole_donation_back(rt: HostRuntime) {
+    let alloc = rt.alloc();
     let before = Bytes {
         server: 4096,
         used: 0,
@@ -400,68 +371,48 @@ fn gives_the_whole_donation_back(rt: HostRuntime) -> Result<(), Fail> {
         used: 4096,
         ..asked
     };
-    assert_eq!(rt; seen, [before, asked, accepted, before]);
-    Ok(())
-}
-
-// Not even what is more than whole pages is kept.
-#[test]
-fn gives_a_surplus_back(rt: HostRuntime) -> Result<(), Fail> {
-    let seen = trade_of_pair(rt.alloc(), 8193)?;
-    let before = Bytes {
-        server: 4096,
-        used: 0,
-        client: 16384,
-        inits: [45056, 0, 0],
-    };
-    let asked = Bytes {
+    // not even what is more than whole pages is kept
+    let asked_for_more = Bytes {
         server: 12289,
         used: 0,
         client: 8191,
         inits: [45056, 0, 0],
     };
-    let accepted = Bytes {
+    let accepted_for_more = Bytes {
         used: 4096,
-        ..asked
+        ..asked_for_more
     };
-    assert_eq!(rt; seen, [before, asked, accepted, before]);
-    Ok(())
-}
-
-#[test]
-fn leaves_the_inits_on_the_way_theirs(rt: HostRuntime) -> Result<(), Fail> {
-    let seen = trade_of_deep_pair(rt.alloc(), 8192)?;
-    let before = Bytes {
-        server: 4096,
-        used: 0,
-        client: 16384,
-        inits: [8192, 16384, 20480],
-    };
-    let asked = Bytes {
-        server: 12288,
-        used: 0,
-        client: 8192,
-        inits: [8192, 16384, 20480],
-    };
-    let accepted = Bytes {
-        used: 4096,
-        ..asked
-    };
-    assert_eq!(rt; seen, [before, asked, accepted, before]);
-    Ok(())
-}
-
-#[test]
-fn starts_leaves_one_after_the_other(rt: HostRuntime) -> Result<(), Fail> {
+    // the inits on the way keep theirs
+    let inits = [8192, 16384, 20480];
+    let deep_before = Bytes { inits, ..before };
+    let deep_asked = Bytes { inits, ..asked };
+    let deep_accepted = Bytes { inits, ..accepted };
     assert_eq!(rt;
-        turns_of_line(rt.alloc())?,
-        [(8192, 0), (8192, 0), (4096, 4096)]
+        [
+            used(pair(alloc), |market| trade(market, 8192)),
+            used(pair(alloc), |market| trade(market, 8193)),
+            used(deep_pair(alloc), |market| trade(market, 8192))
+        ],
+        [
+            Ok(Some([before, asked, accepted, before])),
+            Ok(Some([before, asked_for_more, accepted_for_more, before])),
+            Ok(Some([deep_before, deep_asked, deep_accepted, deep_before]))
+        ]
     );
-    Ok(())
 }
 
 #[test]
-fn gives_capabilities_back(rt: HostRuntime) -> Result<(), Fail> {
+fn starts_leaves_one_after_the_other(rt: HostRuntime) {
+    assert_eq!(rt;
+        used(line(rt.alloc()), run_line),
+        Ok([(8192, 0), (8192, 0), (4096, 4096)])
+    );
+}
+
+// Capabilities come back, and a refusal changes nothing.
+#[test]
+fn gives_capabilities_back(rt: HostRuntime) {
+    let alloc = rt.alloc();
     let before = Caps {
         server: 0,
         used: 0,
@@ -472,37 +423,33 @@ fn gives_capabilities_back(rt: HostRuntime) -> Result<(), Fail> {
         used: 1,
         client: 0,
     };
-    assert_eq!(rt; trade_with_caps(rt.alloc())?, [before, accepted, before]);
-    Ok(())
-}
-
-#[test]
-fn changes_nothing_where_it_refuses(rt: HostRuntime) -> Result<(), Fail> {
     let bytes = Bytes {
         server: 4096,
         used: 0,
         client: 16384,
         inits: [45056, 0, 0],
     };
-    let caps = Caps {
-        server: 0,
-        used: 0,
-        client: 1,
-    };
     assert_eq!(rt;
-        refusals(rt.alloc())?,
-        Some((
-            AccountFault::CapsExceeded,
-            AccountFault::Exceeded,
-            bytes,
-            caps
-        ))
+        (
+            used(pair_with_caps(alloc), trade_caps),
+            used(pair_with_caps(alloc), refused_asks)
+        ),
+        (
+            Ok(Some([before, accepted, before])),
+            Ok(Some((
+                AccountFault::CapsExceeded,
+                AccountFault::Exceeded,
+                bytes,
+                before
+            )))
+        )
     );
-    Ok(())
 }
 
 #[test]
-fn accepts_the_oldest_request_first(rt: HostRuntime) -> Result<(), Fail> {
-    assert_eq!(rt; serve_first(rt.alloc())?, (Some(0), Some(1)));
-    Ok(())
+fn accepts_the_oldest_request_first(rt: HostRuntime) {
+    assert_eq!(rt;
+        used(trio(rt.alloc()), serve_one),
+        Ok(Some((Some(0), Some(1))))
+    );
 }

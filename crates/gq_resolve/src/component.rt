@@ -94,6 +94,45 @@ fn onto<'a>(
     Ok(levels)
 }
 
+// The label and the levels of a child of this name, with these routes.
+fn placed<'a>(
+    alloc: Global,
+    label: &[u8],
+    name: &Name,
+    level: Level<'a>,
+    above: &[Level<'a>],
+) -> Result<(Vec<u8>, Vec<Level<'a>>), AllocError>
+    ensures label { IfOk result (λ p. p.0.items ≡ below label.now name.now) }
+    ensures levels { IfOk result (λ p. p.1.items ≡ level.entry ∷ above.now) }
+{
+    let levels = onto(alloc, level, above)?;
+    match below(alloc, label, name) {
+        Ok(label) => Ok((label, levels)),
+        Err(refused) => Err(refused),
+    }
+}
+
+// Puts a leaf at the end.
+fn push_leaf<'a>(
+    alloc: Global,
+    components: &mut Vec<Component<'a>>,
+    label: &[u8],
+    level: Level<'a>,
+    above: &[Level<'a>],
+    leaf: &'a Leaf,
+) -> Result<(), AllocError>
+    ensures { OnOk result (components.new.items ≡ components.old.items
+        ++ record { label = below label.now leaf.now.name; node = leaf.now; levels = level.entry ∷ above.now } ∷ []) }
+{
+    let (label, levels) = placed(alloc, label, leaf.name(), level, above)?;
+    components.push(Component {
+        label,
+        leaf,
+        levels,
+    })?;
+    Ok(())
+}
+
 // Puts the leaves of these children of an init at the end, in preorder.
 fn push_components<'a>(
     alloc: Global,
@@ -109,19 +148,12 @@ fn push_components<'a>(
     for node in siblings.nodes() {
         match node {
             Node::Leaf(leaf) => {
-                let routes = first_there(leaf.routes(), default_routes);
-                let label = below(alloc, label, leaf.name())?;
-                let levels = onto(alloc, Level::new(routes, siblings), above)?;
-                components.push(Component {
-                    label,
-                    leaf,
-                    levels,
-                })?;
+                let level = Level::new(first_there(leaf.routes(), default_routes), siblings);
+                push_leaf(alloc, components, label, level, above, leaf)?;
             }
             Node::Init(init, children) => {
-                let routes = first_there(init.routes(), default_routes);
-                let label = below(alloc, label, init.name())?;
-                let levels = onto(alloc, Level::new(routes, siblings), above)?;
+                let level = Level::new(first_there(init.routes(), default_routes), siblings);
+                let (label, levels) = placed(alloc, label, init.name(), level, above)?;
                 let defaults = init.default_routes();
                 push_components(
                     alloc,

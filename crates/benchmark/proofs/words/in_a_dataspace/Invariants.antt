@@ -2,11 +2,5 @@ use Rattle.std.proofs.Common.{◌≡◌, length}
 use Rattle.gq_dataspace.specs.Dataspaces.{content_of}
 use Rattle.benchmark.proofs.words.in_a_dataspace.Given as goal
 
-abbrev pub invariant-loop-round : goal.invariant-loop-round
-invariant-loop-round l = length (content_of l.accounts.spaces.spaces l.ds.0) ≡ 1048576
-
-abbrev pub invariant-loop-2 : goal.invariant-loop-2
-invariant-loop-2 l = length (content_of l.accounts.spaces.spaces l.ds.0) ≡ 1048576
-
-abbrev pub invariant-loop-4 : goal.invariant-loop-4
-invariant-loop-4 l = length (content_of l.accounts.spaces.spaces l.ds.0) ≡ 1048576
+abbrev pub invariant-loop : goal.invariant-loop
+invariant-loop l = length (content_of l.accounts.spaces.spaces l.ds.0) ≡ 1048576

@@ -12,9 +12,9 @@ use Rattle.gq_memory_rows.proofs.slots_rows.two_leaves.Goals as goal
 
 pub new-requires-clause-plan : goal.new-requires-clause-plan
 new-requires-clause-plan c =
-    plan_of 65536 None c.in_ok-vec.ensures.items
-    (c.in_ok-vec-2.ensures.items ∙ (λ k. c.live.ensures k ∷ c.live-2.ensures k ∷ c.live-3.ensures k ∷ []))
-    c.in_ok-vec-3.ensures.items c.in_ok-vec-4.ensures.items
+    plan_of 65536 None c.in_ok-plan.ensures.parents
+    (c.in_ok-plan.ensures.nodes ∙ (λ k. c.live.ensures k ∷ c.live-2.ensures k ∷ c.live-3.ensures k ∷ []))
+    c.in_ok-plan.ensures.leaves c.in_ok-plan.ensures.objects
     (refl, refl, refl, refl, refl, refl, refl, refl, refl, refl, refl, refl, refl, refl, refl, refl)
 
 own_two : (xs : List ℕ) (s : Slots) → xs ≡ 1 ∷ 2 ∷ [] → s.own ≡ replicate (length xs) (replicate 64 Empty) → length s.own ≡ 2
@@ -30,10 +30,10 @@ live_first s a b c d first =
     record { there = r.server.leaf; live = r.server.live }
 
 pub returns-clause-leaves : goal.returns-clause-leaves
-returns-clause-leaves c = if_ok c.new.result (λ s own. own_two c.in_ok-vec-3.field-0.items s c.in_ok-vec-3.ensures.items own) c.new.ensures.own
+returns-clause-leaves c = if_ok c.new.result (λ s own. own_two c.in_ok-plan.plan.leaves.items s c.in_ok-plan.ensures.leaves own) c.new.ensures.own
 
 pub returns-clause-live : goal.returns-clause-live
 returns-clause-live c =
-    if_ok c.new.result (λ s first. live_first s c.in_ok-vec.ensures.items
-    (c.in_ok-vec-2.ensures.items ∙ (λ k. c.live.ensures k ∷ c.live-2.ensures k ∷ c.live-3.ensures k ∷ []))
-    c.in_ok-vec-3.ensures.items c.in_ok-vec-4.ensures.items first) c.new.ensures.trades
+    if_ok c.new.result (λ s first. live_first s c.in_ok-plan.ensures.parents
+    (c.in_ok-plan.ensures.nodes ∙ (λ k. c.live.ensures k ∷ c.live-2.ensures k ∷ c.live-3.ensures k ∷ []))
+    c.in_ok-plan.ensures.leaves c.in_ok-plan.ensures.objects first) c.new.ensures.trades

@@ -5,14 +5,14 @@ use Rattle.gq_memory_rows.proofs.trade_rows.line.Goals as goal
 
 pub new-requires-clause-plan : goal.new-requires-clause-plan
 new-requires-clause-plan c =
-    plan_of 8192 None c.in_ok-vec.ensures.items
-    (c.in_ok-vec-2.ensures.items ∙ (λ k. c.live.ensures k ∷ c.live-2.ensures k ∷ c.pending.ensures k ∷ c.pending-2.ensures k ∷ []))
-    c.in_ok-vec-3.ensures.items c.in_ok-vec-4.ensures.items
+    plan_of 8192 None c.in_ok-plan.ensures.parents
+    (c.in_ok-plan.ensures.nodes ∙ (λ k. c.live.ensures k ∷ c.live-2.ensures k ∷ c.pending.ensures k ∷ c.pending-2.ensures k ∷ []))
+    c.in_ok-plan.ensures.leaves c.in_ok-plan.ensures.objects
     (refl, refl, refl, refl, refl, refl, refl, refl, refl, refl, refl, refl, refl, refl, refl, refl)
 
 pub returns : goal.returns
 returns c =
     if_ok c.new.result
     (line_first 8192 None 24
-    (c.in_ok-vec-2.ensures.items ∙ (λ k. c.live.ensures k ∷ c.live-2.ensures k ∷ c.pending.ensures k ∷ c.pending-2.ensures k ∷ []))
-    c.in_ok-vec-3.ensures.items) c.new.ensures
+    (c.in_ok-plan.ensures.nodes ∙ (λ k. c.live.ensures k ∷ c.live-2.ensures k ∷ c.pending.ensures k ∷ c.pending-2.ensures k ∷ []))
+    c.in_ok-plan.ensures.leaves) c.new.ensures

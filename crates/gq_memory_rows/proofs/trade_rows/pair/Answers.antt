@@ -4,14 +4,14 @@ use Rattle.gq_memory_rows.proofs.trade_rows.pair.Goals as goal
 
 pub new-requires-clause-plan : goal.new-requires-clause-plan
 new-requires-clause-plan c =
-    plan_of 65536 None c.in_ok-vec.ensures.items
-    (c.in_ok-vec-2.ensures.items ∙ (λ k. c.live.ensures k ∷ c.live-2.ensures k ∷ c.live-3.ensures k ∷ []))
-    c.in_ok-vec-3.ensures.items c.in_ok-vec-4.ensures.items
+    plan_of 65536 None c.in_ok-plan.ensures.parents
+    (c.in_ok-plan.ensures.nodes ∙ (λ k. c.live.ensures k ∷ c.live-2.ensures k ∷ c.live-3.ensures k ∷ []))
+    c.in_ok-plan.ensures.leaves c.in_ok-plan.ensures.objects
     (refl, refl, refl, refl, refl, refl, refl, refl, refl, refl, refl, refl, refl, refl, refl, refl)
 
 pub new-requires-2-clause-ready : goal.new-requires-2-clause-ready
 new-requires-2-clause-ready c =
-    ready_of 65536 None c.in_ok-new.field-0 24 0 c.in_ok-vec.ensures.items
-    (c.in_ok-vec-2.ensures.items ∙ (λ k. c.live.ensures k ∷ c.live-2.ensures k ∷ c.live-3.ensures k ∷ []))
-    c.in_ok-vec-3.ensures.items c.in_ok-vec-4.ensures.items c.in_ok-new.ensures
+    ready_of 65536 None c.in_ok-new.field-0 24 0 c.in_ok-plan.ensures.parents
+    (c.in_ok-plan.ensures.nodes ∙ (λ k. c.live.ensures k ∷ c.live-2.ensures k ∷ c.live-3.ensures k ∷ []))
+    c.in_ok-plan.ensures.leaves c.in_ok-plan.ensures.objects c.in_ok-new.ensures
     (refl, refl, refl, refl, refl, refl, refl)
