@@ -1,4 +1,3 @@
 pub mod Frames
 pub mod Instructed
-pub mod Pushes
 pub mod Stepping
