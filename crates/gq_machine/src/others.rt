@@ -2,14 +2,13 @@
 ghost use Rattle.std.specs.Prelude.{◌≡◌, ◌<◌, ◌≤◌, ℕ, List, [], IfOk, IfSome, IsTrue, OnErr, OnOk, Err, is_some, length, slice_get};
 ghost use Rattle.gq_model.specs.declared.phase.Phase.TheVariants as phase;
 ghost use Rattle.gq_model.specs.machine.Scenario.{components};
-ghost use Rattle.gq_flat.specs.Nexts.{Active};
+ghost use Rattle.gq_flat.specs.Cores.{is_shared};
 ghost use Rattle.gq_flat.specs.declared.operation.Operation.TheVariants as operation;
 ghost use Rattle.gq_ready.specs.Ready.{IsReady};
 ghost use Rattle.gq_statements.specs.Statements.{done};
-ghost use Rattle.gq_steps.specs.Coded.{OthersActNext};
 ghost use Rattle.gq_machine.specs.Events.{event_of};
 ghost use Rattle.gq_machine.specs.declared.event.Event.TheVariants as event;
-ghost use Rattle.gq_transitions.specs.internal.Holds.{CanStep, Goes, Holds, IsNext, OfLeaf};
+ghost use Rattle.gq_transitions.specs.internal.Holds.{CanStep, Goes, Holds, IsNext};
 ghost use Rattle.gq_machine.specs.internal.Kinds.{is_quiet};
 ghost use Rattle.gq_machine.specs.internal.Shows.{Gives};
 
@@ -166,11 +165,12 @@ pub(crate) fn shared(
     fixed: &Fixed,
     state: &mut State,
     number: usize,
+    operation: Operation,
     line: &mut ArrayVec<u8, LINE>,
 ) -> Result<Event, Wrong>
     requires can { CanStep fixed.now state.old number }
-    requires active { OfLeaf (λ l. Active l.state.phase) (slice_get state.old.leaves.items number) }
-    requires shared { OfLeaf OthersActNext (slice_get state.old.leaves.items number) }
+    requires next { IsNext state.old number operation }
+    requires shared { IsTrue (is_shared operation) }
     requires empty { line.old.items ≡ [] }
     ensures step { Gives fixed.now number state.old state.new line.new.items result }
     ensures no_line { IfOk result (λ e. (e ≡ event.Line → ⊥) → line.new.items ≡ []) }
@@ -178,8 +178,6 @@ pub(crate) fn shared(
     ensures leaves { OnErr result (state.new.leaves.items ≡ state.old.leaves.items) }
     ensures slots { OnErr result (state.new.slots ≡ state.old.slots) }
 {
-    let _table = &fixed.table;
-    let operation = state.leaves[number].operation();
     match operation {
         Operation::End => end(fixed, state, number),
         Operation::Out => out(fixed, state, number, line),

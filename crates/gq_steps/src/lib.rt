@@ -1,7 +1,7 @@
 //! Steps of a leaf, each as the account machine has it: what the leaf does alone, and statements on memory, text and sessions.
 //!
 //! A [`Leaf`] has the code of its program and stands at a place in it. [`Leaf::run`] takes the steps in which the leaf alone has a part; who runs the
-//! leaf then looks at [`Leaf::operation`] and does that one, over the slots of the machine.
+//! leaf then does the operation that it came to, over the slots of the machine.
 #![tactic(auto)]
 
 pub mod asking;
@@ -11,4 +11,4 @@ pub mod leaf;
 mod lines;
 pub mod memory;
 
-pub use leaf::Leaf;
+pub use leaf::{Leaf, Reached};

@@ -139,5 +139,7 @@ pub fn run<W: Write>(
     ensures raised { result ≡ Err RunFault.Write → IsRaised (failures_of out.old) (failures_of out.new) }
 {
     let mut world = World::load(alloc, scenario)?;
-    run_turns(alloc, &mut world, turns, out)
+    let ran = run_turns(alloc, &mut world, turns, out);
+    drop(world);
+    ran
 }

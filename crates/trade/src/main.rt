@@ -8,7 +8,7 @@ use gq_cli::status::Status;
 use gq_world::Counted;
 use std::env;
 use std::fs::File;
-use std::io::{self, BufWriter, ErrorKind, Stderr, Write};
+use std::io::{self, BufWriter, ErrorKind, Stderr, Stdout, Write};
 use std::process::ExitCode;
 
 // How many bytes of output are gathered before they leave the process.
@@ -26,6 +26,13 @@ fn main(rt: HostRuntime) -> ExitCode {
 // The command that the words after the program's name ask for.
 fn asked(rt: &HostRuntime) -> Result<Command, Status> {
     let given = given(rt)?;
+    let asked = asked_by(rt, given.as_slice());
+    drop(given);
+    asked
+}
+
+// The command that words ask for.
+fn asked_by(rt: &HostRuntime, given: &[String]) -> Result<Command, Status> {
     let mut words = Vec::new(rt.alloc());
     for word in given.iter() {
         if words.push(word.as_str()).is_err() {
@@ -55,50 +62,66 @@ fn given(rt: &HostRuntime) -> Result<Vec<String>, Status> {
     Ok(words)
 }
 
+// What is written is gathered before it leaves the process.
+type Out = Counted<BufWriter<Stdout>>;
+
 // Does what a command asks for, on its files or standard input. What it writes is gathered, and has to leave the process, too.
 fn perform(rt: &HostRuntime, command: &Command, err: &mut Counted<Stderr>) -> Status {
     let mut out = match BufWriter::with_capacity(rt.alloc(), BUFFER, rt.stdout()) {
         Ok(writer) => Counted::new(writer),
         Err(_) => return tell(err, Status::HostMemory),
     };
-    let status = match command {
-        Command::Run(scenario, turns) => match open(rt, scenario.as_str(), turns.as_str()) {
-            Ok((mut scenario, mut turns)) => execute(
-                rt.alloc(),
-                command,
-                &mut scenario,
-                &mut turns,
-                &mut out,
-                err,
-            ),
-            Err(_) => tell(err, Status::FileFault),
-        },
-        Command::Asm(scenario, _) | Command::Check(scenario) => match File::open(
-            rt,
-            scenario.as_str(),
-        ) {
-            Ok(mut scenario) => execute(
+    let status = execute_to(rt, command, &mut out, err);
+    let flushed = out.flush();
+    drop(out);
+    match flushed {
+        Err(_) if status == Status::Done => tell(err, Status::FileFault),
+        _ => status,
+    }
+}
+
+// Does what a command asks for, on its files or standard input.
+fn execute_to(
+    rt: &HostRuntime,
+    command: &Command,
+    out: &mut Out,
+    err: &mut Counted<Stderr>,
+) -> Status {
+    match command {
+        Command::Run(scenario, turns) => {
+            let (mut scenario, mut turns) = match open(rt, scenario.as_str(), turns.as_str()) {
+                Ok(files) => files,
+                Err(_) => return tell(err, Status::FileFault),
+            };
+            let status = execute(rt.alloc(), command, &mut scenario, &mut turns, out, err);
+            drop(scenario);
+            drop(turns);
+            status
+        }
+        Command::Asm(scenario, _) | Command::Check(scenario) => {
+            let mut scenario = match File::open(rt, scenario.as_str()) {
+                Ok(file) => file,
+                Err(_) => return tell(err, Status::FileFault),
+            };
+            let status = execute(
                 rt.alloc(),
                 command,
                 &mut scenario,
                 &mut io::empty(),
-                &mut out,
+                out,
                 err,
-            ),
-            Err(_) => tell(err, Status::FileFault),
-        },
+            );
+            drop(scenario);
+            status
+        }
         Command::Stored | Command::Help(_) => execute(
             rt.alloc(),
             command,
             &mut rt.stdin(),
             &mut io::empty(),
-            &mut out,
+            out,
             err,
         ),
-    };
-    match out.flush() {
-        Err(_) if status == Status::Done => tell(err, Status::FileFault),
-        _ => status,
     }
 }
 

@@ -1,11 +1,15 @@
 -- A step that a leaf would take alone.
-use Rattle.std.proofs.Common.{◌≡◌, ◌-◌, ◌≤◌, ℕ, zero, suc, refl, arith}
+use Rattle.std.proofs.Common.{◌≡◌, ◌-◌, ◌≤◌, ℕ, zero, suc, refl, ◌∙◌, arith}
 use Rattle.std.specs.Prelude.{slice_get}
 use Rattle.std.specs.Vec.{with_item}
 use Rattle.gq_flat.specs.Nexts.{Active}
+use Rattle.gq_flat.specs.declared.operation.Operation.{Operation}
 use Rattle.gq_steps.specs.Coded.{Coded}
+use Rattle.gq_steps.specs.declared.leaf.Reached.{Reached}
+use Rattle.gq_steps.specs.declared.leaf.Reached.TheVariants as reached
+use Rattle.gq_machine.specs.declared.steps.Alone.TheVariants.{Shared}
 use Rattle.gq_transitions.specs.declared.state.State.{State}
-use Rattle.gq_machine.proofs.Pausing.{still, still_active, still_can, still_holds, still_missing, still_shared, took, took_holds}
+use Rattle.gq_machine.proofs.Pausing.{still, still_active, still_can, still_holds, still_missing, still_next, took, took_holds}
 use Rattle.gq_transitions.proofs.Standing.{item_there, of_leaf}
 use Rattle.gq_machine.proofs.steps.step_alone.Goals as goal
 
@@ -157,8 +161,16 @@ returns-in-Shared-clause-active c =
     let active = of_leaf (λ l. Active l.state.phase) (slice_get m.leaves.items x) old there c.requires.active in
     still_active f m n x c.requires.can c.lawful.ensures old c.run-pause.new.self there active refl refl (1 - c.run-pause.result.1) c.run-pause.ensures.stays
 
+is_too : (r : Reached) (a b : Operation) → r ≡ reached.Shared a → Shared a ≡ Shared b → r ≡ reached.Shared b
+is_too r a b is same = is ∙ cc
+
 pub returns-in-Shared-clause-shared : goal.returns-in-Shared-clause-shared
-returns-in-Shared-clause-shared c is =
+returns-in-Shared-clause-shared c does same =
+    let is = is_too c.run-pause.result.0 c.in-Shared.operation does c.in-Shared.is same in
+    c.run-pause.ensures.shared does is does (c.run-pause.ensures.next does is)
+
+pub returns-in-Shared-clause-next : goal.returns-in-Shared-clause-next
+returns-in-Shared-clause-next c does same =
     let f = c.args.fixed.now in
     let m = c.args.state.now in
     let x = c.args.number in
@@ -166,5 +178,5 @@ returns-in-Shared-clause-shared c is =
     let there = item_there m.leaves.items x c.requires.can.leaf old c.requires.can.leaf_is c.index_mut-leaf.ensures.value in
     let n : State = record { leaves = with_item m.leaves x c.run-pause.new.self; slots = m.slots } in
     let active = of_leaf (λ l. Active l.state.phase) (slice_get m.leaves.items x) old there c.requires.active in
-    still_shared f m n x c.requires.can c.lawful.ensures old c.run-pause.new.self there active refl refl (1 - c.run-pause.result.1) c.run-pause.ensures.stays
-    (one_left c.run-pause.result.1 c.if-left-eq0.false c.run-pause.ensures.left) c.run-pause.ensures.ran (c.run-pause.ensures.shared c.in-Shared.is)
+    still_next f m n x c.requires.can c.lawful.ensures old c.run-pause.new.self there active refl refl (1 - c.run-pause.result.1) c.run-pause.ensures.stays
+    (one_left c.run-pause.result.1 c.if-left-eq0.false c.run-pause.ensures.left) c.run-pause.ensures.ran does (c.run-pause.ensures.next does (is_too c.run-pause.result.0 c.in-Shared.operation does c.in-Shared.is same))

@@ -24,13 +24,13 @@ returns-clause-written g c =
     let scenario = c.args.scenario.now in
     let text = c.args.turns.now in
     let a = g.W.Write.contents c.args.out.now.writer in
-    let b = g.W.Write.contents c.run_turns.new.out.writer in
-    on_ok_then c.run_turns.result (HasWritten s text a b) (IsWhole (run_written scenario text) a b)
+    let b = g.W.Write.contents c.run_turns-ran.new.out.writer in
+    on_ok_then c.run_turns-ran.result (HasWritten s text a b) (IsWhole (run_written scenario text) a b)
     (λ h. record {
       text = whole_of s h.taken;
       given = runs scenario text s c.in_ok-world.ensures.loaded ∙ ap (written_turns s) h.reads;
       written = h.written;
-    }) c.run_turns.ensures.written
+    }) c.run_turns-ran.ensures.written
 
 pub returns-clause-promised : goal.returns-clause-promised
 returns-clause-promised g c =
@@ -38,12 +38,12 @@ returns-clause-promised g c =
     let scenario = c.args.scenario.now in
     let text = c.args.turns.now in
     let a = g.W.Write.contents c.args.out.now.writer in
-    let b = g.W.Write.contents c.run_turns.new.out.writer in
-    on_ok_then c.run_turns.result (HasWritten s text a b) (WritesPromised scenario text a b)
+    let b = g.W.Write.contents c.run_turns-ran.new.out.writer in
+    on_ok_then c.run_turns-ran.result (HasWritten s text a b) (WritesPromised scenario text a b)
     (λ h. promised scenario text s s h.taken a b c.in_ok-world.ensures.loaded refl h.reads c.in_ok-world.ensures.accepted c.in_ok-world.ensures.upheld
-    h.written) c.run_turns.ensures.written
+    h.written) c.run_turns-ran.ensures.written
 
 pub returns-clause-refused : goal.returns-clause-refused
 returns-clause-refused g c =
     let same = runs c.args.scenario.now c.args.turns.now c.in_ok-world.world.scenario c.in_ok-world.ensures.loaded in
-    subst (λ w. IfErr c.run_turns.result (λ fault. IsFaultOf fault w)) (sym same) c.run_turns.ensures.refused
+    subst (λ w. IfErr c.run_turns-ran.result (λ fault. IsFaultOf fault w)) (sym same) c.run_turns-ran.ensures.refused
