@@ -30,7 +30,7 @@ impl Model for LeafLine {
 impl LeafLine {
     /// The line of nothing, said by a leaf without a label.
     pub fn new() -> LeafLine
-        ensures { result.label ≡ [] }
+        ensures { result ≡ record { label = []; bytes = front_of [] } }
     {
         let mut line = ArrayVec::new();
         put_front(&mut line, b"");
@@ -41,10 +41,12 @@ impl LeafLine {
         }
     }
 
-    /// A leaf with this label speaks from now on.
+    /// A leaf with this label speaks from now on. Where it spoke before, nothing changes.
     pub fn begin(&mut self, label: &[u8])
         requires { length label.now ≤ GREATEST_LABEL }
-        ensures { self.new.label ≡ label.now }
+        ensures label { self.new.label ≡ label.now }
+        ensures same { self.old.label ≡ label.now → self.new ≡ self.old }
+        ensures other { (self.old.label ≡ label.now → ⊥) → self.new ≡ record { label = label.now; bytes = front_of label.now } }
     {
         if self.label.as_slice() == label {
             return;
