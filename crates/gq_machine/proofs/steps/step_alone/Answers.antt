@@ -179,4 +179,5 @@ returns-in-Shared-clause-next c does same =
     let n : State = record { leaves = with_item m.leaves x c.run-pause.new.self; slots = m.slots } in
     let active = of_leaf (λ l. Active l.state.phase) (slice_get m.leaves.items x) old there c.requires.active in
     still_next f m n x c.requires.can c.lawful.ensures old c.run-pause.new.self there active refl refl (1 - c.run-pause.result.1) c.run-pause.ensures.stays
-    (one_left c.run-pause.result.1 c.if-left-eq0.false c.run-pause.ensures.left) c.run-pause.ensures.ran does (c.run-pause.ensures.next does (is_too c.run-pause.result.0 c.in-Shared.operation does c.in-Shared.is same))
+    (one_left c.run-pause.result.1 c.if-left-eq0.false c.run-pause.ensures.left) c.run-pause.ensures.ran
+    does (c.run-pause.ensures.next does (is_too c.run-pause.result.0 c.in-Shared.operation does c.in-Shared.is same))
