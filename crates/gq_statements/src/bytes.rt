@@ -98,7 +98,14 @@ impl Actor {
         ensures same { slots.new ≡ slots.old }
     {
         match self.own_bytes(slots, place) {
-            None => self.load_elsewhere(addresses, slots, width, place, index),
+            None => {
+                // (made anew, so that it goes to memory only here)
+                let actor = Actor {
+                    leaf: self.leaf,
+                    hand: self.hand,
+                };
+                actor.load_elsewhere(addresses, slots, width, place, index)
+            }
             Some((spot, count)) => {
                 if !is_inside(width, index, count) {
                     return Err(Wrong::UnmappedByte);
@@ -164,7 +171,14 @@ impl Actor {
         ensures unchanged { OnErr result (slots.new ≡ slots.old) }
     {
         match self.own_bytes(slots, place) {
-            None => self.store_elsewhere(addresses, slots, width, place, index, value),
+            None => {
+                // (made anew, so that it goes to memory only here)
+                let actor = Actor {
+                    leaf: self.leaf,
+                    hand: self.hand,
+                };
+                actor.store_elsewhere(addresses, slots, width, place, index, value)
+            }
             Some((spot, count)) => {
                 if !is_inside(width, index, count) {
                     return Err(Wrong::UnmappedByte);
