@@ -51,7 +51,6 @@ impl Addresses {
 
     /// Where the bytes of a slot stand: in the slot itself, or, where it is a link, in the first slot of its session. `None` where the session's service
     /// shares no buffer.
-    #[inline(always)]
     pub fn bytes_spot(&self, slots: &Slots, spot: Spot) -> Option<Spot>
         requires there { IsSpot slots.now spot }
         requires linked { IsLinked slots.now spot }
@@ -73,7 +72,6 @@ impl Addresses {
     }
 
     // The first slot of a session, if its service shares a buffer.
-    #[inline(never)]
     fn buffer_spot(&self, slots: &Slots, session: usize) -> Option<Spot>
         requires { IsTaken slots.now.trades.trading.sessions session }
         ensures is { result ≡ buffer_spot self.now slots.now session }
@@ -127,7 +125,6 @@ impl Addresses {
 
     /// Which byte lies at an address of a leaf: the slot in which it stands, and its index there. `None` where no byte lies there: the bytes of the
     /// slot stand nowhere, or are too few.
-    #[inline(always)]
     pub fn resolve(&self, slots: &Slots, leaf: usize, address: u32) -> Option<(Spot, u32)>
         requires leaf { leaf < length slots.now.own }
         requires linked { IsLinked slots.now (slot_under leaf address) }
@@ -142,7 +139,6 @@ impl Addresses {
     }
 
     // Where so many bytes from an address on stand.
-    #[inline(always)]
     fn find(&self, slots: &Slots, leaf: usize, address: u32, count: u32) -> Option<(Spot, u32)>
         requires leaf { leaf < length slots.now.own }
         requires linked { IsLinked slots.now (slot_under leaf address) }
@@ -167,7 +163,6 @@ impl Addresses {
 
     /// The byte at an address of the leaf that pays. `None` where none lies there. Nothing changes: a byte of a buffer is read in the memory of the
     /// session's server, and then the leaf pays again.
-    #[inline(always)]
     pub fn load(&self, slots: &mut Slots, leaf: usize, address: u32) -> Option<u8>
         requires live { IsLive slots.old.trades leaf }
         requires paid { IsPaidBy slots.old leaf }
@@ -187,7 +182,6 @@ impl Addresses {
 
     /// The number in the four bytes from an address of the leaf that pays on, the lowest first. `None` where not all of them lie in one slot. Nothing
     /// changes.
-    #[inline(always)]
     pub fn load4(&self, slots: &mut Slots, leaf: usize, address: u32) -> Option<u32>
         requires live { IsLive slots.old.trades leaf }
         requires paid { IsPaidBy slots.old leaf }
@@ -206,7 +200,6 @@ impl Addresses {
     }
 
     /// Sets the byte at an address of the leaf that pays, and says whether one lies there; else nothing changes. Who pays stays the same.
-    #[inline(always)]
     pub fn store(&self, slots: &mut Slots, leaf: usize, address: u32, value: u8) -> bool
         requires live { IsLive slots.old.trades leaf }
         requires paid { IsPaidBy slots.old leaf }
@@ -232,7 +225,6 @@ impl Addresses {
 
     /// Writes a number to the four bytes from an address of the leaf that pays on, the lowest first, and says whether all of them lie in one slot; else
     /// nothing changes. Who pays stays the same.
-    #[inline(always)]
     pub fn store4(&self, slots: &mut Slots, leaf: usize, address: u32, value: u32) -> bool
         requires live { IsLive slots.old.trades leaf }
         requires paid { IsPaidBy slots.old leaf }
@@ -269,7 +261,6 @@ fn own_base(spot: Spot) -> Option<u32>
 }
 
 // The leaf that pays for what is in a slot pays for all calls from now on.
-#[inline(always)]
 fn pay_for(slots: &mut Slots, spot: Spot)
     requires there { IsSpot slots.old spot }
     requires live { IsLive slots.old.trades (holder slots.old spot) }
