@@ -1,7 +1,7 @@
 // The raw memory. Only the functions of this file follow a raw pointer.
 ghost use Rattle.std.specs.Prelude.{◌≡◌, ℕ, ◌+◌, ◌-◌, ◌^◌, ◌<◌, ◌≤◌, List, [], ◌∷◌, ◌++◌, length, slice_index, slice_set, IfSome};
 ghost use denote.RawPtr.{Ptr};
-ghost use Rattle.gq_pages.specs.Bytes.{zeroed};
+ghost use Rattle.gq_pages.specs.Bytes.{zeroed, zeros};
 ghost use Rattle.gq_pages.specs.internal.Ownership.{cells_own, cells_lent, bytes_type};
 
 use std::alloc::Allocator;
@@ -64,6 +64,19 @@ impl Cells {
         ensures { (self.new.at ≡ at) × (self.new.bytes ≡ self.old.bytes ++ byte ∷ []) × (self.new.room ≡ self.old.room - 1) }
     {
         unsafe { *at.add(count) = byte };
+    }
+
+    // So many bytes more, which are 0. The pointer is no field here, so that the compiler makes one call of the loop.
+    #[tactic(auto, using(crate::proofs::Zeros::zeros_steps))]
+    pub(crate) fn extend(&mut self, at: *mut u8, len: usize, count: usize)
+        requires at_end { (self.old.at ≡ at) × (length self.old.bytes ≡ len) }
+        requires room { (count ≤ self.old.room) × (len + count < 2 ^ 64) }
+        ensures { (self.new.at ≡ at) × (self.new.bytes ≡ self.old.bytes ++ zeros count) × (self.new.room ≡ self.old.room - count) }
+    {
+        let end = len + count;
+        for k in len..end {
+            self.push(at, k, 0);
+        }
     }
 
     // The byte at `index`.

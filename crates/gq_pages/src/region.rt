@@ -59,7 +59,6 @@ impl Region {
     }
 
     // Writes 0 to the `count` bytes after the first `len`, which are all that were written so far.
-    #[tactic(auto, using(crate::proofs::Zeros::zeros_steps))]
     pub(crate) fn extend(&mut self, len: usize, count: usize)
         requires at_end { length self.old.bytes ≡ len }
         requires room { len + count ≤ self.old.size }
@@ -67,10 +66,7 @@ impl Region {
         ensures size { self.new.size ≡ self.old.size }
     {
         let _size = self.size;
-        let end = len + count;
-        for k in len..end {
-            self.cells.push(self.at, k, 0);
-        }
+        self.cells.extend(self.at, len, count);
     }
 
     pub(crate) fn byte(&self, index: usize) -> u8
