@@ -68,7 +68,16 @@ impl<T: Copy> Numbered<T> {
         requires { IsTaken self.now.values number }
         ensures { get_or self.now.values number None ≡ Some result }
     {
-        let Some(value) = self.places[number] else {
+        *self.at(number)
+    }
+
+    /// The value of a number that is taken, where it lies.
+    #[inline(always)]
+    pub fn at(&self, number: usize) -> &T
+        requires { IsTaken self.now.values number }
+        ensures { get_or self.now.values number None ≡ Some result.now }
+    {
+        let Some(value) = &self.places[number] else {
             unreachable!();
         };
         value

@@ -284,7 +284,7 @@ impl Sessions {
         requires slot { slot < 8 }
         ensures { result ≡ get_or (session_at self.now session).slots slot thing.Empty }
     {
-        self.session(session).slots[slot]
+        self.sessions.at(session).slots[slot]
     }
 
     /// Puts something into an empty slot of a session.
@@ -458,15 +458,10 @@ impl Sessions {
         requires { IsTaken self.old.sessions session }
         ensures { self.new ≡ with_session self.old session (opened (session_at self.old session) object) }
     {
-        let old = self.session(session);
-        self.set(
-            session,
-            Session {
-                accepted: true,
-                object,
-                ..old
-            },
-        );
+        let mut accepted = self.session(session);
+        accepted.accepted = true;
+        accepted.object = object;
+        self.set(session, accepted);
     }
 
     // Another session of the same client, server and service in the place of one.
@@ -486,10 +481,9 @@ impl Sessions {
         requires slot { slot < 8 }
         ensures { self.new ≡ with_session self.old session (with_slot (session_at self.old session) slot contents) }
     {
-        let old = self.session(session);
-        let mut slots = old.slots;
-        slots[slot] = contents;
-        self.set(session, Session { slots, ..old });
+        let mut changed = self.session(session);
+        changed.slots[slot] = contents;
+        self.set(session, changed);
     }
 
     // The level of a session is one higher.
@@ -498,14 +492,9 @@ impl Sessions {
         requires level { (session_at self.old session).level < 3 }
         ensures { self.new ≡ with_session self.old session (raised (session_at self.old session)) }
     {
-        let old = self.session(session);
-        self.set(
-            session,
-            Session {
-                level: old.level + 1,
-                ..old
-            },
-        );
+        let mut raised = self.session(session);
+        raised.level += 1;
+        self.set(session, raised);
     }
 
     // Whether the server of a session can give back what was given for it, once the session's object is freed.

@@ -1,3 +1,4 @@
+use Rattle.std.proofs.Common.{rules}
 use Rattle.std.proofs.Common.{◌<◌, ap, sym, subst, arith, length}
 use Rattle.gq_numbered.specs.Numbers.{Numbers, IsTaken, free_number}
 use Rattle.gq_numbered.proofs.Lowest.{added_taken, added_some, added_length}
@@ -16,3 +17,6 @@ invariant_of-self g c =
       held = omega (arith, c.self.invariant.held, c.put.ensures.capacity);
       below = λ j lt. subst (λ qs. IsTaken qs j) (sym now) (added_taken c.args.value ps j (omega (arith, lt, e)));
     }
+
+pub first_free-number-requires-clause-below : goal.first_free-number-requires-clause-below
+first_free-number-requires-clause-below g c = search rules
