@@ -1,5 +1,6 @@
-// Bytes of a space, by its slot and by their addresses.
-ghost use Rattle.std.specs.Prelude.{◌≤◌};
+// Bytes of a space, by its slot and by their addresses, and of a dataspace.
+ghost use Rattle.std.specs.Prelude.{◌≡◌, ◌≤◌, length};
+ghost use Rattle.gq_dataspace.specs.Dataspaces.{content_of};
 ghost use Rattle.gq_sessions.specs.declared.session.Spot.TheVariants.{InLeaf};
 ghost use Rattle.gq_things.specs.Things.{size_of};
 ghost use Rattle.gq_trade.specs.Trades.{IsLive};
@@ -11,6 +12,8 @@ use crate::fault::Fault;
 use crate::sessions::market;
 use crate::timing::tell;
 use gq_addresses::Addresses;
+use gq_dataspace::DsId;
+use gq_ram::Accounts;
 use gq_sessions::Spot;
 use gq_slots::Slots;
 use gq_things::Thing;
@@ -19,8 +22,51 @@ use std::time::Instant;
 // The bytes of the space.
 const SIZE: u32 = 16384;
 
-/// Measures so many bytes of a space that are read in sequence, each by the space's slot, and then each by its address. Gives what they are together.
+/// Measures so many bytes that are read in sequence: of a dataspace, and of a space of as many bytes, each by the space's slot, and then each by its
+/// address. Gives what they are together.
 pub fn measured(rt: &HostRuntime, times: u32) -> Result<usize, Fault> {
+    let alone = in_accounts(rt, times)?;
+    let in_slots = in_market(rt, times)?;
+    Ok(alone ^ in_slots)
+}
+
+// Of a dataspace that the root account pays for.
+fn in_accounts(rt: &HostRuntime, times: u32) -> Result<usize, Fault> {
+    let mut accounts = Accounts::new(rt.alloc(), u64::from(SIZE), None)?;
+    let given = in_root(rt, &mut accounts, times);
+    drop(accounts);
+    given
+}
+
+fn in_root(rt: &HostRuntime, accounts: &mut Accounts, times: u32) -> Result<usize, Fault> {
+    let root = accounts.root();
+    match accounts.alloc(root, u64::from(SIZE)) {
+        Ok(ds) => in_dataspace(rt, accounts, ds, times),
+        Err(_) => Err(Fault::Account),
+    }
+}
+
+fn in_dataspace(rt: &HostRuntime, accounts: &Accounts, ds: DsId, times: u32) -> Result<usize, Fault>
+    requires { length (content_of accounts.now.spaces.spaces ds.0) ≡ 16384 }
+{
+    let start = Instant::now(rt);
+    let sum = by_dataspace(accounts, ds, times);
+    tell(rt, "byte by dataspace", u64::from(times), start)?;
+    Ok(usize::from(sum))
+}
+
+fn by_dataspace(accounts: &Accounts, ds: DsId, times: u32) -> u8
+    requires { length (content_of accounts.now.spaces.spaces ds.0) ≡ 16384 }
+{
+    let mut sum = 0;
+    for index in 0..times {
+        sum ^= accounts.load(ds, index % SIZE);
+    }
+    sum
+}
+
+// Of a space, in the slots of a scenario.
+fn in_market(rt: &HostRuntime, times: u32) -> Result<usize, Fault> {
     let mut slots = market(rt.alloc())?;
     let addresses = Addresses::new(Vec::new(rt.alloc()));
     let given = in_slots(rt, &mut slots, &addresses, times);
@@ -72,7 +118,10 @@ fn both(
     let start = Instant::now(rt);
     let other = by_address(slots, addresses, times);
     tell(rt, "byte by address", u64::from(times), start)?;
-    Ok(usize::from(one ^ other))
+    match other {
+        Some(other) => Ok(usize::from(one ^ other)),
+        None => Err(Fault::Account),
+    }
 }
 
 // All bytes that are read, one after the other, as one.
@@ -88,16 +137,15 @@ fn by_slot(slots: &Slots, times: u32) -> u8
     sum
 }
 
-fn by_address(slots: &mut Slots, addresses: &Addresses, times: u32) -> u8
+// The same, each found by its address. `None` where one is not there.
+fn by_address(slots: &mut Slots, addresses: &Addresses, times: u32) -> Option<u8>
     requires live { IsLive slots.old.trades 1 }
     requires paid { IsPaidBy slots.old 1 }
     requires plain { IsNoLink (thing_at slots.old (InLeaf 1 0)) }
 {
     let mut sum = 0;
     for index in 0..times {
-        if let Some(byte) = addresses.load(slots, 1, index % SIZE) {
-            sum ^= byte;
-        }
+        sum ^= addresses.load(slots, 1, index % SIZE)?;
     }
-    sum
+    Some(sum)
 }

@@ -8,7 +8,7 @@
 //! - `frames`: frames that are taken and given back, and what is made for 64 MiB;
 //! - `heap` and `list`: blocks of SIZE bytes of the heap, and of the kit's heap with a list of holes;
 //! - `slices` and `pool`: slices of SIZE bytes, and the entries of a pool;
-//! - `accesses`: bytes of a space, by its slot and by their addresses;
+//! - `accesses`: bytes of a dataspace, and of a space, by its slot and by their addresses;
 //! - `sessions`: sessions between two leaves, from the ask to the close, while SIZE others are open.
 //!
 //! What the work gives is told on standard output. On standard error stands a line for each thing that was measured: its name, how often it was done,

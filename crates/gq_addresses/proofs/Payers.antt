@@ -113,6 +113,7 @@ changed s a v b x y p g e f h k =
     let h2 : Puts (paying s x) v p (g (slot_of s p)) = subst (λ z. Puts (paying s x) v p (g z)) (slot_paid s x p) h1 in
     subst (λ z. Puts s z p (g (slot_of s p))) (sym k) (puts_paid s v x y p (g (slot_of s p)) e h2)
 
-pub changed_at : (o : Option (Spot × ℕ)) (s a v b : Slots) (x y i : ℕ) (p : Spot) (g : ℕ → world.Slot → world.Slot) → Some (p, i) ≡ o → IsPaidBy s y
-    → a ≡ paying s x → Puts a v p (g i (slot_of a p)) → b ≡ paying v y → IfSome o (λ f. Puts s b f.0 (g f.1 (slot_of s f.0)))
-changed_at o s a v b x y i p g is e f h k = subst (λ z. IfSome z (λ q. Puts s b q.0 (g q.1 (slot_of s q.0)))) is (changed s a v b x y p (g i) e f h k)
+-- A slot was changed at the index of a place that is there.
+pub put_at : (o : Option (Spot × ℕ)) (s b : Slots) (i : ℕ) (p : Spot) (g : ℕ → world.Slot → world.Slot) → Some (p, i) ≡ o → Puts s b p (g i (slot_of s p))
+    → IfSome o (λ f. Puts s b f.0 (g f.1 (slot_of s f.0)))
+put_at o s b i p g is h = subst (λ z. IfSome z (λ q. Puts s b q.0 (g q.1 (slot_of s q.0)))) is h

@@ -1,19 +1,21 @@
 // Which bytes lie at an address of a leaf.
-ghost use Rattle.std.specs.Prelude.{◌≡◌, ℕ, ◌+◌, ◌*◌, ◌/◌, ◌%◌, ◌<◌, ◌≤◌, nat_le, [], ◌∷◌, get_or, length, is_some, slice_get, IfNone, IfSome};
+ghost use Rattle.std.specs.Prelude.{◌≡◌, ℕ, ◌+◌, ◌*◌, ◌/◌, ◌%◌, ◌<◌, ◌≤◌, ◌↔◌, nat_le, [], ◌∷◌, get_or, length, is_some, slice_get, IfNone, IfSome};
+ghost use Rattle.std.specs.Prelude.{List, Some, slice_index, slice_range};
 ghost use Rattle.std.specs.Prelude.{IsTrue};
-ghost use Rattle.gq_model.specs.machine.Program.{spelled};
+ghost use Rattle.gq_model.specs.machine.Program.{little, spelled};
 ghost use Rattle.gq_model.specs.machine.Scenario.{System};
 ghost use Rattle.gq_model.specs.machine.Memory.{bytes_spot};
 ghost use Rattle.gq_model.specs.machine.World.{slot_at, Link};
 ghost use Rattle.gq_numbered.specs.Numbers.{IsTaken};
-ghost use Rattle.gq_things.specs.Things.{put_in, size_of};
+ghost use Rattle.gq_things.specs.Things.{bytes_in, put_in, size_of};
 ghost use Rattle.gq_sessions.specs.Seen.{spot_seen};
 ghost use Rattle.gq_sessions.specs.declared.session.Spot.{Spot};
 ghost use Rattle.gq_trade.specs.Trades.{IsLive};
+ghost use Rattle.gq_slots.specs.Slots.{Slots as Seen};
 ghost use Rattle.gq_slots.specs.Slots.{Frame, IsMark, IsPaidBy, IsSlot, IsSpot, holder, slot_of, thing_at, world_seen};
 ghost use Rattle.gq_slots.specs.Calls.{Puts};
 ghost use Rattle.gq_addresses.specs.Addresses.{AreBuffers, AreFound, IsLinked, buffer_spot, byte_of, bytes_at, bytes_under, four_in, number_of, offset};
-ghost use Rattle.gq_addresses.specs.Addresses.{IsNumbered, base_for, own_base, place_of, place_seen, put_under, slot_for, slot_under};
+ghost use Rattle.gq_addresses.specs.Addresses.{IsNumbered, base_for, own_base, place_in, place_of, place_seen, put_under, slot_for, slot_under};
 ghost use Rattle.gq_addresses.specs.internal.Paying.{paying};
 
 use gq_sessions::{Session, Spot};
@@ -161,6 +163,23 @@ impl Addresses {
         }
     }
 
+    // Whether so many bytes from an address on are those of a space in the leaf's own slot, as they mostly are: then no other slot is looked at.
+    #[inline(always)]
+    fn is_own_space(&self, slots: &Slots, leaf: usize, address: u32, count: u32) -> bool
+        requires leaf { leaf < length slots.now.own }
+        requires linked { IsLinked slots.now (slot_under leaf address) }
+        ensures is { IsTrue result → bytes_at self.now slots.now leaf address count ≡ Some (slot_under leaf address, offset address) }
+        ensures inside { IsTrue result → offset address + count ≤ size_of (thing_at slots.now (slot_under leaf address)) }
+        ensures world { IsTrue result → (f : Frame) (system : System) → AreBuffers system f slots.now self.now
+            → AreFound system (world_seen f slots.now) slots.now (slot_under leaf address) (offset address) count
+            (Some (slot_under leaf address, offset address)) }
+    {
+        let _buffers = &self.buffers;
+        slots.trades().laws();
+        let thing = slots.thing(own_slot(leaf, address));
+        is_space_with(thing, address % WINDOW, count)
+    }
+
     /// The byte at an address of the leaf that pays. `None` where none lies there. Nothing changes: a byte of a buffer is read in the memory of the
     /// session's server, and then the leaf pays again.
     pub fn load(&self, slots: &mut Slots, leaf: usize, address: u32) -> Option<u8>
@@ -173,11 +192,26 @@ impl Addresses {
         ensures same { slots.new ≡ slots.old }
     {
         slots.laws();
+        if self.is_own_space(slots, leaf, address, 1) {
+            return Some(slots.load(own_slot(leaf, address), address % WINDOW));
+        }
+        self.load_behind(slots, leaf, address)
+    }
+
+    // The same, of what is behind any slot.
+    #[inline(never)]
+    fn load_behind(&self, slots: &mut Slots, leaf: usize, address: u32) -> Option<u8>
+        requires live { IsLive slots.old.trades leaf }
+        requires paid { IsPaidBy slots.old leaf }
+        requires linked { IsLinked slots.old (slot_under leaf address) }
+        ensures byte { result ≡ byte_of slots.old (bytes_at self.now slots.old leaf address 1) }
+        ensures world { (f : Frame) (system : System) → AreBuffers system f slots.old self.now
+            → result ≡ slice_get (bytes_under system (world_seen f slots.old) leaf address) (offset address) }
+        ensures same { slots.new ≡ slots.old }
+    {
+        slots.laws();
         let (spot, index) = self.find(slots, leaf, address, 1)?;
-        pay_for(slots, spot);
-        let byte = slots.load(spot, index);
-        slots.pay_by(leaf);
-        Some(byte)
+        Some(load_for(slots, leaf, spot, index))
     }
 
     /// The number in the four bytes from an address of the leaf that pays on, the lowest first. `None` where not all of them lie in one slot. Nothing
@@ -192,11 +226,26 @@ impl Addresses {
         ensures same { slots.new ≡ slots.old }
     {
         slots.laws();
+        if self.is_own_space(slots, leaf, address, 4) {
+            return Some(slots.load4(own_slot(leaf, address), address % WINDOW));
+        }
+        self.load4_behind(slots, leaf, address)
+    }
+
+    // The same, of what is behind any slot.
+    #[inline(never)]
+    fn load4_behind(&self, slots: &mut Slots, leaf: usize, address: u32) -> Option<u32>
+        requires live { IsLive slots.old.trades leaf }
+        requires paid { IsPaidBy slots.old leaf }
+        requires linked { IsLinked slots.old (slot_under leaf address) }
+        ensures number { result ≡ number_of slots.old (bytes_at self.now slots.old leaf address 4) }
+        ensures world { (f : Frame) (system : System) → AreBuffers system f slots.old self.now
+            → result ≡ four_in (bytes_under system (world_seen f slots.old) leaf address) (offset address) }
+        ensures same { slots.new ≡ slots.old }
+    {
+        slots.laws();
         let (spot, index) = self.find(slots, leaf, address, 4)?;
-        pay_for(slots, spot);
-        let number = slots.load4(spot, index);
-        slots.pay_by(leaf);
-        Some(number)
+        Some(load4_for(slots, leaf, spot, index))
     }
 
     /// Sets the byte at an address of the leaf that pays, and says whether one lies there; else nothing changes. Who pays stays the same.
@@ -214,12 +263,33 @@ impl Addresses {
             → IsTrue result → world_seen f slots.new ≡ put_under system (world_seen f slots.old) leaf address (value ∷ []) }
     {
         slots.laws();
+        if self.is_own_space(slots, leaf, address, 1) {
+            slots.store(own_slot(leaf, address), address % WINDOW, value);
+            return true;
+        }
+        self.store_behind(slots, leaf, address, value)
+    }
+
+    // The same, of what is behind any slot.
+    #[inline(never)]
+    fn store_behind(&self, slots: &mut Slots, leaf: usize, address: u32, value: u8) -> bool
+        requires live { IsLive slots.old.trades leaf }
+        requires paid { IsPaidBy slots.old leaf }
+        requires linked { IsLinked slots.old (slot_under leaf address) }
+        ensures there { result ≡ is_some (bytes_at self.now slots.old leaf address 1) }
+        ensures stored { IfSome (bytes_at self.now slots.old leaf address 1)
+            (λ f. Puts slots.old slots.new f.0 (put_in f.1 (value ∷ []) (slot_of slots.old f.0))) }
+        ensures unchanged { IfNone (bytes_at self.now slots.old leaf address 1) (slots.new ≡ slots.old) }
+        ensures fits { (f : Frame) (system : System) → AreBuffers system f slots.old self.now
+            → result ≡ nat_le (offset address + 1) (length (bytes_under system (world_seen f slots.old) leaf address)) }
+        ensures world { (f : Frame) (system : System) → AreBuffers system f slots.old self.now
+            → IsTrue result → world_seen f slots.new ≡ put_under system (world_seen f slots.old) leaf address (value ∷ []) }
+    {
+        slots.laws();
         let Some((spot, index)) = self.find(slots, leaf, address, 1) else {
             return false;
         };
-        pay_for(slots, spot);
-        slots.store(spot, index, value);
-        slots.pay_by(leaf);
+        store_for(slots, leaf, spot, index, value);
         true
     }
 
@@ -239,12 +309,33 @@ impl Addresses {
             → IsTrue result → world_seen f slots.new ≡ put_under system (world_seen f slots.old) leaf address (spelled 4 value) }
     {
         slots.laws();
+        if self.is_own_space(slots, leaf, address, 4) {
+            slots.store4(own_slot(leaf, address), address % WINDOW, value);
+            return true;
+        }
+        self.store4_behind(slots, leaf, address, value)
+    }
+
+    // The same, of what is behind any slot.
+    #[inline(never)]
+    fn store4_behind(&self, slots: &mut Slots, leaf: usize, address: u32, value: u32) -> bool
+        requires live { IsLive slots.old.trades leaf }
+        requires paid { IsPaidBy slots.old leaf }
+        requires linked { IsLinked slots.old (slot_under leaf address) }
+        ensures there { result ≡ is_some (bytes_at self.now slots.old leaf address 4) }
+        ensures stored { IfSome (bytes_at self.now slots.old leaf address 4)
+            (λ f. Puts slots.old slots.new f.0 (put_in f.1 (spelled 4 value) (slot_of slots.old f.0))) }
+        ensures unchanged { IfNone (bytes_at self.now slots.old leaf address 4) (slots.new ≡ slots.old) }
+        ensures fits { (f : Frame) (system : System) → AreBuffers system f slots.old self.now
+            → result ≡ nat_le (offset address + 4) (length (bytes_under system (world_seen f slots.old) leaf address)) }
+        ensures world { (f : Frame) (system : System) → AreBuffers system f slots.old self.now
+            → IsTrue result → world_seen f slots.new ≡ put_under system (world_seen f slots.old) leaf address (spelled 4 value) }
+    {
+        slots.laws();
         let Some((spot, index)) = self.find(slots, leaf, address, 4) else {
             return false;
         };
-        pay_for(slots, spot);
-        slots.store4(spot, index, value);
-        slots.pay_by(leaf);
+        store4_for(slots, leaf, spot, index, value);
         true
     }
 }
@@ -258,6 +349,113 @@ fn own_base(spot: Spot) -> Option<u32>
         Spot::InLeaf(_, slot) => Some(Addresses::base(slot)),
         Spot::InSession(_, _) | Spot::InObject(_) => None,
     }
+}
+
+// The leaf's own slot in whose window an address is.
+#[inline(always)]
+fn own_slot(leaf: usize, address: u32) -> Spot
+    ensures { result ≡ slot_under leaf address }
+{
+    Spot::InLeaf(leaf, (address / WINDOW) as u8)
+}
+
+// Whether it is a space that has so many bytes from an index on, of those that were asked for: its last page may have more.
+#[inline(always)]
+fn is_space_with(thing: Thing, index: u32, count: u32) -> bool
+    ensures inside { IsTrue result → index + count ≤ size_of thing }
+    ensures space { IsTrue result → (bs : List ℕ) (s : Seen) (p : Spot) → place_in bs s thing p ≡ Some p }
+{
+    match thing {
+        Thing::Space(_, size) => u64::from(index) + u64::from(count) <= u64::from(size),
+        Thing::Empty
+        | Thing::Block(_, _)
+        | Thing::Slice(_, _)
+        | Thing::Pool(_)
+        | Thing::Link(_)
+        | Thing::Waiting(_) => false,
+    }
+}
+
+// Whether it is this leaf that pays for what is in a slot.
+fn is_held_by(slots: &Slots, spot: Spot, leaf: usize) -> bool
+    requires { IsSpot slots.now spot }
+    ensures { IsTrue result ↔ (holder slots.now spot ≡ leaf) }
+{
+    slots.holder(spot) == leaf
+}
+
+// The byte at an index of a slot, for a leaf that pays. Where another leaf pays for what is in the slot, that one pays while it is read.
+fn load_for(slots: &mut Slots, leaf: usize, spot: Spot, index: u32) -> u8
+    requires there { IsSpot slots.old spot }
+    requires holder { IsLive slots.old.trades (holder slots.old spot) }
+    requires live { IsLive slots.old.trades leaf }
+    requires paid { IsPaidBy slots.old leaf }
+    requires inside { index < size_of (thing_at slots.old spot) }
+    ensures byte { result ≡ slice_index (bytes_in (slot_of slots.old spot)) index }
+    ensures same { slots.new ≡ slots.old }
+{
+    if is_held_by(slots, spot, leaf) {
+        return slots.load(spot, index);
+    }
+    pay_for(slots, spot);
+    let byte = slots.load(spot, index);
+    slots.pay_by(leaf);
+    byte
+}
+
+// The number in the four bytes from an index of a slot on, for a leaf that pays, as in `load_for`.
+fn load4_for(slots: &mut Slots, leaf: usize, spot: Spot, index: u32) -> u32
+    requires there { IsSpot slots.old spot }
+    requires holder { IsLive slots.old.trades (holder slots.old spot) }
+    requires live { IsLive slots.old.trades leaf }
+    requires paid { IsPaidBy slots.old leaf }
+    requires inside { index + 4 ≤ size_of (thing_at slots.old spot) }
+    ensures number { result ≡ little (slice_range (bytes_in (slot_of slots.old spot)) index (index + 4)) }
+    ensures same { slots.new ≡ slots.old }
+{
+    if is_held_by(slots, spot, leaf) {
+        return slots.load4(spot, index);
+    }
+    pay_for(slots, spot);
+    let number = slots.load4(spot, index);
+    slots.pay_by(leaf);
+    number
+}
+
+// Sets the byte at an index of a slot, for a leaf that pays, as in `load_for`.
+fn store_for(slots: &mut Slots, leaf: usize, spot: Spot, index: u32, value: u8)
+    requires there { IsSpot slots.old spot }
+    requires holder { IsLive slots.old.trades (holder slots.old spot) }
+    requires live { IsLive slots.old.trades leaf }
+    requires paid { IsPaidBy slots.old leaf }
+    requires inside { index < size_of (thing_at slots.old spot) }
+    ensures { Puts slots.old slots.new spot (put_in index (value ∷ []) (slot_of slots.old spot)) }
+{
+    if is_held_by(slots, spot, leaf) {
+        slots.store(spot, index, value);
+        return;
+    }
+    pay_for(slots, spot);
+    slots.store(spot, index, value);
+    slots.pay_by(leaf);
+}
+
+// Writes a number to the four bytes from an index of a slot on, for a leaf that pays, as in `load_for`.
+fn store4_for(slots: &mut Slots, leaf: usize, spot: Spot, index: u32, value: u32)
+    requires there { IsSpot slots.old spot }
+    requires holder { IsLive slots.old.trades (holder slots.old spot) }
+    requires live { IsLive slots.old.trades leaf }
+    requires paid { IsPaidBy slots.old leaf }
+    requires inside { index + 4 ≤ size_of (thing_at slots.old spot) }
+    ensures { Puts slots.old slots.new spot (put_in index (spelled 4 value) (slot_of slots.old spot)) }
+{
+    if is_held_by(slots, spot, leaf) {
+        slots.store4(spot, index, value);
+        return;
+    }
+    pay_for(slots, spot);
+    slots.store4(spot, index, value);
+    slots.pay_by(leaf);
 }
 
 // The leaf that pays for what is in a slot pays for all calls from now on.

@@ -1,18 +1,16 @@
-use Rattle.std.proofs.Common.{◌+◌, ◌∙◌, Some, ap}
+use Rattle.std.proofs.Common.{◌≡◌, ◌+◌, ◌∙◌, Some, ap, refl, subst}
 use Rattle.std.specs.Prelude.{slice_range}
 use Rattle.gq_model.specs.machine.Program.{little}
 use Rattle.gq_things.specs.Things.{bytes_in}
-use Rattle.gq_slots.specs.Slots.{Slots, holder, world_seen}
+use Rattle.gq_slots.specs.Slots.{Slots, slot_of, world_seen}
 use Rattle.gq_addresses.specs.Addresses.{offset, slot_under}
 use Rattle.gq_addresses.proofs.Founds.{loaded4}
-use Rattle.gq_addresses.proofs.Payers.{slot_then}
 use Rattle.gq_addresses.proofs.addresses.Addresses.load4.Goals as goal
 
-pub returns-clause-world : goal.returns-clause-world
-returns-clause-world c f system b =
+pub returns-then-is_own_space-clause-world : goal.returns-then-is_own_space-clause-world
+returns-then-is_own_space-clause-world c f system b =
     let s : Slots = c.args.slots.now in
-    let p = c.in_ok-spot.spot in
-    let i = c.in_ok-spot.index in
-    let same = slot_then s c.pay_for.new.slots (holder s p) p c.pay_for.ensures in
-    ap Some (c.load4-number.ensures ∙ ap (λ y. little (slice_range (bytes_in y) i (i + 4))) same)
-    ∙ loaded4 system (world_seen f s) s (slot_under c.args.leaf c.args.address) (offset c.args.address) (Some (p, i)) (c.in_ok-spot.ensures.world f system b)
+    let own = slot_under c.args.leaf c.args.address in
+    ap Some (subst (λ q. c.load4.result ≡ little (slice_range (bytes_in (slot_of s q)) (offset c.args.address) (offset c.args.address + 4))) c.own_slot.ensures
+    c.load4.ensures)
+    ∙ loaded4 system (world_seen f s) s own (offset c.args.address) (Some (own, offset c.args.address)) (c.if-is_own_space.ensures.world refl f system b)

@@ -1,30 +1,23 @@
-use Rattle.std.proofs.Common.{Some, refl}
+use Rattle.std.proofs.Common.{Some, refl, subst}
 use Rattle.gq_model.specs.machine.Program.{spelled}
 use Rattle.gq_things.specs.Things.{put_in}
-use Rattle.gq_slots.specs.Slots.{Slots, holder, world_seen}
-use Rattle.gq_addresses.specs.Addresses.{bytes_at, offset, slot_under}
+use Rattle.gq_slots.specs.Slots.{Slots, slot_of, world_seen}
+use Rattle.gq_slots.specs.Calls.{Puts}
+use Rattle.gq_addresses.specs.Addresses.{offset, slot_under}
 use Rattle.gq_addresses.proofs.Founds.{fits, stored}
-use Rattle.gq_addresses.proofs.Payers.{changed, changed_at}
 use Rattle.gq_addresses.proofs.addresses.Addresses.store4.Goals as goal
 
-pub returns-clause-stored : goal.returns-clause-stored
-returns-clause-stored c =
+pub returns-then-is_own_space-clause-fits : goal.returns-then-is_own_space-clause-fits
+returns-then-is_own_space-clause-fits c f system b =
     let s : Slots = c.args.slots.now in
-    let p = c.in-Some.spot in
-    changed_at (bytes_at c.args.self.now s c.args.leaf c.args.address 4) s c.pay_for.new.slots c.store4.new.self c.pay_by.new.self (holder s p) c.args.leaf
-    c.in-Some.index p (λ i. put_in i (spelled 4 c.args.value)) c.in-Some.ensures.is c.requires.paid c.pay_for.ensures c.store4.ensures c.pay_by.ensures
+    let own = slot_under c.args.leaf c.args.address in
+    fits system (world_seen f s) s own (offset c.args.address) 4 (Some (own, offset c.args.address)) (c.if-is_own_space.ensures.world refl f system b)
 
-pub returns-clause-fits : goal.returns-clause-fits
-returns-clause-fits c f system b =
+pub returns-then-is_own_space-clause-world : goal.returns-then-is_own_space-clause-world
+returns-then-is_own_space-clause-world c f system b t =
     let s : Slots = c.args.slots.now in
-    fits system (world_seen f s) s (slot_under c.args.leaf c.args.address) (offset c.args.address) 4 (Some (c.in-Some.spot, c.in-Some.index))
-    (c.in-Some.ensures.world f system b)
-
-pub returns-clause-world : goal.returns-clause-world
-returns-clause-world c f system b t =
-    let s : Slots = c.args.slots.now in
-    let p = c.in-Some.spot in
-    let h = changed s c.pay_for.new.slots c.store4.new.self c.pay_by.new.self (holder s p) c.args.leaf p (put_in c.in-Some.index (spelled 4 c.args.value))
-    c.requires.paid c.pay_for.ensures c.store4.ensures c.pay_by.ensures in
-    stored system (world_seen f s) s (slot_under c.args.leaf c.args.address) (offset c.args.address) 4 f c.pay_by.new.self (spelled 4 c.args.value)
-    (Some (p, c.in-Some.index)) refl (c.in-Some.ensures.world f system b) h t
+    let own = slot_under c.args.leaf c.args.address in
+    stored system (world_seen f s) s own (offset c.args.address) 4 f c.store4.new.self (spelled 4 c.args.value) (Some (own, offset c.args.address)) refl
+    (c.if-is_own_space.ensures.world refl f system b)
+    (subst (λ q. Puts s c.store4.new.self q (put_in (offset c.args.address) (spelled 4 c.args.value) (slot_of s q))) c.own_slot.ensures
+    c.store4.ensures) t
