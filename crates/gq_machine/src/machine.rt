@@ -169,26 +169,47 @@ fn first_state(alloc: Global, table: &NodeTable) -> Result<State, AllocError>
     ensures slots { IfOk result (λ m. AreFirstSlots table.now m.slots) }
     ensures leaves { IfOk result (λ m. AreFirst (components table.now) (length (components table.now)) m.leaves.items) }
 {
-    let slots = first_slots(alloc, table)?;
     let leaves = first_leaves(alloc, table)?;
-    Ok(State { leaves, slots })
+    match first_slots(alloc, table) {
+        Ok(slots) => Ok(State { leaves, slots }),
+        Err(refused) => Err(refused),
+    }
 }
 
-// What is fixed at load of a scenario whose leaves start with this code.
-fn fixed_of(alloc: Global, table: NodeTable, leaves: &[Leaf]) -> Result<Fixed, AllocError>
-    requires ready { IsReady table }
-    requires first { AreFirst (components table) (length (components table)) leaves.now }
-    ensures table { IfOk result (λ f. f.table ≡ table) }
-    ensures prepared { IfOk result (λ f. ArePrepared table (length (components table)) leaves.now f.prepared.items) }
-    ensures services { IfOk result (λ f. AreServices table f.services) }
+// What is prepared at load of a scenario whose leaves start with this code: of each leaf, and of the services.
+fn prepare(
+    alloc: Global,
+    table: &NodeTable,
+    leaves: &[Leaf],
+) -> Result<(Vec<Prepared>, Services), AllocError>
+    requires ready { IsReady table.now }
+    requires first { AreFirst (components table.now) (length (components table.now)) leaves.now }
+    ensures prepared { IfOk result (λ p. ArePrepared table.now (length (components table.now)) leaves.now p.0.items) }
+    ensures services { IfOk result (λ p. AreServices table.now p.1) }
 {
-    let prepared = prepared(alloc, &table, leaves)?;
-    let services = Services::new(alloc, &table)?;
-    Ok(Fixed {
-        table,
-        prepared,
-        services,
-    })
+    let prepared = prepared(alloc, table, leaves)?;
+    match Services::new(alloc, table) {
+        Ok(services) => Ok((prepared, services)),
+        Err(refused) => Err(refused),
+    }
+}
+
+// What changes, at the start of a scenario, and what is prepared for it.
+fn parts(alloc: Global, table: &NodeTable) -> Result<(State, (Vec<Prepared>, Services)), AllocError>
+    requires { IsReady table.now }
+    ensures slots { IfOk result (λ p. AreFirstSlots table.now p.0.slots) }
+    ensures leaves { IfOk result (λ p. AreFirst (components table.now) (length (components table.now)) p.0.leaves.items) }
+    ensures prepared { IfOk result (λ p. ArePrepared table.now (length (components table.now)) p.0.leaves.items p.1.0.items) }
+    ensures services { IfOk result (λ p. AreServices table.now p.1.1) }
+{
+    let state = first_state(alloc, table)?;
+    match prepare(alloc, table, state.leaves.as_slice()) {
+        Ok(prepared) => Ok((state, prepared)),
+        Err(refused) => {
+            drop(state);
+            Err(refused)
+        }
+    }
 }
 
 impl Machine {
@@ -198,9 +219,21 @@ impl Machine {
         ensures scenario { IfOk result (λ m. m.scenario ≡ table) }
         ensures world { IfOk result (λ m. m.world ≡ start (system table)) }
     {
-        let state = first_state(alloc, &table)?;
-        let fixed = fixed_of(alloc, table, state.leaves.as_slice())?;
-        Ok(Machine { fixed, state })
+        match parts(alloc, &table) {
+            Ok(parts) => {
+                let (state, prepared) = parts;
+                let fixed = Fixed {
+                    table,
+                    prepared: prepared.0,
+                    services: prepared.1,
+                };
+                Ok(Machine { fixed, state })
+            }
+            Err(refused) => {
+                drop(table);
+                Err(refused)
+            }
+        }
     }
 
     /// The nodes of the scenario.

@@ -102,10 +102,12 @@ impl Slots {
         ensures heaps { IfOk result (λ s. AreNew (length plan.leaves.items) s.heaps) }
     {
         let count = plan.leaves.len();
-        let trades = Trades::new(alloc, total, caps, plan, room)?;
         let own = slots_of(alloc, count)?;
         let heaps = heaps_of(alloc, count)?;
-        Ok(Slots { trades, own, heaps })
+        match Trades::new(alloc, total, caps, plan, room) {
+            Ok(trades) => Ok(Slots { trades, own, heaps }),
+            Err(refused) => Err(refused),
+        }
     }
 
     /// The leaf that pays for what is in a slot: the leaf whose own it is, or the server of its session.

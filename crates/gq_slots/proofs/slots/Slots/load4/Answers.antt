@@ -1,3 +1,4 @@
+use Rattle.std.proofs.Common.{rules}
 use Rattle.gq_slots.specs.Slots.{Slots}
 use Rattle.gq_slots.proofs.Answering.{at_inside, is_among}
 use Rattle.gq_slots.proofs.Inside.{slots_of}
@@ -9,3 +10,6 @@ load4-requires-clause-kept c =
     is_among s c.args.spot c.index.result.now c.thing-thing.result
     (at_inside c.args.self.now s c.args.spot c.index.result.now c.thing-thing.result c.holder-holder.result c.self.view_is c.self.invariant c.requires.there
     c.holder-holder.ensures.is c.holder-holder.ensures.there c.thing-thing.ensures.is c.index.ensures c.requires.paid)
+
+pub returns : goal.returns
+returns c = search rules
