@@ -1,3 +1,5 @@
+use Rattle.std.proofs.Common.{arith}
+use Rattle.std.proofs.lemmas.Grind.{common_steps}
 use Rattle.std.proofs.Common.{◌%◌}
 use Rattle.std.proofs.lemmas.Result.{err_from_is_err_and}
 use Rattle.gq_model.specs.texts.Decode.{sections_at}
@@ -29,3 +31,6 @@ loop-name-preserved c =
       ) (sections_skip l.sections.items c.args.order.now l.name-index l.bits l.count l.left.now all c.loop-name-test.true
           (bit_not (l.bits % 2) w.if-bits-eq1.false) l.invariant)
     ]
+
+pub returns : goal.returns
+returns c = grind (arith, common_steps)

@@ -1,3 +1,4 @@
+use Rattle.std.proofs.lemmas.Grind.{common_steps}
 use Rattle.std.proofs.Common.{arith, ◌≡◌, ℕ, List, ◌-◌, min, rules, ◌++◌, ◌≤◌, length, take, length-append, length-take}
 use Rattle.std.proofs.lemmas.List.{places}
 use Rattle.std.proofs.KnownBytes.{Consumes-trans}
@@ -19,3 +20,9 @@ returns-in_err-extend_from_slice-clause-most g c =
       still_fits held c.read_once.new.room c.loop-buffer.buffer c.min-asked.result c.in_ok-taken.taken c.len-in-loop-buffer.result size
           (search (rules, places)) c.min-asked.ensures c.read_once.auto.room c.in_ok-taken.ensures.bound.0,
     )
+
+pub loop-buffer-preserved : goal.loop-buffer-preserved
+loop-buffer-preserved g c = grind (arith, common_steps)
+
+pub loop-buffer-smaller : goal.loop-buffer-smaller
+loop-buffer-smaller g c = search rules

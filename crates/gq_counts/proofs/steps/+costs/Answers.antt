@@ -1,3 +1,4 @@
+use Rattle.std.proofs.Common.{rules}
 use Rattle.std.proofs.Common.{◌∙◌, ◌-◌, ◌*◌, ◌^◌, min, ap, arith}
 use Rattle.gq_model.specs.machine.Program.{size}
 use Rattle.gq_model.specs.rules.Budgets.{cost}
@@ -31,3 +32,6 @@ cost_of-returns-in-Loop t c =
     c.saturating_add-in-Loop.result
     c.cost-in-Loop.ensures c.saturating_add-round.ensures (c.saturating_mul.ensures ∙
     ap (λ n. min (c.saturating_add-round.result * n) (2 ^ 64 - 1)) c.from.ensures) c.saturating_add-in-Loop.ensures)
+
+pub cost_of-returns-in-If : goal.cost_of-returns-in-If
+cost_of-returns-in-If t c = search rules

@@ -1,3 +1,4 @@
+use Rattle.std.proofs.Common.{rules}
 use Rattle.std.proofs.Common.{arith}
 use Rattle.gq_heap.proofs.Sizes.{place_inside}
 use Rattle.gq_heap.proofs.chain.push.Goals as goal
@@ -9,3 +10,6 @@ pub store4-requires : goal.store4-requires
 store4-requires g c =
     rw (c.new.ensures, c.spot-chunk.ensures.chunk, c.spot-chunk.ensures.index)
     (omega (arith, place_inside _ _ c.requires.size c.args.place, c.requires.size.least))
+
+pub returns-clause-link : goal.returns-clause-link
+returns-clause-link g c = search rules

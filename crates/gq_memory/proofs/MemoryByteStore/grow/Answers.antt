@@ -34,3 +34,9 @@ returns-clause-rest c = elim c.match-alloc.branch [
   | in-Err-CapsExceeded w ↦ search rules
   | in-Err w ↦ search rules
 ]
+
+pub returns-clause-exceeded : goal.returns-clause-exceeded
+returns-clause-exceeded c = search rules
+
+pub returns-clause-caps : goal.returns-clause-caps
+returns-clause-caps c = search rules

@@ -1,3 +1,4 @@
+use Rattle.std.proofs.Common.{rules}
 use Rattle.std.proofs.Common.{refl}
 use Rattle.toml.specs.View.{table_view}
 use Rattle.gq_reader.proofs.Texts.{not_utf8, toml_read}
@@ -11,3 +12,6 @@ returns-in-Ok-table_from_str c =
     let (same, utf8) = c.in-Ok.ensures.cases in
     let parsed = rw same at c.in-Ok-table_from_str.ensures.ok in
     toml_read c.args.text.now (table_view c.in-Ok-table_from_str.table) c.if-text-gt-GREATEST_SCENARIO.false utf8 parsed
+
+pub returns-in-Err-2 : goal.returns-in-Err-2
+returns-in-Err-2 c = search rules

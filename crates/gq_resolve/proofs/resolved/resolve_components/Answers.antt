@@ -1,3 +1,4 @@
+use Rattle.std.proofs.Common.{rules}
 use Rattle.std.proofs.Common.{◌≡◌, ◌∙◌, List, None, map, ap, subst, sym}
 use Rattle.gq_model.specs.machine.Scenario.{Component, components}
 use Rattle.gq_model.specs.rules.Resolve.{routes_fault}
@@ -12,3 +13,6 @@ returns-clause-servers c =
     let is : c.in_ok-routes.routes ≡ routes_of s = c.in_ok-routes.ensures.routes ∙ ap (λ (cs : List Component). map (leaf_routes cs) cs) same in
     let none = subst (λ (cs : List Component). routes_fault cs ≡ None) same c.in_ok-routes.ensures.fault in
     subst (AreServers s) (sym is) (AreServers-routes_of s none)
+
+pub returns-clause-fault : goal.returns-clause-fault
+returns-clause-fault c = search rules

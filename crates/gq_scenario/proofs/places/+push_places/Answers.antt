@@ -1,3 +1,4 @@
+use Rattle.std.proofs.lemmas.Grind.{common_steps}
 use Rattle.std.proofs.Common.{ap, arith}
 use Rattle.gq_scenario.specs.Sizes.{node_count}
 use Rattle.gq_scenario.proofs.Tree_counts.{below_smaller}
@@ -12,3 +13,6 @@ push_places-requires t c =
     let here = count_here items l.node-index c.node-item.result c.in-Init._init c.in-Init.children c.loop-node-test.true c.node-item.is c.in-Init.is in
     let all = ap node_count c.nodes-node-items.ensures in
     (omega (arith, c.decreases, smaller, all), omega (arith, l.invariant.next, here, all, c.requires))
+
+pub loop-node-preserved : goal.loop-node-preserved
+loop-node-preserved t c = grind (arith, common_steps)

@@ -1,3 +1,4 @@
+use Rattle.std.proofs.Common.{rules}
 use Rattle.std.proofs.Common.{◌≡◌, ◌≤◌, ◌-◌, true, refl, arith, sym, ap, subst, ◌∙◌}
 use Rattle.gq_ram.specs.declared.account.Account.{Account}
 use Rattle.gq_ram.specs.Entries.{account_at, are_related, IsOpen}
@@ -40,3 +41,6 @@ set_quotas-requires-clause-balanced c =
     omega (arith, c.if-giver-amount.false, ap (λ (a : Account). a.quota.caps) giver, ap (λ (a : Account). a.used.caps) giver) in
     rw (giver, taker, ← v) (caps_balanced l f t c.args.amount c.self.invariant from to (related_apart l.accounts c.args.from c.args.to
     (λ k r e. (c.self.invariant.references k r e).1) related) enough)
+
+pub returns-then-giver-amount-clause-refused : goal.returns-then-giver-amount-clause-refused
+returns-then-giver-amount-clause-refused c = search rules

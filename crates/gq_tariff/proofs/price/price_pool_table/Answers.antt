@@ -1,0 +1,5 @@
+use Rattle.std.proofs.Common.{rules}
+use Rattle.gq_tariff.proofs.price.price_pool_table.Goals as goal
+
+pub returns : goal.returns
+returns c = search rules
