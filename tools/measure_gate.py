@@ -3,14 +3,21 @@
 
 It looks at the running checks several times a second, so what a check takes between the last look and its end is not counted. It ends with the
 status of what it ran. Where it is interrupted it ends what it ran, and tells what was taken so far.
+
+How long the same check takes changes with what others do on the machine, by a factor of two and more. So once a minute it does a small piece of work that
+is always the same, and tells at the end what that took: figures of two runs compare where their pieces took as long.
 """
+import array
 import os
+import statistics
 import subprocess
 import sys
 import time
 
 TOP = os.path.dirname(os.path.dirname(os.path.abspath(__file__)))
 TICKS = os.sysconf("SC_CLK_TCK")
+# The piece of work: so many places of a table of so many numbers are looked at, one after the other.
+STEPS, TABLE = 300_000, array.array("L", range(1 << 20))
 
 
 def words_of(process):
@@ -64,11 +71,21 @@ def look(top, taken, kinds):
             taken[process, start] = max(taken.get((process, start), 0.0), seconds)
 
 
+def piece():
+    """The processor seconds that the piece of work takes now."""
+    start, at = time.process_time(), 1
+    for _ in range(STEPS):
+        at = TABLE[(at * 1103515245 + 12345) % len(TABLE)]
+    return time.process_time() - start
+
+
 def main():
     ran = subprocess.Popen(sys.argv[1:] or ["./check"], cwd=TOP)
-    start, taken, kinds = time.monotonic(), {}, {}
+    start, taken, kinds, pieces = time.monotonic(), {}, {}, []
     try:
         while ran.poll() is None:
+            if time.monotonic() - start >= 60 * len(pieces):
+                pieces.append(piece())
             look(str(ran.pid), taken, kinds)
             time.sleep(0.2)
     except KeyboardInterrupt:
@@ -81,6 +98,8 @@ def main():
     for name in sorted({name for name, _ in together}):
         print(f"{name:20}" + "".join(f"{together.get((name, kind), 0):8.0f}" for kind in ("proof", "tests", "edits")))
     print(f"together {sum(together.values()):.0f} processor seconds, in {time.monotonic() - start:.0f} seconds")
+    if pieces:
+        print(f"a piece of work took {min(pieces):.3f} to {max(pieces):.3f} processor seconds, {statistics.median(pieces):.3f} in the middle")
     return ran.returncode
 
 
