@@ -5,7 +5,7 @@ It looks at the running checks several times a second, so what a check takes bet
 status of what it ran. Where it is interrupted it ends what it ran, and tells what was taken so far.
 
 How long the same check takes changes with what others do on the machine, by a factor of two and more. So once a minute it does a small piece of work that
-is always the same, and tells at the end what that took: figures of two runs compare where their pieces took as long.
+is always the same, and tells at the end what that took, as a hint of how fast the machine was.
 """
 import array
 import os
