@@ -1,4 +1,11 @@
 //! Laws of the account machine: theorems over its definitions alone, each the contract of a call that does nothing.
+//!
+//! ```rust
+//! use gq_laws::accepted::accepted_laws;
+//!
+//! // From here on the proof of this function knows of every run of a sound scenario.
+//! accepted_laws();
+//! ```
 #![tactic(auto)]
 
 pub mod accepted;

@@ -1,5 +1,13 @@
 //! The specification: the definitions of the account machine, its verifier, its code and its texts, in `specs/`, to be
 //! read in the order of `specs/Lib.antt`. The plain types that code and definitions share are declared here, once.
+//!
+//! ```rust
+//! use gq_model::letters::is_name;
+//! use gq_model::program::Name;
+//!
+//! assert!(rt; is_name(b"echo") && !is_name(b"Echo"));
+//! let echo = Name::new(b"echo");
+//! ```
 #![tactic(auto)]
 
 pub mod fault;

@@ -1,4 +1,16 @@
 //! Programs as trees: statements, the table of statements, and the interfaces that programs are written for.
+//!
+//! ```rust
+//! use gq_program::{Body, Instruction, Program, Section, Statement};
+//!
+//! // The program that says 7: `main`, `push 7`, `out`, `end`.
+//! let mut body = Body::new(alloc);
+//! body.push(Statement::Plain(Instruction::Push(7)))?;
+//! body.push(Statement::Plain(Instruction::Out))?;
+//! let mut sections = Vec::new(alloc);
+//! sections.push((Section::Main, body))?;
+//! let program = Program::new(sections, [u32::MAX; 8]);
+//! ```
 #![tactic(auto)]
 
 mod check;

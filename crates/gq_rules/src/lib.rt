@@ -1,4 +1,13 @@
 //! The rules for programs: what is known before and after a statement of each kind, and the first rule that it breaks.
+//!
+//! ```rust
+//! use gq_rules::{Context, State, Subject};
+//!
+//! // What a `push` makes of what is known, in `main` of the program that is judged.
+//! let context = Context::new(&subject, Section::Main);
+//! context.judged(&mut state, &Instruction::Push(7))?;
+//! assert_eq!(rt; state.pop(), Ok(7));
+//! ```
 #![tactic(auto)]
 
 pub mod broken;

@@ -2,6 +2,14 @@
 //!
 //! A [`Leaf`] has the code of its program and stands at a place in it. [`Leaf::run`] takes the steps in which the leaf alone has a part; who runs the
 //! leaf then does the operation that it came to, over the slots of the machine.
+//!
+//! ```rust
+//! use gq_steps::Leaf;
+//!
+//! let mut leaf = Leaf::new(alloc, &program, Phase::Running)?;
+//! // Up to a thousand turns, or up to the first operation in which others have a part.
+//! let (reached, left) = leaf.run(1000);
+//! ```
 #![tactic(auto)]
 
 pub mod asking;

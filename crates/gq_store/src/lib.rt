@@ -1,4 +1,14 @@
 //! Chunks of bytes that are paid for: what a heap, a sliced heap and a pool need of the memory that they lie in.
+//!
+//! ```rust
+//! use gq_store::ByteStore;
+//!
+//! // In any store a chunk comes as zeros, keeps what is written, and is paid for until it goes.
+//! let chunk = store.grow(1)?;
+//! store.store4(chunk, 8, 77);
+//! assert_eq!(rt; store.load4(chunk, 8), 77);
+//! store.shrink(chunk);
+//! ```
 #![tactic(auto)]
 
 ghost use Rattle.std.specs.Prelude.{◌≡◌, ℕ, ◌+◌, ◌*◌, ◌<◌, ◌≤◌, ◌↔◌, Option, Some, IfOk, OnErr, IsErrOf};

@@ -1,0 +1,201 @@
+#!/usr/bin/env python3
+"""tools/try_edits.py [--at FOLDER] [--jobs N] [CRATE..]: tries the must-fail edits of all crates, or of these: the prover has to refuse each.
+
+The edits of a crate are tried together, in one copy of its sources and one check of the functions that they change. That serves as well as a check for each,
+as a function is proved from what the functions that it calls promise, and not from their bodies: an edit in one body can break no goal of another function.
+And each edit counts as refused only where a goal of a function that it changes is open, or its answer fails, which says more than that the crate is refused.
+
+What is not refused so is tried once more without those that were, as the goals of a function may wait for a function that it calls. Edits that change
+one function, one cycle of functions, or the same line go into different checks. An edit that is not within bodies (of a clause, a definition, a proof), and
+one that was not refused beside others, is tried alone on the whole crate, as the toolchain's own `rt must-fail` tries each.
+
+The libraries are read below FOLDER, a copy of the repository in which `rt ci` has passed (else the repository itself). It ends with 0 where each edit was
+refused.
+"""
+import argparse
+import concurrent.futures
+import dataclasses
+import os
+import pathlib
+import re
+import shutil
+import subprocess
+import sys
+import tempfile
+
+from crates import PARTS, TOP, Crates
+from edits import BadEdit, cycle_named, read_edit, replaced
+
+# What is said of a text that can't be read, where one that is only false reads well.
+UNREADABLE = re.compile(r"is not in scope|has no field|is no name|operand is missing|expected the end|cannot continue")
+# What a proof file says where an edit took away a name, and so nothing of a contract.
+ABOUT_NAMES = re.compile(r"has no field|is not in scope|has no `|was not admitted")
+
+
+@dataclasses.dataclass
+class Told:
+    """What a check said: its exit status, its lines, and of each function what keeps it from being proved by itself."""
+
+    status: int
+    lines: list
+    refused: dict
+
+
+def check(crates, name, edits, kept, more=()):
+    """What a check says of a copy of a crate with some edits, over what the checks before it have kept in a folder; further words are given to it."""
+    # (tools/measure_gate.py knows the work by the folder's name)
+    with tempfile.TemporaryDirectory(prefix="rt-edits-") as room:
+        for part in PARTS:
+            if (TOP / "crates" / name / part).is_dir():
+                shutil.copytree(TOP / "crates" / name / part, pathlib.Path(room, part))
+        for edit in edits:
+            for file, old, new in edit.pairs:
+                path = pathlib.Path(room, file)
+                path.write_text(replaced(path.read_text(encoding="utf-8"), old, new), encoding="utf-8")
+        how = {"stdin": subprocess.DEVNULL, "stdout": subprocess.PIPE, "stderr": subprocess.STDOUT, "text": True, "errors": "replace"}
+        ran = subprocess.run(crates.check(name, ["--incremental", kept, *more]), cwd=room, check=False, **how)
+    return told(name, ran.returncode, ran.stdout.rstrip("\n").split("\n"))
+
+
+def told(name, status, lines):
+    """What a check said, from its lines. Of a goal without an answer it tells in notes, before the line of the function."""
+    refused, goals = {}, []
+    for line in lines:
+        answer = re.match(r"(?:\./)?proofs/(\S+)/(?:Answers|Proof|Invariants)\.antt:\d+:\d+: error: (.*)", line)
+        goal = re.match(r"note: src/\S+:\d+:\d+: (it is not proved .*)", line)
+        function = re.match(rf"fn {name}::(\S+): ", line)
+        if answer and not ABOUT_NAMES.search(answer[2]):
+            refused.setdefault(answer[1].replace("/", "::"), answer[2])
+        elif goal:
+            goals.append(goal[1])
+        elif function:
+            refused.update({function[1]: goals[0]} if goals and function[1] not in refused else {})
+            goals = []
+    return Told(status, lines, refused)
+
+
+def why_refused(edit, said):
+    """Why a check refuses an edit at a function that it changes, or nothing where it does not."""
+    for path, cycle in edit.functions:
+        for refused, why in said.refused.items():
+            if refused == path or cycle and refused.split("::")[-1] == f"+{cycle}":
+                return f"{path}: {why}"
+    return ""
+
+
+def breaks_others(name, edits, said):
+    """Whether a check refuses a function that none of these edits changes, so that they are better tried alone. The functions of a cycle have one proof."""
+    changed = {path for edit in edits for path, _ in edit.functions}
+    cycles = {cycle for edit in edits for _, cycle in edit.functions if cycle}
+    others = [path for path in said.refused if path not in changed and path.split("::")[-1].removeprefix("+") not in cycles]
+    return any(cycle_named(TOP / "crates" / name, path) not in cycles for path in others)
+
+
+def unread(said, edits):
+    """The first line by which a check tells that it can't read the crate with some edits, so that no contract was tried; nothing where it can."""
+    files = {file for edit in edits for file, _, _ in edit.pairs}
+    for line in said.lines:
+        found = re.match(r"(?:\./)?(\S+?):\d+:\d+: error: (?:(`[^`]*`): )?(.*)", line)
+        if found and (found[1] in files or found[1].startswith(("src/", "specs/"))):
+            if not found[2] or UNREADABLE.search(re.sub(r"`[^`]*`", "", found[3])):
+                return line
+    return ""
+
+
+def has_read(said, edits):
+    """Whether the crate was read and its functions looked at, so that what is not refused is proved or waits for another function."""
+    return said.status == 1 and re.match(r"logic=not-proved|only=", said.lines[-1]) is not None and not unread(said, edits)
+
+
+def parted(edits):
+    """Edits in groups, in each of which no two change one function, one cycle or one text."""
+    groups = []
+    for edit in edits:
+        for group in groups:
+            if not any(collide(edit, other) for other in group):
+                group.append(edit)
+                break
+        else:
+            groups.append([edit])
+    return groups
+
+
+def collide(one, other):
+    """Whether two edits can't be tried in one check."""
+    cycles = {cycle for _, cycle in one.functions if cycle} & {cycle for _, cycle in other.functions if cycle}
+    texts = any(file == another and (old in text or text in old) for file, old, _ in one.pairs for another, text, _ in other.pairs)
+    return bool(cycles or texts or {path for path, _ in one.functions} & {path for path, _ in other.functions})
+
+
+def try_together(crates, name, edits, kept):
+    """Tries edits within bodies in as few checks as can be. Gives why each is refused; those that are not refused so are not among them."""
+    found = {}
+    for group in parted(edits):
+        left = group
+        while left:
+            only = [word for edit in left for path, _ in sorted(edit.functions) for word in ("--only", path)]
+            said = check(crates, name, left, kept, only)
+            refused = {edit.name: why for edit in left if (why := why_refused(edit, said))}
+            if not refused or not has_read(said, left) or breaks_others(name, left, said):
+                break
+            found.update(refused)
+            left = [edit for edit in left if edit.name not in refused]
+    return found
+
+
+def try_alone(crates, name, edit, kept):
+    """Tries an edit on the whole crate, over what the checks before it have kept. Gives whether it was refused, and what is to be said."""
+    said = check(crates, name, [edit], kept)
+    if unread(said, [edit]):
+        return False, f"the prover can't read the crate with it: {unread(said, [edit])[:160]}"
+    if said.status == 1 and said.lines[-1].startswith("logic=not-proved"):
+        return True, next((line for line in said.lines if re.match(r"(note: )?\S+:\d+:\d+:", line)), said.lines[-1])[:160]
+    return False, "the crate is still proved with it" if said.status == 0 else "\n".join(said.lines[-6:])
+
+
+def try_crate(crates, name):
+    """Tries the edits of a crate. Gives a line for each, and whether it was refused."""
+    edits, lines = [], []
+    for path in sorted((TOP / "crates" / name / "must-fail").glob("*.edit")):
+        try:
+            edits.append(read_edit(path, TOP / "crates" / name))
+        except (BadEdit, OSError) as error:
+            lines.append((False, f"{name}/{path.name}: BAD EDIT: {error}"))
+    with tempfile.TemporaryDirectory(prefix="rt-edits-") as kept:
+        found = try_together(crates, name, [edit for edit in edits if edit.functions], kept)
+        for edit in edits:
+            if edit.name in found:
+                lines.append((True, f"{edit.name}: refused at {found[edit.name][:160]}"))
+            else:
+                refused, why = try_alone(crates, name, edit, kept)
+                lines.append((refused, f"{edit.name}: {'refused, alone' if refused else 'NOT REFUSED'}: {why}"))
+    return lines
+
+
+def weight(crates, name):
+    """How long the edits of a crate may take, beside those of others."""
+    edits = len(list((TOP / "crates" / name / "must-fail").glob("*.edit")))
+    return 10 * edits + len(crates.below(name)) if edits else 0
+
+
+def main():
+    parser = argparse.ArgumentParser(description=__doc__, formatter_class=argparse.RawDescriptionHelpFormatter)
+    parser.add_argument("--at", default=TOP, metavar="FOLDER")
+    parser.add_argument("--jobs", type=int, default=len(os.sched_getaffinity(0)), metavar="N")
+    parser.add_argument("crates", nargs="*", metavar="CRATE")
+    given = parser.parse_args()
+    crates = Crates(given.at)
+    names = sorted(given.crates or crates.uses, key=lambda name: -weight(crates, name))
+    lines = []
+    with concurrent.futures.ThreadPoolExecutor(given.jobs) as pool:
+        for tried in concurrent.futures.as_completed([pool.submit(try_crate, crates, name) for name in names if weight(crates, name)]):
+            for refused, line in tried.result():
+                print(f"must-fail {line}", flush=True)
+                lines.append((refused, line))
+    failed = [line for refused, line in lines if not refused]
+    print(f"{len(lines) - len(failed)} edits refused, {len(failed)} not")
+    return 1 if failed or not lines else 0
+
+
+if __name__ == "__main__":
+    sys.exit(main())
