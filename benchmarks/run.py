@@ -306,6 +306,54 @@ def runs(trade):
         row(f"{size // 1024} KiB", turn(trade, words_of(size), "a 1000000\n"))
 
 
+def checked(trade, scenario):
+    """The processor seconds of a check, the least of some runs, and the most host memory that it takes, in KiB."""
+    with tempfile.NamedTemporaryFile(suffix=".toml") as file:
+        file.write(scenario)
+        file.flush()
+        # (a child of this process would begin with the memory of this one, a child of `time` does not)
+        held = subprocess.run(["/usr/bin/time", "-f", "%M", trade, "check", file.name], capture_output=True, check=True).stderr
+        took = []
+        for _ in range(ROUNDS):
+            running = subprocess.Popen([trade, "check", file.name], stdout=subprocess.DEVNULL)
+            _, _, used = os.wait4(running.pid, 0)
+            took.append(used.ru_utime + used.ru_stime)
+    return min(took), int(held.split()[-1])
+
+
+def grown(trade, *heads_and_scenarios):
+    """Rows of checks: what each is of, its statements, its text, what it takes, for each statement (beyond leaves without any), and its host memory."""
+    table("Of", "Statements", "Text", "Time of `trade check`", "Each statement", "Host memory")
+    for head, text in heads_and_scenarios:
+        took, memory = checked(trade, text)
+        statements, least = text.count(b"push") + text.count(b"out"), checked(trade, scenario(text.count(b"start"), program([])))[0]
+        each = f"{(took - least) / statements * 1e9:.0f} ns"
+        row(head, statements, f"{len(text) // 1024} KiB", f"{took * 1e3:.1f} ms", each, f"{memory / 1024:.1f} MB")
+
+
+def growth(trade):
+    """How checks and runs grow: with leaves, texts, turns and sessions."""
+    pairs = ["push 1", "out"]
+    grown(trade, *((f"{leaves} leaves of 16 KiB", scenario(leaves, program(pairs * 1483))) for leaves in (1, 4, 16, 64)))
+    grown(trade, *((f"64 leaves, {size} KiB in all", scenario(64, program(pairs * ((size * 16 - 62) // 11)))) for size in (16, 64, 256, 1024)))
+    service = '[interface.echo]\narg = 1000\nreply = 2000\nneed = "8K"\nobject = 100\n'
+    server = ("srv", 'quantum = 0\nprovides = "echo"', "main\nend\nopen\nend\ncall 0\npush 2\nmul\nend\nclose 0\nend")
+    table("Turns", "numbers, ns a turn", "lines of numbers, ns a turn")
+    for count in (100000, 300000, 1000000):
+        numbers = system([("a", 'quantum = "4K"', rounds("index 0, push 16, mul, push 3, add, drop"))])
+        row(count, turn(trade, numbers, f"a {count}\n"), turn(trade, system([("a", 'quantum = "4K"', rounds("index 0, out"))]), f"a {count}\n"))
+    table("Sessions that stay open beside it", "a session opened, called and closed, ns a turn")
+    for others in (0, 60, 960, 3720):
+        leaves = [(f"c{n}", 'quantum = "512K"', "main\n" + "".join(f"open o{k} echo 8192\n" for k in range(60)) + "loop 60000\nend\n"
+                   + "".join(f"close o{k}\n" for k in range(60)) + "end") for n in range(others // 60)]
+        client = ("cli", 'quantum = "16K"', rounds("open o0 echo 8192, push 21, call o0, drop, close o0"))
+        opened = "srv 1\n" + "".join(f"c{n} 1\nsrv 2\n" * 60 for n in range(others // 60))
+        taken = opened + "cli 3\nsrv 3\n" * 100000
+        scenario_text = system([server, client, *leaves], service)
+        whole, idle = (min(answered(trade, scenario_text, text) for _ in range(ROUNDS)) for text in (taken, opened))
+        row(others, f"{(whole - idle) / 600000 * 1e9:.1f}")
+
+
 def main():
     benchmark, trade = sys.argv[1], sys.argv[2]
     programs(benchmark, trade)
@@ -317,6 +365,7 @@ def main():
     others(benchmark)
     trades(benchmark)
     runs(trade)
+    growth(trade)
 
 
 if __name__ == "__main__":

@@ -1,5 +1,5 @@
+pub use Rattle.gq_routes.specs.Routing
+pub use Rattle.gq_routes.specs.Served
 pub mod Resolved
-pub mod Routing
 pub mod Reaching
-pub mod Served
 pub mod internal

@@ -9,13 +9,11 @@
 #![tactic(auto)]
 
 pub mod after;
-pub mod component;
 pub mod cycle;
 pub mod fault;
 pub mod quanta;
 pub mod resolved;
-pub mod routes;
-pub mod routing;
-mod services;
+mod unrouted;
 
+pub use gq_routes::{component, routes, routing};
 pub use resolved::{resolve, resolve_components};

@@ -1,0 +1,21 @@
+use Rattle.std.proofs.Common.{[], ◌∷◌, ◌++◌, ◌+◌, ◌∙◌, ap, drop, map}
+use Rattle.gq_model.specs.rules.Resolve.{routes_fault}
+use Rattle.gq_model.specs.machine.Lists.{or_first}
+use Rattle.gq_routes.specs.Served.{leaf_routes}
+use Rattle.gq_routes.proofs.Pushed.{next_is, onto}
+use Rattle.gq_resolve.proofs.unrouted.all_routes.Goals as goal
+
+pub loop-place-preserved : goal.loop-place-preserved
+loop-place-preserved c =
+    let l = c.loop-place in
+    let all = c.args.components.now in
+    let x = c.index-components-place.result in
+    let e = next_is all l.place x c.loop-place-test.true c.index-components-place.is in
+    let rest = drop (l.place + 1) all in
+    record {
+      routes =
+          onto l.leaves.items c.push.new.self.items (leaf_routes all x ∷ []) (map (leaf_routes all) rest) (map (leaf_routes all) (drop l.place all))
+          (map (leaf_routes all) all) (c.in_ok-push.ensures.items ∙ ap (λ r. l.leaves.items ++ r ∷ []) c.in_ok-leaf_routes.ensures.routes)
+          (ap (map (leaf_routes all)) e) l.invariant.routes;
+      fault = l.invariant.fault ∙ (ap routes_fault e ∙ ap (λ f. or_first f (routes_fault rest)) c.in_ok-leaf_routes.ensures.fault);
+    }

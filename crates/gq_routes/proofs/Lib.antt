@@ -1,0 +1,2 @@
+pub mod Opened_services
+pub mod Pushed
