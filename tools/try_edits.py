@@ -58,14 +58,17 @@ def check(crates, name, edits, kept, more=()):
 
 
 def told(name, status, lines):
-    """What a check said, from its lines. Of a goal without an answer it tells in notes, before the line of the function."""
+    """What a check said, from its lines. Of a goal without an answer it tells in notes, before the line of the function.
+
+    The answers of a cycle of functions, and of one that calls itself, are in a folder with a `+` in front of the name.
+    """
     refused, goals = {}, []
     for line in lines:
         answer = re.match(r"(?:\./)?proofs/(\S+)/(?:Answers|Proof|Invariants)\.antt:\d+:\d+: error: (.*)", line)
         goal = re.match(r"note: src/\S+:\d+:\d+: (it is not proved .*)", line)
         function = re.match(rf"fn {name}::(\S+): ", line)
         if answer and not ABOUT_NAMES.search(answer[2]):
-            refused.setdefault(answer[1].replace("/", "::"), answer[2])
+            refused.setdefault(answer[1].replace("/", "::").replace("+", ""), answer[2])
         elif goal:
             goals.append(goal[1])
         elif function:
@@ -78,7 +81,7 @@ def why_refused(edit, said):
     """Why a check refuses an edit at a function that it changes, or nothing where it does not."""
     for path, cycle in edit.functions:
         for refused, why in said.refused.items():
-            if refused == path or cycle and refused.split("::")[-1] == f"+{cycle}":
+            if refused == path or cycle and refused.split("::")[-1] == cycle:
                 return f"{path}: {why}"
     return ""
 
@@ -87,7 +90,7 @@ def breaks_others(name, edits, said):
     """Whether a check refuses a function that none of these edits changes, so that they are better tried alone. The functions of a cycle have one proof."""
     changed = {path for edit in edits for path, _ in edit.functions}
     cycles = {cycle for edit in edits for _, cycle in edit.functions if cycle}
-    others = [path for path in said.refused if path not in changed and path.split("::")[-1].removeprefix("+") not in cycles]
+    others = [path for path in said.refused if path not in changed and path.split("::")[-1] not in cycles]
     return any(cycle_named(TOP / "crates" / name, path) not in cycles for path in others)
 
 
