@@ -1,5 +1,5 @@
 #!/usr/bin/env python3
-"""tests/run_edit_reading.py: tries how tools/try_edits.py reads edits and what a check says, over small texts, in milliseconds. Ends with 0 where all is well."""
+"""tests/run_edit_reading.py: tries how tools/try_edits.py reads edits and what a check says, over small texts. Ends with 0 where all is well."""
 import pathlib
 import sys
 import tempfile
@@ -8,6 +8,7 @@ import unittest
 TOP = pathlib.Path(__file__).resolve().parent.parent
 sys.path.insert(0, str(TOP / "tools"))
 sys.dont_write_bytecode = True
+from crates import Crates  # noqa: E402
 from edits import BadEdit, read_edit  # noqa: E402
 from try_edits import Told, breaks_others, has_read, parted, told, unread, why_refused  # noqa: E402
 
@@ -88,13 +89,14 @@ class Reading(unittest.TestCase):
         self.assertEqual(parted([half, even, odd]), [[half, even], [odd]])
 
     def test_what_is_refused(self):
-        half, even, start = self.edit(("self.size / 2", "self.size")), self.edit(("n == 0", "n == 1")), self.edit(("Box { size: ball.size }", "Box { size: 0 }"))
+        half, even = self.edit(("self.size / 2", "self.size")), self.edit(("n == 0", "n == 1"))
+        start = self.edit(("Box { size: ball.size }", "Box { size: 0 }"))
         said = told("shapes", 1, REFUSED.split("\n"))
         self.assertEqual(set(said.refused), {"shapes::Box::half", "methods::even"})
         self.assertTrue(why_refused(half, said) and why_refused(even, said) and has_read(said, [half, even]))
         self.assertEqual(why_refused(start, said), "")
-        self.assertFalse(breaks_others("gq_numbered", [half, even], said))
-        self.assertTrue(breaks_others("gq_numbered", [half], said))
+        self.assertFalse(breaks_others(Crates(), "gq_numbered", [half, even], said))
+        self.assertTrue(breaks_others(Crates(), "gq_numbered", [half], said))
 
     def test_what_says_nothing_of_a_contract(self):
         half = self.edit(("self.size / 2", "self.size"))
@@ -103,6 +105,21 @@ class Reading(unittest.TestCase):
         self.assertTrue(unread(Told(1, ["src/methods.rt:5:9: error[unknown-name]: cannot find it", "src/methods.rt:5:9: error: no such type"], {}), [half]))
         self.assertFalse(has_read(Told(1, ["src/methods.rt:5:9: error[unknown-name]: cannot find it"], {}), [half]))
         self.assertFalse(has_read(Told(0, ["only=1 proved=1"], {}), [half]))
+
+    def test_verdicts_decide(self):
+        half = self.edit(("self.size / 2", "self.size"))
+        answer = "./proofs/shapes/Box/half/Answers.antt:5:13: error: `returns`: no proof of it"
+        for verdict, is_refused in (("not proved", True), ("no proof: `search` did not prove it", True), ("proved", False), ("could not tell", False)):
+            said = told("shapes", 1, [answer, f"fn shapes::shapes::Box::half: {verdict}", "only=1 proved=0"])
+            self.assertEqual(why_refused(half, said) != "", is_refused)
+
+    def test_files_outside(self):
+        path = self.crate / "must-fail" / "outside.edit"
+        path.parent.mkdir(exist_ok=True)
+        for file in ("/etc/hostname", "src/../../lib.rt", "must-fail/a.edit"):
+            path.write_text(f"file: {file}\nold: a\nnew: b\n", encoding="utf-8")
+            with self.assertRaises(BadEdit):
+                read_edit(path, self.crate)
 
     def test_all_edits_of_the_repository(self):
         for path in sorted(TOP.glob("crates/*/must-fail/*.edit")):

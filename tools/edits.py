@@ -4,6 +4,7 @@ An edit is a file with lines `file: src/lib.rt`, `old: TEXT` and `new: TEXT`, as
 apply to what the earlier ones made. Where its text is not within a body, a line `function: leaf::Leaf::said` may say which function it is for.
 """
 import dataclasses
+import os
 import pathlib
 import re
 
@@ -36,13 +37,19 @@ def read_edit(path, sources):
             declared.add((line[len("function: "):].strip(), ""))
         elif line.startswith("file: "):
             file = line[len("file: "):].strip()
+            if os.path.normpath(file) != file or not file.startswith(("src/", "specs/", "proofs/")):
+                raise BadEdit(f"{file!r} is no file below src/, specs/ or proofs/")
         elif line.startswith("old: "):
+            if old is not None:
+                raise BadEdit(f"no line 'new:' stands behind 'old: {old}'")
             old = line[len("old: "):]
         elif line.startswith("new:"):
             if file is None or old is None:
                 raise BadEdit("a line 'new:' stands before any 'file:' or 'old:'")
             pairs.append((file, old, line[len("new:"):].removeprefix(" ")))
             old = None
+    if old is not None:
+        raise BadEdit(f"no line 'new:' stands behind 'old: {old}'")
     if not pairs:
         raise BadEdit("it has no lines 'old:' and 'new:'")
     edit = Edit(path, pairs, set())
@@ -75,9 +82,15 @@ def function_at(sources, file, text, at):
     # The body begins at the first line that ends in its brace: that of the signature, or one that is the brace alone, behind the clauses.
     begin = next((number for number in range(first, here + 1) if opens_body(lines[number], indent, number == first)), None)
     left = any(line == indent + "}" for line in lines[first:here])
-    if begin is None or left or begin == here and begin != first:
+    # A body on the line of the signature ends there, and a place on a line that opens a body is in it only behind the brace.
+    column = at - text.rfind("\n", 0, at) - 1
+    ended = begin == first != here and lines[first].endswith("}")
+    if begin is None or left or ended or begin == here and (begin != first or column <= lines[here].find("{")):
         return None
-    return "::".join([*path_of(sources, file, owner(lines, first, indent)), name]), cycle_of(lines, first)
+    kind = owner(lines, first, indent)
+    if kind is None:
+        return None
+    return "::".join([*path_of(sources, file, kind), name]), cycle_of(lines, first)
 
 
 def path_of(sources, file, kind):
@@ -98,7 +111,10 @@ def owner(lines, first, indent):
     """The type of the impl in which a function stands, and behind it the trait, as a check prints both; nothing for a function of a module."""
     if not indent:
         return []
-    head = next(line for line in reversed(lines[:first]) if (found := IMPL.match(line)) and len(found[1]) < len(indent))
+    # The block in which it stands: nothing where that is no impl (a trait, a module, another function).
+    head = next((line for line in reversed(lines[:first]) if line.strip() not in ("", "{", "where") and len(line) - len(line.lstrip()) < len(indent)), "")
+    if not IMPL.match(head):
+        return None
     head = without_brackets(head.strip().removeprefix("impl").split(" where ")[0].rstrip("{ "))
     trait, _, kind = head.rpartition(" for ")
     return ["".join(re.findall(r"\w+", kind)), "".join(re.findall(r"\w+", trait))]
@@ -137,7 +153,7 @@ def cycle_named(sources, path):
         for at, line in enumerate(lines):
             found = FUNCTION.match(line)
             if found and found[2] == path.split("::")[-1] and cycle_of(lines, at):
-                if "::".join([*path_of(sources, short, owner(lines, at, found[1])), found[2]]) == path:
+                if "::".join([*path_of(sources, short, owner(lines, at, found[1]) or []), found[2]]) == path:
                     return cycle_of(lines, at)
     return ""
 

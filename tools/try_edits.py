@@ -30,6 +30,10 @@ from edits import BadEdit, cycle_named, read_edit, replaced
 UNREADABLE = re.compile(r"is not in scope|has no field|is no name|operand is missing|expected the end|cannot continue")
 # What a proof file says where an edit took away a name, and so nothing of a contract.
 ABOUT_NAMES = re.compile(r"has no field|is not in scope|has no `|was not admitted")
+# What is said of a function whose contract is not well formed, so that nothing of it was tried.
+NOT_STATED = "antt did not admit its contract or its `statement`"
+# What is said of a goal that can't be proved, for certain.
+IS_FALSE = "allow values at which this goal is false"
 
 
 @dataclasses.dataclass
@@ -46,8 +50,8 @@ def check(crates, name, edits, kept, more=()):
     # (tools/measure_gate.py knows the work by the folder's name)
     with tempfile.TemporaryDirectory(prefix="rt-edits-") as room:
         for part in PARTS:
-            if (TOP / "crates" / name / part).is_dir():
-                shutil.copytree(TOP / "crates" / name / part, pathlib.Path(room, part))
+            if (crates.folder(name) / part).is_dir():
+                shutil.copytree(crates.folder(name) / part, pathlib.Path(room, part))
         for edit in edits:
             for file, old, new in edit.pairs:
                 path = pathlib.Path(room, file)
@@ -58,46 +62,56 @@ def check(crates, name, edits, kept, more=()):
 
 
 def told(name, status, lines):
-    """What a check said, from its lines. Of a goal without an answer it tells in notes, before the line of the function.
-
-    The answers of a cycle of functions, and of one that calls itself, are in a folder with a `+` in front of the name.
-    """
-    refused, goals = {}, []
+    """What a check said, from its lines. Of a goal without an answer it tells in notes, before the line of the function."""
+    refused, goals, verdicts, renamed = {}, [], {}, set()
     for line in lines:
-        answer = re.match(r"(?:\./)?proofs/(\S+)/(?:Answers|Proof|Invariants)\.antt:\d+:\d+: error: (.*)", line)
+        answer = re.match(r"(?:\./)?proofs/(\S+)/(?:Answers|Proof)\.antt:\d+:\d+: error: (.*)", line)
         goal = re.match(r"note: src/\S+:\d+:\d+: (it is not proved .*)", line)
         function = re.match(rf"fn {name}::(\S+): ", line)
-        if answer and not ABOUT_NAMES.search(answer[2]):
-            refused.setdefault(answer[1].replace("/", "::").replace("+", ""), answer[2])
+        if answer and ABOUT_NAMES.search(answer[2]):
+            renamed.add(answer[1].replace("/", "::"))
+        elif answer:
+            refused.setdefault(answer[1].replace("/", "::"), answer[2])
         elif goal:
             goals.append(goal[1])
         elif function:
-            refused.update({function[1]: goals[0]} if goals and function[1] not in refused else {})
-            goals = []
-    return Told(status, lines, refused)
+            # A goal that has another name now lacks its answer: then it counts only where it is false.
+            open_goals = [goal for goal in goals if IS_FALSE in goal or not renamed & {*proofs_of(function[1])}]
+            refused.update({function[1]: open_goals[0]} if open_goals and function[1] not in refused else {})
+            goals, verdicts[function[1]] = [], line[function.end():]
+    # What is proved all the same, or what antt could not tell, is not refused.
+    return Told(status, lines, {path: why for path, why in refused.items() if verdicts.get(path, "not proved").startswith(("not proved", "no proof"))})
+
+
+def proofs_of(path):
+    """The paths below `proofs` at which the proof of a function may stand: its own, and one with a `+` where it calls itself."""
+    above, colons, last = path.rpartition("::")
+    return path, f"{above}{colons}+{last}"
 
 
 def why_refused(edit, said):
     """Why a check refuses an edit at a function that it changes, or nothing where it does not."""
     for path, cycle in edit.functions:
         for refused, why in said.refused.items():
-            if refused == path or cycle and refused.split("::")[-1] == cycle:
+            if refused in proofs_of(path) or cycle and refused.split("::")[-1] == f"+{cycle}":
                 return f"{path}: {why}"
     return ""
 
 
-def breaks_others(name, edits, said):
+def breaks_others(crates, name, edits, said):
     """Whether a check refuses a function that none of these edits changes, so that they are better tried alone. The functions of a cycle have one proof."""
-    changed = {path for edit in edits for path, _ in edit.functions}
+    changed = {proof for edit in edits for path, _ in edit.functions for proof in proofs_of(path)}
     cycles = {cycle for edit in edits for _, cycle in edit.functions if cycle}
-    others = [path for path in said.refused if path not in changed and path.split("::")[-1] not in cycles]
-    return any(cycle_named(TOP / "crates" / name, path) not in cycles for path in others)
+    others = [path for path in said.refused if path not in changed and path.split("::")[-1] not in {f"+{cycle}" for cycle in cycles}]
+    return any(cycle_named(crates.folder(name), path) not in cycles for path in others)
 
 
 def unread(said, edits):
     """The first line by which a check tells that it can't read the crate with some edits, so that no contract was tried; nothing where it can."""
     files = {file for edit in edits for file, _, _ in edit.pairs}
     for line in said.lines:
+        if NOT_STATED in line:
+            return line
         found = re.match(r"(?:\./)?(\S+?):\d+:\d+: error: (?:(`[^`]*`): )?(.*)", line)
         if found and (found[1] in files or found[1].startswith(("src/", "specs/"))):
             if not found[2] or UNREADABLE.search(re.sub(r"`[^`]*`", "", found[3])):
@@ -126,7 +140,8 @@ def parted(edits):
 def collide(one, other):
     """Whether two edits can't be tried in one check."""
     cycles = {cycle for _, cycle in one.functions if cycle} & {cycle for _, cycle in other.functions if cycle}
-    texts = any(file == another and (old in text or text in old) for file, old, _ in one.pairs for another, text, _ in other.pairs)
+    both = [(pair, another) for pair in one.pairs for another in other.pairs if pair[0] == another[0]]
+    texts = any(old in text or text in old or old in put for (_, old, _), (_, text, put) in both)
     return bool(cycles or texts or {path for path, _ in one.functions} & {path for path, _ in other.functions})
 
 
@@ -137,9 +152,12 @@ def try_together(crates, name, edits, kept):
         left = group
         while left:
             only = [word for edit in left for path, _ in sorted(edit.functions) for word in ("--only", path)]
-            said = check(crates, name, left, kept, only)
+            try:
+                said = check(crates, name, left, kept, only)
+            except BadEdit:
+                break
             refused = {edit.name: why for edit in left if (why := why_refused(edit, said))}
-            if not refused or not has_read(said, left) or breaks_others(name, left, said):
+            if not refused or not has_read(said, left) or breaks_others(crates, name, left, said):
                 break
             found.update(refused)
             left = [edit for edit in left if edit.name not in refused]
@@ -152,7 +170,9 @@ def try_alone(crates, name, edit, kept):
     if unread(said, [edit]):
         return False, f"the prover can't read the crate with it: {unread(said, [edit])[:160]}"
     if said.status == 1 and said.lines[-1].startswith("logic=not-proved"):
-        return True, next((line for line in said.lines if re.match(r"(note: )?\S+:\d+:\d+:", line)), said.lines[-1])[:160]
+        at = [line for line in said.lines if re.match(r"(note: )?\S+:\d+:\d+:", line) and (": error" in line or line.startswith("note: "))]
+        why = next((line for line in at if not re.match(r"(\./)?proofs/", line) or not ABOUT_NAMES.search(line)), "" if at else said.lines[-1])
+        return why != "", why[:160] or "only a proof file names what the edit took away, which says nothing of a contract"
     return False, "the crate is still proved with it" if said.status == 0 else "\n".join(said.lines[-6:])
 
 
@@ -161,8 +181,8 @@ def try_crate(crates, name):
     edits, lines = [], []
     for path in sorted((TOP / "crates" / name / "must-fail").glob("*.edit")):
         try:
-            edits.append(read_edit(path, TOP / "crates" / name))
-        except (BadEdit, OSError) as error:
+            edits.append(read_edit(path, crates.folder(name)))
+        except (BadEdit, OSError, UnicodeError) as error:
             lines.append((False, f"{name}/{path.name}: BAD EDIT: {error}"))
     with tempfile.TemporaryDirectory(prefix="rt-edits-") as kept:
         found = try_together(crates, name, [edit for edit in edits if edit.functions], kept)
@@ -189,12 +209,14 @@ def main():
     given = parser.parse_args()
     crates = Crates(given.at)
     names = sorted(given.crates or crates.uses, key=lambda name: -weight(crates, name))
-    lines = []
-    with concurrent.futures.ThreadPoolExecutor(given.jobs) as pool:
+    lines, pool = [], concurrent.futures.ThreadPoolExecutor(given.jobs)
+    try:
         for tried in concurrent.futures.as_completed([pool.submit(try_crate, crates, name) for name in names if weight(crates, name)]):
             for refused, line in tried.result():
                 print(f"must-fail {line}", flush=True)
                 lines.append((refused, line))
+    finally:
+        pool.shutdown(cancel_futures=True)
     failed = [line for refused, line in lines if not refused]
     print(f"{len(lines) - len(failed)} edits refused, {len(failed)} not")
     return 1 if failed or not lines else 0
