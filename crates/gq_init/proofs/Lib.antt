@@ -2,3 +2,5 @@ pub mod Turning
 pub mod Counts
 pub mod Rows
 pub mod Named
+pub mod Ahead
+pub mod Fronts

@@ -1,11 +1,80 @@
 // Where leaves may be found by their names.
-ghost use Rattle.std.specs.Prelude.{◌<◌};
+ghost use Rattle.std.specs.Prelude.{◌≡◌, true, ◌<◌, ◌≤◌, ◌+◌, ◌++◌, drop, length};
+ghost use Rattle.std.specs.Int.{to_le_bytes, w32};
+ghost use Rattle.gq_init.specs.internal.Ahead.{four_at};
+
+use gq_scenario::lines::same_bytes;
 
 // How many places names are spread over: many more than there are leaves, so that it seldom takes long until each has one of its own.
 const PLACES: usize = 1024;
 
 // What stands at a place that no leaf has.
 const NO_LEAF: u8 = 255;
+
+/// How many bytes of a text are looked at for a name: the most that a name has.
+pub(crate) const AHEAD: usize = 16;
+
+// The same byte eight times: 1, a space, and the upper bit of each.
+const ONES: u64 = 0x0101_0101_0101_0101;
+
+const SPACES: u64 = 0x2020_2020_2020_2020;
+
+const UPPER_BITS: u64 = 0x8080_8080_8080_8080;
+
+// Eight bytes of a text as a number. It is inlined once it is one load, and not before.
+fn eight(text: &[u8], from: usize) -> u64
+    requires { from + 8 ≤ length text.now }
+{
+    u64::from_le_bytes([
+        text[from],
+        text[from + 1],
+        text[from + 2],
+        text[from + 3],
+        text[from + 4],
+        text[from + 5],
+        text[from + 6],
+        text[from + 7],
+    ])
+}
+
+// Four bytes of a text as a number.
+fn four(text: &[u8], from: usize) -> u32
+    requires { from + 4 ≤ length text.now }
+    ensures { to_le_bytes w32 result ≡ four_at text.now from }
+{
+    u32::from_le_bytes([text[from], text[from + 1], text[from + 2], text[from + 3]])
+}
+
+/// Whether a text begins with this name. Most names have at most eight bytes: these are compared by their first and their last four, or one by one.
+#[inline(always)]
+pub(crate) fn is_ahead(name: &[u8], text: &[u8]) -> bool
+    requires some { 0 < length name.now }
+    requires within { length name.now ≤ length text.now }
+    ensures { result ≡ true → text.now ≡ name.now ++ drop (length name.now) text.now }
+{
+    let end = name.len();
+    if end > 8 {
+        return same_bytes(&text[..end], name);
+    }
+    if end >= 4 {
+        return four(text, 0) == four(name, 0) && four(text, end - 4) == four(name, end - 4);
+    }
+    text[0] == name[0] && text[end - 1] == name[end - 1] && (end < 3 || text[1] == name[1])
+}
+
+// Marks spaces among eight bytes: 0 where there is none, else the lowest bit that is set is the upper bit of the first.
+#[inline(always)]
+fn spaces(bytes: u64) -> u64 {
+    let others = bytes ^ SPACES;
+    others.wrapping_sub(ONES) & !others & UPPER_BITS
+}
+
+// Those of eight bytes that stand before the first space, of which these are the marks; all where there is none.
+#[inline(always)]
+fn before_space(bytes: u64, spaces: u64) -> u64 {
+    let first = spaces & spaces.wrapping_neg();
+    bytes & (first >> 7).wrapping_sub(1)
+}
 
 /// For each place the number of the leaf whose name is spread to it. It is a hint: whoever asks compares the leaf's name.
 #[derive(Drop)]
@@ -29,20 +98,36 @@ impl NameIndex {
         self.leaves = [NO_LEAF; PLACES];
     }
 
-    /// The place of a name.
-    fn place(&self, name: &[u8]) -> usize
+    // The place of what stands before the first space of a text: a name, of which eight bytes are looked at at once.
+    #[inline(always)]
+    fn place(&self, text: &[u8]) -> usize
+        requires { AHEAD ≤ length text.now }
         ensures { result < PLACES }
     {
-        let mut sum: u64 = 0;
-        for byte in name {
-            sum = sum.rotate_left(5) ^ u64::from(*byte);
+        let front = eight(text, 0);
+        let marks = spaces(front);
+        let mut name = before_space(front, marks);
+        if marks == 0 {
+            let back = eight(text, 8);
+            name = name.rotate_left(29) ^ before_space(back, spaces(back));
         }
-        (sum.wrapping_mul(self.factor) >> 54) as usize % PLACES
+        (name.wrapping_mul(self.factor) >> 54) as usize % PLACES
+    }
+
+    // The place of a name.
+    fn place_of(&self, name: &[u8]) -> usize
+        ensures { result < PLACES }
+    {
+        let mut text = [b' '; AHEAD];
+        for place in 0..name.len().min(AHEAD) {
+            text[place] = name[place];
+        }
+        self.place(&text)
     }
 
     /// Puts the number of a leaf of this name at its place, and tells whether that was free.
     pub(crate) fn put(&mut self, name: &[u8], number: u8) -> bool {
-        let place = self.place(name);
+        let place = self.place_of(name);
         let is_free = self.leaves[place] == NO_LEAF;
         self.leaves[place] = number;
         is_free
@@ -50,6 +135,14 @@ impl NameIndex {
 
     /// The number of the leaf at the place of this name, or one that no leaf has.
     pub(crate) fn number(&self, name: &[u8]) -> usize {
-        usize::from(self.leaves[self.place(name)])
+        usize::from(self.leaves[self.place_of(name)])
+    }
+
+    /// The same for the name that stands at the front of a text, with a space after it where it has less than 16 bytes.
+    #[inline(always)]
+    pub(crate) fn number_ahead(&self, text: &[u8]) -> usize
+        requires { AHEAD ≤ length text.now }
+    {
+        usize::from(self.leaves[self.place(text)])
     }
 }

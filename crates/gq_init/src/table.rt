@@ -7,9 +7,10 @@ ghost use Rattle.gq_model.specs.machine.Scenario.{below, components};
 ghost use Rattle.gq_model.specs.texts.Letters.{is_name};
 ghost use Rattle.gq_resolve.specs.Served.{server_at, AreServers};
 ghost use Rattle.gq_scenario.specs.Sizes.{node_count, leaf_places, depth};
+ghost use Rattle.gq_init.specs.internal.Ahead.{IsLeafAhead};
 ghost use Rattle.gq_init.specs.NodeTables.{IsNodeOf, all_rows, interface_number, leaf_row, leaf_rows, node_rows, rows_of};
 
-use crate::names::NameIndex;
+use crate::names::{AHEAD, NameIndex, is_ahead};
 use arrayvec::ArrayVec;
 use gq_model::limits::{GREATEST_LABEL, GREATEST_LEAVES};
 use gq_model::program::Name;
@@ -481,6 +482,38 @@ impl NodeTable {
         let entry = self.row(leaf);
         if same_bytes(name, entry.name.as_bytes()) {
             return Some(leaf);
+        }
+        None
+    }
+
+    /// The leaf whose name stands at the front of a text with a space behind it, where an index of the table's names leads to it, and what follows the space.
+    /// `None` says nothing.
+    #[inline(always)]
+    pub(crate) fn leaf_ahead<'a>(
+        &self,
+        names: &NameIndex,
+        text: &'a [u8],
+    ) -> Option<(LeafNo, &'a [u8])>
+        ensures ahead { IfSome result (λ r. IsLeafAhead (components self.now) text.now r.0 r.1.now) }
+        ensures there { IfSome result (λ r. r.0 < length (components self.now)) }
+    {
+        if text.len() < AHEAD {
+            return None;
+        }
+        self.scenario.laws();
+        let number = names.number_ahead(text);
+        if number >= self.leaf_count() {
+            return None;
+        }
+        let leaf = LeafNo::new(number as u32);
+        let entry = self.row(leaf);
+        let name = entry.name.as_bytes();
+        let end = name.len();
+        if text.len() <= end || text[end] != b' ' {
+            return None;
+        }
+        if is_ahead(name, text) {
+            return Some((leaf, &text[end + 1..]));
         }
         None
     }

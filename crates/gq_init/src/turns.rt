@@ -1,9 +1,11 @@
 // Turns, as texts say them.
-ghost use Rattle.std.specs.Prelude.{◌≡◌, ◌==◌, ◌∷◌, ◌≤◌, ◌^◌, ◌+◌, length, IfOk, IfSome, alloc_error};
+ghost use Rattle.std.specs.Prelude.{◌≡◌, ℕ, ◌==◌, ◌∷◌, ◌<◌, ◌≤◌, ◌^◌, ◌+◌, length, option_map, slice_index, IfNone, IfOk, IfSome};
+ghost use Rattle.std.specs.Prelude.{alloc_error};
 ghost use Rattle.gq_model.specs.texts.Letters.{pieces};
 ghost use Rattle.gq_model.specs.machine.Scenario.{components};
 ghost use Rattle.gq_model.specs.texts.Turns.{turned, turns_from, turn_in, turn_count, says_nothing, greatest_turns};
 ghost use Rattle.gq_model.specs.texts.Letters.{lines};
+ghost use Rattle.gq_init.specs.internal.Ahead.{IsCommentAhead, IsCountAhead, IsLineAhead, IsTurnAhead};
 ghost use Rattle.gq_init.specs.TurnLines.{IsTurned, line_turn};
 
 use crate::names::NameIndex;
@@ -13,6 +15,7 @@ use gq_model::letters::{is_digit, is_name};
 use gq_model::limits::{GREATEST_TURNS, GREATEST_TURNS_TEXT};
 use gq_scenario::lines::{next_line, next_piece};
 use gq_scenario::scenario::LeafNo;
+use memchr::memchr;
 use std::alloc::{AllocError, AllocFailed, Global};
 use thiserror::Error;
 
@@ -98,6 +101,7 @@ fn read_turn(line: &[u8], table: &NodeTable, names: &NameIndex) -> Result<(LeafN
 }
 
 // What a line says after so many turns: nothing, or a turn, unless there are too many with it.
+#[inline(never)]
 fn read_line(
     line: &[u8],
     turns: u32,
@@ -121,6 +125,102 @@ fn read_line(
     Ok(Some(turn))
 }
 
+// The number that stands at the front of a text with a line feed behind it, and what follows that. `None` says nothing.
+#[inline(always)]
+fn count_ahead(text: &[u8]) -> Option<(u32, &[u8])>
+    ensures { IfSome result (λ r. IsCountAhead text.now r.0 r.1.now) }
+{
+    if text.is_empty() || text[0] < b'1' || text[0] > b'9' {
+        return None;
+    }
+    let mut number = u32::from(text[0] - b'0');
+    for place in 1..text.len().min(8) {
+        let byte = text[place];
+        if byte == b'\n' {
+            return Some((number, &text[place + 1..]));
+        }
+        if !is_digit(byte) {
+            return None;
+        }
+        number = 10 * number + u32::from(byte - b'0');
+    }
+    None
+}
+
+// The turn that the first line of a text is, in one go: a leaf's name, a space, a number and a line feed; and what follows it. `None` says nothing.
+#[tactic(auto, using(crate::proofs::Ahead::turn_told))]
+#[inline(always)]
+fn turn_ahead<'a>(
+    text: &'a [u8],
+    table: &NodeTable,
+    names: &NameIndex,
+) -> Option<((LeafNo, u32), &'a [u8])>
+    ensures { IfSome result (λ r. IsTurnAhead (components table.now) text.now r.0 r.1.now) }
+{
+    let Some((leaf, rest)) = table.leaf_ahead(names, text) else {
+        return None;
+    };
+    match count_ahead(rest) {
+        Some((count, after)) => Some(((leaf, count), after)),
+        None => None,
+    }
+}
+
+// The place of the first line feed, if there is one.
+fn line_feed(text: &[u8]) -> Option<usize>
+    ensures there { IfSome result (λ k. (k < length text.now) × (slice_index text.now k ≡ 10)) }
+    ensures first { IfSome result (λ k. (j : ℕ) → j < k → slice_index text.now j ≡ 10 → ⊥) }
+    ensures none { IfNone result ((j : ℕ) → j < length text.now → slice_index text.now j ≡ 10 → ⊥) }
+{
+    memchr(b'\n', text)
+}
+
+// What follows the first line, which begins with `#` and so says nothing. It is mostly a long one.
+#[inline(never)]
+fn after_comment(text: &[u8]) -> Option<&[u8]>
+    requires some { 0 < length text.now }
+    requires comment { slice_index text.now 0 ≡ 35 }
+    ensures line { IsCommentAhead text.now (option_map (λ rest. rest.now) result) }
+    ensures shorter { IfSome result (λ rest. length rest.now < length text.now) }
+{
+    match line_feed(text) {
+        Some(place) => Some(&text[place + 1..]),
+        None => None,
+    }
+}
+
+// What the first line of a text says after so many turns, and what follows its line feed.
+#[tactic(auto, using(crate::proofs::Ahead::comment_told))]
+#[inline(always)]
+fn next_turn<'a>(
+    text: &'a [u8],
+    turns: u32,
+    table: &NodeTable,
+    names: &NameIndex,
+) -> (Result<Option<(LeafNo, u32)>, TurnFault>, Option<&'a [u8]>)
+    requires { turns ≤ greatest_turns }
+    ensures line { IsLineAhead (components table.now) turns text.now result.0 (option_map (λ rest. rest.now) result.1) }
+    ensures few { IfOk result.0 (λ turn. IfSome turn (λ t. turns + t.1 ≤ greatest_turns)) }
+    ensures shorter { IfSome result.1 (λ rest. length rest.now < length text.now) }
+{
+    if !text.is_empty() && text[0] == b'#' {
+        return (Ok(None), after_comment(text));
+    }
+    if let Some((turn, after)) = turn_ahead(text, table, names) {
+        if turn.1 <= GREATEST_TURNS - turns {
+            return (Ok(Some(turn)), Some(after));
+        }
+    }
+    let (line, after) = next_line(text);
+    (read_line(line, turns, table, names), after)
+}
+
+// How many lines of a text can say a turn at most: each has four bytes or more, but for the last. A list with room for all never grows, and of what it does not
+// use the host gives no page.
+fn most_turns(text: &[u8]) -> usize {
+    (text.len() / 4 + 1).min(GREATEST_TURNS as usize)
+}
+
 // The turns of the lines of a text.
 fn read_lines(
     alloc: Global,
@@ -131,15 +231,18 @@ fn read_lines(
     ensures { IsTurned result (turns_from (components table.now) 1 0 (lines text.now)) }
 {
     let names = table.name_index();
-    let mut turns = Vec::new(alloc);
+    let mut turns = match Vec::with_capacity(alloc, most_turns(text)) {
+        Ok(turns) => turns,
+        Err(refused) => return Err(TurnsError::Memory(refused)),
+    };
     let mut total: u32 = 0;
     let mut line: u64 = 0;
     let mut left = Some(text);
     while let Some(rest) = left {
-        let (words, after) = next_line(rest);
+        let (said, after) = next_turn(rest, total, table, &names);
         left = after;
         line += 1;
-        match read_line(words, total, table, &names) {
+        match said {
             Ok(None) => {}
             Ok(Some(turn)) => {
                 total += turn.1;

@@ -1,6 +1,5 @@
 use Rattle.std.proofs.Common.{◌≡◌, ◌+◌, ◌*◌, ◌++◌, ◌≤◌, drop, length}
 use Rattle.gq_model.specs.machine.Accounts.{leaf_count}
-use Rattle.gq_model.specs.machine.Scenario.{Nodes}
 use Rattle.gq_scenario.specs.Sizes.{node_count, depth}
 use Rattle.gq_scenario.specs.Trees.{nodes_of}
 use Rattle.gq_init.specs.NodeTables.{rows_of}

@@ -1,4 +1,4 @@
-use Rattle.std.proofs.Common.{◌≡◌, ◌<◌, ◌+◌, ◌∙◌, ℕ, List, ◌++◌, ◌∷◌, [], IfSome, length, drop, ap, sym, subst, arith, add-one, append_assoc}
+use Rattle.std.proofs.Common.{◌≡◌, ◌+◌, ◌∙◌, ℕ, List, ◌++◌, ◌∷◌, [], IfSome, length, drop, ap, sym, subst, arith, add-one, append_assoc}
 use Rattle.std.specs.Prelude.{slice_get}
 use Rattle.gq_model.specs.machine.Scenario.{Component, components}
 use Rattle.gq_init.specs.NodeTables.{LeafRow, leaf_row, leaf_rows_of}
