@@ -17,3 +17,4 @@ pub mod account_line;
 pub mod counted;
 pub mod leaf_line;
 pub mod line;
+pub mod lines;

@@ -9,3 +9,4 @@ pub mod Resting
 pub mod Same
 pub mod Several
 pub mod Starts
+pub mod Saying

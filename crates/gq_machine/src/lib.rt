@@ -16,4 +16,5 @@ pub mod event;
 pub mod machine;
 mod others;
 mod steps;
+mod telling;
 mod turns;

@@ -3,7 +3,7 @@ ghost use Rattle.std.specs.Prelude.{◌≡◌, ◌-◌, ◌<◌, ◌≤◌, [], 
 ghost use Rattle.gq_model.specs.machine.Scenario.{components, system};
 ghost use Rattle.gq_model.specs.machine.Step.{next};
 ghost use Rattle.gq_machine.specs.Events.{event_of};
-ghost use Rattle.gq_machine.specs.Bursts.{Takes};
+ghost use Rattle.gq_machine.specs.Bursts.{Takes, Tells};
 ghost use Rattle.gq_machine.specs.Machines.{AreCountable, IsCountable};
 ghost use Rattle.gq_machine.specs.declared.event.Event.TheVariants as event;
 
@@ -12,7 +12,9 @@ use crate::event::Event;
 use crate::machine::Machine;
 use crate::others::LINE;
 use crate::steps::turn;
+use crate::telling::tell_turns;
 use arrayvec::ArrayVec;
+use gq_lines::lines::Lines;
 use gq_model::fault::Wrong;
 use gq_scenario::scenario::LeafNo;
 use gq_transitions::statements::lawful;
@@ -58,6 +60,29 @@ impl Machine {
     {
         lawful(&self.state.slots);
         take_turns(&self.fixed, &mut self.state, leaf.index(), count, line)
+    }
+
+    /// Turns of a leaf, tested, at most so many: up to the first that gives a line or is wrong, and after a line those that follow and show numbers, as long as
+    /// a line more has room. It tells `Line` where lines were given, which are then put, with the leaf's label, in the place of those that `lines` had; what is
+    /// wrong with the last of the turns where it is wrong, which then changes nothing; and else any other event, which says no more than that none gave a line;
+    /// and how many turns are left: none, where no line was given and none was wrong. Turns of a leaf that can't run are passed over at once, whatever their
+    /// number. It takes no host memory.
+    pub fn turns_told(
+        &mut self,
+        leaf: LeafNo,
+        count: u32,
+        lines: &mut Lines,
+    ) -> (Result<Event, Wrong>, u32)
+        requires leaf { leaf < length (components self.old.scenario) }
+        requires countable { AreCountable self.old.world leaf count }
+        ensures scenario { self.new.scenario ≡ self.old.scenario }
+        ensures left { result.1 ≤ count }
+        ensures less { 0 < count → result.1 < count }
+        ensures told { Tells self.old.scenario leaf (count - result.1) self.old.world self.new.world result.0 lines.new.bytes }
+        ensures over { IfOk result.0 (λ e. (e ≡ event.Line → ⊥) → result.1 ≡ 0) }
+    {
+        lawful(&self.state.slots);
+        tell_turns(&self.fixed, &mut self.state, leaf.index(), count, lines)
     }
 
     /// One turn of a leaf whose step is not wrong. After it the line has the text that was given, without label and line feed, and is empty where none was.

@@ -18,7 +18,7 @@ use Rattle.gq_machine.specs.Events.{event_of}
 use Rattle.gq_machine.specs.Machines.{AreCountable, IsCountable}
 use Rattle.gq_machine.specs.declared.event.Event.{Event}
 use Rattle.gq_machine.specs.declared.event.Event.TheVariants as events
-use Rattle.gq_machine.specs.Bursts.{Takes, came_to}
+use Rattle.gq_machine.specs.Bursts.{Tells, lines_of, told_to}
 use Rattle.gq_model.specs.rules.Accept.{Budget, budgets}
 use Rattle.gq_world.specs.Worlds.{World, line_told, shown}
 use Rattle.gq_world.specs.internal.Keeping.{IsBudgeted}
@@ -119,21 +119,28 @@ never_wrong promises keeps s w x n r p e wrong stands =
     ∥∥₁_elim stands (hlevel) (λ h. some_none (sym wrong ∙ (right_end promises keeps s w x n r e h).none))
 
 -- turns, as of the world that contracts see
-pub took_seen : (s : Scenario) (w v u : model.World) (old : World) (x n : ℕ) (e : Event) (text : List ℕ) → s ≡ old.scenario → w ≡ old.world → u ≡ v
-    → Takes s x n w v (Ok e) text → Takes old.scenario x n old.world u (Ok e) text
-took_seen s w v u old x n e text a b same takes =
-    subst (λ z. Takes old.scenario x n old.world z (Ok e) text) (sym same)
-    (subst (λ z. Takes old.scenario x n z v (Ok e) text) b (subst (λ t. Takes t x n w v (Ok e) text) a takes))
+pub told_seen : (s : Scenario) (w v u : model.World) (old : World) (x n : ℕ) (e : Event) (lines : List ℕ) → s ≡ old.scenario → w ≡ old.world → u ≡ v
+    → Tells s x n w v (Ok e) lines → Tells old.scenario x n old.world u (Ok e) lines
+told_seen s w v u old x n e lines a b same tells =
+    subst (λ z. Tells old.scenario x n old.world z (Ok e) lines) (sym same)
+    (subst (λ z. Tells old.scenario x n z v (Ok e) lines) b (subst (λ t. Tells t x n w v (Ok e) lines) a tells))
 
 -- what stands stands after them, and the budgets stay
-pub kept_then : Promises → Keeps → (s t : Scenario) (w v : model.World) (all : List Budget) (x n : ℕ) (e : Event) (text : List ℕ) → t ≡ s
-    → Takes s x n w v (Ok e) text → IsBudgeted s w all → IsBudgeted t v all
-kept_then promises keeps s t w v all x n e text same takes h =
+pub kept_told : Promises → Keeps → (s t : Scenario) (w v : model.World) (all : List Budget) (x n : ℕ) (e : Event) (lines : List ℕ) → t ≡ s
+    → Tells s x n w v (Ok e) lines → IsBudgeted s w all → IsBudgeted t v all
+kept_told promises keeps s t w v all x n e lines same tells h =
     record {
       stands = subst (λ (r : Scenario). ∥ Stands r v ∥₁) (sym same)
-          (stands_then promises keeps s w x n (came_to s x (Ok e) text v []) (takes []) h.stands);
+          (stands_then promises keeps s w x n (told_to x (Ok e) lines v []) (tells []) h.stands);
       budgets_are = h.budgets_are ∙ ap budgets (sym same);
     }
+
+-- no lines were given
+pub no_lines : (e : Event) (lines : List ℕ) → (e ≡ events.Line → ⊥) → lines_of e lines ≡ []
+no_lines events.Idle lines other = refl
+no_lines events.Quiet lines other = refl
+no_lines events.Finished lines other = refl
+no_lines events.Line lines other = absurd (other refl)
 
 -- LINES
 

@@ -13,27 +13,6 @@ use gq_lines::leaf_line::LeafLine;
 use gq_scenario::scenario::LeafNo;
 use std::io::Write;
 
-/// Writes the line of a leaf that gives this text, with the leaf's label. Where a write fails a front of it was written. The line is made in `line`, which
-/// keeps the label as long as the same leaf speaks.
-pub(crate) fn write_line_by<W: Write>(
-    line: &mut LeafLine,
-    table: &NodeTable,
-    leaf: LeafNo,
-    text: &[u8],
-    out: &mut Counted<W>,
-) -> Result<(), WriteFault>
-    requires leaf { leaf < length (components table.now) }
-    requires text { length text.now ≤ 64 }
-    ensures written { OnOk result (Appends (written_to W.contents out.old) (written_to W.contents out.new) (line_told table.now leaf (doing.Line text.now))) }
-    ensures counted { OnOk result (failures_of out.new ≡ failures_of out.old) }
-    ensures front { OnErr result (IsFront (written_to W.contents out.old) (written_to W.contents out.new) (line_told table.now leaf (doing.Line text.now))) }
-    ensures raised { OnErr result (IsRaised (failures_of out.old) (failures_of out.new)) }
-{
-    line.begin(table.label(table.node(leaf)));
-    line.say(text);
-    put(out, line.as_bytes())
-}
-
 /// Writes the line of a leaf that gives this text, with the leaf's label. Where a write fails a front of it was written.
 pub fn write_line<W: Write>(
     table: &NodeTable,
@@ -49,5 +28,7 @@ pub fn write_line<W: Write>(
     ensures raised { OnErr result (IsRaised (failures_of out.old) (failures_of out.new)) }
 {
     let mut line = LeafLine::new();
-    write_line_by(&mut line, table, leaf, text, out)
+    line.begin(table.label(table.node(leaf)));
+    line.say(text);
+    put(out, line.as_bytes())
 }

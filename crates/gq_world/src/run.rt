@@ -15,6 +15,7 @@ use crate::fault::RunFault;
 use crate::world::World;
 use gq_init::turns::{TurnsError, read_turns};
 use gq_lines::counted::{Counted, WriteFault};
+use gq_lines::lines::Lines;
 use gq_scenario::scenario::LeafNo;
 use std::alloc::Global;
 use std::io::Write;
@@ -24,6 +25,7 @@ pub(crate) fn take_turns<W: Write>(
     world: &mut World,
     leaf: LeafNo,
     count: u32,
+    lines: &mut Lines,
     out: &mut Counted<W>,
 ) -> Result<(), WriteFault>
     requires leaf { leaf < length (components world.old.scenario) }
@@ -38,7 +40,7 @@ pub(crate) fn take_turns<W: Write>(
 {
     let mut left = count;
     while left > 0 {
-        left = world.turns(leaf, left, out)?;
+        left = world.turns(leaf, left, lines, out)?;
     }
     Ok(())
 }
@@ -47,6 +49,7 @@ pub(crate) fn take_turns<W: Write>(
 pub(crate) fn take_all<W: Write>(
     world: &mut World,
     turns: &[(LeafNo, u32)],
+    lines: &mut Lines,
     out: &mut Counted<W>,
 ) -> Result<(), WriteFault>
     requires leaves { AreBelow (length (components world.old.scenario)) turns.now }
@@ -60,7 +63,7 @@ pub(crate) fn take_all<W: Write>(
     ensures raised { OnErr result (IsRaised (failures_of out.old) (failures_of out.new)) }
 {
     for (leaf, count) in turns {
-        take_turns(world, *leaf, *count, out)?;
+        take_turns(world, *leaf, *count, lines, out)?;
     }
     Ok(())
 }
@@ -80,7 +83,8 @@ fn run_world<W: Write>(
     ensures front { OnErr result (IsFront (written_to W.contents out.old) (written_to W.contents out.new) (whole_of world.old.scenario turns.now)) }
     ensures raised { OnErr result (IsRaised (failures_of out.old) (failures_of out.new)) }
 {
-    take_all(world, turns, out)?;
+    let mut lines = Lines::new();
+    take_all(world, turns, &mut lines, out)?;
     world.write_accounts(out)
 }
 

@@ -21,14 +21,14 @@ ghost use Rattle.gq_world.specs.internal.Going.{HasRun, IsCut};
 ghost use Rattle.gq_lines.specs.Writes.{IsFront, IsRaised};
 
 use crate::account_lines::write_accounts;
-use crate::leaf_lines::write_line_by;
+use crate::leaf_lines::write_line;
 use crate::node_accounts::account_of;
 use arrayvec::ArrayVec;
 use gq_init::NodeTable;
 use gq_laws::accepted::accepted_laws;
 use gq_lines::account::Account;
-use gq_lines::counted::{Counted, WriteFault};
-use gq_lines::leaf_line::LeafLine;
+use gq_lines::counted::{Counted, WriteFault, put};
+use gq_lines::lines::Lines;
 use gq_load::budget::Budget;
 use gq_machine::event::Event;
 use gq_machine::machine::Machine;
@@ -52,7 +52,6 @@ pub struct World {
     machine: Machine,
     budgets: Vec<Budget>,
     stopped: bool,
-    line: LeafLine,
 }
 
 impl Model for World {
@@ -87,7 +86,6 @@ impl World {
             machine,
             budgets,
             stopped: false,
-            line: LeafLine::new(),
         }
     }
 
@@ -206,12 +204,13 @@ impl World {
         }
     }
 
-    // Turns of a leaf, at most so many, up to the first that gives a line, which is written with the leaf's label. It tells how many are left. After a failed
-    // write the world is stopped. The turns take no host memory.
+    // Turns of a leaf, at most so many, up to the first that gives a line, and those that show numbers after it. Their lines are put into `lines` and written.
+    // It tells how many are left. After a failed write the world is stopped. The turns take no host memory.
     pub(crate) fn turns<W: Write>(
         &mut self,
         leaf: LeafNo,
         count: u32,
+        lines: &mut Lines,
         out: &mut Counted<W>,
     ) -> Result<u32, WriteFault>
         requires leaf { leaf < length (components self.old.scenario) }
@@ -227,17 +226,40 @@ impl World {
         ensures raised { OnErr result (IsRaised (failures_of out.old) (failures_of out.new)) }
     {
         accepted_laws();
-        let mut text = ArrayVec::new();
-        let (last, left) = self.machine.turns_tested(leaf, count, &mut text);
+        let (last, left) = self.machine.turns_told(leaf, count, lines);
         match last {
             Err(_) => unreachable!(),
             Ok(event) => match event {
                 Event::Line => {
-                    self.tell(leaf, text.as_slice(), out)?;
+                    self.write_lines(lines, out)?;
                     Ok(left)
                 }
                 Event::Idle | Event::Quiet | Event::Finished => Ok(left),
             },
+        }
+    }
+
+    // Writes lines. After a failed write the world is stopped.
+    fn write_lines<W: Write>(
+        &mut self,
+        lines: &Lines,
+        out: &mut Counted<W>,
+    ) -> Result<(), WriteFault>
+        ensures scenario { self.new.scenario ≡ self.old.scenario }
+        ensures world { self.new.world ≡ self.old.world }
+        ensures written { OnOk result (Appends (written_to W.contents out.old) (written_to W.contents out.new) lines.now.bytes) }
+        ensures running { OnOk result (self.new.stopped ≡ self.old.stopped) }
+        ensures counted { OnOk result (failures_of out.new ≡ failures_of out.old) }
+        ensures front { OnErr result (IsFront (written_to W.contents out.old) (written_to W.contents out.new) lines.now.bytes) }
+        ensures stopped { OnErr result (self.new.stopped ≡ true) }
+        ensures raised { OnErr result (IsRaised (failures_of out.old) (failures_of out.new)) }
+    {
+        match put(out, lines.as_bytes()) {
+            Ok(()) => Ok(()),
+            Err(fault) => {
+                self.stop();
+                Err(fault)
+            }
         }
     }
 
@@ -261,12 +283,21 @@ impl World {
         ensures stopped { OnErr result (self.new.stopped ≡ true) }
         ensures raised { OnErr result (IsRaised (failures_of out.old) (failures_of out.new)) }
     {
-        match write_line_by(&mut self.line, self.machine.table(), leaf, text, out) {
+        match write_line(self.machine.table(), leaf, text, out) {
             Ok(()) => Ok(()),
             Err(fault) => {
-                self.stopped = true;
+                self.stop();
                 Err(fault)
             }
         }
+    }
+
+    // No turn is taken from now on.
+    fn stop(&mut self)
+        ensures scenario { self.new.scenario ≡ self.old.scenario }
+        ensures world { self.new.world ≡ self.old.world }
+        ensures stopped { self.new.stopped ≡ true }
+    {
+        self.stopped = true;
     }
 }

@@ -1,4 +1,4 @@
--- How the line of a leaf is kept.
+-- How the lines of a leaf are kept.
 use Rattle.std.specs.Prelude.{ℕ, ◌≡◌, ◌≤◌, ◌+◌, List, length, take}
 use Rattle.gq_lines.specs.LeafLines.{front_of}
 
@@ -8,3 +8,11 @@ pub record IsFronted (label bytes : List ℕ) (front : ℕ) : Type 0 where
   pub long : front ≡ length label + 3
   pub inside : front ≤ length bytes
   pub short : front ≤ 99
+
+-- the front is that of this label, and so many bytes are in use
+pub record AreGathered (label front : List ℕ) (front_length : ℕ) (bytes : List ℕ) (used : ℕ) : Type 0 where
+  pub is : take front_length front ≡ front_of label
+  pub short : front_length ≤ 99
+  pub room_front : length front ≡ 160
+  pub room : length bytes ≡ 4096
+  pub inside : used ≤ 4096

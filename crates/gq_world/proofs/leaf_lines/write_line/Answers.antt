@@ -8,7 +8,7 @@ use Rattle.gq_init.proofs.Rows.{leaf_at, label_of_node}
 use Rattle.gq_lines.specs.Writes.{IsFront}
 use Rattle.gq_world.specs.Worlds.{line_told}
 use Rattle.gq_world.proofs.Turns.{label_told}
-use Rattle.gq_world.proofs.leaf_lines.write_line_by.Goals as goal
+use Rattle.gq_world.proofs.leaf_lines.write_line.Goals as goal
 
 pub returns-clause-front : goal.returns-clause-front
 returns-clause-front g c =
