@@ -7,7 +7,7 @@ And each edit counts as refused only where a goal of a function that it changes 
 
 What is not refused so is tried once more without those that were, as the goals of a function may wait for a function that it calls. Edits that change
 one function, one cycle of functions, or the same line go into different checks. An edit that is not within bodies (of a clause, a definition, a proof), and
-one that was not refused beside others, is tried alone on the whole crate, as the toolchain's own `rt must-fail` tries each.
+one that was not refused beside others, is tried alone, as the toolchain's own `rt must-fail` tries each.
 
 The libraries are read below FOLDER, a copy of the repository in which `rt ci` has passed (else the repository itself). It ends with 0 where each edit was
 refused.
@@ -151,9 +151,8 @@ def try_together(crates, name, edits, kept):
     for group in parted(edits):
         left = group
         while left:
-            only = [word for edit in left for path, _ in sorted(edit.functions) for word in ("--only", path)]
             try:
-                said = check(crates, name, left, kept, only)
+                said = check(crates, name, left, kept, only_of(left))
             except BadEdit:
                 break
             refused = {edit.name: why for edit in left if (why := why_refused(edit, said))}
@@ -165,15 +164,27 @@ def try_together(crates, name, edits, kept):
 
 
 def try_alone(crates, name, edit, kept):
-    """Tries an edit on the whole crate, over what the checks before it have kept. Gives whether it was refused, and what is to be said."""
-    said = check(crates, name, [edit], kept)
+    """Tries an edit by itself, on the functions that it changes and else on the whole crate. Gives whether it was refused, and what is to be said."""
+    refused, why = False, ""
+    if edit.functions:
+        refused, why = verdict(check(crates, name, [edit], kept, only_of([edit])), edit)
+    return (refused, why) if refused else verdict(check(crates, name, [edit], kept), edit)
+
+
+def verdict(said, edit):
+    """Whether a check of one edit refuses it, wherever that is, and what is to be said."""
     if unread(said, [edit]):
         return False, f"the prover can't read the crate with it: {unread(said, [edit])[:160]}"
-    if said.status == 1 and said.lines[-1].startswith("logic=not-proved"):
+    if said.status == 1 and said.lines[-1].startswith(("logic=not-proved", "only=")):
         at = [line for line in said.lines if re.match(r"(note: )?\S+:\d+:\d+:", line) and (": error" in line or line.startswith("note: "))]
         why = next((line for line in at if not re.match(r"(\./)?proofs/", line) or not ABOUT_NAMES.search(line)), "" if at else said.lines[-1])
         return why != "", why[:160] or "only a proof file names what the edit took away, which says nothing of a contract"
     return False, "the crate is still proved with it" if said.status == 0 else "\n".join(said.lines[-6:])
+
+
+def only_of(edits):
+    """The words by which a check looks at the functions that some edits change, and at no others."""
+    return [word for edit in edits for path, _ in sorted(edit.functions) for word in ("--only", path)]
 
 
 def try_crate(crates, name):
