@@ -1,12 +1,6 @@
-pub mod Counting
+pub use Rattle.gq_turns.proofs.Resting
+pub use Rattle.gq_turns.proofs.Several
 pub mod Firsts
-pub mod Going
 pub mod Pages
-pub mod Pausing
-pub mod Provided
 pub mod Readers
-pub mod Resting
-pub mod Same
-pub mod Several
 pub mod Starts
-pub mod Saying

@@ -7,14 +7,14 @@ use Rattle.std.proofs.lemmas.List.Sums.{sum_by-cons}
 use Rattle.gq_tariff.specs.declared.amount.Amount.{Amount}
 use Rattle.gq_model.specs.declared.phase.Phase.{Phase}
 use Rattle.gq_model.specs.declared.phase.Phase.TheVariants as phase
-use Rattle.gq_model.specs.machine.Accounts.{Account, accounts, amount_in}
+use Rattle.gq_model.specs.machine.Accounts.{accounts, amount_in}
 use Rattle.gq_model.specs.machine.Amounts.{Resource, Ram, Caps}
-use Rattle.gq_model.specs.machine.Scenario.{Scenario, Component, components, system}
+use Rattle.gq_model.specs.machine.Scenario.{Scenario, Component, components}
 use Rattle.gq_model.specs.machine.Sums.{held}
 use Rattle.gq_model.specs.machine.World as world
 use Rattle.gq_model.proofs.Small.{get_within, none_some, some_same}
 use Rattle.gq_scenario.specs.Sizes.{leaf_places}
-use Rattle.gq_init.specs.NodeTables.{LeafRow, NodeRow, leaf_row, leaf_rows, leaf_rows_of, node_rows}
+use Rattle.gq_init.specs.NodeTables.{LeafRow, leaf_row, leaf_rows, leaf_rows_of, node_rows}
 use Rattle.gq_init.proofs.Rows.{row_at}
 use Rattle.gq_numbered.specs.Numbers.{IsTaken}
 use Rattle.gq_ram.specs.declared.account.Account.{Account as Stored}
@@ -26,7 +26,6 @@ use Rattle.gq_donations.specs.Trees.{account_of}
 use Rattle.gq_sessions.specs.declared.session.Session.{Session}
 use Rattle.gq_sessions.specs.Trading.{account_of as account_no, its_account, node_of, session_in}
 use Rattle.gq_trade.specs.declared.node.Node.{Node}
-use Rattle.gq_trade.specs.declared.node.Stage.{Stage}
 use Rattle.gq_trade.specs.declared.node.Stage.TheVariants.{Pending, Live, Ended}
 use Rattle.gq_trade.specs.Balances.{node_at, received_for, while_live}
 use Rattle.gq_trade.specs.Trades.{HasAccount, Trades}

@@ -2,15 +2,12 @@
 use Rattle.std.proofs.Common.{◌≡◌, ◌==◌, ◌<◌, ℕ, zero, suc, Bool, true, false, cond, List, [], ◌∷◌, length, replicate, map, get_or, Option, Some, None}
 use Rattle.std.proofs.Common.{refl, sym, ap, subst, ◌∙◌, arith}
 use Rattle.std.specs.Prelude.{is_some, slice_get}
-use Rattle.std.proofs.lemmas.Option.{slice_get_within}
-use Rattle.gq_model.specs.declared.program.Instruction.{Instruction}
 use Rattle.gq_model.specs.declared.program.Section.TheVariants.{Main}
-use Rattle.gq_model.specs.declared.phase.Phase.{Phase}
-use Rattle.gq_model.specs.machine.Amounts.{Resource, Ram, Caps, counted_in}
-use Rattle.gq_model.specs.machine.Program.{Done, Program, Statements, body_of, section_in}
+use Rattle.gq_model.specs.machine.Amounts.{Ram, Caps, counted_in}
+use Rattle.gq_model.specs.machine.Program.{Program, Statements, body_of, section_in}
 use Rattle.gq_model.specs.machine.Scenario.{Scenario, Component, components, system}
 use Rattle.gq_model.specs.machine.World as world
-use Rattle.gq_model.proofs.Small.{get_within, none_some}
+use Rattle.gq_model.proofs.Small.{get_within}
 use Rattle.gq_laws.specs.Links.{IsLinkedWorld}
 use Rattle.gq_laws.proofs.linking.Linked_worlds.{start_linked}
 use Rattle.gq_laws.proofs.paying.Places.{starts_after}
@@ -32,20 +29,14 @@ use Rattle.gq_flat.proofs.Parts.{found_body}
 use Rattle.gq_store.specs.Store.{Store}
 use Rattle.gq_heap.specs.declared.heap.Heap.{Heap}
 use Rattle.gq_heap.specs.Heap.{peaks}
-use Rattle.gq_requests.specs.declared.requests.Request.{Request}
 use Rattle.gq_requests.specs.Seen.{request_seen}
-use Rattle.gq_things.specs.declared.thing.Thing.{Thing}
 use Rattle.gq_things.specs.declared.thing.Thing.TheVariants.{Empty}
 use Rattle.gq_things.specs.Things.{seen}
-use Rattle.gq_sessions.specs.declared.session.Session.{Session}
-use Rattle.gq_sessions.specs.Seen.{sessions_seen}
-use Rattle.gq_sessions.specs.Trading.{Trading}
-use Rattle.gq_trade.specs.Balances.{node_at}
 use Rattle.gq_slots.specs.Slots.{Slots, leaf_seen, leaves_seen, memory_of}
-use Rattle.gq_paid.specs.Systems.{IsOf, counted_at, stage_in}
-use Rattle.gq_prepared.specs.Prepared.{AreServices, names_of}
+use Rattle.gq_paid.specs.Systems.{counted_at, stage_in}
+use Rattle.gq_prepared.specs.Prepared.{AreServices}
 use Rattle.gq_leaves.specs.Leaves.{leaf_of, body_in}
-use Rattle.gq_steps.specs.Coded.{Coded, first_state}
+use Rattle.gq_steps.specs.Coded.{Coded}
 use Rattle.gq_steps.proofs.Codes.{code_found}
 use Rattle.gq_transitions.specs.Worlds.{frame_of, leaf_in, world_of}
 use Rattle.gq_transitions.specs.declared.state.Fixed.{Fixed}

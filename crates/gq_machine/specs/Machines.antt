@@ -1,17 +1,9 @@
 -- What the machine stands for.
-use Rattle.std.specs.Prelude.{ℕ, ◌+◌, ◌<◌, ◌^◌, IfSome, slice_get}
+pub use Rattle.gq_turns.specs.Countable.{AreCountable, IsCountable}
 use Rattle.gq_model.specs.machine.Scenario.{Scenario}
-use Rattle.gq_model.specs.machine.World.{Leaf, World}
+use Rattle.gq_model.specs.machine.World.{World}
 
 -- a scenario that runs, and the world between two steps
 pub record Machine : Type 0 where
   pub scenario : Scenario
   pub world : World
-
--- a step more of the x-th leaf can be counted
-abbrev pub IsCountable : World → ℕ → Type 0
-IsCountable w x = IfSome (slice_get w.leaves x) (λ (l : Leaf). l.steps + 1 < 2 ^ 64)
-
--- so many steps more of the x-th leaf can be counted
-abbrev pub AreCountable : World → ℕ → ℕ → Type 0
-AreCountable w x n = IfSome (slice_get w.leaves x) (λ (l : Leaf). l.steps + n < 2 ^ 64)

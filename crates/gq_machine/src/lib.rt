@@ -11,10 +11,7 @@
 //! ```
 #![tactic(auto)]
 
-mod bursts;
-pub mod event;
 pub mod machine;
-mod others;
-mod steps;
-mod telling;
 mod turns;
+
+pub use gq_turns::event;

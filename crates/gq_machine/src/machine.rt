@@ -1,9 +1,8 @@
 // The machine: the leaves of a scenario over their memory and sessions.
-ghost use Rattle.std.specs.Prelude.{◌≡◌, ℕ, ◌+◌, ◌*◌, ◌<◌, ◌≤◌, ◌^◌, List, [], IfErr, IfOk, IfSome, OnErr, OnOk, Ok, Err, length, slice_get};
+ghost use Rattle.std.specs.Prelude.{◌≡◌, ℕ, ◌+◌, ◌*◌, ◌<◌, ◌≤◌, List, IfOk, IfSome, Ok, Err, length, slice_get};
 ghost use Rattle.gq_model.specs.machine.Amounts.{Ram, Caps};
 ghost use Rattle.gq_model.specs.machine.Accounts.{accounts};
 ghost use Rattle.gq_model.specs.machine.Scenario.{Component, components, system};
-ghost use Rattle.gq_model.specs.machine.Step.{next};
 ghost use Rattle.gq_model.specs.machine.Sums.{held};
 ghost use Rattle.gq_model.specs.machine.World.{first_phase, start};
 ghost use Rattle.gq_init.specs.NodeTables.{node_rows};
@@ -15,9 +14,6 @@ ghost use Rattle.gq_quotas.specs.Held.{held_by_all};
 ghost use Rattle.gq_steps.specs.Coded.{Coded};
 ghost use Rattle.gq_transitions.specs.internal.Holds.{IsPrepared};
 ghost use Rattle.gq_machine.specs.internal.Held.{held_before};
-ghost use Rattle.gq_machine.specs.Events.{event_of};
-ghost use Rattle.gq_machine.specs.Machines.{IsCountable};
-ghost use Rattle.gq_machine.specs.declared.event.Event as event;
 ghost use Rattle.gq_machine.specs.internal.Starts.{AreFirst, ArePrepared, IsFirstOf, AreFirstSlots};
 
 use gq_flat::Code;

@@ -1,9 +1,8 @@
 -- The pages that no leaf holds.
-use Rattle.std.proofs.Common.{ap, arith, sym, ◌≡◌, ◌∙◌}
-use Rattle.gq_model.specs.machine.Amounts.{Amount, Ram}
+use Rattle.std.proofs.Common.{ap, arith, ◌≡◌, ◌∙◌}
+use Rattle.gq_model.specs.machine.Amounts.{Amount}
 use Rattle.gq_model.specs.machine.Scenario.{Scenario}
 use Rattle.gq_machine.specs.Machines.{Machine}
-use Rattle.gq_quotas.specs.Held.{held_by_all}
 use Rattle.gq_machine.proofs.Pages.{all_pages}
 use Rattle.gq_machine.proofs.Readers.{free_read}
 use Rattle.gq_machine.proofs.machine.Machine.free_pages.Goals as goal

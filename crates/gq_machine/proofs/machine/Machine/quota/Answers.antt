@@ -1,5 +1,5 @@
 -- The quota of a node.
-use Rattle.std.proofs.Common.{ap, sym, ◌∙◌}
+use Rattle.std.proofs.Common.{sym, ◌∙◌}
 use Rattle.gq_trade.specs.Balances.{node_at, quota}
 use Rattle.gq_machine.proofs.Readers.{none_left, quota_read}
 use Rattle.gq_machine.proofs.machine.Machine.quota.Goals as goal

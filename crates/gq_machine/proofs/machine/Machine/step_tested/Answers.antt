@@ -1,11 +1,12 @@
 -- One turn of a leaf.
-use Rattle.std.proofs.Common.{◌≡◌, ◌<◌, ◌+◌, ◌^◌, ℕ, length, sym, subst}
+use Rattle.std.proofs.Common.{◌<◌, ◌+◌, ◌^◌, length, sym, subst}
 use Rattle.std.specs.Prelude.{slice_get}
 use Rattle.gq_model.specs.machine.Scenario.{components}
 use Rattle.gq_steps.specs.Coded.{Coded}
-use Rattle.gq_machine.specs.Machines.{IsCountable, Machine}
+use Rattle.gq_machine.specs.Machines.{Machine}
 use Rattle.gq_transitions.specs.internal.Holds.{OfLeaf}
-use Rattle.gq_machine.proofs.Counting.{counted_there}
+use Rattle.gq_turns.specs.Countable.{IsCountable}
+use Rattle.gq_turns.proofs.Counting.{counted_there}
 use Rattle.gq_machine.proofs.machine.Machine.step_tested.Goals as goal
 
 pub turn-requires-clause-countable : goal.turn-requires-clause-countable

@@ -1,5 +1,5 @@
 -- What the leaves from the first to one hold.
-use Rattle.std.proofs.Common.{arith, ◌∙◌}
+use Rattle.std.proofs.Common.{arith}
 use Rattle.gq_machine.proofs.Readers.{one_more}
 use Rattle.gq_machine.proofs.machine.Machine.used_before.Goals as goal
 
