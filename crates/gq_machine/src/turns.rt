@@ -76,6 +76,7 @@ impl Machine {
         ensures left { result.1 ≤ count }
         ensures less { 0 < count → result.1 < count }
         ensures told { Tells self.old.scenario leaf (count - result.1) self.old.world self.new.world result.0 lines.new.bytes }
+        ensures some { IfOk result.0 (λ e. e ≡ event.Line → lines.new.bytes ≡ [] → ⊥) }
         ensures over { IfOk result.0 (λ e. (e ≡ event.Line → ⊥) → result.1 ≡ 0) }
     {
         lawful(&self.state.slots);

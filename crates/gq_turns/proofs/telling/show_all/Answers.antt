@@ -35,6 +35,8 @@ loop-left-preserved c =
     let rest = s.result.1 in
     let less = s.ensures.left in
     let few = l.invariant.few in
+    let more = s.ensures.longer in
+    let longer = l.invariant.longer in
     record {
       holds = s.ensures.holds;
       few = omega (arith, less, few);
@@ -43,5 +45,6 @@ loop-left-preserved c =
           s.ensures.said);
       countable = countable_said f x (l.left - rest) rest l.state o l.lines.bytes s.new.lines.bytes s.ensures.said
           (subst (AreCountable (world_of f.table l.state.leaves.items l.state.slots) x) (all_of l.left rest less) l.invariant.countable);
+      longer = omega (arith, more, longer);
       label = s.ensures.label ∙ l.invariant.label;
     }

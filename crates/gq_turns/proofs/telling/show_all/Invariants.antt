@@ -1,4 +1,4 @@
-use Rattle.std.proofs.Common.{◌≡◌, ◌-◌, ◌≤◌}
+use Rattle.std.proofs.Common.{◌≡◌, ◌-◌, ◌≤◌, length}
 use Rattle.gq_transitions.specs.Worlds.{world_of}
 use Rattle.gq_transitions.specs.internal.Holds.{Holds}
 use Rattle.gq_turns.specs.Countable.{AreCountable}
@@ -12,6 +12,7 @@ invariant-loop-left l = record {
   few : l.left ≤ l.turns;
   said : Says l.fixed l.number (l.turns - l.left) l.fn.state l.state l.fn.lines.bytes l.lines.bytes;
   countable : AreCountable (world_of l.fixed.table l.state.leaves.items l.state.slots) l.number l.left;
+  longer : length l.fn.lines.bytes ≤ length l.lines.bytes;
   label : l.lines.label ≡ l.fn.lines.label;
 }
 

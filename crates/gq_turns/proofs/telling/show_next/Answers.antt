@@ -1,5 +1,6 @@
 -- A number that a leaf shows after the turns that it takes alone.
-use Rattle.std.proofs.Common.{◌≡◌, ◌+◌, ◌-◌, ◌≤◌, ◌++◌, ℕ, zero, suc, decimal, Ok, refl, sym, ap, subst, arith, ◌∙◌}
+use Rattle.std.proofs.Common.{◌≡◌, ◌+◌, ◌-◌, ◌≤◌, ◌++◌, ℕ, zero, suc, decimal, length, Ok, refl, sym, ap, subst, arith, ◌∙◌}
+use Rattle.std.proofs.Common.{length-append}
 use Rattle.gq_lines.specs.LeafLines.{Lines, line_with}
 use Rattle.gq_turns.specs.declared.event.Event.TheVariants as event
 use Rattle.gq_turns.specs.Shows.{Gives}
@@ -67,3 +68,12 @@ returns-in-Ok-clause-said c =
     let is = after ∙ ap (λ l. lines.bytes ++ line_with l text) c.requires.label in
     subst (λ n. Says f x n m o lines.bytes c.say_number.new.self.bytes) (one_more c.args.turns left c.alone-pause.ensures.left c.if-left-eq0.false)
     (subst (Says f x ((c.args.turns - left) + 1) m o lines.bytes) (sym is) says)
+
+-- what is there stays in front
+pub returns-in-Ok-clause-longer : goal.returns-in-Ok-clause-longer
+returns-in-Ok-clause-longer c =
+    let lines = c.args.lines.now in
+    let text = decimal c.in-Ok.shown in
+    let after : c.say_number.new.self.bytes ≡ lines.bytes ++ line_with lines.label text = ap (λ (l : Lines). l.bytes) c.say_number.ensures in
+    let count = ap length after ∙ length-append lines.bytes (line_with lines.label text) in
+    omega (arith, count)

@@ -1,5 +1,5 @@
 -- Turns of a leaf, and the lines that they give.
-use Rattle.std.proofs.Common.{◌≡◌, ◌+◌, ◌-◌, ◌≤◌, ℕ, Result, Ok, [], subst, arith}
+use Rattle.std.proofs.Common.{◌≡◌, ◌+◌, ◌-◌, ◌<◌, ◌≤◌, ℕ, List, Result, Ok, [], length, ap, subst, arith}
 use Rattle.gq_model.specs.declared.fault.Wrong.{Wrong}
 use Rattle.gq_lines.specs.LeafLines.{line_with}
 use Rattle.gq_transitions.specs.Worlds.{world_of}
@@ -68,3 +68,13 @@ returns-in-Idle-clause-told c =
     let text = t.new.line.items in
     let took = subst (λ (r : Result Event Wrong). IsStint f x n m o text r) c.in-Ok.is t.ensures.took in
     told_none f x n m o c.in-Ok.event text c.args.lines.now.bytes (no_line_in c.in-Ok.event c.in-Idle.is) took
+
+not_empty : (bytes : List ℕ) → 0 < length bytes → bytes ≡ [] → ⊥
+not_empty bytes some none =
+    let count = ap length none in omega (arith, some, count)
+
+pub returns-in-Line-clause-some : goal.returns-in-Line-clause-some
+returns-in-Line-clause-some c line none = not_empty c.tell_on-left.new.lines.bytes c.tell_on-left.ensures.some none
+
+pub returns-in-Idle-clause-some : goal.returns-in-Idle-clause-some
+returns-in-Idle-clause-some c line none = no_line_in c.in-Ok.event c.in-Idle.is line
