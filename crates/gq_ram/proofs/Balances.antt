@@ -146,7 +146,7 @@ pub both_balanced : (l : Ledger) (f t : ℕ) (n : Amount) → IsBalanced l → I
     → n.ram ≤ available (account_at l.accounts f) → n.caps ≤ available_caps (account_at l.accounts f) → IsBalanced (with_accounts l (passed l.accounts f t n))
 both_balanced l f t n b fo to apart enough enough_caps =
     let es : Entries = l.accounts in let x : Account = account_at es f in let y : Account = account_at es t in
-    let x' : Account = with_amount x (record { ram = x.quota.ram - n.ram; caps = x.quota.caps - n.caps }) in 
+    let x' : Account = with_amount x (record { ram = x.quota.ram - n.ram; caps = x.quota.caps - n.caps }) in
     let y' : Account = with_amount y (record { ram = y.quota.ram + n.ram; caps = y.quota.caps + n.caps }) in
     let es1 : Entries = set es f (Some x') in let es2 : Entries = set es1 t (Some y') in
     let flt : f < length es = open_there es f fo in let tlt : t < length es1 = omega (arith, length-set es f (Some x'), open_there es t to) in
