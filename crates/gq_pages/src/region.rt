@@ -108,8 +108,8 @@ impl Region {
         ])
     }
 
-    // Writes the four bytes from `index` on, which are of one page, the lowest first; one store, as in `word`. The pointer is read once: a byte that is written could be one of
-    // its own, as far as the compiler sees, which made four stores.
+    // Writes the four bytes from `index` on, which are of one page, the lowest first; one store, as in `word`. The pointer is read once: a byte that is
+    // written could be one of its own, as far as the compiler sees, which made four stores.
     pub(crate) fn set_word(&mut self, index: usize, word: u32)
         requires { (index + 4 ≤ length self.old.bytes) × (index % 4096 + 4 ≤ 4096) }
         ensures bytes { self.new.bytes ≡ with_bytes self.old.bytes index (to_le_bytes w32 word) }

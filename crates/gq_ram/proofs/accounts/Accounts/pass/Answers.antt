@@ -48,8 +48,8 @@ set_quotas-requires-clause-balanced c =
     let l : Ledger = ledger_view c.self.inside in let f = c.args.from.0 in let t = c.args.to.0 in let v = c.self.view_is in
     let from : IsOpen l.accounts f = subst (λ (m : Ledger). IsOpen m.accounts f) (sym v) c.requires.from_open in
     let to : IsOpen l.accounts t = subst (λ (m : Ledger). IsOpen m.accounts t) (sym v) c.requires.to_open in
-    let enough : c.args.amount.ram ≤ available (account_at l.accounts f) = subst (λ (m : Ledger). c.args.amount.ram ≤ available (account_at m.accounts f)) (sym v)
-    c.requires.enough in
+    let enough : c.args.amount.ram ≤ available (account_at l.accounts f) =
+    subst (λ (m : Ledger). c.args.amount.ram ≤ available (account_at m.accounts f)) (sym v) c.requires.enough in
     let caps : c.args.amount.caps ≤ available_caps (account_at l.accounts f) =
     subst (λ (m : Ledger). c.args.amount.caps ≤ available_caps (account_at m.accounts f)) (sym v) c.requires.enough_caps in
     rw (c.account-giver.ensures, c.account-taker.ensures, ← v) (both_balanced l f t c.args.amount c.self.invariant from to c.requires.apart enough caps)

@@ -7,7 +7,10 @@ use Rattle.gq_sessions.proofs.sessions.Sessions.raise.Goals as goal
 pub invariant_of-self : goal.invariant_of-self
 invariant_of-self c =
     let old = c.at_mut-raised.result.now in
-    changed_kept (trading_of c.self.inside) c.args.session old (raised old) c.self.invariant c.at_mut-raised.ensures.value refl refl refl
+    let new = raised old in
+    changed_kept (trading_of c.self.inside) c.args.session old new c.self.invariant c.at_mut-raised.ensures.value refl refl refl
 
 pub returns : goal.returns
-returns c = changed_is (trading_of c.self.inside) c.args.self.now c.args.session c.at_mut-raised.result.now (λ s. raised s) c.self.view_is c.at_mut-raised.ensures.value
+returns c =
+    let w = trading_of c.self.inside in let k = c.args.session in
+    changed_is w c.args.self.now k c.at_mut-raised.result.now (λ s. raised s) c.self.view_is c.at_mut-raised.ensures.value
