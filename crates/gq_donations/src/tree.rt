@@ -90,7 +90,7 @@ impl AccountTree {
         if accounts.caps(giver) - accounts.caps_used(giver) < amount.caps {
             return Err(AccountFault::CapsExceeded);
         }
-        self.carry(accounts, from, to, amount);
+        self.convey(accounts, from, to, amount);
         Ok(())
     }
 
@@ -107,6 +107,26 @@ impl AccountTree {
         requires enough_caps { amount.caps ≤ available_caps (account_of self.now accounts.old from) }
         ensures { accounts.new ≡ donated self.now accounts.old from to amount }
     {
+        self.convey(accounts, from, to, amount);
+    }
+
+    // Moves what the giver has: between two nodes of one init in one step, else hop by hop.
+    fn convey(&self, accounts: &mut Accounts, from: usize, to: usize, amount: Amount)
+        requires nodes { AreNodes self.now accounts.old.accounts }
+        requires from { from < length self.now.parents }
+        requires to { to < length self.now.parents }
+        requires apart { from ≡ to → ⊥ }
+        requires from_open { IsOpen accounts.old.accounts (number self.now from) }
+        requires to_open { IsOpen accounts.old.accounts (number self.now to) }
+        requires counted { accounts.old.price ≡ 0 → amount.caps ≡ 0 }
+        requires enough { amount.ram ≤ available (account_of self.now accounts.old from) }
+        requires enough_caps { amount.caps ≤ available_caps (account_of self.now accounts.old from) }
+        ensures { accounts.new ≡ donated self.now accounts.old from to amount }
+    {
+        if from != 0 && to != 0 && self.parents[from] == self.parents[to] {
+            accounts.pass(self.accounts[from], self.accounts[to], amount);
+            return;
+        }
         self.carry(accounts, from, to, amount);
     }
 

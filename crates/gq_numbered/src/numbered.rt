@@ -1,5 +1,8 @@
 // Values by their numbers.
 ghost use Rattle.std.specs.Prelude.{◌≡◌, ◌<◌, ◌≤◌, [], ℕ, Some, None, length, slice_set, get_or, vec_capacity, IfOk};
+ghost use Rattle.std.specs.Prelude.{is_some, IsTrue};
+ghost use Rattle.std.specs.Borrow.{Lends, sem};
+ghost use Rattle.std.specs.contracts.option.Option.{the_row as option_row};
 ghost use Rattle.gq_numbered.specs.Numbers.{added, free_number, IsTaken};
 
 use std::alloc::{AllocError, Global};
@@ -30,6 +33,8 @@ impl<T: Copy> Model for Numbered<T> {
 }
 
 impl<T: Copy> Numbered<T> {
+    ghost use Rattle.gq_numbered.specs.Lends.{lends_value};
+
     /// No values, with room for so many. `Err` where the host refuses memory for them.
     pub fn new(alloc: Global, room: u32) -> Result<Numbered<T>, AllocError>
         ensures { IfOk result (λ numbers. numbers ≡ record { values = []; room = room }) }
@@ -83,6 +88,16 @@ impl<T: Copy> Numbered<T> {
         value
     }
 
+    /// The value of a number that is taken, to be changed where it lies.
+    #[inline(always)]
+    pub fn at_mut(&mut self, number: usize) -> &mut T
+        requires { IsTaken self.old.values number }
+        ensures* writes_back { sem 𝓛 (lends_value T.row self.entry number result) }
+        ensures value { get_or self.old.values number None ≡ Some result.now }
+    {
+        value_in(&mut self.places[number])
+    }
+
     /// Puts another value at a number that is taken.
     #[inline(always)]
     pub fn set(&mut self, number: usize, value: T)
@@ -99,6 +114,19 @@ impl<T: Copy> Numbered<T> {
     {
         self.places[number] = None;
         self.low = self.low.min(number);
+    }
+}
+
+// The value at a place that is taken.
+#[inline(always)]
+fn value_in<T: Copy>(place: &mut Option<T>) -> &mut T
+    requires { IsTrue (is_some place.old) }
+    ensures* writes_back { sem 𝓛 (Lends (option_row T.row) T.row place.entry result Some) }
+    ensures value { place.old ≡ Some result.now }
+{
+    match place {
+        Some(value) => value,
+        None => unreachable!(),
     }
 }
 

@@ -1,4 +1,5 @@
 mod Bytes
+mod Clean
 mod Free
 mod Frames
 mod Moves

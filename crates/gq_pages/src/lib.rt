@@ -12,6 +12,7 @@
 //! ```
 #![tactic(auto)]
 
+mod marks;
 mod memory;
 mod pages;
 mod region;

@@ -1,9 +1,11 @@
 // The block as one list of bytes, which grows up to the size of the block. Nothing here follows a pointer.
-ghost use Rattle.std.specs.Prelude.{◌≡◌, [], ◌+◌, ◌^◌, ◌<◌, ◌≤◌, ◌++◌, length, slice_index, slice_set, IfSome};
+ghost use Rattle.std.specs.Prelude.{◌≡◌, [], ◌+◌, ◌%◌, ◌^◌, ◌<◌, ◌≤◌, ◌++◌, length, slice_index, slice_set, IfSome};
 ghost use Rattle.std.specs.Int.{w32, to_le_bytes};
 ghost use Rattle.gq_pages.specs.Bytes.{zeros, zeroed, word_at, with_bytes};
 
+use crate::marks::{marked, swept};
 use crate::memory::{Cells, Lease, allocate, free};
+use gq_tariff::price::PAGE;
 use std::alloc::Global;
 use std::marker::Model;
 
@@ -13,6 +15,8 @@ pub(crate) struct Region {
     size: usize,
     cells: Cells,
     lease: Lease<Global>,
+    // Of each page so many bytes, those at its front, may be other than 0.
+    marks: Vec<u16>,
     alloc: Global,
 }
 
@@ -35,6 +39,7 @@ impl Drop for Region {
             size,
             cells,
             lease,
+            marks: _marks,
             alloc,
         } = self;
         free(&alloc, at, size, cells, lease);
@@ -48,12 +53,16 @@ impl Region {
         ensures empty { IfSome result (λ r. r.bytes ≡ []) }
         ensures size { IfSome result (λ r. r.size ≡ size) }
     {
+        let Ok(marks) = Vec::from_elem(alloc, 0, size / PAGE as usize + 1) else {
+            return None;
+        };
         let (at, (cells, lease)) = allocate(&alloc, size)?;
         Some(Region {
             at,
             size,
             cells,
             lease,
+            marks,
             alloc,
         })
     }
@@ -81,6 +90,7 @@ impl Region {
         ensures bytes { self.new.bytes ≡ slice_set self.old.bytes index byte }
         ensures size { self.new.size ≡ self.old.size }
     {
+        marked(&mut self.marks, index, 1);
         self.cells.set_byte(self.at, index, byte);
     }
 
@@ -98,14 +108,15 @@ impl Region {
         ])
     }
 
-    // Writes the four bytes from `index` on, the lowest first; one store, as in `word`. The pointer is read once: a byte that is written could be one of
-    // its own, as far as the compiler sees, which made four stores.
+    // Writes the four bytes from `index` on, which are of one page, the lowest first; one store, as in `word`. The pointer is read once: a byte that is
+    // written could be one of its own, as far as the compiler sees, which made four stores.
     pub(crate) fn set_word(&mut self, index: usize, word: u32)
-        requires { index + 4 ≤ length self.old.bytes }
+        requires { (index + 4 ≤ length self.old.bytes) × (index % 4096 + 4 ≤ 4096) }
         ensures bytes { self.new.bytes ≡ with_bytes self.old.bytes index (to_le_bytes w32 word) }
         ensures size { self.new.size ≡ self.old.size }
     {
         let _size = self.size;
+        marked(&mut self.marks, index, 4);
         let at = self.at;
         let [a, b, c, d] = word.to_le_bytes();
         self.cells.set_byte(at, index, a);
@@ -114,12 +125,13 @@ impl Region {
         self.cells.set_byte(at, index + 3, d);
     }
 
-    // The `count` bytes from `start` on become 0.
+    // The `count` bytes from `start` on, which are of one page, become 0. Those that are 0 already are not written.
     pub(crate) fn zero(&mut self, start: usize, count: usize)
-        requires { start + count ≤ length self.old.bytes }
+        requires { (start + count ≤ length self.old.bytes) × (start % 4096 + count ≤ 4096) }
         ensures bytes { self.new.bytes ≡ zeroed self.old.bytes start count }
         ensures size { self.new.size ≡ self.old.size }
     {
-        self.cells.zero(self.at, start, count);
+        let least = swept(&mut self.marks, start, count);
+        self.cells.zero(self.at, start, least);
     }
 }

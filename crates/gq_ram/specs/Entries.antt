@@ -78,6 +78,12 @@ caps_moved es from to n =
     let less : Entries = slice_set es from (Some (with_caps (account_at es from) ((account_at es from).quota.caps - n))) in
     slice_set less to (Some (with_caps (account_at es to) ((account_at es to).quota.caps + n)))
 
+-- quota of both kinds goes from one account to another
+abbrev pub passed : Entries → ℕ → ℕ → Amount → Entries
+passed es from to n =
+    let less : Amount = record { ram = (account_at es from).quota.ram - n.ram; caps = (account_at es from).quota.caps - n.caps } in
+    quotas_set es from less to (record { ram = (account_at es to).quota.ram + n.ram; caps = (account_at es to).quota.caps + n.caps })
+
 -- what an account can still pay
 abbrev pub available : Account → ℕ
 available a = a.quota.ram - a.used.ram

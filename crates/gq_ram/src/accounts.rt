@@ -6,7 +6,7 @@ ghost use Rattle.gq_tariff.specs.Prices.{up};
 ghost use Rattle.gq_pages.specs.Bytes.{zeros, zeroed, word_at, with_bytes};
 ghost use Rattle.gq_dataspace.specs.Dataspaces.{IsVacant, content_of};
 ghost use Rattle.gq_ram.specs.Entries.{account_at, with_use, first_account, charged, relieved, quotas_set, quota_moved, caps_moved, left_to};
-ghost use Rattle.gq_ram.specs.Entries.{are_related, has_members, is_it, IsOpen};
+ghost use Rattle.gq_ram.specs.Entries.{are_related, available, available_caps, has_members, is_it, passed, IsOpen};
 ghost use Rattle.gq_ram.specs.Entries.{transfer_refusal, transfer_caps_refusal, alloc_refusal, close_refusal};
 ghost use Rattle.gq_ram.specs.Owning.{IsOf};
 ghost use Rattle.gq_ram.specs.Ledgers.{IsBalanced, IsSameWhole, with_accounts, with_content, first_ledger};
@@ -277,6 +277,32 @@ impl Accounts {
         };
         self.set_quotas(from, less, to, more);
         Ok(())
+    }
+
+    /// Moves quota of both kinds from an account, which is known to have it, to another one with the same reference account: as transfers to that account
+    /// and on from it do, in one step. Where capabilities are not counted, none are moved.
+    pub fn pass(&mut self, from: AccountNo, to: AccountNo, amount: Amount)
+        requires from_open { IsOpen self.old.accounts from.0 }
+        requires to_open { IsOpen self.old.accounts to.0 }
+        requires apart { to.0 ≡ from.0 → ⊥ }
+        requires siblings { (account_at self.old.accounts from.0).reference ≡ (account_at self.old.accounts to.0).reference }
+        requires counted { self.old.price ≡ 0 → amount.caps ≡ 0 }
+        requires enough { amount.ram ≤ available (account_at self.old.accounts from.0) }
+        requires enough_caps { amount.caps ≤ available_caps (account_at self.old.accounts from.0) }
+        ensures { self.new ≡ with_accounts self.old (passed self.old.accounts from.0 to.0 amount) }
+    {
+        let _total = self.total;
+        let giver = self.account(from);
+        let taker = self.account(to);
+        let less = Amount {
+            ram: giver.quota.ram - amount.ram,
+            caps: giver.quota.caps - amount.caps,
+        };
+        let more = Amount {
+            ram: taker.quota.ram + amount.ram,
+            caps: taker.quota.caps + amount.caps,
+        };
+        self.set_quotas(from, less, to, more);
     }
 
     /// Makes a dataspace of `size` bytes in whole pages, each byte 0, which the account pays for. `ZeroSize` for 0 bytes, then `Exceeded` where

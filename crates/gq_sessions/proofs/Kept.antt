@@ -129,7 +129,7 @@ entered_kept w s h b =
           (ap is_some here) (ap (λ o. (found o).server) here);
     }
 
-pub set_kept : (w : Trading) (k : ℕ) (s : Session) → IsTrading w → IsTaken w.sessions k → s.client ≡ (session_at w k).client
+set_kept : (w : Trading) (k : ℕ) (s : Session) → IsTrading w → IsTaken w.sessions k → s.client ≡ (session_at w k).client
     → s.server ≡ (session_at w k).server → s.service ≡ (session_at w k).service → IsTrading (with_session w k s)
 set_kept w k s h t ec es ev =
     let ss = w.sessions in
@@ -156,6 +156,19 @@ set_kept w k s h t ec es ev =
             (ap is_some f ∙ u, ap (λ o. (found o).server) f)
       ]) h.requests;
     }
+
+-- a session that is changed where it lies: whose it is, and of which service, stays
+pub changed_kept : (w : Trading) (k : ℕ) (old s : Session) → IsTrading w → get_or w.sessions k None ≡ Some old → s.client ≡ old.client
+    → s.server ≡ old.server → s.service ≡ old.service → IsTrading (with_session w k s)
+changed_kept w k old s h is ec es ev =
+    let same : old ≡ session_at w k = sym (ap found is) in
+    set_kept w k s h (ap is_some is) (ec ∙ ap (λ (x : Session). x.client) same) (es ∙ ap (λ (x : Session). x.server) same)
+    (ev ∙ ap (λ (x : Session). x.service) same)
+
+-- and it stands for the sessions with what it became
+pub changed_is : (w v : Trading) (k : ℕ) (old : Session) (f : Session → Session) → w ≡ v → get_or w.sessions k None ≡ Some old
+    → with_session w k (f old) ≡ with_session v k (f (session_at v k))
+changed_is w v k old f e is = ap (λ x. with_session w k (f x)) (sym (ap found is)) ∙ ap (λ (x : Trading). with_session x k (f (session_at x k))) e
 
 pub with_ask_kept : (w : Trading) (k : ℕ) (a : Ask) → IsTrading w → IsTaken w.sessions k → IsTrading (with_ask w k a)
 with_ask_kept w k a h t = record {

@@ -458,21 +458,9 @@ impl Sessions {
         requires { IsTaken self.old.sessions session }
         ensures { self.new ≡ with_session self.old session (opened (session_at self.old session) object) }
     {
-        let mut accepted = self.session(session);
+        let accepted = self.sessions.at_mut(session);
         accepted.accepted = true;
         accepted.object = object;
-        self.set(session, accepted);
-    }
-
-    // Another session of the same client, server and service in the place of one.
-    fn set(&mut self, number: usize, session: Session)
-        requires there { IsTaken self.old.sessions number }
-        requires client { session.client ≡ (session_at self.old number).client }
-        requires server { session.server ≡ (session_at self.old number).server }
-        requires service { session.service ≡ (session_at self.old number).service }
-        ensures { self.new ≡ with_session self.old number session }
-    {
-        self.sessions.set(number, session);
     }
 
     // Another thing in a slot of a session.
@@ -481,9 +469,8 @@ impl Sessions {
         requires slot { slot < 8 }
         ensures { self.new ≡ with_session self.old session (with_slot (session_at self.old session) slot contents) }
     {
-        let mut changed = self.session(session);
+        let changed = self.sessions.at_mut(session);
         changed.slots[slot] = contents;
-        self.set(session, changed);
     }
 
     // The level of a session is one higher.
@@ -492,9 +479,8 @@ impl Sessions {
         requires level { (session_at self.old session).level < 3 }
         ensures { self.new ≡ with_session self.old session (raised (session_at self.old session)) }
     {
-        let mut raised = self.session(session);
+        let raised = self.sessions.at_mut(session);
         raised.level += 1;
-        self.set(session, raised);
     }
 
     // Whether the server of a session can give back what was given for it, once the session's object is freed.
@@ -616,16 +602,9 @@ impl Sessions {
         requires small_caps { (session_at self.old session).donation.caps + more.caps ≤ 2 ^ 41 }
         ensures { self.new ≡ with_session self.old session (with_more (session_at self.old session) more) }
     {
-        let old = self.session(session);
-        let ram = old.donation.ram + more.ram;
-        let caps = old.donation.caps + more.caps;
-        self.set(
-            session,
-            Session {
-                donation: Amount { ram, caps },
-                ..old
-            },
-        );
+        let raised = self.sessions.at_mut(session);
+        raised.donation.ram += more.ram;
+        raised.donation.caps += more.caps;
     }
 
     // A request of a session, behind all others.

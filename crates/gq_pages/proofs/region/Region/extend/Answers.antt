@@ -1,6 +1,7 @@
-use Rattle.std.proofs.Common.{◌≡◌, ◌+◌, length, arith, ap, ◌∙◌, length-append}
-use Rattle.gq_pages.specs.internal.Region.{Contents}
+use Rattle.std.proofs.Common.{◌≡◌, ℕ, ◌+◌, List, length, arith, sym, ap, subst, ◌∙◌, length-append}
+use Rattle.gq_pages.specs.internal.Region.{AreClean, Contents}
 use Rattle.gq_pages.specs.Bytes.{zeros}
+use Rattle.gq_pages.proofs.Clean.{clean_behind}
 use Rattle.gq_pages.proofs.Zeros.{length-zeros}
 use Rattle.gq_pages.proofs.region.Region.extend.Goals as goal
 
@@ -18,4 +19,7 @@ invariant_of-self c =
       leased = i.leased;
       leased_size = i.leased_size;
       small = i.small;
+      pages = i.pages;
+      clean = subst (λ (xs : List ℕ). AreClean xs c.self.inside.marks.items) (sym c.extend.ensures.1)
+          (clean_behind c.self.inside.cells.bytes c.self.inside.marks.items n i.clean);
     }
