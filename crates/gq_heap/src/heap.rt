@@ -3,7 +3,7 @@ ghost use Rattle.std.specs.Prelude.{◌≡◌, ◌+◌, ◌*◌, ◌<◌, ◌≤
 ghost use Rattle.gq_tariff.specs.Prices.{up};
 
 use crate::bin::{Bin, give, take};
-use crate::class::{class_for_size, class_index, place_size, places_per_chunk, spot};
+use crate::class::{class_for_size, class_index, place_bits, place_size, places_per_chunk, spot};
 use gq_store::{ByteStore, ChunkNo, GrowFault};
 use gq_tariff::price::{GREATEST_PLACE, PAGE};
 use gq_tariff::{Class, price_class, round_up};
@@ -27,7 +27,9 @@ impl Place {
         ensures { result ≡ chunk_of self.now }
     {
         match *self {
-            Place::Small(class, number) => ChunkNo::new(spot(number, places_per_chunk(class)).0),
+            Place::Small(class, number) => {
+                ChunkNo::new(spot(number, places_per_chunk(class), place_bits(class)).0)
+            }
             Place::Large(number, _) => ChunkNo::new(number),
         }
     }
@@ -38,8 +40,9 @@ impl Place {
         ensures { result ≡ offset_of self.now }
     {
         match *self {
-            Place::Small(class, number) => spot(number, places_per_chunk(class)).1
-                * place_size(class),
+            Place::Small(class, number) => {
+                spot(number, places_per_chunk(class), place_bits(class)).1 * place_size(class)
+            }
             Place::Large(_, _) => 0,
         }
     }
@@ -161,7 +164,13 @@ impl Heap {
     {
         let class = class_for_size(size);
         let mut bin = self.bins[class_index(class)];
-        let number = take(store, &mut bin, place_size(class), places_per_chunk(class))?;
+        let number = take(
+            store,
+            &mut bin,
+            place_size(class),
+            places_per_chunk(class),
+            place_bits(class),
+        )?;
         self.bins[class_index(class)] = bin;
         Ok(Place::Small(class, number))
     }
@@ -206,6 +215,7 @@ impl Heap {
             &mut bin,
             place_size(class),
             places_per_chunk(class),
+            place_bits(class),
             number,
         );
         self.bins[class_index(class)] = bin;
