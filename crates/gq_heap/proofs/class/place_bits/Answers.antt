@@ -1,4 +1,3 @@
-use Rattle.std.proofs.Common.{◌∙◌, ◌-◌, ◌^◌, ap}
 use Rattle.gq_heap.proofs.ClassLaws.{index_below, places_power}
 use Rattle.gq_heap.specs.Classes.{index_of}
 use Rattle.gq_heap.proofs.class.place_bits.Goals as goal
