@@ -133,6 +133,7 @@ impl Heap {
     ///
     /// Refused as `Exceeded` where the charge must rise by more than can be paid, else as `CapsExceeded` where it must rise and there is no
     /// capability left; then nothing has changed.
+    #[inline(always)]
     pub fn alloc<S: ByteStore>(&mut self, store: &mut S, size: u32) -> Result<Place, GrowFault>
         requires size { (1 ≤ size) × (size ≤ 67108864) }
         requires kept { IsHeap self.old (S.state store.old) }
@@ -192,6 +193,7 @@ impl Heap {
     }
 
     /// Makes the place of a block free. A large block's chunk goes back to the store, a chunk of a class stays the heap's.
+    #[inline(always)]
     pub fn free<S: ByteStore>(&mut self, store: &mut S, place: Place)
         requires { IsInUse self.old (S.state store.old) place }
         ensures frees { Frees self.old self.new (S.state store.old) (S.state store.new) place }
