@@ -1,5 +1,5 @@
 -- The classes by number.
-use Rattle.std.proofs.Common.{◌≡◌, ℕ, zero, suc, ◌<◌, ◌≤◌, Bool, true, false, ltb, cond, [], ◌∷◌, get_or, refl, sym, ap, ◌∙◌, arith}
+use Rattle.std.proofs.Common.{◌≡◌, ℕ, zero, suc, ◌-◌, ◌*◌, ◌%◌, ◌^◌, ◌<◌, ◌≤◌, Bool, true, false, ltb, cond, [], ◌∷◌, get_or, refl, sym, ap, ◌∙◌, arith}
 use Rattle.std.proofs.lemmas.Bool.Decides.{nat_tests}
 use Rattle.gq_tariff.specs.Prices.{classes, class_size, size_for}
 use Rattle.gq_tariff.specs.declared.class.Class.{Class}
@@ -19,6 +19,32 @@ sizes (suc (suc (suc (suc (suc zero))))) h = record { whole = refl; words = refl
 sizes (suc (suc (suc (suc (suc (suc zero)))))) h = record { whole = refl; words = refl; least = omega arith }
 sizes (suc (suc (suc (suc (suc (suc (suc zero))))))) h = record { whole = refl; words = refl; least = omega arith }
 sizes (suc (suc (suc (suc (suc (suc (suc (suc i)))))))) h = absurd (omega arith)
+
+-- a chunk has a power of two of them
+pub places_power : (i : ℕ) → i < 8 → places_at i ≡ 2 ^ (8 - i)
+unfolding places_at
+places_power zero h = refl
+places_power (suc zero) h = refl
+places_power (suc (suc zero)) h = refl
+places_power (suc (suc (suc zero))) h = refl
+places_power (suc (suc (suc (suc zero)))) h = refl
+places_power (suc (suc (suc (suc (suc zero))))) h = refl
+places_power (suc (suc (suc (suc (suc (suc zero)))))) h = refl
+places_power (suc (suc (suc (suc (suc (suc (suc zero))))))) h = refl
+places_power (suc (suc (suc (suc (suc (suc (suc (suc i)))))))) h = absurd (omega arith)
+
+-- the bytes of a place, as the code computes them
+pub size_shifted : (i : ℕ) → i < 8 → 16 * 2 ^ i % 4294967296 ≡ size_at i
+unfolding size_at
+size_shifted zero h = refl
+size_shifted (suc zero) h = refl
+size_shifted (suc (suc zero)) h = refl
+size_shifted (suc (suc (suc zero))) h = refl
+size_shifted (suc (suc (suc (suc zero)))) h = refl
+size_shifted (suc (suc (suc (suc (suc zero))))) h = refl
+size_shifted (suc (suc (suc (suc (suc (suc zero)))))) h = refl
+size_shifted (suc (suc (suc (suc (suc (suc (suc zero))))))) h = refl
+size_shifted (suc (suc (suc (suc (suc (suc (suc (suc i)))))))) h = absurd (omega arith)
 
 -- there are eight
 pub index_below : (c : Class) → index_of c < 8

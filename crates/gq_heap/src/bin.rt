@@ -1,5 +1,5 @@
 // The places of one class.
-ghost use Rattle.std.specs.Prelude.{◌≡◌, ℕ, ◌+◌, ◌-◌, ◌*◌, ◌/◌, ◌%◌, ◌<◌, ◌≤◌, ◌↔◌, Ok, Some, IfOk, OnErr, IsErrOf};
+ghost use Rattle.std.specs.Prelude.{◌≡◌, ℕ, ◌+◌, ◌-◌, ◌*◌, ◌/◌, ◌%◌, ◌^◌, ◌<◌, ◌≤◌, ◌↔◌, Ok, Some, IfOk, OnErr, IsErrOf};
 ghost use Rattle.gq_store.specs.Store.{Store};
 ghost use Rattle.gq_heap.specs.internal.Chain.{IsSize};
 ghost use Rattle.gq_heap.specs.internal.Bin.{IsBin, HasPlace, Takes, Gives, Chains};
@@ -44,8 +44,10 @@ pub fn take<S: ByteStore>(
     bin: &mut Bin,
     size: u32,
     places: u32,
+    bits: u32,
 ) -> Result<u32, GrowFault>
     requires size { IsSize size places }
+    requires bits { (bits ≤ 8) × (places ≡ 2 ^ bits) }
     requires kept { IsBin size places bin.old (S.state store.old) }
     ensures ok { IfOk result (λ q. Takes size places bin.old bin.new (S.state store.old) (S.state store.new) q) }
     ensures exceeded { IsErrOf result GrowFault.Exceeded ↔ ((S.state store.old).left + bin_price size bin.old.peak < bin_price size (next_peak bin.old)) }
@@ -57,19 +59,27 @@ pub fn take<S: ByteStore>(
 {
     let head = first_free(store, size, places, bin.head)?;
     let place = head - 1;
-    bin.head = pop(store, size, places, place);
+    bin.head = pop(store, size, places, bits, place);
     bin.count += 1;
     bin.peak = bin.peak.max(bin.count);
     Ok(place)
 }
 
 /// Makes a place free.
-pub fn give<S: ByteStore>(store: &mut S, bin: &mut Bin, size: u32, places: u32, place: u32)
+pub fn give<S: ByteStore>(
+    store: &mut S,
+    bin: &mut Bin,
+    size: u32,
+    places: u32,
+    bits: u32,
+    place: u32,
+)
     requires size { IsSize size places }
+    requires bits { (bits ≤ 8) × (places ≡ 2 ^ bits) }
     requires kept { HasPlace size places bin.old (S.state store.old) place }
     ensures gives { Gives size places bin.old bin.new (S.state store.old) (S.state store.new) place }
     ensures rest { S.same_rest store.old store.new }
 {
-    bin.head = push(store, size, places, bin.head, place);
+    bin.head = push(store, size, places, bits, bin.head, place);
     bin.count -= 1;
 }

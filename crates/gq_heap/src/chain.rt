@@ -1,5 +1,5 @@
 // Free places that are chained through their own first four bytes.
-ghost use Rattle.std.specs.Prelude.{◌≡◌, ℕ, ◌+◌, ◌-◌, ◌*◌, ◌/◌, ◌%◌, ◌<◌, ◌≤◌};
+ghost use Rattle.std.specs.Prelude.{◌≡◌, ℕ, ◌+◌, ◌-◌, ◌*◌, ◌/◌, ◌%◌, ◌^◌, ◌<◌, ◌≤◌};
 ghost use Rattle.gq_store.specs.Store.{Store, word, Writes};
 ghost use Rattle.gq_heap.specs.internal.Chain.{IsSize, IsChain, place_byte, link, descending};
 
@@ -23,29 +23,38 @@ pub fn chain_all<S: ByteStore>(store: &mut S, chunk: ChunkNo, size: u32, places:
 }
 
 /// Puts a place in front of the chain, and gives the new head.
-pub fn push<S: ByteStore>(store: &mut S, size: u32, places: u32, head: u32, place: u32) -> u32
+pub fn push<S: ByteStore>(
+    store: &mut S,
+    size: u32,
+    places: u32,
+    bits: u32,
+    head: u32,
+    place: u32,
+) -> u32
     requires size { IsSize size places }
+    requires bits { (bits ≤ 8) × (places ≡ 2 ^ bits) }
     requires chunk { ((S.state store.old).size (place / places) ≡ 4096) × (place / places < 1048576) }
     ensures head { result ≡ place + 1 }
     ensures link { link (S.state store.new) size places place ≡ head }
     ensures alone { Writes (S.state store.old) (S.state store.new) (place / places) (place % places * size) 4 }
     ensures rest { S.same_rest store.old store.new }
 {
-    let (chunk, index) = spot(place, places);
+    let (chunk, index) = spot(place, places, bits);
     store.store4(ChunkNo::new(chunk), index * size, head);
     place + 1
 }
 
 /// Takes the place at the head of the chain out of it and clears it; gives the head of what is left.
-pub fn pop<S: ByteStore>(store: &mut S, size: u32, places: u32, place: u32) -> u32
+pub fn pop<S: ByteStore>(store: &mut S, size: u32, places: u32, bits: u32, place: u32) -> u32
     requires size { IsSize size places }
+    requires bits { (bits ≤ 8) × (places ≡ 2 ^ bits) }
     requires chunk { (S.state store.old).size (place / places) ≡ 4096 }
     ensures next { result ≡ link (S.state store.old) size places place }
     ensures zero { (i : ℕ) → i < size → place_byte (S.state store.new) size places place i ≡ 0 }
     ensures alone { Writes (S.state store.old) (S.state store.new) (place / places) (place % places * size) size }
     ensures rest { S.same_rest store.old store.new }
 {
-    let (chunk, index) = spot(place, places);
+    let (chunk, index) = spot(place, places, bits);
     let chunk = ChunkNo::new(chunk);
     let offset = index * size;
     let next = store.load4(chunk, offset);

@@ -1,5 +1,5 @@
 // The classes, as the heap counts them.
-ghost use Rattle.std.specs.Prelude.{◌≡◌, ◌/◌, ◌%◌, ◌<◌, ◌≤◌};
+ghost use Rattle.std.specs.Prelude.{◌≡◌, ◌/◌, ◌%◌, ◌^◌, ◌<◌, ◌≤◌};
 ghost use Rattle.gq_tariff.specs.Prices.{class_size, size_for};
 ghost use Rattle.gq_heap.specs.Classes.{index_of, size_at, places_at, class_for};
 
@@ -26,7 +26,7 @@ pub fn class_index(class: Class) -> usize
 pub fn place_size(class: Class) -> u32
     ensures { result ≡ size_at (index_of class) }
 {
-    class.size() as u32
+    16 << class_index(class)
 }
 
 /// How many places of a class a chunk has.
@@ -36,25 +36,24 @@ pub fn places_per_chunk(class: Class) -> u32
     256 >> class_index(class)
 }
 
-/// The chunk of a place, by its number, and the place's index there, where a chunk has so many places. It divides by none of the numbers that classes have,
-/// since a division takes as long as all else that is done with a place.
+/// How many bits the index of a place of a class has: a chunk has two to the power of it of them.
+pub fn place_bits(class: Class) -> u32
+    ensures bits { places_at (index_of class) ≡ 2 ^ result }
+    ensures few { result ≤ 8 }
+{
+    8 - class_index(class) as u32
+}
+
+/// The chunk of a place, by its number, and the place's index there, where a chunk has so many places, two to the power of `bits`. A division would take as long
+/// as all else that is done with a place.
 #[inline(always)]
-pub fn spot(place: u32, places: u32) -> (u32, u32)
-    requires { 0 < places }
+pub fn spot(place: u32, places: u32, bits: u32) -> (u32, u32)
+    requires few { bits ≤ 8 }
+    requires power { places ≡ 2 ^ bits }
     ensures chunk { result.0 ≡ place / places }
     ensures index { result.1 ≡ place % places }
 {
-    match places {
-        256 => (place / 256, place % 256),
-        128 => (place / 128, place % 128),
-        64 => (place / 64, place % 64),
-        32 => (place / 32, place % 32),
-        16 => (place / 16, place % 16),
-        8 => (place / 8, place % 8),
-        4 => (place / 4, place % 4),
-        2 => (place / 2, place % 2),
-        _ => (place / places, place % places),
-    }
+    (place >> bits, place & (places - 1))
 }
 
 /// The class of a block of `size` bytes.

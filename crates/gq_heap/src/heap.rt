@@ -3,7 +3,7 @@ ghost use Rattle.std.specs.Prelude.{◌≡◌, ◌+◌, ◌*◌, ◌<◌, ◌≤
 ghost use Rattle.gq_tariff.specs.Prices.{up};
 
 use crate::bin::{Bin, give, take};
-use crate::class::{class_for_size, class_index, place_size, places_per_chunk, spot};
+use crate::class::{class_for_size, class_index, place_bits, place_size, places_per_chunk, spot};
 use gq_store::{ByteStore, ChunkNo, GrowFault};
 use gq_tariff::price::{GREATEST_PLACE, PAGE};
 use gq_tariff::{Class, price_class, round_up};
@@ -27,7 +27,9 @@ impl Place {
         ensures { result ≡ chunk_of self.now }
     {
         match *self {
-            Place::Small(class, number) => ChunkNo::new(spot(number, places_per_chunk(class)).0),
+            Place::Small(class, number) => {
+                ChunkNo::new(spot(number, places_per_chunk(class), place_bits(class)).0)
+            }
             Place::Large(number, _) => ChunkNo::new(number),
         }
     }
@@ -38,8 +40,9 @@ impl Place {
         ensures { result ≡ offset_of self.now }
     {
         match *self {
-            Place::Small(class, number) => spot(number, places_per_chunk(class)).1
-                * place_size(class),
+            Place::Small(class, number) => {
+                spot(number, places_per_chunk(class), place_bits(class)).1 * place_size(class)
+            }
             Place::Large(_, _) => 0,
         }
     }
@@ -130,6 +133,7 @@ impl Heap {
     ///
     /// Refused as `Exceeded` where the charge must rise by more than can be paid, else as `CapsExceeded` where it must rise and there is no
     /// capability left; then nothing has changed.
+    #[inline(always)]
     pub fn alloc<S: ByteStore>(&mut self, store: &mut S, size: u32) -> Result<Place, GrowFault>
         requires size { (1 ≤ size) × (size ≤ 67108864) }
         requires kept { IsHeap self.old (S.state store.old) }
@@ -161,7 +165,13 @@ impl Heap {
     {
         let class = class_for_size(size);
         let mut bin = self.bins[class_index(class)];
-        let number = take(store, &mut bin, place_size(class), places_per_chunk(class))?;
+        let number = take(
+            store,
+            &mut bin,
+            place_size(class),
+            places_per_chunk(class),
+            place_bits(class),
+        )?;
         self.bins[class_index(class)] = bin;
         Ok(Place::Small(class, number))
     }
@@ -183,6 +193,7 @@ impl Heap {
     }
 
     /// Makes the place of a block free. A large block's chunk goes back to the store, a chunk of a class stays the heap's.
+    #[inline(always)]
     pub fn free<S: ByteStore>(&mut self, store: &mut S, place: Place)
         requires { IsInUse self.old (S.state store.old) place }
         ensures frees { Frees self.old self.new (S.state store.old) (S.state store.new) place }
@@ -206,6 +217,7 @@ impl Heap {
             &mut bin,
             place_size(class),
             places_per_chunk(class),
+            place_bits(class),
             number,
         );
         self.bins[class_index(class)] = bin;

@@ -101,6 +101,7 @@ impl Pool {
     }
 
     /// Removes the entry, and says whether it did: not where it was absent. Its place is free again.
+    #[inline(always)]
     pub fn give<S: ByteStore>(&self, store: &mut S, heap: &mut Heap, index: u32) -> bool
         requires kept { IsPool self.now heap.old (S.state store.old) }
         requires inside { index < count_of self.now }

@@ -1,5 +1,7 @@
 // Statements that read and write bytes.
-ghost use Rattle.std.specs.Prelude.{◌≡◌, ◌+◌, ◌≤◌, ◌∷◌, List, ℕ, nat_le, slice_range, IfSome, IsTrue, OnErr, Some};
+ghost use Rattle.std.specs.Prelude.{◌≡◌, ◌+◌, ◌<◌, ◌≤◌, ◌∷◌, List, ℕ, nat_le, slice_range, IfSome, IsTrue, OnErr, Ok, Option, Some, false, true};
+ghost use Rattle.gq_model.specs.declared.program.Place.TheVariants.{Own};
+ghost use Rattle.gq_statements.specs.declared.actor.Hand.{Hand};
 ghost use Rattle.gq_model.specs.machine.Doing.{Doing, standing, with_operands};
 ghost use Rattle.gq_model.specs.machine.Memory as memory;
 ghost use Rattle.gq_model.specs.texts.Operands.{is_slot_or_object};
@@ -223,6 +225,76 @@ impl Actor {
         slots.pay_by(self.leaf);
         Ok(())
     }
+}
+
+// The space in a slot of the leaf's own, if there is one, and how many bytes it has.
+#[inline(always)]
+fn own_space(leaf: usize, slots: &Slots, slot: u8) -> Option<(Spot, u64)>
+    requires slot { slot < 64 }
+    requires live { IsLive slots.now.trades leaf }
+    ensures there { IfSome result (λ f. IsSpot slots.now f.0) }
+    ensures own { IfSome result (λ f. holder slots.now f.0 ≡ leaf) }
+    ensures size { IfSome result (λ f. f.1 ≡ size_of (thing_at slots.now f.0)) }
+    ensures found { IfSome result (λ o. (f : Frame) (d : Doing) (bs : List ℕ) (hand : Option Hand) → IsBy d (record { leaf = leaf; hand = hand })
+        → AreBuffers d.system f slots.now bs → IsFound d (world_seen f slots.now) (Own slot) slots.now (Some o)) }
+{
+    slots.laws();
+    let spot = Spot::InLeaf(leaf, slot);
+    let thing = slots.thing(spot);
+    match thing {
+        Thing::Space(_, _) => Some((spot, thing.size())),
+        _ => None,
+    }
+}
+
+/// Reads a byte or a word of a space in a slot of the leaf's own, from an index on, the least byte first, whatever the leaf has at hand. `None` where that slot
+/// holds no space, or not all that is read is in it: then `Actor::load` tells what the statement is. Most statements that read are of this kind.
+#[inline(always)]
+pub fn load_own(leaf: usize, slots: &Slots, width: Width, slot: u8, index: u32) -> Option<u32>
+    requires slot { slot < 64 }
+    requires live { IsLive slots.now.trades leaf }
+    requires paid { IsPaidBy slots.now leaf }
+    ensures { IfSome result (λ n. (f : Frame) (d : Doing) (rest bs : List ℕ) (hand : Option Hand) → IsBy d (record { leaf = leaf; hand = hand })
+        → AreBuffers d.system f slots.now bs → d.world ≡ world_seen f slots.now → d.leaf.operands ≡ index ∷ rest
+        → memory.load d width (Own slot) ≡ read d rest (Ok n)) }
+{
+    let Some((spot, count)) = own_space(leaf, slots, slot) else {
+        return None;
+    };
+    if !is_inside(width, index, count) {
+        return None;
+    }
+    Some(read_number(slots, spot, width, index))
+}
+
+/// Writes a byte of a number, or all four as a word, to an index of a space in a slot of the leaf's own, as `load_own` reads, and tells whether it did. Where it
+/// did not, nothing changes.
+#[inline(always)]
+pub fn store_own(
+    leaf: usize,
+    slots: &mut Slots,
+    width: Width,
+    slot: u8,
+    index: u32,
+    value: u32,
+) -> bool
+    requires slot { slot < 64 }
+    requires live { IsLive slots.old.trades leaf }
+    requires paid { IsPaidBy slots.old leaf }
+    ensures step { result ≡ true → (f : Frame) (d : Doing) (rest bs : List ℕ) (hand : Option Hand) → IsBy d (record { leaf = leaf; hand = hand })
+        → AreBuffers d.system f slots.old bs → standing d (with_operands d rest) ≡ world_seen f slots.old → d.leaf.operands ≡ value ∷ index ∷ rest
+        → memory.store d width (Own slot) ≡ done (Ok tt) (world_seen f slots.new) }
+    ensures beside { SameBeside slots.old slots.new }
+    ensures unchanged { result ≡ false → slots.new ≡ slots.old }
+{
+    let Some((here, count)) = own_space(leaf, slots, slot) else {
+        return false;
+    };
+    if !is_inside(width, index, count) {
+        return false;
+    }
+    write_number(slots, here, width, index, value);
+    true
 }
 
 // Whether the bytes of a width from an index on are among so many.

@@ -17,3 +17,4 @@ mod making;
 mod pools;
 
 pub use actor::{Actor, Hand};
+pub use bytes::{load_own, store_own};
