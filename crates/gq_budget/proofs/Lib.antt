@@ -3,3 +3,4 @@ pub mod Sums
 pub mod Lists
 pub mod Kept
 pub mod Ends
+pub mod Orders

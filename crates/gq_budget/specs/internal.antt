@@ -1,3 +1,4 @@
 pub mod Sums
 pub mod Counted
 pub mod Rounds
+pub mod Order

@@ -1,5 +1,6 @@
 // How often sections ask for sections.
-ghost use Rattle.std.specs.Prelude.{◌≡◌, IfOk, map, option_copied};
+ghost use Rattle.std.specs.Prelude.{◌≡◌, false, [], IfOk, get_or, map, option_copied};
+ghost use Rattle.gq_budget.specs.internal.Order.{AreZero, AsksNot};
 ghost use Rattle.gq_budget.specs.internal.Rounds.{asked_of, asked_by, asks_for, asks_of, all_asks, often, leaf_round};
 
 use crate::counted::CountedLeaf;
@@ -47,6 +48,16 @@ impl Asks {
                 first: 0,
                 asked: asked_by(alloc, leaves, leads, service.as_bytes(), section)?,
             }),
+        }
+    }
+
+    // Whether one of the sections of the leaf of this number asks for the section.
+    fn is_asked_by(&self, leaf: usize) -> bool
+        ensures { result ≡ false → AreZero (get_or self.now.asked leaf []) }
+    {
+        match self.asked.get(leaf) {
+            Some(row) => !row.is_zero(),
+            None => false,
         }
     }
 
@@ -123,6 +134,18 @@ impl LeafAsks {
             sections.push(Asks::new(alloc, leaves, leads, leaf, *section)?)?;
         }
         Ok(LeafAsks { sections })
+    }
+
+    /// Whether one of the sections of the leaf of this number asks for one of this leaf's.
+    pub fn is_asked_by(&self, leaf: usize) -> bool
+        ensures { result ≡ false → AsksNot self.now leaf }
+    {
+        for asks in &self.sections {
+            if asks.is_asked_by(leaf) {
+                return true;
+            }
+        }
+        false
     }
 
     /// How often each section of the leaf runs, where the sections of the leaves run so often.

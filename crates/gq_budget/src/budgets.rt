@@ -1,13 +1,15 @@
 // The step budgets of leaves.
-ghost use Rattle.std.specs.Prelude.{◌≡◌, IfOk, map};
+ghost use Rattle.std.specs.Prelude.{◌≡◌, [], IfOk, map, suc};
 ghost use Rattle.gq_model.specs.machine.Scenario.{System};
 ghost use Rattle.gq_budget.specs.Leaves.{leaves_of, leads_of};
 ghost use Rattle.gq_budget.specs.Budgets.{budgets_of};
 ghost use Rattle.gq_budget.specs.internal.Counted.{budgets_by};
+ghost use Rattle.gq_budget.specs.internal.Rounds.{rounds};
 
-use crate::asks::all_asks;
+use crate::asks::{LeafAsks, all_asks};
 use crate::counted::{CountedLeaf, counted};
 use crate::leaf::Leaf;
+use crate::levels::in_order;
 use crate::numbers::Numbers;
 use crate::rounds::rounds;
 use std::alloc::{AllocError, Global};
@@ -28,6 +30,17 @@ fn budgets(
     Ok(steps)
 }
 
+// How often each section of each leaf runs by chains of at most so many uses; 2^64 - 1 where it is more often. Where the leaves stand in an order of use, the
+// numbers of each are made once; else round by round.
+fn times(alloc: Global, asks: &[LeafAsks], uses: usize) -> Result<Vec<Numbers>, AllocError>
+    ensures { IfOk result (λ often. often.items ≡ rounds (suc uses) asks.now []) }
+{
+    match in_order(alloc, asks, uses)? {
+        Some(often) => Ok(often),
+        None => rounds(alloc, asks, uses),
+    }
+}
+
 /// The greatest number of steps of each of the leaves of a system; 2^64 - 1 where there are more. `leads` tells for each leaf which leaves'
 /// routes for the service that it provides lead to it.
 pub fn step_budgets(
@@ -40,7 +53,7 @@ pub fn step_budgets(
 {
     let counted = counted(alloc, leaves)?;
     let asks = all_asks(alloc, &counted, leads)?;
-    let often = rounds(alloc, &asks, leaves.len())?;
+    let often = times(alloc, &asks, leaves.len())?;
     let steps = budgets(alloc, &counted, &often)?;
     Ok(steps)
 }

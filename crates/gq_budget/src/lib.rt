@@ -13,6 +13,7 @@ mod asks;
 mod budgets;
 mod counted;
 mod leaf;
+mod levels;
 mod numbers;
 mod rounds;
 

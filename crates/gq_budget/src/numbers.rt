@@ -1,6 +1,7 @@
 // Lists of numbers, and sums of products.
 ghost use Rattle.std.specs.Prelude.{◌≡◌, true};
 ghost use Rattle.gq_verify.specs.Counting.{saturated};
+ghost use Rattle.gq_budget.specs.internal.Order.{AreZero};
 ghost use Rattle.gq_budget.specs.internal.Sums.{products, table_products};
 
 use std::marker::Model;
@@ -32,6 +33,18 @@ impl Numbers {
         ensures { result ≡ saturated (products self.now often.now) }
     {
         products(&self.numbers, &often.numbers)
+    }
+
+    /// Whether all of them are 0.
+    pub fn is_zero(&self) -> bool
+        ensures { result ≡ true → AreZero self.now }
+    {
+        for number in &self.numbers {
+            if *number != 0 {
+                return false;
+            }
+        }
+        true
     }
 
     /// Whether both are the same numbers.

@@ -7,7 +7,11 @@ use crate::numbers::Numbers;
 use std::alloc::{AllocError, Global};
 
 // How often each section of each leaf runs, where the sections that ask for it run so often.
-fn round(alloc: Global, asks: &[LeafAsks], table: &[Numbers]) -> Result<Vec<Numbers>, AllocError>
+pub(crate) fn round(
+    alloc: Global,
+    asks: &[LeafAsks],
+    table: &[Numbers],
+) -> Result<Vec<Numbers>, AllocError>
     ensures { IfOk result (λ often. often.items ≡ round asks.now table.now) }
 {
     let mut often = Vec::new(alloc);
@@ -18,7 +22,7 @@ fn round(alloc: Global, asks: &[LeafAsks], table: &[Numbers]) -> Result<Vec<Numb
 }
 
 // Whether two tables have the same numbers, row by row.
-fn are_same(table: &[Numbers], other: &[Numbers]) -> bool
+pub(crate) fn are_same(table: &[Numbers], other: &[Numbers]) -> bool
     ensures { result ≡ true → table.now ≡ other.now }
 {
     if table.len() != other.len() {

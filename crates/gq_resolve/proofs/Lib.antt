@@ -1,5 +1,6 @@
 pub mod Afters_named
 pub mod Reaching
+pub mod Orders
 pub mod Providers
 pub mod Servers
 pub mod Rows_cycles

@@ -1,1 +1,2 @@
 pub mod Afters
+pub mod Order

@@ -3,6 +3,7 @@ ghost use Rattle.std.specs.Prelude.{◌≡◌, ◌<◌, ◌==◌, ◌||◌, IfOk
 ghost use Rattle.gq_model.specs.machine.Lists.{any_of};
 ghost use Rattle.gq_resolve.specs.Reaching.{reaches_by, first_on_cycle, is_set, flag_at, one_more, flags_by};
 
+use crate::levels::{is_order, levels};
 use std::alloc::{AllocError, Global};
 
 // Whether a flag is set; none beyond the end is.
@@ -63,9 +64,8 @@ fn reaches_itself(alloc: Global, used: &[Vec<u32>], leaf: usize) -> Result<bool,
     Ok(is_set(flags.as_slice(), leaf))
 }
 
-/// The first leaf that reaches itself by a chain of uses. The numbers of the leaves that a leaf uses stand at its place; a
-/// number beyond the end is no leaf's. Refused only for want of host memory.
-pub fn first_on_cycle(alloc: Global, used: &[Vec<u32>]) -> Result<Option<usize>, AllocError>
+// The first leaf that reaches itself by a chain of uses, looked for from each leaf.
+fn first_by_rounds(alloc: Global, used: &[Vec<u32>]) -> Result<Option<usize>, AllocError>
     ensures first { IfOk result (λ first. first ≡ first_on_cycle (map (λ l. l.items) used.now)) }
     ensures within { IfOk result (λ first. IfSome first (λ x. x < length used.now)) }
 {
@@ -75,4 +75,17 @@ pub fn first_on_cycle(alloc: Global, used: &[Vec<u32>]) -> Result<Option<usize>,
         }
     }
     Ok(None)
+}
+
+/// The first leaf that reaches itself by a chain of uses. The numbers of the leaves that a leaf uses stand at its place; a
+/// number beyond the end is no leaf's. Refused only for want of host memory. Where the leaves stand in an order of use, which is found at once, there is none.
+pub fn first_on_cycle(alloc: Global, used: &[Vec<u32>]) -> Result<Option<usize>, AllocError>
+    ensures first { IfOk result (λ first. first ≡ first_on_cycle (map (λ l. l.items) used.now)) }
+    ensures within { IfOk result (λ first. IfSome first (λ x. x < length used.now)) }
+{
+    let levels = levels(alloc, used)?;
+    if is_order(used, &levels) {
+        return Ok(None);
+    }
+    first_by_rounds(alloc, used)
 }

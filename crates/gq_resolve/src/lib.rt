@@ -11,6 +11,7 @@
 pub mod after;
 pub mod cycle;
 pub mod fault;
+mod levels;
 pub mod quanta;
 pub mod resolved;
 mod unrouted;

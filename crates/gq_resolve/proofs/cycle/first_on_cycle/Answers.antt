@@ -1,10 +1,6 @@
-use Rattle.std.proofs.Common.{length, map, sym, ◌∙◌}
-use Rattle.std.proofs.lemmas.List.{length-map}
-use Rattle.gq_resolve.proofs.Reaching.{first_more}
+use Rattle.std.proofs.Common.{map, refl, sym}
+use Rattle.gq_resolve.proofs.Orders.{no_cycle}
 use Rattle.gq_resolve.proofs.cycle.first_on_cycle.Goals as goal
 
-pub loop-leaf-preserved : goal.loop-leaf-preserved
-loop-leaf-preserved c =
-    c.loop-leaf.invariant
-    ∙ first_more (map (λ l. l.items) c.args.used.now) (length c.args.used.now) c.loop-leaf.leaf
-    (length-map c.args.used.now (λ l. l.items)) c.loop-leaf-test.true (sym c.in_ok-reaches_itself.ensures ∙ c.if-branch.false)
+pub returns-then-is_order-clause-first : goal.returns-then-is_order-clause-first
+returns-then-is_order-clause-first c = sym (no_cycle (map (λ l. l.items) c.args.used.now) c.deref.result.now (c.if-is_order.ensures refl))
