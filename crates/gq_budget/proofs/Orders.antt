@@ -90,7 +90,8 @@ row_of (asks ∷ rest) table (suc x) = row_of rest table x
 
 -- THE TABLE
 
-module _ (asks : List (List Asks)) (table : List (List ℕ)) (levels : List ℕ) (uses : ℕ) (fixed : table ≡ round asks table) (order : IsOrder asks levels uses) where
+module _ (asks : List (List Asks)) (table : List (List ℕ)) (levels : List ℕ) (uses : ℕ) (fixed : table ≡ round asks table)
+    (order : IsOrder asks levels uses) where
   fixed_row : (x : ℕ) → get_or table x [] ≡ leaf_round (get_or asks x []) table
   fixed_row x = ap (λ (t : List (List ℕ)). get_or t x []) fixed ∙ row_of asks table x
 

@@ -33,7 +33,8 @@ module _ (used : List (List ℕ)) (levels : List ℕ) (order : IsOrder used leve
       → any_of (λ z. z == y || f z) l ≡ true → Level y < level
   among y level f reaches [] below e = absurd (no_more e)
   among y level f reaches (z ∷ rest) below e =
-      by (one_of (z == y || f z) (any_of (λ z. z == y || f z) rest) e) (λ there. among y level f reaches rest (λ k less. below (suc k) (omega (arith, less))) there)
+      by (one_of (z == y || f z) (any_of (λ z. z == y || f z) rest) e)
+      (λ there. among y level f reaches rest (λ k less. below (suc k) (omega (arith, less))) there)
     where
       by : (z == y || f z ≡ true) ⊎ (any_of (λ z. z == y || f z) rest ≡ true) → (any_of (λ z. z == y || f z) rest ≡ true → Level y < level) → Level y < level
       by (inl here) more = lower y z level (f z) (reaches z) (below 0 (omega arith)) here
