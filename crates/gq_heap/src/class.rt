@@ -44,8 +44,8 @@ pub fn place_bits(class: Class) -> u32
     8 - class_index(class) as u32
 }
 
-/// The chunk of a place, by its number, and the place's index there, where a chunk has so many places, two to the power of `bits`. A division would take as long
-/// as all else that is done with a place.
+/// The chunk of a place, by its number, and the place's index there, where a chunk has so many places, two to the power of `bits`. A division would take as
+/// long as all else that is done with a place.
 #[inline(always)]
 pub fn spot(place: u32, places: u32, bits: u32) -> (u32, u32)
     requires few { bits ≤ 8 }

@@ -267,8 +267,8 @@ pub fn load_own(leaf: usize, slots: &Slots, width: Width, slot: u8, index: u32) 
     Some(read_number(slots, spot, width, index))
 }
 
-/// Writes a byte of a number, or all four as a word, to an index of a space in a slot of the leaf's own, as `load_own` reads, and tells whether it did. Where it
-/// did not, nothing changes.
+/// Writes a byte of a number, or all four as a word, to an index of a space in a slot of the leaf's own, as `load_own` reads, and tells whether it did. Where
+/// it did not, nothing changes.
 #[inline(always)]
 pub fn store_own(
     leaf: usize,
