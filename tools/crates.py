@@ -95,17 +95,12 @@ class Crates:
 
     def build_program(self, name, jobs, log):
         """Proves a program from nothing, compiles it by LLVM and links it."""
-        to, checked = self.folder(name) / "out" / name, self.folder(name) / "out" / "checked"
-        shutil.rmtree(checked, ignore_errors=True)
-        checked.parent.mkdir(parents=True, exist_ok=True)
-        words = self.words(name, jobs)[: -len(("--logic-built", "", "--jobs", ""))]
-        toolchain = ["--toolchain", f"{self.kit}/toolchain"]
-        compiled = ["--crate-checked", str(checked), *toolchain, "--backend", "llvm", "-o", f"{to}.o"]
+        to, toolchain = self.folder(name) / "out" / name, ["--toolchain", f"{self.kit}/toolchain"]
+        to.parent.mkdir(parents=True, exist_ok=True)
+        compiled = [*toolchain, "--backend", "llvm", "-o", f"{to}.o"]
         libraries = [f"{self.kit}/c/libos_c.a", f"{self.kit}/c/liblibc_c.a"]
-        return (
-            self.is_done(self.check(name, ["-o", str(checked)], jobs), name, log)
-            and self.is_done([f"{self.kit}/bin/rattle", "build", *words, *compiled], name, log)
-            and self.is_done([f"{self.kit}/bin/rattle-link", "--target", TARGET, *toolchain, "-o", str(to), f"{to}.o", *libraries], name, log)
+        return self.is_done([f"{self.kit}/bin/rattle", "build", *self.words(name, jobs), *compiled], name, log) and self.is_done(
+            [f"{self.kit}/bin/rattle-link", "--target", TARGET, *toolchain, "-o", str(to), f"{to}.o", *libraries], name, log
         )
 
     def is_done(self, command, name, log):
