@@ -1,12 +1,16 @@
 -- What a statement of a leaf on slots makes of the machine's world.
 use Rattle.std.specs.Prelude.{◌≡◌, ℕ, if◌then◌else◌, Bool, List, ◌∷◌, Option, Some, None, Result, Ok, Err}
+use Rattle.gq_tariff.specs.Prices.{up}
 use Rattle.gq_model.specs.machine.World as world
 use Rattle.gq_model.specs.machine.Doing.{Doing, Quiet, Stepped, on_stack, standing, with_operands}
 use Rattle.gq_model.specs.declared.fault.Wrong.{Wrong}
 use Rattle.gq_numbered.specs.Numbers.{IsTaken}
 use Rattle.gq_sessions.specs.Trading.{server_of}
 use Rattle.gq_sessions.specs.declared.session.Spot.{Spot}
-use Rattle.gq_slots.specs.Slots.{Frame, IsSpot, Slots, world_seen}
+use Rattle.gq_sessions.specs.declared.session.Spot.TheVariants.{InLeaf}
+use Rattle.gq_things.specs.declared.thing.Thing.{Thing}
+use Rattle.gq_things.specs.declared.thing.Thing.TheVariants as thing
+use Rattle.gq_slots.specs.Slots.{Frame, IsSpot, Slots, thing_at, world_seen}
 use Rattle.gq_addresses.specs.Addresses.{IsLinked}
 use Rattle.gq_statements.specs.declared.actor.Hand.{Hand}
 use Rattle.gq_statements.specs.declared.actor.Actor.{Actor}
@@ -48,3 +52,11 @@ told f s (Err wrong) = Err wrong
 abbrev pub done : Result (Unit {0}) Wrong → world.World → Stepped
 done (Ok u) w = Ok (w, Quiet)
 done (Err wrong) w = Err wrong
+
+-- the bytes of the space that is in a leaf's own slot, if one is
+abbrev pub space_size : Thing → Option ℕ
+space_size (thing.Space chunk n) = Some (up n)
+space_size _ = None
+
+abbrev pub space_in : Slots → ℕ → ℕ → Option ℕ
+space_in s leaf slot = space_size (thing_at s (InLeaf leaf slot))

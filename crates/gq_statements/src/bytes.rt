@@ -1,5 +1,5 @@
 // Statements that read and write bytes.
-ghost use Rattle.std.specs.Prelude.{◌≡◌, ◌+◌, ◌<◌, ◌≤◌, ◌∷◌, List, ℕ, nat_le, slice_range, IfSome, IsTrue, OnErr, Ok, Option, Some, false, true};
+ghost use Rattle.std.specs.Prelude.{◌≡◌, ◌+◌, ◌<◌, ◌≤◌, ◌∷◌, List, ℕ, nat_le, slice_range, IfSome, IsTrue, OnErr, Ok, Option, Some, None, false, true};
 ghost use Rattle.gq_model.specs.declared.program.Place.TheVariants.{Own};
 ghost use Rattle.gq_statements.specs.declared.actor.Hand.{Hand};
 ghost use Rattle.gq_model.specs.machine.Doing.{Doing, standing, with_operands};
@@ -10,7 +10,7 @@ ghost use Rattle.gq_slots.specs.Slots.{Frame, IsPaidBy, IsSpot, holder, slot_of,
 ghost use Rattle.gq_slots.specs.Calls.{Puts, SameBeside};
 ghost use Rattle.gq_things.specs.Things.{size_of};
 ghost use Rattle.gq_addresses.specs.Addresses.{AreBuffers};
-ghost use Rattle.gq_statements.specs.Statements.{AreLinked, IsAtHand, IsBy, done, read};
+ghost use Rattle.gq_statements.specs.Statements.{AreLinked, IsAtHand, IsBy, done, read, space_in};
 ghost use Rattle.gq_model.specs.machine.Program.{bytes_of, little, spelled};
 ghost use Rattle.gq_things.specs.Things.{bytes_in, put_in};
 ghost use Rattle.gq_statements.specs.internal.Found.{IsFound, byte_count};
@@ -237,6 +237,8 @@ fn own_space(leaf: usize, slots: &Slots, slot: u8) -> Option<(Spot, u64)>
     ensures size { IfSome result (λ f. f.1 ≡ size_of (thing_at slots.now f.0)) }
     ensures found { IfSome result (λ o. (f : Frame) (d : Doing) (bs : List ℕ) (hand : Option Hand) → IsBy d (record { leaf = leaf; hand = hand })
         → AreBuffers d.system f slots.now bs → IsFound d (world_seen f slots.now) (Own slot) slots.now (Some o)) }
+    ensures space { IfSome result (λ f. space_in slots.now leaf slot ≡ Some f.1) }
+    ensures none { result ≡ None → space_in slots.now leaf slot ≡ None }
 {
     slots.laws();
     let spot = Spot::InLeaf(leaf, slot);
@@ -254,9 +256,10 @@ pub fn load_own(leaf: usize, slots: &Slots, width: Width, slot: u8, index: u32) 
     requires slot { slot < 64 }
     requires live { IsLive slots.now.trades leaf }
     requires paid { IsPaidBy slots.now leaf }
-    ensures { IfSome result (λ n. (f : Frame) (d : Doing) (rest bs : List ℕ) (hand : Option Hand) → IsBy d (record { leaf = leaf; hand = hand })
+    ensures step { IfSome result (λ n. (f : Frame) (d : Doing) (rest bs : List ℕ) (hand : Option Hand) → IsBy d (record { leaf = leaf; hand = hand })
         → AreBuffers d.system f slots.now bs → d.world ≡ world_seen f slots.now → d.leaf.operands ≡ index ∷ rest
         → memory.load d width (Own slot) ≡ read d rest (Ok n)) }
+    ensures short { result ≡ None → (n : ℕ) → space_in slots.now leaf slot ≡ Some n → n < index + bytes_of width }
 {
     let Some((spot, count)) = own_space(leaf, slots, slot) else {
         return None;
@@ -286,6 +289,7 @@ pub fn store_own(
         → memory.store d width (Own slot) ≡ done (Ok tt) (world_seen f slots.new) }
     ensures beside { SameBeside slots.old slots.new }
     ensures unchanged { result ≡ false → slots.new ≡ slots.old }
+    ensures short { result ≡ false → (n : ℕ) → space_in slots.old leaf slot ≡ Some n → n < index + bytes_of width }
 {
     let Some((here, count)) = own_space(leaf, slots, slot) else {
         return false;
