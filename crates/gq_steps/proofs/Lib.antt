@@ -3,6 +3,7 @@ pub mod Running
 pub mod Standing
 pub mod Ranges
 pub mod Leading
+pub mod Over
 pub mod Instructing
 pub mod Telling
 pub mod Blocking

@@ -18,5 +18,6 @@ pub mod laws;
 pub mod leaf;
 mod lines;
 pub mod memory;
+mod going;
 
 pub use leaf::{Leaf, Reached};
