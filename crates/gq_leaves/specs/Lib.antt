@@ -1,3 +1,4 @@
 pub mod Frames
 pub mod Leaves
 pub mod Steps
+pub mod Operations

@@ -11,3 +11,4 @@
 
 pub mod laws;
 pub mod memory;
+pub mod operations;

@@ -3,7 +3,7 @@ ghost use Rattle.std.specs.Prelude.{◌≡◌, ℕ, List, IfErr, IfOk, IsTrue, O
 ghost use Rattle.gq_statements.specs.Statements.{done};
 ghost use Rattle.gq_paid.specs.Systems.{AreLawful};
 ghost use Rattle.gq_flat.specs.declared.operation.Operation.TheVariants as operation;
-ghost use Rattle.gq_steps.specs.Statements.{is_on_memory};
+ghost use Rattle.gq_leaves.specs.Operations.{is_on_memory};
 ghost use Rattle.gq_steps.specs.Steps.{shows};
 ghost use Rattle.gq_transitions.specs.internal.Holds.{ActsOn, CanStep, Goes, Holds, IsLong, IsNext, Provides};
 ghost use Rattle.gq_model.specs.declared.program.Instruction.TheVariants as instruction;
