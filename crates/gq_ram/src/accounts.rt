@@ -338,12 +338,9 @@ impl Accounts {
             unreachable!();
         };
         self.owners[ds.0 as usize] = Some(account);
-        self.accounts[account.0] = Account {
-            used: Amount {
-                ram: payer.used.ram + cost,
-                caps: payer.used.caps + self.price,
-            },
-            ..payer
+        self.accounts[account.0].used = Amount {
+            ram: payer.used.ram + cost,
+            caps: payer.used.caps + self.price,
         };
         Ok(ds)
     }
@@ -361,12 +358,9 @@ impl Accounts {
         let size = self.spaces.size(ds);
         self.spaces.destroy(ds);
         self.owners[ds.0 as usize] = None;
-        self.accounts[account.0] = Account {
-            used: Amount {
-                ram: payer.used.ram - size,
-                caps: payer.used.caps - self.price,
-            },
-            ..payer
+        self.accounts[account.0].used = Amount {
+            ram: payer.used.ram - size,
+            caps: payer.used.caps - self.price,
         };
     }
 
@@ -441,16 +435,8 @@ impl Accounts {
         requires balanced { IsBalanced (with_accounts self.old (quotas_set self.old.accounts from.0 less to.0 more)) }
         ensures { self.new ≡ with_accounts self.old (quotas_set self.old.accounts from.0 less to.0 more) }
     {
-        let giver = self.account(from);
-        let taker = self.account(to);
-        self.accounts[from.0] = Account {
-            quota: less,
-            ..giver
-        };
-        self.accounts[to.0] = Account {
-            quota: more,
-            ..taker
-        };
+        self.accounts[from.0].quota = less;
+        self.accounts[to.0].quota = more;
     }
 
     // Whether one of the two is the other's reference account.

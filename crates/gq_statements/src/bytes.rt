@@ -35,6 +35,7 @@ fn byte_count(thing: Thing) -> Option<u64>
 
 impl Actor {
     // Where the bytes stand that a statement names, and how many they are. `None` where it names none.
+    #[inline(always)]
     fn bytes(self, addresses: &Addresses, slots: &Slots, place: Place) -> Option<(Spot, u64)>
         requires place { IsTrue (is_slot_or_object place) }
         requires live { IsLive slots.now.trades self.leaf }
@@ -118,7 +119,7 @@ impl Actor {
     }
 
     // Reads a byte or a word wherever it stands, in memory of the leaf or of the server of a session.
-    #[inline(never)]
+    #[inline(always)]
     fn load_elsewhere(
         self,
         addresses: &Addresses,
@@ -192,7 +193,7 @@ impl Actor {
     }
 
     // Writes a byte or a word wherever it stands, in memory of the leaf or of the server of a session.
-    #[inline(never)]
+    #[inline(always)]
     fn store_elsewhere(
         self,
         addresses: &Addresses,
