@@ -14,9 +14,9 @@ use Rattle.gq_verify.specs.Counting.{saturated}
 use Rattle.gq_budget.specs.internal.Sums.{products, table_products}
 use Rattle.gq_budget.specs.Leaves.{Leaf, leaves_from, leaves_of, leads_for, leads_from, leads_of}
 use Rattle.gq_budget.specs.internal.Counted.{requests_of, costs_of}
-use Rattle.gq_budget.specs.internal.Rounds.{asked_by, asks_for, asks_of, all_asks, often, leaf_round, round, rounds}
+use Rattle.gq_budget.specs.internal.Rounds.{often, leaf_round, round, rounds}
 use Rattle.gq_budget.specs.Budgets.{budgets_from, budgets_of}
-use Rattle.gq_budget.specs.internal.Counted.{budgets_by}
+use Rattle.gq_budget.proofs.Leaf_asks.{asked_by, asks_for, asks_of, all_asks, budgets_by}
 use Rattle.gq_budget.proofs.Sums.{product_kept}
 use Rattle.gq_model.proofs.Small.{add_none, none_add, add_next}
 

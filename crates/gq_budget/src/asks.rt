@@ -28,9 +28,9 @@ impl Asks {
     // Of a section of the service that a leaf provides, where these leaves' routes for it lead to the leaf.
     fn new(
         alloc: Global,
-        leaves: &[CountedLeaf<'_, '_>],
+        leaves: &[CountedLeaf],
         leads: &[bool],
-        leaf: &CountedLeaf<'_, '_>,
+        leaf: &CountedLeaf,
         section: Section,
     ) -> Result<Asks, AllocError>
         ensures { IfOk result (λ a. a ≡ asks_for leaves.now leads.now leaf.now.provides section) }
@@ -73,7 +73,7 @@ impl Asks {
 // How often the sections of a leaf ask for a section of a service; never where it does not lead.
 fn asked_of(
     alloc: Global,
-    leaf: &CountedLeaf<'_, '_>,
+    leaf: &CountedLeaf,
     leads: bool,
     service: &[u8],
     section: Section,
@@ -90,7 +90,7 @@ fn asked_of(
 // How often the sections of each of these leaves ask for a section of a service.
 fn asked_by(
     alloc: Global,
-    leaves: &[CountedLeaf<'_, '_>],
+    leaves: &[CountedLeaf],
     leads: &[bool],
     service: &[u8],
     section: Section,
@@ -123,14 +123,14 @@ impl LeafAsks {
     // Of a leaf, to which the routes of these leaves lead for its service.
     fn new(
         alloc: Global,
-        leaves: &[CountedLeaf<'_, '_>],
+        leaves: &[CountedLeaf],
         leads: &[bool],
-        leaf: &CountedLeaf<'_, '_>,
+        leaf: &CountedLeaf,
     ) -> Result<LeafAsks, AllocError>
-        ensures { IfOk result (λ a. a ≡ asks_of leaves.now leads.now leaf.now.provides leaf.now.subject.program.sections) }
+        ensures { IfOk result (λ a. a ≡ asks_of leaves.now leads.now leaf.now.provides leaf.now.sections) }
     {
         let mut sections = Vec::new(alloc);
-        for (section, _) in leaf.sections() {
+        for section in leaf.sections() {
             sections.push(Asks::new(alloc, leaves, leads, leaf, *section)?)?;
         }
         Ok(LeafAsks { sections })
@@ -163,7 +163,7 @@ impl LeafAsks {
 /// Of each leaf: how often its sections run by themselves and are asked for.
 pub(crate) fn all_asks(
     alloc: Global,
-    leaves: &[CountedLeaf<'_, '_>],
+    leaves: &[CountedLeaf],
     leads: &[Vec<bool>],
 ) -> Result<Vec<LeafAsks>, AllocError>
     ensures { IfOk result (λ a. a.items ≡ all_asks leaves.now leaves.now (map (λ v. v.items) leads.now)) }

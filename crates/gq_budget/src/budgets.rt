@@ -3,8 +3,8 @@ ghost use Rattle.std.specs.Prelude.{◌≡◌, [], IfOk, map, suc};
 ghost use Rattle.gq_model.specs.machine.Scenario.{System};
 ghost use Rattle.gq_budget.specs.Leaves.{leaves_of, leads_of};
 ghost use Rattle.gq_budget.specs.Budgets.{budgets_of};
-ghost use Rattle.gq_budget.specs.internal.Counted.{budgets_by};
-ghost use Rattle.gq_budget.specs.internal.Rounds.{rounds};
+ghost use Rattle.gq_budget.specs.Counts.{AreCountsOf};
+ghost use Rattle.gq_budget.specs.internal.Rounds.{rounds, budgets_by};
 
 use crate::asks::{LeafAsks, all_asks};
 use crate::counted::{CountedLeaf, counted};
@@ -15,11 +15,7 @@ use crate::rounds::rounds;
 use std::alloc::{AllocError, Global};
 
 // What the sections of each of these leaves cost, where they run so often.
-fn budgets(
-    alloc: Global,
-    leaves: &[CountedLeaf<'_, '_>],
-    often: &[Numbers],
-) -> Result<Vec<u64>, AllocError>
+fn budgets(alloc: Global, leaves: &[CountedLeaf], often: &[Numbers]) -> Result<Vec<u64>, AllocError>
     ensures { IfOk result (λ steps. steps.items ≡ budgets_by leaves.now often.now) }
 {
     let mut steps = Vec::new(alloc);
@@ -41,6 +37,21 @@ fn times(alloc: Global, asks: &[LeafAsks], uses: usize) -> Result<Vec<Numbers>, 
     }
 }
 
+/// The same of leaves whose sections are counted, so that no program need be there any more.
+pub fn counted_budgets(
+    alloc: Global,
+    leaves: &[CountedLeaf],
+    leads: &[Vec<bool>],
+) -> Result<Vec<u64>, AllocError>
+    ensures { (system : System) → AreCountsOf leaves.now (leaves_of system) → map (λ v. v.items) leads.now ≡ leads_of system →
+        IfOk result (λ steps. steps.items ≡ budgets_of system) }
+{
+    let asks = all_asks(alloc, leaves, leads)?;
+    let often = times(alloc, &asks, leaves.len())?;
+    let steps = budgets(alloc, leaves, &often)?;
+    Ok(steps)
+}
+
 /// The greatest number of steps of each of the leaves of a system; 2^64 - 1 where there are more. `leads` tells for each leaf which leaves'
 /// routes for the service that it provides lead to it.
 pub fn step_budgets(
@@ -52,8 +63,6 @@ pub fn step_budgets(
         IfOk result (λ steps. steps.items ≡ budgets_of system) }
 {
     let counted = counted(alloc, leaves)?;
-    let asks = all_asks(alloc, &counted, leads)?;
-    let often = times(alloc, &asks, leaves.len())?;
-    let steps = budgets(alloc, &counted, &often)?;
+    let steps = counted_budgets(alloc, &counted, leads)?;
     Ok(steps)
 }

@@ -1,87 +1,88 @@
-// Leaves whose requests are counted.
-ghost use Rattle.std.specs.Prelude.{◌≡◌, IfOk, IsTrue, option_copied};
-ghost use Rattle.gq_model.specs.machine.Lists.{all_of};
-ghost use Rattle.gq_model.specs.texts.Code.{is_section};
-ghost use Rattle.gq_budget.specs.internal.Counted.{AreRequests, requests_of, costs_of};
+// Leaves whose sections are counted.
+ghost use Rattle.std.specs.Prelude.{◌≡◌, IfOk, option_copied};
+ghost use Rattle.gq_budget.specs.Counts.{IsCountOf, AreCountsOf};
+ghost use Rattle.gq_budget.specs.internal.Counted.{counts_for};
 
 use crate::leaf::Leaf;
 use crate::numbers::Numbers;
-use gq_program::{Body, Name, Section};
+use gq_program::{Name, Section};
 use gq_verify::Requests;
 use std::alloc::{AllocError, Global};
 use std::marker::Model;
 
-/// A leaf, with how often each of its sections asks for the sections of services, and the greatest number of steps of each.
+/// What is kept of a leaf once its sections are gone through: which there are, the service that it provides, how often each section asks for
+/// the sections of services, and the greatest number of steps of each. The program is not needed any more.
 #[derive(Drop)]
-pub(crate) struct CountedLeaf<'a, 'b> {
-    leaf: &'a Leaf<'b>,
+pub struct CountedLeaf {
+    sections: Vec<Section>,
+    provides: Option<Name>,
     requests: Vec<Requests>,
     costs: Numbers,
 }
 
-impl<'a, 'b> Model for CountedLeaf<'a, 'b> {
-    ghost use Rattle.gq_model.specs.internal.Stored.{statements_code};
-    ghost use Rattle.std.specs.Coded.{codes};
-    ghost use Rattle.gq_budget.specs.Leaves.{Leaf};
-    ghost use Rattle.std.specs.Prelude.{◌≡◌};
-    ghost use Rattle.gq_budget.specs.internal.Counted.{AreRequests, costs_of};
+impl Model for CountedLeaf {
+    ghost use Rattle.gq_budget.specs.Counts.{Counted};
 
-    ghost Value = { Leaf };
+    ghost Value = { Counted };
 
-    ghost coded = { Prim.hlevel (codes, statements_code (Prim.hlevel codes)) };
-
-    ghost view = { λ l. l.leaf.now };
-
-    ghost invariant = { λ l. AreRequests l.leaf.now.subject l.leaf.now.subject.program.sections l.requests.items
-        × (l.costs ≡ costs_of l.leaf.now.subject.program.sections) };
+    ghost view = { λ l. record { sections = l.sections.items; provides = l.provides; requests = l.requests.items; costs = l.costs } };
 }
 
-impl<'a, 'b> CountedLeaf<'a, 'b> {
-    /// A leaf, its sections walked through for requests and at once for steps, while they are at hand.
-    fn new(alloc: Global, leaf: &'a Leaf<'b>) -> Result<CountedLeaf<'a, 'b>, AllocError>
-        ensures { IfOk result (λ l. l ≡ leaf.now) }
+// The same name, or none.
+fn copied(name: Option<&Name>) -> Option<Name>
+    ensures { result ≡ option_copied name.entry }
+{
+    match name {
+        Some(name) => Name::new(name.as_bytes()),
+        None => None,
+    }
+}
+
+impl CountedLeaf {
+    /// A leaf, its sections gone through for requests and at once for steps, while they are at hand. Refused only for want of host memory.
+    pub fn new(alloc: Global, leaf: &Leaf<'_>) -> Result<CountedLeaf, AllocError>
+        ensures { IfOk result (λ l. IsCountOf l leaf.now) }
     {
+        let sections = leaf.section_names(alloc)?;
         let requests = leaf.requests(alloc)?;
         let costs = leaf.costs(alloc)?;
         Ok(CountedLeaf {
-            leaf,
+            sections,
+            provides: copied(leaf.provides()),
             requests,
             costs,
         })
     }
 
     /// The service that it provides.
-    pub fn provides(&self) -> Option<&Name>
+    pub(crate) fn provides(&self) -> Option<&Name>
         ensures { option_copied result ≡ self.now.provides }
     {
-        let leaf = self.leaf;
-        leaf.provides()
+        self.provides.as_ref()
     }
 
     /// The sections of its program, in their order.
-    pub fn sections(&self) -> &[(Section, Body)]
-        ensures sections { result.now ≡ self.now.subject.program.sections }
-        ensures each { IsTrue (all_of (λ p. is_section p.0) result.now) }
+    pub(crate) fn sections(&self) -> &[Section]
+        ensures { result.now ≡ self.now.sections }
     {
-        let leaf = self.leaf;
-        leaf.sections()
+        self.sections.as_slice()
     }
 
     /// The greatest number of steps of each of its sections.
-    pub fn costs(&self) -> &Numbers
-        ensures { result.now ≡ costs_of self.now.subject.program.sections }
+    pub(crate) fn costs(&self) -> &Numbers
+        ensures { result.now ≡ self.now.costs }
     {
         &self.costs
     }
 
     /// How often each of its sections asks for a section of a service; 2^64 - 1 where it is more often.
-    pub fn requests(
+    pub(crate) fn requests(
         &self,
         alloc: Global,
         service: &[u8],
         section: Section,
     ) -> Result<Numbers, AllocError>
-        ensures { IfOk result (λ r. r ≡ requests_of self.now.subject service.now section self.now.subject.program.sections) }
+        ensures { IfOk result (λ r. r ≡ counts_for self.now.requests service.now section) }
     {
         let mut counts = Vec::new(alloc);
         for requests in &self.requests {
@@ -91,12 +92,9 @@ impl<'a, 'b> CountedLeaf<'a, 'b> {
     }
 }
 
-/// These leaves, each walked through once.
-pub(crate) fn counted<'a, 'b>(
-    alloc: Global,
-    leaves: &'a [Leaf<'b>],
-) -> Result<Vec<CountedLeaf<'a, 'b>>, AllocError>
-    ensures { IfOk result (λ counted. counted.items ≡ leaves.now) }
+// These leaves, each gone through once.
+pub(crate) fn counted(alloc: Global, leaves: &[Leaf<'_>]) -> Result<Vec<CountedLeaf>, AllocError>
+    ensures { IfOk result (λ counted. AreCountsOf counted.items leaves.now) }
 {
     let mut counted = Vec::new(alloc);
     for leaf in leaves {

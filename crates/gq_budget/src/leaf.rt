@@ -1,5 +1,5 @@
 // Leaves.
-ghost use Rattle.std.specs.Prelude.{◌≡◌, IfOk, IsTrue, option_copied};
+ghost use Rattle.std.specs.Prelude.{◌≡◌, IfOk, IsTrue, map, option_copied};
 ghost use Rattle.gq_model.specs.machine.Lists.{all_of};
 ghost use Rattle.gq_model.specs.texts.Code.{is_section};
 ghost use Rattle.gq_budget.specs.internal.Counted.{AreRequests, costs_of};
@@ -66,6 +66,17 @@ impl<'a> Leaf<'a> {
         let program = self.program;
         program.laws();
         program.sections()
+    }
+
+    /// Which sections its program has, in their order.
+    pub(crate) fn section_names(&self, alloc: Global) -> Result<Vec<Section>, AllocError>
+        ensures { IfOk result (λ s. s.items ≡ map (λ p. p.0) self.now.subject.program.sections) }
+    {
+        let mut names = Vec::new(alloc);
+        for (section, _) in self.sections() {
+            names.push(*section)?;
+        }
+        Ok(names)
     }
 
     /// How often each of its sections asks for the sections of services.

@@ -17,5 +17,6 @@ mod levels;
 mod numbers;
 mod rounds;
 
-pub use budgets::step_budgets;
+pub use budgets::{counted_budgets, step_budgets};
+pub use counted::CountedLeaf;
 pub use leaf::Leaf;

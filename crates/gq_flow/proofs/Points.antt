@@ -3,7 +3,7 @@ use Rattle.std.proofs.Common.{◌≡◌, ◌<◌, ◌≤◌, ℕ, arith, ◌+◌
 use Rattle.std.proofs.Common.{◌∙◌, Ok, Err}
 use Rattle.std.proofs.Math.ListN.{drop_of_length-le}
 use Rattle.gq_model.specs.machine.Lists.{greatest}
-use Rattle.gq_model.specs.machine.Program.{size}
+use Rattle.gq_model.specs.machine.Program.{Statements, Done, Do, If, Loop, size}
 use Rattle.gq_model.specs.rules.Kinds.{State, Context, inside, same_kinds}
 use Rattle.gq_model.specs.declared.fault.Rule.{Rule}
 use Rattle.gq_model.specs.declared.fault.Rule.TheVariants.{LeftoverOperand, JoinDiffers}
@@ -11,20 +11,21 @@ use Rattle.gq_model.specs.rules.Rules.{Judged, must, judged}
 use Rattle.gq_model.specs.rules.Flow.{Flowed, at, later, flow_then, state_or, is_nil, chosen_from, none_left, join, flow, points}
 use Rattle.gq_program.specs.Trees.{tree_of}
 use Rattle.gq_program.specs.declared.program.Statement.{Statement}
-use Rattle.gq_program.specs.declared.program.Statement.TheVariants.{Plain, If, Loop}
-use Rattle.gq_caps.specs.Measured.{total_of}
+use Rattle.gq_program.specs.declared.program.Statement.TheVariants as statement
+use Rattle.gq_caps.specs.Measured.{total_of, measured}
 use Rattle.gq_caps.specs.declared.totals.Measure.{Measure}
 use Rattle.gq_caps.specs.declared.totals.Totals.{Totals}
 use Rattle.gq_flow.specs.internal.Steps.{chosen, next_state, points_in}
+use Rattle.gq_flow.specs.internal.Reached.{PeaksWith}
 use Rattle.gq_flow.specs.Peaks.{measure_of, Peaks}
 use Rattle.gq_program.proofs.Sizes.{here_is}
 use Rattle.gq_model.proofs.Rules_laws.{at_ok}
 
 points_first : (c : Context) (s : State) (st : Statement) (rest : List Statement) →
     points c s (tree_of (st ∷ rest)) ≡ points_in c s st ++ points c (next_state c s st) (tree_of rest)
-points_first c s (Plain i) rest = refl
-points_first c s (If arm other) rest = refl
-points_first c s (Loop count body) rest = refl
+points_first c s (statement.Plain i) rest = refl
+points_first c s (statement.If arm other) rest = refl
+points_first c s (statement.Loop count body) rest = refl
 
 greatest-append : (f : State → ℕ) (xs ys : List State) → greatest f (xs ++ ys) ≡ max (greatest f xs) (greatest f ys)
 greatest-append f [] ys = omega arith
@@ -86,8 +87,8 @@ after_join a u v t e =
 
 -- the state that a statement leads to
 pub next_is : (c : Context) (s t : State) (st : Statement) (n : ℕ) → Ok t ≡ later n (flow c s (tree_of (st ∷ []))) → t ≡ next_state c s st
-next_is c s t (Plain i) n e = next_plain c s t (judged c s i) n e
-next_is c s t (If arm other) n e =
+next_is c s t (statement.Plain i) n e = next_plain c s t (judged c s i) n e
+next_is c s t (statement.If arm other) n e =
     let p = then_ok (at 1 (chosen_from s)) _ t (sym (later_ok n _ t e)) in
     let u = chosen_is s p.0 (at_ok 1 (chosen_from s) p.0 p.1) in
     let q = then_ok (later 1 (flow c p.0 arm)) _ t p.2 in
@@ -96,7 +97,7 @@ next_is c s t (If arm other) n e =
     let x = later_ok 1 (flow c p.0 arm) q.0 (sym q.1) in
     let y : state_or (chosen s) (flow c (chosen s) arm) ≡ q.0 = ap (λ (u : State). state_or (chosen s) (flow c u arm)) (sym u) ∙ ap (state_or (chosen s)) x in
     w ∙ sym y
-next_is c s t (Loop count body) n e =
+next_is c s t (statement.Loop count body) n e =
     let p = then_ok (at 1 (none_left s)) _ t (sym (later_ok n _ t e)) in
     let u = must_ok (is_nil s.bounds) LeftoverOperand s p.0 (at_ok 1 (none_left s) p.0 p.1) in
     let q = then_ok (later 1 (flow (inside c count) p.0 body)) _ t p.2 in
@@ -125,11 +126,32 @@ pub peaks_one : (p q : Totals) (s : State) (own : Measure → ℕ) → ((m : Mea
     ((m : Measure) → own m ≡ measure_of m s) → Peaks q p (s ∷ [])
 peaks_one p q s own a b m = omega (arith, a m, b m)
 
+-- so it is once more is measured
+pub peaks_with : (p q : Totals) (states : List State) (after : State) → Peaks q p states → PeaksWith q p states after
+peaks_with p q states after h m = ap (λ (n : ℕ). max n (measure_of m after)) (h m)
+
+-- a state that measures as the one before it is enough
+pub peaks_stay : (p : Totals) (s t : State) → t.own ≡ s.own → PeaksWith p p (s ∷ []) t
+peaks_stay p s t e m =
+    let same : measure_of m t ≡ measure_of m s = ap (measured m) e in omega (arith, same)
+
+-- the first point is the state before
+first_counts : (c : Context) (s : State) (f : State → ℕ) (b : Statements) → f s ≤ greatest f (points c s b)
+first_counts c s f Done = omega arith
+first_counts c s f (Do i rest) = omega arith
+first_counts c s f (If arm other rest) = omega arith
+first_counts c s f (Loop count body rest) = omega arith
+
 -- the statement that stands there, and then the others
 pub peaks_on : (c : Context) (s t : State) (items : List Statement) (i : ℕ) (st : Statement) (n : ℕ) (p q r : Totals) (all : List State) → i < length items →
-    st ≡ get_or items i st → Ok t ≡ later n (flow c s (tree_of (st ∷ []))) → Peaks q p (points_in c s st) →
+    st ≡ get_or items i st → Ok t ≡ later n (flow c s (tree_of (st ∷ []))) → PeaksWith q p (points_in c s st) t →
     ((m : Measure) → max (total_of p m) (greatest (measure_of m) (points c s (tree_of (drop i items)))) ≡ max (total_of r m) (greatest (measure_of m) all)) →
     (m : Measure) → max (total_of q m) (greatest (measure_of m) (points c t (tree_of (drop (i + 1) items)))) ≡ max (total_of r m) (greatest (measure_of m) all)
 peaks_on c s t items i st n p q r all less e ok here before m =
-    ap (λ (u : State). max (total_of q m) (greatest (measure_of m) (points c u (tree_of (drop (i + 1) items))))) (next_is c s t st n ok)
-    ∙ (peak_here c s items i st (measure_of m) (total_of p m) (total_of q m) less e (here m) ∙ before m)
+    let f = measure_of m in
+    let rest = tree_of (drop (i + 1) items) in
+    let next = ap (λ (u : State). greatest f (points c u rest)) (next_is c s t st n ok) in
+    let whole = peak_here c s items i st f (total_of p m) (max (total_of p m) (greatest f (points_in c s st))) less e refl ∙ before m in
+    let first = first_counts c t f rest in
+    let now = here m in
+    omega (arith, next, whole, first, now)

@@ -22,7 +22,11 @@ use Rattle.gq_program.specs.declared.program.Statement.{Statement}
 use Rattle.gq_program.specs.declared.program.Statement.TheVariants as statement
 use Rattle.gq_flow.specs.internal.Stillness.{keeps_slots, is_still}
 use Rattle.gq_flow.specs.internal.Steps.{chosen}
-use Rattle.gq_flow.proofs.Points.{then_ok, later_ok, must_ok, ok_same, chosen_is, joined_is}
+use Rattle.gq_flow.specs.internal.Reached.{PeaksWith}
+use Rattle.gq_rules.specs.declared.broken.Broken.{Broken}
+use Rattle.gq_rules.specs.Flowing.{flowed}
+use Rattle.gq_caps.specs.declared.totals.Totals.{Totals}
+use Rattle.gq_flow.proofs.Points.{then_ok, later_ok, must_ok, ok_same, chosen_is, joined_is, peaks_stay}
 use Rattle.gq_model.proofs.Rules_laws.{within_same, at_ok, nil_is}
 use Rattle.gq_program.proofs.Sizes.{here_is}
 use Rattle.std.proofs.lemmas.Bool.{and_parts}
@@ -163,6 +167,14 @@ flow_still c s t (Loop count body rest) k e =
     let joined = joined_is p.0 q.0 w.0 (at_ok 1 (join p.0 q.0) w.0 w.1) in
     let h = same_by s w.0 p.0 joined (same_by s p.0 s u (same s)) in
     same_then s w.0 t h (flow_still c w.0 t rest a.1 (sym (later_ok (1 + size body) (flow c w.0 rest) t w.2)))
+
+-- what is measured stays as it was where an instruction changes no slot
+pub still_measured : {X : Type 0} (r : Result X Broken) (c : Context) (s t : State) (i : Instruction) (n : ℕ) (p : Totals) → keeps_slots i ≡ true →
+    flowed r t ≡ later n (flow c s (Do i Done)) → OnOk r (PeaksWith p p (s ∷ []) t)
+still_measured (Ok u) c s t i n p k e =
+    let still : is_still (Do i Done) ≡ true = ap (λ (b : Bool). b && true) k in
+    peaks_stay p s t (flow_still c s t (Do i Done) still (sym (later_ok n (flow c s (Do i Done)) t e))).own
+still_measured (Err broken) c s t i n p k e = tt
 
 -- A STILL `IF` AND A STILL LOOP
 

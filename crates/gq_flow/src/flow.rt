@@ -1,18 +1,19 @@
 // The rules for lists of statements.
 ghost use Rattle.std.specs.Prelude.{◌≡◌, ◌+◌, ◌-◌, ◌<◌, ◌^◌, ◌∷◌, [], ◌++◌, ◌&&◌, true, OnOk, IsTrue, length};
-ghost use Rattle.gq_model.specs.machine.Program.{size, Done, If, Loop};
+ghost use Rattle.gq_model.specs.machine.Program.{size, Done, Do, If, Loop};
 ghost use Rattle.gq_model.specs.rules.Kinds.{inside};
 ghost use Rattle.gq_model.specs.rules.Flow.{later, flow, points};
 ghost use Rattle.gq_program.specs.Trees.{tree_of};
 ghost use Rattle.gq_caps.specs.Measured.{AreFew};
 ghost use Rattle.gq_rules.specs.Flowing.{flowed, few_loops};
 ghost use Rattle.gq_flow.specs.internal.Steps.{chosen, points_in};
+ghost use Rattle.gq_flow.specs.internal.Reached.{PeaksWith};
 ghost use Rattle.gq_flow.specs.Peaks.{Peaks};
 ghost use Rattle.gq_flow.specs.internal.Stillness.{is_still};
 
-use crate::still::is_still;
+use crate::still::{is_still, keeps_slots};
 use gq_caps::Totals;
-use gq_program::{Body, Statement};
+use gq_program::{Body, Instruction, Statement};
 use gq_rules::{Broken, Context, State, at};
 
 /// Walks through a list of statements, from what is known before it to what is known after it. Statements are counted on from
@@ -41,6 +42,47 @@ pub fn flow(
     Ok(())
 }
 
+/// Judges a statement with no statement in it, and counts it.
+#[inline(always)]
+fn flow_judged(
+    context: &Context<'_>,
+    state: &mut State,
+    place: &mut u64,
+    instruction: &Instruction,
+) -> Result<(), Broken>
+    requires { place.old + 1 < 2 ^ 64 }
+    ensures flowed { flowed result state.new ≡ later place.old (flow context.now state.old (Do instruction.now Done)) }
+    ensures places { OnOk result (place.new ≡ place.old + 1) }
+{
+    *place += 1;
+    at(*place, context.judged(state, instruction))
+}
+
+/// Walks through a statement with no statement in it. One that changes no slot leaves what is measured as it was, so it is measured once, by the
+/// next that does or at the end.
+#[inline(always)]
+fn flow_plain(
+    context: &Context<'_>,
+    state: &mut State,
+    place: &mut u64,
+    peaks: &mut Totals,
+    instruction: &Instruction,
+) -> Result<(), Broken>
+    requires places { place.old + 1 < 2 ^ 64 }
+    requires small { AreFew peaks.old }
+    ensures flowed { flowed result state.new ≡ later place.old (flow context.now state.old (Do instruction.now Done)) }
+    ensures places { OnOk result (place.new ≡ place.old + 1) }
+    ensures peaks { OnOk result (PeaksWith peaks.new peaks.old (state.old ∷ []) state.new) }
+    ensures small { AreFew peaks.new }
+{
+    if keeps_slots(instruction) {
+        flow_judged(context, state, place, instruction)
+    } else {
+        peaks.raise(state.own().totals());
+        flow_judged(context, state, place, instruction)
+    }
+}
+
 /// Walks through a statement and those in it.
 #[cycle(flows)]
 fn flow_statement(
@@ -55,16 +97,13 @@ fn flow_statement(
     requires small { AreFew peaks.old }
     ensures flowed { flowed result state.new ≡ later place.old (flow context.now state.old (tree_of (statement.now ∷ []))) }
     ensures places { OnOk result (place.new ≡ place.old + size (tree_of (statement.now ∷ []))) }
-    ensures peaks { OnOk result (Peaks peaks.new peaks.old (points_in context.now state.old statement.now)) }
+    ensures peaks { OnOk result (PeaksWith peaks.new peaks.old (points_in context.now state.old statement.now) state.new) }
     ensures small { AreFew peaks.new }
 {
-    peaks.raise(state.own().totals());
     match statement {
-        Statement::Plain(instruction) => {
-            *place += 1;
-            at(*place, context.judged(state, instruction))
-        }
+        Statement::Plain(instruction) => flow_plain(context, state, place, peaks, instruction),
         Statement::If(arm, other) => {
+            peaks.raise(state.own().totals());
             if is_still(arm) && is_still(other) {
                 flow_still_if(context, state, place, peaks, arm, other)
             } else {
@@ -72,6 +111,7 @@ fn flow_statement(
             }
         }
         Statement::Loop(count, body) => {
+            peaks.raise(state.own().totals());
             if is_still(body) {
                 flow_still_loop(context, state, place, peaks, *count, body)
             } else {

@@ -11,11 +11,12 @@ use Rattle.gq_verify.specs.Counting.{saturated}
 use Rattle.gq_budget.specs.Budgets as steps
 use Rattle.gq_load.specs.internal.Judged.{judged_by}
 use Rattle.gq_load.specs.internal.Budgets.{budget_with, budgets_with, kept_from}
+use Rattle.gq_load.specs.internal.Surveys.{own_of}
 use Rattle.gq_model.proofs.Small.{some_none}
 
 -- programs with their step budgets
 pub kept_same : (version : ℕ) (system : System) (x : ℕ) (cs : List Component)
-    → budgets_with version (map (judged_by system.interfaces) cs) (steps.budgets_from system x cs) ≡ kept_from version system x cs
+    → budgets_with version (map (λ c. own_of (judged_by system.interfaces c)) cs) (steps.budgets_from system x cs) ≡ kept_from version system x cs
 kept_same version system x [] = refl
 kept_same version system x (c ∷ rest) = ap (λ l. budget_with version (judged_by system.interfaces c) (saturated (step_budget system x c)) ∷ l)
     (kept_same version system (suc x) rest)
@@ -92,6 +93,6 @@ pub kept_count : (version : ℕ) (system : System) (x : ℕ) (cs : List Componen
 kept_count version system x [] = refl
 kept_count version system x (c ∷ rest) = ap suc (kept_count version system (suc x) rest)
 
-pub judged_count : (interfaces : Interfaces) (cs : List Component) → length (map (judged_by interfaces) cs) ≡ length cs
-judged_count interfaces [] = refl
-judged_count interfaces (c ∷ rest) = ap suc (judged_count interfaces rest)
+pub owns_count : (interfaces : Interfaces) (cs : List Component) → length (map (λ c. own_of (judged_by interfaces c)) cs) ≡ length cs
+owns_count interfaces [] = refl
+owns_count interfaces (c ∷ rest) = ap suc (owns_count interfaces rest)

@@ -1,4 +1,5 @@
 pub mod Loads
+pub mod First_leaves
 pub mod Texts
 pub mod Leads
 pub mod Budgets

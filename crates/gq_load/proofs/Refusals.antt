@@ -1,5 +1,6 @@
 -- The first reason to refuse a scenario.
-use Rattle.std.proofs.Common.{◌≡◌, List, [], ◌∷◌, Option, Some, None, Err, refl, ap, ◌∙◌, sym, subst}
+use Rattle.std.proofs.Common.{◌≡◌, ℕ, List, [], ◌∷◌, Option, Some, None, Result, Ok, Err, refl, ap, ◌∙◌, sym, subst}
+use Rattle.std.specs.Prelude.{IfErr}
 use Rattle.gq_model.specs.machine.Lists.{or_first}
 use Rattle.gq_model.specs.machine.Amounts.{Ram, Caps}
 use Rattle.gq_model.specs.machine.Scenario.{Scenario, System, Interfaces, Component, components, system}
@@ -10,11 +11,13 @@ use Rattle.gq_resolve.specs.declared.fault.ResolveError.{ResolveError}
 use Rattle.gq_resolve.specs.declared.fault.ResolveError.TheVariants as resolve
 use Rattle.gq_load.specs.internal.Judged.{leaf_refusal, first_refusal}
 use Rattle.gq_load.specs.internal.Budgets.{kept_from, budget_refusal}
-use Rattle.gq_load.specs.Load.{Fault, sources_fault, refused, scenario_fault}
-use Rattle.gq_load.specs.Faults.{Gives, load_error_of}
+use Rattle.gq_scenario.specs.Reading.{scenario_in}
+use Rattle.gq_load.specs.Load.{Fault, sources_fault, refused, scenario_fault, loaded_or, loaded_from, loaded}
+use Rattle.gq_load.specs.Faults.{Gives, Refuses, load_error_of}
 use Rattle.gq_load.specs.declared.fault.LoadError.{LoadError}
 use Rattle.gq_load.specs.declared.fault.LoadError.TheVariants as error
 use Rattle.gq_load.proofs.Budgets.{own_kept, steps_kept, all_kept}
+use Rattle.gq_load.proofs.First_leaves.{gives_either}
 
 -- programs are judged by the interfaces alone
 pub first_same : (system : System) (cs : List Component) → first_refusal system.interfaces cs ≡ program_refusal system cs
@@ -103,6 +106,14 @@ for_sources s e h = fault_here e (sources_fault (components s)) _ h
 pub for_refusal : (s : Scenario) (e : LoadError) → sources_fault (components s) ≡ None → Gives e (refused (refusal s)) → Gives e (scenario_fault s)
 for_refusal s e none h = subst (λ a. Gives e (or_first a (refused (refusal s)))) (sym none) h
 
+-- the first fault of the texts and codes, or the first rule that a program breaks
+pub for_survey : (s : Scenario) (e : LoadError) → Gives e (or_first (sources_fault (components s)) (refused (first_refusal s.interfaces (components s))))
+    → Gives e (scenario_fault s)
+for_survey s e h =
+    let o = sources_fault (components s) in
+    gives_either e o (program_refusal (system s) (components s)) _
+    (subst (λ (why : Option Refusal). Gives e (or_first o (refused why))) (first_same (system s) (components s)) h)
+
 pub faultless : (s : Scenario) → sources_fault (components s) ≡ None → refusal s ≡ None → scenario_fault s ≡ None
 faultless s none accepted = ap (λ a. or_first a (refused (refusal s))) none ∙ ap refused accepted
 
@@ -115,3 +126,14 @@ of_scenario s i cs P e f h = subst (P s.interfaces) f (subst (λ i. P i cs) e h)
 pub of_kept : (s : Scenario) (cs : List Component) (bs : List Budget) (P : List Component → List Budget → Type 0) → cs ≡ components s
     → bs ≡ kept_from s.version (system s) 0 cs → P cs bs → P (components s) (kept_from s.version (system s) 0 (components s))
 of_kept s cs bs P e f h = subst (λ cs. P cs (kept_from s.version (system s) 0 cs)) e (subst (P cs) f h)
+
+-- a text whose scenario is refused is refused so
+gives_refuses : (s : Scenario) (o : Option Fault) (e : LoadError) → Gives e o → Refuses e (loaded_or s o)
+gives_refuses s o error.Memory h = tt
+gives_refuses s None (error.Fault f) h = h
+gives_refuses s (Some fault) (error.Fault f) h = h
+
+pub refuses_so : {A : Type 0} (text : List ℕ) (s : Scenario) (r : Result A LoadError) → scenario_in text ≡ Ok s → IfErr r (λ e. Gives e (scenario_fault s)) →
+    IfErr r (λ e. Refuses e (loaded text))
+refuses_so text s (Ok a) is h = tt
+refuses_so text s (Err e) is h = subst (λ (l : Result Scenario Fault). Refuses e l) (sym (ap loaded_from is)) (gives_refuses s (scenario_fault s) e h)

@@ -9,26 +9,26 @@ ghost use Rattle.gq_resolve.specs.Served.{AreServers};
 ghost use Rattle.gq_load.specs.internal.Accepted.{AreOfAccepted};
 ghost use Rattle.gq_load.specs.internal.Budgets.{kept_from, budget_refusal};
 ghost use Rattle.gq_load.specs.Faults.{Gives, Prints, Refuses};
-ghost use Rattle.gq_load.specs.internal.Judged.{programs_of, judged_by};
+ghost use Rattle.gq_load.specs.internal.Judged.{programs_of, first_refusal};
+ghost use Rattle.gq_load.specs.internal.Surveys.{AreSurveys};
 ghost use Rattle.gq_load.specs.Load.{loaded, scenario_fault, refused};
 
 use crate::budget::{Budget, budgets_of};
 use crate::fault::{LoadError, LoadFault};
-use crate::judged::judge_all;
 use crate::line;
 use crate::over::{check_caps, check_ram, check_steps};
 use crate::programs::read_programs;
 use crate::steps::steps_of;
+use crate::surveys::{Surveys, survey_programs};
 use gq_init::NodeTable;
 use gq_init::table::Entries;
 use gq_program::program::Program;
 use gq_reader::reader::read_scenario;
 use gq_resolve::component::{Component, components};
-use gq_resolve::resolve_components;
+use gq_resolve::resolve_opened;
 use gq_resolve::routes::Routes;
 use gq_scenario::fault::ScenarioError;
 use gq_scenario::scenario::Scenario;
-use gq_verify::Verified;
 use std::alloc::{AllocError, Global};
 use std::marker::Model;
 
@@ -59,16 +59,20 @@ fn kept_budgets(
     alloc: Global,
     scenario: &Scenario,
     components: &[Component<'_>],
-    programs: &[Program],
-    judged: &[Verified<'_>],
+    surveys: &Surveys,
 ) -> Result<Vec<Budget>, AllocError>
     requires components { components.now ≡ model.components scenario.now }
-    requires programs { programs.now ≡ programs_of components.now }
-    requires judged { judged.now ≡ map (judged_by scenario.now.interfaces) components.now }
+    requires surveys { AreSurveys scenario.now.interfaces components.now surveys.now.owns.items surveys.now.counted.items
+        (map (λ v. v.items) surveys.now.opened.items) }
     ensures { IfOk result (λ b. b.items ≡ kept_from scenario.now.version (system scenario.now) 0 components.now) }
 {
-    let steps = steps_of(alloc, scenario, components, programs, judged)?;
-    let budgets = budgets_of(alloc, scenario.version(), judged, steps.as_slice())?;
+    let steps = steps_of(alloc, scenario, components, surveys.counted.as_slice())?;
+    let budgets = budgets_of(
+        alloc,
+        scenario.version(),
+        surveys.owns.as_slice(),
+        steps.as_slice(),
+    )?;
     Ok(budgets)
 }
 
@@ -84,23 +88,24 @@ fn check_budgets(components: &[Component<'_>], budgets: &[Budget]) -> Result<(),
     check_caps(components, budgets)
 }
 
-// The routes and the budgets of a scenario whose programs are judged, or the first reason to refuse it.
-fn judge(
+// The routes and the budgets of a scenario whose programs break no rule, or the first reason to refuse it.
+pub(crate) fn judge(
     alloc: Global,
     scenario: &Scenario,
     components: &[Component<'_>],
-    programs: &[Program],
+    surveys: &Surveys,
 ) -> Result<(Routes, Vec<Budget>), LoadError>
     requires components { components.now ≡ model.components scenario.now }
-    requires programs { programs.now ≡ programs_of components.now }
+    requires surveys { AreSurveys scenario.now.interfaces components.now surveys.now.owns.items surveys.now.counted.items
+        (map (λ v. v.items) surveys.now.opened.items) }
+    requires right { first_refusal scenario.now.interfaces components.now ≡ None }
     ensures servers { IfOk result (λ found. AreServers scenario.now found.0) }
     ensures budgets { IfOk result (λ found. found.1.items ≡ accept.budgets scenario.now) }
     ensures accepted { IfOk result (λ found. refusal scenario.now ≡ None) }
     ensures refused { IfErr result (λ e. Gives e (refused (refusal scenario.now))) }
 {
-    let judged = judge_all(alloc, components, programs, scenario.interfaces())?;
-    let routes = resolve_components(alloc, scenario, components, programs)?;
-    let budgets = kept_budgets(alloc, scenario, components, programs, judged.as_slice())?;
+    let routes = resolve_opened(alloc, scenario, components, surveys.opened.as_slice())?;
+    let budgets = kept_budgets(alloc, scenario, components, surveys)?;
     check_budgets(components, budgets.as_slice())?;
     Ok((routes, budgets))
 }
@@ -123,7 +128,13 @@ fn judge_scenario(alloc: Global, scenario: &Scenario) -> Result<Judged, LoadErro
 {
     let components = components(alloc, scenario)?;
     let programs = read_programs(alloc, components.as_slice())?;
-    let (routes, budgets) = judge(alloc, scenario, components.as_slice(), programs.as_slice())?;
+    let surveys = survey_programs(
+        alloc,
+        components.as_slice(),
+        programs.as_slice(),
+        scenario.interfaces(),
+    )?;
+    let (routes, budgets) = judge(alloc, scenario, components.as_slice(), &surveys)?;
     let entries = Entries::of(alloc, scenario, components.as_slice(), &routes)?;
     Ok(Judged {
         programs,

@@ -1,11 +1,10 @@
 // The budgets of leaves: what each uses at most.
 ghost use Rattle.std.specs.Prelude.{◌≡◌, length, IfOk};
 ghost use Rattle.gq_scenario.specs.Trees.{version_number};
-ghost use Rattle.gq_load.specs.internal.Budgets.{budget_with, budgets_with};
+ghost use Rattle.gq_load.specs.internal.Budgets.{budget_from, budgets_with};
 
 use gq_scenario::scenario::Version;
 use gq_tariff::Amount;
-use gq_verify::Verified;
 use std::alloc::{AllocError, Global};
 use std::marker::Model;
 
@@ -56,31 +55,30 @@ impl Budget {
     }
 }
 
-// The budget of a program with so many steps.
-fn budget_of(version: Version, verified: &Verified<'_>, steps: u64) -> Budget
-    ensures { result ≡ budget_with (version_number version) verified.now steps }
+// The budget of a program that uses so much of its own account, with so many steps.
+fn budget_of(version: Version, own: &Amount, steps: u64) -> Budget
+    ensures { result ≡ budget_from (version_number version) own.now steps }
 {
     let caps = match version {
         Version::One => 0,
-        Version::Two => verified.own_caps(),
+        Version::Two => own.caps,
     };
-    let ram = verified.own();
-    Budget::new(Amount { ram, caps }, steps)
+    Budget::new(Amount { ram: own.ram, caps }, steps)
 }
 
 // The budgets of programs, each with so many steps.
 pub(crate) fn budgets_of(
     alloc: Global,
     version: Version,
-    verified: &[Verified<'_>],
+    owns: &[Amount],
     steps: &[u64],
 ) -> Result<Vec<Budget>, AllocError>
-    requires { length steps.now ≡ length verified.now }
-    ensures { IfOk result (λ b. b.items ≡ budgets_with (version_number version) verified.now steps.now) }
+    requires { length steps.now ≡ length owns.now }
+    ensures { IfOk result (λ b. b.items ≡ budgets_with (version_number version) owns.now steps.now) }
 {
     let mut budgets = Vec::new(alloc);
-    for (place, verified) in verified.iter().enumerate() {
-        budgets.push(budget_of(version, verified, steps[place]))?;
+    for (place, own) in owns.iter().enumerate() {
+        budgets.push(budget_of(version, own, steps[place]))?;
     }
     Ok(budgets)
 }

@@ -11,6 +11,7 @@
 
 pub mod accepted;
 pub mod budget;
+pub mod checked;
 pub mod fault;
 mod judged;
 mod line;
@@ -18,4 +19,5 @@ pub mod named;
 mod over;
 pub mod programs;
 mod steps;
+mod surveys;
 pub mod unverified;

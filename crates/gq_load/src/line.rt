@@ -1,12 +1,14 @@
 // The lines of budgets.
 ghost use Rattle.std.specs.Prelude.{◌≡◌, ◌++◌, length, OnOk, IfOk};
 ghost use Rattle.gq_model.specs.machine.Accounts.{entry};
-ghost use Rattle.gq_model.specs.machine.Scenario.{Component, components};
+ghost use Rattle.gq_model.specs.machine.Scenario as model;
+ghost use Rattle.gq_model.specs.machine.Scenario.{components};
 ghost use Rattle.gq_model.specs.rules.Accept.{budget_line, budget_lines_of};
 ghost use Rattle.gq_scenario.specs.Trees.{version_number};
 
 use crate::budget::Budget;
 use gq_init::NodeTable;
+use gq_resolve::component::Component;
 use gq_scenario::scenario::{LeafNo, Version};
 use itoa::Buffer;
 use std::alloc::{AllocError, Global};
@@ -29,7 +31,7 @@ fn push_line(
     label: &[u8],
     budget: &Budget,
 ) -> Result<(), AllocError>
-    ensures { OnOk result ((c : Component) → c.label ≡ label.now → text.new.items ≡ text.old.items ++ budget_line (version_number version) c budget.now) }
+    ensures { OnOk result ((c : model.Component) → c.label ≡ label.now → text.new.items ≡ text.old.items ++ budget_line (version_number version) c budget.now) }
 {
     text.extend_from_slice(b"budget ")?;
     text.extend_from_slice(label)?;
@@ -40,6 +42,23 @@ fn push_line(
     push_entry(text, b"steps", budget.steps())?;
     text.extend_from_slice(b"\n")?;
     Ok(())
+}
+
+// The lines of the budgets of these leaves.
+pub(crate) fn component_lines(
+    alloc: Global,
+    version: Version,
+    components: &[Component<'_>],
+    budgets: &[Budget],
+) -> Result<Vec<u8>, AllocError>
+    requires { length budgets.now ≡ length components.now }
+    ensures { IfOk result (λ text. text.items ≡ budget_lines_of (version_number version) components.now budgets.now) }
+{
+    let mut text = Vec::new(alloc);
+    for (place, component) in components.iter().enumerate() {
+        push_line(&mut text, version, component.label(), &budgets[place])?;
+    }
+    Ok(text)
 }
 
 // The lines of the budgets of a scenario's leaves.

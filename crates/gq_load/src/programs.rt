@@ -1,5 +1,5 @@
 // The programs of a scenario's leaves.
-ghost use Rattle.std.specs.Prelude.{◌≡◌, None, IfOk, IfErr};
+ghost use Rattle.std.specs.Prelude.{◌≡◌, None, IfOk, IfErr, OnOk};
 ghost use Rattle.gq_load.specs.Faults.{Gives};
 ghost use Rattle.gq_load.specs.internal.Judged.{programs_of};
 ghost use Rattle.gq_load.specs.Load.{source_fault, sources_fault};
@@ -67,4 +67,15 @@ pub(crate) fn read_programs(
         programs.push(read_program(alloc, component.leaf())?)?;
     }
     Ok(programs)
+}
+
+// Makes sure that the texts and codes of these leaves are programs; these are let go.
+pub(crate) fn check_programs(alloc: Global, components: &[Component<'_>]) -> Result<(), LoadError>
+    ensures none { OnOk result (sources_fault components.now ≡ None) }
+    ensures refused { IfErr result (λ e. Gives e (sources_fault components.now)) }
+{
+    for component in components {
+        let _program = read_program(alloc, component.leaf())?;
+    }
+    Ok(())
 }

@@ -3,17 +3,14 @@ ghost use Rattle.std.specs.Prelude.{◌≡◌, ◌<◌, ◌^◌, length, map, If
 ghost use Rattle.gq_model.specs.machine.Scenario as model;
 ghost use Rattle.gq_model.specs.machine.Scenario.{system};
 ghost use Rattle.gq_budget.specs.Budgets.{budgets_of};
-ghost use Rattle.gq_load.specs.internal.Judged.{programs_of, judged_by};
+ghost use Rattle.gq_budget.specs.Counts.{AreCountsOf};
 ghost use Rattle.gq_load.specs.internal.Leads.{leads_to, leads_row, leads_rows, counted_leaves};
 
-use gq_budget::{Leaf, step_budgets};
+use gq_budget::{CountedLeaf, counted_budgets};
 use gq_model::program::Name;
-use gq_program::Interfaces;
-use gq_program::program::Program;
 use gq_resolve::component::Component;
 use gq_resolve::routes::server_of;
 use gq_scenario::scenario::{LeafNo, Scenario};
-use gq_verify::Verified;
 use std::alloc::{AllocError, Global};
 
 // Whether a component's route for a service leads to the leaf of a number; none does for no service.
@@ -63,46 +60,19 @@ fn leads_rows(alloc: Global, components: &[Component<'_>]) -> Result<Vec<Vec<boo
     Ok(rows)
 }
 
-// The leaves as their steps are counted by.
-fn counted_leaves<'a>(
-    alloc: Global,
-    components: &'a [Component<'a>],
-    programs: &'a [Program],
-    judged: &'a [Verified<'a>],
-    interfaces: &Interfaces,
-) -> Result<Vec<Leaf<'a>>, AllocError>
-    requires programs { programs.now ≡ programs_of components.now }
-    requires judged { judged.now ≡ map (judged_by interfaces.now) components.now }
-    ensures { IfOk result (λ leaves. leaves.items ≡ counted_leaves interfaces.now components.now) }
-{
-    let _interfaces = interfaces;
-    let mut leaves = Vec::new(alloc);
-    for (place, component) in components.iter().enumerate() {
-        leaves.push(Leaf::new(
-            &programs[place],
-            &judged[place],
-            component.leaf().provides(),
-        ))?;
-    }
-    Ok(leaves)
-}
-
-// The step budgets of a scenario's leaves, or the greatest number of 64 bits where they are more.
+// The step budgets of a scenario's leaves, which are counted, or the greatest number of 64 bits where they are more.
 pub(crate) fn steps_of(
     alloc: Global,
     scenario: &Scenario,
     components: &[Component<'_>],
-    programs: &[Program],
-    judged: &[Verified<'_>],
+    counted: &[CountedLeaf],
 ) -> Result<Vec<u64>, AllocError>
     requires components { components.now ≡ model.components scenario.now }
-    requires programs { programs.now ≡ programs_of components.now }
-    requires judged { judged.now ≡ map (judged_by scenario.now.interfaces) components.now }
+    requires counted { AreCountsOf counted.now (counted_leaves scenario.now.interfaces components.now) }
     ensures { IfOk result (λ steps. steps.items ≡ budgets_of (system scenario.now)) }
 {
     let _count = scenario.leaf_count();
-    let leaves = counted_leaves(alloc, components, programs, judged, scenario.interfaces())?;
     let leads = leads_rows(alloc, components)?;
-    let steps = step_budgets(alloc, leaves.as_slice(), leads.as_slice())?;
+    let steps = counted_budgets(alloc, counted, leads.as_slice())?;
     Ok(steps)
 }

@@ -4,3 +4,4 @@ pub mod Orders
 pub mod Providers
 pub mod Servers
 pub mod Rows_cycles
+pub mod Items

@@ -16,5 +16,5 @@ pub mod quanta;
 pub mod resolved;
 mod unrouted;
 
-pub use gq_routes::{component, routes, routing};
-pub use resolved::{resolve, resolve_components};
+pub use gq_routes::{component, routes, routing, services};
+pub use resolved::{resolve, resolve_components, resolve_opened};

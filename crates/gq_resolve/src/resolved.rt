@@ -3,6 +3,7 @@ ghost use Rattle.std.specs.Prelude.{◌≡◌, IfOk, map};
 ghost use Rattle.gq_model.specs.machine.Scenario as model;
 ghost use Rattle.gq_model.specs.machine.Scenario.{System, components};
 ghost use Rattle.gq_model.specs.rules.Resolve.{cycle_fault, unresolved};
+ghost use Rattle.gq_model.specs.rules.Use.{services};
 ghost use Rattle.gq_resolve.specs.Resolved.{Finds};
 ghost use Rattle.gq_routes.specs.Served.{leaf_routes, routes_of, AreServers};
 
@@ -10,7 +11,8 @@ use crate::after::check_after;
 use crate::cycle::first_on_cycle;
 use crate::fault::{ResolveError, ResolveFault};
 use crate::quanta::check_quanta;
-use crate::unrouted::all_routes;
+use crate::unrouted::{all_opened, all_routes};
+use gq_model::program::Name;
 use gq_program::program::Program;
 use gq_routes::component::{Component, components};
 use gq_routes::routes::Routes;
@@ -72,10 +74,27 @@ pub fn resolve_components(
     ensures servers { IfOk result (λ routes. AreServers scenario.now routes) }
     ensures fault { Finds result (unresolved scenario.now) }
 {
+    let opened = all_opened(alloc, programs)?;
+    resolve_opened(alloc, scenario, components, opened.as_slice())
+}
+
+/// The same where also the services are at hand that each leaf's program opens, in the order of its text; the programs are not needed then.
+pub fn resolve_opened(
+    alloc: Global,
+    scenario: &Scenario,
+    components: &[Component<'_>],
+    opened: &[Vec<Name>],
+) -> Result<Routes, ResolveError>
+    requires all { components.now ≡ model.components scenario.now }
+    requires opened { map (λ v. v.items) opened.now ≡ map services components.now }
+    ensures routes { IfOk result (λ routes. routes ≡ routes_of scenario.now) }
+    ensures servers { IfOk result (λ routes. AreServers scenario.now routes) }
+    ensures fault { Finds result (unresolved scenario.now) }
+{
     check_quanta(scenario)?;
     check_after(components)?;
     let _count = scenario.leaf_count();
-    let routes = all_routes(alloc, components, programs)?;
+    let routes = all_routes(alloc, components, opened)?;
     check_cycle(alloc, components, &routes)?;
     Ok(routes)
 }

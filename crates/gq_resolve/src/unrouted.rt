@@ -2,7 +2,7 @@
 ghost use Rattle.std.specs.Prelude.{◌≡◌, ◌<◌, ◌^◌, IfOk, length, map};
 ghost use Rattle.gq_model.specs.machine.Routes.{Routed};
 ghost use Rattle.gq_model.specs.rules.Resolve.{Unrouted, services_fault, routes_fault};
-ghost use Rattle.gq_model.specs.rules.Use.{services};
+ghost use Rattle.gq_model.specs.rules.Use.{services, services_in};
 ghost use Rattle.gq_resolve.specs.Resolved.{Finds, fault_of, refused};
 ghost use Rattle.gq_routes.specs.Routing.{routed_not};
 ghost use Rattle.gq_routes.specs.Served.{leaf_routes};
@@ -15,7 +15,7 @@ use gq_routes::routes::{LeafRoutes, Routes, served_once};
 use gq_routes::routing::{RouteFault, route};
 use gq_routes::services::opened;
 use gq_scenario::tree::copied;
-use std::alloc::Global;
+use std::alloc::{AllocError, Global};
 
 // The fault of a leaf's service that leads nowhere.
 fn unrouted(why: RouteFault, leaf: &Name, service: &Name) -> ResolveFault
@@ -42,21 +42,31 @@ fn check_services(component: &Component<'_>, services: &[Name]) -> Result<(), Re
     Ok(())
 }
 
+// The services that each of these programs opens, in the order of its text.
+pub(crate) fn all_opened(alloc: Global, programs: &[Program]) -> Result<Vec<Vec<Name>>, AllocError>
+    ensures { IfOk result (λ v. map (λ o. o.items) v.items ≡ map (λ p. services_in p.sections) programs.now) }
+{
+    let mut all = Vec::new(alloc);
+    for program in programs {
+        all.push(opened(alloc, program)?)?;
+    }
+    Ok(all)
+}
+
 // The services that a component's program opens, each once, with their servers. Refuses the first that leads nowhere.
 fn leaf_routes(
     alloc: Global,
     components: &[Component<'_>],
     component: &Component<'_>,
-    program: &Program,
+    opened: &[Name],
 ) -> Result<LeafRoutes, ResolveError>
     requires few { length components.now < 2 ^ 32 }
-    requires own { program.now ≡ component.now.node.program }
+    requires own { opened.now ≡ services component.now }
     ensures routes { IfOk result (λ r. r ≡ leaf_routes components.now component.now) }
     ensures fault { Finds result (services_fault component.now (services component.now)) }
 {
-    let opened = opened(alloc, program)?;
-    check_services(component, opened.as_slice())?;
-    let routes = served_once(alloc, components, component, opened.as_slice())?;
+    check_services(component, opened)?;
+    let routes = served_once(alloc, components, component, opened)?;
     Ok(routes)
 }
 
@@ -65,16 +75,16 @@ fn leaf_routes(
 pub(crate) fn all_routes(
     alloc: Global,
     components: &[Component<'_>],
-    programs: &[Program],
+    opened: &[Vec<Name>],
 ) -> Result<Routes, ResolveError>
     requires few { length components.now < 2 ^ 32 }
-    requires own { programs.now ≡ map (λ c. c.node.program) components.now }
+    requires own { map (λ v. v.items) opened.now ≡ map services components.now }
     ensures routes { IfOk result (λ r. r ≡ map (leaf_routes components.now) components.now) }
     ensures fault { Finds result (routes_fault components.now) }
 {
     let mut leaves = Vec::new(alloc);
     for (place, component) in components.iter().enumerate() {
-        leaves.push(leaf_routes(alloc, components, component, &programs[place])?)?;
+        leaves.push(leaf_routes(alloc, components, component, opened[place].as_slice())?)?;
     }
     Ok(Routes::new(leaves))
 }

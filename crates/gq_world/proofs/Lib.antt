@@ -6,3 +6,4 @@ pub mod Fronts
 pub mod Whole
 pub mod Hexadecimal
 pub mod Free
+pub mod Checked

@@ -9,7 +9,7 @@ ghost use Rattle.gq_lines.specs.Writes.{IsRaised};
 
 use crate::fault::RunFault;
 use gq_lines::counted::{Counted, put};
-use gq_load::accepted::Accepted;
+use gq_load::checked::checked_lines;
 use gq_load::fault::LoadError;
 use std::alloc::Global;
 use std::io::Write;
@@ -19,8 +19,7 @@ fn budget_lines(alloc: Global, scenario: &[u8]) -> Result<Vec<u8>, LoadError>
     ensures lines { IfOk result (λ lines. check_written scenario.now ≡ Ok lines.items) }
     ensures refused { IfErr result (λ e. Refuses e (loaded scenario.now)) }
 {
-    let accepted = Accepted::read(alloc, scenario)?;
-    let lines = accepted.budget_lines(alloc)?;
+    let lines = checked_lines(alloc, scenario)?;
     Ok(lines)
 }
 

@@ -6,8 +6,6 @@ use Rattle.gq_model.specs.rules.Kinds.{Subject}
 use Rattle.gq_model.specs.rules.Budgets.{section_cost, section_requests}
 use Rattle.gq_verify.specs.Counting.{saturated}
 use Rattle.gq_verify.specs.Requested.{Requested, requests_for}
-use Rattle.gq_budget.specs.Leaves.{Leaf}
-use Rattle.gq_budget.specs.internal.Sums.{products}
 
 -- the requests of each of these sections of a leaf for a section of a service
 abbrev pub requests_of : Subject → List ℕ → Section → List (Section × Statements) → List ℕ
@@ -32,9 +30,3 @@ counts_for (asked ∷ rest) service section = saturated (requests_for asked serv
 abbrev pub costs_of : List (Section × Statements) → List ℕ
 costs_of [] = []
 costs_of (p ∷ rest) = saturated (section_cost p.0 p.1) ∷ costs_of rest
-
--- what the sections of each of these leaves cost, where they run so often
-abbrev pub budgets_by : List Leaf → List (List ℕ) → List ℕ
-budgets_by (leaf ∷ leaves) (often ∷ more) = saturated (products (costs_of leaf.subject.program.sections) often) ∷ budgets_by leaves more
-budgets_by [] often = []
-budgets_by (leaf ∷ leaves) [] = []

@@ -1,7 +1,7 @@
 -- Budgets as far as numbers of 64 bits keep them.
 use Rattle.std.specs.Prelude.{ℕ, suc, ◌==◌, if◌then◌else◌, List, [], ◌∷◌, Option}
 use Rattle.gq_model.specs.machine.Lists.{or_first}
-use Rattle.gq_model.specs.machine.Amounts.{Ram, Caps, amount}
+use Rattle.gq_model.specs.machine.Amounts.{Amount, Ram, Caps, amount}
 use Rattle.gq_model.specs.rules.Kinds.{Subject}
 use Rattle.gq_model.specs.machine.Scenario.{System, Component}
 use Rattle.gq_model.specs.rules.Budgets.{own}
@@ -14,11 +14,15 @@ use Rattle.gq_load.specs.internal.Judged.{judged_by}
 abbrev pub budget_with : ℕ → Subject → ℕ → Budget
 budget_with version v steps = record { own = amount (own Ram v) (if version == 2 then own Caps v else 0); steps = steps }
 
--- the budgets of programs, each with so many steps
-abbrev pub budgets_with : ℕ → List Subject → List ℕ → List Budget
-budgets_with version (v ∷ subjects) (n ∷ steps) = budget_with version v n ∷ budgets_with version subjects steps
+-- the same of one that uses so much of its own account
+abbrev pub budget_from : ℕ → Amount → ℕ → Budget
+budget_from version own steps = record { own = amount own.ram (if version == 2 then own.caps else 0); steps = steps }
+
+-- the budgets of programs that use so much, each with so many steps
+abbrev pub budgets_with : ℕ → List Amount → List ℕ → List Budget
+budgets_with version (own ∷ owns) (n ∷ steps) = budget_from version own n ∷ budgets_with version owns steps
 budgets_with version [] steps = []
-budgets_with version (v ∷ subjects) [] = []
+budgets_with version (own ∷ owns) [] = []
 
 -- the budgets of the leaves from the x-th on, with steps of at most the greatest number of 64 bits
 abbrev pub kept_from : ℕ → System → ℕ → List Component → List Budget

@@ -19,8 +19,8 @@ loop-leaf-preserved c =
     let x = c.in-Some.leaf.now in
     one_more c.loop-leaf.asks.items c.push.new.self.items (all_asks all xs (map (λ v. v.items) ys)) (all_asks all xs' (map (λ v. v.items) ys'))
     (all_asks all all (map (λ v. v.items) c.args.leads.now)) c.in_ok-new.field-0
-    (asks_of all c.in-Some.leads.now.items x.provides x.subject.program.sections)
-    c.in_ok-push.ensures.items (c.in_ok-new.ensures ∙ ap (λ l. asks_of all l x.provides x.subject.program.sections) c.deref.ensures.value)
+    (asks_of all c.in-Some.leads.now.items x.provides x.sections)
+    c.in_ok-push.ensures.items (c.in_ok-new.ensures ∙ ap (λ l. asks_of all l x.provides x.sections) c.deref.ensures.value)
     (asks_first all xs xs' ys ys' x c.in-Some.leads.now m.0 m.1) c.loop-leaf.invariant
 
 pub returns : goal.returns

@@ -4,8 +4,7 @@ use Rattle.std.specs.Slice.Iter.{iter_rest}
 use Rattle.std.specs.Iterator.Adapters.{zip_first, zip_second}
 use Rattle.gq_verify.specs.Counting.{saturated}
 use Rattle.gq_budget.specs.internal.Sums.{products}
-use Rattle.gq_budget.specs.internal.Counted.{costs_of}
-use Rattle.gq_budget.specs.internal.Counted.{budgets_by}
+use Rattle.gq_budget.specs.internal.Rounds.{budgets_by}
 use Rattle.gq_budget.proofs.Lists.{one_more, none_left, budgets_none, budgets_first}
 use Rattle.gq_budget.proofs.budgets.budgets.Goals as goal
 
@@ -20,7 +19,7 @@ loop-leaf-preserved c =
     let ys' = iter_rest (zip_second t) in
     let x = c.in-Some.leaf.now in
     one_more c.loop-leaf.steps.items c.push.new.self.items (budgets_by xs ys) (budgets_by xs' ys') (budgets_by c.args.leaves.now c.args.often.now)
-    c.products.result (saturated (products (costs_of x.subject.program.sections) c.in-Some.often.now))
+    c.products.result (saturated (products x.costs c.in-Some.often.now))
     c.in_ok-push.ensures.items (c.products.ensures ∙ ap (λ l. saturated (products l c.in-Some.often.now)) c.costs-costs.ensures)
     (budgets_first xs xs' ys ys' x c.in-Some.often.now m.0 m.1) c.loop-leaf.invariant
 

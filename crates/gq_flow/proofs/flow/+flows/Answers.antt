@@ -102,7 +102,10 @@ flow_statement-flow_loop-requires t c =
       omega (arith, c.decreases, k),
       (
         omega (arith, c.requires.places, k),
-        (subst (λ s. IsTrue (few_loops (4 - length c.args.context.now.counts) (tree_of (s ∷ [])))) c.in-Loop.is c.requires.loops, c.raise.ensures.small),
+        (
+          subst (λ s. IsTrue (few_loops (4 - length c.args.context.now.counts) (tree_of (s ∷ [])))) c.in-Loop.is c.requires.loops,
+          c.raise-in-Loop.ensures.small,
+        ),
       ),
     )
 

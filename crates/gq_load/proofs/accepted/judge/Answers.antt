@@ -1,4 +1,4 @@
-use Rattle.std.proofs.Common.{◌≡◌, ◌∙◌, None, ap, length}
+use Rattle.std.proofs.Common.{◌≡◌, ◌∙◌, None, ap, length, refl}
 use Rattle.std.proofs.lemmas.Result.{err_from_is_err_and}
 use Rattle.gq_model.specs.machine.Scenario.{system}
 use Rattle.gq_load.specs.internal.Budgets.{kept_from, budget_refusal}
@@ -7,25 +7,15 @@ use Rattle.gq_load.specs.internal.Judged.{first_refusal}
 use Rattle.gq_load.specs.Load.{refused}
 use Rattle.gq_load.specs.declared.fault.LoadError.TheVariants as error
 use Rattle.gq_load.proofs.Budgets.{kept_count}
-use Rattle.gq_load.proofs.Refusals.{for_program, for_resolve, for_budgets, accepted, kept_are, of_scenario, of_kept}
+use Rattle.gq_load.proofs.Refusals.{for_resolve, for_budgets, accepted, kept_are, of_scenario, of_kept}
 use Rattle.gq_load.proofs.accepted.judge.Goals as goal
-
-pub returns-in_err-judged-clause-refused : goal.returns-in_err-judged-clause-refused
-returns-in_err-judged-clause-refused c =
-    let s = c.args.scenario.now in
-    let e = c.in_err-judged.field-0.0 in
-    let p = err_from_is_err_and c.from_residual.result c.from_residual.ensures.1 in
-    let h = of_scenario s c.interfaces.result.now c.args.components.now
-    (λ i cs. Gives e (refused (first_refusal i cs))) c.interfaces.ensures c.requires.components c.in_err-judged.ensures.refused in
-    rw (p.1, p.2) (for_program s e h)
 
 pub returns-in_err-routes-clause-refused : goal.returns-in_err-routes-clause-refused
 returns-in_err-routes-clause-refused c =
     let s = c.args.scenario.now in
     let e = c.in_err-routes.field-0.0 in
-    let p = err_from_is_err_and c.from_residual-in_err-routes.result c.from_residual-in_err-routes.ensures.1 in
-    let none = of_scenario s c.interfaces.result.now c.args.components.now
-    (λ i cs. first_refusal i cs ≡ None) c.interfaces.ensures c.requires.components c.in_ok-judged.ensures.faultless in
+    let p = err_from_is_err_and c.from_residual.result c.from_residual.ensures.1 in
+    let none = of_scenario s s.interfaces c.args.components.now (λ i cs. first_refusal i cs ≡ None) refl c.requires.components c.requires.right in
     rw (p.1, p.2) (for_resolve s e none c.in_err-routes.ensures.fault)
 
 pub check_budgets-requires : goal.check_budgets-requires
@@ -38,8 +28,7 @@ returns-in_err-check_budgets-clause-refused c =
     let s = c.args.scenario.now in
     let e = error.Fault c.in_err-check_budgets.field-0.0 in
     let p = err_from_is_err_and c.from_residual-in_err-check_budgets.result c.from_residual-in_err-check_budgets.ensures.1 in
-    let none = of_scenario s c.interfaces.result.now c.args.components.now
-    (λ i cs. first_refusal i cs ≡ None) c.interfaces.ensures c.requires.components c.in_ok-judged.ensures.faultless in
+    let none = of_scenario s s.interfaces c.args.components.now (λ i cs. first_refusal i cs ≡ None) refl c.requires.components c.requires.right in
     let bs = c.as_slice-2.ensures.value ∙ c.in_ok-budgets.ensures in
     let h = of_kept s c.args.components.now c.as_slice-2.result.now
     (λ cs bs. Gives e (refused (budget_refusal cs bs))) c.requires.components bs c.in_err-check_budgets.ensures.refused in
@@ -56,8 +45,7 @@ returns-clause-budgets c =
 pub returns-clause-accepted : goal.returns-clause-accepted
 returns-clause-accepted c =
     let s = c.args.scenario.now in
-    let none = of_scenario s c.interfaces.result.now c.args.components.now
-    (λ i cs. first_refusal i cs ≡ None) c.interfaces.ensures c.requires.components c.in_ok-judged.ensures.faultless in
+    let none = of_scenario s s.interfaces c.args.components.now (λ i cs. first_refusal i cs ≡ None) refl c.requires.components c.requires.right in
     let bs = c.as_slice-2.ensures.value ∙ c.in_ok-budgets.ensures in
     let fit = of_kept s c.args.components.now c.as_slice-2.result.now
     (λ cs bs. budget_refusal cs bs ≡ None) c.requires.components bs c.in_ok-check_budgets.ensures.none in

@@ -1,7 +1,7 @@
-use Rattle.std.proofs.Common.{◌≡◌, ◌∙◌, ◌<◌, ◌+◌, ℕ, List, ◌++◌, ◌∷◌, [], length, drop, ap, sym, subst, arith, append_assoc}
+use Rattle.std.proofs.Common.{◌≡◌, ◌∙◌, ◌<◌, ◌+◌, ℕ, List, ◌++◌, length, drop, ap, sym, subst, arith, append_assoc}
 use Rattle.std.specs.Prelude.{IfSome, slice_get}
-use Rattle.gq_model.specs.machine.Scenario.{Component, components}
-use Rattle.gq_model.specs.rules.Accept.{Budget, budget_line, budget_lines_of}
+use Rattle.gq_model.specs.machine.Scenario.{components}
+use Rattle.gq_model.specs.rules.Accept.{budget_line, budget_lines_of}
 use Rattle.gq_init.specs.NodeTables.{IsNodeOf, node_rows}
 use Rattle.gq_init.proofs.Rows.{leaf_at, label_of_node}
 use Rattle.gq_load.proofs.Loads.{here_is}

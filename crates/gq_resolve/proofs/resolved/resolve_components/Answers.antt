@@ -1,18 +1,11 @@
-use Rattle.std.proofs.Common.{rules}
-use Rattle.std.proofs.Common.{◌≡◌, ◌∙◌, List, None, map, ap, subst, sym}
-use Rattle.gq_model.specs.machine.Scenario.{Component, components}
-use Rattle.gq_model.specs.rules.Resolve.{routes_fault}
-use Rattle.gq_routes.specs.Served.{leaf_routes, routes_of, AreServers}
-use Rattle.gq_resolve.proofs.Servers.{AreServers-routes_of}
+use Rattle.std.proofs.Common.{◌∙◌, ap, map}
+use Rattle.std.proofs.lemmas.Simd.{map-map}
+use Rattle.gq_model.specs.rules.Use.{services_in}
 use Rattle.gq_resolve.proofs.resolved.resolve_components.Goals as goal
 
-pub returns-clause-servers : goal.returns-clause-servers
-returns-clause-servers c =
-    let s = c.args.scenario.now in
-    let same : c.args.components.now ≡ components s = c.requires.all in
-    let is : c.in_ok-routes.routes ≡ routes_of s = c.in_ok-routes.ensures.routes ∙ ap (λ (cs : List Component). map (leaf_routes cs) cs) same in
-    let none = subst (λ (cs : List Component). routes_fault cs ≡ None) same c.in_ok-routes.ensures.fault in
-    subst (AreServers s) (sym is) (AreServers-routes_of s none)
-
-pub returns-clause-fault : goal.returns-clause-fault
-returns-clause-fault c = search rules
+pub resolve_opened-requires-clause-opened : goal.resolve_opened-requires-clause-opened
+resolve_opened-requires-clause-opened c =
+    ap (map (λ v. v.items)) c.as_slice.ensures.value
+    ∙ (c.in_ok-opened.ensures
+    ∙ (ap (map (λ p. services_in p.sections)) c.requires.programs
+    ∙ map-map (λ p. services_in p.sections) (λ d. d.node.program) c.args.components.now))

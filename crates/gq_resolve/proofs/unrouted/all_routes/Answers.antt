@@ -3,7 +3,15 @@ use Rattle.gq_model.specs.rules.Resolve.{routes_fault}
 use Rattle.gq_model.specs.machine.Lists.{or_first}
 use Rattle.gq_routes.specs.Served.{leaf_routes}
 use Rattle.gq_routes.proofs.Pushed.{next_is, onto}
+use Rattle.gq_model.specs.rules.Use.{services}
+use Rattle.gq_resolve.proofs.Items.{same_item}
 use Rattle.gq_resolve.proofs.unrouted.all_routes.Goals as goal
+
+pub leaf_routes-requires-clause-own : goal.leaf_routes-requires-clause-own
+leaf_routes-requires-clause-own c =
+    c.as_slice.ensures.value
+    ∙ same_item (λ v. v.items) services c.args.opened.now c.args.components.now c.loop-place.place c.index-opened-place.result c.index-components-place.result
+    c.requires.own c.loop-place-test.true c.index-opened-place.is c.index-components-place.is
 
 pub loop-place-preserved : goal.loop-place-preserved
 loop-place-preserved c =
