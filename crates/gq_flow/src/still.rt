@@ -5,7 +5,7 @@ ghost use Rattle.gq_flow.specs.internal.Stillness.{keeps_slots, is_still};
 
 use gq_program::{Body, Instruction, Statement};
 
-//// Whether an instruction changes no slot.
+/// Whether an instruction changes no slot.
 pub(crate) fn keeps_slots(instruction: &Instruction) -> bool
     ensures { result ≡ keeps_slots instruction.now }
 {
