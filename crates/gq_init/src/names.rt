@@ -98,14 +98,6 @@ impl NameIndex {
         self.leaves = [NO_LEAF; PLACES];
     }
 
-    // The place to which eight bytes are spread.
-    #[inline(always)]
-    fn spread(&self, name: u64) -> usize
-        ensures { result < PLACES }
-    {
-        (name.wrapping_mul(self.factor) >> 54) as usize % PLACES
-    }
-
     // The place of what stands before the first space of a text: a name, of which eight bytes are looked at at once.
     #[inline(always)]
     fn place(&self, text: &[u8]) -> usize
@@ -119,7 +111,7 @@ impl NameIndex {
             let back = eight(text, 8);
             name = name.rotate_left(29) ^ before_space(back, spaces(back));
         }
-        self.spread(name)
+        (name.wrapping_mul(self.factor) >> 54) as usize % PLACES
     }
 
     // The place of a name.
@@ -147,23 +139,10 @@ impl NameIndex {
     }
 
     /// The same for the name that stands at the front of a text, with a space after it where it has less than 16 bytes.
+    #[inline(always)]
     pub(crate) fn number_ahead(&self, text: &[u8]) -> usize
         requires { AHEAD ≤ length text.now }
     {
         usize::from(self.leaves[self.place(text)])
-    }
-
-    /// The same where a space is among the first eight bytes of a text, and how many bytes are likely to stand before it; `None` where there is none.
-    #[inline(always)]
-    pub(crate) fn number_near(&self, text: &[u8]) -> Option<(usize, usize)>
-        requires { AHEAD ≤ length text.now }
-    {
-        let front = eight(text, 0);
-        let marks = spaces(front);
-        if marks == 0 {
-            return None;
-        }
-        let number = self.leaves[self.spread(before_space(front, marks))];
-        Some((usize::from(number), marks.trailing_zeros() as usize / 8))
     }
 }

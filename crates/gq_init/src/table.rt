@@ -487,7 +487,7 @@ impl NodeTable {
     }
 
     /// The leaf whose name stands at the front of a text with a space behind it, where an index of the table's names leads to it, and what follows the space.
-    /// `None` says nothing. How long a short name is, is told by the text alone: then what reads the next line need not wait for the table.
+    /// `None` says nothing.
     #[inline(always)]
     pub(crate) fn leaf_ahead<'a>(
         &self,
@@ -500,32 +500,6 @@ impl NodeTable {
         if text.len() < AHEAD {
             return None;
         }
-        let Some((number, end)) = names.number_near(text) else {
-            return self.long_ahead(names, text);
-        };
-        self.scenario.laws();
-        if number >= self.leaf_count() {
-            return None;
-        }
-        let leaf = LeafNo::new(number as u32);
-        let entry = self.row(leaf);
-        let name = entry.name.as_bytes();
-        if end != name.len() || text.len() <= end || text[end] != b' ' {
-            return None;
-        }
-        if is_ahead(name, text) {
-            return Some((leaf, &text[end + 1..]));
-        }
-        None
-    }
-
-    // The same, for a name of eight bytes or more.
-    #[inline(never)]
-    fn long_ahead<'a>(&self, names: &NameIndex, text: &'a [u8]) -> Option<(LeafNo, &'a [u8])>
-        requires { AHEAD ≤ length text.now }
-        ensures ahead { IfSome result (λ r. IsLeafAhead (components self.now) text.now r.0 r.1.now) }
-        ensures there { IfSome result (λ r. r.0 < length (components self.now)) }
-    {
         self.scenario.laws();
         let number = names.number_ahead(text);
         if number >= self.leaf_count() {

@@ -134,9 +134,6 @@ fn count_ahead(text: &[u8]) -> Option<(u32, &[u8])>
         return None;
     }
     let mut number = u32::from(text[0] - b'0');
-    if text.len() > 1 && text[1] == b'\n' {
-        return Some((number, &text[2..]));
-    }
     for place in 1..text.len().min(8) {
         let byte = text[place];
         if byte == b'\n' {

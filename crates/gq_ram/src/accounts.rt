@@ -338,9 +338,12 @@ impl Accounts {
             unreachable!();
         };
         self.owners[ds.0 as usize] = Some(account);
-        self.accounts[account.0].used = Amount {
-            ram: payer.used.ram + cost,
-            caps: payer.used.caps + self.price,
+        self.accounts[account.0] = Account {
+            used: Amount {
+                ram: payer.used.ram + cost,
+                caps: payer.used.caps + self.price,
+            },
+            ..payer
         };
         Ok(ds)
     }
@@ -358,9 +361,12 @@ impl Accounts {
         let size = self.spaces.size(ds);
         self.spaces.destroy(ds);
         self.owners[ds.0 as usize] = None;
-        self.accounts[account.0].used = Amount {
-            ram: payer.used.ram - size,
-            caps: payer.used.caps - self.price,
+        self.accounts[account.0] = Account {
+            used: Amount {
+                ram: payer.used.ram - size,
+                caps: payer.used.caps - self.price,
+            },
+            ..payer
         };
     }
 
@@ -435,8 +441,16 @@ impl Accounts {
         requires balanced { IsBalanced (with_accounts self.old (quotas_set self.old.accounts from.0 less to.0 more)) }
         ensures { self.new ≡ with_accounts self.old (quotas_set self.old.accounts from.0 less to.0 more) }
     {
-        self.accounts[from.0].quota = less;
-        self.accounts[to.0].quota = more;
+        let giver = self.account(from);
+        let taker = self.account(to);
+        self.accounts[from.0] = Account {
+            quota: less,
+            ..giver
+        };
+        self.accounts[to.0] = Account {
+            quota: more,
+            ..taker
+        };
     }
 
     // Whether one of the two is the other's reference account.

@@ -99,10 +99,6 @@ impl Requests {
         ensures { result ≡ place_to server self.now }
     {
         let requests = self.requests.as_slice();
-        // Mostly it is the first of all: this is known without a loop, so that it is looked at once where several calls ask for it.
-        if !requests.is_empty() && requests[0].server == server {
-            return 0;
-        }
         for k in 0..requests.len() {
             if requests[k].server == server {
                 return k;

@@ -46,11 +46,6 @@ pub(crate) fn replace(trades: &mut Trades, own: &mut Vec<[Thing; 64]>, spot: Spo
     ensures trades { trades.new ≡ with_trading trades.old (put_trading trades.old.trading spot contents) }
     ensures own { own.new.items ≡ put_own own.old.items spot contents }
 {
-    // A leaf's own slot, as it mostly is, is written once.
-    if let Spot::InLeaf(leaf, slot) = spot {
-        own[leaf][usize::from(slot)] = contents;
-        return;
-    }
     clear(trades, own, spot);
     fill(trades, own, spot, contents);
 }

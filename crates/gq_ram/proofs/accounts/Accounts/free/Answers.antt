@@ -1,6 +1,6 @@
 use Rattle.std.proofs.Common.{◌≡◌, length, arith, sym, ap, subst, ◌∙◌, None, set}
 use Rattle.gq_ram.specs.declared.account.Account.{Account}
-use Rattle.gq_ram.specs.Entries.{account_at, its_account, IsOpen}
+use Rattle.gq_ram.specs.Entries.{account_at, IsOpen}
 use Rattle.gq_ram.specs.Owning.{IsOf}
 use Rattle.gq_ram.specs.Ledgers.{Ledger}
 use Rattle.gq_ram.specs.internal.Fields.{ledger_view}
@@ -35,5 +35,4 @@ invariant_of-self c =
     let opened : IsOpen l.accounts a = subst (λ (m : Ledger). IsOpen m.accounts a) (sym c.self.view_is) c.requires.open in
     let gone : c.destroy.new.self ≡ record { spaces = set l.spaces.spaces k None; free = c.destroy.new.self.free } =
     of_fields c.destroy.new.self (set l.spaces.spaces k None) c.destroy.ensures.gone in
-    let its : c.index_mut-2.result.now ≡ account_at l.accounts a = sym (ap its_account c.index_mut-2.ensures.value) in
-    rw (its, payer, c.size-size.ensures.bytes, gone) (freed_balanced l c.args.account k c.destroy.new.self.free b opened own c.destroy.ensures.given)
+    rw (payer, c.size-size.ensures.bytes, gone) (freed_balanced l c.args.account k c.destroy.new.self.free b opened own c.destroy.ensures.given)
