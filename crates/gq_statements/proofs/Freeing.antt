@@ -1,8 +1,7 @@
 -- Memory that a statement frees.
-use Rattle.std.proofs.Common.{◌≡◌, ◌&&◌, ℕ, Bool, true, false, not, get_or, length, List, Option, Some, None, refl, sym, ap, ◌∙◌}
+use Rattle.std.proofs.Common.{◌≡◌, ◌&&◌, ℕ, Bool, true, false, not, get_or, length, List, Some, sym, ap, ◌∙◌}
 use Rattle.std.specs.Prelude.{nat_lt, Ok, Err}
 use Rattle.gq_model.specs.declared.program.Place.{Place}
-use Rattle.gq_model.specs.declared.program.Place.TheVariants.{Own}
 use Rattle.gq_model.specs.machine.Scenario.{System}
 use Rattle.gq_model.specs.machine.World as world
 use Rattle.gq_model.specs.machine.Sums.{paid}
@@ -34,11 +33,6 @@ buffer_is f system bs s k w t a =
     let b = between_at (length s.trades.trading.leaves) (length s.trades.trading.objects) s.trades.trading.sessions k w.between t in
     ap (nat_lt 0) (a q.service b.service)
     ∙ sym (ap (λ o. shares_buffer system (world.joined o)) (session_there (λ z. session_seen f.names (memory_of s z.server) z) s.trades.trading.sessions k t))
-
--- a slot of the leaf's own can always be freed
-pub own_goes : (d : Doing) (h : Option world.Hand) (i : ℕ) → is_kept d h (Own i) ≡ false
-own_goes d None i = refl
-own_goes d (Some hand) i = refl
 
 module _ (d : Doing) (a : Actor) (place : Place) (f : Frame) (s : Slots) (p : Spot) (h : IsBy d a)
     (e : place_seen (Some p) ≡ world.spot_of a.leaf (hand_seen a.hand) place) (we : standing d d.leaf ≡ world_seen f s) where

@@ -18,4 +18,3 @@ mod pools;
 
 pub use actor::{Actor, Hand};
 pub use bytes::{load_own, store_own};
-pub use making::free_own;
