@@ -1,7 +1,7 @@
 //! Steps of a leaf, each as the account machine has it: what the leaf does alone, and statements on memory, text and sessions.
 //!
 //! A [`Leaf`] has the code of its program and stands at a place in it. [`Leaf::run`] takes the steps in which the leaf alone has a part, and
-//! [`Leaf::run_over`] those on spaces of its own and on pools, too; who runs the leaf then does the operation that it came to, over the slots of the machine.
+//! [`Leaf::run_over`] most of those on its memory, too; who runs the leaf then does the operation that it came to, over the slots of the machine.
 //!
 //! ```rust
 //! use gq_steps::Leaf;
