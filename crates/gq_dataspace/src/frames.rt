@@ -68,7 +68,7 @@ impl FrameTable {
         ensures { self.new ≡ slice_set self.old first (list_at self.old first ++ frame ∷ []) }
     {
         let count = self.counts[first as usize];
-        let parent = self.parent(first, count);
+        let parent = self.near_parent(first, count);
         self.links[(LINKS * parent + count % LINKS) as usize] = frame;
         self.counts[first as usize] = count + 1;
     }

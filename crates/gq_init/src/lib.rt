@@ -9,6 +9,7 @@
 //! ```
 #![tactic(auto)]
 
+mod item;
 mod names;
 pub mod table;
 pub mod turns;
@@ -18,5 +19,6 @@ pub use gq_resolve::resolve;
 pub use gq_resolve::routes::Routes;
 pub use gq_scenario::scenario::Scenario;
 pub use gq_scenario::{fault, key, node, scenario, source};
+pub use item::TurnItem;
 pub use table::NodeTable;
-pub use turns::read_turns;
+pub use turns::{read_items, read_turns};

@@ -76,6 +76,14 @@ fn before_space(bytes: u64, spaces: u64) -> u64 {
     bytes & (first >> 7).wrapping_sub(1)
 }
 
+// How many of eight bytes stand before the first space, of which these are the marks.
+#[inline(always)]
+fn first_space(spaces: u64) -> usize
+    ensures { result < 4294967296 }
+{
+    (spaces.trailing_zeros() / 8) as usize
+}
+
 /// For each place the number of the leaf whose name is spread to it. It is a hint: whoever asks compares the leaf's name.
 #[derive(Drop)]
 pub(crate) struct NameIndex {
@@ -98,19 +106,29 @@ impl NameIndex {
         self.leaves = [NO_LEAF; PLACES];
     }
 
-    // The place of what stands before the first space of a text: a name, of which eight bytes are looked at at once.
+    // The place of what stands before the first space of a text, a name, of which eight bytes are looked at at once; and how many bytes stand there. So many are
+    // known from the text alone, and the next line is looked for before the name's own length is there.
     #[inline(always)]
-    fn place(&self, text: &[u8]) -> usize
+    fn place(&self, text: &[u8]) -> (usize, usize)
         requires { AHEAD ≤ length text.now }
-        ensures { result < PLACES }
+        ensures { result.0 < PLACES }
     {
         let front = eight(text, 0);
         let marks = spaces(front);
-        let mut name = before_space(front, marks);
-        if marks == 0 {
-            let back = eight(text, 8);
-            name = name.rotate_left(29) ^ before_space(back, spaces(back));
+        if marks != 0 {
+            return (self.spread(before_space(front, marks)), first_space(marks));
         }
+        let back = eight(text, 8);
+        let marks = spaces(back);
+        let name = front.rotate_left(29) ^ before_space(back, marks);
+        (self.spread(name), 8 + first_space(marks))
+    }
+
+    // The place to which this number of a name is spread.
+    #[inline(always)]
+    fn spread(&self, name: u64) -> usize
+        ensures { result < PLACES }
+    {
         (name.wrapping_mul(self.factor) >> 54) as usize % PLACES
     }
 
@@ -122,7 +140,7 @@ impl NameIndex {
         for place in 0..name.len().min(AHEAD) {
             text[place] = name[place];
         }
-        self.place(&text)
+        self.place(&text).0
     }
 
     /// Puts the number of a leaf of this name at its place, and tells whether that was free.
@@ -138,11 +156,12 @@ impl NameIndex {
         usize::from(self.leaves[self.place_of(name)])
     }
 
-    /// The same for the name that stands at the front of a text, with a space after it where it has less than 16 bytes.
+    /// The same for the name that stands at the front of a text, with a space after it where it has less than 16 bytes; and how many bytes stand before that.
     #[inline(always)]
-    pub(crate) fn number_ahead(&self, text: &[u8]) -> usize
+    pub(crate) fn number_ahead(&self, text: &[u8]) -> (usize, usize)
         requires { AHEAD ≤ length text.now }
     {
-        usize::from(self.leaves[self.place(text)])
+        let (place, end) = self.place(text);
+        (usize::from(self.leaves[place]), end)
     }
 }

@@ -501,15 +501,14 @@ impl NodeTable {
             return None;
         }
         self.scenario.laws();
-        let number = names.number_ahead(text);
+        let (number, end) = names.number_ahead(text);
         if number >= self.leaf_count() {
             return None;
         }
         let leaf = LeafNo::new(number as u32);
         let entry = self.row(leaf);
         let name = entry.name.as_bytes();
-        let end = name.len();
-        if text.len() <= end || text[end] != b' ' {
+        if name.len() != end || text.len() <= end || text[end] != b' ' {
             return None;
         }
         if is_ahead(name, text) {

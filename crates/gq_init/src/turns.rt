@@ -8,6 +8,7 @@ ghost use Rattle.gq_model.specs.texts.Letters.{lines};
 ghost use Rattle.gq_init.specs.internal.Ahead.{IsCommentAhead, IsCountAhead, IsLineAhead, IsTurnAhead};
 ghost use Rattle.gq_init.specs.TurnLines.{IsTurned, line_turn};
 
+use crate::item::TurnItem;
 use crate::names::NameIndex;
 use crate::table::NodeTable;
 use gq_model::fault::TurnFault;
@@ -69,7 +70,8 @@ fn read_count(text: &[u8]) -> Option<u32>
 
 // The leaf and the number of a line with this name and this number, by a search among all leaves.
 fn search_turn(name: &[u8], count: &[u8], table: &NodeTable) -> Result<(LeafNo, u32), TurnFault>
-    ensures { result ≡ turn_in (components table.now) (name.now ∷ pieces (λ c. c == 32) count.now) }
+    ensures turn { result ≡ turn_in (components table.now) (name.now ∷ pieces (λ c. c == 32) count.now) }
+    ensures there { IfOk result (λ t. t.0 < length (components table.now)) }
 {
     if !is_name(name) {
         return Err(TurnFault::BadLine);
@@ -85,7 +87,8 @@ fn search_turn(name: &[u8], count: &[u8], table: &NodeTable) -> Result<(LeafNo, 
 
 // The leaf and the number of a line that says something.
 fn read_turn(line: &[u8], table: &NodeTable, names: &NameIndex) -> Result<(LeafNo, u32), TurnFault>
-    ensures { result ≡ turn_in (components table.now) (pieces (λ c. c == 32) line.now) }
+    ensures turn { result ≡ turn_in (components table.now) (pieces (λ c. c == 32) line.now) }
+    ensures there { IfOk result (λ t. t.0 < length (components table.now)) }
 {
     let (name, rest) = next_piece(line, b' ');
     let Some(count) = rest else {
@@ -111,6 +114,7 @@ fn read_line(
     requires { turns ≤ greatest_turns }
     ensures answer { result ≡ line_turn (components table.now) turns line.now }
     ensures few { IfOk result (λ turn. IfSome turn (λ t. turns + t.1 ≤ greatest_turns)) }
+    ensures there { IfOk result (λ turn. IfSome turn (λ t. t.0 < length (components table.now))) }
 {
     if says_nothing(line) {
         return Ok(None);
@@ -155,7 +159,8 @@ fn turn_ahead<'a>(
     table: &NodeTable,
     names: &NameIndex,
 ) -> Option<((LeafNo, u32), &'a [u8])>
-    ensures { IfSome result (λ r. IsTurnAhead (components table.now) text.now r.0 r.1.now) }
+    ensures turn { IfSome result (λ r. IsTurnAhead (components table.now) text.now r.0 r.1.now) }
+    ensures there { IfSome result (λ r. r.0.0 < length (components table.now)) }
 {
     let Some((leaf, rest)) = table.leaf_ahead(names, text) else {
         return None;
@@ -201,6 +206,7 @@ fn next_turn<'a>(
     requires { turns ≤ greatest_turns }
     ensures line { IsLineAhead (components table.now) turns text.now result.0 (option_map (λ rest. rest.now) result.1) }
     ensures few { IfOk result.0 (λ turn. IfSome turn (λ t. turns + t.1 ≤ greatest_turns)) }
+    ensures there { IfOk result.0 (λ turn. IfSome turn (λ t. t.0 < length (components table.now))) }
     ensures shorter { IfSome result.1 (λ rest. length rest.now < length text.now) }
 {
     if !text.is_empty() && text[0] == b'#' {
@@ -226,11 +232,12 @@ fn read_lines(
     alloc: Global,
     text: &[u8],
     table: &NodeTable,
-) -> Result<Vec<(LeafNo, u32)>, TurnsError>
+) -> Result<Vec<TurnItem>, TurnsError>
     requires { length text.now ≤ 2 ^ 24 }
     ensures { IsTurned result (turns_from (components table.now) 1 0 (lines text.now)) }
 {
     let names = table.name_index();
+    let _few = table.leaf_count();
     let mut turns = match Vec::with_capacity(alloc, most_turns(text)) {
         Ok(turns) => turns,
         Err(refused) => return Err(TurnsError::Memory(refused)),
@@ -244,12 +251,40 @@ fn read_lines(
         line += 1;
         match said {
             Ok(None) => {}
-            Ok(Some(turn)) => {
-                total += turn.1;
-                turns.push(turn)?;
+            Ok(Some((leaf, count))) => {
+                total += count;
+                turns.push(TurnItem::new(leaf, count))?;
             }
             Err(fault) => return Err(TurnsError::Fault { fault, line }),
         }
+    }
+    Ok(turns)
+}
+
+/// The turns that a text says, as `read_turns` reads them, each in four bytes. Refused as there.
+pub fn read_items(
+    alloc: Global,
+    text: &[u8],
+    table: &NodeTable,
+) -> Result<Vec<TurnItem>, TurnsError>
+    ensures { IsTurned result (turned (components table.now) text.now) }
+{
+    if text.len() > GREATEST_TURNS_TEXT {
+        return Err(TurnsError::Fault {
+            fault: TurnFault::TooMany,
+            line: 0,
+        });
+    }
+    read_lines(alloc, text, table)
+}
+
+// The leaf and the number of each of these items.
+fn unpacked(alloc: Global, items: &[TurnItem]) -> Result<Vec<(LeafNo, u32)>, AllocError>
+    ensures { IfOk result (λ turns. turns.items ≡ items.now) }
+{
+    let mut turns = Vec::with_capacity(alloc, items.len())?;
+    for item in items {
+        turns.push((item.leaf(), item.count()))?;
     }
     Ok(turns)
 }
@@ -265,11 +300,9 @@ pub fn read_turns(
 ) -> Result<Vec<(LeafNo, u32)>, TurnsError>
     ensures { IsTurned result (turned (components table.now) text.now) }
 {
-    if text.len() > GREATEST_TURNS_TEXT {
-        return Err(TurnsError::Fault {
-            fault: TurnFault::TooMany,
-            line: 0,
-        });
+    let items = read_items(alloc, text, table)?;
+    match unpacked(alloc, items.as_slice()) {
+        Ok(turns) => Ok(turns),
+        Err(refused) => Err(TurnsError::Memory(refused)),
     }
-    read_lines(alloc, text, table)
 }

@@ -338,13 +338,10 @@ impl Accounts {
             unreachable!();
         };
         self.owners[ds.0 as usize] = Some(account);
-        self.accounts[account.0] = Account {
-            used: Amount {
-                ram: payer.used.ram + cost,
-                caps: payer.used.caps + self.price,
-            },
-            ..payer
-        };
+        let price = self.price;
+        let payer = &mut self.accounts[account.0];
+        payer.used.ram += cost;
+        payer.used.caps += price;
         Ok(ds)
     }
 
@@ -357,17 +354,13 @@ impl Accounts {
         ensures of_none { self.new.owners ≡ slice_set self.old.owners ds.0 None }
         ensures same_whole { IsSameWhole self.new self.old }
     {
-        let payer = self.account(account);
         let size = self.spaces.size(ds);
         self.spaces.destroy(ds);
         self.owners[ds.0 as usize] = None;
-        self.accounts[account.0] = Account {
-            used: Amount {
-                ram: payer.used.ram - size,
-                caps: payer.used.caps - self.price,
-            },
-            ..payer
-        };
+        let price = self.price;
+        let payer = &mut self.accounts[account.0];
+        payer.used.ram -= size;
+        payer.used.caps -= price;
     }
 
     /// Closes an account: its dataspaces are removed, and its quota of both kinds goes to its reference account. `IsRoot` for the root account,

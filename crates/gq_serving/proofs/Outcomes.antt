@@ -94,14 +94,17 @@ module _ (d : Doing) (e : Frame) (s : Slots) (x : ℕ) (is : d.x ≡ x) (same : 
   refusal res y h bytes caps = lacking (lacks_for res y h bytes caps)
 
   -- the slots take it
-  pub outcome : (t : Slots) (o : Option Request) → AreLawful t → has ≡ true
-      → IfNone o ((oldest_to x s.trades.trading.requests ≡ None) × (t ≡ s)) → IfSome o (λ p. TakesOldest s t x p)
-      → accept_oldest d (oldest d.world d.x d.world.requests) ≡ taken d f t (Ok o)
-  outcome t None m some none takes = absurd (none_some (sym none.0 ∙ first))
-  outcome t (Some p) m some none takes =
-      let it : p ≡ r = ap (λ (y : Request × List Request). y.0) (some_same (sym takes.accepts.oldest ∙ first)) in
-      subst (λ y. accept_oldest d (oldest d.world d.x d.world.requests) ≡ Ok (world_seen (f (request_seen y)) t, Quiet)) (sym it)
-      (begun_now d e s x is same l.trading r others first there f begins t l m (subst (λ y. TakesOldest s t x y) it takes) some)
+  pub outcome : (t : Slots) → AreLawful t → has ≡ true → TakesOldest s t x r
+      → accept_oldest d (oldest d.world d.x d.world.requests) ≡ taken d f t (Ok (Some r))
+  outcome t m some takes = begun_now d e s x is same l.trading r others first there f begins t l m takes some
+
+-- what is taken is the oldest request
+pub takes_oldest : (s t : Slots) (x : ℕ) (r : Request) (others : List Request) (o : Option Request) → oldest_to x s.trades.trading.requests ≡ Some (r, others)
+    → IfNone o ((oldest_to x s.trades.trading.requests ≡ None) × (t ≡ s)) → IfSome o (λ p. TakesOldest s t x p) → TakesOldest s t x r
+takes_oldest s t x r others None first none takes = absurd (none_some (sym none.0 ∙ first))
+takes_oldest s t x r others (Some p) first none takes =
+    let it : p ≡ r = ap (λ (y : Request × List Request). y.0) (some_same (sym takes.accepts.oldest ∙ first)) in
+    subst (λ y. TakesOldest s t x y) it takes
 
 -- the program has the section of a request where its place tells so
 pub has_is : (d : Doing) (bs : List Bool) (s : Slots) (r : Request) (section : Section) (level : ℕ) (b : Bool) → AreSections bs d.component

@@ -93,6 +93,11 @@ taken d f s (Ok None) = Ok (d.world, Idle)
 taken d f s (Ok (Some r)) = Ok (world_seen (f (request_seen r)) s, Quiet)
 taken d f s (Err wrong) = Err wrong
 
+-- this request is taken, or refused
+abbrev pub found : Request → Result Unit Wrong → Result (Option Request) Wrong
+found r (Ok done) = Ok (Some r)
+found r (Err wrong) = Err wrong
+
 -- LEAVES THAT END
 
 -- the own slots of the leaf x

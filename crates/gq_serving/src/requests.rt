@@ -1,15 +1,16 @@
 // Requests that a serving leaf takes.
-ghost use Rattle.std.specs.Prelude.{◌≡◌, ◌<◌, ◌≤◌, ◌+◌, ℕ, if◌then◌else◌, false, not, nat_eq, IfNone, IfOk, IfSome, IsTrue, OnErr, get_or};
+ghost use Rattle.std.specs.Prelude.{◌≡◌, ◌<◌, ◌≤◌, ◌+◌, ℕ, if◌then◌else◌, false, not, nat_eq, OnErr, OnOk, get_or};
 ghost use Rattle.gq_model.specs.machine.World as world;
 ghost use Rattle.gq_model.specs.machine.Doing.{Doing};
 ghost use Rattle.gq_model.specs.machine.Step as step;
 ghost use Rattle.gq_requests.specs.declared.requests.Ask.TheVariants as asks;
-ghost use Rattle.gq_requests.specs.Queues.{oldest_to};
-ghost use Rattle.gq_sessions.specs.Trading.{object_size, session_at};
+ghost use Rattle.gq_requests.specs.Queues.{IsOldest};
+ghost use Rattle.gq_numbered.specs.Numbers.{IsTaken};
+ghost use Rattle.gq_sessions.specs.Trading.{object_size, server_of, session_at};
 ghost use Rattle.gq_trade.specs.Trades.{IsLive};
 ghost use Rattle.gq_slots.specs.Slots.{Frame, IsPaidBy, memory_of, world_seen};
 ghost use Rattle.gq_slots.specs.Calls.{TakesOldest};
-ghost use Rattle.gq_serving.specs.Serving.{AreSections, Begins, IsSection, place, taken};
+ghost use Rattle.gq_serving.specs.Serving.{AreSections, Begins, IsSection, found, place, taken};
 ghost use Rattle.gq_serving.specs.internal.Beginning.{can_pay, has_some, section_of};
 ghost use Rattle.gq_memory.specs.Stores.{store_of};
 ghost use Rattle.gq_model.specs.declared.fault.Wrong.TheVariants as wrong;
@@ -110,36 +111,35 @@ fn section_of(ask: Ask, level: u8) -> Section
     }
 }
 
-/// A leaf that serves takes the oldest request to it, if there is one, and is at the start of its section. A request to open makes the session's object;
+/// A leaf that serves takes the oldest request to it, which is this one, and is at the start of its section. A request to open makes the session's object;
 /// one to upgrade raises the level.
 ///
 /// `ExceededQuota` where the object can't be paid, else `MissingSection` where the leaf's program has no such section; then nothing changes.
+#[inline(always)]
 pub fn accept(
     provider: &Provider,
     slots: &mut Slots,
     server: usize,
-) -> Result<Option<Request>, Wrong>
+    request: Request,
+) -> Result<(), Wrong>
     requires live { IsLive slots.old.trades server }
     requires paid { IsPaidBy slots.old server }
-    requires level { IfSome (oldest_to server slots.old.trades.trading.requests)
-        (λ p. p.0.ask ≡ asks.Upgrade → (session_at slots.old.trades.trading p.0.session).level < 3) }
-    requires object { IfSome (oldest_to server slots.old.trades.trading.requests)
-        (λ p. object_size slots.old.trades.trading p.0.session ≡ provider.now.object) }
+    requires oldest { IsOldest server slots.old.trades.trading.requests request }
+    requires there { IsTaken slots.old.trades.trading.sessions request.session }
+    requires its { server_of slots.old.trades.trading request.session ≡ server }
+    requires level { request.ask ≡ asks.Upgrade → (session_at slots.old.trades.trading request.session).level < 3 }
+    requires object { object_size slots.old.trades.trading request.session ≡ provider.now.object }
     requires size { provider.now.object ≤ 67108864 }
     requires counted { provider.now.counts_caps ≡ not (nat_eq slots.old.trades.trading.memory.ledger.price 0) }
     ensures step { (e : Frame) (f : world.Request → Frame) (d : Doing) → d.x ≡ server → d.world ≡ world_seen e slots.old
         → AreSections provider.now.sections d.component → Begins d f slots.old
-        → step.accept_oldest d (step.oldest d.world d.x d.world.requests) ≡ taken d f slots.new result }
-    ensures some { IfOk result (λ o. IfSome o (λ r. TakesOldest slots.old slots.new server r)) }
-    ensures none { IfOk result (λ o. IfNone o (slots.new ≡ slots.old)) }
+        → step.accept_oldest d (step.oldest d.world d.x d.world.requests) ≡ taken d f slots.new (found request result) }
+    ensures takes { OnOk result (TakesOldest slots.old slots.new server request) }
     ensures unchanged { OnErr result (slots.new ≡ slots.old) }
 {
     slots.laws();
     slots.trades().laws();
     slots.trades().memory().accounts().laws();
-    let Some(request) = slots.trades().waiting(server) else {
-        return Ok(None);
-    };
     let level = slots.trades().level(request.session);
     let section = section_of(request.ask, level);
     if !provider.has(section) {
@@ -147,11 +147,11 @@ pub fn accept(
     }
     match slots.accept(server) {
         Err(_) => Err(Wrong::ExceededQuota),
-        Ok(accepted) => {
+        Ok(_) => {
             slots.laws();
             slots.trades().laws();
             slots.trades().memory().accounts().laws();
-            Ok(accepted)
+            Ok(())
         }
     }
 }

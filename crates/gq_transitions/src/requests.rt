@@ -8,7 +8,7 @@ ghost use Rattle.gq_numbered.specs.Numbers.{IsTaken};
 ghost use Rattle.gq_requests.specs.declared.requests.Ask.TheVariants as asks;
 ghost use Rattle.gq_requests.specs.Queues.{IsOldest};
 ghost use Rattle.gq_requests.specs.Seen.{request_seen};
-ghost use Rattle.gq_sessions.specs.Trading.{object_size, session_at};
+ghost use Rattle.gq_sessions.specs.Trading.{object_size, server_of, session_at};
 ghost use Rattle.gq_serving.specs.Serving.{AreSections};
 ghost use Rattle.gq_statements.specs.Statements.{done};
 ghost use Rattle.gq_transitions.specs.internal.Holds.{CanStep, Goes, Holds, OfLeaf};
@@ -113,33 +113,31 @@ fn take(
     number: usize,
     request: Request,
     level: u8,
-) -> Result<bool, Wrong>
+) -> Result<(), Wrong>
     requires can { CanStep fixed.now state.old number }
     requires serves { OfLeaf (λ l. l.state.phase ≡ phase.Serving) (slice_get state.old.leaves.items number) }
     requires oldest { IsOldest number state.old.slots.trades.trading.requests request }
     requires taken { IsTaken state.old.slots.trades.trading.sessions request.session }
+    requires its { server_of state.old.slots.trades.trading request.session ≡ number }
     requires level { level ≡ (session_at state.old.slots.trades.trading request.session).level }
     requires low { level ≤ 3 }
     requires within { request.ask ≡ asks.Upgrade → level < 3 }
-    ensures step { IfOk result (λ was. Goes fixed.now number state.old state.new (takes was)) }
+    ensures step { OnOk result (Goes fixed.now number state.old state.new (takes true)) }
     ensures wrong { IfErr result (λ wrong. Goes fixed.now number state.old state.new (done (Err wrong))) }
     ensures holds { OnOk result (Holds fixed.now state.new) }
-    ensures none { IfOk result (λ was. was ≡ false → state.new.leaves.items ≡ state.old.leaves.items) }
-    ensures same { IfOk result (λ was. was ≡ false → state.new.slots ≡ state.old.slots) }
     ensures leaves { OnErr result (state.new.leaves.items ≡ state.old.leaves.items) }
     ensures slots { OnErr result (state.new.slots ≡ state.old.slots) }
 {
     lawful(&state.slots);
     scenario_laws(fixed, number);
     let provider = provider(fixed, state, number, request.session);
-    match gq_serving::requests::accept(&provider, &mut state.slots, number) {
+    match gq_serving::requests::accept(&provider, &mut state.slots, number, request) {
         Err(wrong) => Err(wrong),
-        Ok(None) => Ok(false),
-        Ok(Some(_)) => {
+        Ok(()) => {
             lawful(&state.slots);
             let leaf = &mut state.leaves[number];
             begin(leaf, request, level);
-            Ok(true)
+            Ok(())
         }
     }
 }
@@ -166,5 +164,8 @@ pub fn accept(fixed: &Fixed, state: &mut State, number: usize) -> Result<bool, W
         state.slots.laws();
         return Err(Wrong::MissingSection);
     }
-    take(fixed, state, number, request, level)
+    match take(fixed, state, number, request, level) {
+        Ok(()) => Ok(true),
+        Err(wrong) => Err(wrong),
+    }
 }

@@ -13,7 +13,8 @@ ghost use Rattle.gq_world.specs.Outcomes.{IsBefore, IsCutShort, IsFaultOf, IsWho
 
 use crate::fault::RunFault;
 use crate::world::World;
-use gq_init::turns::{TurnsError, read_turns};
+use gq_init::TurnItem;
+use gq_init::turns::{TurnsError, read_items};
 use gq_lines::counted::{Counted, WriteFault};
 use gq_lines::lines::Lines;
 use gq_scenario::scenario::LeafNo;
@@ -48,7 +49,7 @@ pub(crate) fn take_turns<W: Write>(
 // All turns of a list, up to the first whose line is not written whole. They take no host memory.
 pub(crate) fn take_all<W: Write>(
     world: &mut World,
-    turns: &[(LeafNo, u32)],
+    turns: &[TurnItem],
     lines: &mut Lines,
     out: &mut Counted<W>,
 ) -> Result<(), WriteFault>
@@ -62,8 +63,8 @@ pub(crate) fn take_all<W: Write>(
         (written_to W.contents out.new)) }
     ensures raised { OnErr result (IsRaised (failures_of out.old) (failures_of out.new)) }
 {
-    for (leaf, count) in turns {
-        take_turns(world, *leaf, *count, lines, out)?;
+    for item in turns {
+        take_turns(world, item.leaf(), item.count(), lines, out)?;
     }
     Ok(())
 }
@@ -72,7 +73,7 @@ pub(crate) fn take_all<W: Write>(
 // written whole. They take no host memory.
 fn run_world<W: Write>(
     world: &mut World,
-    turns: &[(LeafNo, u32)],
+    turns: &[TurnItem],
     out: &mut Counted<W>,
 ) -> Result<(), WriteFault>
     requires start { world.old.world ≡ start (system world.old.scenario) }
@@ -105,7 +106,7 @@ fn run_turns<W: Write>(
         (written_to W.contents out.new) }
     ensures raised { result ≡ Err RunFault.Write → IsRaised (failures_of out.old) (failures_of out.new) }
 {
-    let turns = match read_turns(alloc, turns, world.table()) {
+    let turns = match read_items(alloc, turns, world.table()) {
         Ok(turns) => turns,
         Err(TurnsError::Memory(_)) => return Err(RunFault::Memory),
         Err(TurnsError::Fault { fault, line }) => return Err(RunFault::Turns { fault, line }),

@@ -12,7 +12,7 @@ use Rattle.gq_sessions.specs.Trading.{object_size, session_at}
 use Rattle.gq_slots.specs.Calls.{TakesOldest}
 use Rattle.gq_slots.specs.Slots.{Slots}
 use Rattle.gq_paid.specs.Systems.{stage_in}
-use Rattle.gq_serving.proofs.Outcomes.{from_none, from_some}
+use Rattle.gq_serving.specs.Serving.{found}
 use Rattle.gq_steps.specs.Coded.{Coded}
 use Rattle.gq_transitions.specs.Worlds.{world_of}
 use Rattle.gq_transitions.specs.internal.Holds.{Holds}
@@ -29,60 +29,39 @@ returns-in-Err-clause-wrong c =
     let x = c.args.number in
     let serves = of_leaf (λ l. l.state.phase ≡ phase.Serving) (slice_get m.leaves.items x) can.leaf can.leaf_is c.requires.serves in
     led c.args.fixed.now m can.holds c.lawful.ensures x can.component can.leaf can.component_is can.leaf_is serves c.provider-provider.result.sections
-    c.accept.new.slots c.accept.result (Err c.in-Err.wrong) c.scenario_laws.ensures.interfaces c.provider-provider.ensures.sections c.accept.ensures.step
-    c.in-Err.is
+    c.accept.new.slots (found c.args.request c.accept.result) (Err c.in-Err.wrong) c.scenario_laws.ensures.interfaces c.provider-provider.ensures.sections c.accept.ensures.step
+    (ap (found c.args.request) c.in-Err.is)
 
-pub returns-in-Ok-None-clause-step : goal.returns-in-Ok-None-clause-step
-returns-in-Ok-None-clause-step c =
-    let can = c.requires.can in
-    let f = c.args.fixed.now in
-    let m = c.args.state.now in
-    let x = c.args.number in
-    let serves = of_leaf (λ l. l.state.phase ≡ phase.Serving) (slice_get m.leaves.items x) can.leaf can.leaf_is c.requires.serves in
-    let none = from_none (c.accept.new.slots ≡ m.slots) c.in-Ok-None.field-0 c.in-Ok-None.field-0-is c.in-Ok-None.ensures.none in
-    led f m can.holds c.lawful.ensures x can.component can.leaf can.component_is can.leaf_is serves c.provider-provider.result.sections c.accept.new.slots
-    c.accept.result (Ok None) c.scenario_laws.ensures.interfaces c.provider-provider.ensures.sections c.accept.ensures.step
-    (c.in-Ok-None.is ∙ ap (λ o. Ok o) c.in-Ok-None.field-0-is) ∙ ap (λ (u : Slots). Ok (world_of f.table m.leaves.items u, Idle)) (sym none)
-
-pub returns-in-Ok-None-clause-holds : goal.returns-in-Ok-None-clause-holds
-returns-in-Ok-None-clause-holds c =
-    let m = c.args.state.now in
-    let none = from_none (c.accept.new.slots ≡ m.slots) c.in-Ok-None.field-0 c.in-Ok-None.field-0-is c.in-Ok-None.ensures.none in
-    subst (λ (u : Slots). Holds c.args.fixed.now (record { leaves = m.leaves; slots = u })) (sym none) c.requires.can.holds
-
-pub returns-in-Ok-Some-clause-step : goal.returns-in-Ok-Some-clause-step
-returns-in-Ok-Some-clause-step c =
+pub returns-in-Ok-clause-step : goal.returns-in-Ok-clause-step
+returns-in-Ok-clause-step c =
     let can = c.requires.can in
     let f = c.args.fixed.now in
     let m = c.args.state.now in
     let x = c.args.number in
     let t = c.accept.new.slots in
-    let request = c.in-Ok-Some.field-0-0 in
+    let r = c.args.request in
     let old = c.index_mut-leaf.result.now in
     let there = item_there m.leaves.items x can.leaf old can.leaf_is c.index_mut-leaf.ensures.value in
     let serves = of_leaf (λ l. l.state.phase ≡ phase.Serving) (slice_get m.leaves.items x) old there c.requires.serves in
-    let takes = from_some (λ r. TakesOldest m.slots t x r) c.in-Ok-Some.field-0 request c.in-Ok-Some.field-0-is c.in-Ok-Some.ensures.some in
-    goes f m can.holds c.lawful.ensures x can.component old can.component_is there serves t request c.args.request c.args.level c.begin.new.leaf takes
+    goes f m can.holds c.lawful.ensures x can.component old can.component_is there serves t r r c.args.level c.begin.new.leaf c.in-Ok.ensures.takes
     c.requires.oldest c.requires.level c.begin.ensures
-    (led f m can.holds c.lawful.ensures x can.component old can.component_is there serves c.provider-provider.result.sections t c.accept.result
-    (Ok (Some request)) c.scenario_laws.ensures.interfaces c.provider-provider.ensures.sections c.accept.ensures.step
-    (c.in-Ok-Some.is ∙ ap (λ o. Ok o) c.in-Ok-Some.field-0-is))
+    (led f m can.holds c.lawful.ensures x can.component old can.component_is there serves c.provider-provider.result.sections t
+    (found r c.accept.result) (Ok (Some r)) c.scenario_laws.ensures.interfaces c.provider-provider.ensures.sections c.accept.ensures.step
+    (ap (found r) c.in-Ok.is))
 
-pub returns-in-Ok-Some-clause-holds : goal.returns-in-Ok-Some-clause-holds
-returns-in-Ok-Some-clause-holds c =
+pub returns-in-Ok-clause-holds : goal.returns-in-Ok-clause-holds
+returns-in-Ok-clause-holds c =
     let can = c.requires.can in
     let f = c.args.fixed.now in
     let m = c.args.state.now in
     let x = c.args.number in
     let t = c.accept.new.slots in
-    let request = c.in-Ok-Some.field-0-0 in
     let old = c.index_mut-leaf.result.now in
     let there = item_there m.leaves.items x can.leaf old can.leaf_is c.index_mut-leaf.ensures.value in
     let serves = of_leaf (λ l. l.state.phase ≡ phase.Serving) (slice_get m.leaves.items x) old there c.requires.serves in
-    let takes = from_some (λ r. TakesOldest m.slots t x r) c.in-Ok-Some.field-0 request c.in-Ok-Some.field-0-is c.in-Ok-Some.ensures.some in
-    kept_one f m _ x can.component old c.begin.new.leaf Quiet can.holds c.lawful.ensures c.lawful-in-Ok-Some.ensures can.component_is there refl
+    kept_one f m _ x can.component old c.begin.new.leaf Quiet can.holds c.lawful.ensures c.lawful-in-Ok.ensures can.component_is there refl
     (ap (λ (l : Coded). l.code) c.begin.ensures) (ap (λ (l : Coded). stage_in l.state.phase) c.begin.ensures ∙ sym (ap stage_in serves))
-    (scene_taken m.slots t x request takes) (returns-in-Ok-Some-clause-step c)
+    (scene_taken m.slots t x c.args.request c.in-Ok.ensures.takes) (returns-in-Ok-clause-step c)
 
 pub accept-requires-clause-live : goal.accept-requires-clause-live
 accept-requires-clause-live c =
@@ -95,22 +74,11 @@ accept-requires-clause-live c =
 pub accept-requires-clause-paid : goal.accept-requires-clause-paid
 accept-requires-clause-paid c = c.requires.can.paid
 
--- what is so of the oldest request is so of that which is found
-of_oldest : (P : Request → Type 0) (o : Option (Request × List Request)) (r : Request) (rest : List Request) → o ≡ Some (r, rest) → P r
-    → IfSome o (λ p. P p.0)
-of_oldest P o r rest e h = subst (λ (y : Option (Request × List Request)). IfSome y (λ p. P p.0)) (sym e) h
-
 pub accept-requires-clause-level : goal.accept-requires-clause-level
-accept-requires-clause-level c =
-    let w = c.args.state.now.slots.trades.trading in
-    of_oldest (λ r. r.ask ≡ asks.Upgrade → (session_at w r.session).level < 3) _ c.args.request c.requires.oldest.rest c.requires.oldest.is
-    (λ up. subst (λ (l : ℕ). l < 3) c.requires.level (c.requires.within up))
+accept-requires-clause-level c up = subst (λ (l : ℕ). l < 3) c.requires.level (c.requires.within up)
 
 pub accept-requires-clause-object : goal.accept-requires-clause-object
-accept-requires-clause-object c =
-    let w = c.args.state.now.slots.trades.trading in
-    of_oldest (λ r. object_size w r.session ≡ c.provider-provider.result.object) _ c.args.request c.requires.oldest.rest c.requires.oldest.is
-    c.provider-provider.ensures.object
+accept-requires-clause-object c = c.provider-provider.ensures.object
 
 pub accept-requires-clause-size : goal.accept-requires-clause-size
 accept-requires-clause-size c = c.provider-provider.ensures.size
@@ -134,9 +102,3 @@ scenario_laws-requires c = slice_get_within (components c.args.fixed.now.table) 
 pub returns-in-Err-clause-slots : goal.returns-in-Err-clause-slots
 returns-in-Err-clause-slots c = c.in-Err.ensures.unchanged
 
-pub returns-in-Ok-None-clause-same : goal.returns-in-Ok-None-clause-same
-returns-in-Ok-None-clause-same c same =
-    from_none (c.accept.new.slots ≡ c.args.state.now.slots) c.in-Ok-None.field-0 c.in-Ok-None.field-0-is c.in-Ok-None.ensures.none
-
-pub returns-in-Ok-None-clause-none : goal.returns-in-Ok-None-clause-none
-returns-in-Ok-None-clause-none c same = refl

@@ -1,35 +1,36 @@
-use Rattle.std.proofs.Common.{◌∙◌}
+use Rattle.std.proofs.Common.{◌∙◌, length}
 use Rattle.std.proofs.lemmas.Result.{err_from_is_err_and}
 use Rattle.gq_model.specs.machine.Scenario.{components}
-use Rattle.std.specs.Prelude.{length}
 use Rattle.gq_world.proofs.Going.{here_is, below_at, goes_on_all, cut_all}
 use Rattle.gq_world.proofs.run.take_all.Goals as goal
 
 pub returns-in_err-take_turns-clause-cut : goal.returns-in_err-take_turns-clause-cut
 returns-in_err-take_turns-clause-cut g c =
-    let l = c.loop-leaf in
-    let t = c.loop-leaf-item.result in
+    let l = c.loop-item in
+    let t = c.item-item.result in
     let a = g.W.Write.contents c.args.out.now.writer in
     let b = g.W.Write.contents l.out.writer in
     let d = g.W.Write.contents c.take_turns.new.out.writer in
     let p = err_from_is_err_and c.from_residual.result c.from_residual.ensures.1 in
-    let here = here_is c.args.turns.now l.leaf-index t c.loop-leaf-test.true c.loop-leaf-item.is in
-    rw (p.1) (cut_all c.args.world.now.scenario c.args.turns.now l.leaf-index t here c.args.world.now l.world c.take_turns.new.world l.invariant.scenario a b d
-    l.invariant.left c.in_err-take_turns.ensures.cut)
+    let here = here_is c.args.turns.now l.item-index t c.loop-item-test.true c.item-item.is in
+    let cut = rw (c.leaf.ensures, c.count.ensures) at c.in_err-take_turns.ensures.cut in
+    rw (p.1) (cut_all c.args.world.now.scenario c.args.turns.now l.item-index t here c.args.world.now l.world c.take_turns.new.world l.invariant.scenario a b d
+    l.invariant.left cut)
 
-pub loop-leaf-preserved : goal.loop-leaf-preserved
-loop-leaf-preserved g c =
-    let l = c.loop-leaf in
-    let t = c.loop-leaf-item.result in
+pub loop-item-preserved : goal.loop-item-preserved
+loop-item-preserved g c =
+    let l = c.loop-item in
+    let t = c.item-item.result in
     let a = g.W.Write.contents c.args.out.now.writer in
     let b = g.W.Write.contents l.out.writer in
     let d = g.W.Write.contents c.take_turns.new.out.writer in
-    let here = here_is c.args.turns.now l.leaf-index t c.loop-leaf-test.true c.loop-leaf-item.is in
+    let here = here_is c.args.turns.now l.item-index t c.loop-item-test.true c.item-item.is in
     let e = c.in_ok-take_turns.ensures in
+    let ran = rw (c.leaf.ensures, c.count.ensures) at e.ran in
     record {
       scenario = e.scenario ∙ l.invariant.scenario;
-      below = (below_at (length (components c.args.world.now.scenario)) c.args.turns.now l.leaf-index t here l.invariant.below).1;
-      left = goes_on_all c.args.world.now.scenario c.args.turns.now l.leaf-index t here c.args.world.now l.world c.take_turns.new.world l.invariant.scenario a b
-          d l.invariant.left e.ran;
+      below = (below_at (length (components c.args.world.now.scenario)) c.args.turns.now l.item-index t here l.invariant.below).1;
+      left = goes_on_all c.args.world.now.scenario c.args.turns.now l.item-index t here c.args.world.now l.world c.take_turns.new.world l.invariant.scenario a b
+          d l.invariant.left ran;
       counted = e.counted ∙ l.invariant.counted;
     }

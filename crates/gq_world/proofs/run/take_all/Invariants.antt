@@ -5,11 +5,11 @@ use Rattle.gq_world.specs.internal.Going.{AreBelow, HasLeft}
 use Rattle.gq_world.proofs.run.take_all.Given as goal
 
 -- what is left of the turns, from here, does what all of them do
-abbrev pub invariant-loop-leaf : goal.invariant-loop-leaf
-invariant-loop-leaf g l = record {
+abbrev pub invariant-loop-item : goal.invariant-loop-item
+invariant-loop-item g l = record {
   scenario : l.world.scenario ≡ l.fn.world.scenario;
-  below : AreBelow (length (components l.fn.world.scenario)) (drop l.leaf-index l.turns);
-  left : HasLeft (run_on (system l.fn.world.scenario) (drop l.leaf-index l.turns)) (run_on (system l.fn.world.scenario) l.turns) l.fn.world l.world
+  below : AreBelow (length (components l.fn.world.scenario)) (drop l.item-index l.turns);
+  left : HasLeft (run_on (system l.fn.world.scenario) (drop l.item-index l.turns)) (run_on (system l.fn.world.scenario) l.turns) l.fn.world l.world
       (g.W.Write.contents l.fn.out.writer) (g.W.Write.contents l.out.writer);
   counted : l.out.failures ≡ l.fn.out.failures;
 }

@@ -18,14 +18,14 @@ returns-then-is_ahead-clause-ahead c =
     let s = c.args.self.now in
     let text = c.args.text.now in
     let name = c.as_bytes-name.result.now in
-    let k = length name in
+    let k = c.number_ahead-number.result.1 in
     let at = row_at s c.new-leaf.result (omega (arith, c.new-leaf.ensures, c.if-number-leaf_count.false, c.leaf_count.ensures.count)) in
     let row = some_same (sym c.row-entry.ensures.row ∙ at.row) in
     let own = c.as_bytes-name.ensures.bytes ∙ (ap (λ r. r.name) c.entry.view_is ∙ ap (λ (r : LeafRow). r.name) row) in
     let single = ap (λ (t : Scenario). name_twice (codes "init" ∷ []) (names_of t.nodes)) (sym c.self.view_is) ∙ c.laws.ensures.single in
     record {
       name = name;
-      is = c.is_ahead.ensures c.if-is_ahead.true ∙ (ap (λ t. name ++ t) (drop_more text k 0 (omega (arith, c.if-text-end.false)))
+      is = c.is_ahead.ensures c.if-is_ahead.true ∙ ap (λ n. name ++ drop n text) c.if-name-end.false ∙ (ap (λ t. name ++ t) (drop_more text k 0 (omega (arith, c.if-text-end.false)))
           ∙ (ap (λ b. name ++ (b ∷ drop (k + 1) text)) c.if-text-end-ne32.false ∙ ap (λ t. name ++ (32 ∷ t)) (sym (take_rest text (k + 1)))));
       named = ap is_name c.as_bytes-name.ensures.bytes ∙ c.as_bytes-name.ensures.name;
       number = numbered_there s name c.new-leaf.result at.component single at.there (same_name name at.component.node.name own);

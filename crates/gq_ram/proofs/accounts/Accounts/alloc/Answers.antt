@@ -2,7 +2,7 @@ use Rattle.std.proofs.Common.{◌≡◌, ◌≤◌, ◌*◌, length, refl, arith
 use Rattle.gq_tariff.specs.Prices.{up}
 use Rattle.gq_pages.specs.Bytes.{zeros}
 use Rattle.gq_ram.specs.declared.account.Account.{Account}
-use Rattle.gq_ram.specs.Entries.{account_at, IsOpen}
+use Rattle.gq_ram.specs.Entries.{account_at, its_account, IsOpen}
 use Rattle.gq_ram.specs.Ledgers.{Ledger}
 use Rattle.gq_ram.specs.internal.Fields.{ledger_view}
 use Rattle.gq_ram.proofs.Sums.{err_no_ok, account_within, account_slack}
@@ -67,7 +67,8 @@ invariant_of-self c =
     let made : c.create.new.self ≡ record { spaces = set l.spaces.spaces k (Some (zeros (up n))); free = c.create.new.self.free } =
     of_fields c.create.new.self (set l.spaces.spaces k (Some (zeros (up n)))) c.in-Ok.ensures.made in
     let vacant = c.in-Ok.ensures.was_vacant in
-    rw (payer, cost, made) (spent_balanced l c.args.account k (zeros (up n)) c.create.new.self.free b opened vacant.0 vacant.1
+    let again : c.index_mut-payer.result.now ≡ account_at l.accounts a = sym (ap its_account c.index_mut-payer.ensures.value) in
+    rw (again, cost, made) (spent_balanced l c.args.account k (zeros (up n)) c.create.new.self.free b opened vacant.0 vacant.1
     (omega (arith, c.in-Ok.ensures.paid, long))
     (omega (arith, c.if-cost-avail.false, cost, ap (λ (x : Account). x.quota.ram) payer, ap (λ (x : Account). x.used.ram) payer))
     (omega (arith, c.if-payer-self.false, ap (λ (x : Account). x.quota.caps) payer, ap (λ (x : Account). x.used.caps) payer)))

@@ -1,6 +1,6 @@
-use Rattle.std.proofs.Common.{◌≡◌, length, arith, sym, ap, subst, ◌∙◌, None, set}
+use Rattle.std.proofs.Common.{◌≡◌, length, arith, sym, ap, subst, None, set}
 use Rattle.gq_ram.specs.declared.account.Account.{Account}
-use Rattle.gq_ram.specs.Entries.{account_at, IsOpen}
+use Rattle.gq_ram.specs.Entries.{account_at, its_account, IsOpen}
 use Rattle.gq_ram.specs.Owning.{IsOf}
 use Rattle.gq_ram.specs.Ledgers.{Ledger}
 use Rattle.gq_ram.specs.internal.Fields.{ledger_view}
@@ -11,8 +11,7 @@ use Rattle.gq_ram.proofs.accounts.Accounts.free.Goals as goal
 pub overflow_sub-payer : goal.overflow_sub-payer
 overflow_sub-payer c =
     let l : Ledger = ledger_view c.self.inside in let a = c.args.account.0 in let b = c.self.invariant in
-    let payer : c.account-payer.result ≡ account_at l.accounts a = c.account-payer.ensures
-    ∙ ap (λ (m : Ledger). account_at m.accounts a) (sym c.self.view_is) in
+    let payer : c.index_mut-payer.result.now ≡ account_at l.accounts a = sym (ap its_account c.index_mut-payer.ensures.value) in
     let own : IsOf l.owners c.args.ds.0 c.args.account = subst (λ (m : Ledger). IsOf m.owners c.args.ds.0 c.args.account)
     (sym c.self.view_is) c.requires.its_own in
     omega (arith, its_within length l c.args.account c.args.ds.0 b own, b.used a, ap (λ (x : Account). x.used.ram) payer, c.size-size.ensures.bytes)
@@ -20,8 +19,7 @@ overflow_sub-payer c =
 pub overflow_sub-payer-2 : goal.overflow_sub-payer-2
 overflow_sub-payer-2 c =
     let l : Ledger = ledger_view c.self.inside in let a = c.args.account.0 in let b = c.self.invariant in
-    let payer : c.account-payer.result ≡ account_at l.accounts a = c.account-payer.ensures
-    ∙ ap (λ (m : Ledger). account_at m.accounts a) (sym c.self.view_is) in
+    let payer : c.index_mut-payer.result.now ≡ account_at l.accounts a = sym (ap its_account c.index_mut-payer.ensures.value) in
     let own : IsOf l.owners c.args.ds.0 c.args.account = subst (λ (m : Ledger). IsOf m.owners c.args.ds.0 c.args.account)
     (sym c.self.view_is) c.requires.its_own in
     omega (arith, its_within (λ _. l.price) l c.args.account c.args.ds.0 b own, b.caps_used a, ap (λ (x : Account). x.used.caps) payer)
@@ -29,8 +27,7 @@ overflow_sub-payer-2 c =
 pub invariant_of-self : goal.invariant_of-self
 invariant_of-self c =
     let l : Ledger = ledger_view c.self.inside in let a = c.args.account.0 in let b = c.self.invariant in let k = c.args.ds.0 in
-    let payer : c.account-payer.result ≡ account_at l.accounts a = c.account-payer.ensures
-    ∙ ap (λ (m : Ledger). account_at m.accounts a) (sym c.self.view_is) in
+    let payer : c.index_mut-payer.result.now ≡ account_at l.accounts a = sym (ap its_account c.index_mut-payer.ensures.value) in
     let own : IsOf l.owners k c.args.account = subst (λ (m : Ledger). IsOf m.owners k c.args.account) (sym c.self.view_is) c.requires.its_own in
     let opened : IsOpen l.accounts a = subst (λ (m : Ledger). IsOpen m.accounts a) (sym c.self.view_is) c.requires.open in
     let gone : c.destroy.new.self ≡ record { spaces = set l.spaces.spaces k None; free = c.destroy.new.self.free } =
