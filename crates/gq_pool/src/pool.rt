@@ -119,6 +119,7 @@ impl Pool {
     }
 
     /// The byte of an entry, 0 where the entry is absent.
+    #[inline(always)]
     pub fn load<S: ByteStore>(&self, store: &S, heap: &Heap, index: u32, offset: u32) -> u8
         requires kept { IsPool self.now heap.now (S.state store.now) }
         requires inside { (index < count_of self.now) × (offset < size_of self.now) }
@@ -132,6 +133,7 @@ impl Pool {
     }
 
     /// Sets the byte of an entry; where the entry is absent nothing is done.
+    #[inline(always)]
     pub fn store<S: ByteStore>(
         &self,
         store: &mut S,

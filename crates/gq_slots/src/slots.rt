@@ -1,5 +1,5 @@
 // What every slot of a scenario holds, in the memory of the leaf that pays for it.
-ghost use Rattle.std.specs.Prelude.{◌≡◌, ℕ, ◌+◌, ◌<◌, ◌≤◌, ◌*◌, ◌%◌, ◌↔◌, [], ◌∷◌, length, get_or, slice_index, slice_range, replicate, Some, None, true};
+ghost use Rattle.std.specs.Prelude.{◌≡◌, ℕ, ◌+◌, ◌<◌, ◌≤◌, ◌*◌, ◌%◌, ◌↔◌, ◌⊎◌, [], ◌∷◌, length, get_or, slice_index, slice_range, replicate, Some, None, true};
 ghost use Rattle.std.specs.Prelude.{false, IsTrue};
 ghost use Rattle.std.specs.Prelude.{IfOk, IfNone, IfSome, OnOk, OnErr, IsErrOf};
 ghost use Rattle.gq_tariff.specs.Prices.{up};
@@ -19,7 +19,7 @@ ghost use Rattle.gq_requests.specs.declared.requests.Ask.TheVariants as ask;
 ghost use Rattle.gq_requests.specs.Queues.{oldest_to};
 ghost use Rattle.gq_sessions.specs.Trading.{IsOfOldest, LacksBytes, LacksCaps, account_no, asked, client_of, fresh, its_account, server_of, session_at};
 ghost use Rattle.gq_sessions.specs.Trading.{AreOfOthers, bytes_then, caps_then, upgraded, with_ask, with_memory};
-ghost use Rattle.gq_sessions.specs.declared.session.Spot.TheVariants.{InObject, InSession};
+ghost use Rattle.gq_sessions.specs.declared.session.Spot.TheVariants.{InLeaf, InObject, InSession};
 ghost use Rattle.gq_trade.specs.Ends.{HasNoSessions};
 ghost use Rattle.gq_trade.specs.Waiting.{IsIdle};
 ghost use Rattle.gq_trade.specs.Plans.{IsFirst, IsPlan};
@@ -388,6 +388,84 @@ impl Slots {
         let thing = self.thing(spot);
         self.trades.laws();
         thing.poke(&mut self.trades, &self.heaps[holder], index, offset, value);
+    }
+
+    // What is in a leaf's own slot. The three calls below that look there are not `inline(always)`: the compiler would then take what they call for rare.
+    #[inline(always)]
+    fn own_thing(&self, leaf: usize, slot: u8) -> Thing
+        requires { IsSpot self.now (InLeaf leaf slot) }
+        ensures { result ≡ thing_at self.now (InLeaf leaf slot) }
+    {
+        self.own[leaf][usize::from(slot)]
+    }
+
+    /// The byte of an entry of a pool in a leaf's own slot, 0 where the entry is absent, as `peek` reads it; but whether there is one is tested here. `None`
+    /// where that slot holds no pool, or the pool has no such entry, or its entries have no such byte.
+    pub fn peek_own(&self, leaf: usize, slot: u8, index: u32, offset: u32) -> Option<u8>
+        requires there { IsSpot self.now (InLeaf leaf slot) }
+        requires paid { IsPaidBy self.now leaf }
+        ensures inside { IfSome result (λ b. (index < entry_count (thing_at self.now (InLeaf leaf slot)))
+            × (offset < entry_size (thing_at self.now (InLeaf leaf slot)))) }
+        ensures read { IfSome result (λ b. b ≡ entry_byte (entry_in index (slot_of self.now (InLeaf leaf slot))) offset) }
+        ensures outside { IfNone result ((entry_count (thing_at self.now (InLeaf leaf slot)) ≤ index)
+            ⊎ (entry_size (thing_at self.now (InLeaf leaf slot)) ≤ offset)) }
+    {
+        let _own = &self.own;
+        let thing = self.own_thing(leaf, slot);
+        let Thing::Pool(pool) = thing else {
+            return None;
+        };
+        if index >= pool.count() || offset >= pool.size() {
+            return None;
+        }
+        Some(thing.peek(&self.trades, &self.heaps[leaf], index, offset))
+    }
+
+    /// Sets the byte of an entry of a pool in a leaf's own slot, as `poke` does, where the pool has that byte, and tells whether it has. Where it has not,
+    /// nothing changes.
+    pub fn poke_own(&mut self, leaf: usize, slot: u8, index: u32, offset: u32, value: u8) -> bool
+        requires there { IsSpot self.old (InLeaf leaf slot) }
+        requires paid { IsPaidBy self.old leaf }
+        ensures inside { result ≡ true → (index < entry_count (thing_at self.old (InLeaf leaf slot)))
+            × (offset < entry_size (thing_at self.old (InLeaf leaf slot))) }
+        ensures put { result ≡ true → Puts self.old self.new (InLeaf leaf slot)
+            (with_entry index (λ n. entry_with offset value) (slot_of self.old (InLeaf leaf slot))) }
+        ensures outside { result ≡ false → (entry_count (thing_at self.old (InLeaf leaf slot)) ≤ index)
+            ⊎ (entry_size (thing_at self.old (InLeaf leaf slot)) ≤ offset) }
+        ensures unchanged { result ≡ false → self.new ≡ self.old }
+    {
+        let thing = self.own_thing(leaf, slot);
+        self.trades.laws();
+        let Thing::Pool(pool) = thing else {
+            return false;
+        };
+        if index >= pool.count() || offset >= pool.size() {
+            return false;
+        }
+        thing.poke(&mut self.trades, &self.heaps[leaf], index, offset, value);
+        true
+    }
+
+    /// Removes an entry of a pool in a leaf's own slot, as `give` does, and says whether it did: not where it was absent. `None` where that slot holds no
+    /// pool, or the pool has no such entry; then nothing changes.
+    pub fn give_own(&mut self, leaf: usize, slot: u8, index: u32) -> Option<bool>
+        requires there { IsSpot self.old (InLeaf leaf slot) }
+        requires paid { IsPaidBy self.old leaf }
+        ensures inside { IfSome result (λ b. index < entry_count (thing_at self.old (InLeaf leaf slot))) }
+        ensures given { IfSome result (λ b. Puts self.old self.new (InLeaf leaf slot) (with_entry index removed (slot_of self.old (InLeaf leaf slot)))) }
+        ensures absent { IfSome result (λ b. (b ≡ false) ↔ (entry_in index (slot_of self.old (InLeaf leaf slot)) ≡ None)) }
+        ensures outside { IfNone result (entry_count (thing_at self.old (InLeaf leaf slot)) ≤ index) }
+        ensures unchanged { IfNone result (self.new ≡ self.old) }
+    {
+        let thing = self.own_thing(leaf, slot);
+        self.trades.laws();
+        let Thing::Pool(pool) = thing else {
+            return None;
+        };
+        if index >= pool.count() {
+            return None;
+        }
+        Some(thing.give(&mut self.trades, &mut self.heaps[leaf], index))
     }
 
     /// Makes a slot empty, and the memory free that was in it. Pages of the heap's classes stay the heap's, and paid.

@@ -1,9 +1,10 @@
 -- Pools that a statement names, and their entries.
 use Rattle.std.proofs.Common.{◌≡◌, ℕ, ◌<◌, ◌≤◌, ◌↔◌, ◌%◌, Bool, true, false, List, ◌∷◌, length, get_or, Option, Some, None, refl, sym, ap, ◌∙◌, arith}
-use Rattle.std.specs.Prelude.{nat_lt, slice_get, slice_set, Ok, Err}
+use Rattle.std.specs.Prelude.{nat_lt, slice_get, slice_set, IfSome, Ok, Err}
 use Rattle.std.proofs.lemmas.Bool.Decides.{nat_tests}
 use Rattle.std.proofs.lemmas.Option.{slice_get-get_or, slice_get_past}
 use Rattle.gq_model.specs.declared.program.Place.{Place}
+use Rattle.gq_model.specs.declared.program.Place.TheVariants.{Own}
 use Rattle.gq_model.specs.machine.World as world
 use Rattle.gq_model.specs.machine.Doing.{Doing, Quiet, Stepped, need, on_stack, pop, standing, when, with_operands}
 use Rattle.gq_model.specs.declared.fault.Wrong.TheVariants.{UnmappedByte, WrongKind}
@@ -11,14 +12,16 @@ use Rattle.gq_model.specs.machine.Memory.{entry_byte, entry_with, give_entry, if
 use Rattle.gq_store.specs.Store.{Store}
 use Rattle.gq_things.specs.declared.thing.Thing.{Thing}
 use Rattle.gq_things.specs.declared.thing.Thing.TheVariants.{Empty, Block, Slice, Space, Pool, Link, Waiting}
-use Rattle.gq_things.specs.Things.{entry_count, entry_in, removed, seen, shape_of, with_entry}
+use Rattle.gq_things.specs.Things.{entry_count, entry_in, entry_size, removed, seen, shape_of, with_entry}
 use Rattle.gq_things.proofs.Paying.{entries_long}
 use Rattle.gq_sessions.specs.declared.session.Spot.{Spot}
+use Rattle.gq_sessions.specs.declared.session.Spot.TheVariants.{InLeaf}
 use Rattle.gq_sessions.specs.Seen.{spot_seen}
-use Rattle.gq_slots.specs.Slots.{Frame, Slots, holder, memory_of, slot_of, thing_at, world_seen}
+use Rattle.gq_slots.specs.Slots.{AreRead, Frame, IsSpot, Slots, holder, memory_of, slot_of, thing_at, world_seen}
 use Rattle.gq_slots.specs.Calls.{Puts}
 use Rattle.gq_slots.proofs.Worlds.{set_there}
 use Rattle.gq_statements.specs.declared.actor.Actor.{Actor}
+use Rattle.gq_statements.specs.declared.actor.Hand.{Hand}
 use Rattle.gq_statements.specs.Statements.{IsBy, Pushes, hand_seen, told}
 use Rattle.gq_addresses.specs.Addresses.{place_seen}
 use Rattle.gq_statements.specs.internal.Found.{IsPool, entries_in}
@@ -108,6 +111,29 @@ module _ (d : Doing) (a : Actor) (w : world.World) (place : Place) (s : Slots) (
       pool_is (spot_seen p) go (same_spot d a place (Some p) h e) ∙ ap (λ o. pool_in w (spot_seen p) o go) r
       ∙ slot_pool w (spot_seen p) (memory_of s (holder s p)) t n m go is
       ∙ ap (λ y. go n (entries_in (seen (memory_of s (holder s p)) y)) (λ new. world.with_slot w (spot_seen p) (world.Pool n new))) same
+
+not_below : (i : ℕ) → i < 0 → ⊥
+not_below i lt = omega (arith, lt)
+
+-- what has an entry is a pool
+pub shape_is : (t : Thing) (i : ℕ) → i < entry_count t → Some (entry_size t, entry_count t) ≡ shape_of t
+shape_is Empty i lt = absurd (not_below i lt)
+shape_is (Block q k) i lt = absurd (not_below i lt)
+shape_is (Slice q k) i lt = absurd (not_below i lt)
+shape_is (Space q k) i lt = absurd (not_below i lt)
+shape_is (Pool q) i lt = refl
+shape_is (Link k) i lt = absurd (not_below i lt)
+shape_is (Waiting k) i lt = absurd (not_below i lt)
+
+-- the pool in a slot of the leaf's own
+pub own_pool : (d : Doing) (leaf slot : ℕ) (hand : Option Hand) (f : Frame) (s : Slots) (i : ℕ) → IsBy d (record { leaf = leaf; hand = hand })
+    → IsSpot s (InLeaf leaf slot) → AreRead s → i < entry_count (thing_at s (InLeaf leaf slot)) → IsPool d (world_seen f s) (Own slot) s
+    (Some (InLeaf leaf slot, entry_size (thing_at s (InLeaf leaf slot)), entry_count (thing_at s (InLeaf leaf slot))))
+own_pool d leaf slot hand f s i h spot reads lt =
+    let p = InLeaf leaf slot in
+    let t = thing_at s p in
+    pool_some d (record { leaf = leaf; hand = hand }) (world_seen f s) (Own slot) s h p t (entry_size t) (entry_count t) refl (reads f p spot) refl
+    (shape_is t i lt)
 
 -- ENTRIES
 
@@ -261,3 +287,18 @@ module _ (d : Doing) (place : Place) (s : Slots) (p : Spot) (n m : ℕ) (count :
             ap (λ slot. Ok (world.with_slot (world_seen (f 1) s) (spot_seen p) slot, Quiet)) (sym pool)
             ∙ ap (λ y. Ok (y, Quiet)) (sym (puts.seen_so (f 1))) ∙ ap (λ y. told f t (Ok y)) (sym g)
         by (Some bytes) false e g = let none = absent.0 g in cc
+
+-- an entry that is removed from a pool of the leaf's own
+pub own_given : (o : Option Bool) (s t : Slots) (leaf slot i : ℕ) → IsSpot s (InLeaf leaf slot) → AreRead s
+    → IfSome o (λ b. i < entry_count (thing_at s (InLeaf leaf slot)))
+    → IfSome o (λ b. Puts s t (InLeaf leaf slot) (with_entry i removed (slot_of s (InLeaf leaf slot))))
+    → IfSome o (λ b. b ≡ false ↔ entry_in i (slot_of s (InLeaf leaf slot)) ≡ None)
+    → IfSome o (λ b. (f : ℕ → Frame) (d : Doing) (rest : List ℕ) (hand : Option Hand) → IsBy d (record { leaf = leaf; hand = hand }) → Pushes d rest f s
+    → give_entry d rest (Own slot) i ≡ told f t (Ok b))
+own_given None s t leaf slot i spot reads inside puts absent = tt
+own_given (Some b) s t leaf slot i spot reads inside puts absent = λ f d rest hand h we.
+    let p = InLeaf leaf slot in
+    let n = entry_size (thing_at s p) in
+    let m = entry_count (thing_at s p) in
+    give_some d (Own slot) s p n m refl i rest f we (own_pool d leaf slot hand (f 1) s i h spot reads inside) t b inside (λ g. reads g p spot)
+    (pool_seen (memory_of s (holder s p)) (thing_at s p) n m (shape_is (thing_at s p) i inside)) puts absent

@@ -18,3 +18,4 @@ mod pools;
 
 pub use actor::{Actor, Hand};
 pub use bytes::{load_own, store_own};
+pub use pools::{give_own, peek_own, poke_own};

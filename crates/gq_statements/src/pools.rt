@@ -1,5 +1,6 @@
 // Statements on the entries of pools.
-ghost use Rattle.std.specs.Prelude.{◌≡◌, ◌∷◌, List, ℕ, IfSome, IsTrue, OnErr, Some};
+ghost use Rattle.std.specs.Prelude.{◌≡◌, ◌<◌, ◌≤◌, ◌∷◌, ◌⊎◌, List, ℕ, IfNone, IfSome, IsTrue, OnErr, Ok, Option, Some, false, true};
+ghost use Rattle.gq_model.specs.declared.program.Place.TheVariants.{Own};
 ghost use Rattle.gq_model.specs.machine.Doing.{Doing, standing, with_operands};
 ghost use Rattle.gq_model.specs.machine.Memory as memory;
 ghost use Rattle.gq_model.specs.machine.World.{Pool, slot_at};
@@ -7,8 +8,10 @@ ghost use Rattle.gq_model.specs.texts.Operands.{is_slot};
 ghost use Rattle.gq_trade.specs.Trades.{IsLive};
 ghost use Rattle.gq_slots.specs.Slots.{Frame, IsPaidBy, IsSlot, IsSpot, holder, slot_of, thing_at, world_seen};
 ghost use Rattle.gq_sessions.specs.Seen.{spot_seen};
+ghost use Rattle.gq_sessions.specs.declared.session.Spot.TheVariants.{InLeaf};
 ghost use Rattle.gq_slots.specs.Calls.{SameBeside};
 ghost use Rattle.gq_things.specs.Things.{entry_count, entry_size};
+ghost use Rattle.gq_statements.specs.declared.actor.Hand.{Hand};
 ghost use Rattle.gq_statements.specs.Statements.{IsAtHand, IsBy, Pushes, done, read, told};
 ghost use Rattle.gq_statements.specs.internal.Found.{IsPool, entries_in};
 
@@ -115,4 +118,67 @@ impl Actor {
         }
         Ok(slots.give(spot, index))
     }
+}
+
+/// Reads the byte of an entry of a pool in a slot of the leaf's own, 0 where the entry is absent, whatever the leaf has at hand. `None` where that slot holds
+/// no pool, or the pool has no such entry, or its entries have no such byte: then `Actor::peek` tells what the statement is. Most statements on pools are of
+/// this kind.
+#[inline(always)]
+pub fn peek_own(leaf: usize, slots: &Slots, slot: u8, index: u32, offset: u32) -> Option<u32>
+    requires slot { slot < 64 }
+    requires live { IsLive slots.now.trades leaf }
+    requires paid { IsPaidBy slots.now leaf }
+    ensures step { IfSome result (λ n. (f : Frame) (d : Doing) (rest : List ℕ) (hand : Option Hand) → IsBy d (record { leaf = leaf; hand = hand })
+        → d.world ≡ world_seen f slots.now → d.leaf.operands ≡ offset ∷ index ∷ rest → memory.peek d (Own slot) ≡ read d rest (Ok n)) }
+    ensures short { IfNone result ((entry_count (thing_at slots.now (InLeaf leaf slot)) ≤ index)
+        ⊎ (entry_size (thing_at slots.now (InLeaf leaf slot)) ≤ offset)) }
+{
+    slots.laws();
+    match slots.peek_own(leaf, slot, index, offset) {
+        None => None,
+        Some(byte) => Some(u32::from(byte)),
+    }
+}
+
+/// Sets the byte of an entry of a pool in a slot of the leaf's own to the lowest byte of a number, and tells whether the pool has that byte; where the entry
+/// is absent nothing changes. Where the pool has no such byte, nothing changes, and `Actor::poke` tells what the statement is.
+#[inline(always)]
+pub fn poke_own(
+    leaf: usize,
+    slots: &mut Slots,
+    slot: u8,
+    index: u32,
+    offset: u32,
+    value: u32,
+) -> bool
+    requires slot { slot < 64 }
+    requires live { IsLive slots.old.trades leaf }
+    requires paid { IsPaidBy slots.old leaf }
+    ensures step { result ≡ true → (f : Frame) (d : Doing) (rest : List ℕ) (hand : Option Hand) → IsBy d (record { leaf = leaf; hand = hand })
+        → standing d (with_operands d rest) ≡ world_seen f slots.old → d.leaf.operands ≡ value ∷ offset ∷ index ∷ rest
+        → memory.poke d (Own slot) ≡ done (Ok tt) (world_seen f slots.new) }
+    ensures beside { SameBeside slots.old slots.new }
+    ensures unchanged { result ≡ false → slots.new ≡ slots.old }
+    ensures short { result ≡ false → (entry_count (thing_at slots.old (InLeaf leaf slot)) ≤ index)
+        ⊎ (entry_size (thing_at slots.old (InLeaf leaf slot)) ≤ offset) }
+{
+    slots.laws();
+    slots.poke_own(leaf, slot, index, offset, (value % 256) as u8)
+}
+
+/// Removes an entry of a pool in a slot of the leaf's own, and says whether it did: not where it was absent. `None` where that slot holds no pool, or the
+/// pool has no such entry: then `Actor::give` tells what the statement is, and nothing changes.
+#[inline(always)]
+pub fn give_own(leaf: usize, slots: &mut Slots, slot: u8, index: u32) -> Option<bool>
+    requires slot { slot < 64 }
+    requires live { IsLive slots.old.trades leaf }
+    requires paid { IsPaidBy slots.old leaf }
+    ensures step { IfSome result (λ b. (f : ℕ → Frame) (d : Doing) (rest : List ℕ) (hand : Option Hand) → IsBy d (record { leaf = leaf; hand = hand })
+        → Pushes d rest f slots.old → memory.give_entry d rest (Own slot) index ≡ told f slots.new (Ok b)) }
+    ensures beside { SameBeside slots.old slots.new }
+    ensures unchanged { IfNone result (slots.new ≡ slots.old) }
+    ensures short { IfNone result (entry_count (thing_at slots.old (InLeaf leaf slot)) ≤ index) }
+{
+    slots.laws();
+    slots.give_own(leaf, slot, index)
 }

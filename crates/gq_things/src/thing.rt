@@ -269,6 +269,7 @@ impl Thing {
     }
 
     /// Removes an entry of a pool, and says whether it did: not where it was absent. Its place is free again, and its page stays the heap's, and paid.
+    #[inline(always)]
     pub fn give<S: ByteStore>(&self, store: &mut S, heap: &mut Heap, index: u32) -> bool
         requires kept { IsAmong heap.old (S.state store.old) self.now }
         requires inside { index < entry_count self.now }
@@ -284,6 +285,7 @@ impl Thing {
     }
 
     /// The byte of an entry of a pool, 0 where the entry is absent.
+    #[inline(always)]
     pub fn peek<S: ByteStore>(&self, store: &S, heap: &Heap, index: u32, offset: u32) -> u8
         requires kept { IsAmong heap.now (S.state store.now) self.now }
         requires inside { (index < entry_count self.now) × (offset < entry_size self.now) }
@@ -294,6 +296,7 @@ impl Thing {
     }
 
     /// Sets the byte of an entry of a pool; where the entry is absent nothing is done.
+    #[inline(always)]
     pub fn poke<S: ByteStore>(&self, store: &mut S, heap: &Heap, index: u32, offset: u32, value: u8)
         requires kept { IsAmong heap.now (S.state store.old) self.now }
         requires inside { (index < entry_count self.now) × (offset < entry_size self.now) }
