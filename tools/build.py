@@ -7,21 +7,42 @@ where the program was built; what the toolchain said of a crate is in crates/NAM
 import concurrent.futures
 import hashlib
 import os
+import re
 import sys
 import time
 
 from crates import PARTS, TOP, Crates
 
 MADE = "made-from"
+# Of so many crates that are left, each gets one job more.
+LAST = 10
+LINES_A_SECOND = 10
+
+
+def seconds(name):
+    """About how many processor seconds the proof of a crate takes: by the table of docs/GATE.md, or by its lines where that has none."""
+    row = re.search(rf"^\| `{name}` \|(?: [^|]* \|){{5}} ([\d,]+) \|", (TOP / "docs" / "GATE.md").read_text(encoding="utf-8"), re.MULTILINE)
+    if row:
+        return int(row[1].replace(",", ""))
+    return sum(path.read_bytes().count(b"\n") for path in (TOP / "crates" / name / "src").rglob("*.rt")) / LINES_A_SECOND
 
 
 def heights(names, crates):
-    """For each crate, how many lines the longest way from it up to the program has: what is to be built first."""
+    """For each crate, how many seconds the longest way from it up to the program takes: what is to be built first."""
     found = {}
     for name in reversed(names):
-        lines = sum(path.read_bytes().count(b"\n") for path in (TOP / "crates" / name / "src").rglob("*.rt"))
-        found[name] = lines + max((found[above] for above in found if name in crates.own(above)), default=0)
+        found[name] = seconds(name) + max((found[above] for above in found if name in crates.own(above)), default=0)
     return found
+
+
+def jobs_of(is_first, beside, left, processors):
+    """How many jobs a crate gets that is built beside others, when so many crates are left.
+
+    It gets its share of the processors. What has the longest way above it gets more, at the cost of more processor time; and so does each of the last crates,
+    which are too few to keep all processors busy with a job each.
+    """
+    fewest = 1 + (1 if is_first else 0) + (1 if left <= LAST else 0)
+    return min(max(processors // beside, fewest), processors)
 
 
 def origins(names, crates):
@@ -60,10 +81,9 @@ def main():
     with concurrent.futures.ThreadPoolExecutor(processors) as pool:
         while left or running:
             ready = [name for name in left if all(used in done for used in crates.own(name))][: processors - len(running)]
-            share = max(processors // (len(running) + len(ready) or 1), 1)
+            beside = [*running.values(), *ready]
             for name in ready:
-                # what has the longest way above it gets more than its share
-                jobs = max(share, 2) if height[name] == max(height[other] for other in [*running.values(), *ready]) else share
+                jobs = jobs_of(height[name] == max(height[other] for other in beside), len(beside), len(left), processors)
                 left.remove(name)
                 running[pool.submit(build, name, crates, origin[name], jobs)] = name
             finished, _ = concurrent.futures.wait(running, return_when=concurrent.futures.FIRST_COMPLETED)

@@ -11,4 +11,5 @@
 
 pub mod execute;
 
-pub use gq_command::{command, command_line, input, status, stored};
+pub use gq_command::{command, command_line, status};
+pub use gq_input::{input, stored};

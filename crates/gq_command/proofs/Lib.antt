@@ -1,4 +1,2 @@
 pub mod Asked
 pub mod Rows
-pub mod Stored_laws
-pub mod Rows_stored

@@ -4,7 +4,7 @@ use Rattle.std.specs.Prelude.{string_bytes}
 use Rattle.clap.specs.Words.{App, Row, Rule, Text, IsAmong, fault_of, first_of, new_app, new_rule, subcommand_of, with_rule, with_subcommand}
 use Rattle.clap.specs.Walk.{is_empty}
 use Rattle.clap.specs.Simple.{on_top}
-use Rattle.gq_model.specs.machine.Program.{text_eq}
+use Rattle.std.specs.Str.{bytes_eq}
 use Rattle.clap.specs.declared.error.kind.ErrorKind.TheVariants.{DisplayHelp}
 use Rattle.gq_command.specs.declared.command.Command.{Command}
 use Rattle.gq_command.specs.declared.command.Command.TheVariants.{Check, Run, Asm, Stored, Help}
@@ -59,9 +59,9 @@ with_both make first second = option_map (λ p. make p.0 p.1) (both_of first sec
 
 abbrev pub wanted_of : Text → List Row → Option Wanted
 wanted_of name rows =
-    if text_eq name (codes "check") then option_map Check_wanted (first_of (codes "SCENARIO") rows)
-    else if text_eq name (codes "run") then with_both Run_wanted (first_of (codes "SCENARIO") rows) (first_of (codes "TURNS") rows)
-    else if text_eq name (codes "asm") then with_both Asm_wanted (first_of (codes "SCENARIO") rows) (first_of (codes "LEAF") rows)
+    if bytes_eq name (codes "check") then option_map Check_wanted (first_of (codes "SCENARIO") rows)
+    else if bytes_eq name (codes "run") then with_both Run_wanted (first_of (codes "SCENARIO") rows) (first_of (codes "TURNS") rows)
+    else if bytes_eq name (codes "asm") then with_both Asm_wanted (first_of (codes "SCENARIO") rows) (first_of (codes "LEAF") rows)
     else None
 
 abbrev pub wanted_in : Option (Text × List Row) → Option Wanted

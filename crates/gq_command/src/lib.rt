@@ -1,5 +1,4 @@
-//! The command line of `trade`, apart from what its commands do: which command its words name, what it reads, and the status it ends
-//! with.
+//! The command line of `trade`, apart from what its commands do: which command its words name, and the status it ends with.
 //!
 //! ```rust
 //! use gq_command::command::Command;
@@ -12,6 +11,4 @@
 
 pub mod command;
 pub mod command_line;
-pub mod input;
 pub mod status;
-pub mod stored;

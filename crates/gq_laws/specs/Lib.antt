@@ -18,5 +18,11 @@ pub mod Replies
 pub mod Typing
 -- what stands in each world of a scenario that is accepted
 pub mod Stands
+-- which scenarios can be run, accepted or not
+pub mod Ready
+-- room for replies
+pub mod Room
+-- how work goes on, and ends
+pub mod Progress
 -- what only proofs and invariants speak of
 pub mod internal

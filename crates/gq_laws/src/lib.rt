@@ -9,6 +9,9 @@
 #![tactic(auto)]
 
 pub mod accepted;
+pub mod progress;
 pub mod reached;
+pub mod ready;
+pub mod room;
 pub mod statements;
 pub mod turns;

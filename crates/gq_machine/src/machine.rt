@@ -6,11 +6,11 @@ ghost use Rattle.gq_model.specs.machine.Scenario.{Component, components, system}
 ghost use Rattle.gq_model.specs.machine.Sums.{held};
 ghost use Rattle.gq_model.specs.machine.World.{first_phase, start};
 ghost use Rattle.gq_init.specs.NodeTables.{node_rows};
-ghost use Rattle.gq_ready.specs.Ready.{IsReady};
+ghost use Rattle.gq_laws.specs.Ready.{IsReady};
 ghost use Rattle.gq_flat.specs.Programs.{IsCodeOfProgram};
 ghost use Rattle.gq_plans.specs.Nodes.{caps_of};
 ghost use Rattle.gq_prepared.specs.Prepared.{AreServices};
-ghost use Rattle.gq_quotas.specs.Held.{held_by_all};
+ghost use Rattle.gq_plans.specs.Held.{held_by_all};
 ghost use Rattle.gq_steps.specs.Coded.{Coded};
 ghost use Rattle.gq_transitions.specs.internal.Holds.{IsPrepared};
 ghost use Rattle.gq_machine.specs.internal.Held.{held_before};
@@ -159,19 +159,6 @@ fn first_slots(alloc: Global, table: &NodeTable) -> Result<Slots, AllocError>
     Ok(slots)
 }
 
-// What changes, at the start of a scenario.
-fn first_state(alloc: Global, table: &NodeTable) -> Result<State, AllocError>
-    requires { IsReady table.now }
-    ensures slots { IfOk result (λ m. AreFirstSlots table.now m.slots) }
-    ensures leaves { IfOk result (λ m. AreFirst (components table.now) (length (components table.now)) m.leaves.items) }
-{
-    let leaves = first_leaves(alloc, table)?;
-    match first_slots(alloc, table) {
-        Ok(slots) => Ok(State { leaves, slots }),
-        Err(refused) => Err(refused),
-    }
-}
-
 // What is prepared at load of a scenario whose leaves start with this code: of each leaf, and of the services.
 fn prepare(
     alloc: Global,
@@ -198,13 +185,11 @@ fn parts(alloc: Global, table: &NodeTable) -> Result<(State, (Vec<Prepared>, Ser
     ensures prepared { IfOk result (λ p. ArePrepared table.now (length (components table.now)) p.0.leaves.items p.1.0.items) }
     ensures services { IfOk result (λ p. AreServices table.now p.1.1) }
 {
-    let state = first_state(alloc, table)?;
-    match prepare(alloc, table, state.leaves.as_slice()) {
-        Ok(prepared) => Ok((state, prepared)),
-        Err(refused) => {
-            drop(state);
-            Err(refused)
-        }
+    let leaves = first_leaves(alloc, table)?;
+    let prepared = prepare(alloc, table, leaves.as_slice())?;
+    match first_slots(alloc, table) {
+        Ok(slots) => Ok((State { leaves, slots }, prepared)),
+        Err(refused) => Err(refused),
     }
 }
 

@@ -10,4 +10,5 @@
 #![tactic(auto)]
 
 pub mod laws;
+pub mod linked;
 pub mod requests;

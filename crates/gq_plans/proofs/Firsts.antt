@@ -21,7 +21,7 @@ use Rattle.gq_laws.specs.Resolved.{IsResolved}
 use Rattle.gq_laws.proofs.paying.Places.{starts_after}
 use Rattle.gq_laws.proofs.paying.Quanta_kept.{start_fits}
 use Rattle.gq_laws.proofs.paying.Servers.{numbered_name}
-use Rattle.gq_ready.specs.Ready.{IsReady}
+use Rattle.gq_laws.specs.Ready.{IsReady}
 use Rattle.gq_scenario.specs.Sizes.{leaf_places}
 use Rattle.gq_init.specs.NodeTables.{NodeRow, init_node, node_rows, number_named}
 use Rattle.gq_donations.specs.Handing.{tail, spent}

@@ -8,7 +8,7 @@ use Rattle.gq_ram.specs.Ledgers.{Ledger, price_where}
 use Rattle.gq_model.specs.machine.Scenario.{Route, Nodes, End, Leaf_node, Init_node, Level, level, below, Scenario, Component, components_of, components}
 use Rattle.gq_laws.specs.Shapes.{Each}
 use Rattle.gq_laws.proofs.turning.Whole_worlds.{each_get}
-use Rattle.gq_ready.specs.Ready.{AreWithoutCaps, IsReady}
+use Rattle.gq_laws.specs.Ready.{AreWithoutCaps, IsReady}
 use Rattle.gq_scenario.specs.Sizes.{leaf_places}
 use Rattle.gq_trade.specs.declared.node.Node.{Node}
 use Rattle.gq_trade.specs.Balances.{node_at}

@@ -11,7 +11,7 @@ use Rattle.gq_model.specs.machine.Scenario.{LeafNode, Scenario, Component, compo
 use Rattle.gq_model.proofs.Small.{some_same, none_some, get_within, text_self}
 use Rattle.gq_laws.proofs.paying.Places.{starts_after}
 use Rattle.gq_laws.proofs.paying.Servers.{numbered_name}
-use Rattle.gq_ready.specs.Ready.{IsReady}
+use Rattle.gq_laws.specs.Ready.{IsReady}
 use Rattle.gq_scenario.specs.Sizes.{leaf_places}
 use Rattle.gq_init.specs.NodeTables.{NodeRow, LeafRow, node_rows, leaf_row, leaf_rows_of, leaf_rows, number_named}
 use Rattle.gq_init.proofs.Rows.{row_at, places-count}

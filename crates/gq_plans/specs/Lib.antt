@@ -1,3 +1,4 @@
 pub mod Nodes
 pub mod Plans
+pub mod Held
 pub mod internal

@@ -1,7 +1,7 @@
 // Laws of the nodes that accounts have at first.
 ghost use Rattle.std.specs.Prelude.{◌≡◌, ℕ, List, Some, slice_get, get_or};
 ghost use Rattle.gq_model.specs.machine.Scenario.{Scenario, Component, components};
-ghost use Rattle.gq_ready.specs.Ready.{IsReady};
+ghost use Rattle.gq_laws.specs.Ready.{IsReady};
 ghost use Rattle.gq_trade.specs.declared.node.Node.{Node};
 ghost use Rattle.gq_trade.specs.Balances.{node_at};
 ghost use Rattle.gq_trade.specs.Plans.{IsFirst};

@@ -10,7 +10,9 @@
 //! ```
 #![tactic(auto)]
 
+pub mod endings;
 pub mod laws;
 pub mod plans;
+pub mod quotas;
 
 pub use plans::plan_of;

@@ -4,7 +4,7 @@ ghost use Rattle.gq_model.specs.machine.Scenario.{components};
 ghost use Rattle.gq_scenario.specs.Sizes.{leaf_places};
 ghost use Rattle.gq_scenario.specs.Trees.{version_number};
 ghost use Rattle.gq_init.specs.NodeTables.{node_rows};
-ghost use Rattle.gq_ready.specs.Ready.{IsReady};
+ghost use Rattle.gq_laws.specs.Ready.{IsReady};
 ghost use Rattle.gq_trade.specs.Plans.{IsPlan};
 ghost use Rattle.gq_plans.specs.Nodes.{parents_of, objects_of, caps_of, given_in, or_zero};
 ghost use Rattle.gq_plans.specs.Plans.{IsPlanOf};

@@ -14,7 +14,7 @@ use Rattle.gq_model.proofs.Small.{none_some, some_same, text_is}
 use Rattle.gq_flat.specs.Programs.{IsCodeOfProgram, ProgramCode}
 use Rattle.gq_init.specs.NodeTables.{interface_number, leaf_row, leaf_rows, opened_server}
 use Rattle.gq_init.proofs.Rows.{row_at}
-use Rattle.gq_ready.specs.Ready.{IsReady}
+use Rattle.gq_laws.specs.Ready.{IsReady}
 use Rattle.gq_prepared.specs.Prepared.{AreOpenings, names_of}
 use Rattle.gq_prepared.specs.internal.Opened.{IsOpened, IsOpenedBy, IsServed}
 use Rattle.gq_prepared.specs.declared.openings.Opening.{Opening}

@@ -14,7 +14,7 @@ use Rattle.gq_scenario.proofs.Preorder.{components-leaves_in}
 use Rattle.gq_tables.proofs.Passed.{absent}
 use Rattle.gq_reader.proofs.Kept.{AreKept, fits_or_none, kept}
 use Rattle.gq_laws.specs.Shapes.{Each}
-use Rattle.gq_ready.specs.Ready.{AreWithoutCaps}
+use Rattle.gq_laws.specs.Ready.{AreWithoutCaps}
 use Rattle.gq_model.proofs.Small.{none_some, some_none, some_same, or_first_none}
 use Rattle.gq_sound.proofs.Programs.{each_append}
 use Rattle.gq_sound.proofs.Read_interfaces.{no_number}

@@ -14,7 +14,7 @@ use Rattle.gq_load.specs.Load.{Fault, Unread, sources_fault, refused, scenario_f
 use Rattle.gq_load.specs.Unverified.{unverified_fault, unverified_from, unverified}
 use Rattle.gq_laws.specs.Names.{NamesDiffer}
 use Rattle.gq_laws.proofs.verified.Sound_systems.{is_resolved}
-use Rattle.gq_ready.specs.Ready.{IsRead, IsReady}
+use Rattle.gq_laws.specs.Ready.{IsRead, IsReady}
 use Rattle.gq_model.proofs.Small.{or_first_none}
 use Rattle.gq_scenario.proofs.Differing.{names_differ}
 use Rattle.gq_sound.proofs.Read_interfaces.{services_plain, declared_in}

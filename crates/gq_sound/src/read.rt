@@ -5,7 +5,7 @@ ghost use Rattle.gq_scenario.specs.Reading.{scenario_in};
 ghost use Rattle.gq_load.specs.Load.{loaded};
 ghost use Rattle.gq_load.specs.Unverified.{unverified};
 ghost use Rattle.gq_laws.specs.Names.{NamesDiffer};
-ghost use Rattle.gq_ready.specs.Ready.{IsRead, IsReady};
+ghost use Rattle.gq_laws.specs.Ready.{IsRead, IsReady};
 
 /// What holds of every scenario that a text is read as (`scenario_in`), and of those that are loaded (`loaded`: read, and accepted). It does nothing.
 ///

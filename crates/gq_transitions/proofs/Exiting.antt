@@ -14,11 +14,11 @@ use Rattle.gq_model.proofs.Small.{equal_self, get_within, none_some, not_both, s
 use Rattle.gq_laws.specs.Links.{Fits}
 use Rattle.gq_laws.specs.Names.{NamesDiffer}
 use Rattle.gq_laws.proofs.paying.Servers.{numbered_name}
-use Rattle.gq_linked.specs.Linked.{ProvidesNothing}
-use Rattle.gq_ready.specs.Ready.{IsReady}
-use Rattle.gq_ready.proofs.Servers.{provided}
+use Rattle.gq_paid.specs.Linked.{ProvidesNothing}
+use Rattle.gq_laws.specs.Ready.{IsReady}
+use Rattle.gq_laws.proofs.ready.Servers.{provided}
 use Rattle.gq_init.specs.NodeTables.{number_named}
-use Rattle.gq_endings.proofs.Afters.{own_number}
+use Rattle.gq_plans.proofs.endings.Afters.{own_number}
 use Rattle.gq_flat.specs.Nexts.{Active}
 use Rattle.gq_flat.specs.Views.{state_of}
 use Rattle.gq_sessions.specs.Trading.{Trading, node_of}

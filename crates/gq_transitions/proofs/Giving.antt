@@ -9,7 +9,7 @@ use Rattle.gq_sessions.specs.Trading.{session_at}
 use Rattle.gq_sessions.proofs.Kept.{between_at}
 use Rattle.gq_paid.specs.Systems.{AreLawful}
 use Rattle.gq_asking.proofs.Kept.{its_session, session_found}
-use Rattle.gq_ready.specs.Ready.{IsUncounted}
+use Rattle.gq_laws.specs.Ready.{IsUncounted}
 use Rattle.gq_prepared.specs.Prepared.{caps_at, names_of}
 use Rattle.gq_transitions.specs.Worlds.{frame_of, world_of}
 use Rattle.gq_transitions.specs.declared.state.Fixed.{Fixed}

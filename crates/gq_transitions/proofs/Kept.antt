@@ -10,10 +10,10 @@ use Rattle.gq_flat.specs.Programs.{IsCodeOfProgram, ProgramCode}
 use Rattle.gq_laws.specs.Links.{IsLinkedWorld, stance, stance_in}
 use Rattle.gq_laws.proofs.linking.Linked_worlds.{kept_linked}
 use Rattle.gq_laws.proofs.linking.Worlds.{set_else, set_here}
-use Rattle.gq_progress.proofs.Phases.{HandsProvide, kept_ready}
-use Rattle.gq_ready.specs.Ready.{IsReady}
-use Rattle.gq_ready.proofs.Servers.{provided}
-use Rattle.gq_room.proofs.Worlds.{kept_roomy}
+use Rattle.gq_laws.proofs.progress.Phases.{HandsProvide, kept_ready}
+use Rattle.gq_laws.specs.Ready.{IsReady}
+use Rattle.gq_laws.proofs.ready.Servers.{provided}
+use Rattle.gq_laws.proofs.room.Worlds.{kept_roomy}
 use Rattle.gq_paid.specs.Systems.{AreLawful, IsOf, stage_in}
 use Rattle.gq_plans.specs.Nodes.{AreNodesOf}
 use Rattle.gq_prepared.specs.Prepared.{AreOpenings}

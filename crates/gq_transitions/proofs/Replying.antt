@@ -31,9 +31,9 @@ use Rattle.gq_statements.specs.Statements.{done, hand_seen}
 use Rattle.gq_leaves.proofs.Frames.{seen_leaf}
 use Rattle.gq_serving.specs.Serving.{GoesOn}
 use Rattle.gq_serving.specs.Serving as serving
-use Rattle.gq_linked.specs.Linked as linked
-use Rattle.gq_linked.proofs.Standing_sessions.{client_below, in_slot}
-use Rattle.gq_room.specs.Room.{calling}
+use Rattle.gq_paid.specs.Linked as linked
+use Rattle.gq_paid.proofs.linked.Standing_sessions.{client_below, in_slot}
+use Rattle.gq_laws.specs.Room.{calling}
 use Rattle.gq_steps.specs.Coded.{Coded, IsStanding, operation_of}
 use Rattle.gq_steps.specs.Ends.{resumed, resumed_phase, served}
 use Rattle.gq_steps.proofs.Ending.{end_is, ending}

@@ -20,7 +20,7 @@ use Rattle.gq_laws.specs.Links.{outline, outline_in}
 use Rattle.gq_program.specs.Interfaces.{are_interfaces}
 use Rattle.gq_prepared.specs.Prepared.{names_of}
 use Rattle.gq_prepared.proofs.Named.{entry_at, own_entry}
-use Rattle.gq_linked.proofs.Stored.{session_is}
+use Rattle.gq_paid.proofs.linked.Stored.{session_is}
 use Rattle.gq_numbered.specs.Numbers.{IsTaken}
 use Rattle.gq_requests.specs.declared.requests.Ask.TheVariants.{Upgrade}
 use Rattle.gq_requests.specs.declared.requests.Request.{Request}

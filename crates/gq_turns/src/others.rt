@@ -3,7 +3,7 @@ ghost use Rattle.std.specs.Prelude.{◌≡◌, ◌<◌, ◌≤◌, ℕ, List, []
 ghost use Rattle.gq_model.specs.machine.Scenario.{components};
 ghost use Rattle.gq_flat.specs.Cores.{is_shared};
 ghost use Rattle.gq_flat.specs.declared.operation.Operation.TheVariants as operation;
-ghost use Rattle.gq_ready.specs.Ready.{IsReady};
+ghost use Rattle.gq_laws.specs.Ready.{IsReady};
 ghost use Rattle.gq_statements.specs.Statements.{done};
 ghost use Rattle.gq_turns.specs.declared.event.Event.TheVariants as event;
 ghost use Rattle.gq_transitions.specs.internal.Holds.{CanStep, Goes, Holds, IsNext};

@@ -4,7 +4,7 @@ ghost use Rattle.std.specs.Io.KnownBytes.{Appends};
 ghost use Rattle.gq_model.specs.machine.Scenario.{components, system};
 ghost use Rattle.gq_model.specs.machine.World.{start};
 ghost use Rattle.gq_model.specs.texts.Turns.{turned};
-ghost use Rattle.gq_ready.specs.Ready.{IsReady};
+ghost use Rattle.gq_laws.specs.Ready.{IsReady};
 ghost use Rattle.gq_lines.specs.Counts.{written_to, failures_of};
 ghost use Rattle.gq_lines.specs.Writes.{IsFront, IsRaised};
 ghost use Rattle.gq_world.specs.internal.Going.{AreBelow};

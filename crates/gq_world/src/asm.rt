@@ -1,6 +1,8 @@
 // The code of a leaf's program.
-ghost use Rattle.std.specs.Prelude.{◌≡◌, ◌∷◌, ◌++◌, [], Ok, Err, IfOk, IfErr, OnOk, string_bytes};
-ghost use Rattle.gq_model.specs.texts.Code.{hex_of};
+ghost use Rattle.std.specs.Prelude.{◌≡◌, ◌∷◌, ◌++◌, [], Ok, Err, IfOk, IfErr, None, OnOk, string_bytes};
+ghost use Rattle.gq_model.specs.texts.Code.{code_of, hex_of};
+ghost use Rattle.gq_load.specs.Faults.{Gives};
+ghost use Rattle.gq_load.specs.Load.{source_fault};
 ghost use Rattle.gq_lines.specs.Counts.{written_to, failures_of};
 ghost use Rattle.gq_world.specs.Outcomes.{IsBefore, IsCutShort, IsFaultOf, IsWhole};
 ghost use Rattle.gq_world.specs.Whole.{asm_from, asm_written};
@@ -10,13 +12,13 @@ ghost use Rattle.gq_world.specs.declared.fault.RunFault.TheVariants as fault;
 use crate::fault::RunFault;
 use gq_code::program_code::encode;
 use gq_lines::counted::{Counted, put};
-use gq_load::fault::LoadFault;
+use gq_load::fault::{LoadError, LoadFault};
 use gq_load::named::leaf_named;
 use gq_load::programs::read_program;
 use gq_reader::reader::read_scenario;
 use gq_resolve::component::components;
 use gq_scenario::fault::ScenarioError;
-use gq_scenario::scenario::Scenario;
+use gq_scenario::scenario::{Leaf, Scenario};
 use std::alloc::{AllocError, Global};
 use std::io::Write;
 
@@ -29,6 +31,18 @@ fn hexadecimal_line(alloc: Global, bytes: &[u8]) -> Result<String, AllocError>
     Ok(line)
 }
 
+// The code of a leaf.
+fn leaf_code(alloc: Global, leaf: &Leaf) -> Result<Vec<u8>, LoadError>
+    ensures code { IfOk result (λ code. code.items ≡ code_of leaf.now.program) }
+    ensures faultless { IfOk result (λ code. source_fault leaf.now.name leaf.now.source ≡ None) }
+    ensures refused { IfErr result (λ e. Gives e (source_fault leaf.now.name leaf.now.source)) }
+{
+    let program = read_program(alloc, leaf)?;
+    let code = encode(alloc, &program);
+    drop(program);
+    Ok(code?)
+}
+
 // The line of the code of a leaf.
 fn leaf_line<'a>(alloc: Global, scenario: &Scenario, name: &'a str) -> Result<String, RunFault<'a>>
     ensures line { IfOk result (λ line. asm_from (Ok scenario.now) name.now ≡ Ok (string_bytes line)) }
@@ -36,11 +50,12 @@ fn leaf_line<'a>(alloc: Global, scenario: &Scenario, name: &'a str) -> Result<St
     ensures before { IfErr result (λ f. IsBefore f) }
 {
     let components = components(alloc, scenario)?;
-    let Some(leaf) = leaf_named(components.as_slice(), name.as_bytes()) else {
+    let named = leaf_named(components.as_slice(), name.as_bytes());
+    drop(components);
+    let Some(leaf) = named else {
         return Err(RunFault::NoComponent(name));
     };
-    let program = read_program(alloc, leaf)?;
-    let code = encode(alloc, &program)?;
+    let code = leaf_code(alloc, leaf)?;
     Ok(hexadecimal_line(alloc, code.as_slice())?)
 }
 
@@ -70,7 +85,9 @@ pub fn asm<'a, W: Write>(
         Err(ScenarioError::Memory(_)) => return Err(RunFault::Memory),
         Err(ScenarioError::Fault(fault)) => return Err(RunFault::Load(LoadFault::Scenario(fault))),
     };
-    let line = leaf_line(alloc, &scenario, name)?;
+    let line = leaf_line(alloc, &scenario, name);
+    drop(scenario);
+    let line = line?;
     match put(out, line.as_bytes()) {
         Ok(()) => Ok(()),
         Err(_) => Err(RunFault::Write),

@@ -9,12 +9,12 @@ use Rattle.gq_flat.specs.Nexts.{Active}
 use Rattle.gq_flat.specs.Programs.{IsCodeOfProgram}
 use Rattle.gq_flat.specs.declared.operation.Operation.{Operation}
 use Rattle.gq_laws.specs.Links.{IsLinkedWorld}
-use Rattle.gq_room.specs.Room.{IsRoomy}
-use Rattle.gq_progress.proofs.Phases.{AreReady}
+use Rattle.gq_laws.specs.Room.{IsRoomy}
+use Rattle.gq_laws.proofs.progress.Phases.{AreReady}
 use Rattle.gq_slots.specs.Slots.{IsPaidBy}
 use Rattle.gq_paid.specs.Systems.{IsOf}
 use Rattle.gq_serving.specs.Serving.{AreSections}
-use Rattle.gq_ready.specs.Ready.{IsReady}
+use Rattle.gq_laws.specs.Ready.{IsReady}
 use Rattle.gq_plans.specs.Nodes.{AreNodesOf}
 use Rattle.gq_prepared.specs.Prepared.{AreOpenings, AreServices}
 use Rattle.gq_steps.specs.Coded.{Coded, operation_of}

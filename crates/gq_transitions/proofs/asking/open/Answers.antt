@@ -1,10 +1,12 @@
 -- A session that is opened.
 use Rattle.std.proofs.Common.{◌≡◌, ◌<◌, ◌+◌, ◌^◌, ℕ, List, [], Option, Some, None, get_or, length, refl, sym, ap, subst, ◌∙◌, arith}
 use Rattle.std.specs.Prelude.{slice_get, slice_set}
+use Rattle.std.proofs.lemmas.Result.{on_err_weaker}
 use Rattle.gq_model.specs.declared.program.Instruction.TheVariants as instruction
 use Rattle.gq_model.specs.machine.Amounts.{amount}
 use Rattle.gq_model.specs.machine.Doing.{Quiet}
 use Rattle.gq_model.specs.machine.Scenario.{Component, Scenario, components, interface_in, open_caps, system}
+use Rattle.gq_model.proofs.Small.{set_there}
 use Rattle.gq_flat.specs.Nexts.{Active}
 use Rattle.gq_flat.specs.declared.operation.Operation.TheVariants.{Long}
 use Rattle.gq_prepared.specs.Prepared.{IsOpening, names_of}
@@ -200,3 +202,23 @@ returns-clause-holds c = on_ok c.open-done.result _ (λ e.
     (ap (λ (l : Coded). l.code) to) (ap (λ (l : Coded). stage_in l.state.phase) to ∙ active_stage old.state.phase active)
     (scene_asked m.slots c.open-done.new.slots c.open-done.ensures.stays)
     (returns-clause-step c ∙ ap (λ r. done r (world_of f.table (slice_set m.leaves.items x new) c.open-done.new.slots)) e))
+
+pub returns-clause-leaves : goal.returns-clause-leaves
+returns-clause-leaves c =
+    let can = c.requires.can in
+    let m = c.args.state.now in
+    let old = c.index_mut-leaf.result.now in
+    let there = item_there m.leaves.items c.args.number can.leaf old can.leaf_is c.index_mut-leaf.ensures.value in
+    on_err_weaker c.open-done.result (λ same. ap (slice_set m.leaves.items c.args.number) same ∙ set_there m.leaves.items c.args.number old there)
+    c.open-done.ensures.same
+
+pub returns-clause-slots : goal.returns-clause-slots
+returns-clause-slots c = c.open-done.ensures.unchanged
+
+pub returns-in_default-clause-leaves : goal.returns-in_default-clause-leaves
+returns-in_default-clause-leaves c =
+    let can = c.requires.can in
+    let m = c.args.state.now in
+    let old = c.index_mut-leaf.result.now in
+    let there = item_there m.leaves.items c.args.number can.leaf old can.leaf_is c.index_mut-leaf.ensures.value in
+    set_there m.leaves.items c.args.number old there

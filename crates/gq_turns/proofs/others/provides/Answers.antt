@@ -4,7 +4,7 @@ use Rattle.std.specs.Prelude.{IfSome, is_some, slice_get}
 use Rattle.gq_model.specs.machine.Scenario.{Component, Scenario, components}
 use Rattle.gq_init.specs.NodeTables.{LeafRow, interface_number, leaf_rows, number_named}
 use Rattle.gq_init.proofs.Rows.{row_at}
-use Rattle.gq_ready.specs.Ready.{IsReady}
+use Rattle.gq_laws.specs.Ready.{IsReady}
 use Rattle.gq_turns.proofs.Provided.{named_some}
 use Rattle.gq_turns.proofs.others.provides.Goals as goal
 

@@ -1,0 +1,2 @@
+pub mod Stored_laws
+pub mod Rows_stored

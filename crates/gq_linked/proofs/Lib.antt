@@ -1,6 +1,0 @@
-pub mod Stored
-pub mod Standing_sessions
-pub mod Waiting_requests
-pub mod Ended_leaves
-pub mod Sums_below
-pub mod Few_sessions

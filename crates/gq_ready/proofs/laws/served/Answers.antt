@@ -1,6 +1,0 @@
--- Laws of services that are routed to a leaf.
-use Rattle.gq_ready.proofs.Servers.{found, provided, declared}
-use Rattle.gq_ready.proofs.laws.served.Goals as goal
-
-pub returns : goal.returns
-returns c = record { leaf = provided; interface = declared; there = found }
