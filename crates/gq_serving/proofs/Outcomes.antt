@@ -7,7 +7,7 @@ use Rattle.gq_model.specs.declared.fault.Wrong.{Wrong}
 use Rattle.gq_model.specs.declared.fault.Wrong.TheVariants.{ExceededQuota, MissingSection}
 use Rattle.gq_model.specs.machine.Program.{section_in}
 use Rattle.gq_model.specs.machine.World as world
-use Rattle.gq_model.specs.machine.Doing.{Doing, Quiet}
+use Rattle.gq_model.specs.machine.Doing.{Doing}
 use Rattle.gq_model.specs.machine.Step.{accept_oldest, oldest}
 use Rattle.gq_model.proofs.Small.{some_same, none_some}
 use Rattle.gq_store.specs.declared.GrowFault.{GrowFault}

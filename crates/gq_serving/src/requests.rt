@@ -25,17 +25,17 @@ use gq_tariff::round_up;
 /// What a leaf that serves knows of its program and its service: which sections it has, each at its place in `Section::ALL`; how many bytes the object
 /// of a session has; and whether capabilities are counted.
 #[derive(Clone, Copy)]
-pub struct Provider {
-    pub sections: [bool; 13],
+pub struct Provider<'a> {
+    pub sections: &'a [bool; 13],
     pub object: u32,
     pub counts_caps: bool,
 }
 
-impl Provider {
+impl<'a> Provider<'a> {
     // Whether the program has a section.
     fn has(&self, section: Section) -> bool
         requires { IsSection section }
-        ensures { result ≡ get_or self.now.sections (place section) false }
+        ensures { result ≡ get_or self.now.sections.now (place section) false }
     {
         self.sections[place(section)]
     }
@@ -132,7 +132,7 @@ pub fn accept(
     requires size { provider.now.object ≤ 67108864 }
     requires counted { provider.now.counts_caps ≡ not (nat_eq slots.old.trades.trading.memory.ledger.price 0) }
     ensures step { (e : Frame) (f : world.Request → Frame) (d : Doing) → d.x ≡ server → d.world ≡ world_seen e slots.old
-        → AreSections provider.now.sections d.component → Begins d f slots.old
+        → AreSections provider.now.sections.now d.component → Begins d f slots.old
         → step.accept_oldest d (step.oldest d.world d.x d.world.requests) ≡ taken d f slots.new (found request result) }
     ensures takes { OnOk result (TakesOldest slots.old slots.new server request) }
     ensures unchanged { OnErr result (slots.new ≡ slots.old) }

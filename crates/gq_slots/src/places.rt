@@ -46,6 +46,10 @@ pub(crate) fn replace(trades: &mut Trades, own: &mut Vec<[Thing; 64]>, spot: Spo
     ensures trades { trades.new ≡ with_trading trades.old (put_trading trades.old.trading spot contents) }
     ensures own { own.new.items ≡ put_own own.old.items spot contents }
 {
+    if let Spot::InLeaf(leaf, slot) = spot {
+        own[leaf][usize::from(slot)] = contents;
+        return;
+    }
     clear(trades, own, spot);
     fill(trades, own, spot, contents);
 }

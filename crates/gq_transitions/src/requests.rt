@@ -46,11 +46,11 @@ fn counts_caps(fixed: &Fixed, state: &State) -> bool
 }
 
 // What a leaf knows of its program and of the service of the session of a request.
-fn provider(fixed: &Fixed, state: &State, number: usize, session: usize) -> Provider
+fn provider<'a>(fixed: &'a Fixed, state: &State, number: usize, session: usize) -> Provider<'a>
     requires holds { Holds fixed.now state.now }
     requires number { number < length (components fixed.now.table) }
     requires session { IsTaken state.now.slots.trades.trading.sessions session }
-    ensures sections { IfSome (slice_get (components fixed.now.table) number) (λ c. AreSections result.sections c) }
+    ensures sections { IfSome (slice_get (components fixed.now.table) number) (λ c. AreSections result.sections.now c) }
     ensures object { object_size state.now.slots.trades.trading session ≡ result.object }
     ensures size { result.object ≤ 67108864 }
     ensures counted { result.counts_caps ≡ not (nat_eq state.now.slots.trades.trading.memory.ledger.price 0) }
@@ -58,7 +58,7 @@ fn provider(fixed: &Fixed, state: &State, number: usize, session: usize) -> Prov
     lawful(&state.slots);
     let service = state.slots.trades().session(session).service;
     Provider {
-        sections: fixed.prepared[number].sections,
+        sections: &fixed.prepared[number].sections,
         object: fixed.services.object(service),
         counts_caps: counts_caps(fixed, state),
     }

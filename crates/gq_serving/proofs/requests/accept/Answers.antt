@@ -19,7 +19,7 @@ returns-then-not-has-clause-step c e f d is same sections begins =
     let r = c.args.request in
     let first = c.requires.oldest in
     let level = c.level-level.ensures ∙ ap (λ (w : Trades). (session_at w.trading r.session).level) c.trades-3.ensures in
-    let has = has_is d c.args.provider.now.sections s r c.section_of-section.result c.level-level.result c.has.result sections
+    let has = has_is d c.args.provider.now.sections.now s r c.section_of-section.result c.level-level.result c.has.result sections
     c.section_of-section.ensures.section c.section_of-section.ensures.is level c.has.ensures ∙ c.if-not-has.true in
     without d e s x is same l c.laws.ensures.sound r first.rest first.is c.requires.there f begins c.args.provider.now.object c.wrong_without.result has
     c.requires.its c.requires.object c.wrong_without.ensures
@@ -57,7 +57,7 @@ returns-in-Ok-clause-step c e f d is same sections begins =
     let r = c.args.request in
     let first = c.requires.oldest in
     let level = c.level-level.ensures ∙ ap (λ (w : Trades). (session_at w.trading r.session).level) c.trades-3.ensures in
-    let has = has_is d c.args.provider.now.sections s r c.section_of-section.result c.level-level.result c.has.result sections
+    let has = has_is d c.args.provider.now.sections.now s r c.section_of-section.result c.level-level.result c.has.result sections
     c.section_of-section.ensures.section c.section_of-section.ensures.is level c.has.ensures ∙ c.if-not-has.false in
     let t = c.accept.new.self in
     let m = lawful t c.trades-in-Ok.result.now c.trades-in-Ok-2.result.now c.memory-in-Ok.result.now c.accounts-in-Ok.result.now c.laws-in-Ok.ensures.trades

@@ -1,21 +1,14 @@
 -- A request that is taken.
-use Rattle.std.proofs.Common.{◌≡◌, ◌<◌, ◌+◌, ◌^◌, ℕ, List, Option, refl, sym, ap, subst, None, Some, Ok, Err, ◌∙◌}
-use Rattle.std.specs.Prelude.{IfSome, slice_get}
+use Rattle.std.proofs.Common.{◌≡◌, ◌<◌, ◌+◌, ◌^◌, ℕ, refl, sym, ap, subst, Some, Ok, Err, ◌∙◌}
+use Rattle.std.specs.Prelude.{slice_get}
 use Rattle.std.proofs.lemmas.Option.{slice_get_within}
 use Rattle.gq_model.specs.declared.phase.Phase.TheVariants as phase
-use Rattle.gq_model.specs.machine.Doing.{Idle, Quiet}
+use Rattle.gq_model.specs.machine.Doing.{Quiet}
 use Rattle.gq_model.specs.machine.Scenario.{components}
 use Rattle.gq_model.proofs.Small.{some_same}
-use Rattle.gq_requests.specs.declared.requests.Ask.TheVariants as asks
-use Rattle.gq_requests.specs.declared.requests.Request.{Request}
-use Rattle.gq_sessions.specs.Trading.{object_size, session_at}
-use Rattle.gq_slots.specs.Calls.{TakesOldest}
-use Rattle.gq_slots.specs.Slots.{Slots}
 use Rattle.gq_paid.specs.Systems.{stage_in}
 use Rattle.gq_serving.specs.Serving.{found}
 use Rattle.gq_steps.specs.Coded.{Coded}
-use Rattle.gq_transitions.specs.Worlds.{world_of}
-use Rattle.gq_transitions.specs.internal.Holds.{Holds}
 use Rattle.gq_transitions.proofs.Kept.{kept_one}
 use Rattle.gq_transitions.proofs.Scenes.{scene_taken}
 use Rattle.gq_transitions.proofs.Standing.{item_there, live, of_leaf}
@@ -28,7 +21,7 @@ returns-in-Err-clause-wrong c =
     let m = c.args.state.now in
     let x = c.args.number in
     let serves = of_leaf (λ l. l.state.phase ≡ phase.Serving) (slice_get m.leaves.items x) can.leaf can.leaf_is c.requires.serves in
-    led c.args.fixed.now m can.holds c.lawful.ensures x can.component can.leaf can.component_is can.leaf_is serves c.provider-provider.result.sections
+    led c.args.fixed.now m can.holds c.lawful.ensures x can.component can.leaf can.component_is can.leaf_is serves c.provider-provider.result.sections.now
     c.accept.new.slots (found c.args.request c.accept.result) (Err c.in-Err.wrong) c.scenario_laws.ensures.interfaces c.provider-provider.ensures.sections c.accept.ensures.step
     (ap (found c.args.request) c.in-Err.is)
 
@@ -45,7 +38,7 @@ returns-in-Ok-clause-step c =
     let serves = of_leaf (λ l. l.state.phase ≡ phase.Serving) (slice_get m.leaves.items x) old there c.requires.serves in
     goes f m can.holds c.lawful.ensures x can.component old can.component_is there serves t r r c.args.level c.begin.new.leaf c.in-Ok.ensures.takes
     c.requires.oldest c.requires.level c.begin.ensures
-    (led f m can.holds c.lawful.ensures x can.component old can.component_is there serves c.provider-provider.result.sections t
+    (led f m can.holds c.lawful.ensures x can.component old can.component_is there serves c.provider-provider.result.sections.now t
     (found r c.accept.result) (Ok (Some r)) c.scenario_laws.ensures.interfaces c.provider-provider.ensures.sections c.accept.ensures.step
     (ap (found r) c.in-Ok.is))
 
