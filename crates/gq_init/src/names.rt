@@ -106,8 +106,8 @@ impl NameIndex {
         self.leaves = [NO_LEAF; PLACES];
     }
 
-    // The place of what stands before the first space of a text, a name, of which eight bytes are looked at at once; and how many bytes stand there. So many are
-    // known from the text alone, and the next line is looked for before the name's own length is there.
+    // The place of what stands before the first space of a text, a name, of which eight bytes are looked at at once; and how many bytes stand there. So many
+    // are known from the text alone, and the next line is looked for before the name's own length is there.
     #[inline(always)]
     fn place(&self, text: &[u8]) -> (usize, usize)
         requires { AHEAD ≤ length text.now }

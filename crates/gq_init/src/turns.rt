@@ -228,11 +228,7 @@ fn most_turns(text: &[u8]) -> usize {
 }
 
 // The turns of the lines of a text.
-fn read_lines(
-    alloc: Global,
-    text: &[u8],
-    table: &NodeTable,
-) -> Result<Vec<TurnItem>, TurnsError>
+fn read_lines(alloc: Global, text: &[u8], table: &NodeTable) -> Result<Vec<TurnItem>, TurnsError>
     requires { length text.now ≤ 2 ^ 24 }
     ensures { IsTurned result (turns_from (components table.now) 1 0 (lines text.now)) }
 {

@@ -22,8 +22,8 @@ returns-in-Err-clause-wrong c =
     let x = c.args.number in
     let serves = of_leaf (λ l. l.state.phase ≡ phase.Serving) (slice_get m.leaves.items x) can.leaf can.leaf_is c.requires.serves in
     led c.args.fixed.now m can.holds c.lawful.ensures x can.component can.leaf can.component_is can.leaf_is serves c.provider-provider.result.sections.now
-    c.accept.new.slots (found c.args.request c.accept.result) (Err c.in-Err.wrong) c.scenario_laws.ensures.interfaces c.provider-provider.ensures.sections c.accept.ensures.step
-    (ap (found c.args.request) c.in-Err.is)
+    c.accept.new.slots (found c.args.request c.accept.result) (Err c.in-Err.wrong) c.scenario_laws.ensures.interfaces c.provider-provider.ensures.sections
+    c.accept.ensures.step (ap (found c.args.request) c.in-Err.is)
 
 pub returns-in-Ok-clause-step : goal.returns-in-Ok-clause-step
 returns-in-Ok-clause-step c =
@@ -94,4 +94,3 @@ scenario_laws-requires c = slice_get_within (components c.args.fixed.now.table) 
 
 pub returns-in-Err-clause-slots : goal.returns-in-Err-clause-slots
 returns-in-Err-clause-slots c = c.in-Err.ensures.unchanged
-

@@ -25,7 +25,8 @@ returns-then-is_ahead-clause-ahead c =
     let single = ap (λ (t : Scenario). name_twice (codes "init" ∷ []) (names_of t.nodes)) (sym c.self.view_is) ∙ c.laws.ensures.single in
     record {
       name = name;
-      is = c.is_ahead.ensures c.if-is_ahead.true ∙ ap (λ n. name ++ drop n text) c.if-name-end.false ∙ (ap (λ t. name ++ t) (drop_more text k 0 (omega (arith, c.if-text-end.false)))
+      is = c.is_ahead.ensures c.if-is_ahead.true ∙ ap (λ n. name ++ drop n text) c.if-name-end.false
+          ∙ (ap (λ t. name ++ t) (drop_more text k 0 (omega (arith, c.if-text-end.false)))
           ∙ (ap (λ b. name ++ (b ∷ drop (k + 1) text)) c.if-text-end-ne32.false ∙ ap (λ t. name ++ (32 ∷ t)) (sym (take_rest text (k + 1)))));
       named = ap is_name c.as_bytes-name.ensures.bytes ∙ c.as_bytes-name.ensures.name;
       number = numbered_there s name c.new-leaf.result at.component single at.there (same_name name at.component.node.name own);
