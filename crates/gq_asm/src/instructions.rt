@@ -1,15 +1,18 @@
 // Statements by the shape of their operands. Each function takes what follows the statement's word on its line. Those that are inlined don't
-// pass a whole statement, with room for a text, to their caller.
+// pass a whole statement to their caller.
 ghost use Rattle.std.specs.Prelude.{◌≡◌};
 ghost use Rattle.gq_model.specs.texts.Letters.{words};
 ghost use Rattle.gq_model.specs.texts.Spelling.{instruction_in};
 ghost use Rattle.gq_program.specs.Spelling.{shape_of};
+ghost use Rattle.gq_asm.specs.internal.State.{Gives};
 
+use crate::faults::LineError;
 use crate::operands::{at_end, next_name, next_number, next_slot, next_slot_or_object};
 use crate::says::said_in;
 use gq_model::fault::TextFault;
 use gq_model::program::Instruction;
 use gq_program::spelling::{Bare, Shape, WithAmount, WithBytes, WithNumber, WithSlot};
+use std::alloc::Global;
 
 /// Without operands.
 #[inline(always)]
@@ -83,28 +86,28 @@ fn open(after: &[u8]) -> Result<Instruction, TextFault>
     Ok(Instruction::Open(place, service, donation))
 }
 
-/// `say`: a text between quotation marks.
-fn say(after: &[u8]) -> Result<Instruction, TextFault>
-    ensures { result ≡ instruction_in after.now (shape_of Shape.Say) (words after.now) }
+/// `say`: a text between quotation marks, which takes host memory.
+fn say(alloc: Global, after: &[u8]) -> Result<Instruction, LineError>
+    ensures { Gives (λ i. i) result (instruction_in after.now (shape_of Shape.Say) (words after.now)) }
 {
-    match said_in(after) {
+    match said_in(alloc, after)? {
         Some(text) => Ok(Instruction::Say(text)),
-        None => Err(TextFault::BadText),
+        None => Err(LineError::Fault(TextFault::BadText)),
     }
 }
 
-/// A statement, or the first fault from left to right.
-pub fn instruction(shape: Shape, after: &[u8]) -> Result<Instruction, TextFault>
-    ensures { result ≡ instruction_in after.now (shape_of shape) (words after.now) }
+/// A statement, or the first fault from left to right. A text to say takes host memory, too.
+pub fn instruction(alloc: Global, shape: Shape, after: &[u8]) -> Result<Instruction, LineError>
+    ensures { Gives (λ i. i) result (instruction_in after.now (shape_of shape) (words after.now)) }
 {
     match shape {
-        Shape::Say => say(after),
-        Shape::Plain(statement) => plain(statement, after),
-        Shape::Number(statement) => with_number(statement, after),
-        Shape::Slot(statement) => with_slot(statement, after),
-        Shape::Bytes(statement) => with_bytes(statement, after),
-        Shape::Amount(statement) => with_amount(statement, after),
-        Shape::Pool => pool(after),
-        Shape::Open => open(after),
+        Shape::Say => say(alloc, after),
+        Shape::Plain(statement) => Ok(plain(statement, after)?),
+        Shape::Number(statement) => Ok(with_number(statement, after)?),
+        Shape::Slot(statement) => Ok(with_slot(statement, after)?),
+        Shape::Bytes(statement) => Ok(with_bytes(statement, after)?),
+        Shape::Amount(statement) => Ok(with_amount(statement, after)?),
+        Shape::Pool => Ok(pool(after)?),
+        Shape::Open => Ok(open(after)?),
     }
 }

@@ -50,17 +50,18 @@ impl Reading {
         self.add(Statement::Plain(instruction))
     }
 
-    /// Reads the operands of a statement, and puts it at the end of the innermost block. It stands alone, so that only a text pays for its
-    /// room.
+    /// Reads the operands of a statement, and puts it at the end of the innermost block. It stands alone, since few statements have a text, a
+    /// name or three operands.
     #[inline(never)]
-    fn put_long(&mut self, shape: Shape, after: &[u8]) -> Result<(), LineError>
+    fn put_long(&mut self, alloc: Global, shape: Shape, after: &[u8]) -> Result<(), LineError>
         ensures { Gives (λ _. reading_of self.new) result (put (reading_of self.old) (instruction_in after.now (shape_of shape) (words after.now))) }
     {
-        self.put(instruction(shape, after))
+        let instruction = instruction(alloc, shape, after)?;
+        self.add(Statement::Plain(instruction))
     }
 
     /// The same, with a way of its own for each shape without a text.
-    fn put_shape(&mut self, shape: Shape, after: &[u8]) -> Result<(), LineError>
+    fn put_shape(&mut self, alloc: Global, shape: Shape, after: &[u8]) -> Result<(), LineError>
         ensures { Gives (λ _. reading_of self.new) result (put (reading_of self.old) (instruction_in after.now (shape_of shape) (words after.now))) }
     {
         match shape {
@@ -69,12 +70,12 @@ impl Reading {
             Shape::Slot(statement) => self.put(with_slot(statement, after)),
             Shape::Bytes(statement) => self.put(with_bytes(statement, after)),
             Shape::Amount(statement) => self.put(with_amount(statement, after)),
-            Shape::Say | Shape::Pool | Shape::Open => self.put_long(shape, after),
+            Shape::Say | Shape::Pool | Shape::Open => self.put_long(alloc, shape, after),
         }
     }
 
     /// A statement of the table.
-    fn tabled(&mut self, word: &[u8], after: &[u8]) -> Result<(), LineError>
+    fn tabled(&mut self, alloc: Global, word: &[u8], after: &[u8]) -> Result<(), LineError>
         ensures { Gives (λ _. reading_of self.new) result
             (found (shape_of_word word.now spellings) UnknownWord
             (λ shape. counted (reading_of self.old) (λ s. put s (instruction_in after.now shape (words after.now))))) }
@@ -83,7 +84,7 @@ impl Reading {
             return Err(LineError::Fault(TextFault::UnknownWord));
         };
         self.count_statement()?;
-        self.put_shape(shape, after)
+        self.put_shape(alloc, shape, after)
     }
 
     /// A line in a section: its first word, and what follows that.
@@ -108,6 +109,6 @@ impl Reading {
         if same_text(word, b"loop") {
             return self.open_loop(alloc, line, after);
         }
-        self.tabled(word, after)
+        self.tabled(alloc, word, after)
     }
 }

@@ -117,17 +117,27 @@ fn push(body: &mut Body, instruction: Instruction) -> Result<(), AllocError>
 /// Puts a statement with no statement in it at the end, whose operands stand in front, and gives what follows them. It stands alone, so that
 /// only a text pays for its room.
 #[inline(never)]
-fn push_long<'a>(body: &mut Body, shape: Shape, bytes: &'a [u8]) -> Result<&'a [u8], DecodeError>
+fn push_long<'a>(
+    alloc: Global,
+    body: &mut Body,
+    shape: Shape,
+    bytes: &'a [u8],
+) -> Result<&'a [u8], DecodeError>
     ensures read { Reads (λ rest. (body.new, rest.now)) result (put_at body.old (operands_at (shape_of shape) bytes.now)) }
     ensures rest { IfOk result (λ rest. length rest.now ≤ length bytes.now) }
 {
-    let (instruction, rest) = operands(shape, bytes)?;
+    let (instruction, rest) = operands(alloc, shape, bytes)?;
     push(body, instruction)?;
     Ok(rest)
 }
 
 /// The same, with a way of its own for each shape without a text.
-fn push_plain<'a>(body: &mut Body, shape: Shape, bytes: &'a [u8]) -> Result<&'a [u8], DecodeError>
+fn push_plain<'a>(
+    alloc: Global,
+    body: &mut Body,
+    shape: Shape,
+    bytes: &'a [u8],
+) -> Result<&'a [u8], DecodeError>
     ensures read { Reads (λ rest. (body.new, rest.now)) result (put_at body.old (operands_at (shape_of shape) bytes.now)) }
     ensures rest { IfOk result (λ rest. length rest.now ≤ length bytes.now) }
 {
@@ -156,12 +166,13 @@ fn push_plain<'a>(body: &mut Body, shape: Shape, bytes: &'a [u8]) -> Result<&'a 
             push(body, instruction)?;
             Ok(rest)
         }
-        Shape::Say | Shape::Pool | Shape::Open => push_long(body, shape, bytes),
+        Shape::Say | Shape::Pool | Shape::Open => push_long(alloc, body, shape, bytes),
     }
 }
 
 /// Puts a statement of this number with no statement in it at the end, and gives how many there are with it, and what follows it.
 fn push_coded<'a>(
+    alloc: Global,
     body: &mut Body,
     op: u8,
     bytes: &'a [u8],
@@ -174,7 +185,7 @@ fn push_coded<'a>(
         return Err(DecodeError::Fault(CodeFault::UnknownOpcode));
     };
     let count = one_more(before)?;
-    let rest = push_plain(body, shape, bytes)?;
+    let rest = push_plain(alloc, body, shape, bytes)?;
     Ok((count, rest))
 }
 
@@ -239,7 +250,7 @@ fn push_statement<'a>(
             made.push(statement)?;
             Ok((count, rest))
         }
-        _ => push_coded(made, op, bytes, before),
+        _ => push_coded(alloc, made, op, bytes, before),
     }
 }
 

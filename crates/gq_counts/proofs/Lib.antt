@@ -1,4 +1,3 @@
 pub mod Adding
-pub mod Counts
 pub mod Quiets
 pub mod Rights
