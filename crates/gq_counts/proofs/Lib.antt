@@ -1,3 +1,4 @@
 pub mod Adding
+pub mod Counts
 pub mod Quiets
 pub mod Rights
