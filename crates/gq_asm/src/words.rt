@@ -11,14 +11,6 @@ pub fn is_blank(byte: u8) -> bool
     byte == b' ' || byte == b'\t'
 }
 
-/// The same, by one comparison for what is no blank.
-#[inline(always)]
-fn ends_word(byte: u8) -> bool
-    ensures { result ≡ is_blank byte }
-{
-    byte <= b' ' && is_blank(byte)
-}
-
 /// Whether these bytes are blanks.
 pub fn is_all_blank(text: &[u8]) -> bool
     ensures { result ≡ all_of is_blank text.now }
@@ -36,7 +28,7 @@ pub fn unindented(text: &[u8]) -> &[u8]
     ensures { result.now ≡ unindented text.now }
 {
     for (i, byte) in text.iter().enumerate() {
-        if !ends_word(*byte) {
+        if !is_blank(*byte) {
             return &text[i..];
         }
     }
@@ -49,7 +41,7 @@ fn split_word(text: &[u8]) -> (&[u8], &[u8])
     ensures rest { result.1.now ≡ past_word text.now }
 {
     for (i, byte) in text.iter().enumerate() {
-        if ends_word(*byte) {
+        if is_blank(*byte) {
             return text.split_at(i);
         }
     }
