@@ -61,6 +61,7 @@ impl Reading {
     }
 
     /// The same, with a way of its own for each shape without a text.
+    #[inline(always)]
     fn put_shape(&mut self, alloc: Global, shape: Shape, after: &[u8]) -> Result<(), LineError>
         ensures { Gives (λ _. reading_of self.new) result (put (reading_of self.old) (instruction_in after.now (shape_of shape) (words after.now))) }
     {
@@ -74,17 +75,20 @@ impl Reading {
         }
     }
 
-    /// A statement of the table.
+    /// A statement of the table. It is counted before its word is looked for, so that each word leads to its shape at once.
     fn tabled(&mut self, alloc: Global, word: &[u8], after: &[u8]) -> Result<(), LineError>
         ensures { Gives (λ _. reading_of self.new) result
             (found (shape_of_word word.now spellings) UnknownWord
             (λ shape. counted (reading_of self.old) (λ s. put s (instruction_in after.now shape (words after.now))))) }
     {
-        let Some(shape) = shape_with(word) else {
-            return Err(LineError::Fault(TextFault::UnknownWord));
-        };
-        self.count_statement()?;
-        self.put_shape(alloc, shape, after)
+        let counted = self.count_statement();
+        match shape_with(word) {
+            Some(shape) => {
+                counted?;
+                self.put_shape(alloc, shape, after)
+            }
+            None => Err(LineError::Fault(TextFault::UnknownWord)),
+        }
     }
 
     /// A line in a section: its first word, and what follows that.

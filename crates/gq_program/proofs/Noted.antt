@@ -1,5 +1,5 @@
 -- What is noted of one statement more.
-use Rattle.std.proofs.Common.{◌≡◌, ℕ, zero, suc, arith, ◌+◌, ◌*◌, ◌-◌, ◌^◌, min, max, Bool, true, false, ◌&&◌, List, [], ◌∷◌, ◌++◌, length, refl, ap, sym, ◌∙◌}
+use Rattle.std.proofs.Common.{◌≡◌, ℕ, zero, suc, arith, ◌+◌, ◌*◌, ◌-◌, ◌^◌, min, Bool, true, false, ◌&&◌, List, [], ◌∷◌, ◌++◌, length, refl, ap, sym, ◌∙◌}
 use Rattle.std.specs.Prelude.{Result, Ok, Err, OnOk}
 use Rattle.gq_model.specs.rules.Budgets.{cost}
 use Rattle.gq_program.specs.Trees.{tree_of}
@@ -52,8 +52,8 @@ pub rounds : (m n c kept round product : ℕ) → kept ≡ min c m → round ≡
 rounds m n c kept round product a b p =
     let r : round ≡ min (c + 1) m = omega (arith, a, b) in
     p ∙ (ap (λ r. min (r * n) m) r ∙ (times m n (c + 1) ∙ ap (λ k. min k m) (turned c n))) where
-  turned : (c n : ℕ) → (c + 1) * n ≡ n * (1 + c)
-  turned c n = omega arith
+      turned : (c n : ℕ) → (c + 1) * n ≡ n * (1 + c)
+      turned c n = omega arith
 
 and_true : (b : Bool) → b ≡ (b && true)
 and_true true = refl
