@@ -65,7 +65,7 @@ pub fn with_amount(statement: WithAmount, after: &[u8]) -> Result<Instruction, T
 }
 
 /// `pool`: a slot, how many entries, and the bytes of each.
-fn pool(after: &[u8]) -> Result<Instruction, TextFault>
+pub fn pool(after: &[u8]) -> Result<Instruction, TextFault>
     ensures { result ≡ instruction_in after.now (shape_of Shape.Pool) (words after.now) }
 {
     let (place, rest) = next_slot(after)?;
@@ -76,7 +76,7 @@ fn pool(after: &[u8]) -> Result<Instruction, TextFault>
 }
 
 /// `open`: a slot, the name of a service, and the donation.
-fn open(after: &[u8]) -> Result<Instruction, TextFault>
+pub fn open(after: &[u8]) -> Result<Instruction, TextFault>
     ensures { result ≡ instruction_in after.now (shape_of Shape.Open) (words after.now) }
 {
     let (place, rest) = next_slot(after)?;
@@ -87,27 +87,11 @@ fn open(after: &[u8]) -> Result<Instruction, TextFault>
 }
 
 /// `say`: a text between quotation marks, which takes host memory.
-fn say(alloc: Global, after: &[u8]) -> Result<Instruction, LineError>
+pub fn say(alloc: Global, after: &[u8]) -> Result<Instruction, LineError>
     ensures { Gives (λ i. i) result (instruction_in after.now (shape_of Shape.Say) (words after.now)) }
 {
     match said_in(alloc, after)? {
         Some(text) => Ok(Instruction::Say(text)),
         None => Err(LineError::Fault(TextFault::BadText)),
-    }
-}
-
-/// A statement, or the first fault from left to right. A text to say takes host memory, too.
-pub fn instruction(alloc: Global, shape: Shape, after: &[u8]) -> Result<Instruction, LineError>
-    ensures { Gives (λ i. i) result (instruction_in after.now (shape_of shape) (words after.now)) }
-{
-    match shape {
-        Shape::Say => say(alloc, after),
-        Shape::Plain(statement) => Ok(plain(statement, after)?),
-        Shape::Number(statement) => Ok(with_number(statement, after)?),
-        Shape::Slot(statement) => Ok(with_slot(statement, after)?),
-        Shape::Bytes(statement) => Ok(with_bytes(statement, after)?),
-        Shape::Amount(statement) => Ok(with_amount(statement, after)?),
-        Shape::Pool => Ok(pool(after)?),
-        Shape::Open => Ok(open(after)?),
     }
 }
