@@ -19,21 +19,27 @@ further_append (Plain i ∷ rest) s = further_append rest s
 further_append (If arm other ∷ rest) s = omega (arith, further_append rest s)
 further_append (Loop n body ∷ rest) s = omega (arith, further_append rest s)
 
-pub quiet_append : (items : List Statement) (s : Statement) → is_quiet (tree_of (items ++ s ∷ [])) ≡ (is_quiet (tree_of items) && is_quiet (tree_of (s ∷ [])))
+pub quiet_append : (items : List Statement) (s : Statement) →
+    is_quiet (tree_of (items ++ s ∷ [])) ≡ (is_quiet (tree_of items) && is_quiet (tree_of (s ∷ [])))
 quiet_append [] s = refl
-quiet_append (Plain i ∷ rest) s = ap (λ b. asks_nothing i && b) (quiet_append rest s) ∙ and_assoc (asks_nothing i) (is_quiet (tree_of rest)) (is_quiet (tree_of (s ∷ [])))
+quiet_append (Plain i ∷ rest) s =
+    ap (λ b. asks_nothing i && b) (quiet_append rest s) ∙ and_assoc (asks_nothing i) (is_quiet (tree_of rest)) (is_quiet (tree_of (s ∷ [])))
 quiet_append (If arm other ∷ rest) s =
     ap (λ b. is_quiet arm && is_quiet other && b) (quiet_append rest s)
     ∙ and_assoc (is_quiet arm && is_quiet other) (is_quiet (tree_of rest)) (is_quiet (tree_of (s ∷ [])))
-quiet_append (Loop n body ∷ rest) s = ap (λ b. is_quiet body && b) (quiet_append rest s) ∙ and_assoc (is_quiet body) (is_quiet (tree_of rest)) (is_quiet (tree_of (s ∷ [])))
+quiet_append (Loop n body ∷ rest) s =
+    ap (λ b. is_quiet body && b) (quiet_append rest s) ∙ and_assoc (is_quiet body) (is_quiet (tree_of rest)) (is_quiet (tree_of (s ∷ [])))
 
-pub still_append : (items : List Statement) (s : Statement) → is_still (tree_of (items ++ s ∷ [])) ≡ (is_still (tree_of items) && is_still (tree_of (s ∷ [])))
+pub still_append : (items : List Statement) (s : Statement) →
+    is_still (tree_of (items ++ s ∷ [])) ≡ (is_still (tree_of items) && is_still (tree_of (s ∷ [])))
 still_append [] s = refl
-still_append (Plain i ∷ rest) s = ap (λ b. keeps_slots i && b) (still_append rest s) ∙ and_assoc (keeps_slots i) (is_still (tree_of rest)) (is_still (tree_of (s ∷ [])))
+still_append (Plain i ∷ rest) s =
+    ap (λ b. keeps_slots i && b) (still_append rest s) ∙ and_assoc (keeps_slots i) (is_still (tree_of rest)) (is_still (tree_of (s ∷ [])))
 still_append (If arm other ∷ rest) s =
     ap (λ b. is_still arm && is_still other && b) (still_append rest s)
     ∙ and_assoc (is_still arm && is_still other) (is_still (tree_of rest)) (is_still (tree_of (s ∷ [])))
-still_append (Loop n body ∷ rest) s = ap (λ b. is_still body && b) (still_append rest s) ∙ and_assoc (is_still body) (is_still (tree_of rest)) (is_still (tree_of (s ∷ [])))
+still_append (Loop n body ∷ rest) s =
+    ap (λ b. is_still body && b) (still_append rest s) ∙ and_assoc (is_still body) (is_still (tree_of rest)) (is_still (tree_of (s ∷ [])))
 
 -- one step for each statement, and those of the blocks
 pub cost_parts : (items : List Statement) → cost (tree_of items) ≡ length items + further items
@@ -79,8 +85,8 @@ noted items s old new quiet still h f q qs t ts = record {
 }
 
 -- the steps of a list whose notes are these
-pub noted_cost : (items : List Statement) (notes : Notes) (count sum : ℕ) → AreNotes notes items → count ≡ length items → sum ≡ min (count + notes.further) (2 ^ 64 - 1) →
-    sum ≡ min (cost (tree_of items)) (2 ^ 64 - 1)
+pub noted_cost : (items : List Statement) (notes : Notes) (count sum : ℕ) → AreNotes notes items → count ≡ length items →
+    sum ≡ min (count + notes.further) (2 ^ 64 - 1) → sum ≡ min (cost (tree_of items)) (2 ^ 64 - 1)
 noted_cost items notes count sum h c e = omega (arith, h.further, cost_parts items, c, e)
 
 -- what follows from what holds where the answer is `Ok`

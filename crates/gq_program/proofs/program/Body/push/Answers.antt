@@ -10,4 +10,5 @@ pub returns-in-Statements-clause-pushed : goal.returns-in-Statements-clause-push
 returns-in-Statements-clause-pushed c =
     let kept = c.in-Statements.kept.value in
     let same = ap (λ k. tree_of k.statements.items) c.deref_mut.ensures.value ∙ (ap (λ l. tree_of (items_of l)) (sym c.in-Statements.is) ∙ c.self.view_is) in
-    on_ok c.push.result _ _ (λ e. ap tree_of e ∙ (tree_of-append c.deref_mut.result.now.statements.items (c.args.statement ∷ []) ∙ ap (λ t. t then tree_of (c.args.statement ∷ [])) same)) c.push.ensures.pushed
+    on_ok c.push.result _ _ (λ e. ap tree_of e ∙ (tree_of-append c.deref_mut.result.now.statements.items (c.args.statement ∷ [])
+    ∙ ap (λ t. t then tree_of (c.args.statement ∷ [])) same)) c.push.ensures.pushed
