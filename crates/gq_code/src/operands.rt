@@ -197,7 +197,7 @@ pub(crate) fn with_amount(
 }
 
 /// `pool`: a slot, the bytes of an entry, and how many entries there are at most.
-fn pool(bytes: &[u8]) -> Result<(Instruction, &[u8]), CodeFault>
+pub(crate) fn pool(bytes: &[u8]) -> Result<(Instruction, &[u8]), CodeFault>
     ensures read { Answers (λ p. (p.0, p.1.now)) result (operands_at (shape_of Shape.Pool) bytes.now) }
     ensures rest { IfOk result (λ p. length p.1.now ≤ length bytes.now) }
 {
@@ -211,7 +211,7 @@ fn pool(bytes: &[u8]) -> Result<(Instruction, &[u8]), CodeFault>
 }
 
 /// `open`: a slot, the name of a service, and the donation.
-fn open(bytes: &[u8]) -> Result<(Instruction, &[u8]), CodeFault>
+pub(crate) fn open(bytes: &[u8]) -> Result<(Instruction, &[u8]), CodeFault>
     ensures read { Answers (λ p. (p.0, p.1.now)) result (operands_at (shape_of Shape.Open) bytes.now) }
     ensures rest { IfOk result (λ p. length p.1.now ≤ length bytes.now) }
 {
@@ -222,31 +222,10 @@ fn open(bytes: &[u8]) -> Result<(Instruction, &[u8]), CodeFault>
 }
 
 /// `say`: a text.
-fn say(alloc: Global, bytes: &[u8]) -> Result<(Instruction, &[u8]), DecodeError>
+pub(crate) fn say(alloc: Global, bytes: &[u8]) -> Result<(Instruction, &[u8]), DecodeError>
     ensures read { Reads (λ p. (p.0, p.1.now)) result (operands_at (shape_of Shape.Say) bytes.now) }
     ensures rest { IfOk result (λ p. length p.1.now ≤ length bytes.now) }
 {
     let (text, rest) = said(alloc, bytes)?;
     Ok((Instruction::Say(text), rest))
-}
-
-/// A statement, whose operands stand in front. Refused for want of host memory too, which a text to say takes.
-pub(crate) fn operands(
-    alloc: Global,
-    shape: Shape,
-    bytes: &[u8],
-) -> Result<(Instruction, &[u8]), DecodeError>
-    ensures read { Reads (λ p. (p.0, p.1.now)) result (operands_at (shape_of shape) bytes.now) }
-    ensures rest { IfOk result (λ p. length p.1.now ≤ length bytes.now) }
-{
-    match shape {
-        Shape::Say => say(alloc, bytes),
-        Shape::Plain(statement) => Ok((statement.instruction(), bytes)),
-        Shape::Number(statement) => Ok(with_number(statement, bytes)?),
-        Shape::Slot(statement) => Ok(with_slot(statement, bytes)?),
-        Shape::Bytes(statement) => Ok(with_bytes(statement, bytes)?),
-        Shape::Amount(statement) => Ok(with_amount(statement, bytes)?),
-        Shape::Pool => Ok(pool(bytes)?),
-        Shape::Open => Ok(open(bytes)?),
-    }
 }
