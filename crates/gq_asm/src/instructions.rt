@@ -1,15 +1,18 @@
 // Statements by the shape of their operands. Each function takes what follows the statement's word on its line. Those that are inlined don't
-// pass a whole statement, with room for a text, to their caller.
+// pass a whole statement to their caller.
 ghost use Rattle.std.specs.Prelude.{◌≡◌};
 ghost use Rattle.gq_model.specs.texts.Letters.{words};
 ghost use Rattle.gq_model.specs.texts.Spelling.{instruction_in};
 ghost use Rattle.gq_program.specs.Spelling.{shape_of};
+ghost use Rattle.gq_asm.specs.internal.State.{Gives};
 
+use crate::faults::LineError;
 use crate::operands::{at_end, next_name, next_number, next_slot, next_slot_or_object};
 use crate::says::said_in;
 use gq_model::fault::TextFault;
 use gq_model::program::Instruction;
 use gq_program::spelling::{Bare, Shape, WithAmount, WithBytes, WithNumber, WithSlot};
+use std::alloc::Global;
 
 /// Without operands.
 #[inline(always)]
@@ -62,7 +65,7 @@ pub fn with_amount(statement: WithAmount, after: &[u8]) -> Result<Instruction, T
 }
 
 /// `pool`: a slot, how many entries, and the bytes of each.
-fn pool(after: &[u8]) -> Result<Instruction, TextFault>
+pub fn pool(after: &[u8]) -> Result<Instruction, TextFault>
     ensures { result ≡ instruction_in after.now (shape_of Shape.Pool) (words after.now) }
 {
     let (place, rest) = next_slot(after)?;
@@ -73,7 +76,7 @@ fn pool(after: &[u8]) -> Result<Instruction, TextFault>
 }
 
 /// `open`: a slot, the name of a service, and the donation.
-fn open(after: &[u8]) -> Result<Instruction, TextFault>
+pub fn open(after: &[u8]) -> Result<Instruction, TextFault>
     ensures { result ≡ instruction_in after.now (shape_of Shape.Open) (words after.now) }
 {
     let (place, rest) = next_slot(after)?;
@@ -83,28 +86,12 @@ fn open(after: &[u8]) -> Result<Instruction, TextFault>
     Ok(Instruction::Open(place, service, donation))
 }
 
-/// `say`: a text between quotation marks.
-fn say(after: &[u8]) -> Result<Instruction, TextFault>
-    ensures { result ≡ instruction_in after.now (shape_of Shape.Say) (words after.now) }
+/// `say`: a text between quotation marks, which takes host memory.
+pub fn say(alloc: Global, after: &[u8]) -> Result<Instruction, LineError>
+    ensures { Gives (λ i. i) result (instruction_in after.now (shape_of Shape.Say) (words after.now)) }
 {
-    match said_in(after) {
+    match said_in(alloc, after)? {
         Some(text) => Ok(Instruction::Say(text)),
-        None => Err(TextFault::BadText),
-    }
-}
-
-/// A statement, or the first fault from left to right.
-pub fn instruction(shape: Shape, after: &[u8]) -> Result<Instruction, TextFault>
-    ensures { result ≡ instruction_in after.now (shape_of shape) (words after.now) }
-{
-    match shape {
-        Shape::Say => say(after),
-        Shape::Plain(statement) => plain(statement, after),
-        Shape::Number(statement) => with_number(statement, after),
-        Shape::Slot(statement) => with_slot(statement, after),
-        Shape::Bytes(statement) => with_bytes(statement, after),
-        Shape::Amount(statement) => with_amount(statement, after),
-        Shape::Pool => pool(after),
-        Shape::Open => open(after),
+        None => Err(LineError::Fault(TextFault::BadText)),
     }
 }

@@ -1,9 +1,10 @@
 // The text of `say`.
-ghost use Rattle.std.specs.Prelude.{◌≡◌, option_copied};
+ghost use Rattle.std.specs.Prelude.{◌≡◌, option_copied, IfOk};
 ghost use Rattle.gq_model.specs.texts.Spelling.{quoted, said_in};
 
 use crate::words::{is_all_blank, unindented};
 use gq_model::program::Text;
+use std::alloc::{AllocError, Global};
 
 /// The bytes up to a quotation mark, which only blanks follow.
 fn quoted(text: &[u8]) -> Option<&[u8]>
@@ -20,12 +21,15 @@ fn quoted(text: &[u8]) -> Option<&[u8]>
     None
 }
 
-/// The text between quotation marks that stands after `say` on its line.
-pub fn said_in(after: &[u8]) -> Option<Text>
-    ensures { result ≡ said_in after.now }
+/// The text between quotation marks that stands after `say` on its line. Refused only for want of host memory.
+pub fn said_in(alloc: Global, after: &[u8]) -> Result<Option<Text>, AllocError>
+    ensures { IfOk result (λ text. text ≡ said_in after.now) }
 {
-    match unindented(after) {
-        [b'"', rest @ ..] => Text::new(quoted(rest)?),
-        _ => None,
+    let [b'"', rest @ ..] = unindented(after) else {
+        return Ok(None);
+    };
+    match quoted(rest) {
+        Some(text) => Text::new(alloc, text),
+        None => Ok(None),
     }
 }

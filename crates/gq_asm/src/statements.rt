@@ -8,7 +8,9 @@ ghost use Rattle.gq_program.specs.Spelling.{shape_of};
 ghost use Rattle.gq_asm.specs.internal.State.{Gives, reading_of};
 
 use crate::faults::LineError;
-use crate::instructions::{instruction, plain, with_amount, with_bytes, with_number, with_slot};
+use crate::instructions::{
+    open, plain, pool, say, with_amount, with_bytes, with_number, with_slot,
+};
 use crate::operands::{at_end, next_number};
 use crate::reading::{BlockKind, Reading};
 use gq_model::fault::TextFault;
@@ -50,17 +52,34 @@ impl Reading {
         self.add(Statement::Plain(instruction))
     }
 
-    /// Reads the operands of a statement, and puts it at the end of the innermost block. It stands alone, so that only a text pays for its
-    /// room.
+    /// Reads the text of `say`, and puts the statement at the end of the innermost block. It and the two after it stand alone, since few statements
+    /// have a text, a name or three operands.
     #[inline(never)]
-    fn put_long(&mut self, shape: Shape, after: &[u8]) -> Result<(), LineError>
-        ensures { Gives (λ _. reading_of self.new) result (put (reading_of self.old) (instruction_in after.now (shape_of shape) (words after.now))) }
+    fn put_said(&mut self, alloc: Global, after: &[u8]) -> Result<(), LineError>
+        ensures { Gives (λ _. reading_of self.new) result (put (reading_of self.old) (instruction_in after.now (shape_of Shape.Say) (words after.now))) }
     {
-        self.put(instruction(shape, after))
+        let instruction = say(alloc, after)?;
+        self.add(Statement::Plain(instruction))
     }
 
-    /// The same, with a way of its own for each shape without a text.
-    fn put_shape(&mut self, shape: Shape, after: &[u8]) -> Result<(), LineError>
+    /// Reads the operands of `pool`, and puts the statement at the end of the innermost block.
+    #[inline(never)]
+    fn put_pool(&mut self, after: &[u8]) -> Result<(), LineError>
+        ensures { Gives (λ _. reading_of self.new) result (put (reading_of self.old) (instruction_in after.now (shape_of Shape.Pool) (words after.now))) }
+    {
+        self.put(pool(after))
+    }
+
+    /// Reads the operands of `open`, and puts the statement at the end of the innermost block.
+    #[inline(never)]
+    fn put_open(&mut self, after: &[u8]) -> Result<(), LineError>
+        ensures { Gives (λ _. reading_of self.new) result (put (reading_of self.old) (instruction_in after.now (shape_of Shape.Open) (words after.now))) }
+    {
+        self.put(open(after))
+    }
+
+    /// Reads the operands of a statement, in a way of its own for each shape, and puts it at the end of the innermost block.
+    fn put_shape(&mut self, alloc: Global, shape: Shape, after: &[u8]) -> Result<(), LineError>
         ensures { Gives (λ _. reading_of self.new) result (put (reading_of self.old) (instruction_in after.now (shape_of shape) (words after.now))) }
     {
         match shape {
@@ -69,12 +88,14 @@ impl Reading {
             Shape::Slot(statement) => self.put(with_slot(statement, after)),
             Shape::Bytes(statement) => self.put(with_bytes(statement, after)),
             Shape::Amount(statement) => self.put(with_amount(statement, after)),
-            Shape::Say | Shape::Pool | Shape::Open => self.put_long(shape, after),
+            Shape::Say => self.put_said(alloc, after),
+            Shape::Pool => self.put_pool(after),
+            Shape::Open => self.put_open(after),
         }
     }
 
     /// A statement of the table.
-    fn tabled(&mut self, word: &[u8], after: &[u8]) -> Result<(), LineError>
+    fn tabled(&mut self, alloc: Global, word: &[u8], after: &[u8]) -> Result<(), LineError>
         ensures { Gives (λ _. reading_of self.new) result
             (found (shape_of_word word.now spellings) UnknownWord
             (λ shape. counted (reading_of self.old) (λ s. put s (instruction_in after.now shape (words after.now))))) }
@@ -83,7 +104,7 @@ impl Reading {
             return Err(LineError::Fault(TextFault::UnknownWord));
         };
         self.count_statement()?;
-        self.put_shape(shape, after)
+        self.put_shape(alloc, shape, after)
     }
 
     /// A line in a section: its first word, and what follows that.
@@ -108,6 +129,6 @@ impl Reading {
         if same_text(word, b"loop") {
             return self.open_loop(alloc, line, after);
         }
-        self.tabled(word, after)
+        self.tabled(alloc, word, after)
     }
 }

@@ -11,7 +11,9 @@ ghost use Rattle.gq_code.specs.Decoded.{IsDecoded};
 ghost use Rattle.gq_code.specs.declared.decode.DecodeError.TheVariants.{Memory, Fault};
 
 use crate::opcodes::shape_with;
-use crate::operands::{cut, number, operands, with_amount, with_bytes, with_number, with_slot};
+use crate::operands::{
+    cut, number, open, pool, say, with_amount, with_bytes, with_number, with_slot,
+};
 use crate::program_code::NO_LIMIT;
 use gq_model::fault::CodeFault;
 use gq_model::limits::{GREATEST_DEPTH, GREATEST_STATEMENTS, LOCALS};
@@ -114,20 +116,48 @@ fn push(body: &mut Body, instruction: Instruction) -> Result<(), AllocError>
     body.push(Statement::Plain(instruction))
 }
 
-/// Puts a statement with no statement in it at the end, whose operands stand in front, and gives what follows them. It stands alone, so that
-/// only a text pays for its room.
+/// Puts `say` at the end, whose text stands in front, and gives what follows it. It and the two after it stand alone, since few statements have a
+/// text, a name or three operands.
 #[inline(never)]
-fn push_long<'a>(body: &mut Body, shape: Shape, bytes: &'a [u8]) -> Result<&'a [u8], DecodeError>
-    ensures read { Reads (λ rest. (body.new, rest.now)) result (put_at body.old (operands_at (shape_of shape) bytes.now)) }
+fn push_said<'a>(alloc: Global, body: &mut Body, bytes: &'a [u8]) -> Result<&'a [u8], DecodeError>
+    ensures read { Reads (λ rest. (body.new, rest.now)) result (put_at body.old (operands_at (shape_of Shape.Say) bytes.now)) }
     ensures rest { IfOk result (λ rest. length rest.now ≤ length bytes.now) }
 {
-    let (instruction, rest) = operands(shape, bytes)?;
+    let (instruction, rest) = say(alloc, bytes)?;
     push(body, instruction)?;
     Ok(rest)
 }
 
-/// The same, with a way of its own for each shape without a text.
-fn push_plain<'a>(body: &mut Body, shape: Shape, bytes: &'a [u8]) -> Result<&'a [u8], DecodeError>
+/// Puts `pool` at the end, whose operands stand in front, and gives what follows them.
+#[inline(never)]
+fn push_pool<'a>(body: &mut Body, bytes: &'a [u8]) -> Result<&'a [u8], DecodeError>
+    ensures read { Reads (λ rest. (body.new, rest.now)) result (put_at body.old (operands_at (shape_of Shape.Pool) bytes.now)) }
+    ensures rest { IfOk result (λ rest. length rest.now ≤ length bytes.now) }
+{
+    let (instruction, rest) = pool(bytes)?;
+    push(body, instruction)?;
+    Ok(rest)
+}
+
+/// Puts `open` at the end, whose operands stand in front, and gives what follows them.
+#[inline(never)]
+fn push_open<'a>(body: &mut Body, bytes: &'a [u8]) -> Result<&'a [u8], DecodeError>
+    ensures read { Reads (λ rest. (body.new, rest.now)) result (put_at body.old (operands_at (shape_of Shape.Open) bytes.now)) }
+    ensures rest { IfOk result (λ rest. length rest.now ≤ length bytes.now) }
+{
+    let (instruction, rest) = open(bytes)?;
+    push(body, instruction)?;
+    Ok(rest)
+}
+
+/// Puts a statement with no statement in it at the end, whose operands stand in front, in a way of its own for each shape, and gives what follows
+/// them.
+fn push_plain<'a>(
+    alloc: Global,
+    body: &mut Body,
+    shape: Shape,
+    bytes: &'a [u8],
+) -> Result<&'a [u8], DecodeError>
     ensures read { Reads (λ rest. (body.new, rest.now)) result (put_at body.old (operands_at (shape_of shape) bytes.now)) }
     ensures rest { IfOk result (λ rest. length rest.now ≤ length bytes.now) }
 {
@@ -156,12 +186,15 @@ fn push_plain<'a>(body: &mut Body, shape: Shape, bytes: &'a [u8]) -> Result<&'a 
             push(body, instruction)?;
             Ok(rest)
         }
-        Shape::Say | Shape::Pool | Shape::Open => push_long(body, shape, bytes),
+        Shape::Say => push_said(alloc, body, bytes),
+        Shape::Pool => push_pool(body, bytes),
+        Shape::Open => push_open(body, bytes),
     }
 }
 
 /// Puts a statement of this number with no statement in it at the end, and gives how many there are with it, and what follows it.
 fn push_coded<'a>(
+    alloc: Global,
     body: &mut Body,
     op: u8,
     bytes: &'a [u8],
@@ -174,7 +207,7 @@ fn push_coded<'a>(
         return Err(DecodeError::Fault(CodeFault::UnknownOpcode));
     };
     let count = one_more(before)?;
-    let rest = push_plain(body, shape, bytes)?;
+    let rest = push_plain(alloc, body, shape, bytes)?;
     Ok((count, rest))
 }
 
@@ -239,7 +272,7 @@ fn push_statement<'a>(
             made.push(statement)?;
             Ok((count, rest))
         }
-        _ => push_coded(made, op, bytes, before),
+        _ => push_coded(alloc, made, op, bytes, before),
     }
 }
 

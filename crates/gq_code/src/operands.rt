@@ -5,11 +5,14 @@ ghost use Rattle.gq_model.specs.machine.Program.{little};
 ghost use Rattle.gq_model.specs.texts.Decode.{cut, number_at, place_of, text_at, operands_at};
 ghost use Rattle.gq_program.specs.Spelling.{shape_of};
 ghost use Rattle.gq_code.specs.internal.Decoding.{Answers, ranged_at, place_at, counted_at};
+ghost use Rattle.gq_code.specs.internal.Bodies.{Reads};
 
+use crate::decode::DecodeError;
 use gq_model::fault::CodeFault;
 use gq_model::program::{GREATEST_NAME, GREATEST_TEXT, Instruction, Name, Place, Text};
 use gq_program::spelling::{Shape, WithAmount, WithBytes, WithNumber, WithSlot};
 use gq_tariff::price::GREATEST_PLACE;
+use std::alloc::Global;
 
 /// The first `count` bytes; if there are fewer, this fault.
 pub(crate) fn cut(bytes: &[u8], count: usize, fault: CodeFault) -> Result<(&[u8], &[u8]), CodeFault>
@@ -133,14 +136,14 @@ fn service(bytes: &[u8]) -> Result<(Name, &[u8]), CodeFault>
 }
 
 /// A text to say.
-fn said(bytes: &[u8]) -> Result<(Text, &[u8]), CodeFault>
-    ensures text { Answers (λ p. (p.0, p.1.now)) result (text_at 0 64 is_said_byte bytes.now) }
+fn said(alloc: Global, bytes: &[u8]) -> Result<(Text, &[u8]), DecodeError>
+    ensures text { Reads (λ p. (p.0, p.1.now)) result (text_at 0 64 is_said_byte bytes.now) }
     ensures rest { IfOk result (λ p. length p.1.now ≤ length bytes.now) }
 {
     let (text, rest) = counted(bytes, 0, GREATEST_TEXT as u32)?;
-    match Text::new(text) {
+    match Text::new(alloc, text)? {
         Some(text) => Ok((text, rest)),
-        None => Err(CodeFault::BadOperand),
+        None => Err(DecodeError::Fault(CodeFault::BadOperand)),
     }
 }
 
@@ -194,7 +197,7 @@ pub(crate) fn with_amount(
 }
 
 /// `pool`: a slot, the bytes of an entry, and how many entries there are at most.
-fn pool(bytes: &[u8]) -> Result<(Instruction, &[u8]), CodeFault>
+pub(crate) fn pool(bytes: &[u8]) -> Result<(Instruction, &[u8]), CodeFault>
     ensures read { Answers (λ p. (p.0, p.1.now)) result (operands_at (shape_of Shape.Pool) bytes.now) }
     ensures rest { IfOk result (λ p. length p.1.now ≤ length bytes.now) }
 {
@@ -208,7 +211,7 @@ fn pool(bytes: &[u8]) -> Result<(Instruction, &[u8]), CodeFault>
 }
 
 /// `open`: a slot, the name of a service, and the donation.
-fn open(bytes: &[u8]) -> Result<(Instruction, &[u8]), CodeFault>
+pub(crate) fn open(bytes: &[u8]) -> Result<(Instruction, &[u8]), CodeFault>
     ensures read { Answers (λ p. (p.0, p.1.now)) result (operands_at (shape_of Shape.Open) bytes.now) }
     ensures rest { IfOk result (λ p. length p.1.now ≤ length bytes.now) }
 {
@@ -219,27 +222,10 @@ fn open(bytes: &[u8]) -> Result<(Instruction, &[u8]), CodeFault>
 }
 
 /// `say`: a text.
-fn say(bytes: &[u8]) -> Result<(Instruction, &[u8]), CodeFault>
-    ensures read { Answers (λ p. (p.0, p.1.now)) result (operands_at (shape_of Shape.Say) bytes.now) }
+pub(crate) fn say(alloc: Global, bytes: &[u8]) -> Result<(Instruction, &[u8]), DecodeError>
+    ensures read { Reads (λ p. (p.0, p.1.now)) result (operands_at (shape_of Shape.Say) bytes.now) }
     ensures rest { IfOk result (λ p. length p.1.now ≤ length bytes.now) }
 {
-    let (text, rest) = said(bytes)?;
+    let (text, rest) = said(alloc, bytes)?;
     Ok((Instruction::Say(text), rest))
-}
-
-/// A statement, whose operands stand in front.
-pub(crate) fn operands(shape: Shape, bytes: &[u8]) -> Result<(Instruction, &[u8]), CodeFault>
-    ensures read { Answers (λ p. (p.0, p.1.now)) result (operands_at (shape_of shape) bytes.now) }
-    ensures rest { IfOk result (λ p. length p.1.now ≤ length bytes.now) }
-{
-    match shape {
-        Shape::Say => say(bytes),
-        Shape::Plain(statement) => Ok((statement.instruction(), bytes)),
-        Shape::Number(statement) => with_number(statement, bytes),
-        Shape::Slot(statement) => with_slot(statement, bytes),
-        Shape::Bytes(statement) => with_bytes(statement, bytes),
-        Shape::Amount(statement) => with_amount(statement, bytes),
-        Shape::Pool => pool(bytes),
-        Shape::Open => open(bytes),
-    }
 }

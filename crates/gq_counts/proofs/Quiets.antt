@@ -13,7 +13,7 @@ use Rattle.gq_model.specs.rules.Budgets.{asks, requests}
 use Rattle.gq_flow.specs.internal.Steps.{chosen}
 use Rattle.gq_counts.specs.Counting.{saturated}
 use Rattle.gq_counts.specs.Requested.{Requested, requests_for}
-use Rattle.gq_counts.specs.internal.Quietness.{asks_nothing, is_quiet}
+use Rattle.gq_program.specs.Notes.{asks_nothing, is_quiet}
 
 asks_none : (v : List ℕ) (r : Section) (c : Context) (s : State) (i : Instruction) → asks_nothing i ≡ true → asks v r c s i ≡ 0
 asks_none v r c s (Say text) e = refl

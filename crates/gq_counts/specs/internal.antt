@@ -1,3 +1,2 @@
 pub mod Requesting
 pub mod Adding
-pub mod Quietness

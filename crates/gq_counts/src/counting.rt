@@ -18,7 +18,6 @@ ghost use Rattle.gq_counts.specs.internal.Requesting.{requests_in, section_by};
 use crate::asked::Requests;
 use crate::asking::{ByLevel, section_by};
 use crate::next::next;
-use crate::quiet::is_quiet;
 use gq_program::{Body, Instruction, Place, Section, Statement};
 use gq_rules::{Context, State};
 use std::alloc::{AllocError, Global};
@@ -102,7 +101,7 @@ fn count_in(
             Ok(())
         }
         Statement::If(arm, other) => {
-            if is_quiet(arm) && is_quiet(other) {
+            if arm.is_quiet() && other.is_quiet() {
                 next(context, state, statement);
                 Ok(())
             } else {
@@ -110,7 +109,7 @@ fn count_in(
             }
         }
         Statement::Loop(times, body) => {
-            if is_quiet(body) {
+            if body.is_quiet() {
                 Ok(())
             } else {
                 count_loop(alloc, context, state, asked, *times, body)
@@ -183,7 +182,7 @@ pub fn all_requests(
     requires right { IsRight context.now state.old body.now }
     ensures { IfOk result (λ n. (v : List ℕ) (r : Section) → saturated (requests_for n v r) ≡ saturated (requests v r context.now state.old body.now)) }
 {
-    if is_quiet(body) {
+    if body.is_quiet() {
         return Ok(Requests::new(alloc));
     }
     let mut asked = Requests::new(alloc);

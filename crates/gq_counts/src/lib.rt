@@ -13,7 +13,6 @@ mod asked;
 mod asking;
 mod counting;
 mod next;
-mod quiet;
 mod steps;
 
 pub use asked::Requests;

@@ -20,7 +20,7 @@ use Rattle.gq_model.specs.rules.Flow.{Flowed, at, later, flow_then, chosen_from,
 use Rattle.gq_program.specs.Trees.{tree_of}
 use Rattle.gq_program.specs.declared.program.Statement.{Statement}
 use Rattle.gq_program.specs.declared.program.Statement.TheVariants as statement
-use Rattle.gq_flow.specs.internal.Stillness.{keeps_slots, is_still}
+use Rattle.gq_program.specs.Notes.{keeps_slots, is_still}
 use Rattle.gq_flow.specs.internal.Steps.{chosen}
 use Rattle.gq_flow.specs.internal.Reached.{PeaksWith}
 use Rattle.gq_rules.specs.declared.broken.Broken.{Broken}
@@ -31,25 +31,6 @@ use Rattle.gq_model.proofs.Rules_laws.{within_same, at_ok, nil_is}
 use Rattle.gq_program.proofs.Sizes.{here_is}
 use Rattle.std.proofs.lemmas.Bool.{and_parts}
 use Rattle.gq_model.proofs.Small.{equal_self, text_self}
-
-still_first : (s : Statement) (rest : List Statement) → is_still (tree_of (s ∷ rest)) ≡ (is_still (tree_of (s ∷ [])) && is_still (tree_of rest))
-still_first (statement.Plain i) rest = by (keeps_slots i) (is_still (tree_of rest)) where
-  by : (a b : Bool) → (a && b) ≡ ((a && true) && b)
-  by true b = refl
-  by false b = refl
-still_first (statement.If arm other) rest = by (is_still arm && is_still other) (is_still (tree_of rest)) where
-  by : (a b : Bool) → (a && b) ≡ ((a && true) && b)
-  by true b = refl
-  by false b = refl
-still_first (statement.Loop count body) rest = by (is_still body) (is_still (tree_of rest)) where
-  by : (a b : Bool) → (a && b) ≡ ((a && true) && b)
-  by true b = refl
-  by false b = refl
-
--- the statement that stands there, and then the others
-pub still_here : (items : List Statement) (i : ℕ) (st : Statement) → i < length items → st ≡ get_or items i st →
-    is_still (tree_of (drop i items)) ≡ (is_still (tree_of (st ∷ [])) && is_still (tree_of (drop (i + 1) items)))
-still_here items i st less e = ap (λ l. is_still (tree_of l)) (here_is items i st less e) ∙ still_first st (drop (i + 1) items)
 
 -- WHAT A STATEMENT LEAVES
 

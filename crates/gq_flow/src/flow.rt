@@ -9,10 +9,10 @@ ghost use Rattle.gq_rules.specs.Flowing.{flowed, few_loops};
 ghost use Rattle.gq_flow.specs.internal.Steps.{chosen, points_in};
 ghost use Rattle.gq_flow.specs.internal.Reached.{PeaksWith};
 ghost use Rattle.gq_flow.specs.Peaks.{Peaks};
-ghost use Rattle.gq_flow.specs.internal.Stillness.{is_still};
+ghost use Rattle.gq_program.specs.Notes.{is_still};
 
-use crate::still::{is_still, keeps_slots};
 use gq_caps::Totals;
+use gq_program::notes::keeps_slots;
 use gq_program::{Body, Instruction, Statement};
 use gq_rules::{Broken, Context, State, at};
 
@@ -104,7 +104,7 @@ fn flow_statement(
         Statement::Plain(instruction) => flow_plain(context, state, place, peaks, instruction),
         Statement::If(arm, other) => {
             peaks.raise(state.own().totals());
-            if is_still(arm) && is_still(other) {
+            if arm.is_still() && other.is_still() {
                 flow_still_if(context, state, place, peaks, arm, other)
             } else {
                 flow_if(context, state, place, peaks, arm, other)
@@ -112,7 +112,7 @@ fn flow_statement(
         }
         Statement::Loop(count, body) => {
             peaks.raise(state.own().totals());
-            if is_still(body) {
+            if body.is_still() {
                 flow_still_loop(context, state, place, peaks, *count, body)
             } else {
                 flow_loop(context, state, place, peaks, *count, body)

@@ -10,4 +10,3 @@
 #![tactic(auto)]
 
 pub mod flow;
-mod still;

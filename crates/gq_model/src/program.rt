@@ -1,10 +1,10 @@
 // The parts of programs that hold no statements.
-ghost use Rattle.std.specs.Prelude.{◌≡◌, if◌then◌else◌, IsTrue, Some};
+ghost use Rattle.std.specs.Prelude.{◌≡◌, if◌then◌else◌, IsTrue, Some, IfOk};
 ghost use Rattle.gq_model.specs.texts.Fault_texts.{section_word};
 ghost use Rattle.gq_model.specs.texts.Letters.{is_name, is_said};
 
 use crate::letters::{is_name, is_said};
-use arrayvec::ArrayVec;
+use std::alloc::{AllocError, Global};
 use std::fmt::{self, Display, Formatter, Write};
 use std::marker::Model;
 
@@ -97,10 +97,11 @@ pub const GREATEST_TEXT: usize = 64;
 /// The greatest number of bytes of a name.
 pub const GREATEST_NAME: usize = 16;
 
-/// A text to say: at most 64 bytes of 0x20 to 0x7e other than the quotation mark.
+/// A text to say: at most 64 bytes of 0x20 to 0x7e other than the quotation mark. They stand apart, so that a statement without a text has no
+/// room for one.
 #[derive(Drop)]
 pub struct Text {
-    bytes: ArrayVec<u8, GREATEST_TEXT>,
+    bytes: Vec<u8>,
 }
 
 impl Model for Text {
@@ -115,18 +116,15 @@ impl Model for Text {
 }
 
 impl Text {
-    /// The text of these bytes, where they are one.
-    pub fn new(bytes: &[u8]) -> Option<Text>
-        ensures { result ≡ (if is_said bytes.now then Some bytes.now else None) }
+    /// The text of these bytes, where they are one. Refused only for want of host memory.
+    pub fn new(alloc: Global, bytes: &[u8]) -> Result<Option<Text>, AllocError>
+        ensures { IfOk result (λ t. t ≡ (if is_said bytes.now then Some bytes.now else None)) }
     {
         if !is_said(bytes) {
-            return None;
+            return Ok(None);
         }
-        let mut kept = ArrayVec::new();
-        match kept.try_extend_from_slice(bytes) {
-            Ok(()) => Some(Text { bytes: kept }),
-            Err(_) => unreachable!(),
-        }
+        let bytes = Vec::from_slice(alloc, bytes)?;
+        Ok(Some(Text { bytes }))
     }
 
     /// Its bytes.
@@ -139,20 +137,22 @@ impl Text {
 }
 
 /// A name of a component or of a service: 1 to 16 bytes of a to z, A to Z, 0 to 9, the hyphen and the underscore.
+/// Its room is 16 bytes and one that counts them, so that a statement with a name stays small.
 #[derive(Drop)]
 pub struct Name {
-    letters: ArrayVec<u8, GREATEST_NAME>,
+    letters: [u8; GREATEST_NAME],
+    count: u8,
 }
 
 impl Model for Name {
-    ghost use Rattle.std.specs.Prelude.{ℕ, List, IsTrue};
+    ghost use Rattle.std.specs.Prelude.{ℕ, List, IsTrue, ◌≤◌, take};
     ghost use Rattle.gq_model.specs.texts.Letters.{is_name};
 
     ghost Value = { List ℕ };
 
-    ghost view = { λ t. t.letters.items };
+    ghost view = { λ t. take t.count t.letters };
 
-    ghost invariant = { λ t. IsTrue (is_name t.letters.items) };
+    ghost invariant = { λ t. (t.count ≤ 16) × IsTrue (is_name (take t.count t.letters)) };
 }
 
 impl Name {
@@ -163,11 +163,12 @@ impl Name {
         if !is_name(bytes) {
             return None;
         }
-        let mut kept = ArrayVec::new();
-        match kept.try_extend_from_slice(bytes) {
-            Ok(()) => Some(Name { letters: kept }),
-            Err(_) => unreachable!(),
-        }
+        let mut letters = [0; GREATEST_NAME];
+        letters[..bytes.len()].copy_from_slice(bytes);
+        Some(Name {
+            letters,
+            count: bytes.len() as u8,
+        })
     }
 
     /// Its bytes.
@@ -175,7 +176,7 @@ impl Name {
         ensures bytes { result.now ≡ self.now }
         ensures name { IsTrue (is_name self.now) }
     {
-        self.letters.as_slice()
+        &self.letters[..usize::from(self.count)]
     }
 
     /// The name as text.

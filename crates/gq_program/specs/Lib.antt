@@ -1,4 +1,5 @@
 pub mod Trees
 pub mod Spelling
+pub mod Notes
 pub mod Interfaces
 pub mod internal

@@ -15,6 +15,7 @@
 
 mod check;
 pub mod interface;
+pub mod notes;
 pub mod program;
 pub mod spelling;
 

@@ -1,10 +1,14 @@
 // Programs as trees.
-ghost use Rattle.std.specs.Prelude.{◌≡◌, OnOk, OnErr, IfSome, is_some, ◌∷◌, []};
+ghost use Rattle.std.specs.Prelude.{◌≡◌, ◌<◌, ◌-◌, ◌^◌, min, OnOk, OnErr, IfOk, IfSome, is_some, ◌∷◌, [], ◌++◌, vec_len, vec_capacity};
 ghost use Rattle.gq_model.specs.machine.Program.{Done, ◌then◌};
 ghost use Rattle.gq_model.specs.texts.Code.{is_program, IsProgram};
+ghost use Rattle.gq_model.specs.rules.Budgets.{cost};
 ghost use Rattle.gq_program.specs.Trees.{tree_of};
+ghost use Rattle.gq_program.specs.Notes.{is_quiet, is_still};
+ghost use Rattle.gq_program.specs.internal.Listed.{AreNotes};
 
 use crate::check::{are_few, are_limits, are_sections};
+use crate::notes::Notes;
 pub use gq_model::limits::LOCALS;
 use gq_model::program::{Instruction, Section};
 use std::alloc::{AllocError, Global};
@@ -22,11 +26,29 @@ pub enum Statement {
     Loop(u16, Body),
 }
 
-/// A list of statements.
+/// A list of statements. What each of them adds to its steps is noted while it comes, as is whether one asks for anything or changes a slot: so none
+/// of these is looked for again.
 #[cycle(program)]
 #[derive(Drop)]
 pub struct Body {
+    listed: Listed,
+    alloc: Global,
+}
+
+/// Where the statements of a list lie: nowhere while there are none. An `if` has room for two of these, and so has every statement.
+#[cycle(program)]
+#[derive(Drop)]
+enum Listed {
+    Nothing,
+    Statements(Box<Kept>),
+}
+
+/// The statements of a list, and what is noted of them.
+#[cycle(program)]
+#[derive(Drop)]
+struct Kept {
     statements: Vec<Statement>,
+    notes: Notes,
 }
 
 impl Model for Body {
@@ -39,15 +61,63 @@ impl Model for Body {
     ghost coded = { statements_code (Prim.hlevel codes) };
 
     ghost use Rattle.gq_program.specs.Trees.{tree_of};
+    ghost use Rattle.gq_program.specs.internal.Listed.{items_of, IsNoted};
 
-    ghost view = { λ b. tree_of b.statements.items };
+    ghost view = { λ b. tree_of (items_of b.listed) };
+
+    ghost invariant = { λ b. IsNoted b.listed };
 
     ghost size = { statement_count };
 
     ghost use Rattle.std.proofs.Common.{arith};
-    ghost use Rattle.gq_program.specs.internal.Falls.{falls};
+    ghost use Rattle.gq_program.specs.internal.Falls.{falls_in};
 
-    ghost size_decreases = { λ b h. omega (arith, falls b.statements.items) };
+    ghost size_decreases = { λ b h. omega (arith, falls_in b.listed) };
+}
+
+impl Kept {
+    /// Makes room for three times as many statements more as there are.
+    #[cold]
+    #[inline(never)]
+    fn grow(&mut self) -> Result<(), AllocError>
+        ensures statements { self.new.statements.items ≡ self.old.statements.items }
+        ensures notes { self.new.notes ≡ self.old.notes }
+        ensures room { OnOk result (vec_len self.new.statements < vec_capacity self.new.statements) }
+    {
+        let more = self.statements.len().saturating_mul(3).max(1);
+        self.statements.reserve_exact(more)
+    }
+
+    /// Puts a statement at the end. Refused, the list stays as it was.
+    #[inline(always)]
+    fn push(&mut self, statement: Statement) -> Result<(), AllocError>
+        requires { AreNotes self.old.notes self.old.statements.items }
+        ensures notes { AreNotes self.new.notes self.new.statements.items }
+        ensures pushed { OnOk result (self.new.statements.items ≡ self.old.statements.items ++ statement ∷ []) }
+        ensures stays { OnErr result (self.new.statements.items ≡ self.old.statements.items) }
+    {
+        if self.statements.len() == self.statements.capacity() {
+            self.grow()?;
+        }
+        self.notes.add(&statement);
+        self.statements.push_reserved(statement);
+        Ok(())
+    }
+
+    /// This one statement, with room for seven more.
+    #[cold]
+    #[inline(never)]
+    fn first(alloc: Global, statement: Statement) -> Result<Box<Kept>, AllocError>
+        ensures statements { IfOk result (λ b. b.value.statements.items ≡ statement ∷ []) }
+        ensures notes { IfOk result (λ b. AreNotes b.value.notes b.value.statements.items) }
+    {
+        let mut statements = Vec::with_capacity(alloc, 8)?;
+        let mut notes = Notes::none();
+        notes.add(&statement);
+        statements.push_reserved(statement);
+        let kept = Box::new(alloc, Kept { statements, notes })?;
+        Ok(kept)
+    }
 }
 
 impl Body {
@@ -56,7 +126,8 @@ impl Body {
         ensures { result ≡ Done }
     {
         Body {
-            statements: Vec::new(alloc),
+            listed: Listed::Nothing,
+            alloc,
         }
     }
 
@@ -64,16 +135,58 @@ impl Body {
     pub fn statements(&self) -> &[Statement]
         ensures { tree_of result.now ≡ self.now }
     {
-        self.statements.as_slice()
+        match &self.listed {
+            Listed::Nothing => &[],
+            Listed::Statements(kept) => kept.statements.as_slice(),
+        }
+    }
+
+    /// The greatest number of its steps; 2^64 - 1 where there are more. It goes over no statement.
+    pub fn cost(&self) -> u64
+        ensures { result ≡ min (cost self.now) (2 ^ 64 - 1) }
+    {
+        match &self.listed {
+            Listed::Nothing => 0,
+            Listed::Statements(kept) => {
+                let count = kept.statements.len() as u64;
+                count.saturating_add(kept.notes.further)
+            }
+        }
+    }
+
+    /// Whether no statement, in a block of it neither, asks for anything. It goes over no statement.
+    pub fn is_quiet(&self) -> bool
+        ensures { result ≡ is_quiet self.now }
+    {
+        match &self.listed {
+            Listed::Nothing => true,
+            Listed::Statements(kept) => kept.notes.is_quiet,
+        }
+    }
+
+    /// Whether no statement, in a block of it neither, changes a slot. It goes over no statement.
+    pub fn is_still(&self) -> bool
+        ensures { result ≡ is_still self.now }
+    {
+        match &self.listed {
+            Listed::Nothing => true,
+            Listed::Statements(kept) => kept.notes.is_still,
+        }
     }
 
     /// Puts a statement at the end. Refused, the list stays as it was.
+    #[inline(always)]
     pub fn push(&mut self, statement: Statement) -> Result<(), AllocError>
         ensures pushed { OnOk result (self.new ≡ self.old then tree_of (statement ∷ [])) }
         ensures stays { OnErr result (self.new ≡ self.old) }
     {
-        self.statements.push(statement)?;
-        Ok(())
+        match &mut self.listed {
+            Listed::Statements(kept) => kept.push(statement),
+            Listed::Nothing => {
+                self.listed = Listed::Statements(Kept::first(self.alloc, statement)?);
+                Ok(())
+            }
+        }
     }
 }
 

@@ -1,10 +1,17 @@
 -- The services that statements open.
-use Rattle.std.proofs.Common.{◌≡◌, ℕ, ◌+◌, ◌<◌, Bool, true, false, ◌||◌, cond, List, [], ◌∷◌, ◌++◌, length, get_or, take, drop, refl, ap, sym}
+use Rattle.std.proofs.Common.{◌≡◌, ℕ, ◌+◌, ◌<◌, Bool, true, false, ◌||◌, ◌&&◌, cond, List, [], ◌∷◌, ◌++◌, length, get_or, take, drop, refl, ap, sym}
 use Rattle.std.proofs.Common.{◌∙◌, append_assoc, append-nil}
 use Rattle.std.proofs.lemmas.List.{take_more}
 use Rattle.gq_model.specs.machine.Program.{text_eq}
 use Rattle.gq_model.specs.machine.Lists.{any_of}
-use Rattle.gq_model.specs.rules.Use.{services_of}
+use Rattle.std.proofs.lemmas.Bool.{and_parts}
+use Rattle.gq_model.specs.declared.program.Instruction.{Instruction}
+use Rattle.gq_model.specs.declared.program.Instruction.TheVariants.{Say, Out, Drop, Dup, Push, Divide, Modulo, Get, Set, Index, Combine, Make, MakePool, Load}
+use Rattle.gq_model.specs.declared.program.Instruction.TheVariants.{Store, Free, Take, Give, Peek, Poke, Open, Upgrade, Call, Close}
+use Rattle.gq_model.specs.machine.Program.{Statements, Done, Do}
+use Rattle.gq_model.specs.machine.Program as program
+use Rattle.gq_model.specs.rules.Use.{opened_by, services_of}
+use Rattle.gq_program.specs.Notes.{asks_nothing, is_quiet}
 use Rattle.gq_program.specs.Trees.{tree_of}
 use Rattle.gq_program.specs.declared.program.Statement.{Statement}
 use Rattle.gq_program.specs.declared.program.Statement.TheVariants.{Plain, If, Loop}
@@ -27,6 +34,48 @@ services_here items i st h e = ap (λ l. services_of (tree_of l)) (here_is items
 -- those of a statement are put at the end
 pub pushed : (old more first rest left : List (List ℕ)) → more ≡ old ++ first → left ≡ first ++ rest → more ++ rest ≡ old ++ left
 pushed old more first rest left e h = rw (e, h) (append_assoc old first rest)
+
+-- a statement without a service opens none
+opens_none : (i : Instruction) → asks_nothing i ≡ true → opened_by i ≡ []
+opens_none (Say text) e = refl
+opens_none Out e = refl
+opens_none Drop e = refl
+opens_none Dup e = refl
+opens_none (Push n) e = refl
+opens_none (Divide n) e = refl
+opens_none (Modulo n) e = refl
+opens_none (Get i) e = refl
+opens_none (Set i) e = refl
+opens_none (Index d) e = refl
+opens_none (Combine f) e = refl
+opens_none (Make form place n) e = refl
+opens_none (MakePool place n m) e = refl
+opens_none (Load width place) e = refl
+opens_none (Store width place) e = refl
+opens_none (Free place) e = refl
+opens_none (Take place) e = refl
+opens_none (Give place) e = refl
+opens_none (Peek place) e = refl
+opens_none (Poke place) e = refl
+opens_none (Open place service n) e = cc
+opens_none (Upgrade place n) e = refl
+opens_none (Call place) e = refl
+opens_none (Close place) e = refl
+
+-- a list that asks for nothing opens no service
+pub quiet_opens : (b : Statements) → is_quiet b ≡ true → services_of b ≡ []
+quiet_opens Done e = refl
+quiet_opens (Do i rest) e = let p = and_parts (asks_nothing i) (is_quiet rest) e in rw (opens_none i p.0, quiet_opens rest p.1) refl
+quiet_opens (program.If arm other rest) e =
+    let p = and_parts (is_quiet arm && is_quiet other) (is_quiet rest) e in
+    let q = and_parts (is_quiet arm) (is_quiet other) p.0 in
+    rw (quiet_opens arm q.0, quiet_opens other q.1, quiet_opens rest p.1) refl
+quiet_opens (program.Loop count body rest) e =
+    let p = and_parts (is_quiet body) (is_quiet rest) e in rw (quiet_opens body p.0, quiet_opens rest p.1) refl
+
+-- and these services with none of a list are these
+pub none_more : (services : List (List ℕ)) (b : Statements) → is_quiet b ≡ true → services ≡ services ++ services_of b
+none_more services b e = rw (quiet_opens b e) (sym (append-nil services))
 
 -- EACH ONCE
 

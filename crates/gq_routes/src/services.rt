@@ -12,11 +12,14 @@ use gq_scenario::lines::same_bytes;
 use gq_scenario::tree::copied;
 use std::alloc::{AllocError, Global};
 
-// Puts the services of the open statements of a list at the end, in the order of the text.
+// Puts the services of the open statements of a list at the end, in the order of the text. A list that asks for nothing opens none.
 #[cycle(opened)]
 fn push_opened(services: &mut Vec<Name>, body: &Body) -> Result<(), AllocError>
     ensures { OnOk result (services.new.items ≡ services.old.items ++ services_of body.now) }
 {
+    if body.is_quiet() {
+        return Ok(());
+    }
     for statement in body.statements() {
         push_opened_in(services, statement)?;
     }

@@ -42,7 +42,7 @@ fn knows_names(rt: HostRuntime) {
 }
 
 #[test]
-fn knows_texts(rt: HostRuntime) {
+fn knows_texts(rt: HostRuntime) -> Result<(), Fail> {
     for (bytes, said) in [
         (b"".as_slice(), true),
         (b"hello, world".as_slice(), true),
@@ -50,14 +50,16 @@ fn knows_texts(rt: HostRuntime) {
         ([b'x'; 64].as_slice(), true),
         ([b'x'; 65].as_slice(), false),
     ] {
-        assert_eq!(rt; (is_said(bytes), Text::new(bytes).is_some()), (said, said));
+        let text = Text::new(rt.alloc(), bytes)?;
+        assert_eq!(rt; (is_said(bytes), text.is_some()), (said, said));
     }
+    Ok(())
 }
 
 #[test]
 fn keeps_bytes(rt: HostRuntime) -> Result<(), Fail> {
     let echo = Name::new(b"echo").ok_or("a name")?;
-    let hello = Text::new(b"hello").ok_or("a text")?;
+    let hello = Text::new(rt.alloc(), b"hello")?.ok_or("a text")?;
     assert!(rt; echo.as_bytes() == b"echo".as_slice() && hello.as_bytes() == b"hello".as_slice());
     Ok(())
 }

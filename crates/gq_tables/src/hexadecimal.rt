@@ -7,16 +7,15 @@ ghost use Rattle.gq_scenario.specs.Keys.{unhex};
 use hex::FromHexError;
 use std::alloc::{AllocError, Global};
 
-// Whether each byte is a digit.
+// Whether each byte is a digit. All are looked at, several at a time.
 fn are_digits(text: &[u8]) -> bool
     ensures { result ≡ all_of is_ascii_hexdigit text.now }
 {
+    let mut are = true;
     for byte in text {
-        if !byte.is_ascii_hexdigit() {
-            return false;
-        }
+        are &= byte.is_ascii_hexdigit();
     }
-    true
+    are
 }
 
 /// Whether a text spells bytes.

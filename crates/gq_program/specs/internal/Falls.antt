@@ -6,10 +6,17 @@ use Rattle.gq_model.specs.machine.Program.{size}
 use Rattle.gq_program.specs.Trees.{tree_of}
 use Rattle.gq_program.specs.declared.program.Statement.{Statement}
 use Rattle.gq_program.specs.declared.program.Statement.TheVariants.{Plain, If, Loop}
-use Rattle.gq_program.specs.declared.program.Body.TheDeep.{deep-Statement}
+use Rattle.gq_program.specs.declared.program.Listed.{Listed}
+use Rattle.gq_program.specs.declared.program.Listed.TheVariants.{Nothing, Statements}
+use Rattle.gq_program.specs.declared.program.Body.TheDeep.{deep-Statement, deep-Listed}
+use Rattle.gq_program.specs.internal.Listed.{items_of}
 
 pub falls : (items : List Statement) → most deep-Statement items ≤ size (tree_of items)
 falls [] = omega arith
 falls (Plain i ∷ rest) = omega (arith, falls rest)
 falls (If arm other ∷ rest) = omega (arith, falls rest)
 falls (Loop n body ∷ rest) = omega (arith, falls rest)
+
+pub falls_in : (l : Listed) → deep-Listed l ≤ size (tree_of (items_of l))
+falls_in Nothing = omega arith
+falls_in (Statements b) = omega (arith, falls b.value.statements.items)

@@ -11,7 +11,7 @@ use Rattle.gq_caps.specs.Measured.{total_of, measured}
 use Rattle.gq_rules.specs.Flowing.{few_loops}
 use Rattle.gq_flow.specs.internal.Steps.{chosen}
 use Rattle.gq_flow.specs.Peaks.{measure_of, Peaks}
-use Rattle.gq_flow.specs.internal.Stillness.{is_still}
+use Rattle.gq_program.specs.Notes.{is_still}
 use Rattle.gq_flow.proofs.Unchanged.{still_second, still_join, still_round, if_as, loop_as, none_are, on_any}
 use Rattle.gq_flow.proofs.Flows.{flow_here, stops, size_at, few_here, goes_on}
 use Rattle.gq_rules.proofs.Programs.{parts}

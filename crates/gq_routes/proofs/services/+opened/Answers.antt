@@ -1,6 +1,6 @@
-use Rattle.std.proofs.Common.{◌∙◌, ap, arith, rules}
+use Rattle.std.proofs.Common.{◌∙◌, ap, arith, rules, sym}
 use Rattle.gq_model.specs.machine.Program.{size}
-use Rattle.gq_routes.proofs.Opened_services.{services_here, pushed}
+use Rattle.gq_routes.proofs.Opened_services.{services_here, pushed, none_more}
 use Rattle.gq_program.proofs.Sizes.{size_here}
 use Rattle.gq_routes.proofs.services.+opened.Goals as goal
 
@@ -20,3 +20,6 @@ push_opened-loop-statement-preserved t c =
 
 pub push_opened_in-returns-in-Loop : goal.push_opened_in-returns-in-Loop
 push_opened_in-returns-in-Loop t c = search rules
+
+pub push_opened-returns-then-is_quiet : goal.push_opened-returns-then-is_quiet
+push_opened-returns-then-is_quiet t c = none_more c.args.services.now.items c.args.body.now (sym c.is_quiet.ensures ∙ c.if-is_quiet.true)
