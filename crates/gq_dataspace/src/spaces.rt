@@ -265,6 +265,7 @@ impl Spaces {
 }
 
 // Takes a frame, one that was never handed out where `new` says so and there is one.
+#[inline(always)]
 fn next_frame(pages: &mut Pages, new: bool) -> FrameNo
     requires { 0 < count_free pages.old }
     ensures was_free { IsFree pages.old result.0 }
