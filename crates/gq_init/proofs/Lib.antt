@@ -1,4 +1,5 @@
 pub mod Turning
+pub mod Reading
 pub mod Counts
 pub mod Rows
 pub mod Named

@@ -7,11 +7,7 @@ use Rattle.gq_model.specs.texts.Letters.{pieces}
 use Rattle.gq_model.specs.machine.Scenario.{Component}
 use Rattle.gq_model.specs.texts.Turns.{Turned, turns_from, turn_in, turn_onto, says_nothing, after_line, greatest_turns}
 use Rattle.gq_init.specs.TurnLines.{turn_on, line_turn}
-
--- these turns before others
-abbrev pub prepended : List (ℕ × ℕ) → Turned → Turned
-prepended turns (Ok rest) = Ok (turns ++ rest)
-prepended turns (Err fault) = Err fault
+use Rattle.gq_init.specs.TurnReading.{prepended}
 
 pub prepended-empty : (answer : Turned) → prepended [] answer ≡ answer
 prepended-empty (Ok rest) = refl

@@ -1,3 +1,4 @@
 pub mod NodeTables
 pub mod TurnLines
+pub mod TurnReading
 pub mod internal

@@ -1,2 +1,3 @@
 pub mod Ahead
 pub mod Kept_tables
+pub mod Reading

@@ -12,6 +12,8 @@
 mod item;
 mod names;
 pub mod table;
+mod turn_list;
+pub mod turn_reader;
 pub mod turns;
 
 pub use gq_reader::{read_scenario, reader};
@@ -21,4 +23,5 @@ pub use gq_scenario::scenario::Scenario;
 pub use gq_scenario::{fault, key, node, scenario, source};
 pub use item::TurnItem;
 pub use table::NodeTable;
+pub use turn_reader::TurnReader;
 pub use turns::{read_items, read_turns};

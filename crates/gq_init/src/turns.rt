@@ -11,6 +11,7 @@ ghost use Rattle.gq_init.specs.TurnLines.{IsTurned, line_turn};
 use crate::item::TurnItem;
 use crate::names::NameIndex;
 use crate::table::NodeTable;
+use crate::turn_list::TurnList;
 use gq_model::fault::TurnFault;
 use gq_model::letters::{is_digit, is_name};
 use gq_model::limits::{GREATEST_TURNS, GREATEST_TURNS_TEXT};
@@ -29,6 +30,16 @@ pub enum TurnsError {
     /// The first fault of the text, and its line from 1; a text that is too long has it at line 0.
     #[error("{fault} line {line}")]
     Fault { fault: TurnFault, line: u64 },
+}
+
+impl From<AllocError> for TurnsError {
+    ghost use Rattle.gq_init.specs.declared.turns.TurnsError.TheVariants.{Memory};
+
+    ghost from_gives = { λ a e. e ≡ Memory a };
+
+    fn from(refused: AllocError) -> TurnsError {
+        TurnsError::Memory(refused)
+    }
 }
 
 impl<T: Drop> From<AllocFailed<T>> for TurnsError {
@@ -151,10 +162,10 @@ fn count_ahead(text: &[u8]) -> Option<(u32, &[u8])>
     None
 }
 
-// The turn that the first line of a text is, in one go: a leaf's name, a space, a number and a line feed; and what follows it. `None` says nothing.
+/// The turn that the first line of a text is, in one go: a leaf's name, a space, a number and a line feed; and what follows it. `None` says nothing.
 #[tactic(auto, using(crate::proofs::Ahead::turn_told))]
 #[inline(always)]
-fn turn_ahead<'a>(
+pub(crate) fn turn_ahead<'a>(
     text: &'a [u8],
     table: &NodeTable,
     names: &NameIndex,
@@ -194,10 +205,9 @@ fn after_comment(text: &[u8]) -> Option<&[u8]>
     }
 }
 
-// What the first line of a text says after so many turns, and what follows its line feed.
+/// What the first line of a text says after so many turns, and what follows its line feed.
 #[tactic(auto, using(crate::proofs::Ahead::comment_told))]
-#[inline(always)]
-fn next_turn<'a>(
+pub(crate) fn next_turn<'a>(
     text: &'a [u8],
     turns: u32,
     table: &NodeTable,
@@ -212,11 +222,6 @@ fn next_turn<'a>(
     if !text.is_empty() && text[0] == b'#' {
         return (Ok(None), after_comment(text));
     }
-    if let Some((turn, after)) = turn_ahead(text, table, names) {
-        if turn.1 <= GREATEST_TURNS - turns {
-            return (Ok(Some(turn)), Some(after));
-        }
-    }
     let (line, after) = next_line(text);
     (read_line(line, turns, table, names), after)
 }
@@ -225,36 +230,6 @@ fn next_turn<'a>(
 // use the host gives no page.
 fn most_turns(text: &[u8]) -> usize {
     (text.len() / 4 + 1).min(GREATEST_TURNS as usize)
-}
-
-// The turns of the lines of a text.
-fn read_lines(alloc: Global, text: &[u8], table: &NodeTable) -> Result<Vec<TurnItem>, TurnsError>
-    requires { length text.now ≤ 2 ^ 24 }
-    ensures { IsTurned result (turns_from (components table.now) 1 0 (lines text.now)) }
-{
-    let names = table.name_index();
-    let _few = table.leaf_count();
-    let mut turns = match Vec::with_capacity(alloc, most_turns(text)) {
-        Ok(turns) => turns,
-        Err(refused) => return Err(TurnsError::Memory(refused)),
-    };
-    let mut total: u32 = 0;
-    let mut line: u64 = 0;
-    let mut left = Some(text);
-    while let Some(rest) = left {
-        let (said, after) = next_turn(rest, total, table, &names);
-        left = after;
-        line += 1;
-        match said {
-            Ok(None) => {}
-            Ok(Some((leaf, count))) => {
-                total += count;
-                turns.push(TurnItem::new(leaf, count))?;
-            }
-            Err(fault) => return Err(TurnsError::Fault { fault, line }),
-        }
-    }
-    Ok(turns)
 }
 
 /// The turns that a text says, as `read_turns` reads them, each in four bytes. Refused as there.
@@ -271,7 +246,10 @@ pub fn read_items(
             line: 0,
         });
     }
-    read_lines(alloc, text, table)
+    let names = table.name_index();
+    let mut turns = TurnList::new(alloc, most_turns(text))?;
+    turns.read_lines(text, true, table, &names)?;
+    turns.finish()
 }
 
 // The leaf and the number of each of these items.
