@@ -35,6 +35,12 @@ pub record IsInput (old new : Option (List ℕ)) (text : List ℕ) : Type 0 wher
   pub end : IsAtEnd new
   pub size : length text ≤ 18874368
 
+-- such a text, of which this holds
+pub record ReadsText (old new : Option (List ℕ)) (holds : List ℕ → Type 0) : Type 0 where
+  pub text : List ℕ
+  pub read : IsInput old new text
+  pub so : holds text
+
 -- WRITING
 
 -- what a command is to write: the budgets of a scenario, the text of a run, the code of a leaf, or a text that is there

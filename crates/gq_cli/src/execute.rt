@@ -2,14 +2,18 @@
 ghost use Rattle.std.specs.Prelude.{◌≡◌, ◌≢◌, ◌⊎◌, true, false, string_bytes, Ok, Err, IfErr, OnOk};
 ghost use Rattle.gq_lines.specs.Counts.{written_to, failures_of};
 ghost use Rattle.gq_lines.specs.Writes.{IsRaised};
-ghost use Rattle.gq_world.specs.Outcomes.{IsCutShort, IsWhole};
+ghost use Rattle.gq_world.specs.Outcomes.{GivesOf, IsCutShort, IsWhole};
+ghost use Rattle.gq_world.specs.Whole.{run_written};
 ghost use Rattle.gq_world.specs.Headline.{WritesPromised};
 ghost use Rattle.gq_input.specs.Input.{GivesAtMost};
 ghost use Rattle.gq_cli.specs.Ends.{Ended, IsKnown, IsSilent};
-ghost use Rattle.gq_cli.specs.Executed.{Executes, IsRefusal, IsTold, IsUpheldBy, ReadsScenario, RunsFiles, RunsStored, Check_of, Run_of, Asm_of, Text_of};
+ghost use Rattle.gq_cli.specs.internal.Running.{RefusesAs};
+ghost use Rattle.gq_cli.specs.Executed.{Executes, IsRefusal, IsTold, IsUpheldBy, ReadsScenario, ReadsText, RunsFiles, RunsStored};
+ghost use Rattle.gq_cli.specs.Executed.{Asm_of, Check_of, Run_of, Text_of};
 ghost use Rattle.gq_cli.specs.Executed.{reads_scenario, reads_turns, status_line, written_of};
 ghost use Rattle.gq_cli.specs.declared.execute.Fault.TheVariants as fault;
 
+use crate::turns::run_loaded;
 use gq_command::command::Command;
 use gq_command::status::Status;
 use gq_input::input::{InputError, read_input};
@@ -19,12 +23,13 @@ use gq_world::asm::asm;
 use gq_world::check::check;
 use gq_world::fault::RunFault;
 use gq_world::run::run;
+use gq_world::world::World;
 use std::alloc::{AllocError, Global};
 use std::io::{Read, Write};
 
 // Why a command was not done.
 #[derive(Drop)]
-enum Fault {
+pub(crate) enum Fault {
     // The texts are refused, by this line.
     Refused(String),
     // Host memory was refused.
@@ -199,8 +204,56 @@ fn run_files<R: Read, T: Read, W: Write>(
     ensures turns_most { GivesAtMost 18874369 (T.remaining turns.old) (T.remaining turns.new) }
 {
     let scenario = read_input(alloc, scenario)?;
-    let turns = read_input(alloc, turns)?;
-    run_texts(alloc, scenario.as_slice(), turns.as_slice(), out)
+    run_reader(alloc, scenario.as_slice(), turns, out)
+}
+
+// Runs a scenario over the turns that a reader has. Of their text no more is kept than a piece.
+fn run_reader<T: Read, W: Write>(
+    alloc: Global,
+    scenario: &[u8],
+    turns: &mut T,
+    out: &mut Counted<W>,
+) -> Result<(), Fault>
+    ensures ended { IsKnown result → ReadsText (T.remaining turns.old) (T.remaining turns.new) (λ text.
+        Ended result (written_to W.contents out.old) (written_to W.contents out.new) (Run_of scenario.now text)) }
+    ensures upheld { OnOk result (ReadsText (T.remaining turns.old) (T.remaining turns.new) (λ text.
+        WritesPromised scenario.now text (written_to W.contents out.old) (written_to W.contents out.new))) }
+    ensures counted { OnOk result (failures_of out.new ≡ failures_of out.old) }
+    ensures silent { IfErr result (λ f. IsSilent f → out.new ≡ out.old) }
+    ensures raised { result ≡ Err fault.Write → IsRaised (failures_of out.old) (failures_of out.new) }
+    ensures most { GivesAtMost 18874369 (T.remaining turns.old) (T.remaining turns.new) }
+{
+    match World::load(alloc, scenario) {
+        Ok(mut world) => {
+            let ran = run_loaded(alloc, &mut world, turns, out);
+            drop(world);
+            ran
+        }
+        Err(refused) => Err(refusal(alloc, scenario, refused, turns)),
+    }
+}
+
+// Why a scenario is not run. The turns are read to their end first, since a read that fails is told before it.
+fn refusal<T: Read>(alloc: Global, scenario: &[u8], fault: RunFault, turns: &mut T) -> Fault
+    requires { GivesOf fault scenario.now }
+    ensures refused { IsKnown {A = Unit {0}} (Err result) → ReadsText (T.remaining turns.old) (T.remaining turns.new) (λ text.
+        RefusesAs (run_written scenario.now text) result) }
+    ensures silent { IsSilent result }
+    ensures most { GivesAtMost 18874369 (T.remaining turns.old) (T.remaining turns.new) }
+{
+    match read_input(alloc, turns) {
+        Ok(_) => {}
+        Err(InputError::Memory(_)) => return Fault::Memory,
+        Err(InputError::Fault) => return Fault::Read,
+    }
+    match fault {
+        RunFault::Memory => Fault::Memory,
+        RunFault::Write => unreachable!(),
+        refused => match format!(in alloc; "trade: {refused}\n") {
+            Ok(line) => Fault::Refused(line),
+            Err(_) => Fault::Memory,
+        },
+    }
 }
 
 // Runs what a reader has in the stored form.

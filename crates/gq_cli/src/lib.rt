@@ -10,6 +10,7 @@
 #![tactic(auto)]
 
 pub mod execute;
+mod turns;
 
 pub use gq_command::{command, command_line, status};
 pub use gq_input::{input, stored};

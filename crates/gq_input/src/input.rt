@@ -10,7 +10,7 @@ use std::io::Read;
 use thiserror::Error;
 
 /// The bytes that one read asks for.
-const CHUNK: usize = 65536;
+pub const CHUNK: usize = 65536;
 
 /// Why an input was not read.
 #[derive(Debug, Drop, Error)]
@@ -58,8 +58,8 @@ pub fn read_input<R: Read>(alloc: Global, reader: &mut R) -> Result<Vec<u8>, Inp
     Err(InputError::Fault)
 }
 
-// One read, of which every failure is a file fault.
-fn read_once<R: Read>(reader: &mut R, room: &mut [u8]) -> Result<usize, InputError>
+/// One read, of which every failure is a file fault. It is the only call of the reader's `read`.
+pub fn read_once<R: Read>(reader: &mut R, room: &mut [u8]) -> Result<usize, InputError>
     ensures bound { ReadsAtMost result room.new }
     ensures bytes { ReadConsumes (R.remaining reader.old) (R.remaining reader.new) result room.new }
 {

@@ -1,5 +1,5 @@
 -- A world between two turns, what it keeps, and what a turn does.
-use Rattle.std.specs.Prelude.{◌≡◌, ℕ, Bool, true, List, slice_get, Option, Ok}
+use Rattle.std.specs.Prelude.{◌≡◌, ◌<◌, ℕ, Bool, true, List, [], ◌∷◌, slice_get, Option, Ok}
 use Rattle.std.specs.Io.KnownBytes.{Appends}
 use Rattle.gq_model.specs.machine.Scenario.{Scenario, components, system}
 use Rattle.gq_model.specs.machine.World as model
@@ -40,3 +40,8 @@ pub record StopsWriting (old new : World) (leaf : ℕ) (before after : Option (L
   pub next : next (system old.scenario) old.world leaf ≡ Ok (new.world, step)
   pub stopped : new.stopped ≡ true
   pub written : IsFront before after (line_told old.scenario leaf step)
+
+-- each turn is of a leaf below this number
+abbrev pub AreBelow : ℕ → List (ℕ × ℕ) → Type 0
+AreBelow n [] = Unit {0}
+AreBelow n (t ∷ turns) = (t.0 < n) × AreBelow n turns

@@ -96,8 +96,8 @@ impl World {
         self.budgets.as_slice()
     }
 
-    // The nodes of the scenario that runs.
-    pub(crate) fn table(&self) -> &NodeTable
+    /// The nodes of the scenario that runs.
+    pub fn table(&self) -> &NodeTable
         ensures { result.now ≡ self.now.scenario }
     {
         self.machine.table()

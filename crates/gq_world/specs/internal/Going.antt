@@ -1,5 +1,5 @@
 -- What turns do to a world, and what they write.
-use Rattle.std.specs.Prelude.{◌≡◌, ◌<◌, ℕ, false, List, [], ◌∷◌, ◌++◌, Option, None, Ok}
+use Rattle.std.specs.Prelude.{◌≡◌, ℕ, false, List, ◌++◌, Option, None, Ok}
 use Rattle.std.specs.Io.KnownBytes.{Appends}
 use Rattle.gq_model.specs.machine.World as model
 use Rattle.gq_model.specs.machine.Run.{Ran}
@@ -7,6 +7,7 @@ use Rattle.gq_model.specs.machine.Scenario.{Scenario, components}
 use Rattle.gq_model.specs.texts.Turns.{turned}
 use Rattle.gq_world.specs.Whole.{Written, whole_of, written_turns}
 use Rattle.gq_world.specs.Worlds.{World}
+pub use Rattle.gq_world.specs.Worlds.{AreBelow}
 
 -- a run of which no step was wrong
 abbrev pub going : model.World → List ℕ → Ran
@@ -32,11 +33,6 @@ pub record IsCut (turns : Ran → Ran) (old : World) (before after : Option (Lis
   pub more : List ℕ → List ℕ
   pub written : Appends before after text
   pub front : (front : List ℕ) → (turns (going old.world front)).text ≡ front ++ text ++ more front
-
--- each turn is of a leaf below this number
-abbrev pub AreBelow : ℕ → List (ℕ × ℕ) → Type 0
-AreBelow n [] = Unit {0}
-AreBelow n (t ∷ turns) = (t.0 < n) × AreBelow n turns
 
 -- what a run of this scenario by a text of turns writes, or the first fault of the turns
 abbrev pub turns_written : Scenario → List ℕ → Written

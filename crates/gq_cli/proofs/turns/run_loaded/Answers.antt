@@ -1,0 +1,16 @@
+-- The turns are those of the world's own scenario.
+use Rattle.std.proofs.Common.{◌≡◌, ap, subst, sym, length, ℕ, List, Ok, ◌∙◌}
+use Rattle.std.specs.Io.KnownBytes.{Appends}
+use Rattle.gq_model.specs.machine.Scenario.{Scenario, components}
+use Rattle.gq_model.specs.texts.Turns.{turned}
+use Rattle.gq_world.specs.Worlds.{AreBelow}
+use Rattle.gq_world.specs.Whole.{whole_of}
+use Rattle.gq_world.proofs.Whole.{below_of}
+use Rattle.gq_cli.proofs.turns.run_loaded.Goals as goal
+
+pub run_world-requires-clause-leaves : goal.run_world-requires-clause-leaves
+run_world-requires-clause-leaves g c =
+    let s = c.args.world.now.scenario in
+    let read = c.in_ok-items.ensures.turns in
+    subst (λ (t : List (ℕ × ℕ)). AreBelow (length (components s)) t) (sym c.as_slice.ensures.value)
+    (below_of s c.table.result.now read.text c.in_ok-items.items.items c.table.ensures read.so)

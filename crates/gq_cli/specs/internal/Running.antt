@@ -1,0 +1,43 @@
+-- How a run over the turns of a reader ends.
+use Rattle.std.specs.Prelude.{◌≡◌, ℕ, List, ◌++◌, ◌+◌, length, Option, Result, Ok, Err, Vec, string_bytes}
+use Rattle.std.specs.Io.KnownBytes.{Consumes}
+use Rattle.std.specs.declared.alloc.Global.{Global}
+use Rattle.gq_model.specs.machine.Scenario.{Component, Scenario, components}
+use Rattle.gq_model.specs.texts.Turns.{turned}
+use Rattle.gq_init.specs.TurnReading.{Reading, answer}
+use Rattle.gq_world.specs.Outcomes.{IsCutShort}
+use Rattle.gq_world.specs.Whole.{Written}
+use Rattle.gq_world.specs.internal.Going.{HasWritten, turns_written}
+use Rattle.gq_cli.specs.Executed.{ReadsText}
+use Rattle.gq_cli.specs.declared.execute.Fault.{Fault}
+use Rattle.gq_cli.specs.declared.execute.Fault.TheVariants.{Refused, Memory, Read, Write}
+
+-- the turns of a scenario were read to the end of a reader, or are refused by this line
+abbrev pub ReadsTurns : Scenario → (old new : Option (List ℕ)) → Result (Vec (ℕ × ℕ) Global) Fault → Type 0
+ReadsTurns s old new (Ok items) = ReadsText old new (λ text. turned (components s) text ≡ Ok items.items)
+ReadsTurns s old new (Err (Refused line)) = ReadsText old new (λ text. turns_written s text ≡ Err (string_bytes line))
+ReadsTurns s old new (Err Memory) = Unit {0}
+ReadsTurns s old new (Err Read) = Unit {0}
+ReadsTurns s old new (Err Write) = Unit {0}
+
+-- a text came from a reader, and what is told once the rest comes is what was told of both
+pub record HasCome (components : List Component) (old new : Option (List ℕ)) (before after : Reading) : Type 0 where
+  pub text : List ℕ
+  pub taken : Consumes old new text
+  pub size : after.size ≡ before.size + length text
+  pub same : (rest : List ℕ) → answer components after rest ≡ answer components before (text ++ rest)
+
+-- how a run by the turns of this text ends
+abbrev pub EndsAs : Scenario → List ℕ → {A : Type 0} → Result A Fault → (before after : Option (List ℕ)) → Type 0
+EndsAs s text (Ok u) before after = HasWritten s text before after
+EndsAs s text (Err (Refused line)) before after = turns_written s text ≡ Err (string_bytes line)
+EndsAs s text (Err Memory) before after = ⊥
+EndsAs s text (Err Read) before after = ⊥
+EndsAs s text (Err Write) before after = IsCutShort (turns_written s text) before after
+
+-- why what is to be written is not
+abbrev pub RefusesAs : Written → Fault → Type 0
+RefusesAs written (Refused line) = written ≡ Err (string_bytes line)
+RefusesAs written Memory = Unit {0}
+RefusesAs written Read = Unit {0}
+RefusesAs written Write = ⊥
