@@ -125,12 +125,25 @@ impl Kind {
         ensures weights { (m : Measure) → total_of result m ≡ weight m (known self.now) }
         ensures small { IsSmall (known self.now) }
     {
+        let paid = self.paid();
+        let (size, count) = self.heap_places();
+        Totals::of_class(paid.ram, paid.caps, size, count)
+    }
+
+    /// The bytes and capabilities that it holds and has lent.
+    #[inline(always)]
+    pub(crate) fn paid(&self) -> Amount
+        ensures ram { result.ram ≡ weight Measure.Ram (known self.now) }
+        ensures caps { result.caps ≡ weight Measure.Caps (known self.now) }
+        ensures small { result.ram ≤ 2 ^ 35 }
+        ensures few { result.caps ≤ 2 ^ 35 }
+    {
         let price = self.price();
         let lent = self.lent();
-        let ram = price.ram + lent.ram;
-        let caps = price.caps + lent.caps;
-        let (size, count) = self.heap_places();
-        Totals::of_class(ram, caps, size, count)
+        Amount {
+            ram: price.ram + lent.ram,
+            caps: price.caps + lent.caps,
+        }
     }
 
     /// Whether it takes no place of the heap, of whatever class.

@@ -7,6 +7,7 @@ ghost use Rattle.gq_caps.specs.Measured.{total_of, limit_of, AreFew};
 ghost use Rattle.gq_caps.specs.internal.Totalled.{weight, IsSmall};
 
 use crate::kind::Kind;
+use gq_tariff::Amount;
 use gq_tariff::class::Class;
 
 /// What is measured of slots.
@@ -115,15 +116,17 @@ impl Totals {
         }
     }
 
-    /// The same where neither takes a place of the heap, so that bytes and capabilities alone change.
+    /// The same where bytes and capabilities alone change.
     #[inline(always)]
-    fn paid(&self, gone: &Totals, come: &Totals) -> Totals
-        requires gone { (m : Measure) → total_of gone.now m ≤ total_of self.now m }
-        requires small { AreFew self.now }
-        requires come { (m : Measure) → total_of come.now m ≤ limit_of m }
-        requires gone_places { (class : Class) → total_of gone.now (Measure.Places class) ≡ 0 }
-        requires come_places { (class : Class) → total_of come.now (Measure.Places class) ≡ 0 }
-        ensures { (m : Measure) → total_of result m + total_of gone.now m ≡ total_of self.now m + total_of come.now m }
+    fn paid(&self, gone: &Amount, come: &Amount) -> Totals
+        requires ram { gone.now.ram ≤ self.now.ram }
+        requires caps { gone.now.caps ≤ self.now.caps }
+        requires few { AreFew self.now }
+        requires small { come.now.ram ≤ 2 ^ 35 }
+        requires small_caps { come.now.caps ≤ 2 ^ 35 }
+        ensures ram { result.ram + gone.now.ram ≡ self.now.ram + come.now.ram }
+        ensures caps { result.caps + gone.now.caps ≡ self.now.caps + come.now.caps }
+        ensures places { (class : Class) → total_of result (Measure.Places class) ≡ total_of self.now (Measure.Places class) }
     {
         Totals {
             ram: self.ram - gone.ram + come.ram,
@@ -140,12 +143,10 @@ impl Totals {
         ensures changed { (m : Measure) → total_of result m + weight m (known old.now) ≡ total_of self.now m + weight m (known new.now) }
         ensures small { IsSmall (known new.now) }
     {
-        let gone = old.weights();
-        let come = new.weights();
         if old.takes_no_place() && new.takes_no_place() {
-            return self.paid(&gone, &come);
+            return self.paid(&old.paid(), &new.paid());
         }
-        self.moved(&gone, &come)
+        self.moved(&old.weights(), &new.weights())
     }
 
     /// Each is at least what it is in others from now on.
