@@ -1,11 +1,14 @@
 -- The pieces of a text, by what stands at its front.
 use Rattle.std.proofs.Common.{◌≡◌, ◌<◌, ◌≤◌, ◌-◌, ℕ, ◌==◌, suc, if◌then◌else◌, Bool, true, false, List, [], ◌∷◌, ◌++◌, length, get_or, take, drop}
-use Rattle.std.proofs.Common.{Option, Some, None, zero, drop-cons, append-nil, ◌+◌, add-one, refl, sym, ◌∙◌, ap, arith}
+use Rattle.std.proofs.Common.{Option, Some, None, zero, drop-cons, append-nil, ◌+◌, add-one, refl, sym, ◌∙◌, ap, subst, arith}
 use Rattle.std.proofs.lemmas.Bool.{eqb-true, eqb-false}
 use Rattle.std.proofs.Math.Seq.{take-suc, drop-length}
 use Rattle.gq_model.specs.machine.Lists.{all_of}
 use Rattle.gq_model.specs.texts.Letters.{is_blank, onto_first, pieces, non_empty, words, unindented, past_word, lines, without_return, without_returns}
 use Rattle.gq_model.specs.texts.Spelling.{before, quoted}
+use Rattle.std.specs.Prelude.{IfSome, IfNone}
+use Rattle.std.specs.Iterator.{YieldsFirst}
+use Rattle.memchr.specs.Find.{is_byte, places_from, places}
 use Rattle.gq_asm.specs.internal.Pieces.{front_word, NextWord, front_line, past_feed, size_left, onto}
 
 -- by the truth of a test
@@ -74,6 +77,72 @@ returns_of front (Some text) = rw (pieces-line text) refl
 
 pub lines-split : (text : List ℕ) → lines text ≡ lines_of (front_line text) (past_feed text)
 lines-split text = rw (pieces-line text) (returns_of (front_line text) (past_feed text))
+
+-- the first of the places of line feeds
+first_place : (text : List ℕ) (i n k : ℕ) (more : List ℕ) → places_from (is_byte 10) text i n ≡ k ∷ more →
+    (i ≤ k) × (k < i + n) × (get_or text k 0 ≡ 10) × ((j : ℕ) → i ≤ j → j < k → get_or text j 0 ≡ 10 → ⊥)
+unfolding places_from
+first_place text i zero k more e = absurd cc
+first_place text i (suc n) k more e =
+    by_test (get_or text i 0 == 10)
+    (λ yes.
+    let is : i ≡ k = cc (rw yes at e) in
+    let here : get_or text k 0 ≡ 10 = subst (λ m. get_or text m 0 ≡ 10) is (eqb-true (get_or text i 0) 10 yes) in
+    (omega (arith, is), omega (arith, is), here, λ j low high. absurd (omega (arith, is))))
+    (λ no.
+    let later = first_place text (i + 1) n k more (rw no at e) in (
+      omega (arith, later.0),
+      omega (arith, later.1),
+      later.2,
+      λ j low high is.
+          by_test (j == i)
+          (λ same. eqb-false (get_or text i 0) 10 no (subst (λ m. get_or text m 0 ≡ 10) (eqb-true j i same) is))
+          (λ other. later.3 j (omega (arith, eqb-false j i other)) high is),
+    ))
+
+-- there is none
+no_place : (text : List ℕ) (i n : ℕ) → places_from (is_byte 10) text i n ≡ [] → (j : ℕ) → i ≤ j → j < i + n → get_or text j 0 ≡ 10 → ⊥
+unfolding places_from
+no_place text i zero e j low high is = absurd (omega arith)
+no_place text i (suc n) e j low high is =
+    by_test (get_or text i 0 == 10)
+    (λ yes. absurd (cc (rw yes at e)))
+    (λ no.
+    by_test (j == i)
+    (λ same. eqb-false (get_or text i 0) 10 no (subst (λ m. get_or text m 0 ≡ 10) (eqb-true j i same) is))
+    (λ other. no_place text (i + 1) n (rw no at e) j (omega (arith, eqb-false j i other)) (omega arith) is))
+
+-- what a search for a line feed gives
+module _ (text s t : List ℕ) where
+  pub feed_there : (r : Option ℕ) → s ≡ places (is_byte 10) text → YieldsFirst (λ rest. rest) s r t →
+      IfSome r (λ k. (k < length text) × (get_or text k 0 ≡ 10))
+  feed_there None is found = tt
+  feed_there (Some k) is found = let first = first_place text 0 (length text - 0) k t (sym is ∙ found) in (omega (arith, first.1), first.2)
+
+  pub feed_first : (r : Option ℕ) → s ≡ places (is_byte 10) text → YieldsFirst (λ rest. rest) s r t →
+      IfSome r (λ k. (j : ℕ) → j < k → get_or text j 0 ≡ 10 → ⊥)
+  feed_first None is found = tt
+  feed_first (Some k) is found = λ j less. (first_place text 0 (length text - 0) k t (sym is ∙ found)).3 j (omega arith) less
+
+  pub feed_none : (r : Option ℕ) → s ≡ places (is_byte 10) text → YieldsFirst (λ rest. rest) s r t →
+      IfNone r ((j : ℕ) → j < length text → get_or text j 0 ≡ 10 → ⊥)
+  feed_none None is found = λ j less. no_place text 0 (length text - 0) (sym is ∙ found.0) j (omega arith) (omega arith)
+  feed_none (Some k) is found = tt
+
+-- the line that ends there
+pub line_ends : (text : List ℕ) (k : ℕ) → k < length text → get_or text k 0 ≡ 10 → ((j : ℕ) → j < k → get_or text j 0 ≡ 10 → ⊥) →
+    (take k text ≡ front_line text) × (Some (drop (suc k) text) ≡ past_feed text)
+line_ends [] k h e none = absurd (omega arith)
+line_ends (c ∷ rest) zero h e none = rw e (refl, refl)
+line_ends (c ∷ rest) (suc k) h e none =
+    let later = line_ends rest k (omega arith) e (λ j less. none (suc j) (omega arith)) in
+    rw (ne_test c 10 (none 0 (omega arith))) (ap (λ (l : List ℕ). c ∷ l) later.0, later.1)
+
+pub line_only : (text : List ℕ) → ((j : ℕ) → j < length text → get_or text j 0 ≡ 10 → ⊥) → (text ≡ front_line text) × (None ≡ past_feed text)
+line_only [] none = (refl, refl)
+line_only (c ∷ rest) none =
+    let later = line_only rest (λ j less. none (suc j) (omega arith)) in
+    rw (ne_test c 10 (none 0 (omega arith))) (ap (λ (l : List ℕ). c ∷ l) later.0, later.1)
 
 pub past_feed-shorter : (text : List ℕ) → size_left (past_feed text) ≤ length text
 past_feed-shorter [] = omega arith

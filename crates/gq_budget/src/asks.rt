@@ -6,6 +6,7 @@ ghost use Rattle.gq_budget.specs.internal.Rounds.{asked_of, asked_by, asks_for, 
 use crate::counted::CountedLeaf;
 use crate::numbers::{Numbers, table_products};
 use gq_program::Section;
+use smallvec::SmallVec;
 use std::alloc::{AllocError, Global};
 use std::marker::Model;
 
@@ -83,7 +84,7 @@ fn asked_of(
     if leads {
         leaf.requests(alloc, service, section)
     } else {
-        Ok(Numbers::new(Vec::new(alloc)))
+        Ok(Numbers::new(SmallVec::new(alloc)))
     }
 }
 
@@ -97,7 +98,7 @@ fn asked_by(
 ) -> Result<Vec<Numbers>, AllocError>
     ensures { IfOk result (λ a. a.items ≡ asked_by leaves.now leads.now service.now section) }
 {
-    let mut asked = Vec::new(alloc);
+    let mut asked = Vec::with_capacity(alloc, leaves.len())?;
     for (leaf, leads) in leaves.iter().zip(leads) {
         asked.push(asked_of(alloc, leaf, *leads, service, section)?)?;
     }
@@ -152,7 +153,7 @@ impl LeafAsks {
     pub fn round(&self, alloc: Global, table: &[Numbers]) -> Result<Numbers, AllocError>
         ensures { IfOk result (λ n. n ≡ leaf_round self.now table.now) }
     {
-        let mut often = Vec::new(alloc);
+        let mut often = SmallVec::new(alloc);
         for asks in &self.sections {
             often.push(asks.often(table))?;
         }

@@ -7,6 +7,7 @@ use crate::leaf::Leaf;
 use crate::numbers::Numbers;
 use gq_program::{Name, Section};
 use gq_verify::Requests;
+use smallvec::SmallVec;
 use std::alloc::{AllocError, Global};
 use std::marker::Model;
 
@@ -84,7 +85,7 @@ impl CountedLeaf {
     ) -> Result<Numbers, AllocError>
         ensures { IfOk result (λ r. r ≡ counts_for self.now.requests service.now section) }
     {
-        let mut counts = Vec::new(alloc);
+        let mut counts = SmallVec::new(alloc);
         for requests in &self.requests {
             counts.push(requests.count_for(service, section))?;
         }

@@ -7,6 +7,7 @@ ghost use Rattle.gq_budget.specs.internal.Counted.{AreRequests, costs_of};
 use crate::numbers::Numbers;
 use gq_program::{Body, Name, Program, Section};
 use gq_verify::{Requests, Verified, section_cost};
+use smallvec::SmallVec;
 use std::alloc::{AllocError, Global};
 use std::marker::Model;
 
@@ -95,7 +96,7 @@ impl<'a> Leaf<'a> {
     pub(crate) fn costs(&self, alloc: Global) -> Result<Numbers, AllocError>
         ensures { IfOk result (λ r. r ≡ costs_of self.now.subject.program.sections) }
     {
-        let mut costs = Vec::new(alloc);
+        let mut costs = SmallVec::new(alloc);
         for (section, body) in self.sections() {
             costs.push(section_cost(*section, body))?;
         }

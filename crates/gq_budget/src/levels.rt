@@ -6,6 +6,7 @@ ghost use Rattle.gq_budget.specs.internal.Rounds.{rounds};
 use crate::asks::LeafAsks;
 use crate::numbers::Numbers;
 use crate::rounds::{are_same, round};
+use smallvec::SmallVec;
 use std::alloc::{AllocError, Global};
 
 // A level of a leaf, of at least so much, above those of the leaves that ask for its sections, as these levels have it.
@@ -110,7 +111,7 @@ fn fill(
 fn empty(alloc: Global, count: usize) -> Result<Vec<Numbers>, AllocError> {
     let mut table = Vec::new(alloc);
     for _ in 0..count {
-        table.push(Numbers::new(Vec::new(alloc)))?;
+        table.push(Numbers::new(SmallVec::new(alloc)))?;
     }
     Ok(table)
 }

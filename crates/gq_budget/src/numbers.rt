@@ -4,12 +4,16 @@ ghost use Rattle.gq_verify.specs.Counting.{saturated};
 ghost use Rattle.gq_budget.specs.internal.Order.{AreZero};
 ghost use Rattle.gq_budget.specs.internal.Sums.{products, table_products};
 
+use smallvec::SmallVec;
 use std::marker::Model;
 
-/// A list of numbers.
+/// How many numbers take no host memory.
+pub(crate) const FEW: usize = 2;
+
+/// A list of numbers, by the sections of a leaf. Who provides nothing has one section, so that most lists take no host memory.
 #[derive(Drop)]
 pub(crate) struct Numbers {
-    numbers: Vec<u64>,
+    numbers: SmallVec<u64, FEW>,
 }
 
 impl Model for Numbers {
@@ -22,7 +26,7 @@ impl Model for Numbers {
 
 impl Numbers {
     /// These numbers.
-    pub fn new(numbers: Vec<u64>) -> Numbers
+    pub fn new(numbers: SmallVec<u64, FEW>) -> Numbers
         ensures { result ≡ numbers.items }
     {
         Numbers { numbers }
@@ -32,14 +36,14 @@ impl Numbers {
     pub fn products(&self, often: &Numbers) -> u64
         ensures { result ≡ saturated (products self.now often.now) }
     {
-        products(&self.numbers, &often.numbers)
+        products(self.numbers.as_slice(), often.numbers.as_slice())
     }
 
     /// Whether all of them are 0.
     pub fn is_zero(&self) -> bool
         ensures { result ≡ true → AreZero self.now }
     {
-        for number in &self.numbers {
+        for number in self.numbers.as_slice() {
             if *number != 0 {
                 return false;
             }

@@ -91,13 +91,13 @@ measured_empty m (suc n) =
     let rest = measured_empty m n in omega (arith, e, z, rest)
 
 -- a slot weighs no more than all of them
-pub gone_le : (ks : List Kind) (i : ℕ) (d : Kind) (t gone : Totals) → i < length ks → IsTotalled ks t →
-    ((m : Measure) → total_of gone m ≡ weight m (known (get_or ks i d))) → (m : Measure) → total_of gone m ≤ total_of t m
-gone_le ks i d t gone less h g m =
+pub gone_le : (ks : List Kind) (i : ℕ) (d : Kind) (t : Totals) → i < length ks → IsTotalled ks t → (m : Measure) →
+    weight m (known (get_or ks i d)) ≤ total_of t m
+gone_le ks i d t less h m =
     let len = length-map ks known in
     let a = weight_le m (all_known ks) i (known d) (omega (arith, less, len)) in
     let w = ap (weight m) (get_or-map known ks i d) in
-    omega (arith, a, w, g m, h.sums m)
+    omega (arith, a, w, h.sums m)
 
 -- all sums are small
 pub small_sums : (ks : List Kind) (t : Totals) → IsTotalled ks t → AreFew t
@@ -109,10 +109,9 @@ small_sums ks t h m =
     at_most_64 (total_of t m) (length ks) (limit_of m) b h.few
 
 -- the sums once a slot has changed
-pub totals_set : (ks : List Kind) (i : ℕ) (y d : Kind) (t gone come r : Totals) → i < length ks → IsTotalled ks t →
-    ((m : Measure) → total_of gone m ≡ weight m (known (get_or ks i d))) → ((m : Measure) → total_of come m ≡ weight m (known y)) → IsSmall (known y) →
-    ((m : Measure) → total_of r m + total_of gone m ≡ total_of t m + total_of come m) → IsTotalled (set ks i y) r
-totals_set ks i y d t gone come r less h g c s e = record {
+pub totals_set : (ks : List Kind) (i : ℕ) (y d : Kind) (t r : Totals) → i < length ks → IsTotalled ks t → IsSmall (known y) →
+    ((m : Measure) → total_of r m + weight m (known (get_or ks i d)) ≡ total_of t m + weight m (known y)) → IsTotalled (set ks i y) r
+totals_set ks i y d t r less h s e = record {
   few = omega (arith, h.few, length-set ks i y);
   small = subst AreSmall (sym (map-set known ks i y)) (small_set (all_known ks) i (known y) h.small s);
   sums = λ m. by m ∙ ap (measured m) (sym (map-set known ks i y));
@@ -122,7 +121,7 @@ totals_set ks i y d t gone come r less h g c s e = record {
       let len = length-map ks known in
       let a = measured_set m (all_known ks) i (known y) (known d) (omega (arith, less, len)) in
       let w = ap (weight m) (get_or-map known ks i d) in
-      omega (arith, a, w, g m, c m, h.sums m, e m)
+      omega (arith, a, w, h.sums m, e m)
 
 -- no slot is in use
 pub totals_new : (n : ℕ) (ks : List Kind) (t : Totals) → n ≤ 64 → length ks ≡ n → all_known ks ≡ replicate n kinds.Empty_kind →

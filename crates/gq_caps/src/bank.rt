@@ -109,9 +109,8 @@ impl<const N: usize> Bank<N> {
     {
         let index = usize::from(slot);
         if index < N {
-            let gone = self.kinds[index].weights();
-            let come = kind.weights();
-            self.totals = self.totals.moved(&gone, &come);
+            let old = self.kinds[index];
+            self.totals = self.totals.once_changed(&old, &kind);
             self.kinds[index] = kind;
         }
     }

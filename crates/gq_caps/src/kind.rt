@@ -1,5 +1,5 @@
 // The kinds of slots.
-ghost use Rattle.std.specs.Prelude.{◌≡◌, ◌+◌, ◌^◌, ◌≤◌, ◌==◌, if◌then◌else◌};
+ghost use Rattle.std.specs.Prelude.{◌≡◌, ◌+◌, ◌^◌, ◌≤◌, ◌==◌, true, if◌then◌else◌};
 ghost use Rattle.gq_tariff.specs.Prices.{size_for, class_size};
 ghost use Rattle.gq_tariff.specs.declared.class.Class.{Class};
 ghost use Rattle.gq_model.specs.machine.Amounts.{Ram, Caps};
@@ -120,16 +120,38 @@ impl Kind {
     }
 
     /// What is measured of the slot.
+    #[inline(always)]
     pub(crate) fn weights(&self) -> Totals
         ensures weights { (m : Measure) → total_of result m ≡ weight m (known self.now) }
         ensures small { IsSmall (known self.now) }
     {
+        let paid = self.paid();
+        let (size, count) = self.heap_places();
+        Totals::of_class(paid.ram, paid.caps, size, count)
+    }
+
+    /// The bytes and capabilities that it holds and has lent.
+    #[inline(always)]
+    pub(crate) fn paid(&self) -> Amount
+        ensures ram { result.ram ≡ weight Measure.Ram (known self.now) }
+        ensures caps { result.caps ≡ weight Measure.Caps (known self.now) }
+        ensures small { result.ram ≤ 2 ^ 35 }
+        ensures few { result.caps ≤ 2 ^ 35 }
+    {
         let price = self.price();
         let lent = self.lent();
-        let ram = price.ram + lent.ram;
-        let caps = price.caps + lent.caps;
-        let (size, count) = self.heap_places();
-        Totals::of_class(ram, caps, size, count)
+        Amount {
+            ram: price.ram + lent.ram,
+            caps: price.caps + lent.caps,
+        }
+    }
+
+    /// Whether it takes no place of the heap, of whatever class.
+    #[inline(always)]
+    pub(crate) fn takes_no_place(&self) -> bool
+        ensures { result ≡ true → (class : Class) → weight (Measure.Places class) (known self.now) ≡ 0 }
+    {
+        !matches!(self, Kind::Block(_) | Kind::Pool(_, _))
     }
 
     /// The size of the class of the heap's places that it may take, and how many; 0 and none where it takes none.

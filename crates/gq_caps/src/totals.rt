@@ -2,8 +2,12 @@
 ghost use Rattle.std.specs.Prelude.{◌≡◌, ◌+◌, ◌≤◌, ◌^◌, ◌==◌, if◌then◌else◌, max};
 ghost use Rattle.gq_tariff.specs.Prices.{class_size};
 ghost use Rattle.gq_tariff.specs.declared.class.Class.{Class};
+ghost use Rattle.gq_caps.specs.Known.{known};
 ghost use Rattle.gq_caps.specs.Measured.{total_of, limit_of, AreFew};
+ghost use Rattle.gq_caps.specs.internal.Totalled.{weight, IsSmall};
 
+use crate::kind::Kind;
+use gq_tariff::Amount;
 use gq_tariff::class::Class;
 
 /// What is measured of slots.
@@ -92,7 +96,7 @@ impl Totals {
     }
 
     /// The numbers once something is gone and something has come.
-    pub(crate) fn moved(&self, gone: &Totals, come: &Totals) -> Totals
+    fn moved(&self, gone: &Totals, come: &Totals) -> Totals
         requires gone { (m : Measure) → total_of gone.now m ≤ total_of self.now m }
         requires small { AreFew self.now }
         requires come { (m : Measure) → total_of come.now m ≤ limit_of m }
@@ -110,6 +114,39 @@ impl Totals {
             bytes1024: self.bytes1024 - gone.bytes1024 + come.bytes1024,
             bytes2048: self.bytes2048 - gone.bytes2048 + come.bytes2048,
         }
+    }
+
+    /// The same where bytes and capabilities alone change.
+    #[inline(always)]
+    fn paid(&self, gone: &Amount, come: &Amount) -> Totals
+        requires ram { gone.now.ram ≤ self.now.ram }
+        requires caps { gone.now.caps ≤ self.now.caps }
+        requires few { AreFew self.now }
+        requires small { come.now.ram ≤ 2 ^ 35 }
+        requires small_caps { come.now.caps ≤ 2 ^ 35 }
+        ensures ram { result.ram + gone.now.ram ≡ self.now.ram + come.now.ram }
+        ensures caps { result.caps + gone.now.caps ≡ self.now.caps + come.now.caps }
+        ensures places { (class : Class) → total_of result (Measure.Places class) ≡ total_of self.now (Measure.Places class) }
+    {
+        Totals {
+            ram: self.ram - gone.ram + come.ram,
+            caps: self.caps - gone.caps + come.caps,
+            ..*self
+        }
+    }
+
+    /// The numbers once a slot of one kind has another. Most kinds take no place of the heap.
+    #[inline(always)]
+    pub(crate) fn once_changed(&self, old: &Kind, new: &Kind) -> Totals
+        requires gone { (m : Measure) → weight m (known old.now) ≤ total_of self.now m }
+        requires few { AreFew self.now }
+        ensures changed { (m : Measure) → total_of result m + weight m (known old.now) ≡ total_of self.now m + weight m (known new.now) }
+        ensures small { IsSmall (known new.now) }
+    {
+        if old.takes_no_place() && new.takes_no_place() {
+            return self.paid(&old.paid(), &new.paid());
+        }
+        self.moved(&old.weights(), &new.weights())
     }
 
     /// Each is at least what it is in others from now on.

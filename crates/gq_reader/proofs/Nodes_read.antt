@@ -117,6 +117,10 @@ module _ (levels : ℕ) (some : 0 < levels) (entries : Members) where
 
 -- LISTS OF NODES
 
+pub no_items : (vs : List Value) → length vs ≡ 0 → vs ≡ []
+no_items [] e = refl
+no_items (v ∷ vs) e = absurd (omega (arith, e))
+
 onto-append : (nodes : List Node) (node : Node) (rest : Nodes) → onto (nodes ++ node ∷ []) rest ≡ onto nodes (before node rest)
 onto-append [] node rest = refl
 onto-append (first ∷ nodes) node rest = ap (before first) (onto-append nodes node rest)

@@ -9,7 +9,7 @@ ghost use Rattle.gq_scenario.specs.Words.{Tells, IsRead};
 
 use crate::document::read_document;
 use crate::interfaces::read_interfaces;
-use crate::tables::{read_nodes, read_quantum, read_routes_at};
+use crate::tables::{read_nodes, read_quantum, read_routes_at, take_list};
 use gq_model::limits::GREATEST_NODE_DEPTH;
 use gq_scenario::fault::{ScenarioError, ScenarioFault};
 use gq_scenario::key::Key;
@@ -17,7 +17,7 @@ use gq_scenario::scenario::{Nodes, Parts, Route, Scenario, told};
 use gq_scenario::tree::{
     GREATEST_COUNT, count_inits, count_leaves, has_long_routes, is_long, name_twice, push_names,
 };
-use gq_tables::value::{list_at, table_at};
+use gq_tables::value::table_at;
 use gq_tables::walk::{version_of, walk_fault};
 use std::alloc::{AllocError, Global};
 use toml::Table;
@@ -66,16 +66,20 @@ fn parts_fault(
 }
 
 // The parts of a table that the walk has passed, with no more than 64 interfaces.
-fn read_parts(alloc: Global, top: &Table) -> Result<Parts, AllocError>
-    requires walked { walk_fault (table_view top.now) ≡ None }
-    requires few { length (keys_of (interfaces_at (table_view top.now))) ≤ 64 }
-    ensures { IfOk result (λ p. scenario_made p.version p.total p.default_routes p.interfaces p.nodes ≡ described (table_view top.now)) }
+fn read_parts(alloc: Global, top: Table) -> Result<Parts, AllocError>
+    requires walked { walk_fault (table_view top) ≡ None }
+    requires few { length (keys_of (interfaces_at (table_view top))) ≤ 64 }
+    ensures { IfOk result (λ p. scenario_made p.version p.total p.default_routes p.interfaces p.nodes ≡ described (table_view top)) }
 {
-    let version = version_of(top);
-    let total = read_quantum(Key::Ram, top);
-    let default_routes = read_routes_at(alloc, Key::DefaultRoute, top)?;
-    let interfaces = read_interfaces(alloc, version, table_at(top, Key::Interface))?;
-    let nodes = read_nodes(alloc, GREATEST_NODE_DEPTH, list_at(top, Key::Start))?;
+    let version = version_of(&top);
+    let total = read_quantum(Key::Ram, &top);
+    let default_routes = read_routes_at(alloc, Key::DefaultRoute, &top)?;
+    let interfaces = read_interfaces(alloc, version, table_at(&top, Key::Interface))?;
+    let nodes = read_nodes(
+        alloc,
+        GREATEST_NODE_DEPTH,
+        take_list(alloc, top, Key::Start),
+    )?;
     Ok(Parts {
         version,
         total,
@@ -86,13 +90,13 @@ fn read_parts(alloc: Global, top: &Table) -> Result<Parts, AllocError>
 }
 
 // The scenario that a document describes.
-fn document_scenario(alloc: Global, top: &Table) -> Result<Scenario, ScenarioError>
-    ensures { IsRead result (described_or (table_view top.now) (document_fault (table_view top.now))) }
+fn document_scenario(alloc: Global, top: Table) -> Result<Scenario, ScenarioError>
+    ensures { IsRead result (described_or (table_view top) (document_fault (table_view top))) }
 {
-    if let Some(fault) = walk_fault(top) {
+    if let Some(fault) = walk_fault(&top) {
         return Err(ScenarioError::Fault(fault));
     }
-    if interface_count(top) > GREATEST_COUNT {
+    if interface_count(&top) > GREATEST_COUNT {
         return Err(ScenarioError::Fault(ScenarioFault::TooMany));
     }
     let parts = read_parts(alloc, top)?;
@@ -113,5 +117,5 @@ pub fn read_scenario(alloc: Global, text: &[u8]) -> Result<Scenario, ScenarioErr
     ensures { IsRead result (scenario_in text.now) }
 {
     let top = read_document(alloc, text)?;
-    document_scenario(alloc, &top)
+    document_scenario(alloc, top)
 }

@@ -1,12 +1,14 @@
 // What tables without faults describe.
 ghost use Rattle.std.specs.Prelude.{◌≡◌, ◌≤◌, ◌+◌, ◌++◌, true, None, Some, length, option_map, codes, IfOk};
+ghost use Rattle.toml.specs.Data.{as_table, get_member};
 ghost use Rattle.toml.specs.View.{view, table_view, items_view};
 ghost use Rattle.gq_model.specs.machine.Lists.{all_of};
 ghost use Rattle.gq_model.specs.texts.Operands.{greatest_number};
 ghost use Rattle.gq_scenario.specs.Given.{source_of};
 ghost use Rattle.gq_scenario.specs.Keys.{members_of, listed, is_number, is_quantity, number_of, quantity, table_fault};
 ghost use Rattle.gq_scenario.specs.Tables.{greatest_caps, interface_keys, route_keys};
-ghost use Rattle.gq_scenario.specs.Document.{text_at, number_at, quantity_at, amount_at, or_zero, target_in, routes_of, routes_at, upgrades_of, interface_of};
+ghost use Rattle.gq_scenario.specs.Document.{text_at, list_at, number_at, quantity_at, amount_at};
+ghost use Rattle.gq_scenario.specs.Document.{or_zero, target_in, routes_of, routes_at, upgrades_of, interface_of};
 ghost use Rattle.gq_scenario.specs.Document.{interfaces_of, source_in, leaf_of, init_of, nodes_by, node_onto, first_of, routes_fault, interfaces_fault};
 ghost use Rattle.gq_scenario.specs.Sizes.{IsQuantum};
 ghost use Rattle.gq_reader.specs.internal.Sound.{is_name_or_none, route_of, has_source, IsLeafTable, IsInitTable, IsNode, AreNodes};
@@ -20,9 +22,7 @@ use gq_scenario::key::Key;
 use gq_scenario::scenario::{Init, Leaf, Node, Nodes, Quantum, Route, Target, Version};
 use gq_scenario::source::Source;
 use gq_tables::hexadecimal::unhex;
-use gq_tables::value::{
-    has, list_at, number_at, number_of, quantity, quantity_at, text_at, values_at,
-};
+use gq_tables::value::{has, number_at, number_of, quantity, quantity_at, text_at, values_at};
 use std::alloc::{AllocError, Global};
 use toml::{Table, Value};
 
@@ -92,18 +92,58 @@ pub(crate) fn read_routes_at(
     }
 }
 
-// How the table of a leaf gives its program.
-pub(crate) fn read_source(alloc: Global, table: &Table) -> Result<Source, AllocError>
-    requires { has_source (table_view table.now) ≡ true }
-    ensures { IfOk result (λ s. source_of s ≡ source_in (table_view table.now)) }
+// The value at a key, taken out of its table.
+fn take_value(mut table: Table, key: Key) -> Option<Value>
+    ensures { option_map view result ≡ get_member (key_text key) (table_view table) }
 {
-    if let Some(text) = text_at(table, Key::Program) {
-        return Ok(Source::Text(Vec::from_slice(alloc, text.as_bytes())?));
+    table.remove(key.word())
+}
+
+// The table that a value is.
+fn table_of(value: Value) -> Option<Table>
+    ensures { option_map (λ table. table_view table) result ≡ as_table (view value) }
+{
+    match value {
+        Value::Table(table) => Some(table),
+        _ => None,
     }
-    let Some(code) = text_at(table, Key::Code) else {
-        unreachable!();
+}
+
+// The text at a key, taken out of its table.
+fn take_text(table: Table, key: Key) -> Option<Vec<u8>>
+    ensures { option_map (λ text. text.items) result ≡ text_at (key_text key) (table_view table) }
+{
+    match take_value(table, key) {
+        Some(Value::String(text)) => Some(text.into_bytes()),
+        _ => None,
+    }
+}
+
+// The list at a key, taken out of its table, with nothing in it where there is none.
+pub(crate) fn take_list(alloc: Global, table: Table, key: Key) -> Vec<Value>
+    ensures { listed (items_view result.items) ≡ list_at (key_text key) (table_view table) }
+{
+    match take_value(table, key) {
+        Some(Value::Array(values)) => values,
+        _ => Vec::new(alloc),
+    }
+}
+
+// How the table of a leaf gives its program. A text is taken out of the table, since it may be long.
+pub(crate) fn read_source(alloc: Global, table: Table) -> Result<Source, AllocError>
+    requires { has_source (table_view table) ≡ true }
+    ensures { IfOk result (λ s. source_of s ≡ source_in (table_view table)) }
+{
+    let Some(_) = text_at(&table, Key::Program) else {
+        let Some(code) = text_at(&table, Key::Code) else {
+            unreachable!();
+        };
+        return Ok(Source::Code(unhex(alloc, code.as_bytes())?));
     };
-    Ok(Source::Code(unhex(alloc, code.as_bytes())?))
+    match take_text(table, Key::Program) {
+        Some(text) => Ok(Source::Text(text)),
+        None => unreachable!(),
+    }
 }
 
 // The quantum of a table: bytes at a key, and capabilities.
@@ -115,18 +155,18 @@ pub(crate) fn read_quantum(key: Key, table: &Table) -> Quantum
 }
 
 // The leaf of a table.
-fn read_leaf(alloc: Global, table: &Table) -> Result<Leaf, AllocError>
-    requires { IsLeafTable (table_view table.now) }
-    ensures { IfOk result (λ leaf. leaf ≡ leaf_of (table_view table.now)) }
+fn read_leaf(alloc: Global, table: Table) -> Result<Leaf, AllocError>
+    requires { IsLeafTable (table_view table) }
+    ensures { IfOk result (λ leaf. leaf ≡ leaf_of (table_view table)) }
 {
-    let Some(name) = name_at(table, Key::Name) else {
+    let Some(name) = name_at(&table, Key::Name) else {
         unreachable!();
     };
-    let quantum = read_quantum(Key::Quantum, table);
+    let quantum = read_quantum(Key::Quantum, &table);
+    let routes = read_routes_at(alloc, Key::Route, &table)?;
+    let provides = name_at(&table, Key::Provides);
+    let after = name_at(&table, Key::After);
     let source = read_source(alloc, table)?;
-    let routes = read_routes_at(alloc, Key::Route, table)?;
-    let provides = name_at(table, Key::Provides);
-    let after = name_at(table, Key::After);
     Ok(Leaf::new(name, quantum, source, provides, after, routes))
 }
 
@@ -146,18 +186,18 @@ fn read_init(alloc: Global, table: &Table) -> Result<Init, AllocError>
 
 // The node of a table, with what is below it.
 #[cycle(nodes)]
-fn read_node(alloc: Global, levels: usize, table: &Table) -> Result<Node, AllocError>
-    requires { IsNode levels (table_view table.now) }
-    ensures { IfOk result (λ node. IsBefore node (node_onto levels (table_view table.now))) }
+fn read_node(alloc: Global, levels: usize, table: Table) -> Result<Node, AllocError>
+    requires { IsNode levels (table_view table) }
+    ensures { IfOk result (λ node. IsBefore node (node_onto levels (table_view table))) }
 {
     if levels == 0 {
         unreachable!();
     }
-    if !has(table, Key::Start) {
+    if !has(&table, Key::Start) {
         return Ok(Node::Leaf(read_leaf(alloc, table)?));
     }
-    let init = read_init(alloc, table)?;
-    let children = read_nodes(alloc, levels - 1, list_at(table, Key::Start))?;
+    let init = read_init(alloc, &table)?;
+    let children = read_nodes(alloc, levels - 1, take_list(alloc, table, Key::Start))?;
     Ok(Node::Init(init, children))
 }
 
@@ -166,14 +206,14 @@ fn read_node(alloc: Global, levels: usize, table: &Table) -> Result<Node, AllocE
 pub(crate) fn read_nodes(
     alloc: Global,
     levels: usize,
-    values: &[Value],
+    values: Vec<Value>,
 ) -> Result<Nodes, AllocError>
-    requires { AreNodes levels (listed (items_view values.now)) }
-    ensures { IfOk result (λ nodes. nodes ≡ nodes_by (node_onto levels) (listed (items_view values.now))) }
+    requires { AreNodes levels (listed (items_view values.items)) }
+    ensures { IfOk result (λ nodes. nodes ≡ nodes_by (node_onto levels) (listed (items_view values.items))) }
 {
     let mut nodes = Vec::new(alloc);
     for value in values {
-        let Some(table) = value.as_table() else {
+        let Some(table) = table_of(value) else {
             unreachable!();
         };
         nodes.push(read_node(alloc, levels, table)?)?;

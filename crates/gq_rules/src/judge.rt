@@ -10,7 +10,8 @@ use gq_model::fault::Rule;
 use gq_program::Instruction;
 
 impl<'a> Context<'a> {
-    /// What is known after an instruction, by the rules for it alone.
+    /// What is known after an instruction, by the rules for it alone. It stands alone, so that the usual ones don't pay for the others.
+    #[inline(never)]
     fn judge(&self, state: &mut State, instruction: &Instruction) -> Result<(), Rule>
         ensures { after result state.new ≡ judge self.now state.old instruction.now }
     {
@@ -47,11 +48,28 @@ impl<'a> Context<'a> {
         }
     }
 
+    /// The same. The usual ones are judged at once.
+    #[inline(always)]
+    fn judge_usual(&self, state: &mut State, instruction: &Instruction) -> Result<(), Rule>
+        ensures { after result state.new ≡ judge self.now state.old instruction.now }
+    {
+        match instruction {
+            Instruction::Push(number) => state.push(*number),
+            Instruction::Get(local) => state.push(self.local(*local)),
+            Instruction::Set(local) => self.set_local(state, *local),
+            Instruction::Combine(operator) => self.combine(state, *operator),
+            Instruction::Dup => state.duplicate(),
+            Instruction::Index(depth) => self.index(state, *depth),
+            _ => self.judge(state, instruction),
+        }
+    }
+
     /// What is known after an instruction, by the rules for it and for what the session at hand costs after it.
+    #[inline(always)]
     pub fn judged(&self, state: &mut State, instruction: &Instruction) -> Result<(), Rule>
         ensures { after result state.new ≡ judged self.now state.old instruction.now }
     {
-        self.judge(state, instruction)?;
+        self.judge_usual(state, instruction)?;
         self.within_need(state)
     }
 }

@@ -102,6 +102,7 @@ impl<'a> Context<'a> {
     }
 
     /// Whether the session at hand costs no more than was given for it.
+    #[inline(always)]
     pub fn within_need(&self, state: &State) -> Result<(), Rule>
         ensures { after result state.now ≡ within_need self.now.section self.now.subject.provided state.now }
     {
@@ -164,6 +165,7 @@ fn session_cost(interface: &Interface, bank: &Bank<SESSION_SLOTS>) -> Amount
 }
 
 /// Whether a session of this level costs no more than is given for it, in the resources that are counted.
+#[inline(never)]
 fn covered(interface: &Interface, level: u8, state: &State) -> Result<(), Rule>
     ensures { after result state.now ≡ covered interface.now.counted interface.now level state.now }
 {

@@ -101,6 +101,9 @@ fn bank_by(
     requires { all_known own.now ≡ own_after subject.now }
     ensures { all_known result ≡ bank_by subject.now section (all_known bank.now) }
 {
+    let Some(_) = subject.body(section) else {
+        return bank.copy();
+    };
     let mut state = first(subject, section, own, bank);
     let mut peaks = Totals::none();
     match walk(subject, section, &mut state, &mut peaks) {

@@ -12,121 +12,67 @@ use gq_program::spelling::{
 fn of_two(word: &[u8]) -> Option<Shape>
     ensures { IfSome result (λ s. shape_of_word word.now spellings ≡ Some (shape_of s)) }
 {
-    if same_text(word, b"eq") {
-        return Some(Shape::Plain(Bare::Combine(Operator::Equal)));
+    match word {
+        [b'e', b'q'] => Some(Shape::Plain(Bare::Combine(Operator::Equal))),
+        [b'l', b't'] => Some(Shape::Plain(Bare::Combine(Operator::Less))),
+        _ => None,
     }
-    if same_text(word, b"lt") {
-        return Some(Shape::Plain(Bare::Combine(Operator::Less)));
-    }
-    None
 }
 
 /// The statement with this word of three letters.
 fn of_three(word: &[u8]) -> Option<Shape>
     ensures { IfSome result (λ s. shape_of_word word.now spellings ≡ Some (shape_of s)) }
 {
-    if same_text(word, b"dup") {
-        return Some(Shape::Plain(Bare::Dup));
+    match word {
+        [b'd', b'u', b'p'] => Some(Shape::Plain(Bare::Dup)),
+        [b'a', b'd', b'd'] => Some(Shape::Plain(Bare::Combine(Operator::Add))),
+        [b'g', b'e', b't'] => Some(Shape::Number(WithNumber::Get)),
+        [b's', b'e', b't'] => Some(Shape::Number(WithNumber::Set)),
+        [b'm', b'u', b'l'] => Some(Shape::Plain(Bare::Combine(Operator::Multiply))),
+        [b's', b'u', b'b'] => Some(Shape::Plain(Bare::Combine(Operator::Subtract))),
+        [b'd', b'i', b'v'] => Some(Shape::Number(WithNumber::Divide)),
+        [b'm', b'o', b'd'] => Some(Shape::Number(WithNumber::Modulo)),
+        [b'a', b'n', b'd'] => Some(Shape::Plain(Bare::Combine(Operator::And))),
+        [b'o', b'u', b't'] => Some(Shape::Plain(Bare::Out)),
+        [b's', b'a', b'y'] => Some(Shape::Say),
+        _ => None,
     }
-    if same_text(word, b"add") {
-        return Some(Shape::Plain(Bare::Combine(Operator::Add)));
-    }
-    if same_text(word, b"get") {
-        return Some(Shape::Number(WithNumber::Get));
-    }
-    if same_text(word, b"set") {
-        return Some(Shape::Number(WithNumber::Set));
-    }
-    if same_text(word, b"mul") {
-        return Some(Shape::Plain(Bare::Combine(Operator::Multiply)));
-    }
-    if same_text(word, b"sub") {
-        return Some(Shape::Plain(Bare::Combine(Operator::Subtract)));
-    }
-    if same_text(word, b"div") {
-        return Some(Shape::Number(WithNumber::Divide));
-    }
-    if same_text(word, b"mod") {
-        return Some(Shape::Number(WithNumber::Modulo));
-    }
-    if same_text(word, b"and") {
-        return Some(Shape::Plain(Bare::Combine(Operator::And)));
-    }
-    if same_text(word, b"out") {
-        return Some(Shape::Plain(Bare::Out));
-    }
-    if same_text(word, b"say") {
-        return Some(Shape::Say);
-    }
-    None
 }
 
 /// The statement with this word of four letters.
 fn of_four(word: &[u8]) -> Option<Shape>
     ensures { IfSome result (λ s. shape_of_word word.now spellings ≡ Some (shape_of s)) }
 {
-    if same_text(word, b"push") {
-        return Some(Shape::Number(WithNumber::Push));
+    match word {
+        [b'p', b'u', b's', b'h'] => Some(Shape::Number(WithNumber::Push)),
+        [b'd', b'r', b'o', b'p'] => Some(Shape::Plain(Bare::Drop)),
+        [b'l', b'o', b'a', b'd'] => Some(Shape::Bytes(WithBytes::Load(Width::Byte))),
+        [b'f', b'r', b'e', b'e'] => Some(Shape::Slot(WithSlot::Free)),
+        [b'c', b'a', b'l', b'l'] => Some(Shape::Slot(WithSlot::Call)),
+        [b't', b'a', b'k', b'e'] => Some(Shape::Slot(WithSlot::Take)),
+        [b'g', b'i', b'v', b'e'] => Some(Shape::Slot(WithSlot::Give)),
+        [b'p', b'e', b'e', b'k'] => Some(Shape::Slot(WithSlot::Peek)),
+        [b'p', b'o', b'k', b'e'] => Some(Shape::Slot(WithSlot::Poke)),
+        [b'p', b'o', b'o', b'l'] => Some(Shape::Pool),
+        [b'o', b'p', b'e', b'n'] => Some(Shape::Open),
+        _ => None,
     }
-    if same_text(word, b"drop") {
-        return Some(Shape::Plain(Bare::Drop));
-    }
-    if same_text(word, b"load") {
-        return Some(Shape::Bytes(WithBytes::Load(Width::Byte)));
-    }
-    if same_text(word, b"free") {
-        return Some(Shape::Slot(WithSlot::Free));
-    }
-    if same_text(word, b"call") {
-        return Some(Shape::Slot(WithSlot::Call));
-    }
-    if same_text(word, b"take") {
-        return Some(Shape::Slot(WithSlot::Take));
-    }
-    if same_text(word, b"give") {
-        return Some(Shape::Slot(WithSlot::Give));
-    }
-    if same_text(word, b"peek") {
-        return Some(Shape::Slot(WithSlot::Peek));
-    }
-    if same_text(word, b"poke") {
-        return Some(Shape::Slot(WithSlot::Poke));
-    }
-    if same_text(word, b"pool") {
-        return Some(Shape::Pool);
-    }
-    if same_text(word, b"open") {
-        return Some(Shape::Open);
-    }
-    None
 }
 
 /// The statement with this word of five letters.
 fn of_five(word: &[u8]) -> Option<Shape>
     ensures { IfSome result (λ s. shape_of_word word.now spellings ≡ Some (shape_of s)) }
 {
-    if same_text(word, b"index") {
-        return Some(Shape::Number(WithNumber::Index));
+    match word {
+        [b'i', b'n', b'd', b'e', b'x'] => Some(Shape::Number(WithNumber::Index)),
+        [b's', b't', b'o', b'r', b'e'] => Some(Shape::Bytes(WithBytes::Store(Width::Byte))),
+        [b'l', b'o', b'a', b'd', b'4'] => Some(Shape::Bytes(WithBytes::Load(Width::Word))),
+        [b's', b'p', b'a', b'c', b'e'] => Some(Shape::Amount(WithAmount::Make(Form::Space))),
+        [b's', b'l', b'i', b'c', b'e'] => Some(Shape::Amount(WithAmount::Make(Form::Slice))),
+        [b'b', b'l', b'o', b'c', b'k'] => Some(Shape::Amount(WithAmount::Make(Form::Block))),
+        [b'c', b'l', b'o', b's', b'e'] => Some(Shape::Slot(WithSlot::Close)),
+        _ => None,
     }
-    if same_text(word, b"store") {
-        return Some(Shape::Bytes(WithBytes::Store(Width::Byte)));
-    }
-    if same_text(word, b"load4") {
-        return Some(Shape::Bytes(WithBytes::Load(Width::Word)));
-    }
-    if same_text(word, b"space") {
-        return Some(Shape::Amount(WithAmount::Make(Form::Space)));
-    }
-    if same_text(word, b"slice") {
-        return Some(Shape::Amount(WithAmount::Make(Form::Slice)));
-    }
-    if same_text(word, b"block") {
-        return Some(Shape::Amount(WithAmount::Make(Form::Block)));
-    }
-    if same_text(word, b"close") {
-        return Some(Shape::Slot(WithSlot::Close));
-    }
-    None
 }
 
 /// The statement with this word of six letters.

@@ -12,14 +12,14 @@ use Rattle.gq_reader.proofs.reader.document_scenario.Goals as goal
 
 pub returns-then-interface_count-gt-GREATEST_COUNT : goal.returns-then-interface_count-gt-GREATEST_COUNT
 returns-then-interface_count-gt-GREATEST_COUNT c =
-    let top = table_view c.args.top.now in
+    let top = table_view c.args.top in
     let walked = tells_none (walk_fault top) (rw c.in_default.is at c.walk_fault.ensures) in
     let many : 64 < length (keys_of (interfaces_at top)) = omega (arith, c.interface_count.ensures) in
     rw (many_interfaces top walked many) refl
 
 pub returns-in-Some-2 : goal.returns-in-Some-2
 returns-in-Some-2 c =
-    let top = table_view c.args.top.now in
+    let top = table_view c.args.top in
     let walked = tells_none (walk_fault top) (rw c.in_default.is at c.walk_fault.ensures) in
     let few : length (keys_of (interfaces_at top)) ≤ 64 = omega (arith, c.interface_count.ensures) in
     let Q : Scenario → Type 0 = λ s. Tells c.in_ok-fault.field-0 (parts_fault s.default_routes s.nodes) in
@@ -28,7 +28,7 @@ returns-in-Some-2 c =
 
 pub new-requires : goal.new-requires
 new-requires c =
-    let top = table_view c.args.top.now in
+    let top = table_view c.args.top in
     let walked = tells_none (walk_fault top) (rw c.in_default.is at c.walk_fault.ensures) in
     let few : length (keys_of (interfaces_at top)) ≤ 64 = omega (arith, c.interface_count.ensures) in
     let Q : Scenario → Type 0 = λ s. Tells c.in_ok-fault.field-0 (parts_fault s.default_routes s.nodes) in
@@ -37,7 +37,7 @@ new-requires c =
 
 pub returns-in-None : goal.returns-in-None
 returns-in-None c =
-    let top = table_view c.args.top.now in
+    let top = table_view c.args.top in
     let walked = tells_none (walk_fault top) (rw c.in_default.is at c.walk_fault.ensures) in
     let few : length (keys_of (interfaces_at top)) ≤ 64 = omega (arith, c.interface_count.ensures) in
     let Q : Scenario → Type 0 = λ s. Tells c.in_ok-fault.field-0 (parts_fault s.default_routes s.nodes) in

@@ -1,4 +1,5 @@
-use Rattle.std.proofs.Common.{◌≡◌, ◌+◌, ◌*◌, drop}
+use Rattle.std.proofs.Common.{◌≡◌, ◌+◌, ◌*◌, length}
+use Rattle.std.specs.Vec.Iter.{into_iter_items, into_iter_len}
 use Rattle.toml.specs.View.{items_view}
 use Rattle.gq_scenario.specs.Keys.{listed}
 use Rattle.gq_scenario.specs.Document.{node_onto, nodes_by}
@@ -15,7 +16,8 @@ decreases-read_nodes l = 2 * l.levels + 1
 abbrev pub invariant-read_nodes-loop-value : goal.invariant-read_nodes-loop-value
 invariant-read_nodes-loop-value l =
     record {
-      read : onto l.nodes.items (nodes_by (node_onto l.levels) (listed (items_view (drop l.value-index l.values))))
-          ≡ nodes_by (node_onto l.levels) (listed (items_view l.values));
-      rest : AreNodes l.levels (listed (items_view (drop l.value-index l.values)));
+      read : onto l.nodes.items (nodes_by (node_onto l.levels) (listed (items_view (into_iter_items l.value-iterator))))
+          ≡ nodes_by (node_onto l.levels) (listed (items_view l.fn.values.items));
+      count : into_iter_len l.value-iterator ≡ length (into_iter_items l.value-iterator);
+      rest : AreNodes l.levels (listed (items_view (into_iter_items l.value-iterator)));
     }

@@ -3,13 +3,13 @@ use Rattle.gq_reader.proofs.Node_tables.{sound_leaf}
 use Rattle.gq_reader.proofs.tables.read_leaf.Goals as goal
 
 pub read_quantum-quantum-requires : goal.read_quantum-quantum-requires
-read_quantum-quantum-requires c = (sound_leaf (table_view c.args.table.now) c.requires).quantum
+read_quantum-quantum-requires c = (sound_leaf (table_view c.args.table) c.requires).quantum
 
 pub read_source-requires : goal.read_source-requires
-read_source-requires c = (sound_leaf (table_view c.args.table.now) c.requires).source
+read_source-requires c = (sound_leaf (table_view c.args.table) c.requires).source
 
 pub name_at-provides-requires : goal.name_at-provides-requires
-name_at-provides-requires c = (sound_leaf (table_view c.args.table.now) c.requires).provides
+name_at-provides-requires c = (sound_leaf (table_view c.args.table) c.requires).provides
 
 pub name_at-after-requires : goal.name_at-after-requires
-name_at-after-requires c = (sound_leaf (table_view c.args.table.now) c.requires).after
+name_at-after-requires c = (sound_leaf (table_view c.args.table) c.requires).after

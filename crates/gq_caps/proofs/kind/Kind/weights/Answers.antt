@@ -8,10 +8,8 @@ at_most true n m h = h
 at_most false n m h = omega arith
 
 pub returns-clause-small : goal.returns-clause-small
-returns-clause-small c Ram =
-    omega (arith, c.price-price.ensures.ram, c.price-price.ensures.small, c.lent-lent.ensures.ram, c.lent-lent.ensures.small)
-returns-clause-small c Caps =
-    omega (arith, c.price-price.ensures.caps, c.price-price.ensures.one, c.lent-lent.ensures.caps, c.lent-lent.ensures.few)
+returns-clause-small c Ram = omega (arith, c.paid-paid.ensures.ram, c.paid-paid.ensures.small)
+returns-clause-small c Caps = omega (arith, c.paid-paid.ensures.caps, c.paid-paid.ensures.few)
 returns-clause-small c (Places class) =
     let places = c.heap_places-size.result in
     let e = c.heap_places-size.ensures.places class in
