@@ -38,7 +38,7 @@ def heights(names, crates):
 def jobs_of(is_first, beside, left, processors):
     """How many jobs a crate gets that is built beside others, when so many crates are left.
 
-    It gets its share of the processors. What has the longest way above it gets more, at the cost of more processor time; and so does each of the last crates,
+    It gets its share of the processors. What has the longest way left gets more, at the cost of more processor time; and so does each of the last crates,
     which are too few to keep all processors busy with a job each.
     """
     fewest = 1 + (1 if is_first else 0) + (1 if left <= LAST else 0)
@@ -76,15 +76,18 @@ def main():
     program, crates = sys.argv[1], Crates()
     names = [*crates.below(program), program]
     height, origin = heights(names, crates), origins(names, crates)
-    left, running, done = sorted(names, key=lambda name: -height[name]), {}, []
+    left, running, done, begun = sorted(names, key=lambda name: -height[name]), {}, [], {}
     processors = os.cpu_count() or 1
     with concurrent.futures.ThreadPoolExecutor(processors) as pool:
         while left or running:
             ready = [name for name in left if all(used in done for used in crates.own(name))][: processors - len(running)]
-            beside = [*running.values(), *ready]
+            beside, now = [*running.values(), *ready], time.monotonic()
+            # Of what is being built only the rest is on the way.
+            ahead = {name: height[name] - (now - begun.get(name, now)) for name in beside}
             for name in ready:
-                jobs = jobs_of(height[name] == max(height[other] for other in beside), len(beside), len(left), processors)
+                jobs = jobs_of(ahead[name] == max(ahead.values()), len(beside), len(left), processors)
                 left.remove(name)
+                begun[name] = now
                 running[pool.submit(build, name, crates, origin[name], jobs)] = name
             finished, _ = concurrent.futures.wait(running, return_when=concurrent.futures.FIRST_COMPLETED)
             for future in finished:

@@ -14,6 +14,7 @@ use gq_model::program::Section;
 use gq_program::{Body, Statement};
 use std::alloc::Global;
 use std::collections::VecDeque;
+use std::mem;
 
 /// What a block is.
 #[derive(Drop)]
@@ -142,20 +143,15 @@ impl Reading {
     pub fn other_arm(&mut self, alloc: Global, after: &[u8]) -> Result<(), LineError>
         ensures { Gives (λ _. reading_of self.new) result (other_arm (reading_of self.old) (blocks_of self.old.blocks.items) (words after.now)) }
     {
-        let Some(block) = self.blocks.pop_front() else {
+        let Some(block) = self.blocks.front_mut() else {
             return Err(LineError::Fault(TextFault::StrayEnd));
         };
         let BlockKind::FirstArm = block.kind else {
             return Err(LineError::Fault(TextFault::StrayEnd));
         };
         at_end(after)?;
-        let kind = BlockKind::SecondArm(block.before);
-        let before = Body::new(alloc);
-        self.blocks.push_front(OpenBlock {
-            kind,
-            line: block.line,
-            before,
-        })?;
+        let arm = mem::replace(&mut block.before, Body::new(alloc));
+        block.kind = BlockKind::SecondArm(arm);
         Ok(())
     }
 }

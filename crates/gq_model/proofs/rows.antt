@@ -3,7 +3,6 @@
 -- So a wrong definition is found here, before any body stands on it.
 mod Leaves
 mod Sessions
-mod Long
 mod Budgets
 mod Refusals
 mod Text

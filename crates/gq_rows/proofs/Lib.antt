@@ -1,1 +1,2 @@
 pub mod Rows_whole
+pub mod Rows_long
