@@ -5,5 +5,4 @@ mod Turns
 mod Reached
 mod Needed
 mod Statements
-mod Replies
 mod Sound

@@ -1,2 +1,3 @@
 pub mod Rows_whole
 pub mod Rows_long
+pub mod Rows_replies

@@ -53,10 +53,13 @@ fn given(rt: &HostRuntime) -> Result<Vec<String>, Status> {
         Err(error) if error.kind() == ErrorKind::OutOfMemory => return Err(Status::HostMemory),
         Err(_) => return Err(Status::BadCommandLine),
     };
-    match args.skip(1).collect(rt.alloc()) {
-        Ok(words) => Ok(words),
-        Err(_) => Err(Status::HostMemory),
+    let mut words = Vec::new(rt.alloc());
+    for word in args.skip(1) {
+        if words.push(word).is_err() {
+            return Err(Status::HostMemory);
+        }
     }
+    Ok(words)
 }
 
 // What is written is gathered before it leaves the process.
