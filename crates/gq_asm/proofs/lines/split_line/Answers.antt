@@ -1,4 +1,4 @@
-use Rattle.std.proofs.Common.{◌+◌, add-one, sym, ap, ◌∙◌, Some, drop}
+use Rattle.std.proofs.Common.{◌+◌, add-one}
 use Rattle.std.proofs.lemmas.List.{take_rest}
 use Rattle.gq_asm.proofs.Fronts.{line_ends, line_only}
 use Rattle.gq_asm.proofs.lines.split_line.Goals as goal

@@ -1,4 +1,4 @@
-use Rattle.std.proofs.Common.{List, ap, sym, subst, ◌∙◌}
+use Rattle.std.proofs.Common.{List, sym, subst}
 use Rattle.gq_budget.specs.Leaves.{Leaf}
 use Rattle.gq_budget.specs.Counts.{Counted, AreCountsOf}
 use Rattle.gq_budget.proofs.budgets.step_budgets.Goals as goal

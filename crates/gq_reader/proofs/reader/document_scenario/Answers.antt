@@ -1,4 +1,4 @@
-use Rattle.std.proofs.Common.{◌≡◌, ◌<◌, ◌≤◌, Ok, length, sym, ap, refl, subst, ◌∙◌, arith}
+use Rattle.std.proofs.Common.{◌<◌, ◌≤◌, Ok, length, sym, ap, refl, subst, ◌∙◌, arith}
 use Rattle.toml.specs.View.{table_view}
 use Rattle.gq_model.specs.machine.Scenario.{Scenario}
 use Rattle.gq_scenario.specs.Document.{keys_of, walk_fault, document_fault}
