@@ -1,3 +1,4 @@
+pub mod Agreeing
 pub mod Counts
 pub mod Sums
 pub mod Lists

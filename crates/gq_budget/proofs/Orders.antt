@@ -13,7 +13,7 @@ products_none : (row : List ℕ) → products row [] ≡ 0
 products_none [] = refl
 products_none (count ∷ counts) = refl
 
-zero_products : (row times : List ℕ) → AreZero row → products row times ≡ 0
+pub zero_products : (row times : List ℕ) → AreZero row → products row times ≡ 0
 zero_products [] times h = refl
 zero_products (count ∷ counts) [] h = refl
 zero_products (count ∷ counts) (t ∷ more) h =

@@ -1,7 +1,8 @@
 -- What is kept of leaves once their sections are gone through.
-use Rattle.std.specs.Prelude.{◌≡◌, ℕ, List, [], ◌∷◌, Option, map}
+use Rattle.std.specs.Prelude.{◌≡◌, ℕ, Bool, true, List, [], ◌∷◌, Option, Some, None, map}
+use Rattle.gq_model.specs.machine.Lists.{any_of}
 use Rattle.gq_model.specs.declared.program.Section.{Section}
-use Rattle.gq_verify.specs.Requested.{Requested}
+use Rattle.gq_verify.specs.Requested.{Requested, is_asked}
 use Rattle.gq_budget.specs.Leaves.{Leaf}
 use Rattle.gq_budget.specs.internal.Counted.{AreRequests, costs_of}
 
@@ -25,3 +26,28 @@ AreCountsOf [] [] = Unit {0}
 AreCountsOf (n ∷ rest) (leaf ∷ more) = IsCountOf n leaf × AreCountsOf rest more
 AreCountsOf [] (leaf ∷ more) = ⊥
 AreCountsOf (n ∷ rest) [] = ⊥
+
+-- whether a section of a leaf asks for a section of a service
+abbrev pub asks : List ℕ → Counted → Bool
+asks service n = any_of (is_asked service) n.requests
+
+-- two rows tell the same of each leaf that asks for the service
+abbrev pub AgreeFor : List ℕ → List Counted → List Bool → List Bool → Type 0
+AgreeFor service [] row other = Unit {0}
+AgreeFor service (n ∷ ns) [] [] = Unit {0}
+AgreeFor service (n ∷ ns) [] (b ∷ other) = ⊥
+AgreeFor service (n ∷ ns) (a ∷ row) [] = ⊥
+AgreeFor service (n ∷ ns) (a ∷ row) (b ∷ other) = (asks service n ≡ true → a ≡ b) × AgreeFor service ns row other
+
+-- nobody asks for the service of a leaf that provides none
+abbrev pub Agree : Option (List ℕ) → List Counted → List Bool → List Bool → Type 0
+Agree None ns row other = Unit {0}
+Agree (Some service) ns row other = AgreeFor service ns row other
+
+-- two tables of which leaves' routes lead to each of these leaves tell the same, where it is asked for
+abbrev pub AgreeWhereAsked : List Counted → List Counted → List (List Bool) → List (List Bool) → Type 0
+AgreeWhereAsked ns [] rows others = Unit {0}
+AgreeWhereAsked ns (m ∷ ms) [] [] = Unit {0}
+AgreeWhereAsked ns (m ∷ ms) [] (other ∷ others) = ⊥
+AgreeWhereAsked ns (m ∷ ms) (row ∷ rows) [] = ⊥
+AgreeWhereAsked ns (m ∷ ms) (row ∷ rows) (other ∷ others) = Agree m.provides ns row other × AgreeWhereAsked ns ms rows others

@@ -3,7 +3,7 @@ ghost use Rattle.std.specs.Prelude.{◌≡◌, [], IfOk, map, suc};
 ghost use Rattle.gq_model.specs.machine.Scenario.{System};
 ghost use Rattle.gq_budget.specs.Leaves.{leaves_of, leads_of};
 ghost use Rattle.gq_budget.specs.Budgets.{budgets_of};
-ghost use Rattle.gq_budget.specs.Counts.{AreCountsOf};
+ghost use Rattle.gq_budget.specs.Counts.{AreCountsOf, AgreeWhereAsked};
 ghost use Rattle.gq_budget.specs.internal.Rounds.{rounds, budgets_by};
 
 use crate::asks::{LeafAsks, all_asks};
@@ -37,13 +37,16 @@ fn times(alloc: Global, asks: &[LeafAsks], uses: usize) -> Result<Vec<Numbers>, 
     }
 }
 
-/// The same of leaves whose sections are counted, so that no program need be there any more.
+/// The greatest number of steps of each of the leaves of a system, whose sections are counted, so that no program need be there any more; 2^64 - 1 where there
+/// are more. `leads` tells for each leaf which leaves' routes for the service that it provides lead to it; of a leaf that asks for no section of that service
+/// it may tell anything. Refused only for want of host memory.
 pub fn counted_budgets(
     alloc: Global,
     leaves: &[CountedLeaf],
     leads: &[Vec<bool>],
 ) -> Result<Vec<u64>, AllocError>
-    ensures { (system : System) → AreCountsOf leaves.now (leaves_of system) → map (λ v. v.items) leads.now ≡ leads_of system →
+    ensures { (system : System) → AreCountsOf leaves.now (leaves_of system)
+        → AgreeWhereAsked leaves.now leaves.now (map (λ v. v.items) leads.now) (leads_of system) →
         IfOk result (λ steps. steps.items ≡ budgets_of system) }
 {
     let asks = all_asks(alloc, leaves, leads)?;

@@ -1,6 +1,6 @@
 // Leaves whose sections are counted.
 ghost use Rattle.std.specs.Prelude.{◌≡◌, IfOk, option_copied};
-ghost use Rattle.gq_budget.specs.Counts.{IsCountOf, AreCountsOf};
+ghost use Rattle.gq_budget.specs.Counts.{IsCountOf, AreCountsOf, asks};
 ghost use Rattle.gq_budget.specs.internal.Counted.{counts_for};
 
 use crate::leaf::Leaf;
@@ -60,6 +60,18 @@ impl CountedLeaf {
         ensures { option_copied result ≡ self.now.provides }
     {
         self.provides.as_ref()
+    }
+
+    /// Whether one of its sections asks for a section of a service.
+    pub fn asks_for(&self, service: &[u8]) -> bool
+        ensures { result ≡ asks service.now self.now }
+    {
+        for requests in &self.requests {
+            if requests.is_asked(service) {
+                return true;
+            }
+        }
+        false
     }
 
     /// The sections of its program, in their order.

@@ -207,7 +207,7 @@ fn run_files<R: Read, T: Read, W: Write>(
     run_reader(alloc, scenario.as_slice(), turns, out)
 }
 
-// Runs a scenario over the turns that a reader has. Of their text no more is kept than a piece.
+// Runs a scenario over the turns that a reader has. Of their text no more is kept than a piece and the line that was begun before it.
 fn run_reader<T: Read, W: Write>(
     alloc: Global,
     scenario: &[u8],
@@ -226,7 +226,7 @@ fn run_reader<T: Read, W: Write>(
     match World::load(alloc, scenario) {
         Ok(mut world) => {
             let ran = run_loaded(alloc, &mut world, turns, out);
-            drop(world);
+            world.end();
             ran
         }
         Err(refused) => Err(refusal(alloc, scenario, refused, turns)),

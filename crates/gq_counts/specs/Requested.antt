@@ -1,6 +1,7 @@
 -- Requests, by the section of a service that they are for.
 use Rattle.std.specs.Prelude.{ℕ, ◌+◌, ◌*◌, Bool, ◌&&◌, List, [], ◌∷◌}
 use Rattle.gq_model.specs.declared.program.Section.{Section}
+use Rattle.gq_model.specs.machine.Lists.{any_of}
 use Rattle.gq_model.specs.machine.Program.{text_eq, same_section}
 use Rattle.gq_model.specs.rules.Budgets.{is_one}
 
@@ -18,3 +19,7 @@ is_for service section a = text_eq service a.service && same_section section a.s
 abbrev pub requests_for : List Requested → List ℕ → Section → ℕ
 requests_for [] service section = 0
 requests_for (a ∷ rest) service section = is_one service section a.service a.section * a.count + requests_for rest service section
+
+-- whether one of them is for a section of a service
+abbrev pub is_asked : List ℕ → List Requested → Bool
+is_asked service entries = any_of (λ a. text_eq service a.service) entries

@@ -3,7 +3,7 @@ ghost use Rattle.std.specs.Prelude.{◌≡◌, ◌<◌, ◌+◌, ◌*◌, ◌&&�
 ghost use Rattle.gq_model.specs.machine.Program.{text_eq, same_section};
 ghost use Rattle.gq_model.specs.rules.Budgets.{is_one};
 ghost use Rattle.gq_counts.specs.Counting.{saturated};
-ghost use Rattle.gq_counts.specs.Requested.{Requested, requests_for, is_for};
+ghost use Rattle.gq_counts.specs.Requested.{Requested, requests_for, is_for, is_asked};
 ghost use Rattle.gq_counts.specs.internal.Adding.{Adds, Raises, IsAt};
 
 use gq_program::Section;
@@ -32,7 +32,7 @@ impl Entry {
     fn is_for(&self, service: &[u8], section: Section) -> bool
         ensures { result ≡ is_for service.now section self.now }
     {
-        same_text(service, self.service.as_slice()) && section == self.section
+        section == self.section && same_text(service, self.service.as_slice())
     }
 
     /// How many there are for this section of this service.
@@ -88,6 +88,18 @@ impl Requests {
             sum = sum.saturating_add(entry.count_for(service, section));
         }
         sum
+    }
+
+    /// Whether one of them is for a section of a service, be they so many or none.
+    pub fn is_asked(&self, service: &[u8]) -> bool
+        ensures { result ≡ is_asked service.now self.now }
+    {
+        for entry in &self.entries {
+            if same_text(service, entry.service.as_slice()) {
+                return true;
+            }
+        }
+        false
     }
 
     /// Where those for a section of a service stand.

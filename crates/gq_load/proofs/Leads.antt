@@ -1,21 +1,69 @@
 -- Whose routes lead to whom, as a system knows it.
-use Rattle.std.proofs.Common.{◌≡◌, ℕ, suc, List, [], ◌∷◌, Option, Some, None, refl, ap, ◌∙◌}
+use Rattle.std.proofs.Common.{arith, ◌≡◌, ◌⊎◌, inl, inr, ℕ, suc, Bool, true, false, List, [], ◌∷◌, length, Option, Some, None, refl, ap, sym, subst, ◌∙◌}
+use Rattle.std.proofs.lemmas.Bool.{true≢false}
+use Rattle.std.specs.Prelude.{◌&&◌}
 use Rattle.gq_model.specs.machine.Scenario.{System, Component}
-use Rattle.gq_budget.specs.Leaves.{leads_for, leads_from, leaf_of, leaves_from}
+use Rattle.gq_model.specs.machine.Routes.{server_of}
+use Rattle.gq_model.specs.rules.Use.{is_there}
+use Rattle.gq_budget.specs.Leaves.{Leaf, leads_for, leads_from, leaf_of, leaves_from, leaves_of}
+use Rattle.gq_budget.specs.Counts.{Counted, Agree, AgreeFor, AgreeWhereAsked, AreCountsOf, asks}
 use Rattle.gq_load.specs.internal.Leads.{leads_to, leads_row, leads_rows, counted_leaves}
 
-row_same : (system : System) (x : ℕ) (provides : Option (List ℕ)) (cs : List Component)
-    → leads_row system.components x provides cs ≡ leads_for system x provides cs
-row_same system x provides [] = refl
-row_same system x None (c ∷ rest) = ap (λ l. leads_to system.components x None c ∷ l) (row_same system x None rest)
-row_same system x (Some service) (c ∷ rest) = ap (λ l. leads_to system.components x (Some service) c ∷ l) (row_same system x (Some service) rest)
+-- ROWS
 
-pub rows_same : (system : System) (x : ℕ) (cs : List Component) → leads_rows system.components x cs ≡ leads_from system x cs
-rows_same system x [] = refl
-rows_same system x (c ∷ rest) =
-    ap (λ l. l ∷ leads_rows system.components (suc x) rest) (row_same system x c.node.provides system.components)
-    ∙ ap (λ l. leads_for system x c.node.provides system.components ∷ l) (rows_same system (suc x) rest)
+pub row_none : (all : List Component) (x : ℕ) (provides : Option (List ℕ)) (cs : List Component) (ns : List Counted) → (cs ≡ []) ⊎ (ns ≡ [])
+    → leads_row all x provides cs ns ≡ []
+row_none all x provides [] ns h = refl
+row_none all x provides (c ∷ cs) [] h = refl
+row_none all x provides (c ∷ cs) (n ∷ ns) (inl e) = cc
+row_none all x provides (c ∷ cs) (n ∷ ns) (inr e) = cc
+
+pub row_first : (all : List Component) (x : ℕ) (provides : Option (List ℕ)) (cs cs' : List Component) (ns ns' : List Counted) (c : Component) (n : Counted)
+    → cs ≡ c ∷ cs' → ns ≡ n ∷ ns' → leads_row all x provides cs ns ≡ leads_to all x provides c n ∷ leads_row all x provides cs' ns'
+row_first all x provides cs cs' ns ns' c n e f = ap (λ l. leads_row all x provides l ns) e ∙ ap (λ l. leads_row all x provides (c ∷ cs') l) f
+
+-- AGREEING
+
+-- where it is asked for, what is told is the route
+asked : (a b : Bool) → a ≡ true → (a && b) ≡ b
+asked true b e = refl
+asked false b e = absurd (true≢false (sym e))
+
+row_agrees : (system : System) (x : ℕ) (service : List ℕ) (cs : List Component) (ns : List Counted) → length ns ≡ length cs
+    → AgreeFor service ns (leads_row system.components x (Some service) cs ns) (leads_for system x (Some service) cs)
+row_agrees system x service [] [] e = tt {0}
+row_agrees system x service [] (n ∷ ns) e = tt {0}
+row_agrees system x service (c ∷ cs) [] e = tt {0}
+row_agrees system x service (c ∷ cs) (n ∷ ns) e =
+    (asked (asks service n) (is_there x (server_of system c service)), row_agrees system x service cs ns (omega (arith, e)))
+
+agrees : (system : System) (x : ℕ) (provides : Option (List ℕ)) (cs : List Component) (ns : List Counted) → length ns ≡ length cs
+    → Agree provides ns (leads_row system.components x provides cs ns) (leads_for system x provides cs)
+agrees system x None cs ns e = tt {0}
+agrees system x (Some service) cs ns e = row_agrees system x service cs ns e
+
+-- what is told of these leaves is what the system says, where it is asked for
+pub rows_agree : (system : System) (all ms : List Counted) (x : ℕ) (cs : List Component) → length all ≡ length system.components
+    → AreCountsOf ms (leaves_from system cs) → AgreeWhereAsked all ms (leads_rows system.components all x cs) (leads_from system x cs)
+rows_agree system all [] x [] e h = tt {0}
+rows_agree system all [] x (c ∷ cs) e h = absurd h
+rows_agree system all (m ∷ ms) x [] e h = absurd h
+rows_agree system all (m ∷ ms) x (c ∷ cs) e h =
+    let provides = c.node.provides in
+    let row = leads_row system.components x provides system.components all in
+    let other = leads_for system x provides system.components in
+    let here = agrees system x provides system.components all e in
+    (subst (λ (p : Option (List ℕ)). Agree p all row other) (sym h.0.provides) here, rows_agree system all ms (suc x) cs e h.1)
+
+-- LEAVES
 
 pub leaves_same : (system : System) (cs : List Component) → counted_leaves system.interfaces cs ≡ leaves_from system cs
 leaves_same system [] = refl
 leaves_same system (c ∷ rest) = ap (λ l. leaf_of system c ∷ l) (leaves_same system rest)
+
+-- there are as many as are counted
+pub as_many : (system : System) (ns : List Counted) (cs : List Component) → AreCountsOf ns (leaves_from system cs) → length ns ≡ length cs
+as_many system [] [] h = refl
+as_many system [] (c ∷ cs) h = absurd h
+as_many system (n ∷ ns) [] h = absurd h
+as_many system (n ∷ ns) (c ∷ cs) h = ap suc (as_many system ns cs h.1)

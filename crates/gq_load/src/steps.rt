@@ -13,48 +13,64 @@ use gq_resolve::routes::server_of;
 use gq_scenario::scenario::{LeafNo, Scenario};
 use std::alloc::{AllocError, Global};
 
-// Whether a component's route for a service leads to the leaf of a number; none does for no service.
+// Whether a component asks for a service and its route for it leads to the leaf of a number; none does for no service. A route is looked for only where it is
+// asked for.
 fn leads_to(
     components: &[Component<'_>],
     leaf: LeafNo,
     provides: Option<&Name>,
     component: &Component<'_>,
+    counted: &CountedLeaf,
 ) -> bool
     requires { length components.now < 2 ^ 32 }
-    ensures { result ≡ leads_to components.now leaf (option_copied provides.entry) component.now }
+    ensures { result ≡ leads_to components.now leaf (option_copied provides.entry) component.now counted.now }
 {
     match provides {
-        Some(service) => server_of(components, component, service) == Some(leaf),
+        Some(service) => {
+            counted.asks_for(service.as_bytes())
+                && server_of(components, component, service) == Some(leaf)
+        }
         None => false,
     }
 }
 
-// Whether the routes of these leaves for a service lead to the leaf of a number.
+// Which of these leaves ask for a service by routes that lead to the leaf of a number.
 fn leads_row(
     alloc: Global,
     components: &[Component<'_>],
+    counted: &[CountedLeaf],
     leaf: LeafNo,
     provides: Option<&Name>,
 ) -> Result<Vec<bool>, AllocError>
     requires { length components.now < 2 ^ 32 }
-    ensures { IfOk result (λ row. row.items ≡ leads_row components.now leaf (option_copied provides.entry) components.now) }
+    ensures { IfOk result (λ row. row.items ≡ leads_row components.now leaf (option_copied provides.entry) components.now counted.now) }
 {
     let mut row = Vec::new(alloc);
-    for component in components {
-        row.push(leads_to(components, leaf, provides, component))?;
+    for (component, counted) in components.iter().zip(counted) {
+        row.push(leads_to(components, leaf, provides, component, counted))?;
     }
     Ok(row)
 }
 
-// For each of these leaves, which leaves' routes for its service lead to it.
-fn leads_rows(alloc: Global, components: &[Component<'_>]) -> Result<Vec<Vec<bool>>, AllocError>
+// For each of these leaves, which leaves ask for its service by routes that lead to it.
+fn leads_rows(
+    alloc: Global,
+    components: &[Component<'_>],
+    counted: &[CountedLeaf],
+) -> Result<Vec<Vec<bool>>, AllocError>
     requires { length components.now < 2 ^ 32 }
-    ensures { IfOk result (λ rows. map (λ row. row.items) rows.items ≡ leads_rows components.now 0 components.now) }
+    ensures { IfOk result (λ rows. map (λ row. row.items) rows.items ≡ leads_rows components.now counted.now 0 components.now) }
 {
     let mut rows = Vec::new(alloc);
     for (place, component) in components.iter().enumerate() {
         let leaf = LeafNo::new(place as u32);
-        let row = leads_row(alloc, components, leaf, component.leaf().provides())?;
+        let row = leads_row(
+            alloc,
+            components,
+            counted,
+            leaf,
+            component.leaf().provides(),
+        )?;
         rows.push(row)?;
     }
     Ok(rows)
@@ -72,7 +88,7 @@ pub(crate) fn steps_of(
     ensures { IfOk result (λ steps. steps.items ≡ budgets_of (system scenario.now)) }
 {
     let _count = scenario.leaf_count();
-    let leads = leads_rows(alloc, components)?;
+    let leads = leads_rows(alloc, components, counted)?;
     let steps = counted_budgets(alloc, counted, leads.as_slice())?;
     Ok(steps)
 }

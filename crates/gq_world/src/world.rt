@@ -89,6 +89,13 @@ impl World {
         }
     }
 
+    /// Ends the world, as `drop` does, and gives its host memory back.
+    ///
+    /// How a value is let go is proved in each crate that drops it, for all that it owns; a crate that ends its worlds by this call need not prove it again.
+    pub fn end(self) {
+        drop(self);
+    }
+
     /// What each leaf uses at most, in preorder.
     pub fn budgets(&self) -> &[Budget]
         ensures { result.now ≡ accept.budgets self.now.scenario }

@@ -1,25 +1,27 @@
 -- Whose routes lead to whom, among leaves.
-use Rattle.std.specs.Prelude.{ℕ, suc, Bool, false, List, [], ◌∷◌, Option, Some, None}
+use Rattle.std.specs.Prelude.{ℕ, suc, Bool, false, ◌&&◌, List, [], ◌∷◌, Option, Some, None}
 use Rattle.gq_model.specs.machine.Scenario.{Interfaces, Component}
 use Rattle.gq_model.specs.rules.Use.{is_there}
 use Rattle.gq_resolve.specs.Served.{server_among}
 use Rattle.gq_budget.specs.Leaves.{Leaf}
+use Rattle.gq_budget.specs.Counts.{Counted, asks}
 use Rattle.gq_load.specs.internal.Judged.{judged_by}
 
--- whether a component's route for a service leads to the x-th of all leaves; none does for no service
-abbrev pub leads_to : List Component → ℕ → Option (List ℕ) → Component → Bool
-leads_to all x None c = false
-leads_to all x (Some service) c = is_there x (server_among all c service)
+-- whether a component asks for a service and its route for it leads to the x-th of all leaves; none does for no service
+abbrev pub leads_to : List Component → ℕ → Option (List ℕ) → Component → Counted → Bool
+leads_to all x None c n = false
+leads_to all x (Some service) c n = asks service n && is_there x (server_among all c service)
 
 -- the same of these leaves
-abbrev pub leads_row : List Component → ℕ → Option (List ℕ) → List Component → List Bool
-leads_row all x provides [] = []
-leads_row all x provides (c ∷ rest) = leads_to all x provides c ∷ leads_row all x provides rest
+abbrev pub leads_row : List Component → ℕ → Option (List ℕ) → List Component → List Counted → List Bool
+leads_row all x provides [] ns = []
+leads_row all x provides (c ∷ rest) [] = []
+leads_row all x provides (c ∷ rest) (n ∷ ns) = leads_to all x provides c n ∷ leads_row all x provides rest ns
 
--- for each of these leaves, of which the first is the x-th, which of all leaves' routes for its service lead to it
-abbrev pub leads_rows : List Component → ℕ → List Component → List (List Bool)
-leads_rows all x [] = []
-leads_rows all x (c ∷ rest) = leads_row all x c.node.provides all ∷ leads_rows all (suc x) rest
+-- for each of these leaves, of which the first is the x-th, which of all leaves ask for its service by routes that lead to it
+abbrev pub leads_rows : List Component → List Counted → ℕ → List Component → List (List Bool)
+leads_rows all ns x [] = []
+leads_rows all ns x (c ∷ rest) = leads_row all x c.node.provides all ns ∷ leads_rows all ns (suc x) rest
 
 -- leaves as their steps are counted by
 abbrev pub counted_leaves : Interfaces → List Component → List Leaf

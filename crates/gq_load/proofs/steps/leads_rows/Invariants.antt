@@ -5,4 +5,5 @@ use Rattle.gq_load.proofs.steps.leads_rows.Given as goal
 -- the rows so far, with those that are left, are all
 abbrev pub invariant-loop-place : goal.invariant-loop-place
 invariant-loop-place l =
-    map (λ row. row.items) l.rows.items ++ leads_rows l.components l.place (drop l.place l.components) ≡ leads_rows l.components 0 l.components
+    map (λ row. row.items) l.rows.items ++ leads_rows l.components l.counted l.place (drop l.place l.components)
+    ≡ leads_rows l.components l.counted 0 l.components
