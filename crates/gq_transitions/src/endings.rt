@@ -8,9 +8,9 @@ ghost use Rattle.gq_transitions.specs.internal.Holds.{CanStep, EndsMain, Goes, H
 
 use crate::state::{Fixed, State};
 use crate::statements::lawful;
-use gq_init::NodeTable;
 use gq_model::fault::Wrong;
 use gq_model::phase::Phase;
+use gq_nodes::NodeTable;
 use gq_scenario::scenario::LeafNo;
 use gq_steps::Leaf;
 
