@@ -1,7 +1,6 @@
 pub mod Turning
 pub mod Reading
 pub mod Counts
-pub mod Rows
 pub mod Named
 pub mod Ahead
 pub mod Fronts

@@ -1,5 +1,6 @@
 -- The leaf of a name.
-use Rattle.std.proofs.Common.{◌≡◌, ℕ, zero, suc, ◌+◌, Bool, true, false, cond, List, [], ◌∷◌, Some, None, refl, ap, sym, ◌∙◌, arith, codes}
+use Rattle.std.proofs.Common.{◌≡◌, ℕ, zero, suc, ◌+◌, Bool, true, false, cond, List, [], ◌∷◌, Option, Some, None, IfSome, refl, ap, sym, subst}
+use Rattle.std.proofs.Common.{◌∙◌, arith, codes}
 use Rattle.std.specs.Prelude.{slice_get}
 use Rattle.std.proofs.lemmas.Bool.{true≢false}
 use Rattle.gq_model.specs.machine.Program.{text_eq}
@@ -8,6 +9,7 @@ use Rattle.gq_model.specs.machine.Scenario.{Scenario, Component, components}
 use Rattle.gq_model.proofs.Small.{none_some, some_same, none_add, text_is}
 use Rattle.gq_scenario.specs.Document.{names_of, name_twice}
 use Rattle.gq_scenario.proofs.Differing.{names_differ}
+use Rattle.gq_nodes.specs.NodeTables.{LeafRow, leaf_row}
 
 -- the first of these that bears a name, where they are numbered from k
 record First (k : ℕ) (name : List ℕ) (cs : List Component) : Type 0 where
@@ -52,3 +54,8 @@ numbered_there s name x c single there same =
     let alike = sym (text_is name first.component.node.name first.same) ∙ text_is name c.node.name same in
     let one = names_differ s (codes "init" ∷ []) single first.place x first.component c first.there there alike in
     first.is ∙ ap Some (none_add first.place ∙ one)
+
+-- a name that is the one in the row of a leaf is the leaf's
+pub name_in_row : (s : Scenario) (place : ℕ) (c : Component) (name : List ℕ) (row : Option LeafRow) → row ≡ Some (leaf_row s place c)
+    → IfSome row (λ r. name ≡ r.name) → name ≡ c.node.name
+name_in_row s place c name row e h = subst (λ (o : Option LeafRow). IfSome o (λ r. name ≡ r.name)) e h

@@ -1,4 +1,3 @@
-pub mod NodeTables
 pub mod TurnLines
 pub mod TurnReading
 pub mod internal

@@ -1,3 +1,2 @@
 pub mod Ahead
-pub mod Kept_tables
 pub mod Reading

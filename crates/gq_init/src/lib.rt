@@ -1,4 +1,4 @@
-//! Scenarios and turns: a scenario that is read and resolved becomes a table of its nodes, by which the turns of a text are read.
+//! Turns: by the table of the nodes of a scenario, which is read and resolved, the turns of a text are read.
 //!
 //! ```rust
 //! use gq_init::{NodeTable, read_turns};
@@ -11,17 +11,16 @@
 
 mod item;
 mod names;
-pub mod table;
 mod turn_list;
 pub mod turn_reader;
 pub mod turns;
 
+pub use gq_nodes::{NodeTable, table};
 pub use gq_reader::{read_scenario, reader};
 pub use gq_resolve::resolve;
 pub use gq_resolve::routes::Routes;
 pub use gq_scenario::scenario::Scenario;
 pub use gq_scenario::{fault, key, node, scenario, source};
 pub use item::TurnItem;
-pub use table::NodeTable;
 pub use turn_reader::TurnReader;
 pub use turns::{read_items, read_turns};

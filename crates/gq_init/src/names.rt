@@ -1,9 +1,17 @@
 // Where leaves may be found by their names.
-ghost use Rattle.std.specs.Prelude.{◌≡◌, true, ◌<◌, ◌≤◌, ◌+◌, ◌++◌, drop, length};
+ghost use Rattle.std.specs.Prelude.{◌≡◌, true, ◌<◌, ◌≤◌, ◌+◌, ◌++◌, drop, length, IfSome, IsTrue, Some};
 ghost use Rattle.std.specs.Int.{to_le_bytes, w32};
-ghost use Rattle.gq_init.specs.internal.Ahead.{four_at};
+ghost use Rattle.gq_model.specs.machine.Routes.{numbered};
+ghost use Rattle.gq_model.specs.machine.Scenario.{components};
+ghost use Rattle.gq_model.specs.texts.Letters.{is_name};
+ghost use Rattle.gq_init.specs.internal.Ahead.{IsLeafAhead, four_at};
 
+use gq_nodes::NodeTable;
 use gq_scenario::lines::same_bytes;
+use gq_scenario::scenario::LeafNo;
+
+// How many ways are tried to spread names over the places of their index.
+const SPREADS: u32 = 64;
 
 // How many places names are spread over: many more than there are leaves, so that it seldom takes long until each has one of its own.
 const PLACES: usize = 1024;
@@ -11,8 +19,8 @@ const PLACES: usize = 1024;
 // What stands at a place that no leaf has.
 const NO_LEAF: u8 = 255;
 
-/// How many bytes of a text are looked at for a name: the most that a name has.
-pub(crate) const AHEAD: usize = 16;
+// How many bytes of a text are looked at for a name: the most that a name has.
+const AHEAD: usize = 16;
 
 // The same byte eight times: 1, a space, and the upper bit of each.
 const ONES: u64 = 0x0101_0101_0101_0101;
@@ -45,9 +53,9 @@ fn four(text: &[u8], from: usize) -> u32
     u32::from_le_bytes([text[from], text[from + 1], text[from + 2], text[from + 3]])
 }
 
-/// Whether a text begins with this name. Most names have at most eight bytes: these are compared by their first and their last four, or one by one.
+// Whether a text begins with this name. Most names have at most eight bytes: these are compared by their first and their last four, or one by one.
 #[inline(always)]
-pub(crate) fn is_ahead(name: &[u8], text: &[u8]) -> bool
+fn is_ahead(name: &[u8], text: &[u8]) -> bool
     requires some { 0 < length name.now }
     requires within { length name.now ≤ length text.now }
     ensures { result ≡ true → text.now ≡ name.now ++ drop (length name.now) text.now }
@@ -92,16 +100,16 @@ pub(crate) struct NameIndex {
 }
 
 impl NameIndex {
-    /// An index without leaves.
-    pub(crate) fn new() -> NameIndex {
+    // An index without leaves.
+    fn new() -> NameIndex {
         NameIndex {
             factor: 0x9e37_79b9_7f4a_7c15,
             leaves: [NO_LEAF; PLACES],
         }
     }
 
-    /// Takes all leaves out, and spreads names in another way from now on.
-    pub(crate) fn respread(&mut self) {
+    // Takes all leaves out, and spreads names in another way from now on.
+    fn respread(&mut self) {
         self.factor = self.factor.wrapping_mul(0x5851_f42d_4c95_7f2d) | 1;
         self.leaves = [NO_LEAF; PLACES];
     }
@@ -143,25 +151,99 @@ impl NameIndex {
         self.place(&text).0
     }
 
-    /// Puts the number of a leaf of this name at its place, and tells whether that was free.
-    pub(crate) fn put(&mut self, name: &[u8], number: u8) -> bool {
+    // Puts the number of a leaf of this name at its place, and tells whether that was free.
+    fn put(&mut self, name: &[u8], number: u8) -> bool {
         let place = self.place_of(name);
         let is_free = self.leaves[place] == NO_LEAF;
         self.leaves[place] = number;
         is_free
     }
 
-    /// The number of the leaf at the place of this name, or one that no leaf has.
-    pub(crate) fn number(&self, name: &[u8]) -> usize {
+    // The number of the leaf at the place of this name, or one that no leaf has.
+    fn number(&self, name: &[u8]) -> usize {
         usize::from(self.leaves[self.place_of(name)])
     }
 
-    /// The same for the name that stands at the front of a text, with a space after it where it has less than 16 bytes; and how many bytes stand before that.
+    // The same for the name that stands at the front of a text, with a space after it where it has less than 16 bytes; and how many bytes stand before that.
     #[inline(always)]
-    pub(crate) fn number_ahead(&self, text: &[u8]) -> (usize, usize)
+    fn number_ahead(&self, text: &[u8]) -> (usize, usize)
         requires { AHEAD ≤ length text.now }
     {
         let (place, end) = self.place(text);
         (usize::from(self.leaves[place]), end)
+    }
+
+    // Puts all leaves of a table into an index that has none, and tells whether each has a place of its own.
+    fn put_all(&mut self, table: &NodeTable) -> bool {
+        let mut is_free = true;
+        for number in 0..table.leaf_count() {
+            let name = table.name(LeafNo::new(number as u32));
+            is_free &= self.put(name.as_bytes(), number as u8);
+        }
+        is_free
+    }
+
+    /// The leaves of a table by their names, in the first of many ways to spread them that gives each a place of its own, else in the last. This looks at all
+    /// of them, some more than once.
+    pub(crate) fn of(table: &NodeTable) -> NameIndex {
+        let mut index = NameIndex::new();
+        for _ in 0..SPREADS {
+            if index.put_all(table) {
+                return index;
+            }
+            index.respread();
+        }
+        index.put_all(table);
+        index
+    }
+
+    /// The leaf of this name, where the index leads to it, which is of a table's names: in the same time whatever the number of leaves. `None` says nothing.
+    pub(crate) fn leaf_likely(&self, name: &[u8], table: &NodeTable) -> Option<LeafNo>
+        ensures name { IfSome result (λ x. IsTrue (is_name name.now)) }
+        ensures number { IfSome result (λ x. numbered 0 name.now (components table.now) ≡ Some x) }
+        ensures there { IfSome result (λ x. x < length (components table.now)) }
+    {
+        table.scenario().laws();
+        let number = self.number(name);
+        if number >= table.leaf_count() {
+            return None;
+        }
+        let leaf = LeafNo::new(number as u32);
+        let own = table.name(leaf);
+        if same_bytes(name, own.as_bytes()) {
+            return Some(leaf);
+        }
+        None
+    }
+
+    /// The leaf whose name stands at the front of a text with a space behind it, where the index leads to it, which is of a table's names, and what follows the
+    /// space. `None` says nothing.
+    #[inline(always)]
+    pub(crate) fn leaf_ahead<'a>(
+        &self,
+        text: &'a [u8],
+        table: &NodeTable,
+    ) -> Option<(LeafNo, &'a [u8])>
+        ensures ahead { IfSome result (λ r. IsLeafAhead (components table.now) text.now r.0 r.1.now) }
+        ensures there { IfSome result (λ r. r.0 < length (components table.now)) }
+    {
+        if text.len() < AHEAD {
+            return None;
+        }
+        table.scenario().laws();
+        let (number, end) = self.number_ahead(text);
+        if number >= table.leaf_count() {
+            return None;
+        }
+        let leaf = LeafNo::new(number as u32);
+        let own = table.name(leaf);
+        let name = own.as_bytes();
+        if name.len() != end || text.len() <= end || text[end] != b' ' {
+            return None;
+        }
+        if is_ahead(name, text) {
+            return Some((leaf, &text[end + 1..]));
+        }
+        None
     }
 }

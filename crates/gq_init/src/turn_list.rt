@@ -9,10 +9,10 @@ ghost use Rattle.gq_init.specs.internal.Reading.{lines_read};
 
 use crate::item::TurnItem;
 use crate::names::NameIndex;
-use crate::table::NodeTable;
 use crate::turns::{TurnsError, next_turn, turn_ahead};
 use gq_model::fault::TurnFault;
 use gq_model::limits::GREATEST_TURNS;
+use gq_nodes::NodeTable;
 use std::alloc::{AllocError, Global};
 
 // Whether more of a line may come: no line feed ends it, and the text is not the last one.

@@ -8,11 +8,11 @@ ghost use Rattle.gq_init.specs.internal.Reading.{IsEnded};
 
 use crate::item::TurnItem;
 use crate::names::NameIndex;
-use crate::table::NodeTable;
 use crate::turn_list::TurnList;
 use crate::turns::TurnsError;
 use gq_model::fault::TurnFault;
 use gq_model::limits::{GREATEST_TURNS, GREATEST_TURNS_TEXT};
+use gq_nodes::NodeTable;
 use memchr::{memchr, memrchr};
 use std::alloc::{AllocError, Global};
 use std::marker::Model;
@@ -54,7 +54,7 @@ impl TurnReader {
     {
         let turns = TurnList::new(alloc, GREATEST_TURNS as usize)?;
         Ok(TurnReader {
-            names: table.name_index(),
+            names: NameIndex::of(table),
             turns,
             size: 0,
             last: Vec::new(alloc),

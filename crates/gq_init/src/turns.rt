@@ -10,11 +10,11 @@ ghost use Rattle.gq_init.specs.TurnLines.{IsTurned, line_turn};
 
 use crate::item::TurnItem;
 use crate::names::NameIndex;
-use crate::table::NodeTable;
 use crate::turn_list::TurnList;
 use gq_model::fault::TurnFault;
 use gq_model::letters::{is_digit, is_name};
 use gq_model::limits::{GREATEST_TURNS, GREATEST_TURNS_TEXT};
+use gq_nodes::NodeTable;
 use gq_scenario::lines::{next_line, next_piece};
 use gq_scenario::scenario::LeafNo;
 use memchr::memchr;
@@ -105,7 +105,7 @@ fn read_turn(line: &[u8], table: &NodeTable, names: &NameIndex) -> Result<(LeafN
     let Some(count) = rest else {
         return Err(TurnFault::BadLine);
     };
-    let Some(leaf) = table.leaf_likely(names, name) else {
+    let Some(leaf) = names.leaf_likely(name, table) else {
         return search_turn(name, count, table);
     };
     match read_count(count) {
@@ -173,7 +173,7 @@ pub(crate) fn turn_ahead<'a>(
     ensures turn { IfSome result (λ r. IsTurnAhead (components table.now) text.now r.0 r.1.now) }
     ensures there { IfSome result (λ r. r.0.0 < length (components table.now)) }
 {
-    let Some((leaf, rest)) = table.leaf_ahead(names, text) else {
+    let Some((leaf, rest)) = names.leaf_ahead(text, table) else {
         return None;
     };
     match count_ahead(rest) {
@@ -246,7 +246,7 @@ pub fn read_items(
             line: 0,
         });
     }
-    let names = table.name_index();
+    let names = NameIndex::of(table);
     let mut turns = TurnList::new(alloc, most_turns(text))?;
     turns.read_lines(text, true, table, &names)?;
     turns.finish()

@@ -14,16 +14,16 @@ use Rattle.gq_laws.proofs.paying.Places.{starts_after}
 use Rattle.gq_laws.specs.Room.{IsRoomy}
 use Rattle.gq_laws.proofs.room.Worlds.{start_roomy}
 use Rattle.gq_laws.proofs.progress.Phases.{AreReady, start_ready}
-use Rattle.gq_init.proofs.Rows.{places-count}
+use Rattle.gq_nodes.proofs.Rows.{places-count}
 use Rattle.gq_laws.specs.Ready.{IsReady}
 use Rattle.gq_plans.proofs.Firsts.{afters_fit}
 use Rattle.gq_plans.proofs.Kept.{first_kept, quantum_of, stage_of}
 use Rattle.gq_plans.specs.Nodes.{AreNodesOf}
 use Rattle.gq_plans.specs.Plans.{first_stage}
-use Rattle.gq_flat.specs.Cores.{Core}
+use Rattle.gq_registers.specs.Cores.{Core}
 use Rattle.gq_flat.specs.Programs.{AreFound, IsCodeOfProgram, ProgramCode, code_in}
-use Rattle.gq_flat.specs.Views.{state_of}
-use Rattle.gq_flat.specs.declared.operation.Operation.{Operation}
+use Rattle.gq_registers.specs.Views.{state_of}
+use Rattle.gq_registers.specs.declared.operation.Operation.{Operation}
 use Rattle.gq_flat.proofs.Named.{started}
 use Rattle.gq_flat.proofs.Parts.{found_body}
 use Rattle.gq_store.specs.Store.{Store}

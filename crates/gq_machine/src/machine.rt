@@ -5,7 +5,7 @@ ghost use Rattle.gq_model.specs.machine.Accounts.{accounts};
 ghost use Rattle.gq_model.specs.machine.Scenario.{Component, components, system};
 ghost use Rattle.gq_model.specs.machine.Sums.{held};
 ghost use Rattle.gq_model.specs.machine.World.{first_phase, start};
-ghost use Rattle.gq_init.specs.NodeTables.{node_rows};
+ghost use Rattle.gq_nodes.specs.NodeTables.{node_rows};
 ghost use Rattle.gq_laws.specs.Ready.{IsReady};
 ghost use Rattle.gq_flat.specs.Programs.{IsCodeOfProgram};
 ghost use Rattle.gq_plans.specs.Nodes.{caps_of};
@@ -17,8 +17,8 @@ ghost use Rattle.gq_machine.specs.internal.Held.{held_before};
 ghost use Rattle.gq_machine.specs.internal.Starts.{AreFirst, ArePrepared, IsFirstOf, AreFirstSlots};
 
 use gq_flat::Code;
-use gq_init::NodeTable;
 use gq_model::phase::Phase;
+use gq_nodes::NodeTable;
 use gq_plans::plan_of;
 use gq_prepared::openings::openings;
 use gq_prepared::sections::sections_of;

@@ -4,9 +4,9 @@ ghost use Rattle.gq_model.specs.declared.program.Instruction.TheVariants as inst
 ghost use Rattle.gq_model.specs.declared.program.Instruction.{Instruction};
 ghost use Rattle.gq_model.specs.declared.program.Place.{Place};
 ghost use Rattle.gq_model.specs.texts.Operands.{is_slot};
-ghost use Rattle.gq_flat.specs.Layout.{instruction_in};
+ghost use Rattle.gq_registers.specs.Layout.{instruction_in};
 ghost use Rattle.gq_steps.specs.Statements.{slot_named};
-ghost use Rattle.gq_flat.specs.declared.operation.Operation.TheVariants as operation;
+ghost use Rattle.gq_registers.specs.declared.operation.Operation.TheVariants as operation;
 ghost use Rattle.gq_numbered.specs.Numbers.{free_number};
 ghost use Rattle.gq_trade.specs.Trades.{IsLive};
 ghost use Rattle.gq_trade.specs.Waiting.{IsIdle};
@@ -17,10 +17,10 @@ ghost use Rattle.gq_steps.specs.Steps.{LeadsTo, OpensTo, UpgradesTo, blocked_on}
 
 use crate::leaf::Leaf;
 use gq_asking::{call, close, open, upgrade};
-use gq_flat::Operation;
 use gq_model::fault::Wrong;
 use gq_model::phase::Phase;
 use gq_model::program::Place;
+use gq_registers::Operation;
 use gq_slots::Slots;
 use gq_statements::Actor;
 use gq_tariff::Amount;

@@ -17,10 +17,10 @@ use Rattle.gq_laws.proofs.paying.Servers.{numbered_name}
 use Rattle.gq_paid.specs.Linked.{ProvidesNothing}
 use Rattle.gq_laws.specs.Ready.{IsReady}
 use Rattle.gq_laws.proofs.ready.Servers.{provided}
-use Rattle.gq_init.specs.NodeTables.{number_named}
+use Rattle.gq_nodes.specs.NodeTables.{number_named}
 use Rattle.gq_plans.proofs.endings.Afters.{own_number}
-use Rattle.gq_flat.specs.Nexts.{Active}
-use Rattle.gq_flat.specs.Views.{state_of}
+use Rattle.gq_registers.specs.Nexts.{Active}
+use Rattle.gq_registers.specs.Views.{state_of}
 use Rattle.gq_sessions.specs.Trading.{Trading, node_of}
 use Rattle.gq_trade.specs.declared.node.Stage.TheVariants.{Ended}
 use Rattle.gq_trade.specs.Ends as trade

@@ -10,8 +10,8 @@ use Rattle.gq_model.specs.machine.Program.{Statements, body_of, section_in, text
 use Rattle.gq_model.specs.machine.Scenario.{Component, components}
 use Rattle.gq_model.specs.rules.Use.{services}
 use Rattle.gq_model.proofs.Small.{get_within}
-use Rattle.gq_flat.specs.declared.operation.Operation.{Operation}
-use Rattle.gq_flat.specs.declared.operation.Operation.TheVariants.{Long}
+use Rattle.gq_registers.specs.declared.operation.Operation.{Operation}
+use Rattle.gq_registers.specs.declared.operation.Operation.TheVariants.{Long}
 use Rattle.gq_flat.specs.Programs.{AreFound, code_in}
 use Rattle.gq_flat.proofs.Named.{stated}
 use Rattle.gq_flat.proofs.Parts.{found_body}

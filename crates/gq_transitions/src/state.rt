@@ -1,5 +1,5 @@
 // What a machine has: what is fixed at load, and what changes.
-use gq_init::NodeTable;
+use gq_nodes::NodeTable;
 use gq_prepared::{Opening, Services};
 use gq_slots::Slots;
 use gq_steps::Leaf;

@@ -2,16 +2,16 @@
 ghost use Rattle.std.specs.Prelude.{◌≡◌, ℕ, List, IfErr, IfOk, IsTrue, OnErr, OnOk, Err, Ok, decimal};
 ghost use Rattle.gq_statements.specs.Statements.{done};
 ghost use Rattle.gq_paid.specs.Systems.{AreLawful};
-ghost use Rattle.gq_flat.specs.declared.operation.Operation.TheVariants as operation;
+ghost use Rattle.gq_registers.specs.declared.operation.Operation.TheVariants as operation;
 ghost use Rattle.gq_leaves.specs.Operations.{is_on_memory};
 ghost use Rattle.gq_steps.specs.Steps.{shows};
 ghost use Rattle.gq_transitions.specs.internal.Holds.{ActsOn, CanStep, Goes, Holds, IsLong, IsNext, Provides};
 ghost use Rattle.gq_model.specs.declared.program.Instruction.TheVariants as instruction;
 
 use crate::state::{Fixed, State};
-use gq_flat::Operation;
 use gq_model::fault::Wrong;
 use gq_model::program::Place;
+use gq_registers::Operation;
 use gq_slots::Slots;
 
 // What holds of slots between two calls. It does nothing.

@@ -1,6 +1,6 @@
 use Rattle.std.proofs.Common.{ℕ, subst, arith, map, IfSome}
 use Rattle.std.specs.Prelude.{◌≡◌, slice_get}
-use Rattle.gq_init.specs.NodeTables.{node_rows}
+use Rattle.gq_nodes.specs.NodeTables.{node_rows}
 use Rattle.gq_plans.specs.internal.Firsts.{first_node}
 use Rattle.gq_plans.proofs.Lists.{push_map}
 use Rattle.gq_plans.proofs.plans.first_nodes.Goals as goal

@@ -1,5 +1,5 @@
 use Rattle.std.proofs.Common.{◌≡◌, ◌++◌, map, drop}
-use Rattle.gq_init.specs.NodeTables.{node_rows}
+use Rattle.gq_nodes.specs.NodeTables.{node_rows}
 use Rattle.gq_plans.specs.internal.Firsts.{first_node}
 use Rattle.gq_plans.proofs.plans.first_nodes.Given as goal
 

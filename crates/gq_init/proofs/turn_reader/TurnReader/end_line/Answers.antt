@@ -6,7 +6,7 @@ use Rattle.gq_model.specs.texts.Letters.{lines}
 use Rattle.gq_init.specs.TurnReading.{Reading, answer, told}
 use Rattle.gq_init.specs.internal.Reading.{IsEnded, lines_read}
 use Rattle.gq_init.proofs.Reading.{answer_kept, answer_read, ended_behind}
-use Rattle.std.specs.Prelude.{true, false}
+use Rattle.std.specs.Prelude.{false}
 use Rattle.gq_init.proofs.turn_reader.TurnReader.end_line.Goals as goal
 
 pub returns-clause-answer : goal.returns-clause-answer

@@ -1,5 +1,5 @@
 -- The last line.
-use Rattle.std.proofs.Common.{◌≡◌, ◌++◌, [], List, ℕ, ap, subst, ◌∙◌, rules}
+use Rattle.std.proofs.Common.{◌++◌, [], List, ℕ, ap, subst, ◌∙◌, rules}
 use Rattle.gq_model.specs.machine.Scenario.{components}
 use Rattle.gq_model.specs.texts.Letters.{lines}
 use Rattle.gq_init.specs.TurnReading.{Reading, answer, told}

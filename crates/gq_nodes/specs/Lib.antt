@@ -1,0 +1,2 @@
+pub mod NodeTables
+pub mod internal
