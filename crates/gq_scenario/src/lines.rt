@@ -6,10 +6,13 @@ ghost use Rattle.gq_scenario.specs.Lines.{pieces_left, lines_left};
 
 use memchr::memchr;
 
-/// Whether two texts have the same bytes.
+/// Whether two texts have the same bytes. Their last bytes are looked at first, since names often begin alike.
 pub fn same_bytes(a: &[u8], b: &[u8]) -> bool
     ensures { result ≡ text_eq a.now b.now }
 {
+    if a.len() != b.len() || (!a.is_empty() && a[a.len() - 1] != b[b.len() - 1]) {
+        return false;
+    }
     a == b
 }
 
