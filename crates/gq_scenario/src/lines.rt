@@ -4,16 +4,14 @@ ghost use Rattle.gq_model.specs.texts.Letters.{pieces, lines, without_return};
 ghost use Rattle.gq_model.specs.machine.Program.{text_eq};
 ghost use Rattle.gq_scenario.specs.Lines.{pieces_left, lines_left};
 
+use gq_program::spelling::same_text;
 use memchr::memchr;
 
-/// Whether two texts have the same bytes. Their last bytes are looked at first, since names often begin alike.
+/// Whether two texts have the same bytes.
 pub fn same_bytes(a: &[u8], b: &[u8]) -> bool
     ensures { result ≡ text_eq a.now b.now }
 {
-    if a.len() != b.len() || (!a.is_empty() && a[a.len() - 1] != b[b.len() - 1]) {
-        return false;
-    }
-    a == b
+    same_text(a, b)
 }
 
 // How many bytes are looked at one by one before a search begins.
