@@ -144,6 +144,23 @@ fn first_error(alloc: Global, components: &[Component<'_>], error: LoadError) ->
     }
 }
 
+// Whether one of the sections of a program has a block with statements in it.
+fn has_blocks(program: &Program) -> bool {
+    for (_section, body) in program.sections() {
+        if body.cost() > body.statements().len() as u64 {
+            return true;
+        }
+    }
+    false
+}
+
+// Lets a program go. The lists of its blocks are kept for the next one; where it has none, it is not gone through for them.
+fn let_go(spare: &mut Spare, program: Program) {
+    if has_blocks(&program) {
+        spare.give_program(program);
+    }
+}
+
 // What is kept of a leaf, whose program is read for it and let go. Where it breaks a rule, the texts and codes of the leaves after it come first.
 fn survey_source(
     alloc: Global,
@@ -162,7 +179,7 @@ fn survey_source(
 {
     let program = read_program_with(alloc, spare, component.leaf())?;
     let surveyed = surveyed(alloc, component, &program, interfaces);
-    spare.give_program(program);
+    let_go(spare, program);
     match surveyed {
         Ok(survey) => Ok(survey),
         Err(error) => Err(first_error(alloc, after, error)),
