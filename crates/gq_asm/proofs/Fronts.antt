@@ -9,7 +9,7 @@ use Rattle.gq_model.specs.texts.Spelling.{before, quoted}
 use Rattle.std.specs.Prelude.{IfSome, IfNone}
 use Rattle.std.specs.Iterator.{YieldsFirst}
 use Rattle.memchr.specs.Find.{is_byte, places_from, places}
-use Rattle.gq_asm.specs.internal.Pieces.{front_word, NextWord, front_line, past_feed, size_left, onto}
+use Rattle.gq_asm.specs.internal.Pieces.{front_word, NextWord, front_line, past_feed, line_before, line_at, lines_left, size_left, onto}
 
 -- by the truth of a test
 pub by_test : {P : Type 0} (b : Bool) → (b ≡ true → P) → (b ≡ false → P) → P
@@ -210,3 +210,10 @@ quoted_step text i h e =
 
 pub quoted_end : (text : List ℕ) → onto (take (length text) text) (quoted (drop (length text) text)) ≡ None
 quoted_end text = rw (drop-length text) (onto_none (take (length text) text))
+
+-- the first line of a text, and those after it
+pub lines_are : (text : List ℕ) → lines text ≡ line_at text ∷ lines_left (past_feed text)
+lines_are text = lines-split text ∙ lines_of_are (front_line text) (past_feed text) where
+  lines_of_are : (front : List ℕ) (left : Option (List ℕ)) → lines_of front left ≡ line_before front left ∷ lines_left left
+  lines_of_are front None = refl
+  lines_of_are front (Some text) = refl

@@ -2,3 +2,4 @@ pub mod Pieces
 pub mod Operands
 pub mod State
 pub mod Order
+pub mod Usual

@@ -17,7 +17,8 @@ mod reading;
 mod says;
 mod statements;
 mod text;
+mod usual;
 mod words;
 
 pub use faults::AssembleError;
-pub use text::assemble;
+pub use text::{assemble, assemble_with};

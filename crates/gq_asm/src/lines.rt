@@ -1,7 +1,7 @@
 // The lines of a text.
-ghost use Rattle.std.specs.Prelude.{◌≡◌, ℕ, ◌<◌, ◌≤◌, ◌∷◌, length, slice_index, option_copied, IfNone, IfSome};
-ghost use Rattle.gq_model.specs.texts.Letters.{lines, without_return};
-ghost use Rattle.gq_asm.specs.internal.Pieces.{front_line, past_feed, lines_left, size_left};
+ghost use Rattle.std.specs.Prelude.{◌≡◌, ℕ, ◌<◌, length, slice_index, option_copied, IfNone, IfSome};
+ghost use Rattle.gq_model.specs.texts.Letters.{without_return};
+ghost use Rattle.gq_asm.specs.internal.Pieces.{front_line, past_feed, line_at};
 
 use memchr::memchr_iter;
 
@@ -39,8 +39,8 @@ fn split_line(text: &[u8]) -> (&[u8], Option<&[u8]>)
 /// The first line of a text, and the text of the lines after it, if there are any. A carriage return before the line
 /// feed is dropped.
 pub fn first_line(text: &[u8]) -> (&[u8], Option<&[u8]>)
-    ensures lines { lines text.now ≡ result.0.now ∷ lines_left (option_copied result.1) }
-    ensures shorter { size_left (option_copied result.1) ≤ length text.now }
+    ensures line { result.0.now ≡ line_at text.now }
+    ensures rest { option_copied result.1 ≡ past_feed text.now }
 {
     let (line, rest) = split_line(text);
     match rest {

@@ -11,7 +11,7 @@ use crate::operands::at_end;
 use gq_model::fault::TextFault;
 use gq_model::limits::{GREATEST_DEPTH, GREATEST_STATEMENTS};
 use gq_model::program::Section;
-use gq_program::{Body, Statement};
+use gq_program::{Body, Spare, Statement};
 use std::alloc::Global;
 use std::collections::VecDeque;
 use std::mem;
@@ -50,11 +50,13 @@ pub struct Reading {
     pub count: u16,
     /// The open blocks, the innermost first.
     pub blocks: VecDeque<OpenBlock>,
+    /// Room for lists of statements.
+    pub spare: Spare,
 }
 
 impl Reading {
     /// Nothing was read.
-    pub fn new(alloc: Global) -> Reading
+    pub fn new(alloc: Global, spare: Spare) -> Reading
         ensures { reading_of result ≡ record { limits = []; sections = []; count = 0; blocks = [] } }
     {
         Reading {
@@ -62,6 +64,7 @@ impl Reading {
             sections: Vec::new(alloc),
             count: 0,
             blocks: VecDeque::new(alloc),
+            spare,
         }
     }
 
@@ -93,7 +96,7 @@ impl Reading {
         ensures { Gives (λ _. reading_of self.new) result (Ok (with_added (tree_of (statement ∷ [])) (reading_of self.old))) }
     {
         if let Some(block) = self.blocks.front_mut() {
-            block.before.push(statement)?;
+            block.before.push_with(&mut self.spare, statement)?;
         }
         Ok(())
     }

@@ -1,5 +1,5 @@
 // A text, line by line.
-ghost use Rattle.std.specs.Prelude.{◌≡◌, ◌∷◌, [], IsTrue, Ok, IfOk, MatchOption};
+ghost use Rattle.std.specs.Prelude.{◌≡◌, ◌∷◌, [], IsTrue, Ok, IfOk, IfErr, MatchOption, option_copied};
 ghost use Rattle.gq_model.specs.machine.Program as model;
 ghost use Rattle.gq_model.specs.machine.Program.{section_in};
 ghost use Rattle.gq_model.specs.texts.Code.{IsProgram};
@@ -7,18 +7,23 @@ ghost use Rattle.gq_model.specs.texts.Letters.{words};
 ghost use Rattle.gq_model.specs.texts.Text.{limit_of, limit_or_greatest, limits_from, in_order, finished, line_read, is_comment, assembled};
 ghost use Rattle.gq_asm.specs.internal.State.{Gives, reading_of};
 ghost use Rattle.gq_asm.specs.Faults.{Assembles};
+ghost use Rattle.gq_asm.specs.declared.faults.LineError.TheVariants.{Memory};
+ghost use Rattle.gq_asm.specs.internal.Pieces.{line_at, past_feed};
+ghost use Rattle.gq_asm.specs.internal.Usual.{IsTaking, ReadsUsual};
 ghost use Rattle.gq_asm.specs.internal.Order.{without, IsFirstAt, IsAbsent, is_distinct};
 
 use crate::faults::{AssembleError, LineError};
 use crate::headings::{limit_of, same_section};
 use crate::lines::first_line;
 use crate::reading::Reading;
+use crate::usual::usual;
 use crate::words::next_word;
 use gq_model::fault::TextFault;
-use gq_model::limits::LOCALS;
+use gq_model::limits::{GREATEST_STATEMENTS, LOCALS};
 use gq_model::program::Section;
-use gq_program::{Body, Program};
+use gq_program::{Body, Program, Spare, Statement};
 use std::alloc::{AllocError, Global};
+use std::mem;
 
 /// Whether the first word of a line begins a comment.
 fn is_comment(word: &[u8]) -> bool
@@ -114,8 +119,53 @@ impl Reading {
         self.statement(alloc, number, word, after)
     }
 
-    /// The program at the end of the text, where every block is closed.
-    fn finish(self, alloc: Global) -> Result<Program, AssembleError>
+    /// Whether a statement may come: a block is open, and fewer statements were read than there may be.
+    #[inline(always)]
+    fn takes_statements(&self) -> bool
+        ensures { IsTrue result → IsTaking (reading_of self.now) }
+    {
+        self.blocks.front().is_some() && self.count < GREATEST_STATEMENTS
+    }
+
+    /// Reads the first line of a text by the way of usual lines, and answers what follows its line feed. Where it is none, nothing is read.
+    #[inline(always)]
+    fn read_usual<'a>(&mut self, text: &'a [u8]) -> Result<Option<&'a [u8]>, LineError>
+        ensures read { IfOk result (λ rest. MatchOption rest (reading_of self.new ≡ reading_of self.old)
+            (λ rest. ReadsUsual text.now rest.now (reading_of self.old) (reading_of self.new))) }
+        ensures refused { IfErr result (λ e. e ≡ Memory) }
+    {
+        if !self.takes_statements() {
+            return Ok(None);
+        }
+        let Some((instruction, rest)) = usual(text) else {
+            return Ok(None);
+        };
+        self.count += 1;
+        self.add(Statement::Plain(instruction))?;
+        Ok(Some(rest))
+    }
+
+    /// Reads the first line of a text, and answers the text of the lines after it, if there are any.
+    #[inline(always)]
+    fn read_first<'a>(
+        &mut self,
+        alloc: Global,
+        number: u64,
+        text: &'a [u8],
+    ) -> Result<Option<&'a [u8]>, LineError>
+        ensures read { Gives (λ _. reading_of self.new) result (line_read (reading_of self.old) number (line_at text.now) (words (line_at text.now))) }
+        ensures rest { IfOk result (λ rest. option_copied rest ≡ past_feed text.now) }
+    {
+        if let Some(rest) = self.read_usual(text)? {
+            return Ok(Some(rest));
+        }
+        let (line, rest) = first_line(text);
+        self.read_line(alloc, number, line)?;
+        Ok(rest)
+    }
+
+    /// The program at the end of the text, where every block is closed. The room that is left is handed back.
+    fn finish(self, alloc: Global, spare: &mut Spare) -> Result<Program, AssembleError>
         requires { let r = reading_of self in (p : model.Program) → finished r r.blocks ≡ Ok p → IsProgram p }
         ensures { let r = reading_of self in Assembles result (finished r r.blocks) }
     {
@@ -124,7 +174,9 @@ impl Reading {
             sections,
             count: _,
             mut blocks,
+            spare: left,
         } = self;
+        *spare = left;
         if let Some(block) = blocks.pop_front() {
             return Err(AssembleError::Fault {
                 fault: TextFault::Unclosed,
@@ -143,14 +195,25 @@ impl Reading {
 pub fn assemble(alloc: Global, text: &[u8]) -> Result<Program, AssembleError>
     ensures { Assembles result (assembled text.now) }
 {
-    let mut reading = Reading::new(alloc);
+    assemble_with(alloc, &mut Spare::new(alloc), text)
+}
+
+/// The same, in lists of statements that are spare as far as there are some.
+pub fn assemble_with(
+    alloc: Global,
+    spare: &mut Spare,
+    text: &[u8],
+) -> Result<Program, AssembleError>
+    ensures { Assembles result (assembled text.now) }
+{
+    let mut reading = Reading::new(alloc, mem::replace(spare, Spare::new(alloc)));
     let mut number: u64 = 1;
     let mut left = Some(text);
     while let Some(rest) = left {
-        let (line, after) = first_line(rest);
-        if let Err(error) = reading.read_line(alloc, number, line) {
-            return Err(error.on_line(number));
-        }
+        let after = match reading.read_first(alloc, number, rest) {
+            Ok(after) => after,
+            Err(error) => return Err(error.on_line(number)),
+        };
         // No text has so many lines.
         let Some(next) = number.checked_add(1) else {
             return Err(AssembleError::Memory(AllocError));
@@ -158,5 +221,5 @@ pub fn assemble(alloc: Global, text: &[u8]) -> Result<Program, AssembleError>
         number = next;
         left = after;
     }
-    reading.finish(alloc)
+    reading.finish(alloc, spare)
 }

@@ -5,10 +5,11 @@ ghost use Rattle.gq_load.specs.internal.Judged.{programs_of};
 ghost use Rattle.gq_load.specs.Load.{source_fault, sources_fault};
 
 use crate::fault::{LoadError, LoadFault};
-use gq_asm::{AssembleError, assemble};
+use gq_asm::{AssembleError, assemble_with};
 use gq_code::decode::{DecodeError, decode};
 use gq_model::program::Name;
 use gq_program::program::Program;
+use gq_program::spare::Spare;
 use gq_resolve::component::Component;
 use gq_scenario::scenario::Leaf;
 use gq_scenario::source::Source;
@@ -32,8 +33,21 @@ pub fn read_program(alloc: Global, leaf: &Leaf) -> Result<Program, LoadError>
     ensures faultless { IfOk result (λ p. source_fault leaf.now.name leaf.now.source ≡ None) }
     ensures refused { IfErr result (λ e. Gives e (source_fault leaf.now.name leaf.now.source)) }
 {
+    read_program_with(alloc, &mut Spare::new(alloc), leaf)
+}
+
+// The same, in lists of statements that are spare as far as there are some.
+pub(crate) fn read_program_with(
+    alloc: Global,
+    spare: &mut Spare,
+    leaf: &Leaf,
+) -> Result<Program, LoadError>
+    ensures program { IfOk result (λ p. p ≡ leaf.now.program) }
+    ensures faultless { IfOk result (λ p. source_fault leaf.now.name leaf.now.source ≡ None) }
+    ensures refused { IfErr result (λ e. Gives e (source_fault leaf.now.name leaf.now.source)) }
+{
     match leaf.source() {
-        Source::Text(text) => match assemble(alloc, text.as_slice()) {
+        Source::Text(text) => match assemble_with(alloc, spare, text.as_slice()) {
             Ok(program) => Ok(program),
             Err(AssembleError::Memory(_)) => Err(LoadError::Memory),
             Err(AssembleError::Fault { fault, line }) => Err(LoadError::Fault(LoadFault::Text {

@@ -11,16 +11,20 @@ ghost use Rattle.gq_load.specs.internal.Surveys.{own_of, leaf_by, AreSurveys};
 
 use crate::fault::LoadError;
 use crate::judged::judge;
-use crate::programs::{check_programs, read_program};
+use crate::programs::{check_programs, read_program_with};
 use gq_budget::{CountedLeaf, Leaf};
 use gq_model::program::Name;
 use gq_program::Interfaces;
 use gq_program::program::Program;
+use gq_program::spare::Spare;
 use gq_resolve::component::Component;
 use gq_resolve::services::opened;
 use gq_tariff::Amount;
 use gq_verify::Verified;
 use std::alloc::{AllocError, Global};
+
+// So many lists of statements are kept of a program for the next one: about as many as 16 KiB of ordinary text have.
+const SPARE: usize = 256;
 
 /// Of each leaf: what it uses of its own account, what its steps are counted by, and the services that it opens.
 #[derive(Drop)]
@@ -140,9 +144,27 @@ fn first_error(alloc: Global, components: &[Component<'_>], error: LoadError) ->
     }
 }
 
+// Whether one of the sections of a program has a block with statements in it.
+fn has_blocks(program: &Program) -> bool {
+    for (_section, body) in program.sections() {
+        if body.cost() > body.statements().len() as u64 {
+            return true;
+        }
+    }
+    false
+}
+
+// Lets a program go. The lists of its blocks are kept for the next one; where it has none, it is not gone through for them.
+fn let_go(spare: &mut Spare, program: Program) {
+    if has_blocks(&program) {
+        spare.give_program(program);
+    }
+}
+
 // What is kept of a leaf, whose program is read for it and let go. Where it breaks a rule, the texts and codes of the leaves after it come first.
 fn survey_source(
     alloc: Global,
+    spare: &mut Spare,
     component: &Component<'_>,
     after: &[Component<'_>],
     interfaces: &Interfaces,
@@ -155,8 +177,10 @@ fn survey_source(
     ensures refused { IfErr result (λ e. Gives e
         (or_first (sources_fault (component.now ∷ after.now)) (refused (leaf_refusal interfaces.now component.now)))) }
 {
-    let program = read_program(alloc, component.leaf())?;
-    match surveyed(alloc, component, &program, interfaces) {
+    let program = read_program_with(alloc, spare, component.leaf())?;
+    let surveyed = surveyed(alloc, component, &program, interfaces);
+    let_go(spare, program);
+    match surveyed {
         Ok(survey) => Ok(survey),
         Err(error) => Err(first_error(alloc, after, error)),
     }
@@ -175,8 +199,10 @@ pub(crate) fn survey_sources(
     ensures refused { IfErr result (λ e. Gives e (or_first (sources_fault components.now) (refused (first_refusal interfaces.now components.now)))) }
 {
     let mut surveys = Surveys::new(alloc);
+    let mut spare = Spare::with_room(alloc, SPARE)?;
     for (place, component) in components.iter().enumerate() {
-        surveys.push(survey_source(alloc, component, &components[place + 1..], interfaces)?)?;
+        let after = &components[place + 1..];
+        surveys.push(survey_source(alloc, &mut spare, component, after, interfaces)?)?;
     }
     Ok(surveys)
 }

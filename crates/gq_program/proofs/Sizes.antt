@@ -1,5 +1,5 @@
 -- A statement is no larger than the list that it stands in.
-use Rattle.std.proofs.Common.{◌≡◌, ◌<◌, ◌≤◌, ℕ, zero, suc, arith, ◌+◌, List, [], ◌∷◌, drop, length, get_or, ap, sym, subst, ◌∙◌, add-one}
+use Rattle.std.proofs.Common.{◌≡◌, ◌<◌, ◌≤◌, ℕ, zero, suc, arith, ◌+◌, List, [], ◌∷◌, ◌++◌, drop, length, get_or, ap, sym, subst, ◌∙◌, add-one}
 use Rattle.std.proofs.Math.Seq.{drop-cons}
 use Rattle.gq_model.specs.machine.Program.{size}
 use Rattle.gq_program.specs.Trees.{tree_of}
@@ -14,6 +14,12 @@ pub size_first : (s : Statement) (rest : List Statement) → size (tree_of (s �
 size_first (Plain i) rest = omega arith
 size_first (If arm other) rest = omega arith
 size_first (Loop count body) rest = omega arith
+
+-- the last statement and those before it
+pub size_last : (items : List Statement) (s : Statement) → size (tree_of (items ++ s ∷ [])) ≡ size (tree_of items) + size (tree_of (s ∷ []))
+size_last [] s = omega arith
+size_last (t ∷ items) s =
+    let all = size_first t (items ++ s ∷ []) in let front = size_first t items in let last = size_last items s in omega (arith, all, front, last)
 
 size_drop : (items : List Statement) (i : ℕ) → size (tree_of (drop i items)) ≤ size (tree_of items)
 size_drop items zero = omega arith

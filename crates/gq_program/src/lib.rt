@@ -17,8 +17,10 @@ mod check;
 pub mod interface;
 pub mod notes;
 pub mod program;
+pub mod spare;
 pub mod spelling;
 
 pub use gq_model::program::{Form, Instruction, Name, Operator, Place, Section, Text, Width};
 pub use interface::{Interface, Interfaces, Upgrade};
 pub use program::{Body, Program, Statement};
+pub use spare::Spare;

@@ -9,6 +9,7 @@ ghost use Rattle.gq_program.specs.internal.Listed.{AreNotes};
 
 use crate::check::{are_few, are_limits, are_sections};
 use crate::notes::Notes;
+use crate::spare::Spare;
 pub use gq_model::limits::LOCALS;
 use gq_model::program::{Instruction, Section};
 use std::alloc::{AllocError, Global};
@@ -31,14 +32,14 @@ pub enum Statement {
 #[cycle(program)]
 #[derive(Drop)]
 pub struct Body {
-    listed: Listed,
-    alloc: Global,
+    pub(crate) listed: Listed,
+    pub(crate) alloc: Global,
 }
 
 /// Where the statements of a list lie: nowhere while there are none. An `if` has room for two of these, and so has every statement.
 #[cycle(program)]
 #[derive(Drop)]
-enum Listed {
+pub(crate) enum Listed {
     Nothing,
     Statements(Box<Kept>),
 }
@@ -46,9 +47,9 @@ enum Listed {
 /// The statements of a list, and what is noted of them.
 #[cycle(program)]
 #[derive(Drop)]
-struct Kept {
-    statements: Vec<Statement>,
-    notes: Notes,
+pub(crate) struct Kept {
+    pub(crate) statements: Vec<Statement>,
+    pub(crate) notes: Notes,
 }
 
 impl Model for Body {
@@ -117,6 +118,36 @@ impl Kept {
         statements.push_reserved(statement);
         let kept = Box::new(alloc, Kept { statements, notes })?;
         Ok(kept)
+    }
+}
+
+impl Kept {
+    /// This one statement, in a list without statements.
+    fn again(mut kept: Box<Kept>, statement: Statement) -> Result<Box<Kept>, AllocError>
+        ensures statements { IfOk result (λ b. b.value.statements.items ≡ statement ∷ []) }
+        ensures notes { IfOk result (λ b. AreNotes b.value.notes b.value.statements.items) }
+    {
+        kept.statements.clear();
+        kept.notes = Notes::none();
+        kept.push(statement)?;
+        Ok(kept)
+    }
+
+    /// This one statement, in one of these lists, if there is one.
+    #[cold]
+    #[inline(never)]
+    fn begun(
+        alloc: Global,
+        spare: &mut Spare,
+        statement: Statement,
+    ) -> Result<Box<Kept>, AllocError>
+        ensures statements { IfOk result (λ b. b.value.statements.items ≡ statement ∷ []) }
+        ensures notes { IfOk result (λ b. AreNotes b.value.notes b.value.statements.items) }
+    {
+        match spare.take() {
+            Some(kept) => Kept::again(kept, statement),
+            None => Kept::first(alloc, statement),
+        }
     }
 }
 
@@ -190,11 +221,28 @@ impl Body {
     }
 }
 
+impl Body {
+    /// Puts a statement at the end. Refused, the list stays as it was. A list that begins takes the room of one of these, if there is one.
+    #[inline(always)]
+    pub fn push_with(&mut self, spare: &mut Spare, statement: Statement) -> Result<(), AllocError>
+        ensures pushed { OnOk result (self.new ≡ self.old then tree_of (statement ∷ [])) }
+        ensures stays { OnErr result (self.new ≡ self.old) }
+    {
+        match &mut self.listed {
+            Listed::Statements(kept) => kept.push(statement),
+            Listed::Nothing => {
+                self.listed = Listed::Statements(Kept::begun(self.alloc, spare, statement)?);
+                Ok(())
+            }
+        }
+    }
+}
+
 /// A program: the sections that are there, in their order, and the greatest values of the eight locals. Its statements are at
 /// most 4096 and at most four deep, and each operand is in its range; so each program has a code.
 #[derive(Drop)]
 pub struct Program {
-    sections: Vec<(Section, Body)>,
+    pub(crate) sections: Vec<(Section, Body)>,
     locals: [u32; LOCALS],
 }
 

@@ -19,7 +19,8 @@ use gq_model::limits::GREATEST_STEPS;
 use gq_program::{Body, Interface, Section};
 use gq_rules::{Broken, Context, State, Subject, at};
 
-/// Walks through a section from its start to its end.
+/// Walks through a section from its start to its end. It stands alone, so that only who has a section beside `main` pays for room for a state.
+#[inline(never)]
 fn section_flow(subject: &Subject<'_>, starts: &Starts, section: Section) -> Result<State, Broken>
     requires starts { IsStarts subject.now starts.now }
     requires section { IsTrue (is_section section) }

@@ -91,7 +91,26 @@ fn walk_main(subject: &Subject<'_>) -> MainWalked
     }
 }
 
-/// The kinds of the session's slots as a section leaves them.
+/// The kinds of the session's slots as a walk through a section leaves them. It stands alone, so that only who has the section pays for room for a state.
+#[inline(never)]
+fn walk_bank(
+    subject: &Subject<'_>,
+    section: Section,
+    own: &Bank<OWN_SLOTS>,
+    bank: &Bank<SESSION_SLOTS>,
+) -> Bank<SESSION_SLOTS>
+    requires { all_known own.now ≡ own_after subject.now }
+    ensures { all_known result ≡ bank_by subject.now section (all_known bank.now) }
+{
+    let mut state = first(subject, section, own, bank);
+    let mut peaks = Totals::none();
+    match walk(subject, section, &mut state, &mut peaks) {
+        Ok(_) => state.bank().copy(),
+        Err(_) => bank.copy(),
+    }
+}
+
+/// The kinds of the session's slots as a section leaves them, where it is there.
 fn bank_by(
     subject: &Subject<'_>,
     section: Section,
@@ -101,14 +120,9 @@ fn bank_by(
     requires { all_known own.now ≡ own_after subject.now }
     ensures { all_known result ≡ bank_by subject.now section (all_known bank.now) }
 {
-    let Some(_) = subject.body(section) else {
-        return bank.copy();
-    };
-    let mut state = first(subject, section, own, bank);
-    let mut peaks = Totals::none();
-    match walk(subject, section, &mut state, &mut peaks) {
-        Ok(_) => state.bank().copy(),
-        Err(_) => bank.copy(),
+    match subject.body(section) {
+        Some(_) => walk_bank(subject, section, own, bank),
+        None => bank.copy(),
     }
 }
 

@@ -8,10 +8,12 @@
 //! ```
 #![tactic(auto)]
 
+mod fronts;
 mod numbers;
 mod shapes;
 mod slots;
 
+pub use fronts::front_shape;
 pub use numbers::number_in;
 pub use shapes::shape_with;
 pub use slots::{numbered_slot, slot_or_object};

@@ -1,6 +1,6 @@
 -- What stands at the front of a text: its first word, its first line.
 use Rattle.std.specs.Prelude.{◌≡◌, ℕ, suc, length, ◌==◌, if◌then◌else◌, List, [], ◌∷◌, Option, Some, None}
-use Rattle.gq_model.specs.texts.Letters.{is_blank, words, unindented, past_word, lines}
+use Rattle.gq_model.specs.texts.Letters.{is_blank, words, unindented, past_word, lines, without_return}
 use Rattle.gq_model.specs.texts.Spelling.{before}
 
 -- up to the first blank
@@ -22,6 +22,15 @@ front_line (c ∷ rest) = if c == 10 then [] else c ∷ front_line rest
 abbrev pub past_feed : List ℕ → Option (List ℕ)
 past_feed [] = None
 past_feed (c ∷ rest) = if c == 10 then Some rest else past_feed rest
+
+-- a line before what follows its line feed, if there is one; with a line feed it has no carriage return at its end
+abbrev pub line_before : List ℕ → Option (List ℕ) → List ℕ
+line_before front None = front
+line_before front (Some text) = without_return front
+
+-- the first line
+abbrev pub line_at : List ℕ → List ℕ
+line_at text = line_before (front_line text) (past_feed text)
 
 -- the lines of a text that may not be there
 abbrev pub lines_left : Option (List ℕ) → List (List ℕ)

@@ -1,5 +1,5 @@
 use Rattle.std.proofs.Common.{rules}
-use Rattle.gq_load.proofs.programs.read_program.Goals as goal
+use Rattle.gq_load.proofs.programs.read_program_with.Goals as goal
 
 pub returns-in-Ok-clause-faultless : goal.returns-in-Ok-clause-faultless
 returns-in-Ok-clause-faultless c = search rules

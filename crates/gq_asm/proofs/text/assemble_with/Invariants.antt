@@ -2,7 +2,7 @@ use Rattle.std.proofs.Common.{◌≡◌, option_copied}
 use Rattle.gq_model.specs.texts.Text.{lines_read, assembled}
 use Rattle.gq_asm.specs.internal.Pieces.{lines_left, size_left}
 use Rattle.gq_asm.specs.internal.State.{reading_of}
-use Rattle.gq_asm.proofs.text.assemble.Given as goal
+use Rattle.gq_asm.proofs.text.assemble_with.Given as goal
 
 abbrev pub invariant-loop-left : goal.invariant-loop-left
 invariant-loop-left l = lines_read (reading_of l.reading) l.number (lines_left (option_copied l.left)) ≡ assembled l.fn.text
