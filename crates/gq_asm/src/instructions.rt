@@ -3,7 +3,7 @@
 ghost use Rattle.std.specs.Prelude.{◌≡◌};
 ghost use Rattle.gq_model.specs.texts.Letters.{words};
 ghost use Rattle.gq_model.specs.texts.Spelling.{instruction_in};
-ghost use Rattle.gq_program.specs.Spelling.{shape_of};
+ghost use Rattle.gq_spelling.specs.Spelling.{shape_of};
 ghost use Rattle.gq_asm.specs.internal.State.{Gives};
 
 use crate::faults::LineError;
@@ -11,7 +11,7 @@ use crate::operands::{at_end, next_name, next_number, next_slot, next_slot_or_ob
 use crate::says::said_in;
 use gq_model::fault::TextFault;
 use gq_model::program::Instruction;
-use gq_program::spelling::{Bare, Shape, WithAmount, WithBytes, WithNumber, WithSlot};
+use gq_spelling::{Bare, Shape, WithAmount, WithBytes, WithNumber, WithSlot};
 use std::alloc::Global;
 
 /// Without operands.

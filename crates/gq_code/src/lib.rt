@@ -18,5 +18,6 @@ pub mod program_code;
 
 pub use gq_program::{
     Body, Form, Instruction, Interface, Interfaces, Name, Operator, Place, Program, Section,
-    Statement, Text, Upgrade, Width, interface, program, spelling,
+    Statement, Text, Upgrade, Width, interface, program,
 };
+pub use gq_spelling::spelling;

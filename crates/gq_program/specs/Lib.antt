@@ -1,5 +1,4 @@
 pub mod Trees
-pub mod Spelling
 pub mod Notes
 pub mod Interfaces
 pub mod internal

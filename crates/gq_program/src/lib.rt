@@ -1,4 +1,4 @@
-//! Programs as trees: statements, the table of statements, and the interfaces that programs are written for.
+//! Programs as trees: statements, and the interfaces that programs are written for.
 //!
 //! ```rust
 //! use gq_program::{Body, Instruction, Program, Section, Statement};

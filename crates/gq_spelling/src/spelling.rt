@@ -1,0 +1,468 @@
+// How the statements but `if` and `loop` are spelled: one table, by the shape of their operands.
+ghost use Rattle.std.specs.Prelude.{◌≡◌, ◌≤◌, option_map};
+ghost use Rattle.gq_model.specs.texts.Spelling.{spellings, shape_of_word, shape_of_opcode};
+ghost use Rattle.gq_spelling.specs.Spelling.{operator_word, operator_opcode, bare_instruction, bare_word, bare_opcode, number_instruction};
+ghost use Rattle.gq_spelling.specs.Spelling.{number_word, number_opcode, number_width, number_low, number_high, slot_instruction, slot_word};
+ghost use Rattle.gq_spelling.specs.Spelling.{slot_opcode, bytes_instruction, bytes_word, bytes_opcode, amount_instruction, amount_word, amount_opcode};
+ghost use Rattle.gq_spelling.specs.Spelling.{amount_low, amount_high, shape_of, word_of, opcode_of, spellings_of};
+
+use gq_model::limits::{GREATEST_DEPTH, GREATEST_SIZE, LOCALS};
+use gq_model::program::{Form, Instruction, Operator, Place, Width};
+pub use gq_program::spelling::same_text;
+
+/// A statement without operands.
+#[derive(Clone, Copy)]
+pub enum Bare {
+    Out,
+    Drop,
+    Dup,
+    Combine(Operator),
+}
+
+/// A statement with a number.
+#[derive(Clone, Copy)]
+pub enum WithNumber {
+    Push,
+    Divide,
+    Modulo,
+    Get,
+    Set,
+    Index,
+}
+
+/// A statement with a slot.
+#[derive(Clone, Copy)]
+pub enum WithSlot {
+    Free,
+    Take,
+    Give,
+    Peek,
+    Poke,
+    Call,
+    Close,
+}
+
+/// A statement with a slot, or the object, whose bytes are meant.
+#[derive(Clone, Copy)]
+pub enum WithBytes {
+    Load(Width),
+    Store(Width),
+}
+
+/// A statement with a slot and a number.
+#[derive(Clone, Copy)]
+pub enum WithAmount {
+    Make(Form),
+    Upgrade,
+}
+
+/// A statement but `if` and `loop`, by the shape of its operands.
+#[derive(Clone, Copy)]
+pub enum Shape {
+    /// A text to say.
+    Say,
+    /// Nothing.
+    Plain(Bare),
+    /// A number.
+    Number(WithNumber),
+    /// A slot.
+    Slot(WithSlot),
+    /// A slot, or the object.
+    Bytes(WithBytes),
+    /// A slot and a number.
+    Amount(WithAmount),
+    /// A slot and two numbers.
+    Pool,
+    /// A slot, the name of a service and a number.
+    Open,
+}
+
+/// The table of the statements, in the order of their numbers in code.
+pub const SHAPES: [Shape; 33] = [
+    Shape::Say,
+    Shape::Plain(Bare::Out),
+    Shape::Number(WithNumber::Push),
+    Shape::Plain(Bare::Drop),
+    Shape::Plain(Bare::Dup),
+    Shape::Plain(Bare::Combine(Operator::Add)),
+    Shape::Plain(Bare::Combine(Operator::Subtract)),
+    Shape::Plain(Bare::Combine(Operator::Multiply)),
+    Shape::Number(WithNumber::Divide),
+    Shape::Number(WithNumber::Modulo),
+    Shape::Plain(Bare::Combine(Operator::And)),
+    Shape::Plain(Bare::Combine(Operator::Equal)),
+    Shape::Plain(Bare::Combine(Operator::Less)),
+    Shape::Number(WithNumber::Get),
+    Shape::Number(WithNumber::Set),
+    Shape::Number(WithNumber::Index),
+    Shape::Amount(WithAmount::Make(Form::Space)),
+    Shape::Amount(WithAmount::Make(Form::Slice)),
+    Shape::Amount(WithAmount::Make(Form::Block)),
+    Shape::Pool,
+    Shape::Slot(WithSlot::Free),
+    Shape::Bytes(WithBytes::Load(Width::Byte)),
+    Shape::Bytes(WithBytes::Store(Width::Byte)),
+    Shape::Bytes(WithBytes::Load(Width::Word)),
+    Shape::Bytes(WithBytes::Store(Width::Word)),
+    Shape::Slot(WithSlot::Take),
+    Shape::Slot(WithSlot::Give),
+    Shape::Slot(WithSlot::Peek),
+    Shape::Slot(WithSlot::Poke),
+    Shape::Open,
+    Shape::Amount(WithAmount::Upgrade),
+    Shape::Slot(WithSlot::Call),
+    Shape::Slot(WithSlot::Close),
+];
+
+/// The word of an operator in text.
+pub fn operator_word(operator: Operator) -> &'static [u8]
+    ensures { result.now ≡ operator_word operator }
+{
+    match operator {
+        Operator::Add => b"add",
+        Operator::Subtract => b"sub",
+        Operator::Multiply => b"mul",
+        Operator::And => b"and",
+        Operator::Equal => b"eq",
+        Operator::Less => b"lt",
+    }
+}
+
+/// The number of an operator in code.
+pub fn operator_opcode(operator: Operator) -> u8
+    ensures { result ≡ operator_opcode operator }
+{
+    match operator {
+        Operator::Add => 0x06,
+        Operator::Subtract => 0x07,
+        Operator::Multiply => 0x08,
+        Operator::And => 0x0b,
+        Operator::Equal => 0x0c,
+        Operator::Less => 0x0d,
+    }
+}
+
+impl Bare {
+    /// The statement.
+    pub fn instruction(self) -> Instruction
+        ensures { result ≡ bare_instruction self }
+    {
+        match self {
+            Bare::Out => Instruction::Out,
+            Bare::Drop => Instruction::Drop,
+            Bare::Dup => Instruction::Dup,
+            Bare::Combine(operator) => Instruction::Combine(operator),
+        }
+    }
+
+    /// Its word in text.
+    pub fn word(self) -> &'static [u8]
+        ensures { result.now ≡ bare_word self }
+    {
+        match self {
+            Bare::Out => b"out",
+            Bare::Drop => b"drop",
+            Bare::Dup => b"dup",
+            Bare::Combine(operator) => operator_word(operator),
+        }
+    }
+
+    /// Its number in code.
+    pub fn opcode(self) -> u8
+        ensures { result ≡ bare_opcode self }
+    {
+        match self {
+            Bare::Out => 0x02,
+            Bare::Drop => 0x04,
+            Bare::Dup => 0x05,
+            Bare::Combine(operator) => operator_opcode(operator),
+        }
+    }
+}
+
+impl WithNumber {
+    /// The statement with this number.
+    pub fn instruction(self, number: u32) -> Instruction
+        requires { number ≤ number_high self }
+        ensures { result ≡ number_instruction self number }
+    {
+        match self {
+            WithNumber::Push => Instruction::Push(number),
+            WithNumber::Divide => Instruction::Divide(number),
+            WithNumber::Modulo => Instruction::Modulo(number),
+            WithNumber::Get => Instruction::Get(number as u8),
+            WithNumber::Set => Instruction::Set(number as u8),
+            WithNumber::Index => Instruction::Index(number as u8),
+        }
+    }
+
+    /// Its word in text.
+    pub fn word(self) -> &'static [u8]
+        ensures { result.now ≡ number_word self }
+    {
+        match self {
+            WithNumber::Push => b"push",
+            WithNumber::Divide => b"div",
+            WithNumber::Modulo => b"mod",
+            WithNumber::Get => b"get",
+            WithNumber::Set => b"set",
+            WithNumber::Index => b"index",
+        }
+    }
+
+    /// Its number in code.
+    pub fn opcode(self) -> u8
+        ensures { result ≡ number_opcode self }
+    {
+        match self {
+            WithNumber::Push => 0x03,
+            WithNumber::Divide => 0x09,
+            WithNumber::Modulo => 0x0a,
+            WithNumber::Get => 0x0e,
+            WithNumber::Set => 0x0f,
+            WithNumber::Index => 0x10,
+        }
+    }
+
+    /// How many bytes of code the number takes.
+    pub fn width(self) -> usize
+        ensures { result ≡ number_width self }
+    {
+        match self {
+            WithNumber::Push | WithNumber::Divide | WithNumber::Modulo => 4,
+            WithNumber::Get | WithNumber::Set | WithNumber::Index => 1,
+        }
+    }
+
+    /// The least number that it takes.
+    pub fn low(self) -> u32
+        ensures { result ≡ number_low self }
+    {
+        match self {
+            WithNumber::Divide | WithNumber::Modulo => 1,
+            WithNumber::Push | WithNumber::Get | WithNumber::Set | WithNumber::Index => 0,
+        }
+    }
+
+    /// The greatest number that it takes.
+    pub fn high(self) -> u32
+        ensures { result ≡ number_high self }
+    {
+        match self {
+            WithNumber::Push | WithNumber::Divide | WithNumber::Modulo => u32::MAX,
+            WithNumber::Get | WithNumber::Set => LOCALS as u32 - 1,
+            WithNumber::Index => GREATEST_DEPTH as u32 - 1,
+        }
+    }
+}
+
+impl WithSlot {
+    /// The statement with this slot.
+    pub fn instruction(self, place: Place) -> Instruction
+        ensures { result ≡ slot_instruction self place }
+    {
+        match self {
+            WithSlot::Free => Instruction::Free(place),
+            WithSlot::Take => Instruction::Take(place),
+            WithSlot::Give => Instruction::Give(place),
+            WithSlot::Peek => Instruction::Peek(place),
+            WithSlot::Poke => Instruction::Poke(place),
+            WithSlot::Call => Instruction::Call(place),
+            WithSlot::Close => Instruction::Close(place),
+        }
+    }
+
+    /// Its word in text.
+    pub fn word(self) -> &'static [u8]
+        ensures { result.now ≡ slot_word self }
+    {
+        match self {
+            WithSlot::Free => b"free",
+            WithSlot::Take => b"take",
+            WithSlot::Give => b"give",
+            WithSlot::Peek => b"peek",
+            WithSlot::Poke => b"poke",
+            WithSlot::Call => b"call",
+            WithSlot::Close => b"close",
+        }
+    }
+
+    /// Its number in code.
+    pub fn opcode(self) -> u8
+        ensures { result ≡ slot_opcode self }
+    {
+        match self {
+            WithSlot::Free => 0x24,
+            WithSlot::Take => 0x29,
+            WithSlot::Give => 0x2a,
+            WithSlot::Peek => 0x2b,
+            WithSlot::Poke => 0x2c,
+            WithSlot::Call => 0x32,
+            WithSlot::Close => 0x33,
+        }
+    }
+}
+
+impl WithBytes {
+    /// The statement with this slot.
+    pub fn instruction(self, place: Place) -> Instruction
+        ensures { result ≡ bytes_instruction self place }
+    {
+        match self {
+            WithBytes::Load(width) => Instruction::Load(width, place),
+            WithBytes::Store(width) => Instruction::Store(width, place),
+        }
+    }
+
+    /// Its word in text.
+    pub fn word(self) -> &'static [u8]
+        ensures { result.now ≡ bytes_word self }
+    {
+        match self {
+            WithBytes::Load(Width::Byte) => b"load",
+            WithBytes::Store(Width::Byte) => b"store",
+            WithBytes::Load(Width::Word) => b"load4",
+            WithBytes::Store(Width::Word) => b"store4",
+        }
+    }
+
+    /// Its number in code.
+    pub fn opcode(self) -> u8
+        ensures { result ≡ bytes_opcode self }
+    {
+        match self {
+            WithBytes::Load(Width::Byte) => 0x25,
+            WithBytes::Store(Width::Byte) => 0x26,
+            WithBytes::Load(Width::Word) => 0x27,
+            WithBytes::Store(Width::Word) => 0x28,
+        }
+    }
+}
+
+impl WithAmount {
+    /// The statement with this slot and this number.
+    pub fn instruction(self, place: Place, number: u32) -> Instruction
+        ensures { result ≡ amount_instruction self place number }
+    {
+        match self {
+            WithAmount::Make(form) => Instruction::Make(form, place, number),
+            WithAmount::Upgrade => Instruction::Upgrade(place, number),
+        }
+    }
+
+    /// Its word in text.
+    pub fn word(self) -> &'static [u8]
+        ensures { result.now ≡ amount_word self }
+    {
+        match self {
+            WithAmount::Make(Form::Space) => b"space",
+            WithAmount::Make(Form::Slice) => b"slice",
+            WithAmount::Make(Form::Block) => b"block",
+            WithAmount::Upgrade => b"upgrade",
+        }
+    }
+
+    /// Its number in code.
+    pub fn opcode(self) -> u8
+        ensures { result ≡ amount_opcode self }
+    {
+        match self {
+            WithAmount::Make(Form::Space) => 0x20,
+            WithAmount::Make(Form::Slice) => 0x21,
+            WithAmount::Make(Form::Block) => 0x22,
+            WithAmount::Upgrade => 0x31,
+        }
+    }
+
+    /// The least number that it takes.
+    pub fn low(self) -> u32
+        ensures { result ≡ amount_low self }
+    {
+        match self {
+            WithAmount::Make(_) => 1,
+            WithAmount::Upgrade => 0,
+        }
+    }
+
+    /// The greatest number that it takes: 64 MiB, or any.
+    pub fn high(self) -> u32
+        ensures { result ≡ amount_high self }
+    {
+        match self {
+            WithAmount::Make(_) => GREATEST_SIZE,
+            WithAmount::Upgrade => u32::MAX,
+        }
+    }
+}
+
+impl Shape {
+    /// The statement's word in text.
+    pub fn word(self) -> &'static [u8]
+        ensures { result.now ≡ word_of self }
+    {
+        match self {
+            Shape::Say => b"say",
+            Shape::Plain(bare) => bare.word(),
+            Shape::Number(statement) => statement.word(),
+            Shape::Slot(statement) => statement.word(),
+            Shape::Bytes(statement) => statement.word(),
+            Shape::Amount(statement) => statement.word(),
+            Shape::Pool => b"pool",
+            Shape::Open => b"open",
+        }
+    }
+
+    /// The statement's number in code.
+    pub fn opcode(self) -> u8
+        ensures { result ≡ opcode_of self }
+    {
+        match self {
+            Shape::Say => 0x01,
+            Shape::Plain(bare) => bare.opcode(),
+            Shape::Number(statement) => statement.opcode(),
+            Shape::Slot(statement) => statement.opcode(),
+            Shape::Bytes(statement) => statement.opcode(),
+            Shape::Amount(statement) => statement.opcode(),
+            Shape::Pool => 0x23,
+            Shape::Open => 0x30,
+        }
+    }
+}
+
+/// The first of these statements with this word, if there is one.
+fn with_word(shapes: &[Shape], word: &[u8]) -> Option<Shape>
+    ensures { option_map shape_of result ≡ shape_of_word word.now (spellings_of shapes.now) }
+{
+    for shape in shapes {
+        if same_text(word, shape.word()) {
+            return Some(*shape);
+        }
+    }
+    None
+}
+
+/// The statement with this word, if there is one.
+pub fn shape_of_word(word: &[u8]) -> Option<Shape>
+    ensures { option_map shape_of result ≡ shape_of_word word.now spellings }
+{
+    with_word(&SHAPES, word)
+}
+
+/// The first of these statements with this number in code, if there is one.
+fn with_opcode(shapes: &[Shape], opcode: u8) -> Option<Shape>
+    ensures { option_map shape_of result ≡ shape_of_opcode opcode (spellings_of shapes.now) }
+{
+    for shape in shapes {
+        if opcode == shape.opcode() {
+            return Some(*shape);
+        }
+    }
+    None
+}
+
+/// The statement with this number in code, if there is one.
+pub fn shape_of_opcode(opcode: u8) -> Option<Shape>
+    ensures { option_map shape_of result ≡ shape_of_opcode opcode spellings }
+{
+    with_opcode(&SHAPES, opcode)
+}
