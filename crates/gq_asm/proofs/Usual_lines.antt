@@ -13,8 +13,8 @@ use Rattle.gq_model.specs.machine.Program.{Do, Done, Program}
 use Rattle.gq_model.specs.texts.Code.{greatest_statements}
 use Rattle.gq_model.specs.texts.Text.{OpenBlock, Reading, Read, counted, put, in_place, line_read, lines_read, on_line, is_comment}
 use Rattle.gq_model.specs.declared.fault.TextFault.{TextFault}
-use Rattle.gq_program.specs.declared.spelling.Shape as Shapes
-use Rattle.gq_program.specs.Spelling.{shape_of}
+use Rattle.gq_spelling.specs.declared.spelling.Shape as Shapes
+use Rattle.gq_spelling.specs.Spelling.{shape_of}
 use Rattle.gq_words.specs.Fronts.{is_plain, BeginsWith}
 use Rattle.gq_asm.specs.Faults as faults
 use Rattle.gq_asm.specs.Faults.{Assembles}

@@ -2,13 +2,13 @@
 // are read from front to back, without a search for the line's end. Of any other line nothing is said here.
 ghost use Rattle.std.specs.Prelude.{◌≡◌, ◌∷◌, ◌++◌, true, IfSome};
 ghost use Rattle.gq_model.specs.machine.Lists.{all_of};
-ghost use Rattle.gq_program.specs.Spelling.{shape_of};
+ghost use Rattle.gq_spelling.specs.Spelling.{shape_of};
 ghost use Rattle.gq_words.specs.Fronts.{is_plain};
 ghost use Rattle.gq_asm.specs.internal.Usual.{IsLastWord, Completes, IsUsual};
 
 use crate::words::unindented;
 use gq_model::program::Instruction;
-use gq_program::spelling::{Bare, Shape, WithAmount, WithBytes, WithNumber, WithSlot};
+use gq_spelling::{Bare, Shape, WithAmount, WithBytes, WithNumber, WithSlot};
 use gq_words::{front_shape, number_in, numbered_slot, slot_or_object};
 
 /// A text up to its first blank, line feed or other control byte, and from there on.
