@@ -2,3 +2,4 @@ pub mod Adding
 pub mod Counts
 pub mod Quiets
 pub mod Rights
+pub mod Slots

@@ -1,23 +1,26 @@
 // How many requests statements make at most, of all sections of all services at once.
 ghost use Rattle.std.specs.Prelude.{◌≡◌, ◌≤◌, ◌+◌, ◌-◌, ◌*◌, ◌∷◌, [], max, IsTrue, IfOk, OnOk, List, ℕ, length};
 ghost use Rattle.gq_model.specs.declared.program.Section.{Section};
-ghost use Rattle.gq_model.specs.machine.Program.{size, Done, If, Loop};
+ghost use Rattle.gq_model.specs.machine.Program.{size, Done, Do, If, Loop};
 ghost use Rattle.gq_model.specs.rules.Budgets.{by_link, asks, requests};
-ghost use Rattle.gq_model.specs.rules.Kinds.{kind_at, inside};
-ghost use Rattle.gq_model.specs.rules.Rules.{link_kind};
-ghost use Rattle.gq_model.specs.rules.Flow.{flow, state_or};
+ghost use Rattle.gq_model.specs.rules.Kinds.{State, kind_at, inside};
+ghost use Rattle.gq_model.specs.rules.Rules.{link_kind, judged};
+ghost use Rattle.gq_model.specs.rules.Flow.{at, flow, state_or};
 ghost use Rattle.gq_program.specs.Trees.{tree_of};
 ghost use Rattle.gq_rules.specs.Flowing.{few_loops};
 ghost use Rattle.gq_flow.specs.internal.Steps.{chosen, next_state};
 ghost use Rattle.gq_counts.specs.Counting.{saturated};
 ghost use Rattle.gq_counts.specs.Requested.{requests_for};
 ghost use Rattle.gq_counts.specs.internal.Adding.{Adds};
+ghost use Rattle.gq_counts.specs.internal.Alike.{AreAlike, FromAlike};
 ghost use Rattle.gq_counts.specs.Rights.{IsRight};
 ghost use Rattle.gq_counts.specs.internal.Requesting.{requests_in, section_by};
 
 use crate::asked::Requests;
 use crate::asking::{ByLevel, section_by};
-use crate::next::next;
+use gq_caps::Totals;
+use gq_flow::flow::flow;
+use gq_program::notes::keeps_slots;
 use gq_program::{Body, Instruction, Place, Section, Statement};
 use gq_rules::{Context, State};
 use std::alloc::{AllocError, Global};
@@ -58,7 +61,38 @@ fn count_instruction(
     }
 }
 
-/// The requests of a list of statements more, from what is known before it to what is known after it.
+/// Makes the change of an instruction to the slots, if it makes one. Operands are not gone on with, since no request depends on them.
+fn change_slots(context: &Context<'_>, state: &mut State, instruction: &Instruction)
+    ensures { FromAlike context.now state.old (Do instruction.now Done) (λ s.
+        AreAlike state.new (state_or s (at 1 (judged context.now s instruction.now)))) }
+{
+    if !keeps_slots(instruction) {
+        match context.judged(state, instruction) {
+            Ok(()) => {}
+            Err(_) => {}
+        }
+    }
+}
+
+/// Makes the changes of the first arm of an `if` to the slots, if it makes some.
+fn change_by_arm(context: &Context<'_>, state: &mut State, arm: &Body)
+    requires few { size arm.now ≤ 4096 }
+    requires loops { IsTrue (few_loops (4 - length context.now.counts) arm.now) }
+    ensures { (s : State) → AreAlike s state.old → IsRight context.now (chosen s) arm.now →
+        AreAlike state.new (state_or (chosen s) (flow context.now (chosen s) arm.now)) }
+{
+    if !arm.is_still() {
+        state.drop_operands();
+        let mut place = 0;
+        let mut peaks = Totals::none();
+        match flow(context, state, &mut place, &mut peaks, arm) {
+            Ok(()) => {}
+            Err(_) => {}
+        }
+    }
+}
+
+/// The requests of a list of statements more, from what is known before it to what is known after it. Its operands may be others: only slots are looked at.
 #[cycle(counting)]
 fn count(
     alloc: Global,
@@ -69,9 +103,8 @@ fn count(
 ) -> Result<(), AllocError>
     requires few { size body.now ≤ 4096 }
     requires loops { IsTrue (few_loops (4 - length context.now.counts) body.now) }
-    requires right { IsRight context.now state.old body.now }
-    ensures state { OnOk result (state.new ≡ state_or state.old (flow context.now state.old body.now)) }
-    ensures counted { OnOk result (Adds asked.new asked.old (λ v r. requests v r context.now state.old body.now)) }
+    ensures state { OnOk result (FromAlike context.now state.old body.now (λ s. AreAlike state.new (state_or s (flow context.now s body.now)))) }
+    ensures counted { OnOk result (FromAlike context.now state.old body.now (λ s. Adds asked.new asked.old (λ v r. requests v r context.now s body.now))) }
 {
     for statement in body.statements() {
         count_in(alloc, context, state, asked, statement)?;
@@ -90,19 +123,20 @@ fn count_in(
 ) -> Result<(), AllocError>
     requires few { size (tree_of (statement.now ∷ [])) ≤ 4096 }
     requires loops { IsTrue (few_loops (4 - length context.now.counts) (tree_of (statement.now ∷ []))) }
-    requires right { IsRight context.now state.old (tree_of (statement.now ∷ [])) }
-    ensures state { OnOk result (state.new ≡ next_state context.now state.old statement.now) }
-    ensures counted { OnOk result (Adds asked.new asked.old (λ v r. requests_in v r context.now state.old statement.now)) }
+    ensures state { OnOk result (FromAlike context.now state.old (tree_of (statement.now ∷ [])) (λ s.
+        AreAlike state.new (next_state context.now s statement.now))) }
+    ensures counted { OnOk result (FromAlike context.now state.old (tree_of (statement.now ∷ [])) (λ s.
+        Adds asked.new asked.old (λ v r. requests_in v r context.now s statement.now))) }
 {
     match statement {
         Statement::Plain(instruction) => {
             count_instruction(context, state, asked, instruction)?;
-            next(context, state, statement);
+            change_slots(context, state, instruction);
             Ok(())
         }
         Statement::If(arm, other) => {
             if arm.is_quiet() && other.is_quiet() {
-                next(context, state, statement);
+                change_by_arm(context, state, arm);
                 Ok(())
             } else {
                 count_if(alloc, context, state, asked, arm, other)
@@ -131,10 +165,10 @@ fn count_if(
 ) -> Result<(), AllocError>
     requires few { 1 + size arm.now + size other.now ≤ 4096 }
     requires loops { IsTrue (few_loops (4 - length context.now.counts) (If arm.now other.now Done)) }
-    requires right { IsRight context.now state.old (If arm.now other.now Done) }
-    ensures state { OnOk result (state.new ≡ state_or (chosen state.old) (flow context.now (chosen state.old) arm.now)) }
-    ensures counted { OnOk result (Adds asked.new asked.old (λ v r.
-        max (requests v r context.now (chosen state.old) arm.now) (requests v r context.now (chosen state.old) other.now))) }
+    ensures state { OnOk result (FromAlike context.now state.old (If arm.now other.now Done) (λ s.
+        AreAlike state.new (state_or (chosen s) (flow context.now (chosen s) arm.now)))) }
+    ensures counted { OnOk result (FromAlike context.now state.old (If arm.now other.now Done) (λ s. Adds asked.new asked.old (λ v r.
+        max (requests v r context.now (chosen s) arm.now) (requests v r context.now (chosen s) other.now)))) }
 {
     state.drop_operands();
     let mut second = state.copy();
@@ -159,8 +193,8 @@ fn count_loop(
 ) -> Result<(), AllocError>
     requires few { 1 + size body.now ≤ 4096 }
     requires loops { IsTrue (few_loops (4 - length context.now.counts) (Loop times body.now Done)) }
-    requires right { IsRight context.now state.now (Loop times body.now Done) }
-    ensures { OnOk result (Adds asked.new asked.old (λ v r. times * requests v r (inside context.now times) state.now body.now)) }
+    ensures { OnOk result (FromAlike context.now state.now (Loop times body.now Done) (λ s.
+        Adds asked.new asked.old (λ v r. times * requests v r (inside context.now times) s body.now))) }
 {
     let mut inner = state.copy();
     let mut round = Requests::new(alloc);

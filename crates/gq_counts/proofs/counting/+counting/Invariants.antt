@@ -1,13 +1,11 @@
-use Rattle.std.proofs.Common.{◌≡◌, ◌+◌, ◌-◌, ◌*◌, ◌∷◌, [], ℕ, List, drop, length, IsTrue}
-use Rattle.gq_model.specs.declared.program.Section.{Section}
+use Rattle.std.proofs.Common.{◌+◌, ◌-◌, ◌*◌, ◌∷◌, [], drop, length, IsTrue}
 use Rattle.gq_model.specs.machine.Program.{size}
-use Rattle.gq_model.specs.rules.Budgets.{requests}
-use Rattle.gq_model.specs.rules.Flow.{flow, state_or}
+use Rattle.gq_model.specs.rules.Kinds.{State}
 use Rattle.gq_program.specs.Trees.{tree_of}
 use Rattle.gq_rules.specs.Flowing.{few_loops}
-use Rattle.gq_counts.specs.Counting.{saturated}
-use Rattle.gq_counts.specs.Requested.{requests_for}
 use Rattle.gq_counts.specs.Rights.{IsRight}
+use Rattle.gq_counts.specs.internal.Alike.{AreAlike}
+use Rattle.gq_counts.proofs.Slots.{Counted}
 use Rattle.gq_counts.proofs.counting.+counting.Given as goal
 
 abbrev pub decreases-count : goal.decreases-count
@@ -25,11 +23,7 @@ decreases-count_loop l = 3 * (1 + size l.body.now)
 -- those so far, with the requests of the statements that are left, are those of all; what is left leads to the same state
 abbrev pub invariant-count-loop-statement : goal.invariant-count-loop-statement
 invariant-count-loop-statement l = record {
-  stated : state_or l.fn.state (flow l.context l.state (tree_of (drop l.statement-index l.statement-items))) ≡
-      state_or l.fn.state (flow l.context l.fn.state (tree_of l.statement-items));
-  counted : (v : List ℕ) (r : Section) →
-      saturated (requests_for l.asked v r + requests v r l.context l.state (tree_of (drop l.statement-index l.statement-items))) ≡
-      saturated (requests_for l.fn.asked v r + requests v r l.context l.fn.state (tree_of l.statement-items));
+  each : (s : State) → AreAlike s l.fn.state → IsRight l.context s (tree_of l.statement-items) →
+      Counted l.context s l.state l.asked l.fn.asked l.statement-items l.statement-index;
   loops : IsTrue (few_loops (4 - length l.context.counts) (tree_of (drop l.statement-index l.statement-items)));
-  right : IsRight l.context l.state (tree_of (drop l.statement-index l.statement-items));
 }
