@@ -1,5 +1,6 @@
 -- What a statement makes of the slots, whatever operands there are.
-use Rattle.std.proofs.Common.{◌≡◌, ◌<◌, ◌≤◌, ◌+◌, ◌*◌, max, ℕ, Bool, true, false, ◌&&◌, List, [], ◌∷◌, drop, length, get_or, Option, Some, None, Result, Ok, Err, suc, subst, refl, ap, sym, ◌∙◌, arith}
+use Rattle.std.proofs.Common.{◌≡◌, ◌<◌, ◌≤◌, ◌+◌, ◌*◌, max, ℕ, Bool, true, false, ◌&&◌, List, [], ◌∷◌, drop}
+use Rattle.std.proofs.Common.{length, get_or, Option, Some, None, Result, Ok, Err, suc, subst, refl, ap, sym, ◌∙◌, arith}
 use Rattle.std.specs.Prelude.{nat_le, nat_lt, not, slice_index_or}
 use Rattle.gq_model.specs.declared.fault.Rule.{Rule}
 use Rattle.gq_model.specs.declared.fault.Rule.TheVariants.{WrongKind, SlotInUse, OutOfRange, SessionBankChanged, OwnBankChanged, HeapInSession, ShortDonation}
