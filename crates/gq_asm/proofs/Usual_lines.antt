@@ -11,7 +11,7 @@ use Rattle.gq_model.specs.texts.Letters.{is_blank, words, unindented, past_word,
 use Rattle.gq_model.specs.texts.Spelling.{Shape, Made, Slot, number, slot_and, shape_of_word, spellings, slot_in, numbered_slot}
 use Rattle.gq_model.specs.machine.Program.{Do, Done, Program}
 use Rattle.gq_model.specs.texts.Code.{greatest_statements}
-use Rattle.gq_model.specs.texts.Text.{OpenBlock, Reading, Read, counted, put, in_place, statement, line_read, lines_read, on_line, is_comment}
+use Rattle.gq_model.specs.texts.Text.{OpenBlock, Reading, Read, counted, put, in_place, line_read, lines_read, on_line, is_comment}
 use Rattle.gq_model.specs.declared.fault.TextFault.{TextFault}
 use Rattle.gq_spelling.specs.declared.spelling.Shape as Shapes
 use Rattle.gq_spelling.specs.Spelling.{shape_of}
@@ -20,9 +20,9 @@ use Rattle.gq_asm.specs.Faults as faults
 use Rattle.gq_asm.specs.Faults.{Assembles}
 use Rattle.gq_asm.specs.declared.faults.LineError.{LineError}
 use Rattle.gq_asm.specs.declared.faults.LineError.TheVariants.{Memory, Fault}
-use Rattle.gq_asm.specs.internal.Pieces.{front_word, front_line, past_feed, line_before, line_at, lines_left, size_left}
+use Rattle.gq_asm.specs.internal.Pieces.{front_word, front_line, past_feed, line_at, lines_left, size_left}
 use Rattle.gq_asm.specs.internal.State.{Fails, with_added}
-use Rattle.gq_asm.specs.internal.Usual.{fed_line, IsLastWord, Completes, IsUsual, IsTaking, ReadsUsual, IsLone}
+use Rattle.gq_asm.specs.internal.Usual.{fed_line, IsLastWord, Completes, IsUsual, IsTaking, ReadsUsual}
 use Rattle.gq_asm.proofs.Fronts.{by_test, ne_test, next, lines_are, past_feed-shorter}
 
 -- PLAIN BYTES
@@ -222,21 +222,6 @@ usual_line text start operands rest shape i at h c =
           (ap (λ (y : Result Instruction TextFault). counted r (λ s. put s y)) (c.read after)))));
     }
 
-pub lone_line : (text start word after rest : List ℕ) → start ≡ unindented text → start ≡ word ++ after → after ≡ 10 ∷ rest →
-    all_of is_plain word ≡ true → (word ≡ [] → ⊥) → is_comment word ≡ false → IsLone text word rest
-lone_line text start word after rest at split feed plain some comment =
-    let line = fed_line text in
-    let split : start ≡ word ++ 10 ∷ rest = split ∙ ap (λ (l : List ℕ). word ++ l) feed in
-    let u : unindented line ≡ word ++ [] = unindented_line text ∙ (ap fed_line (sym at ∙ split) ∙ fed_plain word (10 ∷ rest) plain) in
-    let all : words line ≡ word ∷ [] = first_words line word [] plain some refl u in
-    let past : past_word (unindented line) ≡ [] = ap past_word u ∙ past_plain word [] plain in
-    record {
-      fed = feed_unindented text ∙ (ap past_feed (sym at ∙ split) ∙ feed_plain word (10 ∷ rest) plain);
-      read = λ r k b blocks e.
-          rw all (rw comment (ap (λ (l : List OpenBlock). in_place r l k word [] (past_word (unindented line))) e
-          ∙ ap (λ (after : List ℕ). statement r k word [] after) past));
-    }
-
 pub on_blank : (text words all : List ℕ) → text ≡ 32 ∷ words → words ≡ all → text ≡ 32 ∷ all
 on_blank text words all e f = e ∙ ap (λ (l : List ℕ). 32 ∷ l) f
 
@@ -285,11 +270,3 @@ fails_here r k text (Fault f) all h e =
 
 pub shorter : (text : List ℕ) (after : Option (List ℕ)) → after ≡ past_feed text → size_left after < suc (length text)
 shorter text after e = let h = past_feed-shorter text in let k = ap size_left e in omega (arith, h, k)
-
--- a word alone on its line, in a block
-pub lone_reads : (text word rest : List ℕ) (old : Reading) (k : ℕ) → 0 < length old.blocks → IsLone text word rest →
-    line_read old k (line_at text) (words (line_at text)) ≡ statement old k word [] []
-lone_reads text word rest old k some h =
-    let p = some_block old.blocks some in
-    let same : line_at text ≡ fed_line text = ap (line_before (front_line text)) h.fed in
-    ap (λ (l : List ℕ). line_read old k l (words l)) same ∙ h.read old k p.0 p.1 p.2

@@ -1,5 +1,5 @@
 // A text, line by line.
-ghost use Rattle.std.specs.Prelude.{◌≡◌, ◌<◌, ◌∷◌, [], length, IsTrue, None, Some, Ok, IfOk, IfErr, IfSome, MatchOption, option_copied};
+ghost use Rattle.std.specs.Prelude.{◌≡◌, ◌∷◌, [], IsTrue, Ok, IfOk, IfErr, MatchOption, option_copied};
 ghost use Rattle.gq_model.specs.machine.Program as model;
 ghost use Rattle.gq_model.specs.machine.Program.{section_in};
 ghost use Rattle.gq_model.specs.texts.Code.{IsProgram};
@@ -9,14 +9,14 @@ ghost use Rattle.gq_asm.specs.internal.State.{Gives, reading_of};
 ghost use Rattle.gq_asm.specs.Faults.{Assembles};
 ghost use Rattle.gq_asm.specs.declared.faults.LineError.TheVariants.{Memory};
 ghost use Rattle.gq_asm.specs.internal.Pieces.{line_at, past_feed};
-ghost use Rattle.gq_asm.specs.internal.Usual.{IsTaking, IsRead, ReadsUsual};
+ghost use Rattle.gq_asm.specs.internal.Usual.{IsTaking, ReadsUsual};
 ghost use Rattle.gq_asm.specs.internal.Order.{without, IsFirstAt, IsAbsent, is_distinct};
 
 use crate::faults::{AssembleError, LineError};
 use crate::headings::{limit_of, same_section};
 use crate::lines::first_line;
 use crate::reading::Reading;
-use crate::usual::{lone_word, usual};
+use crate::usual::usual;
 use crate::words::next_word;
 use gq_model::fault::TextFault;
 use gq_model::limits::{GREATEST_STATEMENTS, LOCALS};
@@ -145,39 +145,6 @@ impl Reading {
         Ok(Some(rest))
     }
 
-    /// Whether a block is open.
-    #[inline(always)]
-    fn is_inside(&self) -> bool
-        ensures { IsTrue result → 0 < length (reading_of self.now).blocks }
-    {
-        self.blocks.front().is_some()
-    }
-
-    /// Reads the first line of a text where it is one word in a section, and answers what follows its line feed. Where it is none, nothing is read.
-    #[inline(always)]
-    fn read_lone<'a>(
-        &mut self,
-        alloc: Global,
-        number: u64,
-        text: &'a [u8],
-    ) -> Result<Option<&'a [u8]>, LineError>
-        ensures none { result ≡ Ok None → reading_of self.new ≡ reading_of self.old }
-        ensures fed { IfOk result (λ rest. IfSome rest (λ rest. past_feed text.now ≡ Some rest.now)) }
-        ensures read { IsRead result → Gives (λ _. reading_of self.new) result
-            (line_read (reading_of self.old) number (line_at text.now) (words (line_at text.now))) }
-    {
-        if !self.is_inside() {
-            return Ok(None);
-        }
-        let Some((word, rest)) = lone_word(text) else {
-            return Ok(None);
-        };
-        match self.statement(alloc, number, word, &[]) {
-            Ok(()) => Ok(Some(rest)),
-            Err(error) => Err(error),
-        }
-    }
-
     /// Reads the first line of a text, and answers the text of the lines after it, if there are any.
     #[inline(always)]
     fn read_first<'a>(
@@ -190,9 +157,6 @@ impl Reading {
         ensures rest { IfOk result (λ rest. option_copied rest ≡ past_feed text.now) }
     {
         if let Some(rest) = self.read_usual(text)? {
-            return Ok(Some(rest));
-        }
-        if let Some(rest) = self.read_lone(alloc, number, text)? {
             return Ok(Some(rest));
         }
         let (line, rest) = first_line(text);

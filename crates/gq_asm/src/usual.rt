@@ -1,11 +1,10 @@
 // Usual lines of a section: a statement without operands, or with slots and numbers, with one blank before each, and a line feed right after it. They
 // are read from front to back, without a search for the line's end. Of any other line nothing is said here.
-ghost use Rattle.std.specs.Prelude.{◌≡◌, ◌∷◌, [], ◌++◌, true, false, IsTrue, IfSome};
+ghost use Rattle.std.specs.Prelude.{◌≡◌, ◌∷◌, ◌++◌, true, IfSome};
 ghost use Rattle.gq_model.specs.machine.Lists.{all_of};
-ghost use Rattle.gq_model.specs.texts.Text.{is_comment};
 ghost use Rattle.gq_spelling.specs.Spelling.{shape_of};
 ghost use Rattle.gq_words.specs.Fronts.{is_plain};
-ghost use Rattle.gq_asm.specs.internal.Usual.{IsLastWord, Completes, IsUsual, IsLone};
+ghost use Rattle.gq_asm.specs.internal.Usual.{IsLastWord, Completes, IsUsual};
 
 use crate::words::unindented;
 use gq_model::program::Instruction;
@@ -126,41 +125,4 @@ pub fn usual(text: &[u8]) -> Option<(Instruction, &[u8])>
 {
     let (shape, operands) = front_shape(unindented(text))?;
     completed(shape, operands)
-}
-
-/// What follows a line feed.
-#[inline(always)]
-fn past_feed(text: &[u8]) -> Option<&[u8]>
-    ensures { IfSome result (λ rest. text.now ≡ 10 ∷ rest.now) }
-{
-    match text {
-        [b'\n', rest @ ..] => Some(rest),
-        _ => None,
-    }
-}
-
-/// Whether a word is there that begins no comment.
-#[inline(always)]
-fn says_something(word: &[u8]) -> bool
-    ensures some { IsTrue result → word.now ≡ [] → ⊥ }
-    ensures no_comment { IsTrue result → is_comment word.now ≡ false }
-{
-    match word {
-        [first, ..] => *first != b'#',
-        [] => false,
-    }
-}
-
-/// The word that the first line of a text is, with a line feed right after it, where it begins no comment, and what follows the line feed.
-#[inline(always)]
-pub fn lone_word(text: &[u8]) -> Option<(&[u8], &[u8])>
-    ensures { IfSome result (λ p. IsLone text.now p.0.now p.1.now) }
-{
-    let (word, after) = split_plain(unindented(text));
-    let rest = past_feed(after)?;
-    if says_something(word) {
-        Some((word, rest))
-    } else {
-        None
-    }
 }

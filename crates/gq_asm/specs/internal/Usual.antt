@@ -1,11 +1,11 @@
 -- Usual lines: one statement, its operands with one blank before each, and a line feed right after it.
-use Rattle.std.specs.Prelude.{◌≡◌, ◌<◌, ℕ, ◌++◌, true, List, [], ◌∷◌, length, Option, Some, None, Result, Ok}
+use Rattle.std.specs.Prelude.{◌≡◌, ◌<◌, ℕ, ◌++◌, true, List, [], ◌∷◌, length, Some, Ok}
 use Rattle.gq_model.specs.machine.Lists.{all_of}
 use Rattle.gq_model.specs.declared.program.Instruction.{Instruction}
 use Rattle.gq_model.specs.texts.Code.{greatest_statements}
 use Rattle.gq_model.specs.texts.Letters.{words, without_return}
 use Rattle.gq_model.specs.texts.Spelling.{Shape, instruction_in}
-use Rattle.gq_model.specs.texts.Text.{OpenBlock, Reading, counted, put, statement, line_read}
+use Rattle.gq_model.specs.texts.Text.{OpenBlock, Reading, counted, put, line_read}
 use Rattle.gq_words.specs.Fronts.{is_plain}
 use Rattle.gq_asm.specs.internal.Pieces.{front_word, front_line, past_feed}
 
@@ -38,14 +38,3 @@ IsTaking r = (0 < length r.blocks) × (r.count < greatest_statements)
 pub record ReadsUsual (text rest : List ℕ) (old new : Reading) : Type 0 where
   pub fed : past_feed text ≡ Some rest
   pub read : (k : ℕ) → line_read old k (fed_line text) (words (fed_line text)) ≡ Ok new
-
--- the first line is one word, which begins no comment, and these bytes follow its line feed
-pub record IsLone (text word rest : List ℕ) : Type 0 where
-  pub fed : past_feed text ≡ Some rest
-  pub read : (r : Reading) (k : ℕ) (b : OpenBlock) (blocks : List OpenBlock) → r.blocks ≡ b ∷ blocks →
-      line_read r k (fed_line text) (words (fed_line text)) ≡ statement r k word [] []
-
--- something was read, or there was a fault
-abbrev pub IsRead : {A E : Type 0} → Result (Option A) E → Type 0
-IsRead (Ok None) = ⊥
-IsRead _ = Unit {0}
