@@ -4,7 +4,7 @@
 Long, deep and broken texts have to be refused with the line that is told beside each; texts made of a scenario by random changes, always the same
 ones, have to be done or refused. A refusal is one line on standard error, with nothing on standard output and exit status 1. The program may take
 no more memory than 64 MiB and 50 times the text; 640 times, where the text is one of tables that have one key each, since the TOML reader takes room for
-eleven keys for each table. The last line is 'N passed, M failed', and the exit status is 1 where one failed.
+fifteen keys for each table. The last line is 'N passed, M failed', and the exit status is 1 where one failed.
 """
 import pathlib
 import random
