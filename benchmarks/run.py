@@ -50,6 +50,14 @@ def spaces():
     return program(["space o0 4096", "free o0"] * 2048)
 
 
+def making():
+    """Loops and arms that make and free, 4095 statements in all."""
+    first = ["loop 2", "block o0 64", "free o0", "push 1", "if", "block o1 64", "free o1"]
+    block = [*first, "else", "space o2 4096", "free o2", "end", "end"]
+    statements = sum(1 for line in block if line not in ("else", "end"))
+    return program(block * (4096 // statements))
+
+
 def sessions():
     """4096 statements, of sessions to each of 64 services with a call."""
     statements = []
@@ -129,6 +137,7 @@ def programs(benchmark, trade):
 def verifier(benchmark):
     """The verifier, with 64 interfaces."""
     texts = {"4096 short statements": short(), "blocks four deep": balanced(), "spaces": spaces(), "sessions": sessions()}
+    texts["loops and arms that make and free"] = making()
     table("Verified", "Statements", "Time", "Each statement")
     for name, text in texts.items():
         count = sum(1 for line in text.decode().split("\n") if line not in ("", "main", "else", "end"))
