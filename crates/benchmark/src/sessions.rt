@@ -8,6 +8,7 @@ ghost use Rattle.benchmark.specs.Rounds.{Calls, CanClose, Closes, HasRoom, IsCal
 use crate::fault::Fault;
 use crate::timing::tell;
 use gq_sessions::Spot;
+use gq_slot_sessions::sessions;
 use gq_slots::Slots;
 use gq_tariff::Amount;
 use gq_things::Thing;
@@ -123,10 +124,10 @@ fn open(slots: &mut Slots) -> Option<usize>
     requires room { free_number (sessions_of slots.old) < 16384 }
     ensures { IfSome result (λ k. Opens slots.old slots.new k) }
 {
-    let Ok(number) = slots.ask(1, Spot::InLeaf(1, 0), 0, 0, DONATION) else {
+    let Ok(number) = sessions::ask(slots, 1, Spot::InLeaf(1, 0), 0, 0, DONATION) else {
         return None;
     };
-    match slots.accept(0) {
+    match sessions::accept(slots, 0) {
         Ok(Some(_)) => Some(number),
         Ok(None) | Err(_) => None,
     }
@@ -138,8 +139,8 @@ fn call(slots: &mut Slots, number: usize) -> bool
     requires session { CanClose (sessions_of slots.old) number }
     ensures { IsTrue result → Calls slots.old slots.new }
 {
-    slots.ask_call(number, 42);
-    match slots.accept(0) {
+    sessions::ask_call(slots, number, 42);
+    match sessions::accept(slots, 0) {
         Ok(Some(_)) => true,
         Ok(None) | Err(_) => false,
     }
@@ -151,9 +152,9 @@ fn close(slots: &mut Slots, number: usize) -> bool
     requires session { CanClose (sessions_of slots.old) number }
     ensures { IsTrue result → Closes slots.old slots.new number }
 {
-    slots.ask_close(number);
-    match slots.accept(0) {
-        Ok(Some(_)) => slots.closed(number).is_ok(),
+    sessions::ask_close(slots, number);
+    match sessions::accept(slots, 0) {
+        Ok(Some(_)) => sessions::closed(slots, number).is_ok(),
         Ok(None) | Err(_) => false,
     }
 }

@@ -16,7 +16,8 @@ use Rattle.gq_laws.proofs.linking.Worlds.{session_else, session_here}
 use Rattle.gq_sessions.specs.declared.session.Spot.{Spot}
 use Rattle.gq_sessions.specs.Seen.{spot_seen}
 use Rattle.gq_slots.specs.Slots.{Frame, Slots, world_seen}
-use Rattle.gq_slots.specs.Calls.{Puts, asking, more_for, upgrading}
+use Rattle.gq_slots.specs.Calls.{Puts}
+use Rattle.gq_slot_sessions.specs.Calls.{asking, more_for, upgrading}
 use Rattle.gq_paid.proofs.Marked.{marked_paid, slot_asking}
 use Rattle.gq_asking.specs.Requests.{Blocks, IsNextLevel, leads_from, leads_to, session_named}
 use Rattle.gq_asking.specs.internal.Leads.{IsLinkedAt}

@@ -23,7 +23,8 @@ use Rattle.gq_things.specs.Things.{seen}
 use Rattle.gq_sessions.specs.declared.session.Spot.{Spot}
 use Rattle.gq_sessions.specs.Seen.{spot_seen}
 use Rattle.gq_slots.specs.Slots.{Frame, Slots, holder, memory_of, world_seen}
-use Rattle.gq_slots.specs.Calls.{Puts, asking, opening}
+use Rattle.gq_slots.specs.Calls.{Puts}
+use Rattle.gq_slot_sessions.specs.Calls.{asking, opening}
 use Rattle.gq_addresses.specs.Addresses.{place_seen}
 use Rattle.gq_statements.specs.declared.actor.Actor.{Actor}
 use Rattle.gq_statements.specs.Statements.{IsBy, hand_seen}

@@ -19,6 +19,7 @@ ghost use Rattle.gq_asking.specs.internal.Leads.{IsLink, IsLinkedAt, IsRoomAt, I
 use gq_model::fault::Wrong;
 use gq_model::program::Place;
 use gq_sessions::Spot;
+use gq_slot_sessions::sessions;
 use gq_slots::Slots;
 use gq_statements::Actor;
 use gq_tariff::Amount;
@@ -95,7 +96,7 @@ pub fn close(actor: Actor, slots: &mut Slots, place: Place) -> Result<(), Wrong>
         return Err(Wrong::WrongKind);
     };
     lawful(slots);
-    slots.ask_close(session as usize);
+    sessions::ask_close(slots, session as usize);
     slots.mark(spot, Thing::Waiting(session));
     lawful(slots);
     Ok(())
@@ -119,7 +120,7 @@ pub fn call(actor: Actor, slots: &mut Slots, place: Place, value: u32) -> Result
         return Err(Wrong::WrongKind);
     };
     lawful(slots);
-    slots.ask_call(session as usize, value);
+    sessions::ask_call(slots, session as usize, value);
     slots.mark(spot, Thing::Waiting(session));
     lawful(slots);
     Ok(())
@@ -145,7 +146,7 @@ pub fn upgrade(actor: Actor, slots: &mut Slots, place: Place, donation: Amount) 
         return Err(Wrong::WrongKind);
     };
     lawful(slots);
-    match slots.upgrade(session as usize, donation) {
+    match sessions::upgrade(slots, session as usize, donation) {
         Err(_) => Err(Wrong::ExceededQuota),
         Ok(()) => {
             slots.mark(spot, Thing::Waiting(session));
@@ -208,7 +209,7 @@ pub fn open(
         return Err(Wrong::WrongKind);
     };
     lawful(slots);
-    match slots.ask(actor.leaf, spot, server, service, donation) {
+    match sessions::ask(slots, actor.leaf, spot, server, service, donation) {
         Err(_) => Err(Wrong::ExceededQuota),
         Ok(session) => {
             slots.mark(spot, Thing::Waiting(session as u32));

@@ -6,6 +6,7 @@ use crate::trade_rows::{live, plan};
 use crate::used::used;
 use gq_addresses::Addresses;
 use gq_sessions::Spot;
+use gq_slot_sessions::sessions;
 use gq_slots::Slots;
 use gq_tariff::Amount;
 use gq_things::Thing;
@@ -26,10 +27,10 @@ fn opened(slots: &mut Slots) -> Option<usize>
     ensures { IfSome result (λ k. Serves slots.new k) }
 {
     let amount = Amount { ram: 8192, caps: 0 };
-    let Ok(session) = slots.ask(1, Spot::InLeaf(1, 0), 0, 0, amount) else {
+    let Ok(session) = sessions::ask(slots, 1, Spot::InLeaf(1, 0), 0, 0, amount) else {
         return None;
     };
-    match slots.accept(0) {
+    match sessions::accept(slots, 0) {
         Ok(Some(_)) => Some(session),
         Ok(None) | Err(_) => None,
     }

@@ -22,7 +22,8 @@ use Rattle.gq_sessions.specs.Trading.{IsTrading, Trading, bytes_then, caps_then,
 use Rattle.gq_trade.specs.Balances.{node_at}
 use Rattle.gq_sessions.proofs.Kept.{between_at}
 use Rattle.gq_slots.specs.Slots.{AreSound, Frame, IsMark, IsSlot, Slots, holder, memory_of, slot_of, thing_at, world_seen}
-use Rattle.gq_slots.specs.Calls.{EndsSession, IsBeside, Puts, ending}
+use Rattle.gq_slots.specs.Calls.{Puts}
+use Rattle.gq_slot_sessions.specs.Calls.{EndsSession, IsBeside, ending}
 use Rattle.gq_slots.proofs.Answering.{object_at}
 use Rattle.gq_addresses.specs.Addresses.{slot_for}
 use Rattle.gq_laws.proofs.linking.Worlds.{set_else}

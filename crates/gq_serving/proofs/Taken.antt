@@ -21,7 +21,7 @@ use Rattle.gq_sessions.specs.Seen.{session_seen}
 use Rattle.gq_sessions.specs.Trading.{AreOf, Begins as BeginsIn, IsTrading, Trading, object_size, server_of, session_at, with_requests}
 use Rattle.gq_sessions.proofs.Kept.{between_at}
 use Rattle.gq_slots.specs.Slots.{Frame, Slots, memory_of, world_seen}
-use Rattle.gq_slots.specs.Calls.{TakesOldest, accepting, begun, begun_at}
+use Rattle.gq_slot_sessions.specs.Calls.{TakesOldest, accepting, begun, begun_at}
 use Rattle.gq_slots.proofs.Worlds.{session_there}
 use Rattle.gq_paid.specs.Systems.{AreLawful}
 use Rattle.gq_paid.proofs.Paid.{all_paid}

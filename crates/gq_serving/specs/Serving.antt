@@ -19,7 +19,8 @@ use Rattle.gq_requests.specs.Seen.{request_seen}
 use Rattle.gq_paid.specs.Systems.{IsOf}
 use Rattle.gq_sessions.specs.Trading.{client_of}
 use Rattle.gq_slots.specs.Slots.{Frame, IsSlot, IsSpot, Slots, holder, thing_at, world_seen}
-use Rattle.gq_slots.specs.Calls.{EndsSession, Puts}
+use Rattle.gq_slots.specs.Calls.{Puts}
+use Rattle.gq_slot_sessions.specs.Calls.{EndsSession}
 use Rattle.gq_addresses.specs.Addresses.{slot_for}
 
 -- REPLIES

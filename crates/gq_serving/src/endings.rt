@@ -4,12 +4,13 @@ ghost use Rattle.gq_model.specs.machine.Doing.{Doing};
 ghost use Rattle.gq_model.specs.machine.Step as step;
 ghost use Rattle.gq_trade.specs.Trades.{IsLive};
 ghost use Rattle.gq_slots.specs.Slots.{Frame, world_seen};
-ghost use Rattle.gq_slots.specs.Calls.{EndsLeaf};
+ghost use Rattle.gq_slot_sessions.specs.Calls.{EndsLeaf};
 ghost use Rattle.gq_serving.specs.Serving.{IsAloneWithoutLinks, IsReleased, finished, own_slots};
 ghost use Rattle.gq_serving.specs.internal.Tests.{has_no_link, is_link};
 
 use gq_model::fault::Wrong;
 use gq_sessions::Spot;
+use gq_slot_sessions::leaves;
 use gq_slots::Slots;
 use gq_things::Thing;
 
@@ -27,7 +28,7 @@ pub fn exit(slots: &mut Slots, leaf: usize) -> Result<(), Wrong>
     if !has_no_link(slots, leaf) {
         return Err(Wrong::WrongKind);
     }
-    slots.end(leaf);
+    leaves::end(slots, leaf);
     Ok(())
 }
 

@@ -18,6 +18,7 @@ ghost use Rattle.gq_serving.specs.internal.Tests.{are_empty, fits, is_empty, is_
 use gq_addresses::Addresses;
 use gq_model::fault::Wrong;
 use gq_sessions::{Session, Spot};
+use gq_slot_sessions::sessions;
 use gq_slots::Slots;
 use gq_things::Thing;
 
@@ -108,7 +109,7 @@ pub fn reply_close(slots: &mut Slots, session: usize) -> Result<(), Wrong>
     if !are_empty(&bank) {
         return Err(Wrong::WrongKind);
     }
-    match slots.closed(session) {
+    match sessions::closed(slots, session) {
         Err(_) => Err(Wrong::ExceededQuota),
         Ok(()) => {
             slots.laws();

@@ -1,6 +1,5 @@
 // Things that are put into slots.
-ghost use Rattle.std.specs.Prelude.{◌≡◌, ℕ, ◌<◌, [], length, get_or, replicate, slice_set};
-ghost use Rattle.gq_numbered.specs.Numbers.{IsTaken};
+ghost use Rattle.std.specs.Prelude.{◌≡◌, ◌<◌, []};
 ghost use Rattle.gq_things.specs.declared.thing.Thing.TheVariants as thing;
 ghost use Rattle.gq_trade.specs.Trades.{with_trading};
 ghost use Rattle.gq_slots.specs.Slots.{IsSlot, IsSpot, thing_at};
@@ -52,12 +51,4 @@ pub(crate) fn replace(trades: &mut Trades, own: &mut Vec<[Thing; 64]>, spot: Spo
     }
     clear(trades, own, spot);
     fill(trades, own, spot, contents);
-}
-
-// Makes all slots of a leaf empty.
-pub(crate) fn clear_all(own: &mut Vec<[Thing; 64]>, leaf: usize)
-    requires { leaf < length own.old.items }
-    ensures { own.new.items ≡ slice_set own.old.items leaf (replicate 64 thing.Empty) }
-{
-    own[leaf] = [Thing::Empty; 64];
 }

@@ -1,5 +1,5 @@
 // What every slot of a scenario holds, in the memory of the leaf that pays for it.
-ghost use Rattle.std.specs.Prelude.{◌≡◌, ℕ, ◌+◌, ◌<◌, ◌≤◌, ◌*◌, ◌%◌, ◌↔◌, ◌⊎◌, [], ◌∷◌, length, get_or, slice_index, slice_range, replicate, Some, None, true};
+ghost use Rattle.std.specs.Prelude.{◌≡◌, ◌+◌, ◌<◌, ◌≤◌, ◌*◌, ◌%◌, ◌↔◌, ◌⊎◌, [], ◌∷◌, length, slice_index, slice_range, replicate, Some, None, true};
 ghost use Rattle.std.specs.Prelude.{false, IsTrue};
 ghost use Rattle.std.specs.Prelude.{IfOk, IfNone, IfSome, OnOk, OnErr, IsErrOf};
 ghost use Rattle.gq_tariff.specs.Prices.{up};
@@ -12,29 +12,19 @@ ghost use Rattle.gq_heap.specs.Heap.{rise};
 ghost use Rattle.gq_things.specs.declared.thing.Thing.TheVariants as thing;
 ghost use Rattle.gq_things.specs.Things.{added, bytes_in, entry_count, entry_in, entry_size, put_in, removed, seen, size_of, with_entry};
 ghost use Rattle.gq_sessions.specs.Seen.{spot_seen};
-ghost use Rattle.gq_model.specs.machine.Requests.{new_session};
-ghost use Rattle.gq_numbered.specs.Numbers.{IsTaken, free_number};
-ghost use Rattle.gq_ram.specs.Entries.{available, available_caps};
-ghost use Rattle.gq_requests.specs.declared.requests.Ask.TheVariants as ask;
-ghost use Rattle.gq_requests.specs.Queues.{oldest_to};
-ghost use Rattle.gq_sessions.specs.Trading.{IsOfOldest, LacksBytes, LacksCaps, account_no, asked, client_of, fresh, its_account, server_of, session_at};
-ghost use Rattle.gq_sessions.specs.Trading.{AreOfOthers, bytes_then, caps_then, upgraded, with_ask, with_memory};
+ghost use Rattle.gq_numbered.specs.Numbers.{IsTaken};
+ghost use Rattle.gq_sessions.specs.Trading.{account_no, server_of, with_memory};
 ghost use Rattle.gq_sessions.specs.declared.session.Spot.TheVariants.{InLeaf, InObject, InSession};
-ghost use Rattle.gq_trade.specs.Ends.{HasNoSessions};
-ghost use Rattle.gq_trade.specs.Waiting.{IsIdle};
 ghost use Rattle.gq_trade.specs.Plans.{IsFirst, IsPlan};
 ghost use Rattle.gq_trade.specs.Trades.{IsLive, IsTrades, with_trading};
 ghost use Rattle.gq_slots.specs.Slots.{AreLong, AreNew, ArePaidFor, AreRead, AreRises, AreSmallEntries, AreSound, Frame, IsHeapOf, IsMark, IsPaidBy};
 ghost use Rattle.gq_slots.specs.Slots.{IsSlot, IsSpot, holder, memory_of, slot_of, thing_at, world_seen};
-ghost use Rattle.gq_slots.specs.Calls.{EndsLeaf, EndsSession, Puts, Settles, TakesOldest, asking, opening, upgrading, with_trades};
+ghost use Rattle.gq_slots.specs.Calls.{Puts, Settles};
 
-use crate::places::{clear, clear_all, fill, replace};
+use crate::places::{clear, fill, replace};
 use gq_heap::Heap;
-use gq_ram::AccountFault;
-use gq_requests::Request;
 use gq_sessions::Spot;
 use gq_store::GrowFault;
-use gq_tariff::Amount;
 use gq_things::Thing;
 use gq_trade::{Plan, Trades};
 use std::alloc::{AllocError, Global};
@@ -42,12 +32,17 @@ use std::marker::Model;
 
 /// All slots of a scenario: the 64 of each leaf, the 8 of each session, and the sessions' objects. What is in a leaf's slot, and in those of the sessions
 /// to it, lies in memory that the leaf pays for. No call but `new` takes host memory.
+///
+/// The fields are public for the calls on sessions and leaves, which stand in a crate of their own: whoever changes a field must prove that what holds of
+/// all `Slots` still does.
 #[derive(Drop)]
 pub struct Slots {
-    trades: Trades,
-    // The own slots of each leaf, and its heap.
-    own: Vec<[Thing; 64]>,
-    heaps: Vec<Heap>,
+    /// The sessions with the accounts.
+    pub trades: Trades,
+    /// The own slots of each leaf.
+    pub own: Vec<[Thing; 64]>,
+    /// The heap of each leaf.
+    pub heaps: Vec<Heap>,
 }
 
 impl Model for Slots {
@@ -496,158 +491,6 @@ impl Slots {
         let _heap = &self.heaps[holder];
         self.trades.laws();
         replace(&mut self.trades, &mut self.own, spot, contents);
-    }
-
-    /// Asks for a session: it takes the lowest free number, the donation goes from its client to its server, through every init on the way, and its
-    /// request to open is the last. The client's slot is not touched.
-    ///
-    /// Refused as `Exceeded` where the client has fewer bytes that are not used, else as `CapsExceeded` where it has fewer capabilities; then
-    /// nothing changes. Where capabilities are not counted, none can be given. Client and server are live, and no request of the client waits.
-    pub fn ask(
-        &mut self,
-        client: usize,
-        spot: Spot,
-        server: usize,
-        service: usize,
-        donation: Amount,
-    ) -> Result<usize, AccountFault>
-        requires client { IsLive self.old.trades client }
-        requires server { IsLive self.old.trades server }
-        requires apart { client ≡ server → ⊥ }
-        requires service { service < length self.old.trades.trading.objects }
-        requires counted { self.old.trades.trading.memory.ledger.price ≡ 0 → donation.caps ≡ 0 }
-        requires room { free_number self.old.trades.trading.sessions < self.old.trades.trading.room }
-        requires idle { IsIdle self.old.trades.trading client }
-        ensures number { IfOk result (λ k. k ≡ free_number self.old.trades.trading.sessions) }
-        ensures asked { OnOk result (self.new ≡ with_trades self.old (asked self.old.trades.trading (fresh client spot server service donation))) }
-        ensures world { OnOk result ((f : Frame) → world_seen f self.new
-            ≡ opening (world_seen f self.old) (new_session client (spot_seen spot) server (get_or f.names service []) donation)) }
-        ensures unchanged { OnErr result (self.new ≡ self.old) }
-        ensures exceeded { IsErrOf result AccountFault.Exceeded ↔ (available (its_account self.old.trades.trading client) < donation.ram) }
-        ensures caps_exceeded { IsErrOf result AccountFault.CapsExceeded
-            ↔ ((donation.ram ≤ available (its_account self.old.trades.trading client))
-            × (available_caps (its_account self.old.trades.trading client) < donation.caps)) }
-        ensures only { OnErr result (donation.ram ≤ available (its_account self.old.trades.trading client)
-            → available_caps (its_account self.old.trades.trading client) < donation.caps) }
-    {
-        let _own = &self.own;
-        self.trades.laws();
-        self.trades.memory().accounts().laws();
-        let asked = self.trades.ask(client, spot, server, service, donation);
-        self.trades.memory().accounts().laws();
-        asked
-    }
-
-    /// Asks for the next level of a session: what is given for it goes from its client to its server, as in `ask`, and its request to upgrade is the
-    /// last. Refused as `ask` is.
-    pub fn upgrade(&mut self, session: usize, donation: Amount) -> Result<(), AccountFault>
-        requires there { IsTaken self.old.trades.trading.sessions session }
-        requires counted { self.old.trades.trading.memory.ledger.price ≡ 0 → donation.caps ≡ 0 }
-        requires idle { IsIdle self.old.trades.trading (client_of self.old.trades.trading session) }
-        ensures upgraded { OnOk result (self.new ≡ with_trades self.old (upgraded self.old.trades.trading session donation)) }
-        ensures world { OnOk result ((f : Frame) → world_seen f self.new ≡ upgrading (world_seen f self.old) session donation) }
-        ensures unchanged { OnErr result (self.new ≡ self.old) }
-        ensures exceeded { IsErrOf result AccountFault.Exceeded
-            ↔ (available (its_account self.old.trades.trading (client_of self.old.trades.trading session)) < donation.ram) }
-        ensures caps_exceeded { IsErrOf result AccountFault.CapsExceeded
-            ↔ ((donation.ram ≤ available (its_account self.old.trades.trading (client_of self.old.trades.trading session)))
-            × (available_caps (its_account self.old.trades.trading (client_of self.old.trades.trading session)) < donation.caps)) }
-        ensures only { OnErr result (donation.ram ≤ available (its_account self.old.trades.trading (client_of self.old.trades.trading session))
-            → available_caps (its_account self.old.trades.trading (client_of self.old.trades.trading session)) < donation.caps) }
-    {
-        let _own = &self.own;
-        self.trades.laws();
-        self.trades.memory().accounts().laws();
-        let upgraded = self.trades.upgrade(session, donation);
-        self.trades.memory().accounts().laws();
-        upgraded
-    }
-
-    /// Asks for the reply of a session's server to a number: the request is the last.
-    pub fn ask_call(&mut self, session: usize, value: u32)
-        requires there { IsTaken self.old.trades.trading.sessions session }
-        requires idle { IsIdle self.old.trades.trading (client_of self.old.trades.trading session) }
-        ensures asked { self.new ≡ with_trades self.old (with_ask self.old.trades.trading session (ask.Call value)) }
-        ensures world { (f : Frame) → world_seen f self.new ≡ asking (world_seen f self.old) session (world.Ask_call value) }
-    {
-        let _own = &self.own;
-        self.trades.ask_call(session, value);
-    }
-
-    /// Asks for the end of a session: the request is the last.
-    pub fn ask_close(&mut self, session: usize)
-        requires there { IsTaken self.old.trades.trading.sessions session }
-        requires idle { IsIdle self.old.trades.trading (client_of self.old.trades.trading session) }
-        ensures asked { self.new ≡ with_trades self.old (with_ask self.old.trades.trading session ask.Close) }
-        ensures world { (f : Frame) → world_seen f self.new ≡ asking (world_seen f self.old) session world.Ask_close }
-    {
-        let _own = &self.own;
-        self.trades.ask_close(session);
-    }
-
-    /// Takes the oldest request to a server, if there is one. A request to open makes the session's object, a slice which its server pays for and which
-    /// reads 0; one to upgrade raises the level.
-    ///
-    /// Refused as `Exceeded` where the object's bytes can't be paid, else as `CapsExceeded` where the server has no capability left; then nothing
-    /// changes.
-    pub fn accept(&mut self, server: usize) -> Result<Option<Request>, GrowFault>
-        requires server { IsLive self.old.trades server }
-        requires level { IfSome (oldest_to server self.old.trades.trading.requests)
-            (λ p. p.0.ask ≡ ask.Upgrade → (session_at self.old.trades.trading p.0.session).level < 3) }
-        ensures none { IfOk result (λ o. IfNone o ((oldest_to server self.old.trades.trading.requests ≡ None) × (self.new ≡ self.old))) }
-        ensures some { IfOk result (λ o. IfSome o (λ r. TakesOldest self.old self.new server r)) }
-        ensures unchanged { OnErr result (self.new ≡ self.old) }
-        ensures exceeded { IsErrOf result GrowFault.Exceeded
-            ↔ IsOfOldest (oldest_to server self.old.trades.trading.requests) (λ r. LacksBytes r.ask self.old.trades.trading r.session) }
-        ensures caps_exceeded { IsErrOf result GrowFault.CapsExceeded
-            ↔ IsOfOldest (oldest_to server self.old.trades.trading.requests) (λ r. LacksCaps r.ask self.old.trades.trading r.session) }
-    {
-        let _own = &self.own;
-        self.trades.laws();
-        self.trades.accept(server)
-    }
-
-    /// Ends a session at the reply to its close: its object is free, what was given for it goes back to its client, through every init on the way, and
-    /// its number is free. Its slots are empty, and no request of it waits.
-    ///
-    /// Refused as `Exceeded` where its server could not pay the bytes back even then, else as `CapsExceeded` where it could not pay the
-    /// capabilities back; then nothing changes.
-    pub fn closed(&mut self, session: usize) -> Result<(), AccountFault>
-        requires there { IsTaken self.old.trades.trading.sessions session }
-        requires object { thing_at self.old (InObject session) ≡ thing.Empty → ⊥ }
-        requires empty { (i : ℕ) → i < 8 → thing_at self.old (InSession session i) ≡ thing.Empty }
-        requires none_waits { AreOfOthers session self.old.trades.trading.requests }
-        ensures ends { OnOk result (EndsSession self.old self.new session) }
-        ensures unchanged { OnErr result (self.new ≡ self.old) }
-        ensures exceeded { IsErrOf result AccountFault.Exceeded
-            ↔ (bytes_then self.old.trades.trading session < (session_at self.old.trades.trading session).donation.ram) }
-        ensures caps_exceeded { IsErrOf result AccountFault.CapsExceeded
-            ↔ (((session_at self.old.trades.trading session).donation.ram ≤ bytes_then self.old.trades.trading session)
-            × (caps_then self.old.trades.trading session < (session_at self.old.trades.trading session).donation.caps)) }
-        ensures only { OnErr result ((session_at self.old.trades.trading session).donation.ram ≤ bytes_then self.old.trades.trading session
-            → caps_then self.old.trades.trading session < (session_at self.old.trades.trading session).donation.caps) }
-    {
-        let _own = &self.own;
-        self.trades.laws();
-        self.trades.memory().accounts().laws();
-        let closed = self.trades.closed(session);
-        self.trades.memory().accounts().laws();
-        closed
-    }
-
-    /// Ends a leaf from which and to which there is no session: its slots are empty, its account is closed with all that it has in memory, and its quota of
-    /// both kinds goes to its init. A node that starts after it has its quantum from now on. The root's account pays.
-    pub fn end(&mut self, leaf: usize)
-        requires leaf { IsLive self.old.trades leaf }
-        requires alone { HasNoSessions self.old.trades.trading leaf }
-        ensures { EndsLeaf self.old self.new leaf }
-    {
-        self.trades.laws();
-        self.trades.memory().accounts().laws();
-        self.trades.end(leaf);
-        self.trades.memory().accounts().laws();
-        clear_all(&mut self.own, leaf);
-        self.heaps[leaf] = Heap::new();
     }
 
     /// The sessions with the accounts.

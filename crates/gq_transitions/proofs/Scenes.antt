@@ -9,7 +9,8 @@ use Rattle.gq_sessions.specs.Trading.{Trading, node_of, with_requests}
 use Rattle.gq_trade.specs.declared.node.Node.{Node}
 use Rattle.gq_trade.specs.Balances.{node_at}
 use Rattle.gq_slots.specs.Slots.{Frame, Slots}
-use Rattle.gq_slots.specs.Calls.{EndsSession, SameBeside, TakesOldest}
+use Rattle.gq_slots.specs.Calls.{SameBeside}
+use Rattle.gq_slot_sessions.specs.Calls.{EndsSession, TakesOldest}
 use Rattle.gq_paid.specs.Systems.{AreLawful, IsOf, counted_at, stage_in}
 use Rattle.gq_asking.specs.Requests.{Stays}
 use Rattle.gq_plans.specs.Nodes.{AreNodesOf}

@@ -30,7 +30,8 @@ use Rattle.gq_sessions.specs.Trading.{Trading, AreOf, IsTrading, found, raised, 
 use Rattle.gq_sessions.specs.Trading.{object_size, opened, server_of, with_requests, with_session}
 use Rattle.gq_trade.specs.Waiting.{AreApart, AreOther, clients_in}
 use Rattle.gq_slots.specs.Slots.{Slots, Frame, IsSpot, holder, memory_of, world_seen}
-use Rattle.gq_slots.specs.Calls.{Puts, TakesOldest, accepting, begun, begun_at, with_trades}
+use Rattle.gq_slots.specs.Calls.{Puts}
+use Rattle.gq_slot_sessions.specs.Calls.{TakesOldest, accepting, begun, begun_at, with_trades}
 use Rattle.gq_slots.specs.internal.Holds.{AreUnmade, IsObject, IsSlots, IsUnmade}
 use Rattle.gq_slots.specs.internal.Put.{put, with_object, with_store}
 use Rattle.gq_slots.proofs.Spots.{server_set, session_same, slots_long, taken_set}
@@ -40,7 +41,7 @@ use Rattle.gq_slots.proofs.Again.{session_put, set_again}
 use Rattle.gq_sessions.proofs.Kept.{between_at}
 use Rattle.gq_slots.proofs.Worlds.{session_there, set_there, some_same}
 use Rattle.gq_slots.proofs.Answering.{objects_set, of_parts, same_heap, sound_set}
-use Rattle.gq_slots.proofs.Asking.{map_set}
+use Rattle.gq_slot_sessions.proofs.Asking.{map_set}
 
 -- ONE REQUEST FEWER
 

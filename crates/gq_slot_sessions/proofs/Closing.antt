@@ -33,16 +33,17 @@ use Rattle.gq_sessions.proofs.Definition.{given_is}
 use Rattle.gq_sessions.proofs.Kept.{between_at}
 use Rattle.gq_trade.specs.Trades.{IsTrades, Trades}
 use Rattle.gq_slots.specs.Slots.{Frame, IsSpot, Slots, holder, memory_of, thing_at, world_seen}
-use Rattle.gq_slots.specs.Calls.{EndsSession, IsBeside, Puts, ending, with_trades}
+use Rattle.gq_slots.specs.Calls.{Puts}
+use Rattle.gq_slot_sessions.specs.Calls.{EndsSession, IsBeside, ending, with_trades}
 use Rattle.gq_slots.specs.internal.Holds.{AreObjects, AreUnmade, IsObject, IsSlots, IsUnmade, session_things, things, things_of}
 use Rattle.gq_slots.specs.internal.Put.{put, with_object, with_store}
 use Rattle.gq_slots.proofs.Spots.{back, front, session_split, split_now, taken_below}
 use Rattle.gq_slots.proofs.Worlds.{session_there}
 use Rattle.gq_slots.proofs.Changing.{IsCall, kept_then, others_stay, puts_then, same_quotas, stays_raised}
 use Rattle.gq_slots.proofs.Again.{set_again}
-use Rattle.gq_slots.proofs.Alike.{Alike, IsWithin, alike, alike_behind, alike_fewer, alike_is, alike_then, holder_alike, within}
+use Rattle.gq_slot_sessions.proofs.Alike.{Alike, IsWithin, alike, alike_behind, alike_fewer, alike_is, alike_then, holder_alike, within}
 use Rattle.gq_slots.proofs.Answering.{objects_set, object_at, of_parts, same_heap}
-use Rattle.gq_slots.proofs.Asking.{leaves_donated, live_open}
+use Rattle.gq_slot_sessions.proofs.Asking.{leaves_donated, live_open}
 use Rattle.gq_slots.proofs.Paid.{HasHeap, heap_in}
 
 -- A SESSION FEWER

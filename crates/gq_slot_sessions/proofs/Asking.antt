@@ -30,12 +30,12 @@ use Rattle.gq_sessions.proofs.Definition.{asked_is, given_is, number_is}
 use Rattle.gq_trade.specs.declared.node.Stage.TheVariants.{Live, Ended}
 use Rattle.gq_trade.specs.Trades.{Trades, IsLive, IsTrades, with_trading}
 use Rattle.gq_slots.specs.Slots.{Slots, Frame, leaves_seen, memory_of, world_seen}
-use Rattle.gq_slots.specs.Calls.{asking, more_for, opening, upgrading, with_trades}
+use Rattle.gq_slot_sessions.specs.Calls.{asking, more_for, opening, upgrading, with_trades}
 use Rattle.gq_slots.specs.internal.Holds.{AreObjects, AreUnmade, IsSlots, IsUnmade, session_things, things_of}
 use Rattle.gq_slots.proofs.Spots.{session_same, slots_long}
 use Rattle.gq_slots.proofs.Worlds.{session_there}
 use Rattle.gq_slots.proofs.Answering.{of_parts, sound_set}
-use Rattle.gq_slots.proofs.Alike.{Alike, alike, alike_behind, alike_is, alike_more, holder_alike, within}
+use Rattle.gq_slot_sessions.proofs.Alike.{Alike, alike, alike_behind, alike_is, alike_more, holder_alike, within}
 
 -- THE WORLD
 

@@ -31,11 +31,11 @@ use Rattle.gq_trade.specs.Trades.{IsLive, IsTrades, Trades}
 use Rattle.gq_trade.proofs.Kept.{live_open}
 use Rattle.gq_trade.proofs.Leaving.{can_start, i_open, if_follower, left_kept, p_open}
 use Rattle.gq_slots.specs.Slots.{Frame, IsNew, IsSpot, Slots, holder, leaf_seen, leaves_seen, memory_of, world_seen}
-use Rattle.gq_slots.specs.Calls.{EndsLeaf, bare_in, emptied}
+use Rattle.gq_slot_sessions.specs.Calls.{EndsLeaf, bare_in, emptied}
 use Rattle.gq_slots.specs.internal.Holds.{IsHolder, IsSlots, session_things, things}
 use Rattle.gq_slots.proofs.Spots.{things_none}
 use Rattle.gq_slots.proofs.Worlds.{leaf_at}
-use Rattle.gq_slots.proofs.Alike.{alike_is, holder_alike, within}
+use Rattle.gq_slot_sessions.proofs.Alike.{alike_is, holder_alike, within}
 use Rattle.gq_slots.proofs.Answering.{of_parts}
 use Rattle.gq_slots.proofs.First.{holder_first}
 

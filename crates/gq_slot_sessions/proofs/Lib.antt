@@ -1,0 +1,5 @@
+pub mod Alike
+pub mod Asking
+pub mod Accepting
+pub mod Closing
+pub mod Ending
