@@ -5,6 +5,6 @@ use Rattle.benchmark.proofs.sessions.open.Goals as goal
 
 pub returns-in-Ok-Some : goal.returns-in-Ok-Some
 returns-in-Ok-Some c =
-    opens c.args.slots.now c.ask.new.self c.accept.new.self c.in-Ok.number c.in-Ok-Some.field-0-0 (record { ram = 4096; caps = 0 }) c.requires.calm
+    opens c.args.slots.now c.ask.new.slots c.accept.new.slots c.in-Ok.number c.in-Ok-Some.field-0-0 (record { ram = 4096; caps = 0 }) c.requires.calm
     c.in-Ok.ensures.number c.in-Ok.ensures.asked
-    (subst (λ o. IfSome o (λ r. TakesOldest c.ask.new.self c.accept.new.self 0 r)) c.in-Ok-Some.field-0-is c.in-Ok-Some.ensures.some)
+    (subst (λ o. IfSome o (λ r. TakesOldest c.ask.new.slots c.accept.new.slots 0 r)) c.in-Ok-Some.field-0-is c.in-Ok-Some.ensures.some)

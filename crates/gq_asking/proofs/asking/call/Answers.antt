@@ -11,7 +11,7 @@ returns-in_default-clause-step c before after d rest h o b e =
 pub returns-clause-step : goal.returns-clause-step
 returns-clause-step c before after d rest h o b e =
     let s : Slots = c.args.slots.now in
-    let u : Slots = c.ask_call.new.self in
+    let u : Slots = c.ask_call.new.slots in
     let t : Slots = c.mark.new.self in
     let p = c.in-Some.spot in
     let k = c.in-Some.session in

@@ -10,7 +10,7 @@ returns-in_default-clause-step c before after d h o b = close_none d c.args.plac
 pub returns-clause-step : goal.returns-clause-step
 returns-clause-step c before after d h o b =
     let s : Slots = c.args.slots.now in
-    let u : Slots = c.ask_close.new.self in
+    let u : Slots = c.ask_close.new.slots in
     let t : Slots = c.mark.new.self in
     let p = c.in-Some.spot in
     let k = c.in-Some.session in

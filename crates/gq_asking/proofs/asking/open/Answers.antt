@@ -15,13 +15,13 @@ pub mark-requires-clause-there : goal.mark-requires-clause-there
 mark-requires-clause-there c =
     let s : Slots = c.args.slots.now in
     let q = fresh c.args.actor.leaf c.in-Some.spot c.in-Some-server.server c.args.service c.args.donation in
-    same_spot s _ (carries_asked s.trades.trading q) c.ask.new.self c.in-Some.spot c.in-Ok.ensures.asked c.in-Some.ensures.is.there
+    same_spot s _ (carries_asked s.trades.trading q) c.ask.new.slots c.in-Some.spot c.in-Ok.ensures.asked c.in-Some.ensures.is.there
 
 pub mark-requires-clause-free : goal.mark-requires-clause-free
 mark-requires-clause-free c =
     let s : Slots = c.args.slots.now in
     let q = fresh c.args.actor.leaf c.in-Some.spot c.in-Some-server.server c.args.service c.args.donation in
-    let same = same_thing s _ (carries_asked s.trades.trading q) c.ask.new.self c.in-Some.spot c.in-Ok.ensures.asked c.in-Some.ensures.is.there in
+    let same = same_thing s _ (carries_asked s.trades.trading q) c.ask.new.slots c.in-Some.spot c.in-Ok.ensures.asked c.in-Some.ensures.is.there in
     subst IsMark (sym (same ∙ c.in-Some.ensures.is.thing)) tt
 
 pub returns-in_default-clause-step : goal.returns-in_default-clause-step
@@ -45,7 +45,7 @@ returns-in-Err-clause-step c before after d name n h o b named server gift =
 pub returns-in-Ok-clause-step : goal.returns-in-Ok-clause-step
 returns-in-Ok-clause-step c before after d name n h o b named server gift =
     let s : Slots = c.args.slots.now in
-    let u : Slots = c.ask.new.self in
+    let u : Slots = c.ask.new.slots in
     let t : Slots = c.mark.new.self in
     let p = c.in-Some.spot in
     let x = c.args.actor.leaf in
@@ -61,6 +61,6 @@ returns-in-Ok-clause-step c before after d name n h o b named server gift =
 pub returns-in-Ok-clause-stays : goal.returns-in-Ok-clause-stays
 returns-in-Ok-clause-stays c =
     let s : Slots = c.args.slots.now in
-    let u : Slots = c.ask.new.self in
+    let u : Slots = c.ask.new.slots in
     let q = fresh c.args.actor.leaf c.in-Some.spot c.in-Some-server.server c.args.service c.args.donation in
     stays_then s u c.mark.new.self (stays_asked s u q c.in-Ok.ensures.asked) c.mark.ensures.rest

@@ -10,14 +10,14 @@ pub mark-requires-clause-there : goal.mark-requires-clause-there
 mark-requires-clause-there c =
     let s : Slots = c.args.slots.now in
     let k = c.in-Some.session in
-    same_spot s _ (carries_upgraded s.trades.trading k c.args.donation c.in-Some.ensures.is.taken) c.upgrade.new.self c.in-Some.spot
+    same_spot s _ (carries_upgraded s.trades.trading k c.args.donation c.in-Some.ensures.is.taken) c.upgrade.new.slots c.in-Some.spot
     c.in-Ok.ensures.upgraded c.in-Some.ensures.is.there
 
 pub mark-requires-clause-free : goal.mark-requires-clause-free
 mark-requires-clause-free c =
     let s : Slots = c.args.slots.now in
     let k = c.in-Some.session in
-    let same = same_thing s _ (carries_upgraded s.trades.trading k c.args.donation c.in-Some.ensures.is.taken) c.upgrade.new.self c.in-Some.spot
+    let same = same_thing s _ (carries_upgraded s.trades.trading k c.args.donation c.in-Some.ensures.is.taken) c.upgrade.new.slots c.in-Some.spot
     c.in-Ok.ensures.upgraded c.in-Some.ensures.is.there in
     subst IsMark (sym (same ∙ c.in-Some.ensures.is.thing)) tt
 
@@ -38,7 +38,7 @@ returns-in-Err-clause-step c before after d n h o b next =
 pub returns-in-Ok-clause-step : goal.returns-in-Ok-clause-step
 returns-in-Ok-clause-step c before after d n h o b next =
     let s : Slots = c.args.slots.now in
-    let u : Slots = c.upgrade.new.self in
+    let u : Slots = c.upgrade.new.slots in
     let t : Slots = c.mark.new.self in
     let p = c.in-Some.spot in
     let k = c.in-Some.session in
@@ -51,6 +51,6 @@ returns-in-Ok-clause-step c before after d n h o b next =
 pub returns-in-Ok-clause-stays : goal.returns-in-Ok-clause-stays
 returns-in-Ok-clause-stays c =
     let s : Slots = c.args.slots.now in
-    let u : Slots = c.upgrade.new.self in
+    let u : Slots = c.upgrade.new.slots in
     stays_then s u c.mark.new.self (stays_upgraded s u c.in-Some.session c.args.donation c.in-Some.ensures.is.taken c.in-Ok.ensures.upgraded)
     c.mark.ensures.rest

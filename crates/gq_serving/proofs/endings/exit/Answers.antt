@@ -13,5 +13,5 @@ end-requires-clause-alone c =
 
 pub returns-clause-ended : goal.returns-clause-ended
 returns-clause-ended c f d is h =
-    free_end f d c.args.slots.now c.args.leaf is h c.laws.ensures.reads (omega (arith, c.requires.live.there, c.laws.ensures.leaves)) c.end.new.self
+    free_end f d c.args.slots.now c.args.leaf is h c.laws.ensures.reads (omega (arith, c.requires.live.there, c.laws.ensures.leaves)) c.end.new.slots
     (sym c.has_no_link.ensures ∙ c.if-not-has_no_link.false) c.end.ensures

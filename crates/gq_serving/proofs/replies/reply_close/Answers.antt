@@ -56,7 +56,7 @@ mark-requires-clause-there c =
     c.laws.ensures.held c.laws.ensures.reads c.laws.ensures.rises c.laws.ensures.entries
     c.laws-2.ensures.trading c.trades.ensures c.laws-3.ensures c.accounts.ensures c.memory.ensures
     c.trades-2.ensures in
-    let m = c.closed.new.self in
+    let m = c.closed.new.slots in
     let lm = lawful m c.trades-in-Ok.result.now c.trades-in-Ok-2.result.now c.memory-in-Ok.result.now c.accounts-in-Ok.result.now
     c.laws-in-Ok.ensures.trades c.laws-in-Ok.ensures.leaves c.laws-in-Ok.ensures.held c.laws-in-Ok.ensures.reads
     c.laws-in-Ok.ensures.rises c.laws-in-Ok.ensures.entries
@@ -75,7 +75,7 @@ mark-requires-clause-free c =
     c.laws.ensures.held c.laws.ensures.reads c.laws.ensures.rises c.laws.ensures.entries
     c.laws-2.ensures.trading c.trades.ensures c.laws-3.ensures c.accounts.ensures c.memory.ensures
     c.trades-2.ensures in
-    let m = c.closed.new.self in
+    let m = c.closed.new.slots in
     let lm = lawful m c.trades-in-Ok.result.now c.trades-in-Ok-2.result.now c.memory-in-Ok.result.now c.accounts-in-Ok.result.now
     c.laws-in-Ok.ensures.trades c.laws-in-Ok.ensures.leaves c.laws-in-Ok.ensures.held c.laws-in-Ok.ensures.reads
     c.laws-in-Ok.ensures.rises c.laws-in-Ok.ensures.entries
@@ -95,7 +95,7 @@ returns-in-Ok-clause-closed c f d q level at o h =
     c.laws-2.ensures.trading c.trades.ensures c.laws-3.ensures c.accounts.ensures c.memory.ensures
     c.trades-2.ensures in
     let e = ap (λ y. are_empty y.slots) (sym is) ∙ (sym c.are_empty.ensures ∙ c.if-not-are_empty.false) in
-    let m = c.closed.new.self in
+    let m = c.closed.new.slots in
     let lm = lawful m c.trades-in-Ok.result.now c.trades-in-Ok-2.result.now c.memory-in-Ok.result.now c.accounts-in-Ok.result.now
     c.laws-in-Ok.ensures.trades c.laws-in-Ok.ensures.leaves c.laws-in-Ok.ensures.held c.laws-in-Ok.ensures.reads
     c.laws-in-Ok.ensures.rises c.laws-in-Ok.ensures.entries
@@ -111,7 +111,7 @@ returns-in-Ok-clause-ends c =
     let s = c.args.slots.now in
     let k = c.args.session in
     let is = c.session-spot.ensures ∙ ap (λ (w : Trades). session_at w.trading k) c.trades-3.ensures in
-    let m = c.closed.new.self in
+    let m = c.closed.new.slots in
     let lm = lawful m c.trades-in-Ok.result.now c.trades-in-Ok-2.result.now c.memory-in-Ok.result.now c.accounts-in-Ok.result.now
     c.laws-in-Ok.ensures.trades c.laws-in-Ok.ensures.leaves c.laws-in-Ok.ensures.held c.laws-in-Ok.ensures.reads
     c.laws-in-Ok.ensures.rises c.laws-in-Ok.ensures.entries

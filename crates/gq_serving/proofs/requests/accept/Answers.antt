@@ -39,7 +39,7 @@ returns-in-Err-clause-step c e f d is same sections begins =
 pub returns-in-Ok-clause-takes : goal.returns-in-Ok-clause-takes
 returns-in-Ok-clause-takes c =
     let s = c.args.slots.now in
-    let t = c.accept.new.self in
+    let t = c.accept.new.slots in
     let x = c.args.server in
     let none = if_ok (λ o. IfNone o ((oldest_to x s.trades.trading.requests ≡ None) × (t ≡ s))) c.accept.result c.in-Ok.field-0 c.in-Ok.is
     c.accept.ensures.none in
@@ -59,7 +59,7 @@ returns-in-Ok-clause-step c e f d is same sections begins =
     let level = c.level-level.ensures ∙ ap (λ (w : Trades). (session_at w.trading r.session).level) c.trades-3.ensures in
     let has = has_is d c.args.provider.now.sections.now s r c.section_of-section.result c.level-level.result c.has.result sections
     c.section_of-section.ensures.section c.section_of-section.ensures.is level c.has.ensures ∙ c.if-not-has.false in
-    let t = c.accept.new.self in
+    let t = c.accept.new.slots in
     let m = lawful t c.trades-in-Ok.result.now c.trades-in-Ok-2.result.now c.memory-in-Ok.result.now c.accounts-in-Ok.result.now c.laws-in-Ok.ensures.trades
     c.laws-in-Ok.ensures.leaves c.laws-in-Ok.ensures.held c.laws-in-Ok.ensures.reads c.laws-in-Ok.ensures.rises c.laws-in-Ok.ensures.entries
     c.laws-in-Ok-2.ensures.trading c.trades-in-Ok.ensures
