@@ -5,16 +5,33 @@ ghost use Rattle.gq_model.specs.rules.Budgets.{is_one};
 ghost use Rattle.gq_counts.specs.Counting.{saturated};
 ghost use Rattle.gq_counts.specs.Requested.{Requested, requests_for, is_for, is_asked};
 ghost use Rattle.gq_counts.specs.internal.Adding.{Adds, Raises, IsAt};
+ghost use Rattle.gq_counts.specs.internal.Keys.{key_of};
 
 use gq_program::Section;
 use gq_program::spelling::same_text;
+use smallvec::SmallVec;
 use std::alloc::{AllocError, Global};
 use std::marker::Model;
 
-/// So many requests for a section of a service.
+/// So many letters of a service's name stand in its entry. A longer one stands apart, and no name is longer.
+const LETTERS: usize = 16;
+
+/// A number that is made of a service's name.
+fn key_of(name: &[u8]) -> u64
+    ensures { result ≡ key_of name.now }
+{
+    let mut key = 0_u64;
+    for letter in name {
+        key = key.wrapping_mul(257).wrapping_add(u64::from(*letter));
+    }
+    key
+}
+
+/// So many requests for a section of a service, with the number that is made of the service's name: services with other numbers are other ones.
 #[derive(Drop)]
 struct Entry {
-    service: Vec<u8>,
+    key: u64,
+    service: SmallVec<u8, LETTERS>,
     section: Section,
     count: u64,
 }
@@ -24,22 +41,37 @@ impl Model for Entry {
 
     ghost Value = { Requested };
 
+    ghost use Rattle.std.specs.Prelude.{◌≡◌};
+    ghost use Rattle.gq_counts.specs.internal.Keys.{key_of};
+
     ghost view = { λ e. record { service = e.service.items; section = e.section; count = e.count } };
+
+    ghost invariant = { λ e. e.key ≡ key_of e.service.items };
 }
 
 impl Entry {
-    /// Whether they are for this section of this service.
-    fn is_for(&self, service: &[u8], section: Section) -> bool
-        ensures { result ≡ is_for service.now section self.now }
+    /// Whether they are for this service, whose number is this.
+    fn is_of(&self, service: &[u8], key: u64) -> bool
+        requires { key ≡ key_of service.now }
+        ensures { result ≡ text_eq service.now self.now.service }
     {
-        section == self.section && same_text(service, self.service.as_slice())
+        key == self.key && same_text(service, self.service.as_slice())
     }
 
-    /// How many there are for this section of this service.
-    fn count_for(&self, service: &[u8], section: Section) -> u64
+    /// Whether they are for this section of this service, whose number is this.
+    fn is_for(&self, service: &[u8], key: u64, section: Section) -> bool
+        requires { key ≡ key_of service.now }
+        ensures { result ≡ is_for service.now section self.now }
+    {
+        self.is_of(service, key) && section == self.section
+    }
+
+    /// How many there are for this section of this service, whose number is this.
+    fn count_for(&self, service: &[u8], key: u64, section: Section) -> u64
+        requires { key ≡ key_of service.now }
         ensures { result ≡ is_one service.now section self.now.service self.now.section * self.now.count }
     {
-        if self.is_for(service, section) {
+        if self.is_for(service, key, section) {
             self.count
         } else {
             0
@@ -83,9 +115,10 @@ impl Requests {
     pub fn count_for(&self, service: &[u8], section: Section) -> u64
         ensures { result ≡ saturated (requests_for self.now service.now section) }
     {
+        let key = key_of(service);
         let mut sum = 0_u64;
         for entry in &self.entries {
-            sum = sum.saturating_add(entry.count_for(service, section));
+            sum = sum.saturating_add(entry.count_for(service, key, section));
         }
         sum
     }
@@ -94,33 +127,42 @@ impl Requests {
     pub fn is_asked(&self, service: &[u8]) -> bool
         ensures { result ≡ is_asked service.now self.now }
     {
+        let key = key_of(service);
         for entry in &self.entries {
-            if same_text(service, entry.service.as_slice()) {
+            if entry.is_of(service, key) {
                 return true;
             }
         }
         false
     }
 
-    /// Where those for a section of a service stand.
-    fn place_of(&self, service: &[u8], section: Section) -> Option<usize>
+    /// Where those for a section of a service, whose number is this, stand.
+    fn place_of(&self, service: &[u8], key: u64, section: Section) -> Option<usize>
+        requires { key ≡ key_of service.now }
         ensures { IsAt result service.now section self.now }
     {
         for (place, entry) in self.entries.iter().enumerate() {
-            if entry.is_for(service, section) {
+            if entry.is_for(service, key, section) {
                 return Some(place);
             }
         }
         None
     }
 
-    /// So many more for a section of a service, of which there were none.
-    fn push(&mut self, service: &[u8], section: Section, count: u64) -> Result<(), AllocError>
+    /// So many more for a section of a service, whose number is this, of which there were none.
+    fn push(
+        &mut self,
+        service: &[u8],
+        key: u64,
+        section: Section,
+        count: u64,
+    ) -> Result<(), AllocError>
+        requires { key ≡ key_of service.now }
         ensures { OnOk result (Adds self.new self.old (λ v r. is_one v r service.now section * count)) }
     {
-        let mut name = Vec::new(*self.entries.allocator());
-        name.extend_from_slice(service)?;
+        let name = SmallVec::from_slice(*self.entries.allocator(), service)?;
         self.entries.push(Entry {
+            key,
             service: name,
             section,
             count,
@@ -137,12 +179,13 @@ impl Requests {
     ) -> Result<(), AllocError>
         ensures { OnOk result (Adds self.new self.old (λ v r. is_one v r service.now section * count)) }
     {
-        match self.place_of(service, section) {
+        let key = key_of(service);
+        match self.place_of(service, key, section) {
             Some(place) => {
                 self.entries[place].add(count);
                 Ok(())
             }
-            None => self.push(service, section, count),
+            None => self.push(service, key, section, count),
         }
     }
 
