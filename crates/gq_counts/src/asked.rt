@@ -1,5 +1,5 @@
 // How many requests there are, by the section of a service that they are for.
-ghost use Rattle.std.specs.Prelude.{◌≡◌, ◌<◌, ◌+◌, ◌*◌, ◌&&◌, [], IsTrue, IfOk, OnOk, MatchOption, length};
+ghost use Rattle.std.specs.Prelude.{◌≡◌, ◌<◌, ◌+◌, ◌*◌, ◌&&◌, [], IsTrue, IfOk, OnOk, MatchOption, length, get_or};
 ghost use Rattle.gq_model.specs.machine.Program.{text_eq, same_section};
 ghost use Rattle.gq_model.specs.rules.Budgets.{is_one};
 ghost use Rattle.gq_counts.specs.Counting.{saturated};
@@ -27,10 +27,9 @@ fn key_of(name: &[u8]) -> u64
     key
 }
 
-/// So many requests for a section of a service, with the number that is made of the service's name: services with other numbers are other ones.
+/// So many requests for a section of a service.
 #[derive(Drop)]
 struct Entry {
-    key: u64,
     service: SmallVec<u8, LETTERS>,
     section: Section,
     count: u64,
@@ -41,37 +40,29 @@ impl Model for Entry {
 
     ghost Value = { Requested };
 
-    ghost use Rattle.std.specs.Prelude.{◌≡◌};
-    ghost use Rattle.gq_counts.specs.internal.Keys.{key_of};
-
     ghost view = { λ e. record { service = e.service.items; section = e.section; count = e.count } };
-
-    ghost invariant = { λ e. e.key ≡ key_of e.service.items };
 }
 
 impl Entry {
-    /// Whether they are for this service, whose number is this.
-    fn is_of(&self, service: &[u8], key: u64) -> bool
-        requires { key ≡ key_of service.now }
+    /// Whether they are for this service.
+    fn is_of(&self, service: &[u8]) -> bool
         ensures { result ≡ text_eq service.now self.now.service }
     {
-        key == self.key && same_text(service, self.service.as_slice())
+        same_text(service, self.service.as_slice())
     }
 
-    /// Whether they are for this section of this service, whose number is this.
-    fn is_for(&self, service: &[u8], key: u64, section: Section) -> bool
-        requires { key ≡ key_of service.now }
+    /// Whether they are for this section of this service.
+    fn is_for(&self, service: &[u8], section: Section) -> bool
         ensures { result ≡ is_for service.now section self.now }
     {
-        self.is_of(service, key) && section == self.section
+        self.is_of(service) && section == self.section
     }
 
-    /// How many there are for this section of this service, whose number is this.
-    fn count_for(&self, service: &[u8], key: u64, section: Section) -> u64
-        requires { key ≡ key_of service.now }
+    /// How many there are for this section of this service.
+    fn count_for(&self, service: &[u8], section: Section) -> u64
         ensures { result ≡ is_one service.now section self.now.service self.now.section * self.now.count }
     {
-        if self.is_for(service, key, section) {
+        if self.is_for(service, section) {
             self.count
         } else {
             0
@@ -86,19 +77,25 @@ impl Entry {
     }
 }
 
-/// How many requests there are, by the section of a service that they are for.
+/// How many requests there are, by the section of a service that they are for. The numbers that are made of the entries' services stand apart, in the same
+/// order: services with other numbers are other ones, so that a search goes over numbers.
 #[derive(Drop)]
 pub struct Requests {
+    keys: Vec<u64>,
     entries: Vec<Entry>,
 }
 
 impl Model for Requests {
     ghost use Rattle.std.specs.Prelude.{List};
     ghost use Rattle.gq_counts.specs.Requested.{Requested};
+    ghost use Rattle.std.specs.Prelude.{◌≡◌};
+    ghost use Rattle.gq_counts.specs.internal.Keys.{keys_of};
 
     ghost Value = { List Requested };
 
     ghost view = { λ r. r.entries.items };
+
+    ghost invariant = { λ r. r.keys.items ≡ keys_of r.entries.items };
 }
 
 impl Requests {
@@ -107,7 +104,49 @@ impl Requests {
         ensures { result ≡ [] }
     {
         Requests {
+            keys: Vec::new(alloc),
             entries: Vec::new(alloc),
+        }
+    }
+
+    /// Whether those at a place are for a service, whose number is the second. The first is that of the service at that place.
+    fn is_of_at(&self, place: usize, other: u64, key: u64, service: &[u8]) -> bool
+        requires place { place < length self.now }
+        requires other { (e : Requested) → other ≡ key_of (get_or self.now place e).service }
+        requires key { key ≡ key_of service.now }
+        ensures { (e : Requested) → result ≡ text_eq service.now (get_or self.now place e).service }
+    {
+        other == key && self.entries[place].is_of(service)
+    }
+
+    /// The same for a section of a service.
+    fn is_for_at(
+        &self,
+        place: usize,
+        other: u64,
+        key: u64,
+        service: &[u8],
+        section: Section,
+    ) -> bool
+        requires place { place < length self.now }
+        requires other { (e : Requested) → other ≡ key_of (get_or self.now place e).service }
+        requires key { key ≡ key_of service.now }
+        ensures { (e : Requested) → result ≡ is_for service.now section (get_or self.now place e) }
+    {
+        other == key && self.entries[place].is_for(service, section)
+    }
+
+    /// How many of those at a place are for a section of a service, in the same way.
+    fn count_at(&self, place: usize, other: u64, key: u64, service: &[u8], section: Section) -> u64
+        requires place { place < length self.now }
+        requires other { (e : Requested) → other ≡ key_of (get_or self.now place e).service }
+        requires key { key ≡ key_of service.now }
+        ensures { (e : Requested) → let a = get_or self.now place e in result ≡ is_one service.now section a.service a.section * a.count }
+    {
+        if other == key {
+            self.entries[place].count_for(service, section)
+        } else {
+            0
         }
     }
 
@@ -117,8 +156,8 @@ impl Requests {
     {
         let key = key_of(service);
         let mut sum = 0_u64;
-        for entry in &self.entries {
-            sum = sum.saturating_add(entry.count_for(service, key, section));
+        for (place, other) in self.keys.iter().enumerate() {
+            sum = sum.saturating_add(self.count_at(place, *other, key, service, section));
         }
         sum
     }
@@ -128,8 +167,8 @@ impl Requests {
         ensures { result ≡ is_asked service.now self.now }
     {
         let key = key_of(service);
-        for entry in &self.entries {
-            if entry.is_of(service, key) {
+        for (place, other) in self.keys.iter().enumerate() {
+            if self.is_of_at(place, *other, key, service) {
                 return true;
             }
         }
@@ -141,8 +180,8 @@ impl Requests {
         requires { key ≡ key_of service.now }
         ensures { IsAt result service.now section self.now }
     {
-        for (place, entry) in self.entries.iter().enumerate() {
-            if entry.is_for(service, key, section) {
+        for (place, other) in self.keys.iter().enumerate() {
+            if self.is_for_at(place, *other, key, service, section) {
                 return Some(place);
             }
         }
@@ -161,12 +200,13 @@ impl Requests {
         ensures { OnOk result (Adds self.new self.old (λ v r. is_one v r service.now section * count)) }
     {
         let name = SmallVec::from_slice(*self.entries.allocator(), service)?;
-        self.entries.push(Entry {
-            key,
+        self.entries.reserve(1)?;
+        self.keys.push(key)?;
+        self.entries.push_reserved(Entry {
             service: name,
             section,
             count,
-        })?;
+        });
         Ok(())
     }
 
