@@ -69,7 +69,8 @@ abbrev most : ℕ
 most = 2 ^ 64 - 1
 
 requests_step : (items : List Requested) (i : ℕ) (e : Requested) (v : List ℕ) (r : Section) → i < length items →
-    requests_for (drop i items) v r ≡ is_one v r (get_or items i e).service (get_or items i e).section * (get_or items i e).count + requests_for (drop (suc i) items) v r
+    let a = get_or items i e in
+    requests_for (drop i items) v r ≡ is_one v r a.service a.section * a.count + requests_for (drop (suc i) items) v r
 requests_step [] i e v r less = absurd (omega (arith, less))
 requests_step (x ∷ xs) zero e v r less = refl
 requests_step (x ∷ xs) (suc i) e v r less = requests_step xs i e v r (omega (arith, less))
