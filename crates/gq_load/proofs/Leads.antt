@@ -1,18 +1,17 @@
 -- Whose routes lead to whom, as a system knows it.
-use Rattle.std.proofs.Common.{arith, ◌≡◌, ◌<◌, ◌+◌, ◌⊎◌, inl, inr, ℕ, zero, suc, Bool, true, false, List, [], ◌∷◌, length, Option, Some, None, refl, ap, sym}
-use Rattle.std.proofs.Common.{subst, ◌∙◌, drop, get_or}
+use Rattle.std.proofs.Common.{arith, ◌≡◌, ℕ, suc, Bool, true, false, List, [], ◌∷◌, length, Option, Some, None, refl, ap, sym}
+use Rattle.std.proofs.Common.{subst, ◌∙◌}
 use Rattle.std.proofs.lemmas.Bool.{true≢false}
-use Rattle.std.proofs.lemmas.List.{drop_more}
-use Rattle.std.specs.Prelude.{if◌then◌else◌, ◌&&◌, slice_get}
+use Rattle.std.specs.Prelude.{if◌then◌else◌, ◌&&◌}
 use Rattle.gq_model.specs.machine.Lists.{any_of}
 use Rattle.gq_model.specs.machine.Program.{text_eq}
 use Rattle.gq_model.specs.machine.Scenario.{Scenario, System, Component, components, system}
 use Rattle.gq_model.specs.machine.Routes.{server_of}
 use Rattle.gq_model.specs.rules.Use.{is_there, services}
 use Rattle.gq_resolve.specs.Served.{AreServers}
-use Rattle.gq_budget.specs.Leaves.{Leaf, leads_for, leads_from, leaf_of, leaves_from, leaves_of}
+use Rattle.gq_budget.specs.Leaves.{leads_for, leads_from, leaf_of, leaves_from}
 use Rattle.gq_budget.specs.Counts.{Counted, Agree, AgreeFor, AgreeWhereAsked, AreCountsOf, asks}
-use Rattle.gq_load.specs.internal.Leads.{AreTold, leads_to, leads_row, leads_rows, counted_leaves}
+use Rattle.gq_load.specs.internal.Leads.{AreTold, leads_row, leads_rows, counted_leaves}
 
 -- ROUTES
 
@@ -26,35 +25,6 @@ are_told s all routes e h =
     subst (λ (cs : List Component). AreTold cs routes) (sym e)
     (λ x c at service server is.
     told_when (any_of (text_eq service) (services c)) (server_of (system s) c service) server (sym (h.told x c at service) ∙ is))
-
--- ROWS
-
-some_same : (m n : Counted) → Some m ≡ Some n → m ≡ n
-some_same m n e = cc
-
--- what stands at a place
-found_there : (ns : List Counted) (i : ℕ) (n : Counted) → slice_get ns i ≡ Some n → (i < length ns) × (get_or ns i n ≡ n)
-found_there [] i n e = cc
-found_there (m ∷ ns) zero n e = (omega arith, some_same m n e)
-found_there (m ∷ ns) (suc i) n e = let h = found_there ns i n e in (omega (arith, h.0), h.1)
-
--- with the next of both lists
-pub row_next : (all : List Component) (x : ℕ) (provides : Option (List ℕ)) (cs : List Component) (ns : List Counted) (i : ℕ) (c : Component) (n : Counted) →
-    i < length cs → c ≡ get_or cs i c → slice_get ns i ≡ Some n →
-    leads_row all x provides (drop i cs) (drop i ns) ≡ leads_to all x provides c n ∷ leads_row all x provides (drop (i + 1) cs) (drop (i + 1) ns)
-row_next all x provides cs ns i c n less at there =
-    let found = found_there ns i n there in
-    let e : drop i cs ≡ c ∷ drop (i + 1) cs = drop_more cs i c less ∙ ap (λ (c : Component). c ∷ drop (i + 1) cs) (sym at) in
-    let f : drop i ns ≡ n ∷ drop (i + 1) ns = drop_more ns i n found.0 ∙ ap (λ (n : Counted). n ∷ drop (i + 1) ns) found.1 in
-    ap (λ l. leads_row all x provides l (drop i ns)) e ∙ ap (λ l. leads_row all x provides (c ∷ drop (i + 1) cs) l) f
-
--- with none of one list
-pub row_gone : (all : List Component) (x : ℕ) (provides : Option (List ℕ)) (cs : List Component) (ns : List Counted) → (cs ≡ []) ⊎ (ns ≡ [])
-    → leads_row all x provides cs ns ≡ []
-row_gone all x provides [] ns h = refl
-row_gone all x provides (c ∷ cs) [] h = refl
-row_gone all x provides (c ∷ cs) (n ∷ ns) (inl e) = cc
-row_gone all x provides (c ∷ cs) (n ∷ ns) (inr e) = cc
 
 -- AGREEING
 
