@@ -1,5 +1,4 @@
-pub mod Fronts
-pub mod Usual_lines
+pub mod Lines
 pub mod Statement_reads
 pub mod Blocks
 pub mod Orders

@@ -1,5 +1,4 @@
-pub mod Pieces
 pub mod Operands
 pub mod State
 pub mod Order
-pub mod Usual
+pub mod Lines

@@ -11,14 +11,10 @@
 mod faults;
 mod headings;
 mod instructions;
-mod lines;
 mod operands;
 mod reading;
-mod says;
 mod statements;
 mod text;
-mod usual;
-mod words;
 
 pub use faults::AssembleError;
 pub use text::{assemble, assemble_with};

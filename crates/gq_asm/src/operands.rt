@@ -3,10 +3,9 @@ ghost use Rattle.std.specs.Prelude.{◌≤◌, IfOk, true, false};
 ghost use Rattle.gq_model.specs.texts.Letters.{words};
 ghost use Rattle.gq_asm.specs.internal.Operands.{Answers, nothing_at, number_at, slot_at, name_at};
 
-use crate::words::next_word;
 use gq_model::fault::TextFault;
 use gq_model::program::{Name, Place};
-use gq_words::{number_in, numbered_slot, slot_or_object};
+use gq_words::{next_word, number_in, numbered_slot, slot_or_object};
 
 /// Nothing but blanks.
 pub fn at_end(text: &[u8]) -> Result<(), TextFault>

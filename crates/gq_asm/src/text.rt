@@ -8,20 +8,18 @@ ghost use Rattle.gq_model.specs.texts.Text.{limit_of, limit_or_greatest, limits_
 ghost use Rattle.gq_asm.specs.internal.State.{Gives, reading_of};
 ghost use Rattle.gq_asm.specs.Faults.{Assembles};
 ghost use Rattle.gq_asm.specs.declared.faults.LineError.TheVariants.{Memory};
-ghost use Rattle.gq_asm.specs.internal.Pieces.{line_at, past_feed};
-ghost use Rattle.gq_asm.specs.internal.Usual.{IsTaking, ReadsUsual};
+ghost use Rattle.gq_asm.specs.internal.Lines.{IsTaking, ReadsUsual};
+ghost use Rattle.gq_words.specs.Pieces.{line_at, past_feed};
 ghost use Rattle.gq_asm.specs.internal.Order.{without, IsFirstAt, IsAbsent, is_distinct};
 
 use crate::faults::{AssembleError, LineError};
 use crate::headings::{limit_of, same_section};
-use crate::lines::first_line;
 use crate::reading::Reading;
-use crate::usual::usual;
-use crate::words::next_word;
 use gq_model::fault::TextFault;
 use gq_model::limits::{GREATEST_STATEMENTS, LOCALS};
 use gq_model::program::Section;
 use gq_program::{Body, Program, Spare, Statement};
+use gq_words::{first_line, next_word, usual_line};
 use std::alloc::{AllocError, Global};
 use std::mem;
 
@@ -137,7 +135,7 @@ impl Reading {
         if !self.takes_statements() {
             return Ok(None);
         }
-        let Some((instruction, rest)) = usual(text) else {
+        let Some((instruction, rest)) = usual_line(text) else {
             return Ok(None);
         };
         self.count += 1;
@@ -198,7 +196,8 @@ pub fn assemble(alloc: Global, text: &[u8]) -> Result<Program, AssembleError>
     assemble_with(alloc, &mut Spare::new(alloc), text)
 }
 
-/// The same, in lists of statements that are spare as far as there are some.
+/// The same, in lists of statements that are spare as far as there are some. Those that are left are spare after it; after a refusal
+/// before the end of the text the `Spare` is empty and without room.
 pub fn assemble_with(
     alloc: Global,
     spare: &mut Spare,

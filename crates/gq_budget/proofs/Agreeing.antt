@@ -1,19 +1,18 @@
 -- Of a leaf that asks for no section of a service it does not matter whether its routes for the service lead to a leaf.
-use Rattle.std.proofs.Common.{◌≡◌, ℕ, zero, suc, arith, ◌+◌, ◌*◌, min, Bool, true, false, List, [], ◌∷◌, Option, Some, None, get_or, refl, ap, sym, ◌∙◌}
+use Rattle.std.proofs.Common.{◌≡◌, ℕ, zero, suc, arith, ◌+◌, ◌*◌, Bool, true, false, List, [], ◌∷◌, Option, Some, None, refl, ap, sym, ◌∙◌}
 use Rattle.std.specs.Prelude.{if◌then◌else◌, ◌&&◌, ◌||◌}
 use Rattle.std.proofs.lemmas.Bool.{true≢false}
 use Rattle.gq_model.specs.declared.program.Section.{Section}
 use Rattle.gq_model.specs.declared.program.Section.TheVariants.{Main, Opening, Upgrading, Calling, Closing}
 use Rattle.gq_model.specs.machine.Lists.{any_of}
 use Rattle.gq_model.specs.machine.Program.{text_eq, same_section}
-use Rattle.gq_model.specs.rules.Budgets.{is_one}
 use Rattle.gq_verify.specs.Counting.{saturated}
 use Rattle.gq_verify.specs.Requested.{Requested, is_asked, requests_for}
 use Rattle.gq_budget.specs.Counts.{Counted, Agree, AgreeFor, AgreeWhereAsked, asks}
 use Rattle.gq_budget.specs.internal.Counted.{counts_for}
 use Rattle.gq_budget.specs.internal.Order.{AreZero}
 use Rattle.gq_budget.specs.internal.Sums.{products, table_products}
-use Rattle.gq_budget.specs.internal.Rounds.{Asks, all_asks, asked_by, asked_of, asks_for, asks_of, leaf_round, often, round, rounds}
+use Rattle.gq_budget.specs.internal.Rounds.{all_asks, asked_by, asked_of, asks_for, asks_of, leaf_round, often, round, rounds}
 use Rattle.gq_budget.proofs.Orders.{zero_products}
 
 -- NO REQUESTS

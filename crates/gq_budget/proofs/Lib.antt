@@ -7,3 +7,4 @@ pub mod Kept
 pub mod Counted_asks
 pub mod Ends
 pub mod Orders
+pub mod Last

@@ -2,7 +2,7 @@
 use Rattle.std.proofs.Common.{◌≡◌, ℕ, Bool, List, [], ◌∷◌, ◌++◌, map, Vec, Global, refl, ap, sym, ◌∙◌, ◌⊎◌, inl, inr, append_assoc, append-nil}
 use Rattle.gq_model.specs.declared.program.Section.{Section}
 use Rattle.gq_budget.specs.Counts.{Counted}
-use Rattle.gq_budget.specs.internal.Rounds.{asked_of, asked_by, asks_of, all_asks, budgets_by}
+use Rattle.gq_budget.specs.internal.Rounds.{asked_of, asked_by, asks_of, all_asks, budgets_by, up_to_last}
 use Rattle.gq_budget.specs.internal.Sums.{products}
 use Rattle.gq_verify.specs.Counting.{saturated}
 
@@ -26,15 +26,19 @@ pub asked_first : (xs xs' : List Counted) (ys ys' : List Bool) (x : Counted) (y 
     asked_by xs ys service section ≡ asked_of x y service section ∷ asked_by xs' ys' service section
 asked_first xs xs' ys ys' x y service section e f = ap (λ l. asked_by l ys service section) e ∙ ap (λ l. asked_by (x ∷ xs') l service section) f
 
-pub asks_none : (leaves xs : List Counted) (ys : List (Vec Bool Global)) → (xs ≡ []) ⊎ (ys ≡ []) → all_asks leaves xs (map (λ v. v.items) ys) ≡ []
+pub asks_none : (leaves xs : List Counted) (ys : List (Vec Bool Global)) → (xs ≡ []) ⊎ (ys ≡ []) →
+    all_asks leaves xs (map up_to_last (map (λ v. v.items) ys)) ≡ []
 asks_none leaves [] ys h = refl
 asks_none leaves (x ∷ xs) [] h = refl
 asks_none leaves (x ∷ xs) (y ∷ ys) (inl e) = cc
 asks_none leaves (x ∷ xs) (y ∷ ys) (inr e) = cc
 
 pub asks_first : (leaves xs xs' : List Counted) (ys ys' : List (Vec Bool Global)) (x : Counted) (y : Vec Bool Global) → xs ≡ x ∷ xs' → ys ≡ y ∷ ys' →
-    all_asks leaves xs (map (λ v. v.items) ys) ≡ asks_of leaves y.items x.provides x.sections ∷ all_asks leaves xs' (map (λ v. v.items) ys')
-asks_first leaves xs xs' ys ys' x y e f = ap (λ l. all_asks leaves l (map (λ v. v.items) ys)) e ∙ ap (λ l. all_asks leaves (x ∷ xs') (map (λ v. v.items) l)) f
+    all_asks leaves xs (map up_to_last (map (λ v. v.items) ys)) ≡
+    asks_of leaves (up_to_last y.items) x.provides x.sections ∷ all_asks leaves xs' (map up_to_last (map (λ v. v.items) ys'))
+asks_first leaves xs xs' ys ys' x y e f =
+    ap (λ l. all_asks leaves l (map up_to_last (map (λ v. v.items) ys))) e
+    ∙ ap (λ l. all_asks leaves (x ∷ xs') (map up_to_last (map (λ v. v.items) l))) f
 
 pub budgets_none : (xs : List Counted) (ys : List (List ℕ)) → (xs ≡ []) ⊎ (ys ≡ []) → budgets_by xs ys ≡ []
 budgets_none [] ys h = refl

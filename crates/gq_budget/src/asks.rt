@@ -1,7 +1,7 @@
 // How often sections ask for sections.
 ghost use Rattle.std.specs.Prelude.{◌≡◌, false, [], IfOk, get_or, map, option_copied};
 ghost use Rattle.gq_budget.specs.internal.Order.{AreZero, AsksNot};
-ghost use Rattle.gq_budget.specs.internal.Rounds.{asked_of, asked_by, asks_for, asks_of, all_asks, often, leaf_round};
+ghost use Rattle.gq_budget.specs.internal.Rounds.{asked_of, asked_by, asks_for, asks_of, all_asks, often, leaf_round, up_to_last};
 
 use crate::counted::CountedLeaf;
 use crate::numbers::{Numbers, table_products};
@@ -98,7 +98,7 @@ fn asked_by(
 ) -> Result<Vec<Numbers>, AllocError>
     ensures { IfOk result (λ a. a.items ≡ asked_by leaves.now leads.now service.now section) }
 {
-    let mut asked = Vec::with_capacity(alloc, leaves.len())?;
+    let mut asked = Vec::with_capacity(alloc, leads.len())?;
     for (leaf, leads) in leaves.iter().zip(leads) {
         asked.push(asked_of(alloc, leaf, *leads, service, section)?)?;
     }
@@ -161,17 +161,30 @@ impl LeafAsks {
     }
 }
 
-/// Of each leaf: how often its sections run by themselves and are asked for.
+// These flags up to the last that is set.
+fn up_to_last(flags: &[bool]) -> &[bool]
+    ensures { result.now ≡ up_to_last flags.now }
+{
+    let mut end = 0;
+    for (place, flag) in flags.iter().enumerate() {
+        if *flag {
+            end = place + 1;
+        }
+    }
+    &flags[..end]
+}
+
+/// Of each leaf: how often its sections run by themselves and are asked for. Nothing is kept of the leaves after the last one whose routes lead to it.
 pub(crate) fn all_asks(
     alloc: Global,
     leaves: &[CountedLeaf],
     leads: &[Vec<bool>],
 ) -> Result<Vec<LeafAsks>, AllocError>
-    ensures { IfOk result (λ a. a.items ≡ all_asks leaves.now leaves.now (map (λ v. v.items) leads.now)) }
+    ensures { IfOk result (λ a. a.items ≡ all_asks leaves.now leaves.now (map up_to_last (map (λ v. v.items) leads.now))) }
 {
     let mut asks = Vec::new(alloc);
     for (leaf, leads) in leaves.iter().zip(leads) {
-        asks.push(LeafAsks::new(alloc, leaves, leads, leaf)?)?;
+        asks.push(LeafAsks::new(alloc, leaves, up_to_last(leads), leaf)?)?;
     }
     Ok(asks)
 }

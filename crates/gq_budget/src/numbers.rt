@@ -8,9 +8,10 @@ use smallvec::SmallVec;
 use std::marker::Model;
 
 /// How many numbers take no host memory.
-pub(crate) const FEW: usize = 2;
+pub(crate) const FEW: usize = 4;
 
-/// A list of numbers, by the sections of a leaf. Who provides nothing has one section, so that most lists take no host memory.
+/// A list of numbers, by the sections of a leaf. Who provides nothing has one section, and a service with one kind of call takes four, so that most lists take
+/// no host memory.
 #[derive(Drop)]
 pub(crate) struct Numbers {
     numbers: SmallVec<u64, FEW>,

@@ -3,3 +3,4 @@ pub mod Counts
 pub mod Quiets
 pub mod Rights
 pub mod Slots
+pub mod Keys

@@ -1,3 +1,4 @@
 pub mod Requesting
 pub mod Adding
 pub mod Alike
+pub mod Keys

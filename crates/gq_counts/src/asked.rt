@@ -1,20 +1,36 @@
 // How many requests there are, by the section of a service that they are for.
-ghost use Rattle.std.specs.Prelude.{◌≡◌, ◌<◌, ◌+◌, ◌*◌, ◌&&◌, [], IsTrue, IfOk, OnOk, MatchOption, length};
+ghost use Rattle.std.specs.Prelude.{◌≡◌, ◌<◌, ◌+◌, ◌*◌, ◌&&◌, [], IsTrue, IfOk, OnOk, MatchOption, length, get_or};
 ghost use Rattle.gq_model.specs.machine.Program.{text_eq, same_section};
 ghost use Rattle.gq_model.specs.rules.Budgets.{is_one};
 ghost use Rattle.gq_counts.specs.Counting.{saturated};
 ghost use Rattle.gq_counts.specs.Requested.{Requested, requests_for, is_for, is_asked};
 ghost use Rattle.gq_counts.specs.internal.Adding.{Adds, Raises, IsAt};
+ghost use Rattle.gq_counts.specs.internal.Keys.{key_of};
 
 use gq_program::Section;
 use gq_program::spelling::same_text;
+use smallvec::SmallVec;
 use std::alloc::{AllocError, Global};
 use std::marker::Model;
+
+/// So many letters of a service's name stand in its entry. A longer one stands apart, and no name is longer.
+const LETTERS: usize = 16;
+
+/// A number that is made of a service's name.
+fn key_of(name: &[u8]) -> u64
+    ensures { result ≡ key_of name.now }
+{
+    let mut key = 0_u64;
+    for letter in name {
+        key = key.wrapping_mul(257).wrapping_add(u64::from(*letter));
+    }
+    key
+}
 
 /// So many requests for a section of a service.
 #[derive(Drop)]
 struct Entry {
-    service: Vec<u8>,
+    service: SmallVec<u8, LETTERS>,
     section: Section,
     count: u64,
 }
@@ -28,11 +44,18 @@ impl Model for Entry {
 }
 
 impl Entry {
+    /// Whether they are for this service.
+    fn is_of(&self, service: &[u8]) -> bool
+        ensures { result ≡ text_eq service.now self.now.service }
+    {
+        same_text(service, self.service.as_slice())
+    }
+
     /// Whether they are for this section of this service.
     fn is_for(&self, service: &[u8], section: Section) -> bool
         ensures { result ≡ is_for service.now section self.now }
     {
-        section == self.section && same_text(service, self.service.as_slice())
+        self.is_of(service) && section == self.section
     }
 
     /// How many there are for this section of this service.
@@ -54,19 +77,25 @@ impl Entry {
     }
 }
 
-/// How many requests there are, by the section of a service that they are for.
+/// How many requests there are, by the section of a service that they are for. The numbers that are made of the entries' services stand apart, in the same
+/// order: services with other numbers are other ones, so that a search goes over numbers.
 #[derive(Drop)]
 pub struct Requests {
+    keys: Vec<u64>,
     entries: Vec<Entry>,
 }
 
 impl Model for Requests {
     ghost use Rattle.std.specs.Prelude.{List};
     ghost use Rattle.gq_counts.specs.Requested.{Requested};
+    ghost use Rattle.std.specs.Prelude.{◌≡◌};
+    ghost use Rattle.gq_counts.specs.internal.Keys.{keys_of};
 
     ghost Value = { List Requested };
 
     ghost view = { λ r. r.entries.items };
+
+    ghost invariant = { λ r. r.keys.items ≡ keys_of r.entries.items };
 }
 
 impl Requests {
@@ -75,7 +104,49 @@ impl Requests {
         ensures { result ≡ [] }
     {
         Requests {
+            keys: Vec::new(alloc),
             entries: Vec::new(alloc),
+        }
+    }
+
+    /// Whether those at a place are for a service, whose number is the second. The first is that of the service at that place.
+    fn is_of_at(&self, place: usize, other: u64, key: u64, service: &[u8]) -> bool
+        requires place { place < length self.now }
+        requires other { (e : Requested) → other ≡ key_of (get_or self.now place e).service }
+        requires key { key ≡ key_of service.now }
+        ensures { (e : Requested) → result ≡ text_eq service.now (get_or self.now place e).service }
+    {
+        other == key && self.entries[place].is_of(service)
+    }
+
+    /// The same for a section of a service.
+    fn is_for_at(
+        &self,
+        place: usize,
+        other: u64,
+        key: u64,
+        service: &[u8],
+        section: Section,
+    ) -> bool
+        requires place { place < length self.now }
+        requires other { (e : Requested) → other ≡ key_of (get_or self.now place e).service }
+        requires key { key ≡ key_of service.now }
+        ensures { (e : Requested) → result ≡ is_for service.now section (get_or self.now place e) }
+    {
+        other == key && self.entries[place].is_for(service, section)
+    }
+
+    /// How many of those at a place are for a section of a service, in the same way.
+    fn count_at(&self, place: usize, other: u64, key: u64, service: &[u8], section: Section) -> u64
+        requires place { place < length self.now }
+        requires other { (e : Requested) → other ≡ key_of (get_or self.now place e).service }
+        requires key { key ≡ key_of service.now }
+        ensures { (e : Requested) → let a = get_or self.now place e in result ≡ is_one service.now section a.service a.section * a.count }
+    {
+        if other == key {
+            self.entries[place].count_for(service, section)
+        } else {
+            0
         }
     }
 
@@ -83,9 +154,10 @@ impl Requests {
     pub fn count_for(&self, service: &[u8], section: Section) -> u64
         ensures { result ≡ saturated (requests_for self.now service.now section) }
     {
+        let key = key_of(service);
         let mut sum = 0_u64;
-        for entry in &self.entries {
-            sum = sum.saturating_add(entry.count_for(service, section));
+        for (place, other) in self.keys.iter().enumerate() {
+            sum = sum.saturating_add(self.count_at(place, *other, key, service, section));
         }
         sum
     }
@@ -94,37 +166,47 @@ impl Requests {
     pub fn is_asked(&self, service: &[u8]) -> bool
         ensures { result ≡ is_asked service.now self.now }
     {
-        for entry in &self.entries {
-            if same_text(service, entry.service.as_slice()) {
+        let key = key_of(service);
+        for (place, other) in self.keys.iter().enumerate() {
+            if self.is_of_at(place, *other, key, service) {
                 return true;
             }
         }
         false
     }
 
-    /// Where those for a section of a service stand.
-    fn place_of(&self, service: &[u8], section: Section) -> Option<usize>
+    /// Where those for a section of a service, whose number is this, stand.
+    fn place_of(&self, service: &[u8], key: u64, section: Section) -> Option<usize>
+        requires { key ≡ key_of service.now }
         ensures { IsAt result service.now section self.now }
     {
-        for (place, entry) in self.entries.iter().enumerate() {
-            if entry.is_for(service, section) {
+        for (place, other) in self.keys.iter().enumerate() {
+            if self.is_for_at(place, *other, key, service, section) {
                 return Some(place);
             }
         }
         None
     }
 
-    /// So many more for a section of a service, of which there were none.
-    fn push(&mut self, service: &[u8], section: Section, count: u64) -> Result<(), AllocError>
+    /// So many more for a section of a service, whose number is this, of which there were none.
+    fn push(
+        &mut self,
+        service: &[u8],
+        key: u64,
+        section: Section,
+        count: u64,
+    ) -> Result<(), AllocError>
+        requires { key ≡ key_of service.now }
         ensures { OnOk result (Adds self.new self.old (λ v r. is_one v r service.now section * count)) }
     {
-        let mut name = Vec::new(*self.entries.allocator());
-        name.extend_from_slice(service)?;
-        self.entries.push(Entry {
+        let name = SmallVec::from_slice(*self.entries.allocator(), service)?;
+        self.entries.reserve(1)?;
+        self.keys.push(key)?;
+        self.entries.push_reserved(Entry {
             service: name,
             section,
             count,
-        })?;
+        });
         Ok(())
     }
 
@@ -137,12 +219,13 @@ impl Requests {
     ) -> Result<(), AllocError>
         ensures { OnOk result (Adds self.new self.old (λ v r. is_one v r service.now section * count)) }
     {
-        match self.place_of(service, section) {
+        let key = key_of(service);
+        match self.place_of(service, key, section) {
             Some(place) => {
                 self.entries[place].add(count);
                 Ok(())
             }
-            None => self.push(service, section, count),
+            None => self.push(service, key, section, count),
         }
     }
 

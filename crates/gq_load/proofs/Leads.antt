@@ -1,26 +1,30 @@
 -- Whose routes lead to whom, as a system knows it.
-use Rattle.std.proofs.Common.{arith, ◌≡◌, ◌⊎◌, inl, inr, ℕ, suc, Bool, true, false, List, [], ◌∷◌, length, Option, Some, None, refl, ap, sym, subst, ◌∙◌}
+use Rattle.std.proofs.Common.{arith, ◌≡◌, ℕ, suc, Bool, true, false, List, [], ◌∷◌, length, Option, Some, None, refl, ap, sym}
+use Rattle.std.proofs.Common.{subst, ◌∙◌}
 use Rattle.std.proofs.lemmas.Bool.{true≢false}
-use Rattle.std.specs.Prelude.{◌&&◌}
-use Rattle.gq_model.specs.machine.Scenario.{System, Component}
+use Rattle.std.specs.Prelude.{if◌then◌else◌, ◌&&◌}
+use Rattle.gq_model.specs.machine.Lists.{any_of}
+use Rattle.gq_model.specs.machine.Program.{text_eq}
+use Rattle.gq_model.specs.machine.Scenario.{Scenario, System, Component, components, system}
 use Rattle.gq_model.specs.machine.Routes.{server_of}
-use Rattle.gq_model.specs.rules.Use.{is_there}
-use Rattle.gq_budget.specs.Leaves.{Leaf, leads_for, leads_from, leaf_of, leaves_from, leaves_of}
+use Rattle.gq_model.specs.rules.Use.{is_there, services}
+use Rattle.gq_resolve.specs.Served.{AreServers}
+use Rattle.gq_budget.specs.Leaves.{leads_for, leads_from, leaf_of, leaves_from}
 use Rattle.gq_budget.specs.Counts.{Counted, Agree, AgreeFor, AgreeWhereAsked, AreCountsOf, asks}
-use Rattle.gq_load.specs.internal.Leads.{leads_to, leads_row, leads_rows, counted_leaves}
+use Rattle.gq_load.specs.internal.Leads.{AreTold, leads_row, leads_rows, counted_leaves}
 
--- ROWS
+-- ROUTES
 
-pub row_none : (all : List Component) (x : ℕ) (provides : Option (List ℕ)) (cs : List Component) (ns : List Counted) → (cs ≡ []) ⊎ (ns ≡ [])
-    → leads_row all x provides cs ns ≡ []
-row_none all x provides [] ns h = refl
-row_none all x provides (c ∷ cs) [] h = refl
-row_none all x provides (c ∷ cs) (n ∷ ns) (inl e) = cc
-row_none all x provides (c ∷ cs) (n ∷ ns) (inr e) = cc
+told_when : (b : Bool) (found : Option ℕ) (server : ℕ) → (if b then found else None) ≡ Some server → found ≡ Some server
+told_when true found server e = e
+told_when false found server e = cc
 
-pub row_first : (all : List Component) (x : ℕ) (provides : Option (List ℕ)) (cs cs' : List Component) (ns ns' : List Counted) (c : Component) (n : Counted)
-    → cs ≡ c ∷ cs' → ns ≡ n ∷ ns' → leads_row all x provides cs ns ≡ leads_to all x provides c n ∷ leads_row all x provides cs' ns'
-row_first all x provides cs cs' ns ns' c n e f = ap (λ l. leads_row all x provides l ns) e ∙ ap (λ l. leads_row all x provides (c ∷ cs') l) f
+-- where routes tell a server, a route leads there
+pub are_told : (s : Scenario) (all : List Component) (routes : List (List (List ℕ × ℕ))) → all ≡ components s → AreServers s routes → AreTold all routes
+are_told s all routes e h =
+    subst (λ (cs : List Component). AreTold cs routes) (sym e)
+    (λ x c at service server is.
+    told_when (any_of (text_eq service) (services c)) (server_of (system s) c service) server (sym (h.told x c at service) ∙ is))
 
 -- AGREEING
 

@@ -54,19 +54,27 @@ impl Model for Accepted {
     ghost invariant = { λ a. AreOfAccepted a.table a.budgets.items };
 }
 
-// The budgets of a scenario's leaves, with steps of at most the greatest number of 64 bits.
+// The budgets of a scenario's leaves, which have these routes, with steps of at most the greatest number of 64 bits.
 fn kept_budgets(
     alloc: Global,
     scenario: &Scenario,
     components: &[Component<'_>],
+    routes: &Routes,
     surveys: &Surveys,
 ) -> Result<Vec<Budget>, AllocError>
     requires components { components.now ≡ model.components scenario.now }
+    requires routes { AreServers scenario.now routes.now }
     requires surveys { AreSurveys scenario.now.interfaces components.now surveys.now.owns.items surveys.now.counted.items
         (map (λ v. v.items) surveys.now.opened.items) }
     ensures { IfOk result (λ b. b.items ≡ kept_from scenario.now.version (system scenario.now) 0 components.now) }
 {
-    let steps = steps_of(alloc, scenario, components, surveys.counted.as_slice())?;
+    let steps = steps_of(
+        alloc,
+        scenario,
+        components,
+        routes,
+        surveys.counted.as_slice(),
+    )?;
     let budgets = budgets_of(
         alloc,
         scenario.version(),
@@ -105,7 +113,7 @@ pub(crate) fn judge(
     ensures refused { IfErr result (λ e. Gives e (refused (refusal scenario.now))) }
 {
     let routes = resolve_opened(alloc, scenario, components, surveys.opened.as_slice())?;
-    let budgets = kept_budgets(alloc, scenario, components, surveys)?;
+    let budgets = kept_budgets(alloc, scenario, components, &routes, surveys)?;
     check_budgets(components, budgets.as_slice())?;
     Ok((routes, budgets))
 }

@@ -1,1 +1,3 @@
 pub mod Spelled
+pub mod Pieces
+pub mod Usual_lines

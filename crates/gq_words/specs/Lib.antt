@@ -1,1 +1,4 @@
+pub mod Pieces
 pub mod Fronts
+pub mod Usual
+pub mod internal

@@ -1,5 +1,5 @@
 -- How often sections run, round by round.
-use Rattle.std.specs.Prelude.{ℕ, zero, suc, ◌+◌, if◌then◌else◌, Bool, List, [], ◌∷◌, Option, Some, None}
+use Rattle.std.specs.Prelude.{ℕ, zero, suc, ◌+◌, if◌then◌else◌, Bool, true, false, List, [], ◌∷◌, Option, Some, None}
 use Rattle.gq_model.specs.declared.program.Section.{Section}
 use Rattle.gq_model.specs.declared.program.Section.TheVariants.{Main}
 use Rattle.gq_verify.specs.Counting.{saturated}
@@ -60,3 +60,14 @@ abbrev pub budgets_by : List Counted → List (List ℕ) → List ℕ
 budgets_by (leaf ∷ leaves) (often ∷ more) = saturated (products leaf.costs often) ∷ budgets_by leaves more
 budgets_by [] often = []
 budgets_by (leaf ∷ leaves) [] = []
+
+-- a flag before others; one that is not set before none is left out
+abbrev pub before_set : Bool → List Bool → List Bool
+before_set true rest = true ∷ rest
+before_set false [] = []
+before_set false (c ∷ rest) = false ∷ c ∷ rest
+
+-- flags up to the last that is set
+abbrev pub up_to_last : List Bool → List Bool
+up_to_last [] = []
+up_to_last (b ∷ rest) = before_set b (up_to_last rest)

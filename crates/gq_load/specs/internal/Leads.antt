@@ -1,11 +1,16 @@
 -- Whose routes lead to whom, among leaves.
-use Rattle.std.specs.Prelude.{ℕ, suc, Bool, false, ◌&&◌, List, [], ◌∷◌, Option, Some, None}
+use Rattle.std.specs.Prelude.{◌≡◌, ℕ, suc, Bool, false, ◌&&◌, List, [], ◌∷◌, Option, Some, None, slice_get}
 use Rattle.gq_model.specs.machine.Scenario.{Interfaces, Component}
 use Rattle.gq_model.specs.rules.Use.{is_there}
-use Rattle.gq_resolve.specs.Served.{server_among}
+use Rattle.gq_resolve.specs.Served.{server_among, server_at}
 use Rattle.gq_budget.specs.Leaves.{Leaf}
 use Rattle.gq_budget.specs.Counts.{Counted, asks}
 use Rattle.gq_load.specs.internal.Judged.{judged_by}
+
+-- where routes tell a server of a service of one of these leaves, its route leads there
+abbrev pub AreTold : List Component → List (List (List ℕ × ℕ)) → Type 0
+AreTold all routes = (x : ℕ) (c : Component) → slice_get all x ≡ Some c → (service : List ℕ) (server : ℕ) → server_at x service routes ≡ Some server →
+    server_among all c service ≡ Some server
 
 -- whether a component asks for a service and its route for it leads to the x-th of all leaves; none does for no service
 abbrev pub leads_to : List Component → ℕ → Option (List ℕ) → Component → Counted → Bool

@@ -1,6 +1,6 @@
 use Rattle.std.proofs.Common.{◌≡◌, option_copied}
 use Rattle.gq_model.specs.texts.Text.{lines_read, assembled}
-use Rattle.gq_asm.specs.internal.Pieces.{lines_left, size_left}
+use Rattle.gq_asm.specs.internal.Lines.{lines_left, size_left}
 use Rattle.gq_asm.specs.internal.State.{reading_of}
 use Rattle.gq_asm.proofs.text.assemble_with.Given as goal
 

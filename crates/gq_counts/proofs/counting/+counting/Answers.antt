@@ -80,6 +80,14 @@ count_loop-returns t c =
     ∙ round_counted v r c.count.new.asked c.new-round.result (inside k c.args.times) c.inside.result s s body c.args.times
     (requests_for c.args.asked.now v r) c.new-round.ensures c.inside.ensures refl (c.in_ok-count.ensures.counted s there from v r))) c.add_all.ensures
 
+pub count_if-returns-clause-state : goal.count_if-returns-clause-state
+count_if-returns-clause-state t c =
+    let k = c.args.context.now in
+    on_then c.add_all.result (λ h s alike right.
+    let both = arms_right k s c.args.arm.now c.args.other.now right in
+    let there = alike ∙ ap chosen (sym c.drop_operands.ensures) in
+    c.in_ok-count.ensures.state (chosen s) there both.0) c.add_all.ensures
+
 pub count_if-returns-clause-counted : goal.count_if-returns-clause-counted
 count_if-returns-clause-counted t c =
     let k = c.args.context.now in

@@ -1,12 +1,9 @@
-use Rattle.std.proofs.Common.{◌≡◌, ◌++◌, option_copied}
-use Rattle.std.specs.Slice.Iter.{iter_rest}
-use Rattle.std.specs.Iterator.Adapters.{zip_first, zip_second}
+use Rattle.std.proofs.Common.{◌≡◌, ◌++◌, drop, option_copied}
 use Rattle.gq_load.specs.internal.Leads.{leads_row}
 use Rattle.gq_load.proofs.steps.leads_row.Given as goal
 
 -- the row so far, with what is left of it, is all
-abbrev pub invariant-loop-component : goal.invariant-loop-component
-invariant-loop-component l =
-    l.row.items
-    ++ leads_row l.components l.leaf (option_copied l.provides) (iter_rest (zip_first l.component-iterator)) (iter_rest (zip_second l.component-iterator))
+abbrev pub invariant-loop-place : goal.invariant-loop-place
+invariant-loop-place l =
+    l.row.items ++ leads_row l.components l.leaf (option_copied l.provides) (drop l.place l.components) (drop l.place l.counted)
     ≡ leads_row l.components l.leaf (option_copied l.provides) l.components l.counted

@@ -3,8 +3,11 @@ use Rattle.gq_model.specs.machine.Scenario.{Component, components, system}
 use Rattle.gq_budget.specs.Leaves.{Leaf, leads_of}
 use Rattle.gq_budget.specs.Counts.{AgreeWhereAsked, AreCountsOf}
 use Rattle.gq_load.specs.internal.Leads.{counted_leaves, leads_rows}
-use Rattle.gq_load.proofs.Leads.{as_many, leaves_same, rows_agree}
+use Rattle.gq_load.proofs.Leads.{are_told, as_many, leaves_same, rows_agree}
 use Rattle.gq_load.proofs.steps.steps_of.Goals as goal
+
+pub leads_rows-requires-clause-told : goal.leads_rows-requires-clause-told
+leads_rows-requires-clause-told c = are_told c.args.scenario.now c.args.components.now c.args.routes.now c.requires.components c.requires.routes
 
 pub returns : goal.returns
 returns c =

@@ -4,8 +4,8 @@ use Rattle.gq_counts.specs.Requested.{requests_for}
 use Rattle.gq_counts.proofs.asked.Requests.count_for.Given as goal
 
 -- the sum so far, with those that are left, is that of all
-abbrev pub invariant-loop-entry : goal.invariant-loop-entry
-invariant-loop-entry l = record {
-  summed : saturated (l.sum + requests_for (drop l.entry-index l.entry-items) l.service l.section) ≡ saturated (requests_for l.entry-items l.service l.section);
+abbrev pub invariant-loop-place : goal.invariant-loop-place
+invariant-loop-place l = record {
+  summed : saturated (l.sum + requests_for (drop l.place l.self) l.service l.section) ≡ saturated (requests_for l.self l.service l.section);
   fits : l.sum ≤ 2 ^ 64 - 1;
 }

@@ -1,9 +1,21 @@
-use Rattle.std.proofs.Common.{ℕ, ◌++◌, List, ap, sym, ◌∙◌}
+use Rattle.std.proofs.Common.{ℕ, ◌++◌, ◌∷◌, [], List, ap, sym, ◌∙◌}
+use Rattle.gq_counts.specs.Requested.{Requested}
+use Rattle.gq_counts.specs.internal.Keys.{key_of, keys_of}
 use Rattle.gq_counts.proofs.Adding.{requests_push}
+use Rattle.gq_counts.proofs.Keys.{keys_push}
 use Rattle.gq_counts.proofs.asked.Requests.push.Goals as goal
+
+pub invariant_of-self-2 : goal.invariant_of-self-2
+invariant_of-self-2 c =
+    let entries = c.self.inside.entries.items in
+    let a : Requested = record { service = c.in_ok-name.name.items; section = c.args.section; count = c.args.count } in
+    let key = c.requires ∙ ap key_of (sym c.in_ok-name.ensures.ok) in
+    let all = ap (λ (l : List Requested). l ++ a ∷ []) (sym c.reserve.ensures.items) ∙ sym c.push_reserved.ensures.items in
+    c.in_ok-push.ensures.items
+    ∙ (ap (λ (l : List ℕ). l ++ c.args.key ∷ []) c.self.invariant
+    ∙ (ap (λ (k : ℕ). keys_of entries ++ k ∷ []) key ∙ (sym (keys_push entries a) ∙ ap keys_of all)))
 
 pub returns : goal.returns
 returns c = λ v r.
-    let named = c.in_ok-extend_from_slice.ensures.items ∙ ap (λ (l : List ℕ). l ++ c.args.service.now) c.new-name.ensures.items in
-    requests_push c.args.self.now c.self.inside.entries.items c.push.new.self.items c.extend_from_slice.new.self.items c.args.service.now c.args.section
-    c.args.count v r (sym c.self.view_is) named c.in_ok-push.ensures.items
+    requests_push c.args.self.now c.reserve.new.self.items c.push_reserved.new.self.items c.in_ok-name.name.items c.args.service.now c.args.section
+    c.args.count v r (sym c.self.view_is ∙ sym c.reserve.ensures.items) c.in_ok-name.ensures.ok c.push_reserved.ensures.items
