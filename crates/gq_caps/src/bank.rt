@@ -12,7 +12,7 @@ use gq_tariff::Amount;
 use std::marker::Model;
 
 /// So many slots, by their kinds, with the sums of what is measured of them.
-#[derive(Drop)]
+#[derive(Clone, Copy)]
 pub struct Bank<const N: usize> {
     kinds: [Kind; N],
     totals: Totals,
@@ -26,9 +26,13 @@ impl<const N: usize> Model for Bank<N> {
 
     ghost view = { λ b. b.kinds };
 
-    ghost use Rattle.gq_caps.specs.internal.Totalled.{IsTotalled};
+    ghost use Rattle.gq_caps.specs.internal.Totalled.{IsTotalled, totals_of, totals_are};
 
     ghost invariant = { λ b. IsTotalled b.kinds b.totals };
+
+    ghost inverse = { λ kinds. record { kinds = kinds; totals = totals_of kinds } };
+
+    ghost inverse_ok = { λ b h. λ i. record { kinds = b.kinds; totals = totals_are b.kinds b.totals h i } };
 }
 
 impl<const N: usize> Bank<N> {
@@ -40,16 +44,6 @@ impl<const N: usize> Bank<N> {
         Bank {
             kinds: [Kind::Empty; N],
             totals: Totals::none(),
-        }
-    }
-
-    /// The same once more.
-    pub fn copy(&self) -> Bank<N>
-        ensures { result ≡ self.now }
-    {
-        Bank {
-            kinds: self.kinds,
-            totals: self.totals,
         }
     }
 
@@ -72,6 +66,7 @@ impl<const N: usize> Bank<N> {
         ensures sums { (m : Measure) → total_of result.now m ≡ measured m (all_known self.now) }
         ensures small { AreFew result.now }
     {
+        let _kinds = &self.kinds;
         &self.totals
     }
 

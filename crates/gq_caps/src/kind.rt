@@ -3,7 +3,7 @@ ghost use Rattle.std.specs.Prelude.{◌≡◌, ◌+◌, ◌^◌, ◌≤◌, ◌=
 ghost use Rattle.gq_tariff.specs.Prices.{size_for, class_size};
 ghost use Rattle.gq_tariff.specs.declared.class.Class.{Class};
 ghost use Rattle.gq_model.specs.machine.Amounts.{Ram, Caps};
-ghost use Rattle.gq_model.specs.rules.Kinds.{Memory, same_kind, kind_price, kind_lent, kind_places};
+ghost use Rattle.gq_model.specs.rules.Kinds.{Empty_kind, Memory, same_kind, kind_price, kind_lent, kind_places};
 ghost use Rattle.gq_caps.specs.Known.{known};
 ghost use Rattle.gq_caps.specs.declared.totals.Measure.{Measure};
 ghost use Rattle.gq_caps.specs.Measured.{total_of};
@@ -45,6 +45,22 @@ impl Kind {
             Form::Slice => Kind::Slice(size),
             Form::Space => Kind::Space(size),
         }
+    }
+
+    /// Whether it holds nothing, or waits.
+    #[inline(always)]
+    fn is_empty(&self) -> bool
+        ensures { result ≡ same_kind Empty_kind (known self.now) }
+    {
+        matches!(self, Kind::Empty | Kind::Waiting)
+    }
+
+    /// Whether both hold nothing, or wait.
+    #[inline(always)]
+    pub(crate) fn are_empty(&self, other: &Kind) -> bool
+        ensures { result ≡ true → same_kind (known self.now) (known other.now) ≡ true }
+    {
+        self.is_empty() & other.is_empty()
     }
 
     /// Whether both are the same kind, with the same numbers: spaces of 10 and 20 bytes differ, and so do links to sessions of

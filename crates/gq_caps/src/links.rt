@@ -25,7 +25,7 @@ impl Link {
             length: bytes.len() as u8,
             level: 0,
             ram: u64::from(ram),
-            caps: u64::from(caps),
+            caps,
         }
     }
 
@@ -43,7 +43,7 @@ impl Link {
             length: self.length,
             level: self.level + 1,
             ram: self.ram + u64::from(ram),
-            caps: self.caps + u64::from(caps),
+            caps: self.caps + caps,
         }
     }
 
@@ -70,7 +70,7 @@ impl Link {
     {
         Amount {
             ram: self.ram,
-            caps: self.caps,
+            caps: u64::from(self.caps),
         }
     }
 

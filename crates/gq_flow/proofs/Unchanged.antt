@@ -1,5 +1,5 @@
 -- Statements that leave all slots as they are.
-use Rattle.std.proofs.Common.{◌≡◌, ◌<◌, ℕ, ◌+◌, Bool, true, false, ◌&&◌, List, [], ◌∷◌, drop, length, get_or, refl, ap, sym, ◌∙◌, add_assoc}
+use Rattle.std.proofs.Common.{◌≡◌, ℕ, ◌+◌, Bool, true, false, ◌&&◌, List, [], ◌∷◌, length, refl, ap, sym, ◌∙◌, add_assoc}
 use Rattle.std.proofs.Common.{Option, Some, None, Result, Ok, Err}
 use Rattle.std.specs.Prelude.{nat_lt, nat_le, ◌==◌, OnOk, slice_get}
 use Rattle.gq_model.specs.machine.Amounts.{same_amount}
@@ -17,18 +17,15 @@ use Rattle.gq_model.specs.rules.Kinds.{Kind, Empty_kind, Memory, Pool_kind, Link
 use Rattle.gq_model.specs.rules.Rules.{Judged, must, given, top, pushed, and_then, reach, pool_kind, link_kind, called, pooled, reached}
 use Rattle.gq_model.specs.rules.Rules.{judge, judged, within_need}
 use Rattle.gq_model.specs.rules.Flow.{Flowed, at, later, flow_then, chosen_from, none_left, join, flow, is_nil}
-use Rattle.gq_program.specs.Trees.{tree_of}
-use Rattle.gq_program.specs.declared.program.Statement.{Statement}
-use Rattle.gq_program.specs.declared.program.Statement.TheVariants as statement
 use Rattle.gq_program.specs.Notes.{keeps_slots, is_still}
 use Rattle.gq_flow.specs.internal.Steps.{chosen}
 use Rattle.gq_flow.specs.internal.Reached.{PeaksWith}
 use Rattle.gq_rules.specs.declared.broken.Broken.{Broken}
 use Rattle.gq_rules.specs.Flowing.{flowed}
+use Rattle.gq_rules.specs.Judging.{after}
 use Rattle.gq_caps.specs.declared.totals.Totals.{Totals}
 use Rattle.gq_flow.proofs.Points.{then_ok, later_ok, must_ok, ok_same, chosen_is, joined_is, peaks_stay}
-use Rattle.gq_model.proofs.Rules_laws.{within_same, at_ok, nil_is}
-use Rattle.gq_program.proofs.Sizes.{here_is}
+use Rattle.gq_model.proofs.Rules_laws.{within_same, at_ok, nil_is, join_ok}
 use Rattle.std.proofs.lemmas.Bool.{and_parts}
 use Rattle.gq_model.proofs.Small.{equal_self, text_self}
 
@@ -270,3 +267,8 @@ must_true false r j t e = cc
 
 pub none_are : (s t : State) → Ok t ≡ none_left s → s.bounds ≡ []
 none_are s t e = nil_is s.bounds (must_true (is_nil s.bounds) LeftoverOperand (Ok s) t (sym e))
+
+-- where two ways join, either of them goes on
+pub after_either : {A : Type 0} (r : Result A Rule) (s t : State) → after r s ≡ join s t → after r t ≡ join s t
+after_either (Ok a) s t e = ap (λ (u : State). let r : Judged = Ok u in r) (join_ok s t s (sym e)).2 ∙ e
+after_either (Err rule) s t e = e

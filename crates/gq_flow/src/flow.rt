@@ -143,13 +143,13 @@ fn flow_if(
     *place += 1;
     let number = *place;
     at(number, state.choose())?;
-    let mut second = state.copy();
+    let mut second = state.copy_of_spent();
     flow(context, state, place, peaks, arm)?;
     flow(context, &mut second, place, peaks, other)?;
     at(number, state.join(&second))
 }
 
-/// Walks through the body of a loop. It stands alone, so that only a loop pays for room for a state.
+/// Walks through the body of a loop, which is to leave all as it was. It stands alone, so that only a loop pays for room for a state.
 #[cycle(flows)]
 #[inline(never)]
 fn flow_loop(
@@ -171,11 +171,10 @@ fn flow_loop(
     *place += 1;
     let number = *place;
     at(number, state.none_left())?;
-    let before = state.copy();
+    let own = *state.own();
+    let bank = *state.bank();
     flow(&context.inside(count), state, place, peaks, body)?;
-    at(number, before.join(state))?;
-    *state = before;
-    Ok(())
+    at(number, state.comes_back(&own, &bank))
 }
 
 /// Walks through both arms of an `if` that change no slot: the second starts with the slots as the first leaves them.

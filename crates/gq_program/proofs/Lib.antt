@@ -1,3 +1,4 @@
 pub mod Lists
 pub mod Sizes
 mod Noted
+pub mod Rising

@@ -10,6 +10,9 @@ pub use gq_model::limits::{GREATEST_INTERFACES, GREATEST_LEVEL};
 use gq_model::program::Name;
 use std::marker::Model;
 
+/// How many there are of what the letters of a name are mixed to.
+const MIXED: usize = 256;
+
 /// What a client gives more for the next level: bytes of RAM, and capabilities (0 in version 1).
 #[derive(Clone, Copy, Default)]
 pub struct Upgrade {
@@ -211,10 +214,32 @@ fn is_rising(entries: &[(Name, Interface)]) -> bool
     }
 }
 
+/// What the letters of a name are mixed to.
+fn mixed(name: &[u8]) -> u8 {
+    let mut mixed = 0u8;
+    for letter in name {
+        mixed = mixed.wrapping_mul(31).wrapping_add(*letter);
+    }
+    mixed
+}
+
+/// For each of what names are mixed to, where one of those that are mixed to it stands.
+fn places_of(entries: &[(Name, Interface)]) -> [u8; MIXED] {
+    let mut places = [0; MIXED];
+    let mut place = 0u8;
+    for (service, _) in entries {
+        places[usize::from(mixed(service.as_bytes()))] = place;
+        place = place.wrapping_add(1);
+    }
+    places
+}
+
 /// Interfaces by the names of their services: at most 64, in the byte order of the names.
 #[derive(Drop)]
 pub struct Interfaces {
     entries: Vec<(Name, Interface)>,
+    // Where a name is looked for first.
+    places: [u8; MIXED],
 }
 
 impl Model for Interfaces {
@@ -235,7 +260,8 @@ impl Interfaces {
         ensures { result ≡ (if are_interfaces entries.items then Some entries.items else None) }
     {
         if entries.len() <= GREATEST_INTERFACES && is_rising(&entries) {
-            Some(Interfaces { entries })
+            let places = places_of(&entries);
+            Some(Interfaces { entries, places })
         } else {
             None
         }
@@ -251,6 +277,17 @@ impl Interfaces {
 
     /// The interface of the service with this name, if there is one.
     pub fn named(&self, name: &[u8]) -> Option<&Interface>
+        ensures { option_copied result ≡ interface_in name.now self.now }
+    {
+        let place = self.places[usize::from(mixed(name))];
+        match self.entries().get(usize::from(place)) {
+            Some((service, interface)) if same_text(name, service.as_bytes()) => Some(interface),
+            _ => self.among(name),
+        }
+    }
+
+    /// The interface of the service with this name, if it is among them, looked for one by one.
+    fn among(&self, name: &[u8]) -> Option<&Interface>
         ensures { option_copied result ≡ interface_in name.now self.now }
     {
         for (service, interface) in self.entries() {

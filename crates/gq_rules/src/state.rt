@@ -1,5 +1,6 @@
 // What is known before a statement.
 ghost use Rattle.std.specs.Prelude.{◌≡◌, [], ◌∷◌, ◌&&◌, IfOk, IfErr, OnOk, Ok, option_map, slice_get};
+ghost use Rattle.gq_model.specs.rules.Kinds as Kinds;
 ghost use Rattle.gq_model.specs.rules.Kinds.{with_kind};
 ghost use Rattle.gq_model.specs.rules.Rules.{popped, pushed};
 ghost use Rattle.gq_model.specs.rules.Rules as Rules;
@@ -62,11 +63,34 @@ impl State {
         let mut bounds = ArrayVec::new();
         match bounds.try_extend_from_slice(self.bounds.as_slice()) {
             Ok(()) => State {
-                own: self.own.copy(),
-                bank: self.bank.copy(),
+                own: self.own,
+                bank: self.bank,
                 bounds,
             },
             Err(_) => unreachable!(),
+        }
+    }
+
+    /// Whether a way leads back to where it started, with these kinds in the slots and no operand.
+    pub fn comes_back(&self, own: &Bank<OWN_SLOTS>, bank: &Bank<SESSION_SLOTS>) -> Result<(), Rule>
+        ensures { (s : Kinds.State) → s ≡ record { own = all_known own.now; bank = all_known bank.now; bounds = [] } → after result s ≡ join s self.now }
+    {
+        let is_same = are_same(own.kinds(), self.own.kinds())
+            && are_same(bank.kinds(), self.bank.kinds());
+        must(self.is_spent(), Rule::LeftoverOperand)?;
+        must(is_same, Rule::JoinDiffers)
+    }
+
+    /// The same once more, where no operand is there.
+    #[inline(always)]
+    pub fn copy_of_spent(&self) -> State
+        requires { self.now.bounds ≡ [] }
+        ensures { result ≡ self.now }
+    {
+        State {
+            own: self.own,
+            bank: self.bank,
+            bounds: ArrayVec::new(),
         }
     }
 
@@ -74,7 +98,7 @@ impl State {
     pub fn without_operands(&self) -> State
         ensures { result ≡ record self.now { bounds = [] } }
     {
-        State::new(self.own.copy(), self.bank.copy())
+        State::new(self.own, self.bank)
     }
 
     /// The kinds of the own slots.

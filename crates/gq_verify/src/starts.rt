@@ -51,8 +51,8 @@ fn first(
     ensures { result ≡ record { own = all_known own.now; bank = all_known bank.now; bounds = first_bounds subject.now.provided section } }
 {
     match section {
-        Section::Calling(_) => State::with_operand(own.copy(), bank.copy(), subject.arg()),
-        _ => State::new(own.copy(), bank.copy()),
+        Section::Calling(_) => State::with_operand(*own, *bank, subject.arg()),
+        _ => State::new(*own, *bank),
     }
 }
 
@@ -76,7 +76,7 @@ fn walk_main(subject: &Subject<'_>) -> MainWalked
     let mut peaks = Totals::none();
     match walk(subject, Section::Main, &mut state, &mut peaks) {
         Ok(count) => {
-            let own = state.own().copy();
+            let own = *state.own();
             let answer = at(count + 1, main_section_end(subject, &state));
             MainWalked { own, peaks, answer }
         }
@@ -105,8 +105,8 @@ fn walk_bank(
     let mut state = first(subject, section, own, bank);
     let mut peaks = Totals::none();
     match walk(subject, section, &mut state, &mut peaks) {
-        Ok(_) => state.bank().copy(),
-        Err(_) => bank.copy(),
+        Ok(_) => *state.bank(),
+        Err(_) => *bank,
     }
 }
 
@@ -122,7 +122,7 @@ fn bank_by(
 {
     match subject.body(section) {
         Some(_) => walk_bank(subject, section, own, bank),
-        None => bank.copy(),
+        None => *bank,
     }
 }
 
@@ -181,22 +181,12 @@ impl Starts {
     {
         match section {
             Section::Main => State::new(Bank::new(), Bank::new()),
-            Section::Opening => State::new(self.own.copy(), Bank::new()),
-            Section::Upgrading(level) => State::new(
-                self.own.copy(),
-                self.bank_at(subject, level - 1).copy(),
-            ),
+            Section::Opening => State::new(self.own, Bank::new()),
+            Section::Upgrading(level) => State::new(self.own, *self.bank_at(subject, level - 1)),
             Section::Calling(level) => {
-                State::with_operand(
-                    self.own.copy(),
-                    self.bank_at(subject, level).copy(),
-                    subject.arg(),
-                )
+                State::with_operand(self.own, *self.bank_at(subject, level), subject.arg())
             }
-            Section::Closing(level) => State::new(
-                self.own.copy(),
-                self.bank_at(subject, level).copy(),
-            ),
+            Section::Closing(level) => State::new(self.own, *self.bank_at(subject, level)),
         }
     }
 }

@@ -2,17 +2,18 @@ use Rattle.std.proofs.Common.{◌≡◌, ◌+◌, ◌-◌, ◌∙◌, ◌∷◌,
 use Rattle.std.proofs.lemmas.Result.{err_from_is_err_and}
 use Rattle.gq_model.specs.rules.Flow.{at, later, flow_then, is_nil, chosen_from, none_left, join, flow, points}
 use Rattle.gq_model.specs.rules.Rules.{must}
-use Rattle.gq_model.specs.rules.Kinds.{inside}
+use Rattle.gq_model.specs.rules.Kinds.{State, inside}
 use Rattle.gq_model.specs.declared.fault.Rule.TheVariants.{LeftoverOperand}
 use Rattle.gq_model.specs.machine.Program.{size}
 use Rattle.gq_model.specs.machine.Lists.{greatest}
 use Rattle.gq_program.specs.Trees.{tree_of}
+use Rattle.gq_caps.specs.Known.{all_known}
 use Rattle.gq_caps.specs.Measured.{total_of, measured}
 use Rattle.gq_rules.specs.Flowing.{few_loops}
 use Rattle.gq_flow.specs.internal.Steps.{chosen}
 use Rattle.gq_flow.specs.Peaks.{measure_of, Peaks}
 use Rattle.gq_program.specs.Notes.{is_still}
-use Rattle.gq_flow.proofs.Unchanged.{still_second, still_join, still_round, if_as, loop_as, none_are, on_any}
+use Rattle.gq_flow.proofs.Unchanged.{still_second, still_join, still_round, if_as, loop_as, none_are, on_any, after_either, same_state}
 use Rattle.gq_flow.proofs.Flows.{flow_here, stops, size_at, few_here, goes_on}
 use Rattle.gq_rules.proofs.Programs.{parts}
 use Rattle.gq_flow.proofs.Points.{peaks_on, peak_end, peaks_append, chosen_is}
@@ -85,6 +86,20 @@ flow_if-flow-requires-2 t c =
     let q = parts (few_loops n c.args.arm.now) (few_loops n c.args.other.now) p.0 in
     let e = c.in_ok-flow.ensures in
     (omega (arith, c.decreases), (omega (arith, e.places, c.requires.places), (q.1, e.small)))
+
+pub flow_loop-returns-clause-flowed : goal.flow_loop-returns-clause-flowed
+flow_loop-returns-clause-flowed t c =
+    let k = c.args.context.now in
+    let n = c.args.place.now in
+    let body = c.args.body.now in
+    let s = c.args.state.now in
+    let u = c.flow.new.state in
+    let h = sym (at_ok (n + 1) (none_left s) s (sym (c.in_ok-at.ensures s ∙ ap (at (n + 1)) c.none_left.ensures.judged))) in
+    let e = c.in_ok-flow.ensures.flowed ∙ ap (λ k. later (n + 1) (flow k s body)) c.inside.ensures in
+    let before : State = record { own = all_known c.own.result.now; bank = all_known c.bank.result.now; bounds = [] } in
+    let same = same_state s before (sym c.own.ensures) (sym c.bank.ensures) (none_are s s h) in
+    let back = after_either c.comes_back.result s u (c.comes_back.ensures s same) in
+    c.at-2.ensures u ∙ (ap (at (n + 1)) back ∙ sym (loop_as k s s u c.args.count body n (n + 1) h e))
 
 pub flow_statement-flow_if-requires : goal.flow_statement-flow_if-requires
 flow_statement-flow_if-requires t c =

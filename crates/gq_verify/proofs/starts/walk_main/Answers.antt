@@ -7,7 +7,7 @@ pub returns-in-Ok-clause-own : goal.returns-in-Ok-clause-own
 returns-in-Ok-clause-own c =
     let v = c.args.subject.now in
     let start = start_is v c.new.result c.new-2.result c.new-state.result c.new.ensures c.new-2.ensures c.new-state.ensures in
-    ap all_known c.copy-own.ensures ∙ (c.own.ensures ∙ main_own v c.new-state.result c.walk.new.state start c.in-Ok.ensures.flowed)
+    c.own-own.ensures ∙ main_own v c.new-state.result c.walk.new.state start c.in-Ok.ensures.flowed
 
 pub returns-in-Ok-clause-peaks : goal.returns-in-Ok-clause-peaks
 returns-in-Ok-clause-peaks c =
