@@ -11,7 +11,7 @@ use Rattle.gq_budget.specs.Counts.{Counted, IsCountOf, AreCountsOf}
 use Rattle.gq_load.specs.Load.{Fault, refused}
 use Rattle.gq_load.specs.Faults.{Gives}
 use Rattle.gq_load.specs.internal.Judged.{judged_by}
-use Rattle.gq_load.specs.internal.Leads.{counted_leaves}
+use Rattle.gq_load.specs.internal.Leaves.{counted_leaves}
 use Rattle.gq_load.specs.internal.Surveys.{own_of, leaf_by, AreSurveys}
 use Rattle.gq_load.specs.declared.fault.LoadError.{LoadError}
 use Rattle.gq_load.specs.declared.fault.LoadError.TheVariants as error

@@ -1,6 +1,6 @@
 pub mod Loads
 pub mod First_leaves
 pub mod Texts
-pub mod Leads
+pub mod Leaves
 pub mod Budgets
 pub mod Refusals

@@ -1,5 +1,5 @@
 pub mod Accepted
 pub mod Budgets
 pub mod Judged
-pub mod Leads
+pub mod Leaves
 pub mod Surveys

@@ -18,7 +18,6 @@ use crate::fault::{LoadError, LoadFault};
 use crate::line;
 use crate::over::{check_caps, check_ram, check_steps};
 use crate::programs::read_programs;
-use crate::steps::steps_of;
 use crate::surveys::{Surveys, survey_programs};
 use gq_nodes::NodeTable;
 use gq_nodes::table::Entries;
@@ -29,6 +28,7 @@ use gq_resolve::resolve_opened;
 use gq_resolve::routes::Routes;
 use gq_scenario::fault::ScenarioError;
 use gq_scenario::scenario::Scenario;
+use gq_step_budgets::steps_of;
 use std::alloc::{AllocError, Global};
 use std::marker::Model;
 

@@ -18,6 +18,5 @@ mod line;
 pub mod named;
 mod over;
 pub mod programs;
-mod steps;
 mod surveys;
 pub mod unverified;

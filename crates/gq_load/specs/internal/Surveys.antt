@@ -8,7 +8,7 @@ use Rattle.gq_model.specs.rules.Use.{services}
 use Rattle.gq_budget.specs.Counts.{Counted, AreCountsOf}
 use Rattle.gq_budget.specs.Leaves.{Leaf}
 use Rattle.gq_load.specs.internal.Judged.{judged_by}
-use Rattle.gq_load.specs.internal.Leads.{counted_leaves}
+use Rattle.gq_load.specs.internal.Leaves.{counted_leaves}
 
 -- what a program uses of its own account
 abbrev pub own_of : Subject → Amount

@@ -1,11 +1,22 @@
-use Rattle.std.proofs.Common.{◌∙◌, ap, sym, map, length}
-use Rattle.gq_model.specs.machine.Scenario.{system}
+use Rattle.std.proofs.Common.{◌∙◌, ap, sym, subst, map, length}
+use Rattle.gq_model.specs.machine.Scenario.{components, system}
 use Rattle.gq_budget.specs.Budgets.{budgets_from}
+use Rattle.gq_budget.specs.Counts.{AreCountsOf}
 use Rattle.gq_load.specs.internal.Judged.{judged_by}
+use Rattle.gq_load.specs.internal.Leaves.{counted_leaves}
 use Rattle.gq_load.specs.internal.Budgets.{budgets_with}
 use Rattle.gq_load.specs.internal.Surveys.{own_of}
 use Rattle.gq_load.proofs.Budgets.{kept_same, steps_count, owns_count}
+use Rattle.gq_load.proofs.Leaves.{leaves_same}
 use Rattle.gq_load.proofs.accepted.kept_budgets.Goals as goal
+
+pub steps_of-requires-clause-counted : goal.steps_of-requires-clause-counted
+steps_of-requires-clause-counted c =
+    let s = c.args.scenario.now in
+    let leaves = ap (counted_leaves s.interfaces) c.requires.components ∙ leaves_same (system s) (components s) in
+    let all = counted_leaves s.interfaces c.args.components.now in
+    subst (AreCountsOf c.as_slice.result.now) leaves
+    (subst (λ ns. AreCountsOf ns all) (sym c.as_slice.ensures.value) c.requires.surveys.counted)
 
 pub budgets_of-requires : goal.budgets_of-requires
 budgets_of-requires c =

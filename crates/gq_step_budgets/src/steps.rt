@@ -5,7 +5,8 @@ ghost use Rattle.gq_model.specs.machine.Scenario.{system};
 ghost use Rattle.gq_budget.specs.Budgets.{budgets_of};
 ghost use Rattle.gq_budget.specs.Counts.{AreCountsOf};
 ghost use Rattle.gq_resolve.specs.Served.{AreServers, server_among};
-ghost use Rattle.gq_load.specs.internal.Leads.{AreTold, leads_to, leads_row, leads_rows, counted_leaves};
+ghost use Rattle.gq_budget.specs.Leaves.{leaves_of};
+ghost use Rattle.gq_step_budgets.specs.internal.Leads.{AreTold, leads_to, leads_row, leads_rows};
 
 use gq_budget::{CountedLeaf, counted_budgets};
 use gq_model::program::Name;
@@ -109,8 +110,9 @@ fn leads_rows(
     Ok(rows)
 }
 
-// The step budgets of a scenario's leaves, which are counted and have these routes, or the greatest number of 64 bits where they are more.
-pub(crate) fn steps_of(
+/// The step budgets of a scenario's leaves, in their order, which are counted and have these routes: the steps of a leaf's `main`, and those of its
+/// sections as often as its clients may ask for them; 2^64 - 1 where they are more. Refused only for want of host memory.
+pub fn steps_of(
     alloc: Global,
     scenario: &Scenario,
     components: &[Component<'_>],
@@ -119,7 +121,7 @@ pub(crate) fn steps_of(
 ) -> Result<Vec<u64>, AllocError>
     requires components { components.now ≡ model.components scenario.now }
     requires routes { AreServers scenario.now routes.now }
-    requires counted { AreCountsOf counted.now (counted_leaves scenario.now.interfaces components.now) }
+    requires counted { AreCountsOf counted.now (leaves_of (system scenario.now)) }
     ensures { IfOk result (λ steps. steps.items ≡ budgets_of (system scenario.now)) }
 {
     let _count = scenario.leaf_count();

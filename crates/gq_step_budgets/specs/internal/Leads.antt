@@ -1,11 +1,9 @@
 -- Whose routes lead to whom, among leaves.
 use Rattle.std.specs.Prelude.{◌≡◌, ℕ, suc, Bool, false, ◌&&◌, List, [], ◌∷◌, Option, Some, None, slice_get}
-use Rattle.gq_model.specs.machine.Scenario.{Interfaces, Component}
+use Rattle.gq_model.specs.machine.Scenario.{Component}
 use Rattle.gq_model.specs.rules.Use.{is_there}
 use Rattle.gq_resolve.specs.Served.{server_among, server_at}
-use Rattle.gq_budget.specs.Leaves.{Leaf}
 use Rattle.gq_budget.specs.Counts.{Counted, asks}
-use Rattle.gq_load.specs.internal.Judged.{judged_by}
 
 -- where routes tell a server of a service of one of these leaves, its route leads there
 abbrev pub AreTold : List Component → List (List (List ℕ × ℕ)) → Type 0
@@ -27,8 +25,3 @@ leads_row all x provides (c ∷ rest) (n ∷ ns) = leads_to all x provides c n �
 abbrev pub leads_rows : List Component → List Counted → ℕ → List Component → List (List Bool)
 leads_rows all ns x [] = []
 leads_rows all ns x (c ∷ rest) = leads_row all x c.node.provides all ns ∷ leads_rows all ns (suc x) rest
-
--- leaves as their steps are counted by
-abbrev pub counted_leaves : Interfaces → List Component → List Leaf
-counted_leaves interfaces [] = []
-counted_leaves interfaces (c ∷ rest) = record { subject = judged_by interfaces c; provides = c.node.provides } ∷ counted_leaves interfaces rest

@@ -1,10 +1,10 @@
 use Rattle.std.proofs.Common.{Bool, List, ◌∙◌, ap, map, subst, sym}
 use Rattle.gq_model.specs.machine.Scenario.{Component, components, system}
-use Rattle.gq_budget.specs.Leaves.{Leaf, leads_of}
-use Rattle.gq_budget.specs.Counts.{AgreeWhereAsked, AreCountsOf}
-use Rattle.gq_load.specs.internal.Leads.{counted_leaves, leads_rows}
-use Rattle.gq_load.proofs.Leads.{are_told, as_many, leaves_same, rows_agree}
-use Rattle.gq_load.proofs.steps.steps_of.Goals as goal
+use Rattle.gq_budget.specs.Leaves.{leads_of}
+use Rattle.gq_budget.specs.Counts.{AgreeWhereAsked}
+use Rattle.gq_step_budgets.specs.internal.Leads.{leads_rows}
+use Rattle.gq_step_budgets.proofs.Leads.{are_told, as_many, rows_agree}
+use Rattle.gq_step_budgets.proofs.steps.steps_of.Goals as goal
 
 pub leads_rows-requires-clause-told : goal.leads_rows-requires-clause-told
 leads_rows-requires-clause-told c = are_told c.args.scenario.now c.args.components.now c.args.routes.now c.requires.components c.requires.routes
@@ -14,8 +14,7 @@ returns c =
     let s = c.args.scenario.now in
     let all = components s in
     let ns = c.args.counted.now in
-    let leaves = ap (counted_leaves s.interfaces) c.requires.components ∙ leaves_same (system s) all in
-    let counted = subst (λ (ls : List Leaf). AreCountsOf ns ls) leaves c.requires.counted in
+    let counted = c.requires.counted in
     let told =
     ap (map (λ v. v.items)) c.as_slice.ensures.value ∙ (c.in_ok-leads.ensures ∙ ap (λ (cs : List Component). leads_rows cs ns 0 cs) c.requires.components) in
     let agree = rows_agree (system s) ns ns 0 all (as_many (system s) ns all counted) counted in

@@ -9,9 +9,9 @@ use Rattle.gq_model.specs.machine.Scenario.{Scenario, System, Component, compone
 use Rattle.gq_model.specs.machine.Routes.{server_of}
 use Rattle.gq_model.specs.rules.Use.{is_there, services}
 use Rattle.gq_resolve.specs.Served.{AreServers}
-use Rattle.gq_budget.specs.Leaves.{leads_for, leads_from, leaf_of, leaves_from}
+use Rattle.gq_budget.specs.Leaves.{leads_for, leads_from, leaves_from}
 use Rattle.gq_budget.specs.Counts.{Counted, Agree, AgreeFor, AgreeWhereAsked, AreCountsOf, asks}
-use Rattle.gq_load.specs.internal.Leads.{AreTold, leads_row, leads_rows, counted_leaves}
+use Rattle.gq_step_budgets.specs.internal.Leads.{AreTold, leads_row, leads_rows}
 
 -- ROUTES
 
@@ -60,10 +60,6 @@ rows_agree system all (m ∷ ms) x (c ∷ cs) e h =
     (subst (λ (p : Option (List ℕ)). Agree p all row other) (sym h.0.provides) here, rows_agree system all ms (suc x) cs e h.1)
 
 -- LEAVES
-
-pub leaves_same : (system : System) (cs : List Component) → counted_leaves system.interfaces cs ≡ leaves_from system cs
-leaves_same system [] = refl
-leaves_same system (c ∷ rest) = ap (λ l. leaf_of system c ∷ l) (leaves_same system rest)
 
 -- there are as many as are counted
 pub as_many : (system : System) (ns : List Counted) (cs : List Component) → AreCountsOf ns (leaves_from system cs) → length ns ≡ length cs
