@@ -167,8 +167,32 @@ def users(leaves):
     return (head + interfaces + "".join(leaves)).encode()
 
 
+def alone(text):
+    """The same leaves with programs of as many lines, none of which is of a session."""
+    text = re.sub(r'^provides = .*\n', "", text.decode(), flags=re.M)
+    return re.sub(r"'{3}\n(.*?)'{3}", lambda found: f"'''\n{same_length(found[1].count(chr(10)))}'''", text, flags=re.S).encode()
+
+
+def same_length(lines):
+    """A program text of so many lines, or of one less."""
+    return program(["push 1", "out"] * ((lines - 2) // 2)).decode()
+
+
+def checked(trade, text):
+    """The milliseconds of `trade check` of a text, and what it told."""
+    with tempfile.NamedTemporaryFile(suffix=".toml") as file:
+        file.write(text)
+        file.flush()
+        took = []
+        for _ in range(ROUNDS):
+            start = time.perf_counter()
+            ran = subprocess.run([trade, "check", file.name], capture_output=True)
+            took.append(time.perf_counter() - start)
+    return statistics.median(took) * 1e3, ran
+
+
 def budgets(trade):
-    """`trade check` of 64 leaves, the whole run of the program."""
+    """`trade check` of 64 leaves, the whole run of the program, beside that of programs of as many lines without sessions."""
     texts = {
         "without sessions": scenario(64, program(["push 1", "out"])),
         "in a chain, each the client of the next": users([client(0, [1])] + [server(n, [n + 1] if n < 63 else []) for n in range(1, 64)]),
@@ -177,19 +201,12 @@ def budgets(trade):
         "each the client of the eight next": users([client(0, range(1, 9))] + [server(n, range(n + 1, min(n + 9, 64))) for n in range(1, 64)]),
         "each the client of all later ones": users([client(0, range(1, 64))] + [server(n, range(n + 1, 64)) for n in range(1, 64)]),
     }
-    table("64 leaves", "Time of `trade check`", "Greatest budget")
+    table("64 leaves", "Time of `trade check`", "Of as many lines without sessions", "Greatest budget")
     for name, text in texts.items():
-        with tempfile.NamedTemporaryFile(suffix=".toml") as file:
-            file.write(text)
-            file.flush()
-            took = []
-            for _ in range(ROUNDS):
-                start = time.perf_counter()
-                ran = subprocess.run([trade, "check", file.name], capture_output=True)
-                took.append(time.perf_counter() - start)
+        took, ran = checked(trade, text)
         lines = ran.stdout.decode().split("\n")[:-1]
         told = max((int(line.split()[-1]) for line in lines), default=None)
-        row(name, f"{statistics.median(took) * 1e3:.1f} ms", told if told is not None else ran.stderr.decode().strip())
+        row(name, f"{took:.1f} ms", f"{checked(trade, alone(text))[0]:.1f} ms", told if told is not None else ran.stderr.decode().strip())
 
 
 def words(benchmark):
