@@ -5,7 +5,6 @@ ghost use Rattle.gq_load.specs.internal.Judged.{judged_by, leaf_refusal};
 ghost use Rattle.gq_load.specs.Load.{refused};
 
 use crate::fault::LoadFault;
-use crate::programs::copied;
 use gq_program::Interfaces;
 use gq_program::program::Program;
 use gq_resolve::component::Component;
@@ -26,7 +25,7 @@ pub(crate) fn judge<'a>(
     match verify(program, leaf.provides(), interfaces) {
         Ok(verified) => Ok(verified),
         Err(fault) => Err(LoadFault::Rule {
-            leaf: copied(leaf.name()),
+            leaf: leaf.name().copied(),
             rule: fault.rule,
             section: fault.section,
             place: fault.place,

@@ -7,7 +7,6 @@ ghost use Rattle.gq_load.specs.Load.{refused};
 
 use crate::budget::Budget;
 use crate::fault::LoadFault;
-use crate::programs::copied;
 use gq_model::limits::GREATEST_STEPS;
 use gq_resolve::component::Component;
 
@@ -23,7 +22,7 @@ pub(crate) fn check_ram(components: &[Component<'_>], budgets: &[Budget]) -> Res
         let quantum = leaf.quantum().ram();
         if own > quantum {
             return Err(LoadFault::OverQuantum {
-                leaf: copied(leaf.name()),
+                leaf: leaf.name().copied(),
                 own,
                 quantum,
             });
@@ -41,7 +40,7 @@ pub(crate) fn check_steps(components: &[Component<'_>], budgets: &[Budget]) -> R
     for (place, component) in components.iter().enumerate() {
         if budgets[place].steps() > GREATEST_STEPS {
             return Err(LoadFault::OverSteps {
-                leaf: copied(component.leaf().name()),
+                leaf: component.leaf().name().copied(),
             });
         }
     }
@@ -60,7 +59,7 @@ pub(crate) fn check_caps(components: &[Component<'_>], budgets: &[Budget]) -> Re
         let caps = u64::from(leaf.quantum().caps());
         if own > caps {
             return Err(LoadFault::OverCaps {
-                leaf: copied(leaf.name()),
+                leaf: leaf.name().copied(),
                 own,
                 caps,
             });

@@ -7,23 +7,12 @@ ghost use Rattle.gq_load.specs.Load.{source_fault, sources_fault};
 use crate::fault::{LoadError, LoadFault};
 use gq_asm::{AssembleError, assemble_with};
 use gq_code::decode::{DecodeError, decode};
-use gq_model::program::Name;
 use gq_program::program::Program;
 use gq_program::spare::Spare;
 use gq_resolve::component::Component;
 use gq_scenario::scenario::Leaf;
 use gq_scenario::source::Source;
 use std::alloc::Global;
-
-// The same name.
-pub(crate) fn copied(name: &Name) -> Name
-    ensures { result ≡ name.now }
-{
-    match Name::new(name.as_bytes()) {
-        Some(name) => name,
-        None => unreachable!(),
-    }
-}
 
 /// The program of a leaf, from its text or its code.
 ///
@@ -51,7 +40,7 @@ pub(crate) fn read_program_with(
             Ok(program) => Ok(program),
             Err(AssembleError::Memory(_)) => Err(LoadError::Memory),
             Err(AssembleError::Fault { fault, line }) => Err(LoadError::Fault(LoadFault::Text {
-                leaf: copied(leaf.name()),
+                leaf: leaf.name().copied(),
                 fault,
                 line,
             })),
@@ -60,7 +49,7 @@ pub(crate) fn read_program_with(
             Ok(program) => Ok(program),
             Err(DecodeError::Memory(_)) => Err(LoadError::Memory),
             Err(DecodeError::Fault(fault)) => Err(LoadError::Fault(LoadFault::Code {
-                leaf: copied(leaf.name()),
+                leaf: leaf.name().copied(),
                 fault,
             })),
         },

@@ -171,6 +171,16 @@ impl Name {
         })
     }
 
+    /// The same name.
+    pub fn copied(&self) -> Name
+        ensures { result ≡ self.now }
+    {
+        Name {
+            letters: self.letters,
+            count: self.count,
+        }
+    }
+
     /// Its bytes.
     pub fn as_bytes(&self) -> &[u8]
         ensures bytes { result.now ≡ self.now }

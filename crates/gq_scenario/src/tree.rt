@@ -113,10 +113,7 @@ pub fn has_long_routes(nodes: &Nodes) -> bool
 pub fn copied(name: &Name) -> Name
     ensures { result ≡ name.now }
 {
-    match Name::new(name.as_bytes()) {
-        Some(name) => name,
-        None => unreachable!(),
-    }
+    name.copied()
 }
 
 /// Puts the names of these nodes at the end, in preorder.
