@@ -2,3 +2,4 @@ pub mod Lists
 pub mod Sizes
 mod Noted
 pub mod Rising
+pub mod Skipped

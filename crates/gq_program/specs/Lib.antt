@@ -1,4 +1,5 @@
 pub mod Trees
 pub mod Notes
 pub mod Interfaces
+pub mod Keys
 pub mod internal

@@ -275,7 +275,8 @@ impl Interfaces {
         self.entries.as_slice()
     }
 
-    /// The interface of the service with this name, if there is one.
+    /// The interface of the service with this name, if there is one. It is looked for where the letters of the name are told to stand; a place that is told
+    /// wrongly costs time alone.
     pub fn named(&self, name: &[u8]) -> Option<&Interface>
         ensures { option_copied result ≡ interface_in name.now self.now }
     {

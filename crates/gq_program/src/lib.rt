@@ -15,7 +15,9 @@
 
 mod check;
 pub mod interface;
+pub mod keys;
 pub mod notes;
+pub mod places;
 pub mod program;
 pub mod spare;
 pub mod spelling;
