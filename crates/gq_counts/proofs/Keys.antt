@@ -1,57 +1,39 @@
 -- Services by the numbers that are made of their names.
-use Rattle.std.proofs.Common.{◌≡◌, ◌==◌, ◌<◌, ◌≤◌, ◌+◌, ◌-◌, ◌*◌, ◌^◌, ℕ, zero, suc, arith, min, Bool, true, false, List, [], ◌∷◌, ◌++◌, drop, length, get_or}
+use Rattle.std.proofs.Common.{◌≡◌, ◌<◌, ◌≤◌, ◌+◌, ◌-◌, ◌*◌, ◌^◌, ℕ, zero, suc, arith, min, Bool, true, false, List, [], ◌∷◌, ◌++◌, drop, length, get_or}
 use Rattle.std.proofs.Common.{refl, ap, sym, ◌∙◌, add-one}
-use Rattle.std.specs.Prelude.{◌&&◌, slice_set}
-use Rattle.std.proofs.lemmas.Bool.{eqb-true}
-use Rattle.gq_model.specs.machine.Program.{text_eq, same_section}
+use Rattle.std.specs.Prelude.{slice_set}
+use Rattle.gq_model.specs.machine.Program.{text_eq}
 use Rattle.gq_model.specs.declared.program.Section.{Section}
 use Rattle.gq_model.specs.rules.Budgets.{is_one}
 use Rattle.gq_model.proofs.Small.{text_is}
-use Rattle.gq_counts.specs.Requested.{Requested, is_for, is_asked, requests_for}
-use Rattle.gq_counts.specs.internal.Keys.{key_of, keys_of}
-use Rattle.gq_counts.proofs.Adding.{requests_gone}
+use Rattle.gq_program.proofs.Skipped.{not_both}
+use Rattle.gq_counts.specs.Requested.{Requested, is_asked, requests_for}
+use Rattle.gq_program.specs.Keys.{key_of}
+use Rattle.gq_counts.specs.internal.Keys.{keys_of, IsOutside}
 
 not_so : (b : Bool) → (b ≡ true → ⊥) → b ≡ false
 not_so false h = refl
 not_so true h = absurd (h refl)
 
-zero_times : (n : ℕ) → 0 ≡ 0 * n
-zero_times n = omega arith
-
--- a service with another number is another one
-module _ (service : List ℕ) (a : Requested) (other key : ℕ) (o : other ≡ key_of a.service) (k : key ≡ key_of service) (differ : other ≡ key → ⊥) where
-  pub other_name : text_eq service a.service ≡ false
-  other_name = not_so (text_eq service a.service) (λ same. differ (o ∙ (ap key_of (sym (text_is service a.service same)) ∙ sym k)))
-
-  pub is_not_of : (other == key) ≡ text_eq service a.service
-  is_not_of = not_so (other == key) (λ e. differ (eqb-true other key e)) ∙ sym other_name
-
-  pub is_not_for : (section : Section) → (other == key) ≡ is_for service section a
-  is_not_for section = not_so (other == key) (λ e. differ (eqb-true other key e)) ∙ sym (ap (λ (b : Bool). b && same_section section a.section) other_name)
-
-  pub none_for : (section : Section) → 0 ≡ is_one service section a.service a.section * a.count
-  none_for section = rw other_name (zero_times a.count)
-
 -- THE NUMBERS OF ALL
 
-length_keys : (all : List Requested) → length (keys_of all) ≡ length all
+pub length_keys : (all : List Requested) → length (keys_of all) ≡ length all
 length_keys [] = refl
 length_keys (a ∷ rest) = ap suc (length_keys rest)
-
-pub in_keys : (keys : List ℕ) (all : List Requested) (i : ℕ) → keys ≡ keys_of all → i < length keys → i < length all
-in_keys keys all i e less = let h = ap (λ (l : List ℕ). length l) e ∙ length_keys all in omega (arith, less, h)
-
-pub past_keys : (keys : List ℕ) (all : List Requested) (i : ℕ) → keys ≡ keys_of all → length keys ≤ i → length all ≤ i
-past_keys keys all i e past = let h = ap (λ (l : List ℕ). length l) e ∙ length_keys all in omega (arith, past, h)
 
 key_at : (all : List Requested) (i : ℕ) (e : Requested) → i < length all → get_or (keys_of all) i 0 ≡ key_of (get_or all i e).service
 key_at [] i e less = absurd (omega (arith, less))
 key_at (a ∷ rest) zero e less = refl
 key_at (a ∷ rest) (suc i) e less = key_at rest i e (omega (arith, less))
 
-pub key_told : (keys : List ℕ) (all : List Requested) (i : ℕ) → keys ≡ keys_of all → i < length keys → (e : Requested) →
-    get_or keys i 0 ≡ key_of (get_or all i e).service
-key_told keys all i same less e = ap (λ (l : List ℕ). get_or l i 0) same ∙ key_at all i e (in_keys keys all i same less)
+-- outside of the places among which its number stands none is for a service
+pub outside : (all : List Requested) (service : List ℕ) (key first end : ℕ) → key ≡ key_of service →
+    ((i : ℕ) → i < length (keys_of all) → get_or (keys_of all) i 0 ≡ key → (first ≤ i) × (i < end)) → IsOutside service all first end
+outside all service key first end k within i less out e =
+    let many = length_keys all in
+    not_so (text_eq service (get_or all i e).service) (λ is.
+    let here = key_at all i e less ∙ (ap key_of (sym (text_is service (get_or all i e).service is)) ∙ sym k) in
+    not_both i first end (within i (omega (arith, less, many)) here) out)
 
 pub keys_push : (all : List Requested) (a : Requested) → keys_of (all ++ a ∷ []) ≡ keys_of all ++ key_of a.service ∷ []
 keys_push [] a = refl
@@ -86,9 +68,9 @@ summed_more items i sum here next v r all less is n e =
     let c = is a in
     omega (arith, h, k, c, n, e)
 
-pub summed_end : (items : List Requested) (i sum : ℕ) (v : List ℕ) (r : Section) (all : ℕ) → length items ≤ i → sum ≤ most →
+pub summed_end : (items : List Requested) (i sum : ℕ) (v : List ℕ) (r : Section) (all : ℕ) → requests_for (drop i items) v r ≡ 0 → sum ≤ most →
     min (sum + requests_for (drop i items) v r) most ≡ min all most → sum ≡ min all most
-summed_end items i sum v r all past fits e = let h = requests_gone items i v r past in omega (arith, h, fits, e)
+summed_end items i sum v r all none fits e = omega (arith, none, fits, e)
 
 -- ASKING
 
@@ -110,11 +92,3 @@ asked_here items i service b less is h = step items i less (λ e. sym (is e) ∙
   step [] i less f = absurd (omega (arith, less))
   step (x ∷ xs) zero less f = let h = f x in rw h refl
   step (x ∷ xs) (suc i) less f = step xs i (omega (arith, less)) f
-
-pub asked_none : (items : List Requested) (i : ℕ) (service : List ℕ) → length items ≤ i → false ≡ is_asked service (drop i items)
-asked_none [] i service past = none i where
-  none : (i : ℕ) → false ≡ is_asked service (drop i [])
-  none zero = refl
-  none (suc i) = refl
-asked_none (x ∷ xs) zero service past = absurd (omega (arith, past))
-asked_none (x ∷ xs) (suc i) service past = asked_none xs i service (omega (arith, past))

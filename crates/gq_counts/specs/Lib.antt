@@ -1,4 +1,5 @@
 pub mod Counting
 pub mod Requested
+pub mod Askers
 pub mod Rights
 pub mod internal

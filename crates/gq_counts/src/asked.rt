@@ -1,36 +1,28 @@
 // How many requests there are, by the section of a service that they are for.
-ghost use Rattle.std.specs.Prelude.{◌≡◌, ◌<◌, ◌+◌, ◌*◌, ◌&&◌, [], IsTrue, IfOk, OnOk, MatchOption, length, get_or};
-ghost use Rattle.gq_model.specs.machine.Program.{text_eq, same_section};
+ghost use Rattle.std.specs.Prelude.{◌≡◌, ◌<◌, ◌≤◌, ◌+◌, ◌*◌, ◌++◌, [], OnOk, length, get_or};
+ghost use Rattle.gq_model.specs.machine.Program.{text_eq};
 ghost use Rattle.gq_model.specs.rules.Budgets.{is_one};
 ghost use Rattle.gq_counts.specs.Counting.{saturated};
 ghost use Rattle.gq_counts.specs.Requested.{Requested, requests_for, is_for, is_asked};
+ghost use Rattle.gq_counts.specs.Askers.{askers_of};
 ghost use Rattle.gq_counts.specs.internal.Adding.{Adds, Raises, IsAt};
-ghost use Rattle.gq_counts.specs.internal.Keys.{key_of};
+ghost use Rattle.gq_counts.specs.internal.Keys.{IsOutside};
 
+use crate::service::Service;
 use gq_program::Section;
+use gq_program::places::Places;
 use gq_program::spelling::same_text;
 use smallvec::SmallVec;
 use std::alloc::{AllocError, Global};
 use std::marker::Model;
 
 /// So many letters of a service's name stand in its entry. A longer one stands apart, and no name is longer.
-const LETTERS: usize = 16;
-
-/// A number that is made of a service's name.
-fn key_of(name: &[u8]) -> u64
-    ensures { result ≡ key_of name.now }
-{
-    let mut key = 0_u64;
-    for letter in name {
-        key = key.wrapping_mul(257).wrapping_add(u64::from(*letter));
-    }
-    key
-}
+const GREATEST_NAME: usize = 16;
 
 /// So many requests for a section of a service.
 #[derive(Drop)]
 struct Entry {
-    service: SmallVec<u8, LETTERS>,
+    service: SmallVec<u8, GREATEST_NAME>,
     section: Section,
     count: u64,
 }
@@ -77,25 +69,38 @@ impl Entry {
     }
 }
 
-/// How many requests there are, by the section of a service that they are for. The numbers that are made of the entries' services stand apart, in the same
-/// order: services with other numbers are other ones, so that a search goes over numbers.
+/// A section of a leaf that asks for a section of a service, so many times.
+#[derive(Clone, Copy)]
+pub struct Asker {
+    /// The number of the leaf.
+    pub leaf: usize,
+    /// The place of the section that asks, among those of the leaf's program.
+    pub part: usize,
+    /// The section that is asked for.
+    pub section: Section,
+    /// How many requests it makes each time that it runs.
+    pub count: u64,
+}
+
+/// How many requests there are, by the section of a service that they are for. Where those for a service may stand is told by a number that is made of its
+/// name.
 #[derive(Drop)]
 pub struct Requests {
-    keys: Vec<u64>,
+    places: Places,
     entries: Vec<Entry>,
 }
 
 impl Model for Requests {
     ghost use Rattle.std.specs.Prelude.{List};
     ghost use Rattle.gq_counts.specs.Requested.{Requested};
-    ghost use Rattle.std.specs.Prelude.{◌≡◌};
+    ghost use Rattle.gq_program.specs.Keys.{AreWithin};
     ghost use Rattle.gq_counts.specs.internal.Keys.{keys_of};
 
     ghost Value = { List Requested };
 
     ghost view = { λ r. r.entries.items };
 
-    ghost invariant = { λ r. r.keys.items ≡ keys_of r.entries.items };
+    ghost invariant = { λ r. AreWithin r.places (keys_of r.entries.items) };
 }
 
 impl Requests {
@@ -104,104 +109,127 @@ impl Requests {
         ensures { result ≡ [] }
     {
         Requests {
-            keys: Vec::new(alloc),
+            places: Places::new(),
             entries: Vec::new(alloc),
         }
     }
 
-    /// Whether those at a place are for a service, whose number is the second. The first is that of the service at that place.
-    fn is_of_at(&self, place: usize, other: u64, key: u64, service: &[u8]) -> bool
-        requires place { place < length self.now }
-        requires other { (e : Requested) → other ≡ key_of (get_or self.now place e).service }
-        requires key { key ≡ key_of service.now }
+    /// Those at a place.
+    fn entry_at(&self, place: usize) -> &Entry
+        requires { place < length self.now }
+        ensures { (e : Requested) → result.now ≡ get_or self.now place e }
+    {
+        &self.entries[place]
+    }
+
+    /// The places among which the requests for the sections of a service stand: from the first up to the second.
+    fn range(&self, service: &Service<'_>) -> (usize, usize)
+        ensures end { result.1 ≤ length self.now }
+        ensures outside { IsOutside service.now self.now result.0 result.1 }
+    {
+        self.places.range(service.key(), self.entries.len())
+    }
+
+    /// Whether those at a place are for a service.
+    fn is_of_at(&self, place: usize, service: &Service<'_>) -> bool
+        requires { place < length self.now }
         ensures { (e : Requested) → result ≡ text_eq service.now (get_or self.now place e).service }
     {
-        other == key && self.entries[place].is_of(service)
+        self.entry_at(place).is_of(service.name())
     }
 
-    /// The same for a section of a service.
-    fn is_for_at(
-        &self,
-        place: usize,
-        other: u64,
-        key: u64,
-        service: &[u8],
-        section: Section,
-    ) -> bool
-        requires place { place < length self.now }
-        requires other { (e : Requested) → other ≡ key_of (get_or self.now place e).service }
-        requires key { key ≡ key_of service.now }
+    /// Whether those at a place are for a section of a service.
+    fn is_for_at(&self, place: usize, service: &Service<'_>, section: Section) -> bool
+        requires { place < length self.now }
         ensures { (e : Requested) → result ≡ is_for service.now section (get_or self.now place e) }
     {
-        other == key && self.entries[place].is_for(service, section)
+        self.entry_at(place).is_for(service.name(), section)
     }
 
-    /// How many of those at a place are for a section of a service, in the same way.
-    fn count_at(&self, place: usize, other: u64, key: u64, service: &[u8], section: Section) -> u64
-        requires place { place < length self.now }
-        requires other { (e : Requested) → other ≡ key_of (get_or self.now place e).service }
-        requires key { key ≡ key_of service.now }
+    /// How many of those at a place are for a section of a service.
+    fn count_at(&self, place: usize, service: &Service<'_>, section: Section) -> u64
+        requires { place < length self.now }
         ensures { (e : Requested) → let a = get_or self.now place e in result ≡ is_one service.now section a.service a.section * a.count }
     {
-        if other == key {
-            self.entries[place].count_for(service, section)
-        } else {
-            0
-        }
+        self.entry_at(place).count_for(service.name(), section)
     }
 
     /// How many there are for a section of a service; 2^64 - 1 where there are more.
-    pub fn count_for(&self, service: &[u8], section: Section) -> u64
+    pub fn count_for(&self, service: &Service<'_>, section: Section) -> u64
         ensures { result ≡ saturated (requests_for self.now service.now section) }
     {
-        let key = key_of(service);
+        let (first, end) = self.range(service);
         let mut sum = 0_u64;
-        for (place, other) in self.keys.iter().enumerate() {
-            sum = sum.saturating_add(self.count_at(place, *other, key, service, section));
+        for place in first..end {
+            sum = sum.saturating_add(self.count_at(place, service, section));
         }
         sum
     }
 
     /// Whether one of them is for a section of a service, be they so many or none.
-    pub fn is_asked(&self, service: &[u8]) -> bool
+    pub fn is_asked(&self, service: &Service<'_>) -> bool
         ensures { result ≡ is_asked service.now self.now }
     {
-        let key = key_of(service);
-        for (place, other) in self.keys.iter().enumerate() {
-            if self.is_of_at(place, *other, key, service) {
+        let (first, end) = self.range(service);
+        for place in first..end {
+            if self.is_of_at(place, service) {
                 return true;
             }
         }
         false
     }
 
-    /// Where those for a section of a service, whose number is this, stand.
-    fn place_of(&self, service: &[u8], key: u64, section: Section) -> Option<usize>
-        requires { key ≡ key_of service.now }
+    /// Puts those for the sections of a service at the end of a list, as requests of the section at a place among those of the leaf of a number. Refused only
+    /// for want of host memory; then some may be in the list.
+    pub fn put_askers(
+        &self,
+        service: &Service<'_>,
+        leaf: usize,
+        part: usize,
+        askers: &mut Vec<Asker>,
+    ) -> Result<(), AllocError>
+        ensures { OnOk result (askers.new.items ≡ askers.old.items ++ askers_of service.now leaf part self.now) }
+    {
+        let (first, end) = self.range(service);
+        for place in first..end {
+            if self.is_of_at(place, service) {
+                let entry = self.entry_at(place);
+                askers.push(Asker {
+                    leaf,
+                    part,
+                    section: entry.section,
+                    count: entry.count,
+                })?;
+            }
+        }
+        Ok(())
+    }
+
+    /// Where those for a section of a service stand.
+    fn place_of(&self, service: &Service<'_>, section: Section) -> Option<usize>
         ensures { IsAt result service.now section self.now }
     {
-        for (place, other) in self.keys.iter().enumerate() {
-            if self.is_for_at(place, *other, key, service, section) {
+        let (first, end) = self.range(service);
+        for place in first..end {
+            if self.is_for_at(place, service, section) {
                 return Some(place);
             }
         }
         None
     }
 
-    /// So many more for a section of a service, whose number is this, of which there were none.
+    /// So many more for a section of a service, of which there were none.
     fn push(
         &mut self,
-        service: &[u8],
-        key: u64,
+        service: &Service<'_>,
         section: Section,
         count: u64,
     ) -> Result<(), AllocError>
-        requires { key ≡ key_of service.now }
         ensures { OnOk result (Adds self.new self.old (λ v r. is_one v r service.now section * count)) }
     {
-        let name = SmallVec::from_slice(*self.entries.allocator(), service)?;
+        let name = SmallVec::from_slice(*self.entries.allocator(), service.name())?;
         self.entries.reserve(1)?;
-        self.keys.push(key)?;
+        self.places.put(service.key(), self.entries.len());
         self.entries.push_reserved(Entry {
             service: name,
             section,
@@ -213,19 +241,18 @@ impl Requests {
     /// So many more for a section of a service.
     pub(crate) fn add(
         &mut self,
-        service: &[u8],
+        service: &Service<'_>,
         section: Section,
         count: u64,
     ) -> Result<(), AllocError>
         ensures { OnOk result (Adds self.new self.old (λ v r. is_one v r service.now section * count)) }
     {
-        let key = key_of(service);
-        match self.place_of(service, key, section) {
+        match self.place_of(service, section) {
             Some(place) => {
                 self.entries[place].add(count);
                 Ok(())
             }
-            None => self.push(service, key, section, count),
+            None => self.push(service, section, count),
         }
     }
 
@@ -234,11 +261,8 @@ impl Requests {
         ensures { OnOk result (Adds self.new self.old (λ v r. times * requests_for others.now v r)) }
     {
         for entry in &others.entries {
-            self.add(
-                entry.service.as_slice(),
-                entry.section,
-                entry.count.saturating_mul(times),
-            )?;
+            let service = Service::new(entry.service.as_slice());
+            self.add(&service, entry.section, entry.count.saturating_mul(times))?;
         }
         Ok(())
     }
@@ -248,10 +272,10 @@ impl Requests {
         ensures { OnOk result (Raises self.new self.old others.now) }
     {
         for entry in &others.entries {
-            let service = entry.service.as_slice();
-            let wanted = others.count_for(service, entry.section);
-            let missing = wanted.saturating_sub(self.count_for(service, entry.section));
-            self.add(service, entry.section, missing)?;
+            let service = Service::new(entry.service.as_slice());
+            let wanted = others.count_for(&service, entry.section);
+            let missing = wanted.saturating_sub(self.count_for(&service, entry.section));
+            self.add(&service, entry.section, missing)?;
         }
         Ok(())
     }

@@ -18,6 +18,7 @@ ghost use Rattle.gq_counts.specs.internal.Requesting.{requests_in, section_by};
 
 use crate::asked::Requests;
 use crate::asking::{ByLevel, section_by};
+use crate::service::Service;
 use gq_caps::Totals;
 use gq_flow::flow::flow;
 use gq_program::notes::keeps_slots;
@@ -36,7 +37,10 @@ fn count_link(
     ensures { OnOk result (Adds asked.new asked.old (λ v r. by_link v r (link_kind (kind_at context.now state.now place)) (section_by of))) }
 {
     match context.link_at(state, place) {
-        Some(link) => asked.add(link.service(), section_by(of, link.level()), 1),
+        Some(link) => {
+            let service = Service::new(link.service());
+            asked.add(&service, section_by(of, link.level()), 1)
+        }
         None => Ok(()),
     }
 }
@@ -51,7 +55,9 @@ fn count_instruction(
     ensures { OnOk result (Adds asked.new asked.old (λ v r. asks v r context.now state.now instruction.now)) }
 {
     match instruction {
-        Instruction::Open(_, service, _) => asked.add(service.as_bytes(), Section::Opening, 1),
+        Instruction::Open(_, service, _) => {
+            asked.add(&Service::new(service.as_bytes()), Section::Opening, 1)
+        }
         Instruction::Upgrade(place, _) => {
             count_link(context, state, asked, *place, ByLevel::Upgrading)
         }

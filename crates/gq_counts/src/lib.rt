@@ -13,9 +13,11 @@ mod asked;
 mod asking;
 mod counting;
 mod next;
+mod service;
 mod steps;
 
-pub use asked::Requests;
+pub use asked::{Asker, Requests};
 pub use asking::{Asked, requests};
 pub use counting::all_requests;
+pub use service::Service;
 pub use steps::section_cost;

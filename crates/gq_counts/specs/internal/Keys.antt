@@ -1,16 +1,14 @@
--- A number that is made of a service's name: services with other numbers are other ones.
-use Rattle.std.specs.Prelude.{ℕ, ◌+◌, ◌*◌, ◌%◌, ◌^◌, List, [], ◌∷◌}
+-- Services by the numbers that are made of their names.
+use Rattle.std.specs.Prelude.{◌≡◌, ◌<◌, ◌≤◌, ◌⊎◌, false, ℕ, List, [], ◌∷◌, length, get_or}
+use Rattle.gq_model.specs.machine.Program.{text_eq}
+use Rattle.gq_program.specs.Keys.{key_of}
 use Rattle.gq_counts.specs.Requested.{Requested}
-
--- goes on with these letters
-abbrev pub keyed_on : ℕ → List ℕ → ℕ
-keyed_on key [] = key
-keyed_on key (c ∷ rest) = keyed_on ((key * 257 % 2 ^ 64 + c) % 2 ^ 64) rest
-
-abbrev pub key_of : List ℕ → ℕ
-key_of name = keyed_on 0 name
 
 -- those of the services of requests
 abbrev pub keys_of : List Requested → List ℕ
 keys_of [] = []
 keys_of (a ∷ rest) = key_of a.service ∷ keys_of rest
+
+-- none of those before the first of these places, or from the second on, is for a service
+abbrev pub IsOutside : List ℕ → List Requested → ℕ → ℕ → Type 0
+IsOutside service all first end = (i : ℕ) → i < length all → (i < first) ⊎ (end ≤ i) → (e : Requested) → text_eq service (get_or all i e).service ≡ false

@@ -1,6 +1,7 @@
-use Rattle.std.proofs.Common.{◌<◌, List, length, ap, sym, subst, ◌∙◌}
+use Rattle.std.proofs.Common.{◌<◌, ℕ, List, length, ap, sym, subst, ◌∙◌}
 use Rattle.gq_counts.specs.Requested.{Requested}
 use Rattle.gq_counts.proofs.Adding.{requests_put}
+use Rattle.gq_program.specs.Keys.{AreWithin}
 use Rattle.gq_counts.proofs.Keys.{keys_set}
 use Rattle.gq_counts.proofs.asked.Requests.add.Goals as goal
 
@@ -8,7 +9,8 @@ pub invariant_of-self : goal.invariant_of-self
 invariant_of-self c =
     let less = subst (λ (l : List Requested). c.in-Some.place < length l) (sym c.self.view_is) c.in-Some.ensures.0 in
     let same = ap (λ (a : Requested). a.service) c.add.ensures ∙ ap (λ (a : Requested). a.service) c.index_mut.ensures.value in
-    c.self.invariant ∙ sym (keys_set c.self.inside.entries.items c.in-Some.place c.index_mut.result.now c.add.new.self less same)
+    let kept = keys_set c.self.inside.entries.items c.in-Some.place c.index_mut.result.now c.add.new.self less same in
+    subst (λ (l : List ℕ). AreWithin c.self.inside.places l) (sym kept) c.self.invariant
 
 pub returns-in-Some : goal.returns-in-Some
 returns-in-Some c = λ v r.

@@ -1,23 +1,20 @@
-use Rattle.std.proofs.Common.{arith, ap, ◌∙◌}
-use Rattle.gq_counts.specs.Requested.{requests_for}
-use Rattle.gq_counts.specs.internal.Keys.{keys_of}
-use Rattle.gq_counts.proofs.Keys.{in_keys, key_told, summed_more, summed_end, past_keys}
+use Rattle.std.proofs.Common.{arith, ◌<◌, length, List}
+use Rattle.gq_counts.specs.Requested.{Requested, requests_for}
+use Rattle.gq_counts.proofs.Keys.{summed_more, summed_end}
+use Rattle.gq_counts.proofs.Outside.{skipped, rest, not_counted}
 use Rattle.gq_counts.proofs.asked.Requests.count_for.Goals as goal
 
-pub count_at-requires-clause-place : goal.count_at-requires-clause-place
-count_at-requires-clause-place c =
-    let told = c.deref-other-items.ensures.value ∙ (c.self.invariant ∙ ap keys_of c.self.view_is) in
-    in_keys c.deref-other-items.result.now c.args.self.now c.loop-place.place told c.loop-place-test.true
-
-pub count_at-requires-clause-other : goal.count_at-requires-clause-other
-count_at-requires-clause-other c =
-    let told = c.deref-other-items.ensures.value ∙ (c.self.invariant ∙ ap keys_of c.self.view_is) in
-    key_told c.deref-other-items.result.now c.args.self.now c.loop-place.place told c.loop-place-test.true
+pub loop-place-init : goal.loop-place-init
+loop-place-init c =
+    let v = c.args.service.now in
+    let r = c.args.section in
+    let f = λ (l : List Requested). requests_for l v r in
+    let all = skipped v f (not_counted v r) c.args.self.now c.range-first.result.0 c.range-first.result.1 c.range-first.ensures.outside in
+    record { summed = omega (arith, all); fits = omega arith }
 
 pub loop-place-preserved : goal.loop-place-preserved
 loop-place-preserved c =
-    let told = c.deref-other-items.ensures.value ∙ (c.self.invariant ∙ ap keys_of c.self.view_is) in
-    let less = in_keys c.deref-other-items.result.now c.args.self.now c.loop-place.place told c.loop-place-test.true in
+    let less : c.loop-place.place < length c.args.self.now = omega (arith, c.loop-place-test.true, c.range-first.ensures.end) in
     record {
       summed =
           summed_more c.args.self.now c.loop-place.place c.loop-place.sum c.count_at.result c.saturating_add-sum.result c.args.service.now c.args.section _ less
@@ -27,7 +24,10 @@ loop-place-preserved c =
 
 pub returns : goal.returns
 returns c =
-    let told = c.deref-other-items.ensures.value ∙ (c.self.invariant ∙ ap keys_of c.self.view_is) in
-    let past = past_keys c.deref-other-items.result.now c.args.self.now c.loop-place.place told c.loop-place-test.false in
-    summed_end c.args.self.now c.loop-place.place c.loop-place.sum c.args.service.now c.args.section
-    (requests_for c.args.self.now c.args.service.now c.args.section) past c.loop-place.invariant.fits c.loop-place.invariant.summed
+    let v = c.args.service.now in
+    let r = c.args.section in
+    let f = λ (l : List Requested). requests_for l v r in
+    let none = rest v f (not_counted v r) c.args.self.now c.range-first.result.0 c.range-first.result.1 c.loop-place.place c.range-first.ensures.outside
+    c.loop-place-test.false in
+    summed_end c.args.self.now c.loop-place.place c.loop-place.sum v r (requests_for c.args.self.now v r) none c.loop-place.invariant.fits
+    c.loop-place.invariant.summed
