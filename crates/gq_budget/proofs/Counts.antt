@@ -1,5 +1,5 @@
 -- The requests of sections, counted all at once.
-use Rattle.std.proofs.Common.{◌≡◌, ◌<◌, ◌≤◌, ℕ, ◌+◌, List, [], ◌∷◌, ◌++◌, drop, length, get_or, refl, ap, sym, subst, ◌∙◌, append_assoc, append-nil}
+use Rattle.std.proofs.Common.{◌≡◌, ◌<◌, ◌≤◌, ℕ, ◌+◌, List, [], ◌∷◌, ◌++◌, drop, length, get_or, ap, sym, subst, ◌∙◌, append_assoc, append-nil}
 use Rattle.std.proofs.Math.ListN.{drop_of_length-le}
 use Rattle.std.proofs.lemmas.List.{drop_more}
 use Rattle.gq_model.specs.machine.Program.{Statements}
@@ -10,17 +10,7 @@ use Rattle.gq_verify.specs.Counting.{saturated}
 use Rattle.gq_verify.specs.Requested.{Requested, requests_for}
 use Rattle.gq_budget.specs.Leaves.{Leaf}
 use Rattle.gq_budget.specs.Counts.{Counted, IsCountOf, AreCountsOf}
-use Rattle.gq_budget.specs.internal.Counted.{AreRequests, counts_for, requests_of}
-
--- the numbers for a section of a service are the requests for it
-pub counts_are : (v : Subject) (service : List ℕ) (section : Section) (ps : List (Section × Statements)) (asked : List (List Requested)) →
-    AreRequests v ps asked → counts_for asked service section ≡ requests_of v service section ps
-counts_are v service section [] [] h = refl
-counts_are v service section (p ∷ rest) (asked ∷ more) h =
-    ap (λ (n : ℕ). n ∷ counts_for more service section) (h.0 service section)
-    ∙ ap (λ (l : List ℕ). saturated (section_requests v p.0 service section) ∷ l) (counts_are v service section rest more h.1)
-counts_are v service section [] (asked ∷ more) h = absurd h
-counts_are v service section (p ∷ rest) [] h = absurd h
+use Rattle.gq_budget.specs.internal.Counted.{AreRequests}
 
 -- with those of the sections that are left they are those of all
 abbrev pub Leads : Subject → List (Section × Statements) → List (Section × Statements) → List (List Requested) → Type 0

@@ -3,7 +3,7 @@ use Rattle.std.proofs.Common.{◌≡◌, ◌<◌, ℕ, zero, suc, arith, ◌+◌
 use Rattle.gq_budget.specs.internal.Rounds.{Asks, round, rounds}
 
 -- all later rounds give the same
-pub rounds_stay : (asks : List (List Asks)) (table : List (List ℕ)) (k d : ℕ) → round asks (rounds k asks table) ≡ rounds k asks table →
+pub rounds_stay : (asks : List Asks) (table : List (List ℕ)) (k d : ℕ) → round asks (rounds k asks table) ≡ rounds k asks table →
     rounds (k + d) asks table ≡ rounds k asks table
 rounds_stay asks table k zero e = ap (λ n. rounds n asks table) (omega arith)
 rounds_stay asks table k (suc d) e =
@@ -11,7 +11,7 @@ rounds_stay asks table k (suc d) e =
     ap (λ n. rounds n asks table) next ∙ (ap (round asks) (rounds_stay asks table k d e) ∙ e)
 
 -- so a table that a round leaves as it is, is that of all rounds
-pub rounds_end : (asks : List (List Asks)) (table next : List (List ℕ)) (n uses : ℕ) → n < uses → table ≡ rounds (suc n) asks [] →
+pub rounds_end : (asks : List Asks) (table next : List (List ℕ)) (n uses : ℕ) → n < uses → table ≡ rounds (suc n) asks [] →
     next ≡ round asks table → next ≡ table → table ≡ round asks (rounds uses asks [])
 rounds_end asks table next n uses less is to same =
     let fixed : round asks (rounds (suc n) asks []) ≡ rounds (suc n) asks [] = ap (round asks) (sym is) ∙ (sym to ∙ (same ∙ is)) in

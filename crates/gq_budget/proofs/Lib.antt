@@ -1,10 +1,8 @@
-pub mod Agreeing
 pub mod Counts
 pub mod Sums
 pub mod Lists
-pub mod Leaf_asks
+pub mod Asked
 pub mod Kept
-pub mod Counted_asks
+pub mod Agreeing
 pub mod Ends
 pub mod Orders
-pub mod Last

@@ -1,8 +1,7 @@
 -- Lists that are made of two others, item by item.
 use Rattle.std.proofs.Common.{◌≡◌, ℕ, Bool, List, [], ◌∷◌, ◌++◌, map, Vec, Global, refl, ap, sym, ◌∙◌, ◌⊎◌, inl, inr, append_assoc, append-nil}
-use Rattle.gq_model.specs.declared.program.Section.{Section}
 use Rattle.gq_budget.specs.Counts.{Counted}
-use Rattle.gq_budget.specs.internal.Rounds.{asked_of, asked_by, asks_of, all_asks, budgets_by, up_to_last}
+use Rattle.gq_budget.specs.internal.Rounds.{all_asks, budgets_by}
 use Rattle.gq_budget.specs.internal.Sums.{products}
 use Rattle.gq_verify.specs.Counting.{saturated}
 
@@ -16,29 +15,11 @@ one_more made made' rest rest' all x x' m same r e =
 pub none_left : {A : Type 0} (made rest all : List A) → rest ≡ [] → made ++ rest ≡ all → made ≡ all
 none_left made rest all r e = sym (append-nil made) ∙ (ap (λ l. made ++ l) (sym r) ∙ e)
 
-pub asked_none : (xs : List Counted) (ys : List Bool) (service : List ℕ) (section : Section) → (xs ≡ []) ⊎ (ys ≡ []) → asked_by xs ys service section ≡ []
-asked_none [] ys service section h = refl
-asked_none (x ∷ xs) [] service section h = refl
-asked_none (x ∷ xs) (y ∷ ys) service section (inl e) = cc
-asked_none (x ∷ xs) (y ∷ ys) service section (inr e) = cc
-
-pub asked_first : (xs xs' : List Counted) (ys ys' : List Bool) (x : Counted) (y : Bool) (service : List ℕ) (section : Section) → xs ≡ x ∷ xs' → ys ≡ y ∷ ys' →
-    asked_by xs ys service section ≡ asked_of x y service section ∷ asked_by xs' ys' service section
-asked_first xs xs' ys ys' x y service section e f = ap (λ l. asked_by l ys service section) e ∙ ap (λ l. asked_by (x ∷ xs') l service section) f
-
-pub asks_none : (leaves xs : List Counted) (ys : List (Vec Bool Global)) → (xs ≡ []) ⊎ (ys ≡ []) →
-    all_asks leaves xs (map up_to_last (map (λ v. v.items) ys)) ≡ []
+pub asks_none : (leaves xs : List Counted) (ys : List (Vec Bool Global)) → (xs ≡ []) ⊎ (ys ≡ []) → all_asks leaves xs (map (λ v. v.items) ys) ≡ []
 asks_none leaves [] ys h = refl
 asks_none leaves (x ∷ xs) [] h = refl
 asks_none leaves (x ∷ xs) (y ∷ ys) (inl e) = cc
 asks_none leaves (x ∷ xs) (y ∷ ys) (inr e) = cc
-
-pub asks_first : (leaves xs xs' : List Counted) (ys ys' : List (Vec Bool Global)) (x : Counted) (y : Vec Bool Global) → xs ≡ x ∷ xs' → ys ≡ y ∷ ys' →
-    all_asks leaves xs (map up_to_last (map (λ v. v.items) ys)) ≡
-    asks_of leaves (up_to_last y.items) x.provides x.sections ∷ all_asks leaves xs' (map up_to_last (map (λ v. v.items) ys'))
-asks_first leaves xs xs' ys ys' x y e f =
-    ap (λ l. all_asks leaves l (map up_to_last (map (λ v. v.items) ys))) e
-    ∙ ap (λ l. all_asks leaves (x ∷ xs') (map up_to_last (map (λ v. v.items) l))) f
 
 pub budgets_none : (xs : List Counted) (ys : List (List ℕ)) → (xs ≡ []) ⊎ (ys ≡ []) → budgets_by xs ys ≡ []
 budgets_none [] ys h = refl

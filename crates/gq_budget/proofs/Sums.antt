@@ -1,9 +1,9 @@
--- Sums of products that are kept xs far xs they go.
+-- Sums of products that are kept as far as they go.
 use Rattle.std.proofs.Common.{◌≡◌, ◌≤◌, ℕ, arith, ◌+◌, ◌*◌, List, [], ◌∷◌, min, ap, ◌∙◌, ◌⊎◌, inl, inr}
 use Rattle.gq_counts.proofs.Counts.{times}
-use Rattle.gq_budget.specs.internal.Sums.{products, table_products}
+use Rattle.gq_budget.specs.internal.Sums.{products}
 
--- a product of two numbers of which both are kept xs far xs they go
+-- a product of two numbers of which both are kept as far as they go
 pub product_kept : (m a b : ℕ) → min (min a m * min b m) m ≡ min (a * b) m
 product_kept m a b =
     let l : min (min a m * min b m) m ≡ min (a * min b m) m = times m (min b m) a in
@@ -24,16 +24,3 @@ pub products_end : (m sum all : ℕ) (xs ys : List ℕ) → (xs ≡ []) ⊎ (ys 
 products_end m sum all xs ys (inl a) fits e = let q = ap (λ (l : List ℕ). products l ys) a in omega (arith, q, fits, e)
 products_end m sum all [] ys (inr b) fits e = omega (arith, fits, e)
 products_end m sum all (x ∷ xs) ys (inr b) fits e = let q = ap (λ (l : List ℕ). products (x ∷ xs) l) b in omega (arith, q, fits, e)
-
--- the same of tables
-pub tables_more : (m sum product next : ℕ) (x y : List ℕ) (all : ℕ) (xs ys xs' ys' : List (List ℕ)) → xs ≡ x ∷ xs' → ys ≡ y ∷ ys' →
-    product ≡ min (products x y) m → next ≡ min (sum + product) m → min (sum + table_products xs ys) m ≡ all → min (next + table_products xs' ys') m ≡ all
-tables_more m sum product next x y all xs ys xs' ys' a b p n e =
-    let q : table_products xs ys ≡ products x y + table_products xs' ys' =
-    ap (λ (l : List (List ℕ)). table_products l ys) a ∙ ap (λ (l : List (List ℕ)). table_products (x ∷ xs') l) b in
-    omega (arith, p, n, e, q)
-
-pub tables_end : (m sum all : ℕ) (xs ys : List (List ℕ)) → (xs ≡ []) ⊎ (ys ≡ []) → sum ≤ m → min (sum + table_products xs ys) m ≡ min all m → sum ≡ min all m
-tables_end m sum all xs ys (inl a) fits e = let q = ap (λ (l : List (List ℕ)). table_products l ys) a in omega (arith, q, fits, e)
-tables_end m sum all [] ys (inr b) fits e = omega (arith, fits, e)
-tables_end m sum all (x ∷ xs) ys (inr b) fits e = let q = ap (λ (l : List (List ℕ)). table_products (x ∷ xs) l) b in omega (arith, q, fits, e)

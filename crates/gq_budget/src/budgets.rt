@@ -28,7 +28,7 @@ fn budgets(alloc: Global, leaves: &[CountedLeaf], often: &[Numbers]) -> Result<V
 
 // How often each section of each leaf runs by chains of at most so many uses; 2^64 - 1 where it is more often. Where the leaves stand in an order of use, the
 // numbers of each are made once; else round by round.
-fn times(alloc: Global, asks: &[LeafAsks], uses: usize) -> Result<Vec<Numbers>, AllocError>
+fn times(alloc: Global, asks: &[LeafAsks<'_>], uses: usize) -> Result<Vec<Numbers>, AllocError>
     ensures { IfOk result (λ often. often.items ≡ rounds (suc uses) asks.now []) }
 {
     match in_order(alloc, asks, uses)? {

@@ -1,13 +1,13 @@
 // Leaves whose sections are counted.
-ghost use Rattle.std.specs.Prelude.{◌≡◌, IfOk, option_copied};
+ghost use Rattle.std.specs.Prelude.{◌≡◌, ◌++◌, IfOk, OnOk, option_copied};
 ghost use Rattle.gq_budget.specs.Counts.{IsCountOf, AreCountsOf, asks};
-ghost use Rattle.gq_budget.specs.internal.Counted.{counts_for};
+ghost use Rattle.gq_budget.specs.internal.Rounds.{askers_in};
 
 use crate::leaf::Leaf;
 use crate::numbers::Numbers;
+use gq_counts::{Asker, Service};
 use gq_program::{Name, Section};
 use gq_verify::Requests;
-use smallvec::SmallVec;
 use std::alloc::{AllocError, Global};
 use std::marker::Model;
 
@@ -34,7 +34,7 @@ fn copied(name: Option<&Name>) -> Option<Name>
     ensures { result ≡ option_copied name.entry }
 {
     match name {
-        Some(name) => Name::new(name.as_bytes()),
+        Some(name) => Some(name.copied()),
         None => None,
     }
 }
@@ -63,7 +63,7 @@ impl CountedLeaf {
     }
 
     /// Whether one of its sections asks for a section of a service.
-    pub fn asks_for(&self, service: &[u8]) -> bool
+    pub fn asks_for(&self, service: &Service<'_>) -> bool
         ensures { result ≡ asks service.now self.now }
     {
         for requests in &self.requests {
@@ -88,20 +88,19 @@ impl CountedLeaf {
         &self.costs
     }
 
-    /// How often each of its sections asks for a section of a service; 2^64 - 1 where it is more often.
-    pub(crate) fn requests(
+    /// Puts the requests of its sections for those of a service at the end of a list, as those of the leaf of a number.
+    pub(crate) fn put_askers(
         &self,
-        alloc: Global,
-        service: &[u8],
-        section: Section,
-    ) -> Result<Numbers, AllocError>
-        ensures { IfOk result (λ r. r ≡ counts_for self.now.requests service.now section) }
+        service: &Service<'_>,
+        leaf: usize,
+        askers: &mut Vec<Asker>,
+    ) -> Result<(), AllocError>
+        ensures { OnOk result (askers.new.items ≡ askers.old.items ++ askers_in service.now leaf 0 self.now.requests) }
     {
-        let mut counts = SmallVec::new(alloc);
-        for requests in &self.requests {
-            counts.push(requests.count_for(service, section))?;
+        for (part, requests) in self.requests.iter().enumerate() {
+            requests.put_askers(service, leaf, part, askers)?;
         }
-        Ok(Numbers::new(counts))
+        Ok(())
     }
 }
 

@@ -1,5 +1,5 @@
 // An order of use: for each leaf a level above those of all leaves that ask for its sections.
-ghost use Rattle.std.specs.Prelude.{◌≡◌, true, IfOk, IfSome, [], suc};
+ghost use Rattle.std.specs.Prelude.{◌≡◌, true, IfOk, IfSome, [], suc, get_or};
 ghost use Rattle.gq_budget.specs.internal.Order.{IsOrder, IsPlaced};
 ghost use Rattle.gq_budget.specs.internal.Rounds.{rounds};
 
@@ -9,11 +9,22 @@ use crate::rounds::{are_same, round};
 use smallvec::SmallVec;
 use std::alloc::{AllocError, Global};
 
+// The level of a leaf; 0 where it has none.
+fn level_of(levels: &[usize], leaf: usize) -> usize
+    ensures { result ≡ get_or levels.now leaf 0 }
+{
+    match levels.get(leaf) {
+        Some(level) => *level,
+        None => 0,
+    }
+}
+
 // A level of a leaf, of at least so much, above those of the leaves that ask for its sections, as these levels have it.
-fn level(asks: &LeafAsks, levels: &[usize], least: usize) -> usize {
+fn level(asks: &LeafAsks<'_>, levels: &[usize], least: usize) -> usize {
     let mut level = least;
-    for (leaf, below) in levels.iter().enumerate() {
-        if *below >= level && asks.is_asked_by(leaf) {
+    for asker in asks.askers() {
+        let below = level_of(levels, asker.leaf);
+        if below >= level {
             level = below.saturating_add(1);
         }
     }
@@ -21,7 +32,7 @@ fn level(asks: &LeafAsks, levels: &[usize], least: usize) -> usize {
 }
 
 // Raises the level of a leaf above those of the leaves that ask for its sections. It tells whether it was lower.
-fn raise(asks: &[LeafAsks], levels: &mut Vec<usize>, leaf: usize) -> bool {
+fn raise(asks: &[LeafAsks<'_>], levels: &mut Vec<usize>, leaf: usize) -> bool {
     if leaf >= asks.len() || leaf >= levels.len() {
         return false;
     }
@@ -32,7 +43,7 @@ fn raise(asks: &[LeafAsks], levels: &mut Vec<usize>, leaf: usize) -> bool {
 }
 
 // Raises the levels of all leaves, from the first to the last. It tells whether one was raised.
-fn raise_all(asks: &[LeafAsks], levels: &mut Vec<usize>) -> bool {
+fn raise_all(asks: &[LeafAsks<'_>], levels: &mut Vec<usize>) -> bool {
     let mut is_raised = false;
     for leaf in 0..asks.len() {
         is_raised |= raise(asks, levels, leaf);
@@ -41,7 +52,7 @@ fn raise_all(asks: &[LeafAsks], levels: &mut Vec<usize>) -> bool {
 }
 
 // The same from the last to the first.
-fn raise_back(asks: &[LeafAsks], levels: &mut Vec<usize>) -> bool {
+fn raise_back(asks: &[LeafAsks<'_>], levels: &mut Vec<usize>) -> bool {
     let mut is_raised = false;
     for leaf in (0..asks.len()).rev() {
         is_raised |= raise(asks, levels, leaf);
@@ -50,7 +61,7 @@ fn raise_back(asks: &[LeafAsks], levels: &mut Vec<usize>) -> bool {
 }
 
 // Levels of the leaves, which are an order of use where there is one: they are raised until all are above the leaves that ask.
-fn levels(alloc: Global, asks: &[LeafAsks]) -> Result<Vec<usize>, AllocError> {
+fn levels(alloc: Global, asks: &[LeafAsks<'_>]) -> Result<Vec<usize>, AllocError> {
     let mut levels = Vec::from_elem(alloc, 0, asks.len())?;
     for _ in 0..asks.len() {
         let is_raised = raise_all(asks, &mut levels);
@@ -62,14 +73,14 @@ fn levels(alloc: Global, asks: &[LeafAsks]) -> Result<Vec<usize>, AllocError> {
 }
 
 // Whether a leaf may stand at a level: no leaf that asks for its sections stands as high, and it is no greater than there are uses.
-fn is_placed(asks: &LeafAsks, levels: &[usize], uses: usize, level: usize) -> bool
-    ensures { result ≡ true → IsPlaced asks.now levels.now uses level }
+fn is_placed(asks: &LeafAsks<'_>, levels: &[usize], uses: usize, level: usize) -> bool
+    ensures { result ≡ true → IsPlaced asks.now.askers levels.now uses level }
 {
     if level > uses {
         return false;
     }
-    for (leaf, other) in levels.iter().enumerate() {
-        if *other >= level && asks.is_asked_by(leaf) {
+    for asker in asks.askers() {
+        if level_of(levels, asker.leaf) >= level {
             return false;
         }
     }
@@ -77,7 +88,7 @@ fn is_placed(asks: &LeafAsks, levels: &[usize], uses: usize, level: usize) -> bo
 }
 
 // Whether these levels are an order of use, and none is greater than there are uses.
-fn is_order(asks: &[LeafAsks], levels: &[usize], uses: usize) -> bool
+fn is_order(asks: &[LeafAsks<'_>], levels: &[usize], uses: usize) -> bool
     ensures { result ≡ true → IsOrder asks.now levels.now uses }
 {
     if levels.len() != asks.len() {
@@ -94,7 +105,7 @@ fn is_order(asks: &[LeafAsks], levels: &[usize], uses: usize) -> bool
 // Puts the numbers of the leaves of a level into the table.
 fn fill(
     alloc: Global,
-    asks: &[LeafAsks],
+    asks: &[LeafAsks<'_>],
     levels: &[usize],
     level: usize,
     table: &mut Vec<Numbers>,
@@ -117,7 +128,11 @@ fn empty(alloc: Global, count: usize) -> Result<Vec<Numbers>, AllocError> {
 }
 
 // How often each section of each leaf runs, the leaves of a level after those of all lower ones.
-fn filled(alloc: Global, asks: &[LeafAsks], levels: &[usize]) -> Result<Vec<Numbers>, AllocError> {
+fn filled(
+    alloc: Global,
+    asks: &[LeafAsks<'_>],
+    levels: &[usize],
+) -> Result<Vec<Numbers>, AllocError> {
     let mut table = empty(alloc, asks.len())?;
     for level in 0..asks.len() {
         fill(alloc, asks, levels, level, &mut table)?;
@@ -129,7 +144,7 @@ fn filled(alloc: Global, asks: &[LeafAsks], levels: &[usize]) -> Result<Vec<Numb
 /// those of the leaves that ask for its sections. `None` where no order of use was found, as there may be none.
 pub(crate) fn in_order(
     alloc: Global,
-    asks: &[LeafAsks],
+    asks: &[LeafAsks<'_>],
     uses: usize,
 ) -> Result<Option<Vec<Numbers>>, AllocError>
     ensures { IfOk result (λ found. IfSome found (λ often. often.items ≡ rounds (suc uses) asks.now [])) }

@@ -1,8 +1,7 @@
 // Lists of numbers, and sums of products.
-ghost use Rattle.std.specs.Prelude.{◌≡◌, true};
+ghost use Rattle.std.specs.Prelude.{◌≡◌, true, get_or};
 ghost use Rattle.gq_verify.specs.Counting.{saturated};
-ghost use Rattle.gq_budget.specs.internal.Order.{AreZero};
-ghost use Rattle.gq_budget.specs.internal.Sums.{products, table_products};
+ghost use Rattle.gq_budget.specs.internal.Sums.{products};
 
 use smallvec::SmallVec;
 use std::marker::Model;
@@ -10,7 +9,7 @@ use std::marker::Model;
 /// How many numbers take no host memory.
 pub(crate) const FEW: usize = 4;
 
-/// A list of numbers, by the sections of a leaf. Who provides nothing has one section, and a service with one kind of call takes four, so that most lists take
+/// A list of numbers, by the sections of a leaf. Who provides nothing has one section, and a service without upgrades four, so that most lists take
 /// no host memory.
 #[derive(Drop)]
 pub(crate) struct Numbers {
@@ -40,16 +39,14 @@ impl Numbers {
         products(self.numbers.as_slice(), often.numbers.as_slice())
     }
 
-    /// Whether all of them are 0.
-    pub fn is_zero(&self) -> bool
-        ensures { result ≡ true → AreZero self.now }
+    /// The number at a place; 0 past the last.
+    pub fn at(&self, place: usize) -> u64
+        ensures { result ≡ get_or self.now place 0 }
     {
-        for number in self.numbers.as_slice() {
-            if *number != 0 {
-                return false;
-            }
+        match self.numbers.as_slice().get(place) {
+            Some(number) => *number,
+            None => 0,
         }
-        true
     }
 
     /// Whether both are the same numbers.
@@ -67,17 +64,6 @@ fn products(counts: &[u64], often: &[u64]) -> u64
     let mut sum = 0_u64;
     for (count, times) in counts.iter().zip(often) {
         sum = sum.saturating_add(count.saturating_mul(*times));
-    }
-    sum
-}
-
-/// The same of two tables: the sum of the products of the numbers at the same places of both.
-pub(crate) fn table_products(counts: &[Numbers], often: &[Numbers]) -> u64
-    ensures { result ≡ saturated (table_products counts.now often.now) }
-{
-    let mut sum = 0_u64;
-    for (row, times) in counts.iter().zip(often) {
-        sum = sum.saturating_add(row.products(times));
     }
     sum
 }

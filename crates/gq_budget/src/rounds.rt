@@ -9,7 +9,7 @@ use std::alloc::{AllocError, Global};
 // How often each section of each leaf runs, where the sections that ask for it run so often.
 pub(crate) fn round(
     alloc: Global,
-    asks: &[LeafAsks],
+    asks: &[LeafAsks<'_>],
     table: &[Numbers],
 ) -> Result<Vec<Numbers>, AllocError>
     ensures { IfOk result (λ often. often.items ≡ round asks.now table.now) }
@@ -40,7 +40,7 @@ pub(crate) fn are_same(table: &[Numbers], other: &[Numbers]) -> bool
 /// changes nothing is the last one that is taken.
 pub(crate) fn rounds(
     alloc: Global,
-    asks: &[LeafAsks],
+    asks: &[LeafAsks<'_>],
     uses: usize,
 ) -> Result<Vec<Numbers>, AllocError>
     ensures { IfOk result (λ often. often.items ≡ rounds (suc uses) asks.now []) }

@@ -1,5 +1,5 @@
 // How many steps leaves may take, by who uses whom.
-ghost use Rattle.std.specs.Prelude.{◌≡◌, ◌<◌, ◌^◌, length, map, Some, IfOk, option_copied, slice_get};
+ghost use Rattle.std.specs.Prelude.{◌≡◌, ◌<◌, ◌^◌, length, map, Some, IfOk, slice_get};
 ghost use Rattle.gq_model.specs.machine.Scenario as model;
 ghost use Rattle.gq_model.specs.machine.Scenario.{system};
 ghost use Rattle.gq_budget.specs.Budgets.{budgets_of};
@@ -8,14 +8,16 @@ ghost use Rattle.gq_resolve.specs.Served.{AreServers, server_among};
 ghost use Rattle.gq_budget.specs.Leaves.{leaves_of};
 ghost use Rattle.gq_step_budgets.specs.internal.Leads.{AreTold, leads_to, leads_row, leads_rows};
 
-use gq_budget::{CountedLeaf, counted_budgets};
+use gq_budget::{CountedLeaf, Service, counted_budgets};
 use gq_model::program::Name;
 use gq_resolve::component::Component;
 use gq_resolve::routes::{Routes, server_of};
 use gq_scenario::scenario::{LeafNo, Scenario};
 use std::alloc::{AllocError, Global};
+use std::marker::Model;
 
-// The leaf that serves the sessions of a service of a component, the leaf of this number. Its route is looked for only where the routes tell no server.
+// The leaf that serves the sessions of a service of a component, the leaf of this number. Its route is looked for only where the routes tell no server, which
+// they do of each service that a program opens.
 fn served_by(
     components: &[Component<'_>],
     routes: &Routes,
@@ -34,13 +36,42 @@ fn served_by(
     }
 }
 
-// Whether a component, the leaf of the second number, asks for a service and its route for it leads to the leaf of the first; none does for no service. A route
-// is looked for only where it is asked for.
+// The name of a service that a leaf provides, as routes and requests are searched for it.
+#[derive(Drop)]
+struct Provided<'a> {
+    name: &'a Name,
+    service: Service<'a>,
+}
+
+impl<'a> Model for Provided<'a> {
+    ghost use Rattle.std.specs.Prelude.{◌≡◌, ℕ, List};
+
+    ghost Value = { List ℕ };
+
+    ghost view = { λ p. p.name.now };
+
+    ghost invariant = { λ p. p.service ≡ p.name.now };
+}
+
+impl<'a> Provided<'a> {
+    // The service of this name.
+    fn new(name: &'a Name) -> Provided<'a>
+        ensures { result ≡ name.now }
+    {
+        Provided {
+            name,
+            service: Service::new(name.as_bytes()),
+        }
+    }
+}
+
+// Whether a component, the leaf of the second number, asks for a service and its route for it leads to the leaf of the first. A route is looked for only where
+// it is asked for.
 fn leads_to(
     components: &[Component<'_>],
     routes: &Routes,
     leaf: LeafNo,
-    provides: Option<&Name>,
+    provided: &Provided<'_>,
     user: LeafNo,
     component: &Component<'_>,
     counted: &CountedLeaf,
@@ -48,15 +79,10 @@ fn leads_to(
     requires few { length components.now < 2 ^ 32 }
     requires told { AreTold components.now routes.now }
     requires user { slice_get components.now user ≡ Some component.now }
-    ensures { result ≡ leads_to components.now leaf (option_copied provides.entry) component.now counted.now }
+    ensures { result ≡ leads_to components.now leaf provided.now component.now counted.now }
 {
-    match provides {
-        Some(service) => {
-            counted.asks_for(service.as_bytes())
-                && served_by(components, routes, user, component, service) == Some(leaf)
-        }
-        None => false,
-    }
+    counted.asks_for(&provided.service)
+        && served_by(components, routes, user, component, provided.name) == Some(leaf)
 }
 
 // Which of these leaves ask for a service by routes that lead to the leaf of a number.
@@ -66,21 +92,47 @@ fn leads_row(
     routes: &Routes,
     counted: &[CountedLeaf],
     leaf: LeafNo,
-    provides: Option<&Name>,
+    provided: &Provided<'_>,
 ) -> Result<Vec<bool>, AllocError>
     requires few { length components.now < 2 ^ 32 }
     requires told { AreTold components.now routes.now }
-    ensures { IfOk result (λ row. row.items ≡ leads_row components.now leaf (option_copied provides.entry) components.now counted.now) }
+    ensures { IfOk result (λ row. row.items ≡ leads_row components.now leaf (Some provided.now) components.now counted.now) }
 {
-    let mut row = Vec::new(alloc);
+    let mut row = Vec::with_capacity(alloc, components.len())?;
     for (place, component) in components.iter().enumerate() {
         let Some(counted) = counted.get(place) else {
             return Ok(row);
         };
         let user = LeafNo::new(place as u32);
-        row.push(leads_to(components, routes, leaf, provides, user, component, counted))?;
+        row.push(leads_to(components, routes, leaf, provided, user, component, counted))?;
     }
     Ok(row)
+}
+
+// Which of these leaves ask for the service of a component, the leaf of a number, by routes that lead to it; none where it provides none, and nothing is told.
+fn leads(
+    alloc: Global,
+    components: &[Component<'_>],
+    routes: &Routes,
+    counted: &[CountedLeaf],
+    leaf: LeafNo,
+    component: &Component<'_>,
+) -> Result<Vec<bool>, AllocError>
+    requires few { length components.now < 2 ^ 32 }
+    requires told { AreTold components.now routes.now }
+    ensures { IfOk result (λ row. row.items ≡ leads_row components.now leaf component.now.node.provides components.now counted.now) }
+{
+    match component.leaf().provides() {
+        Some(name) => leads_row(
+            alloc,
+            components,
+            routes,
+            counted,
+            leaf,
+            &Provided::new(name),
+        ),
+        None => Ok(Vec::new(alloc)),
+    }
 }
 
 // For each of these leaves, which leaves ask for its service by routes that lead to it.
@@ -97,15 +149,7 @@ fn leads_rows(
     let mut rows = Vec::new(alloc);
     for (place, component) in components.iter().enumerate() {
         let leaf = LeafNo::new(place as u32);
-        let row = leads_row(
-            alloc,
-            components,
-            routes,
-            counted,
-            leaf,
-            component.leaf().provides(),
-        )?;
-        rows.push(row)?;
+        rows.push(leads(alloc, components, routes, counted, leaf, component)?)?;
     }
     Ok(rows)
 }

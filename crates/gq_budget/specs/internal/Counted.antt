@@ -7,11 +7,6 @@ use Rattle.gq_model.specs.rules.Budgets.{section_cost, section_requests}
 use Rattle.gq_verify.specs.Counting.{saturated}
 use Rattle.gq_verify.specs.Requested.{Requested, requests_for}
 
--- the requests of each of these sections of a leaf for a section of a service
-abbrev pub requests_of : Subject → List ℕ → Section → List (Section × Statements) → List ℕ
-requests_of v service section [] = []
-requests_of v service section (p ∷ rest) = saturated (section_requests v p.0 service section) ∷ requests_of v service section rest
-
 -- all requests of each of these sections of a leaf
 abbrev pub AreRequests : Subject → List (Section × Statements) → List (List Requested) → Type 0
 AreRequests v [] [] = Unit {0}
@@ -20,11 +15,6 @@ AreRequests v (p ∷ rest) (asked ∷ more) =
     × AreRequests v rest more
 AreRequests v [] (asked ∷ more) = ⊥
 AreRequests v (p ∷ rest) [] = ⊥
-
--- how many of each are for a section of a service
-abbrev pub counts_for : List (List Requested) → List ℕ → Section → List ℕ
-counts_for [] service section = []
-counts_for (asked ∷ rest) service section = saturated (requests_for asked service section) ∷ counts_for rest service section
 
 -- the steps of each of these sections
 abbrev pub costs_of : List (Section × Statements) → List ℕ

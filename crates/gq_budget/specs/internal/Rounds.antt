@@ -1,57 +1,75 @@
 -- How often sections run, round by round.
-use Rattle.std.specs.Prelude.{ℕ, zero, suc, ◌+◌, if◌then◌else◌, Bool, true, false, List, [], ◌∷◌, Option, Some, None}
+use Rattle.std.specs.Prelude.{ℕ, zero, suc, ◌+◌, ◌*◌, if◌then◌else◌, Bool, List, [], ◌∷◌, ◌++◌, Option, Some, None, get_or}
+use Rattle.gq_model.specs.machine.Program.{same_section}
 use Rattle.gq_model.specs.declared.program.Section.{Section}
 use Rattle.gq_model.specs.declared.program.Section.TheVariants.{Main}
+use Rattle.gq_counts.specs.declared.asked.Asker.{Asker}
+use Rattle.gq_counts.specs.Requested.{Requested}
+use Rattle.gq_counts.specs.Askers.{askers_of}
 use Rattle.gq_verify.specs.Counting.{saturated}
 use Rattle.gq_budget.specs.Counts.{Counted}
-use Rattle.gq_budget.specs.internal.Counted.{counts_for}
-use Rattle.gq_budget.specs.internal.Sums.{products, table_products}
+use Rattle.gq_budget.specs.internal.Sums.{products}
 
--- how often a section runs by itself, and how often each section of each leaf asks for it
+-- WHO ASKS
+
+-- the sections of a leaf, and who asks for them
 pub record Asks : Type 0 where
-  pub first : ℕ
-  pub asked : List (List ℕ)
+  pub sections : List Section
+  pub askers : List Asker
 
--- the requests of a leaf; one that does not lead asks for nothing
-abbrev pub asked_of : Counted → Bool → List ℕ → Section → List ℕ
-asked_of leaf leads service section = if leads then counts_for leaf.requests service section else []
+-- the requests of these sections of the y-th leaf for those of a service; the first of them is its k-th
+abbrev pub askers_in : List ℕ → ℕ → ℕ → List (List Requested) → List Asker
+askers_in service y k [] = []
+askers_in service y k (asked ∷ rest) = askers_of service y k asked ++ askers_in service y (suc k) rest
 
--- the requests of these leaves
-abbrev pub asked_by : List Counted → List Bool → List ℕ → Section → List (List ℕ)
-asked_by (leaf ∷ leaves) (leads ∷ rest) service section = asked_of leaf leads service section ∷ asked_by leaves rest service section
-asked_by [] leads service section = []
-asked_by (leaf ∷ leaves) [] service section = []
+-- a leaf that does not lead asks for nothing
+abbrev pub leaf_askers : List ℕ → ℕ → Counted → Bool → List Asker
+leaf_askers service y leaf leads = if leads then askers_in service y 0 leaf.requests else []
 
--- `main` runs once; another section as often as it is asked for
-abbrev pub asks_for : List Counted → List Bool → Option (List ℕ) → Section → Asks
-asks_for leaves leads provides Main = record { first = 1; asked = [] }
-asks_for leaves leads None section = record { first = 0; asked = [] }
-asks_for leaves leads (Some service) section = record { first = 0; asked = asked_by leaves leads service section }
+-- the requests of these leaves, of which the first is the y-th
+abbrev pub askers_by : List ℕ → ℕ → List Counted → List Bool → List Asker
+askers_by service y (leaf ∷ leaves) (leads ∷ rest) = leaf_askers service y leaf leads ++ askers_by service (suc y) leaves rest
+askers_by service y [] leads = []
+askers_by service y (leaf ∷ leaves) [] = []
 
-abbrev pub asks_of : List Counted → List Bool → Option (List ℕ) → List Section → List Asks
-asks_of leaves leads provides [] = []
-asks_of leaves leads provides (section ∷ rest) = asks_for leaves leads provides section ∷ asks_of leaves leads provides rest
+-- nobody asks for the sections of a leaf that provides no service
+abbrev pub askers_for : List Counted → List Bool → Option (List ℕ) → List Asker
+askers_for leaves leads None = []
+askers_for leaves leads (Some service) = askers_by service 0 leaves leads
 
--- of each section of each of these leaves
-abbrev pub all_asks : List Counted → List Counted → List (List Bool) → List (List Asks)
-all_asks leaves (leaf ∷ rest) (leads ∷ more) = asks_of leaves leads leaf.provides leaf.sections ∷ all_asks leaves rest more
+-- of each of these leaves
+abbrev pub all_asks : List Counted → List Counted → List (List Bool) → List Asks
+all_asks leaves (leaf ∷ rest) (leads ∷ more) =
+    record { sections = leaf.sections; askers = askers_for leaves leads leaf.provides } ∷ all_asks leaves rest more
 all_asks leaves [] leads = []
 all_asks leaves (leaf ∷ rest) [] = []
 
--- how often a section runs, where the sections of the leaves run so often
-abbrev pub often : Asks → List (List ℕ) → ℕ
-often asks table = saturated (asks.first + table_products asks.asked table)
+-- HOW OFTEN
 
-abbrev pub leaf_round : List Asks → List (List ℕ) → List ℕ
-leaf_round [] table = []
-leaf_round (asks ∷ rest) table = often asks table ∷ leaf_round rest table
+-- how often the section that asks runs, by a table of each section of each leaf
+abbrev pub runs : List (List ℕ) → Asker → ℕ
+runs table a = get_or (get_or table a.leaf []) a.part 0
 
-abbrev pub round : List (List Asks) → List (List ℕ) → List (List ℕ)
+-- how often these ask for a section
+abbrev pub asked_sum : Section → List Asker → List (List ℕ) → ℕ
+asked_sum section [] table = 0
+asked_sum section (a ∷ rest) table = (if same_section section a.section then a.count else 0) * runs table a + asked_sum section rest table
+
+-- `main` runs once; another section as often as it is asked for
+abbrev pub often : Section → List Asker → List (List ℕ) → ℕ
+often Main askers table = 1
+often section askers table = saturated (asked_sum section askers table)
+
+abbrev pub leaf_round : List Section → List Asker → List (List ℕ) → List ℕ
+leaf_round [] askers table = []
+leaf_round (section ∷ rest) askers table = often section askers table ∷ leaf_round rest askers table
+
+abbrev pub round : List Asks → List (List ℕ) → List (List ℕ)
 round [] table = []
-round (asks ∷ rest) table = leaf_round asks table ∷ round rest table
+round (asks ∷ rest) table = leaf_round asks.sections asks.askers table ∷ round rest table
 
 -- after so many rounds more
-abbrev pub rounds : ℕ → List (List Asks) → List (List ℕ) → List (List ℕ)
+abbrev pub rounds : ℕ → List Asks → List (List ℕ) → List (List ℕ)
 rounds zero asks table = table
 rounds (suc n) asks table = round asks (rounds n asks table)
 
@@ -60,14 +78,3 @@ abbrev pub budgets_by : List Counted → List (List ℕ) → List ℕ
 budgets_by (leaf ∷ leaves) (often ∷ more) = saturated (products leaf.costs often) ∷ budgets_by leaves more
 budgets_by [] often = []
 budgets_by (leaf ∷ leaves) [] = []
-
--- a flag before others; one that is not set before none is left out
-abbrev pub before_set : Bool → List Bool → List Bool
-before_set true rest = true ∷ rest
-before_set false [] = []
-before_set false (c ∷ rest) = false ∷ c ∷ rest
-
--- flags up to the last that is set
-abbrev pub up_to_last : List Bool → List Bool
-up_to_last [] = []
-up_to_last (b ∷ rest) = before_set b (up_to_last rest)

@@ -10,16 +10,16 @@ abbrev pub AreTold : List Component → List (List (List ℕ × ℕ)) → Type 0
 AreTold all routes = (x : ℕ) (c : Component) → slice_get all x ≡ Some c → (service : List ℕ) (server : ℕ) → server_at x service routes ≡ Some server →
     server_among all c service ≡ Some server
 
--- whether a component asks for a service and its route for it leads to the x-th of all leaves; none does for no service
-abbrev pub leads_to : List Component → ℕ → Option (List ℕ) → Component → Counted → Bool
-leads_to all x None c n = false
-leads_to all x (Some service) c n = asks service n && is_there x (server_among all c service)
+-- whether a component asks for a service and its route for it leads to the x-th of all leaves
+abbrev pub leads_to : List Component → ℕ → List ℕ → Component → Counted → Bool
+leads_to all x service c n = asks service n && is_there x (server_among all c service)
 
--- the same of these leaves
+-- the same of these leaves; of no service nothing is told
 abbrev pub leads_row : List Component → ℕ → Option (List ℕ) → List Component → List Counted → List Bool
-leads_row all x provides [] ns = []
-leads_row all x provides (c ∷ rest) [] = []
-leads_row all x provides (c ∷ rest) (n ∷ ns) = leads_to all x provides c n ∷ leads_row all x provides rest ns
+leads_row all x None cs ns = []
+leads_row all x (Some service) [] ns = []
+leads_row all x (Some service) (c ∷ rest) [] = []
+leads_row all x (Some service) (c ∷ rest) (n ∷ ns) = leads_to all x service c n ∷ leads_row all x (Some service) rest ns
 
 -- for each of these leaves, of which the first is the x-th, which of all leaves ask for its service by routes that lead to it
 abbrev pub leads_rows : List Component → List Counted → ℕ → List Component → List (List Bool)

@@ -3,5 +3,6 @@ use Rattle.gq_budget.specs.internal.Rounds.{leaf_round}
 use Rattle.gq_budget.proofs.asks.LeafAsks.round.Given as goal
 
 -- the numbers so far, with those of the sections that are left, are those of all
-abbrev pub invariant-loop-asks : goal.invariant-loop-asks
-invariant-loop-asks l = l.often.items ++ leaf_round (drop l.asks-index l.asks-items) l.table ≡ leaf_round l.asks-items l.table
+abbrev pub invariant-loop-section : goal.invariant-loop-section
+invariant-loop-section l =
+    l.numbers.items ++ leaf_round (drop l.section-index l.section-items) l.self.askers l.table ≡ leaf_round l.section-items l.self.askers l.table
