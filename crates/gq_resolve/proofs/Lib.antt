@@ -5,3 +5,4 @@ pub mod Providers
 pub mod Servers
 pub mod Rows_cycles
 pub mod Items
+pub mod Each_once

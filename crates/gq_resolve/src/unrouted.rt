@@ -1,19 +1,22 @@
 // The routes of all leaves, or the first service that leads nowhere.
-ghost use Rattle.std.specs.Prelude.{◌≡◌, ◌<◌, ◌^◌, IfOk, length, map};
-ghost use Rattle.gq_model.specs.machine.Routes.{Routed};
+ghost use Rattle.std.specs.Prelude.{◌≡◌, ◌<◌, ◌^◌, ◌++◌, OnOk, IfOk, length, map};
+ghost use Rattle.gq_model.specs.machine.Routes.{Routed, route};
+ghost use Rattle.gq_model.specs.rules.Resolve as model;
 ghost use Rattle.gq_model.specs.rules.Resolve.{Unrouted, services_fault, routes_fault};
 ghost use Rattle.gq_model.specs.rules.Use.{services, services_in};
 ghost use Rattle.gq_resolve.specs.Resolved.{Finds, fault_of, refused};
 ghost use Rattle.gq_routes.specs.Routing.{routed_not};
-ghost use Rattle.gq_routes.specs.Served.{leaf_routes};
+ghost use Rattle.gq_routes.specs.Served.{entry, server_among, leaf_routes};
 
 use crate::fault::{ResolveError, ResolveFault};
 use gq_model::program::Name;
 use gq_program::program::Program;
 use gq_routes::component::Component;
-use gq_routes::routes::{LeafRoutes, Routes, served_once};
-use gq_routes::routing::{RouteFault, route};
-use gq_routes::services::opened;
+use gq_routes::leaf_names::LeafNames;
+use gq_routes::router::Router;
+use gq_routes::routes::{LeafRoutes, Routes};
+use gq_routes::routing::RouteFault;
+use gq_routes::services::{once, opened};
 use gq_scenario::tree::copied;
 use std::alloc::{AllocError, Global};
 
@@ -30,18 +33,6 @@ fn unrouted(why: RouteFault, leaf: &Name, service: &Name) -> ResolveFault
     }
 }
 
-// Refuses the first of these services that leads the component nowhere.
-fn check_services(component: &Component<'_>, services: &[Name]) -> Result<(), ResolveFault>
-    ensures { refused result ≡ services_fault component.now services.now }
-{
-    for service in services {
-        if let Err(why) = route(component.levels(), service) {
-            return Err(unrouted(why, component.leaf().name(), service));
-        }
-    }
-    Ok(())
-}
-
 // The services that each of these programs opens, in the order of its text.
 pub(crate) fn all_opened(alloc: Global, programs: &[Program]) -> Result<Vec<Vec<Name>>, AllocError>
     ensures { IfOk result (λ v. map (λ o. o.items) v.items ≡ map (λ p. services_in p.sections) programs.now) }
@@ -53,20 +44,51 @@ pub(crate) fn all_opened(alloc: Global, programs: &[Program]) -> Result<Vec<Vec<
     Ok(all)
 }
 
+// Puts a service of a component with its server at the end of these. Refuses one that leads nowhere.
+fn push_service(
+    routes: &mut LeafRoutes,
+    leaves: &LeafNames<'_, '_>,
+    component: &Component<'_>,
+    router: &Router<'_, '_>,
+    service: Name,
+) -> Result<(), ResolveError>
+    requires few { length leaves.now < 2 ^ 32 }
+    requires own { router.now ≡ component.now.levels }
+    ensures routes { OnOk result (routes.new ≡ routes.old ++ entry service (server_among leaves.now component.now service)) }
+    ensures fault { Finds result (model.unrouted component.now service (route component.now.levels service)) }
+{
+    match router.route(&service) {
+        Ok(name) => {
+            if let Some(server) = leaves.numbered(name) {
+                routes.push(service, server)?;
+            }
+            Ok(())
+        }
+        Err(why) => {
+            let fault = unrouted(why, component.leaf().name(), &service);
+            Err(ResolveError::Fault(fault))
+        }
+    }
+}
+
 // The services that a component's program opens, each once, with their servers. Refuses the first that leads nowhere.
 fn leaf_routes(
     alloc: Global,
-    components: &[Component<'_>],
+    leaves: &LeafNames<'_, '_>,
     component: &Component<'_>,
     opened: &[Name],
 ) -> Result<LeafRoutes, ResolveError>
-    requires few { length components.now < 2 ^ 32 }
+    requires few { length leaves.now < 2 ^ 32 }
     requires own { opened.now ≡ services component.now }
-    ensures routes { IfOk result (λ r. r ≡ leaf_routes components.now component.now) }
+    ensures routes { IfOk result (λ r. r ≡ leaf_routes leaves.now component.now) }
     ensures fault { Finds result (services_fault component.now (services component.now)) }
 {
-    check_services(component, opened)?;
-    let routes = served_once(alloc, components, component, opened)?;
+    let services = once(alloc, opened)?;
+    let router = Router::new(component.levels(), services.len());
+    let mut routes = LeafRoutes::new(alloc);
+    for service in services {
+        push_service(&mut routes, leaves, component, &router, service)?;
+    }
     Ok(routes)
 }
 
@@ -82,9 +104,10 @@ pub(crate) fn all_routes(
     ensures routes { IfOk result (λ r. r ≡ map (leaf_routes components.now) components.now) }
     ensures fault { Finds result (routes_fault components.now) }
 {
-    let mut leaves = Vec::new(alloc);
+    let leaves = LeafNames::new(components);
+    let mut routes = Vec::new(alloc);
     for (place, component) in components.iter().enumerate() {
-        leaves.push(leaf_routes(alloc, components, component, opened[place].as_slice())?)?;
+        routes.push(leaf_routes(alloc, &leaves, component, opened[place].as_slice())?)?;
     }
-    Ok(Routes::new(leaves))
+    Ok(Routes::new(routes))
 }

@@ -1,2 +1,4 @@
 pub mod Opened_services
 pub mod Pushed
+pub mod Name_keys
+pub mod Named

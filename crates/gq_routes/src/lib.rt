@@ -11,6 +11,9 @@
 #![tactic(auto)]
 
 pub mod component;
+mod keys;
+pub mod leaf_names;
+pub mod router;
 pub mod routes;
 pub mod routing;
 pub mod services;

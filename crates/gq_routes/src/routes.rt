@@ -1,15 +1,15 @@
 // Which leaf serves each service that a leaf opens.
-ghost use Rattle.std.specs.Prelude.{◌≡◌, ◌<◌, ◌^◌, IfOk, length, map};
+ghost use Rattle.std.specs.Prelude.{◌≡◌, ◌<◌, ◌^◌, ◌++◌, ◌∷◌, [], OnOk, IfOk, length, map};
 ghost use Rattle.gq_model.specs.machine.Routes.{route, numbered, leaf_routed};
-ghost use Rattle.gq_routes.specs.Served.{once, served, server_among, servers, server_in, server_at};
+ghost use Rattle.gq_routes.specs.Served.{servers, server_in, server_at};
 
 use crate::component::Component;
 use crate::routing::route;
-use crate::services::once;
 use gq_model::program::Name;
+use gq_program::keys::key_of;
+use gq_program::places::Places;
 use gq_scenario::lines::same_bytes;
 use gq_scenario::scenario::LeafNo;
-use gq_scenario::tree::copied;
 use std::alloc::{AllocError, Global};
 use std::marker::Model;
 
@@ -42,10 +42,11 @@ pub fn server_of(
     }
 }
 
-/// Services of a leaf, each with the leaf that serves it.
+/// Services of a leaf, each with the leaf that serves it. Where a service may stand is told by the number of its name.
 #[derive(Drop)]
 pub struct LeafRoutes {
     entries: Vec<(Name, LeafNo)>,
+    places: Places,
 }
 
 impl Model for LeafRoutes {
@@ -53,15 +54,44 @@ impl Model for LeafRoutes {
 
     ghost Value = { List (List ℕ × ℕ) };
 
+    ghost use Rattle.gq_program.specs.Keys.{AreWithin};
+    ghost use Rattle.gq_routes.specs.internal.Keys.{route_keys};
+
     ghost view = { λ r. r.entries.items };
+
+    ghost invariant = { λ r. AreWithin r.places (route_keys r.entries.items) };
 }
 
 impl LeafRoutes {
+    /// None. It takes no memory.
+    pub fn new(alloc: Global) -> LeafRoutes
+        ensures { result ≡ [] }
+    {
+        LeafRoutes {
+            entries: Vec::new(alloc),
+            places: Places::new(),
+        }
+    }
+
+    /// Puts a service with the leaf that serves it at the end. Refused only for want of host memory.
+    pub fn push(&mut self, service: Name, server: LeafNo) -> Result<(), AllocError>
+        ensures { OnOk result (self.new ≡ self.old ++ (service, server) ∷ []) }
+    {
+        let key = key_of(service.as_bytes());
+        self.entries.reserve(1)?;
+        self.places.put(key, self.entries.len());
+        self.entries.push_reserved((service, server));
+        Ok(())
+    }
+
     // The server of a service.
     fn server(&self, service: &Name) -> Option<LeafNo>
         ensures { result ≡ server_in service.now self.now }
     {
-        for (name, server) in &self.entries {
+        let key = key_of(service.as_bytes());
+        let (first, end) = self.places.range(key, self.entries.len());
+        for place in first..end {
+            let (name, server) = &self.entries[place];
             if same_bytes(service.as_bytes(), name.as_bytes()) {
                 return Some(*server);
             }
@@ -124,38 +154,4 @@ impl Routes {
         }
         Ok(used)
     }
-}
-
-// These services with their servers, where they have one.
-fn served(
-    alloc: Global,
-    components: &[Component<'_>],
-    component: &Component<'_>,
-    services: &[Name],
-) -> Result<LeafRoutes, AllocError>
-    requires { length components.now < 2 ^ 32 }
-    ensures { IfOk result (λ r. r ≡ served (server_among components.now component.now) services.now) }
-{
-    let mut entries = Vec::new(alloc);
-    for service in services {
-        if let Some(server) = server_of(components, component, service) {
-            entries.push((copied(service), server))?;
-        }
-    }
-    Ok(LeafRoutes { entries })
-}
-
-/// These services of a component, each once, with their servers, where they have one. The components are those of a
-/// scenario, in preorder. Refused only for want of host memory.
-pub fn served_once(
-    alloc: Global,
-    components: &[Component<'_>],
-    component: &Component<'_>,
-    services: &[Name],
-) -> Result<LeafRoutes, AllocError>
-    requires { length components.now < 2 ^ 32 }
-    ensures { IfOk result (λ r. r ≡ served (server_among components.now component.now) (once services.now)) }
-{
-    let services = once(alloc, services)?;
-    served(alloc, components, component, services.as_slice())
 }

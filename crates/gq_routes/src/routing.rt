@@ -1,10 +1,11 @@
 // Where a service leads.
-ghost use Rattle.std.specs.Prelude.{◌≡◌, option_map};
+ghost use Rattle.std.specs.Prelude.{◌≡◌, ◌∷◌, [], option_map};
 ghost use Rattle.gq_model.specs.machine.Lists.{any_of};
 ghost use Rattle.gq_model.specs.machine.Scenario as model;
 ghost use Rattle.gq_model.specs.machine.Routes.{Routed, is_service, fits, child_named, providers, only, first_fit, route};
-ghost use Rattle.gq_routes.specs.Routing.{routed, led_by};
+ghost use Rattle.gq_routes.specs.Routing.{routed, name_found, led_by};
 ghost use Rattle.gq_scenario.specs.Targets.{target_of};
+ghost use Rattle.gq_scenario.specs.Trees.{nodes_of};
 
 use gq_model::program::Name;
 use gq_scenario::lines::same_bytes;
@@ -57,7 +58,7 @@ impl<'a> Level<'a> {
     }
 
     // Its routes.
-    fn routes(&self) -> &'a [Route]
+    pub(crate) fn routes(&self) -> &'a [Route]
         ensures { result.now ≡ self.now.routes }
     {
         self.routes
@@ -116,29 +117,34 @@ fn child_named<'a>(name: &'a Name, service: &Name, siblings: &Nodes) -> Result<&
     Err(RouteFault::NoRoute)
 }
 
+// The name of a node, where it is a leaf that provides the service.
+pub(crate) fn provider<'a>(node: &'a Node, service: &Name) -> Option<&'a Name>
+    ensures { name_found result ≡ providers service.now (nodes_of (node.now ∷ [])) }
+{
+    match node {
+        Node::Leaf(leaf) if is_service(leaf.provides(), service) => Some(leaf.name()),
+        _ => None,
+    }
+}
+
 // The only one of these children that provides the service.
 fn only_provider<'a>(service: &Name, siblings: &'a Nodes) -> Result<&'a Name, RouteFault>
     ensures { routed result ≡ only (providers service.now siblings.now) }
 {
     let mut found: Option<&'a Name> = None;
     for node in siblings.nodes() {
-        if let Node::Leaf(leaf) = node {
-            if is_service(leaf.provides(), service) {
-                if found.is_some() {
-                    return Err(RouteFault::Ambiguous);
-                }
-                found = Some(leaf.name());
+        if let Some(name) = provider(node, service) {
+            if found.is_some() {
+                return Err(RouteFault::Ambiguous);
             }
+            found = Some(name);
         }
     }
-    match found {
-        Some(name) => Ok(name),
-        None => Err(RouteFault::NoRoute),
-    }
+    found.ok_or(RouteFault::NoRoute)
 }
 
 // Where the first route that fits leads.
-fn first_target<'a>(routes: &'a [Route], service: &Name) -> Option<&'a Target>
+pub(crate) fn first_target<'a>(routes: &'a [Route], service: &Name) -> Option<&'a Target>
     ensures { (siblings : model.Nodes) (above : Routed) → first_fit routes.now service.now siblings above
         ≡ led_by (option_map (λ t. target_of t.now) result) service.now siblings above }
 {

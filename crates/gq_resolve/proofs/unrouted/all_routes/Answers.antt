@@ -1,5 +1,6 @@
-use Rattle.std.proofs.Common.{[], ◌∷◌, ◌++◌, ◌+◌, ◌∙◌, ap, drop, map}
+use Rattle.std.proofs.Common.{List, [], ◌∷◌, ◌++◌, ◌+◌, ◌∙◌, ap, drop, map}
 use Rattle.gq_model.specs.rules.Resolve.{routes_fault}
+use Rattle.gq_model.specs.machine.Scenario.{Component}
 use Rattle.gq_model.specs.machine.Lists.{or_first}
 use Rattle.gq_routes.specs.Served.{leaf_routes}
 use Rattle.gq_routes.proofs.Pushed.{next_is, onto}
@@ -20,10 +21,10 @@ loop-place-preserved c =
     let x = c.index-components-place.result in
     let e = next_is all l.place x c.loop-place-test.true c.index-components-place.is in
     let rest = drop (l.place + 1) all in
+    let told = c.in_ok-leaf_routes.ensures.routes ∙ ap (λ (leaves : List Component). leaf_routes leaves x) c.new-leaves.ensures in
     record {
       routes =
-          onto l.leaves.items c.push.new.self.items (leaf_routes all x ∷ []) (map (leaf_routes all) rest) (map (leaf_routes all) (drop l.place all))
-          (map (leaf_routes all) all) (c.in_ok-push.ensures.items ∙ ap (λ r. l.leaves.items ++ r ∷ []) c.in_ok-leaf_routes.ensures.routes)
-          (ap (map (leaf_routes all)) e) l.invariant.routes;
+          onto l.routes.items c.push.new.self.items (leaf_routes all x ∷ []) (map (leaf_routes all) rest) (map (leaf_routes all) (drop l.place all))
+          (map (leaf_routes all) all) (c.in_ok-push.ensures.items ∙ ap (λ r. l.routes.items ++ r ∷ []) told) (ap (map (leaf_routes all)) e) l.invariant.routes;
       fault = l.invariant.fault ∙ (ap routes_fault e ∙ ap (λ f. or_first f (routes_fault rest)) c.in_ok-leaf_routes.ensures.fault);
     }

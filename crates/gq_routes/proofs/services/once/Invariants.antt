@@ -1,6 +1,10 @@
-use Rattle.std.proofs.Common.{◌≡◌, take}
+use Rattle.std.proofs.Common.{◌≡◌, take, map}
 use Rattle.gq_routes.specs.Served.{once}
+use Rattle.gq_program.specs.Keys.{AreWithin, key_of}
 use Rattle.gq_routes.proofs.services.once.Given as goal
 
 abbrev pub invariant-loop-service : goal.invariant-loop-service
-invariant-loop-service l = l.kept.items ≡ once (take l.service-index l.services)
+invariant-loop-service l = record {
+  kept : l.kept.items ≡ once (take l.service-index l.services);
+  told : AreWithin l.places (map key_of l.kept.items);
+}

@@ -2,5 +2,6 @@ use Rattle.std.proofs.Common.{◌≡◌, drop}
 use Rattle.gq_routes.specs.Served.{server_in}
 use Rattle.gq_routes.proofs.routes.LeafRoutes.server.Given as goal
 
-abbrev pub invariant-loop-name : goal.invariant-loop-name
-invariant-loop-name l = server_in l.service l.name-items ≡ server_in l.service (drop l.name-index l.name-items)
+-- none so far is for the service
+abbrev pub invariant-loop-place : goal.invariant-loop-place
+invariant-loop-place l = server_in l.service l.self ≡ server_in l.service (drop l.place l.self)

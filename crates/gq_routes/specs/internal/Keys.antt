@@ -1,0 +1,40 @@
+-- The numbers that are made of the names of services and of leaves.
+use Rattle.std.specs.Prelude.{ℕ, List, [], ◌∷◌, map, Option, Some, None}
+use Rattle.gq_program.specs.Keys.{Told, AreWithin, key_of}
+use Rattle.gq_model.specs.machine.Scenario.{Nodes, End, Leaf_node, Init_node, Level, Component}
+use Rattle.gq_scenario.specs.declared.scenario.Node.{Node}
+use Rattle.gq_scenario.specs.declared.scenario.Node.TheVariants.{Leaf, Init}
+
+-- that of a service, where one is provided
+abbrev pub provided_key : Option (List ℕ) → ℕ
+provided_key None = 0
+provided_key (Some service) = key_of service
+
+-- that of a node, as code has it
+abbrev pub node_key : Node → ℕ
+node_key (Leaf node) = provided_key node.provides
+node_key (Init node children) = 0
+
+-- those of these nodes
+abbrev pub keys_of : Nodes → List ℕ
+keys_of End = []
+keys_of (Leaf_node node rest) = provided_key node.provides ∷ keys_of rest
+keys_of (Init_node node children rest) = 0 ∷ keys_of rest
+
+-- those of the siblings at the first level
+abbrev pub first_keys : List Level → List ℕ
+first_keys [] = []
+first_keys (l ∷ above) = keys_of l.siblings
+
+-- where it is told where services may stand, it is told of those siblings
+abbrev pub AreTold : Option Told → List Level → Type 0
+AreTold None levels = Unit {0}
+AreTold (Some told) levels = AreWithin told (first_keys levels)
+
+-- those of the names of leaves
+abbrev pub name_keys : List Component → List ℕ
+name_keys components = map (λ c. key_of c.node.name) components
+
+-- those of the services of routes
+abbrev pub route_keys : List (List ℕ × ℕ) → List ℕ
+route_keys routes = map (λ e. key_of e.0) routes
