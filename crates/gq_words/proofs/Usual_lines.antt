@@ -1,17 +1,20 @@
 -- Lines that are read from front to back.
 use Rattle.std.proofs.Common.{◌≡◌, ◌<◌, ◌≤◌, ℕ, ◌==◌, zero, suc, Bool, true, false, ◌&&◌, List, [], ◌∷◌, ◌++◌, length, get_or, take}
 use Rattle.std.proofs.Common.{Option, Some, None, Result, append-nil, refl, sym, ◌∙◌, ap, subst, arith}
-use Rattle.std.specs.Prelude.{not, codes, IfSome}
+use Rattle.std.specs.Prelude.{if◌then◌else◌, not, codes, IfSome}
 use Rattle.std.proofs.lemmas.Bool.{and_parts, ltb-true, lt-ltb, eqb-true}
 use Rattle.gq_model.specs.machine.Lists.{all_of}
 use Rattle.gq_model.specs.machine.Program.{text_eq}
 use Rattle.gq_model.specs.declared.program.Instruction.{Instruction}
 use Rattle.gq_model.specs.declared.program.Place.{Place}
-use Rattle.gq_model.specs.texts.Letters.{is_blank, words, unindented, past_word, without_return, number_in}
+use Rattle.gq_model.specs.declared.program.Instruction.TheVariants.{Open}
+use Rattle.gq_model.specs.texts.Letters.{is_name, is_blank, words, unindented, past_word, without_return, number_in}
+use Rattle.gq_model.specs.texts.Operands.{greatest_number}
 use Rattle.gq_model.specs.texts.Spelling.{Shape, Made, Slot, number, slot_and, shape_of_word, spellings, slot_in, numbered_slot}
 use Rattle.gq_model.specs.texts.Text.{OpenBlock, counted, put, in_place, is_comment}
 use Rattle.gq_model.specs.declared.fault.TextFault.{TextFault}
 use Rattle.gq_spelling.specs.declared.spelling.Shape as Shapes
+use Rattle.gq_spelling.specs.declared.spelling.Shape.TheVariants as shape
 use Rattle.gq_spelling.specs.Spelling.{shape_of}
 use Rattle.gq_words.specs.Fronts.{is_plain, BeginsWith}
 use Rattle.gq_words.specs.Pieces.{front_word, front_line, past_feed, fed_line}
@@ -144,9 +147,6 @@ no_slot : (object : Bool) (s : Place) (word : List ℕ) → slot_in object word 
 no_slot true s word h e = let k = ap (slot_in true) (sym e) ∙ h in cc
 no_slot false s word h e = let k = ap (slot_in false) (sym e) ∙ h in cc
 
-pub plain_completes : (text rest : List ℕ) (i : Instruction) → text ≡ 10 ∷ rest → Completes text (Made i) i rest
-plain_completes text rest i e = rw e (record { fed = refl; cut = refl; read = λ after. refl })
-
 pub number_completes : (text word rest : List ℕ) (width low high n : ℕ) (f : ℕ → Instruction) → IsLastWord text word rest →
     number_in 10 low high word ≡ Some n → Completes text (number width low high f) (f n) rest
 number_completes text word rest width low high n f h e = record {
@@ -163,21 +163,57 @@ slot_completes text word rest object s f h e = record {
   read = λ after. rw (last_words text word rest h (no_slot object s word e)) (rw e refl);
 }
 
+-- a word stands after a blank, before others that stand up to the line feed
+record IsWordBefore (text word more rest : List ℕ) (ws : List (List ℕ)) : Type 0 where
+  fed : past_feed text ≡ Some rest
+  cut : front_word (fed_line text) ≡ []
+  told : words (fed_line text) ≡ word ∷ ws
+
+word_before : (text word more rest : List ℕ) (ws : List (List ℕ)) → text ≡ 32 ∷ (word ++ more) → all_of is_plain word ≡ true → (word ≡ [] → ⊥) →
+    past_feed more ≡ Some rest → front_word (fed_line more) ≡ [] → words (fed_line more) ≡ ws → IsWordBefore text word more rest ws
+word_before text word more rest ws is plain some fed cut told =
+    let line : fed_line text ≡ 32 ∷ (word ++ fed_line more) =
+    ap fed_line is ∙ (fed_cons 32 (word ++ more) refl refl ∙ ap (λ (l : List ℕ). 32 ∷ l) (fed_plain word more plain)) in
+    record {
+      fed = ap past_feed is ∙ (feed_plain word more plain ∙ fed);
+      cut = ap front_word line;
+      told = ap words line ∙ (words_plain word (fed_line more) plain some cut ∙ ap (λ (l : List (List ℕ)). word ∷ l) told);
+    }
+
 pub amount_completes : (text slot more word rest : List ℕ) (low high n : ℕ) (s : Place) (f : Place → ℕ → Instruction) → text ≡ 32 ∷ (slot ++ more) →
     all_of is_plain slot ≡ true → numbered_slot slot ≡ Some s → IsLastWord more word rest → number_in 10 low high word ≡ Some n →
     Completes text (slot_and low high f) (f s n) rest
 amount_completes text slot more word rest low high n s f is plain there h e =
-    let line : fed_line text ≡ 32 ∷ (slot ++ fed_line more) =
-    ap fed_line is ∙ (fed_cons 32 (slot ++ more) refl refl ∙ ap (λ (l : List ℕ). 32 ∷ l) (fed_plain slot more plain)) in
-    let cut = last_cut more word rest h in
-    let some = no_slot false s slot there in
-    let all : words (fed_line text) ≡ slot ∷ word ∷ [] =
-    ap words line ∙ (words_plain slot (fed_line more) plain some cut
-    ∙ ap (λ (ws : List (List ℕ)). slot ∷ ws) (last_words more word rest h (no_number low high n word e))) in
+    let w = word_before text slot more rest (word ∷ []) is plain (no_slot false s slot there) (last_feed more word rest h) (last_cut more word rest h)
+    (last_words more word rest h (no_number low high n word e)) in
     record {
-      fed = ap past_feed is ∙ (feed_plain slot more plain ∙ last_feed more word rest h);
-      cut = ap front_word line;
-      read = λ after. rw all (rw there (rw e refl));
+      fed = w.fed;
+      cut = w.cut;
+      read = λ after. rw w.told (rw there (rw e refl));
+    }
+
+no_name : (name : List ℕ) → is_name name ≡ true → name ≡ [] → ⊥
+no_name name h e = let k = ap is_name (sym e) ∙ h in cc
+
+-- what is taken for a name is one
+pub named : (name service : List ℕ) → Some service ≡ (if is_name name then Some name else None) → (is_name name ≡ true) × (name ≡ service)
+named name service e = by_cases (is_name name) refl e
+  where
+    by_cases : (b : Bool) → is_name name ≡ b → Some service ≡ (if b then Some name else None) → (is_name name ≡ true) × (name ≡ service)
+    by_cases true is e = let same : name ≡ service = cc in (is, same)
+    by_cases false is e = cc
+
+pub service_completes : (text slot more name last word rest : List ℕ) (n : ℕ) (s : Place) → text ≡ 32 ∷ (slot ++ more) → all_of is_plain slot ≡ true →
+    numbered_slot slot ≡ Some s → more ≡ 32 ∷ (name ++ last) → all_of is_plain name ≡ true → is_name name ≡ true → IsLastWord last word rest →
+    number_in 10 0 greatest_number word ≡ Some n → Completes text (shape_of shape.Open) (Open s name n) rest
+service_completes text slot more name last word rest n s is plain there next fine named h e =
+    let v = word_before more name last rest (word ∷ []) next fine (no_name name named) (last_feed last word rest h) (last_cut last word rest h)
+    (last_words last word rest h (no_number 0 greatest_number n word e)) in
+    let w = word_before text slot more rest (name ∷ word ∷ []) is plain (no_slot false s slot there) v.fed v.cut v.told in
+    record {
+      fed = w.fed;
+      cut = w.cut;
+      read = λ after. rw w.told (rw there (rw named (rw e refl)));
     }
 
 -- STATEMENTS

@@ -32,6 +32,20 @@ fn of_a(text: &[u8]) -> Option<(Shape, &[u8])>
     }
 }
 
+/// `call` and `close`.
+#[inline(always)]
+fn of_c(text: &[u8]) -> Option<(Shape, &[u8])>
+    ensures { IfSome result (λ p. BeginsWith text.now p.0 p.1.now) }
+{
+    match text {
+        [b'c', b'a', b'l', b'l', rest @ ..] => found(text, Shape::Slot(WithSlot::Call), rest),
+        [b'c', b'l', b'o', b's', b'e', rest @ ..] => {
+            found(text, Shape::Slot(WithSlot::Close), rest)
+        }
+        _ => None,
+    }
+}
+
 /// `div`, `drop` and `dup`.
 #[inline(always)]
 fn of_d(text: &[u8]) -> Option<(Shape, &[u8])>
@@ -120,9 +134,10 @@ pub fn front_shape(text: &[u8]) -> Option<(Shape, &[u8])>
         [b'i', b'n', b'd', b'e', b'x', rest @ ..] => {
             found(text, Shape::Number(WithNumber::Index), rest)
         }
-        [b'c', b'a', b'l', b'l', rest @ ..] => found(text, Shape::Slot(WithSlot::Call), rest),
+        [b'c', ..] => of_c(text),
         [b'e', b'q', rest @ ..] => found(text, Shape::Plain(Bare::Combine(Operator::Equal)), rest),
         [b'o', b'u', b't', rest @ ..] => found(text, Shape::Plain(Bare::Out), rest),
+        [b'o', b'p', b'e', b'n', rest @ ..] => found(text, Shape::Open, rest),
         [b'b', b'l', b'o', b'c', b'k', rest @ ..] => {
             found(text, Shape::Amount(WithAmount::Make(Form::Block)), rest)
         }

@@ -4,7 +4,7 @@
 //! ```rust
 //! use gq_words::{next_word, number_in, shape_with};
 //!
-//! assert_eq!(rt; next_word(b" push 1"), Some((b"push", b" 1")));
+//! assert_eq!(rt; next_word(b" push 1"), Some((b"push".as_slice(), b" 1".as_slice())));
 //! assert_eq!(rt; number_in(b"4096", 10, 1, 65535), Some(4096));
 //! assert!(rt; shape_with(b"push").is_some());
 //! ```

@@ -1,4 +1,4 @@
-// Usual lines of a section: a statement without operands, or with slots and numbers, with one blank before each, and a line feed right after it. They
+// Usual lines of a section: a statement without operands, or with slots, services and numbers, with one blank before each, and a line feed right after it. They
 // are read from front to back, without a search for the line's end. Of any other line nothing is said here.
 ghost use Rattle.std.specs.Prelude.{◌≡◌, ◌∷◌, ◌++◌, true, IfSome};
 ghost use Rattle.gq_model.specs.machine.Lists.{all_of};
@@ -11,7 +11,7 @@ use crate::fronts::front_shape;
 use crate::numbers::number_in;
 use crate::slots::{numbered_slot, slot_or_object};
 use crate::words::unindented;
-use gq_model::program::Instruction;
+use gq_model::program::{Instruction, Name};
 use gq_spelling::{Bare, Shape, WithAmount, WithBytes, WithNumber, WithSlot};
 
 /// A text up to its first blank, line feed or other control byte, and from there on.
@@ -106,6 +106,22 @@ fn with_amount(statement: WithAmount, text: &[u8]) -> Option<(Instruction, &[u8]
     Some((statement.instruction(place, number), rest))
 }
 
+/// With a slot, a service and a number.
+#[inline(always)]
+fn with_service(text: &[u8]) -> Option<(Instruction, &[u8])>
+    ensures { IfSome result (λ p. Completes text.now (shape_of Shape.Open) p.0 p.1.now) }
+{
+    let words = past_blank(text)?;
+    let (slot, more) = split_plain(words);
+    let place = numbered_slot(slot)?;
+    let words = past_blank(more)?;
+    let (name, last) = split_plain(words);
+    let service = Name::new(name)?;
+    let (word, rest) = last_word(last)?;
+    let number = number_in(word, 10, 0, u32::MAX)?;
+    Some((Instruction::Open(place, service, number), rest))
+}
+
 /// The operands of a statement, by its shape.
 #[inline(always)]
 fn completed(shape: Shape, text: &[u8]) -> Option<(Instruction, &[u8])>
@@ -117,12 +133,13 @@ fn completed(shape: Shape, text: &[u8]) -> Option<(Instruction, &[u8])>
         Shape::Slot(statement) => with_slot(statement, text),
         Shape::Bytes(statement) => with_bytes(statement, text),
         Shape::Amount(statement) => with_amount(statement, text),
-        Shape::Say | Shape::Pool | Shape::Open => None,
+        Shape::Open => with_service(text),
+        Shape::Say | Shape::Pool => None,
     }
 }
 
-/// The statement that the first line of a text is, wherever a statement may stand, and what follows its line feed, where the line is a usual one; `None`
-/// says nothing of the line.
+/// The statement that the first line of a text is, wherever a statement may stand, and what follows its line feed, where the line is a usual one: a statement
+/// of one word, or of a word with a slot, a service or a number, one space before each and none after. `None` says nothing of the line.
 #[inline(always)]
 pub fn usual_line(text: &[u8]) -> Option<(Instruction, &[u8])>
     ensures { IfSome result (λ p. IsUsual text.now p.0 p.1.now) }
