@@ -117,19 +117,6 @@ pub peaks_append : (p q r : Totals) (xs ys : List State) → Peaks q p xs → Pe
 peaks_append p q r xs ys a b m =
     let d = greatest-append (measure_of m) xs ys in omega (arith, a m, b m, d)
 
--- one state before others
-pub peaks_cons : (p q r : Totals) (s : State) (ys : List State) → Peaks q p (s ∷ []) → Peaks r q ys → Peaks r p (s ∷ ys)
-peaks_cons p q r s ys a b m = omega (arith, a m, b m)
-
--- one state alone
-pub peaks_one : (p q : Totals) (s : State) (own : Measure → ℕ) → ((m : Measure) → total_of q m ≡ max (total_of p m) (own m)) →
-    ((m : Measure) → own m ≡ measure_of m s) → Peaks q p (s ∷ [])
-peaks_one p q s own a b m = omega (arith, a m, b m)
-
--- so it is once more is measured
-pub peaks_with : (p q : Totals) (states : List State) (after : State) → Peaks q p states → PeaksWith q p states after
-peaks_with p q states after h m = ap (λ (n : ℕ). max n (measure_of m after)) (h m)
-
 -- a state that measures as the one before it is enough
 pub peaks_stay : (p : Totals) (s t : State) → t.own ≡ s.own → PeaksWith p p (s ∷ []) t
 peaks_stay p s t e m =

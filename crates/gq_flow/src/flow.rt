@@ -143,7 +143,7 @@ fn flow_if(
     *place += 1;
     let number = *place;
     at(number, state.choose())?;
-    let mut second = state.copy_of_spent();
+    let mut second = state.without_operands();
     flow(context, state, place, peaks, arm)?;
     flow(context, &mut second, place, peaks, other)?;
     at(number, state.join(&second))

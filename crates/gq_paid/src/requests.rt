@@ -18,7 +18,7 @@ ghost use Rattle.gq_slots.specs.Slots.{Frame, Slots, thing_at, world_seen};
 ghost use Rattle.gq_slot_sessions.specs.Calls.{accepting, asking, ending, opening, upgrading};
 ghost use Rattle.gq_paid.specs.Systems.{AreLawful, IsOf};
 
-/// Where `Slots::ask` is refused, since its client has fewer bytes or fewer capabilities that are not used than it would give, the machine's world with
+/// Where `sessions::ask` is refused, since its client has fewer bytes or fewer capabilities that are not used than it would give, the machine's world with
 /// the session and the request to open it is not paid for.
 pub fn refused_opens()
     ensures bytes { (system : System) (f : Frame) (s : Slots) (q : world.Session) → AreLawful s → IsOf system f s → q.client < length s.own
@@ -29,7 +29,7 @@ pub fn refused_opens()
         → available_caps (its_account s.trades.trading q.client) < q.donation.caps → paid system (opening (world_seen f s) q) ≡ false }
 {}
 
-/// Where `Slots::upgrade` is refused, the machine's world with what would be given and the request to upgrade is not paid for.
+/// Where `sessions::upgrade` is refused, the machine's world with what would be given and the request to upgrade is not paid for.
 pub fn refused_upgrades()
     ensures bytes { (system : System) (f : Frame) (s : Slots) (k : ℕ) (n : Amount) → AreLawful s → IsOf system f s
         → IsTaken s.trades.trading.sessions k → available (its_account s.trades.trading (client_of s.trades.trading k)) < n.ram
@@ -39,7 +39,7 @@ pub fn refused_upgrades()
         → available_caps (its_account s.trades.trading (client_of s.trades.trading k)) < n.caps → paid system (upgrading (world_seen f s) k n) ≡ false }
 {}
 
-/// Where `Slots::accept` is refused, since the server can't pay for the object that its oldest request would make, the machine's world with the object is
+/// Where `sessions::accept` is refused, since the server can't pay for the object that its oldest request would make, the machine's world with the object is
 /// not paid for, whatever requests are left. Of a session whose request to open waits there is no object yet.
 pub fn refused_beginnings()
     ensures bytes { (system : System) (f : Frame) (s : Slots) (x : ℕ) (r : Request) (others : List Request) (left : List world.Request)
@@ -52,7 +52,7 @@ pub fn refused_beginnings()
         → paid system (accepting (world_seen f s) r.session r.ask (object_size s.trades.trading r.session) left) ≡ false }
 {}
 
-/// Where `Slots::closed` is refused, since the server could not pay back what was given for a session even without the session's object, the machine's
+/// Where `sessions::closed` is refused, since the server could not pay back what was given for a session even without the session's object, the machine's
 /// world without the session is not paid for. The slots of the session are empty, and its object is no pool.
 pub fn refused_endings()
     ensures bytes { (system : System) (f : Frame) (s : Slots) (k : ℕ) → AreLawful s → IsOf system f s → IsTaken s.trades.trading.sessions k

@@ -71,7 +71,8 @@ impl State {
         }
     }
 
-    /// Whether a way leads back to where it started, with these kinds in the slots and no operand.
+    /// Whether a way leads back to where it started, with these kinds in the slots and no operand. Refused with `LeftoverOperand` where an operand is there,
+    /// else with `JoinDiffers` where a slot holds another kind.
     pub fn comes_back(&self, own: &Bank<OWN_SLOTS>, bank: &Bank<SESSION_SLOTS>) -> Result<(), Rule>
         ensures { (s : Kinds.State) → s ≡ record { own = all_known own.now; bank = all_known bank.now; bounds = [] } → after result s ≡ join s self.now }
     {
@@ -81,24 +82,16 @@ impl State {
         must(is_same, Rule::JoinDiffers)
     }
 
-    /// The same once more, where no operand is there.
+    /// The same without operands.
     #[inline(always)]
-    pub fn copy_of_spent(&self) -> State
-        requires { self.now.bounds ≡ [] }
-        ensures { result ≡ self.now }
+    pub fn without_operands(&self) -> State
+        ensures { result ≡ record self.now { bounds = [] } }
     {
         State {
             own: self.own,
             bank: self.bank,
             bounds: ArrayVec::new(),
         }
-    }
-
-    /// The same without operands.
-    pub fn without_operands(&self) -> State
-        ensures { result ≡ record self.now { bounds = [] } }
-    {
-        State::new(self.own, self.bank)
     }
 
     /// The kinds of the own slots.
