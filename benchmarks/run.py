@@ -178,8 +178,8 @@ def same_length(lines):
     return program(["push 1", "out"] * ((lines - 2) // 2)).decode()
 
 
-def checked(trade, text):
-    """The milliseconds of `trade check` of a text, and what it told."""
+def checked_by_clock(trade, text):
+    """The milliseconds of `trade check` of a text by the clock, the median of some runs, and what it told."""
     with tempfile.NamedTemporaryFile(suffix=".toml") as file:
         file.write(text)
         file.flush()
@@ -203,10 +203,10 @@ def budgets(trade):
     }
     table("64 leaves", "Time of `trade check`", "Of as many lines without sessions", "Greatest budget")
     for name, text in texts.items():
-        took, ran = checked(trade, text)
+        took, ran = checked_by_clock(trade, text)
         lines = ran.stdout.decode().split("\n")[:-1]
         told = max((int(line.split()[-1]) for line in lines), default=None)
-        row(name, f"{took:.1f} ms", f"{checked(trade, alone(text))[0]:.1f} ms", told if told is not None else ran.stderr.decode().strip())
+        row(name, f"{took:.1f} ms", f"{checked_by_clock(trade, alone(text))[0]:.1f} ms", told if told is not None else ran.stderr.decode().strip())
 
 
 def words(benchmark):
