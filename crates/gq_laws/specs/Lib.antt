@@ -26,3 +26,7 @@ pub mod Room
 pub mod Progress
 -- what only proofs and invariants speak of
 pub mod internal
+pub mod Separation
+-- what is seen of a group, and its turns alone
+pub mod Alone
+-- what only proofs speak of

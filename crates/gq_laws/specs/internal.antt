@@ -7,3 +7,5 @@ pub mod Holding
 pub mod Counting
 pub mod Fitting
 pub mod Carrying
+-- How two runs of the same scenario correspond, up to the numbers of their sessions.
+pub mod Renamed

@@ -1,0 +1,84 @@
+-- Two pairs of a client and its server, whose turns are mixed. By computation.
+use Rattle.std.proofs.Common.{◌≡◌, ◌||◌, ◌==◌, ℕ, Bool, true, List, [], ◌∷◌, ◌++◌, codes, Option, Some, refl}
+use Rattle.std.specs.Fmt.{digits}
+use Rattle.std.specs.Prelude.{slice_get}
+use Rattle.gq_model.specs.declared.program.Instruction.TheVariants.{Out, Push}
+use Rattle.gq_model.specs.machine.Scenario.{Scenario, system}
+use Rattle.gq_model.specs.machine.World.{Slot, Waiting, leaf_slot}
+use Rattle.gq_model.specs.machine.Run.{run}
+use Rattle.gq_model.proofs.Samples.{main_of, leaf, server, leaves, served, echo, echo_sections, echo_server, asking, echo_client}
+use Rattle.gq_laws.specs.Alone.{own_turns, own_lines}
+
+abbrev pairs : Scenario
+pairs =
+    served ((codes "echo", echo) ∷ (codes "twice", echo) ∷ [])
+    (leaves (echo_server ∷ echo_client (codes "cli") 16384 8192 21 ∷ server (codes "other") 4096 (codes "twice") echo_sections
+    ∷ leaf (codes "asker") 16384 (main_of (asking (codes "twice") 8192 5)) ∷ []))
+
+-- the first pair
+abbrev first : ℕ → Bool
+first x = x == 0 || x == 1
+
+-- the second pair opens its session before the first does
+abbrev mixed : List (ℕ × ℕ)
+mixed = (2, 1) ∷ (0, 1) ∷ (3, 1) ∷ (1, 1) ∷ (2, 3) ∷ (0, 3) ∷ (3, 2) ∷ (1, 2) ∷ (2, 4) ∷ (0, 4) ∷ (3, 3) ∷ (1, 3) ∷ (0, 2) ∷ (2, 2) ∷ []
+
+abbrev slot_after : List (ℕ × ℕ) → Option Slot
+slot_after turns = leaf_slot (slice_get (run (system pairs) turns).world.leaves 1) 0
+
+-- so its session has another number than alone
+number_mixed : slot_after ((2, 1) ∷ (0, 1) ∷ (3, 1) ∷ (1, 1) ∷ []) ≡ Some (Waiting 1)
+number_mixed = refl
+
+number_alone : slot_after (own_turns first ((2, 1) ∷ (0, 1) ∷ (3, 1) ∷ (1, 1) ∷ [])) ≡ Some (Waiting 0)
+number_alone = refl
+
+own : own_turns first mixed ≡ (0, 1) ∷ (1, 1) ∷ (0, 3) ∷ (1, 2) ∷ (0, 4) ∷ (1, 3) ∷ (0, 2) ∷ []
+own = refl
+
+-- the lines of all leaves
+all_lines : (run (system pairs) mixed).text ≡ codes "[init -> asker] 10" ++ 10 ∷ codes "[init -> cli] 42" ++ 10 ∷ []
+unfolding digits
+all_lines = refl
+
+lines_of_all : own_lines (system pairs) (λ x. true) mixed ≡ codes "[init -> asker] 10" ++ 10 ∷ codes "[init -> cli] 42" ++ 10 ∷ []
+unfolding digits
+lines_of_all = refl
+
+-- those of the first pair, beside the other and alone
+lines : own_lines (system pairs) first mixed ≡ codes "[init -> cli] 42" ++ 10 ∷ []
+unfolding digits
+lines = refl
+
+lines_alone : (run (system pairs) (own_turns first mixed)).text ≡ codes "[init -> cli] 42" ++ 10 ∷ []
+unfolding digits
+lines_alone = refl
+
+-- a client without its server is no group that is apart: alone it waits for ever
+abbrev client : ℕ → Bool
+client x = x == 1
+
+client_mixed : own_lines (system pairs) client mixed ≡ codes "[init -> cli] 42" ++ 10 ∷ []
+unfolding digits
+client_mixed = refl
+
+client_alone : (run (system pairs) (own_turns client mixed)).text ≡ []
+client_alone = refl
+
+-- nor is it so where the scenario is not accepted: a wrong step outside ends the run, and with it the lines of the group
+abbrev wrong_beside : Scenario
+wrong_beside =
+    served [] (leaves (leaf (codes "talker") 4096 (main_of (Push 7 ∷ Out ∷ [])) ∷ leaf (codes "wrong") 4096 (main_of (Out ∷ [])) ∷ []))
+
+abbrev talker : ℕ → Bool
+talker x = x == 0
+
+abbrev wrong_first : List (ℕ × ℕ)
+wrong_first = (0, 1) ∷ (1, 1) ∷ (0, 2) ∷ []
+
+talker_beside : own_lines (system wrong_beside) talker wrong_first ≡ []
+talker_beside = refl
+
+talker_alone : (run (system wrong_beside) (own_turns talker wrong_first)).text ≡ codes "[init -> talker] 7" ++ 10 ∷ []
+unfolding digits
+talker_alone = refl

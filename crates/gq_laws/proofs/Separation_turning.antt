@@ -1,0 +1,55 @@
+-- Turns of leaves outside leave a group that is apart untouched.
+use Rattle.std.proofs.Common.{◌≡◌, ℕ, zero, suc, Bool, false, List, [], ◌∷◌, Option, Some, None, Ok, Err, refl, ◌∙◌}
+use Rattle.gq_model.specs.machine.Scenario.{System, Scenario, system}
+use Rattle.gq_model.specs.machine.World.{World}
+use Rattle.gq_model.specs.declared.fault.Wrong.{Wrong}
+use Rattle.gq_model.specs.machine.Doing.{Stepped}
+use Rattle.gq_model.specs.machine.Step.{next}
+use Rattle.gq_model.specs.machine.Run.{Ran, after_step, turn_from, turns_of, run_on, run}
+use Rattle.gq_laws.specs.Links.{IsLinkedWorld}
+use Rattle.gq_laws.proofs.linking.Linked_worlds.{kept_linked}
+use Rattle.gq_laws.proofs.gathering.Worlds.{reached_linked}
+use Rattle.gq_laws.specs.Separation.{IsApart, IsUntouched, SameRequests, AreOutside, TurnsTouchNothing}
+use Rattle.gq_laws.proofs.Staying.{kept_self}
+use Rattle.gq_laws.proofs.Stepping.{step_untouched, step_requests}
+use Rattle.gq_laws.proofs.Accounting.{same_accounts}
+
+module _ (real : System) (group : ℕ → Bool) (apart : IsApart real group) (old : World) where
+  -- a run has come to a linked world in which the group is as it was
+  pub record IsStill (ran : Ran) : Type 0 where
+    pub linked : IsLinkedWorld real ran.world
+    pub still : IsUntouched group old ran.world
+    pub requests : SameRequests group old ran.world
+
+  one_step : (ran : Ran) (x : ℕ) (r : Stepped) → next real ran.world x ≡ r → group x ≡ false → IsStill ran → IsStill (after_step real x ran r)
+  one_step ran x (Ok p) e out h =
+      let u = step_untouched group real ran.world x p.0 p.1 h.linked apart out e in
+      record {
+        linked = kept_linked real ran.world x p.0 p.1 h.linked e;
+        still = record { leaves = λ y inside. u.leaves y inside ∙ h.still.leaves y inside; sessions = λ k. u.sessions k ∙ h.still.sessions k };
+        requests = step_requests group real ran.world x p.0 p.1 h.linked apart out e ∙ h.requests;
+      }
+  one_step ran x (Err wrong) e out h = record { linked = h.linked; still = h.still; requests = h.requests }
+
+  one_turn : (ran : Ran) (x : ℕ) (o : Option (ℕ × Wrong)) → group x ≡ false → IsStill ran → IsStill (turn_from real x ran o)
+  one_turn ran x None out h = one_step ran x (next real ran.world x) refl out h
+  one_turn ran x (Some p) out h = h
+
+  some_turns : (ran : Ran) (x n : ℕ) → group x ≡ false → IsStill ran → IsStill (turns_of real x n ran)
+  some_turns ran x zero out h = h
+  some_turns ran x (suc n) out h = some_turns (turn_from real x ran ran.wrong) x n out (one_turn ran x ran.wrong out h)
+
+  pub all_turns : (ran : Ran) (more : List (ℕ × ℕ)) → AreOutside group more → IsStill ran → IsStill (run_on real more ran)
+  all_turns ran [] out h = h
+  all_turns ran (t ∷ more) out h = all_turns (turns_of real t.0 t.1 ran) more out.1 (some_turns ran t.0 t.1 out.0 h)
+
+pub turns_touch_nothing : (s : Scenario) (group : ℕ → Bool) (turns : List (ℕ × ℕ)) → IsApart (system s) group → TurnsTouchNothing (system s) group turns
+turns_touch_nothing s group turns apart more out =
+    let ran = run (system s) turns in
+    let h = all_turns (system s) group apart ran.world ran more out
+    (record {
+      linked = reached_linked s ran.world (record { turns = turns; is = refl });
+      still = (kept_self group ran.world).untouched;
+      requests = refl;
+    }) in
+    (h.still, h.requests, same_accounts (system s) group ran.world (run_on (system s) more ran).world h.still)
