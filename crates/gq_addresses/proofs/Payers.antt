@@ -2,7 +2,7 @@
 use Rattle.std.proofs.Common.{◌≡◌, ℕ, Bool, true, false, cond, eqb, List, length, get_or, Option, Some, None, IfSome, refl, sym, ap, subst, ◌∙◌}
 use Rattle.gq_model.specs.machine.World as world
 use Rattle.gq_ram.specs.declared.account.AccountNo.{AccountNo}
-use Rattle.gq_donations.specs.Trees.{number}
+use Rattle.gq_ram.specs.Trees.{number}
 use Rattle.gq_numbered.specs.Numbers.{IsTaken}
 use Rattle.gq_things.specs.declared.thing.Thing.{Thing}
 use Rattle.gq_things.specs.declared.thing.Thing.TheVariants.{Empty, Block, Slice, Space, Pool, Link, Waiting}

@@ -5,8 +5,8 @@ use Rattle.gq_store.specs.Store.{Store}
 use Rattle.gq_ram.specs.declared.account.Account.{Account}
 use Rattle.gq_ram.specs.Entries.{account_at, available, IsOpen}
 use Rattle.gq_ram.specs.Ledgers.{Ledger, with_accounts}
-use Rattle.gq_donations.specs.Trees.{moved}
-use Rattle.gq_donations.proofs.Moves.{still_open, giver_now, taker_now, other_now}
+use Rattle.gq_ram.specs.Trees.{moved}
+use Rattle.gq_ram.proofs.Moves.{still_open, giver_now, taker_now, other_now}
 use Rattle.gq_memory.specs.Stores.{store_at, caps_left}
 
 -- accounts that are open stay open

@@ -21,11 +21,11 @@
 
 ghost use Rattle.std.specs.Prelude.{◌≡◌, ◌+◌, ◌*◌, ◌<◌, ◌≤◌, ◌↔◌, false, length, is_some, IsTrue, IfSome, OnOk, OnErr, IsErrOf};
 ghost use Rattle.gq_ram.specs.Entries.{IsOpen, account_at, available, available_caps, has_members};
-ghost use Rattle.gq_donations.specs.Trees.{AreNodes, account_of, donated, number};
+ghost use Rattle.gq_ram.specs.Trees.{AreNodes, account_of, donated, number};
 ghost use Rattle.gq_memory.specs.Rest.{IsClosed};
 
 use gq_dataspace::DsId;
-use gq_donations::AccountTree;
+use gq_ram::AccountTree;
 use gq_ram::{AccountFault, AccountNo, Accounts};
 use gq_store::{ByteStore, ChunkNo, GrowFault};
 use gq_tariff::Amount;

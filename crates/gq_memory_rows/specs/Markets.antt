@@ -2,7 +2,7 @@
 use Rattle.std.specs.Prelude.{◌≡◌, ℕ, ◌<◌, List, [], ◌∷◌, Some, None, length, get_or}
 use Rattle.gq_tariff.specs.declared.amount.Amount.{Amount}
 use Rattle.gq_ram.specs.declared.account.AccountNo.{AccountNo}
-use Rattle.gq_donations.specs.Trees.{Tree, number}
+use Rattle.gq_ram.specs.Trees.{Tree, number}
 use Rattle.gq_requests.specs.declared.requests.Ask.TheVariants.{Open}
 use Rattle.gq_requests.specs.declared.requests.Request.{Request}
 use Rattle.gq_things.specs.declared.thing.Thing.{Thing}

@@ -24,7 +24,7 @@ use Rattle.gq_laws.proofs.paying.Servers.{numbered_name}
 use Rattle.gq_laws.specs.Ready.{IsReady}
 use Rattle.gq_scenario.specs.Sizes.{leaf_places}
 use Rattle.gq_nodes.specs.NodeTables.{NodeRow, init_node, node_rows, number_named}
-use Rattle.gq_donations.specs.Handing.{tail, spent}
+use Rattle.gq_ram.specs.Handing.{tail, spent}
 use Rattle.gq_trade.specs.declared.node.Node.{Node}
 use Rattle.gq_trade.specs.declared.node.Stage.{Stage}
 use Rattle.gq_trade.specs.declared.node.Stage.TheVariants.{Pending, Live, Ended}

@@ -14,8 +14,8 @@ use Rattle.gq_model.proofs.Small.{some_same, none_some}
 use Rattle.gq_scenario.specs.Sizes.{node_count}
 use Rattle.gq_nodes.specs.NodeTables.{NodeRow, rows_of, node_rows}
 use Rattle.gq_nodes.proofs.Rows.{length-rows_of}
-use Rattle.gq_donations.specs.Trees.{Tree}
-use Rattle.gq_donations.specs.Handing.{tail, spent_in, spent}
+use Rattle.gq_ram.specs.Trees.{Tree}
+use Rattle.gq_ram.specs.Handing.{tail, spent_in, spent}
 use Rattle.gq_trade.specs.declared.node.Node.{Node}
 use Rattle.gq_trade.specs.Balances.{handed, node_at}
 use Rattle.gq_laws.specs.internal.Fitting.{AllFit, Fit}

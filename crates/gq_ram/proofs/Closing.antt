@@ -9,7 +9,7 @@ use Rattle.gq_ram.specs.Entries.{Entries, account_at, its_account, with_use, lef
 use Rattle.gq_ram.specs.Owning.{Owners, IsOf}
 use Rattle.gq_ram.specs.Ledgers.{Ledger, IsBalanced, IsSameWhole, with_accounts}
 use Rattle.gq_ram.proofs.Sums.{open_there, open_put, owned_none, owner_there}
-use Rattle.gq_ram.proofs.Opening.{closed_balanced}
+use Rattle.gq_ram.proofs.Ram_opening.{closed_balanced}
 
 -- of the dataspaces below k those of the account a are removed, and all else is as in l
 pub record IsCleared (l m : Ledger) (a : AccountNo) (k : ℕ) : Type 0 where

@@ -3,7 +3,10 @@ mod Numbers
 mod Balances
 mod Spending
 mod Freeing
-mod Opening
+mod Ram_opening
 mod First
 mod Closing
 pub mod Callers
+pub mod Moves
+pub mod Handed
+pub mod Opened

@@ -8,7 +8,7 @@ use Rattle.gq_ram.specs.declared.account.AccountNo.{AccountNo}
 use Rattle.gq_ram.specs.Entries.{Entries, account_at, its_account, left_to, with_caps, with_quota, IsOpen}
 use Rattle.gq_ram.proofs.Callers.{open_there}
 use Rattle.gq_ram.specs.Ledgers.{Ledger, IsBalanced}
-use Rattle.gq_donations.specs.Trees.{Tree, AreNodes, number}
+use Rattle.gq_ram.specs.Trees.{Tree, AreNodes, number}
 use Rattle.gq_memory.specs.Stores.{Memory}
 use Rattle.gq_memory.specs.Rest.{IsClosed}
 use Rattle.gq_sessions.specs.Trading.{Trading, IsTrading, account_no, account_of, init_no, node_of, with_memory}

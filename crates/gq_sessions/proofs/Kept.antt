@@ -7,8 +7,8 @@ use Rattle.std.proofs.lemmas.Bool.Decides.{eqb_tells}
 use Rattle.gq_tariff.specs.declared.amount.Amount.{Amount}
 use Rattle.gq_ram.specs.declared.account.Account.{Account}
 use Rattle.gq_ram.specs.Entries.{account_at, its_account, IsOpen}
-use Rattle.gq_donations.specs.Trees.{donated, number, parent}
-use Rattle.gq_donations.proofs.Moves.{nodes_kept}
+use Rattle.gq_ram.specs.Trees.{donated, number, parent}
+use Rattle.gq_ram.proofs.Moves.{nodes_kept}
 use Rattle.gq_model.specs.declared.program.Form.TheVariants as form
 use Rattle.gq_model.specs.machine.World as world
 use Rattle.gq_heap.specs.declared.heap.Heap.{Heap}

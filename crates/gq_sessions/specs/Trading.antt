@@ -5,8 +5,8 @@ use Rattle.gq_ram.specs.declared.account.Account.{Account}
 use Rattle.gq_ram.specs.declared.account.AccountNo.{AccountNo}
 use Rattle.gq_ram.specs.Entries.{available, available_caps}
 use Rattle.gq_ram.specs.Ledgers.{Ledger}
-use Rattle.gq_donations.specs.Trees.{Tree, IsTree, AreNodes, donated, number, parent}
-use Rattle.gq_donations.specs.Trees as trees
+use Rattle.gq_ram.specs.Trees.{Tree, IsTree, AreNodes, donated, number, parent}
+use Rattle.gq_ram.specs.Trees as trees
 use Rattle.gq_model.specs.declared.program.Form.TheVariants as form
 use Rattle.gq_model.specs.machine.World as world
 use Rattle.gq_tariff.specs.Prices.{up}

@@ -3,7 +3,7 @@ ghost use Rattle.std.specs.Prelude.{◌≡◌, ℕ, ◌+◌, ◌<◌, ◌≤◌,
 ghost use Rattle.std.specs.Prelude.{IfNone};
 ghost use Rattle.gq_tariff.specs.Prices.{up};
 ghost use Rattle.gq_ram.specs.Entries.{available, available_caps, has_members, IsOpen};
-ghost use Rattle.gq_donations.specs.Trees.{AreNodes, account_of as tree_account_of, number, parent};
+ghost use Rattle.gq_ram.specs.Trees.{AreNodes, account_of as tree_account_of, number, parent};
 ghost use Rattle.gq_numbered.specs.Numbers.{free_number, IsTaken};
 ghost use Rattle.gq_requests.specs.declared.requests.Ask.TheVariants as ask;
 ghost use Rattle.gq_requests.specs.Queues.{IsOldest, oldest_to};
@@ -18,7 +18,7 @@ ghost use Rattle.gq_sessions.specs.Trading.{handed_on, node_of, root_no, with_re
 
 use crate::objects::{free_slice_of, make_slice_for};
 use crate::session::{Session, Spot};
-use gq_donations::AccountTree;
+use gq_ram::AccountTree;
 use gq_memory::Memory;
 use gq_model::limits::GREATEST_LEAVES;
 use gq_numbered::Numbered;

@@ -10,7 +10,7 @@ use Rattle.gq_heap.specs.declared.heap.Heap.{Heap}
 use Rattle.gq_heap.specs.Heap.{peaks}
 use Rattle.gq_ram.specs.Entries.{Entries, IsOpen}
 use Rattle.gq_ram.specs.Ledgers.{IsBalanced, Ledger, with_accounts}
-use Rattle.gq_donations.proofs.Moves.{used_kept}
+use Rattle.gq_ram.proofs.Moves.{used_kept}
 use Rattle.gq_memory.specs.Stores.{store_at}
 use Rattle.gq_numbered.specs.Numbers.{IsTaken, added, free_number}
 use Rattle.gq_requests.specs.declared.requests.Ask.{Ask}

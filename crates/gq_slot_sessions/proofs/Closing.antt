@@ -14,7 +14,7 @@ use Rattle.gq_heap.proofs.Lists.{up_pos}
 use Rattle.gq_ram.specs.declared.account.Account.{Account}
 use Rattle.gq_ram.specs.Entries.{IsOpen, account_at, its_account as the_account}
 use Rattle.gq_ram.specs.Ledgers.{IsBalanced}
-use Rattle.gq_donations.proofs.Moves.{used_kept}
+use Rattle.gq_ram.proofs.Moves.{used_kept}
 use Rattle.gq_memory.specs.Stores.{Memory}
 use Rattle.gq_numbered.specs.Numbers.{IsTaken}
 use Rattle.gq_requests.specs.declared.requests.Request.{Request}

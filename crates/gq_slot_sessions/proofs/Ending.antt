@@ -10,8 +10,8 @@ use Rattle.gq_heap.specs.Heap.{peaks}
 use Rattle.gq_ram.specs.declared.account.Account.{Account}
 use Rattle.gq_ram.specs.Entries.{Entries, IsOpen, account_at, its_account as the_account, left_to, no_amount}
 use Rattle.gq_ram.specs.Ledgers.{IsBalanced}
-use Rattle.gq_donations.specs.Trees.{number, parent}
-use Rattle.gq_donations.proofs.Moves.{used_kept}
+use Rattle.gq_ram.specs.Trees.{number, parent}
+use Rattle.gq_ram.proofs.Moves.{used_kept}
 use Rattle.gq_memory.specs.Stores.{Memory, content_for}
 use Rattle.gq_memory.specs.Rest.{IsClosed}
 use Rattle.gq_numbered.specs.Numbers.{IsTaken}

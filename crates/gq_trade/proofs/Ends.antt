@@ -7,7 +7,7 @@ use Rattle.std.proofs.lemmas.Bool.Decides.{eqb_tells}
 use Rattle.gq_tariff.specs.declared.amount.Amount.{Amount}
 use Rattle.gq_ram.specs.declared.account.Account.{Account}
 use Rattle.gq_ram.specs.Entries.{account_at, available_caps}
-use Rattle.gq_donations.specs.Trees.{AreNodes}
+use Rattle.gq_ram.specs.Trees.{AreNodes}
 use Rattle.gq_store.specs.Store.{one_more}
 use Rattle.gq_memory.specs.Stores.{Memory, caps_left}
 use Rattle.gq_memory.specs.internal.Rests.{rest_refl}

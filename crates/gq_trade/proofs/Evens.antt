@@ -5,8 +5,8 @@ use Rattle.std.proofs.lemmas.Bool.Decides.{eqb_tells}
 use Rattle.gq_tariff.specs.declared.amount.Amount.{Amount}
 use Rattle.gq_ram.specs.declared.account.Account.{Account}
 use Rattle.gq_ram.specs.Entries.{Entries, account_at, its_account, no_amount, with_caps, with_quota, IsOpen}
-use Rattle.gq_donations.specs.Trees.{Tree, AreNodes, account_of as account_in, donated, number, less, more}
-use Rattle.gq_donations.proofs.Moves.{giver_now, taker_now, other_now}
+use Rattle.gq_ram.specs.Trees.{Tree, AreNodes, account_of as account_in, donated, number, less, more}
+use Rattle.gq_ram.proofs.Moves.{giver_now, taker_now, other_now}
 use Rattle.gq_numbered.specs.Numbers.{IsTaken}
 use Rattle.gq_memory.specs.Stores.{Memory}
 use Rattle.gq_memory.specs.Rest.{SameRest}

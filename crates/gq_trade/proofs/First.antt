@@ -7,9 +7,9 @@ use Rattle.gq_ram.specs.declared.account.Account.{Account}
 use Rattle.gq_ram.specs.declared.account.AccountNo.{AccountNo}
 use Rattle.gq_ram.specs.Entries.{Entries, account_at, its_account, no_amount, IsOpen}
 use Rattle.gq_ram.specs.Ledgers.{Ledger, first_ledger, price_where}
-use Rattle.gq_donations.specs.Trees.{Tree, account_of, number, parent}
-use Rattle.gq_donations.specs.Handing.{spent}
-use Rattle.gq_donations.specs.Opening.{IsOpened}
+use Rattle.gq_ram.specs.Trees.{Tree, account_of, number, parent}
+use Rattle.gq_ram.specs.Handing.{spent}
+use Rattle.gq_ram.specs.Opening.{IsOpened}
 use Rattle.gq_memory.specs.Stores.{Memory}
 use Rattle.gq_trade.specs.declared.node.Node.{Node}
 use Rattle.gq_trade.specs.declared.node.Stage.{Stage}

@@ -10,8 +10,8 @@ use Rattle.gq_ram.specs.declared.account.AccountNo.{AccountNo}
 use Rattle.gq_ram.specs.Entries.{Entries, account_at, available, available_caps, its_account, has_members, is_it, left_to, no_amount, IsOpen}
 use Rattle.gq_ram.specs.Ledgers.{IsBalanced}
 use Rattle.gq_ram.proofs.Callers.{is_same}
-use Rattle.gq_donations.specs.Trees.{number, parent, account_of as account_in}
-use Rattle.gq_donations.specs.Handing.{spent}
+use Rattle.gq_ram.specs.Trees.{number, parent, account_of as account_in}
+use Rattle.gq_ram.specs.Handing.{spent}
 use Rattle.gq_memory.specs.Stores.{Memory}
 use Rattle.gq_numbered.specs.Numbers.{IsTaken}
 use Rattle.gq_sessions.specs.Trading.{Trading, IsTrading, Leaves, client_of, handed_on, init_no, node_of, server_of}

@@ -3,8 +3,8 @@ use Rattle.std.proofs.Common.{◌≡◌, ℕ, zero, suc, inl, inr, List, [], ◌
 use Rattle.std.proofs.lemmas.Bool.{cases_eq}
 use Rattle.gq_tariff.specs.declared.amount.Amount.{Amount}
 use Rattle.gq_ram.specs.Entries.{Entries, account_at, its_account, IsOpen}
-use Rattle.gq_donations.specs.Trees.{Tree, moved, number}
-use Rattle.gq_donations.proofs.Moves.{still_open, reference_kept}
+use Rattle.gq_ram.specs.Trees.{Tree, moved, number}
+use Rattle.gq_ram.proofs.Moves.{still_open, reference_kept}
 use Rattle.gq_numbered.specs.Numbers.{added, free_number, IsTaken}
 use Rattle.gq_memory.specs.Stores.{Memory}
 use Rattle.gq_memory.specs.Rest.{SameRest}

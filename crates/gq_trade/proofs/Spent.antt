@@ -6,8 +6,8 @@ use Rattle.std.proofs.lemmas.List.{get_or-set_same, get_or-set_other}
 use Rattle.std.proofs.lemmas.List.Sums.{sum_by-cons}
 use Rattle.std.proofs.lemmas.Bool.{cases_eq}
 use Rattle.gq_tariff.specs.declared.amount.Amount.{Amount}
-use Rattle.gq_donations.specs.Trees.{Tree, parent}
-use Rattle.gq_donations.specs.Handing.{part, spent, spent_in, tail}
+use Rattle.gq_ram.specs.Trees.{Tree, parent}
+use Rattle.gq_ram.specs.Handing.{part, spent, spent_in, tail}
 use Rattle.gq_numbered.specs.Numbers.{IsTaken}
 use Rattle.gq_sessions.specs.declared.session.Session.{Session}
 use Rattle.gq_sessions.specs.Trading.{session_in}

@@ -1,7 +1,7 @@
 -- Leaves that end.
 use Rattle.std.specs.Prelude.{◌≡◌, ℕ, suc, nat_eq, if◌then◌else◌, Bool, false, List, [], ◌∷◌, Option, Some, None, length, slice_set, ◌<◌, ◌≤◌}
 use Rattle.gq_ram.specs.Entries.{available, available_caps}
-use Rattle.gq_donations.specs.Trees.{account_of as account_in, parent}
+use Rattle.gq_ram.specs.Trees.{account_of as account_in, parent}
 use Rattle.gq_numbered.specs.Numbers.{IsTaken}
 use Rattle.gq_sessions.specs.Trading.{Trading, Leaves, client_of, server_of, handed_on, node_of}
 use Rattle.gq_trade.specs.declared.node.Node.{Node}

@@ -2,8 +2,8 @@
 use Rattle.std.specs.Prelude.{◌≡◌, ℕ, ◌<◌, ◌≤◌, List, [], length, map, get_or, Option, Some, None}
 use Rattle.gq_ram.specs.Ledgers.{caps_where, first_ledger, with_accounts}
 use Rattle.gq_ram.specs.Entries.{no_amount}
-use Rattle.gq_donations.specs.Trees.{Tree, account_of}
-use Rattle.gq_donations.specs.Handing.{spent}
+use Rattle.gq_ram.specs.Trees.{Tree, account_of}
+use Rattle.gq_ram.specs.Handing.{spent}
 use Rattle.gq_trade.specs.declared.node.Node.{Node}
 use Rattle.gq_trade.specs.declared.node.Stage.TheVariants.{Live}
 use Rattle.gq_trade.specs.Balances.{handed, node_at}

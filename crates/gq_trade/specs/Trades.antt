@@ -1,7 +1,7 @@
 -- Sessions over accounts whose balances are sums.
 use Rattle.std.specs.Prelude.{◌≡◌, ℕ, ◌<◌, ◌≤◌, List, length, Some, get_or}
 use Rattle.gq_ram.specs.Entries.{Entries, account_at, IsOpen}
-use Rattle.gq_donations.specs.Trees.{Tree, number, parent}
+use Rattle.gq_ram.specs.Trees.{Tree, number, parent}
 use Rattle.gq_numbered.specs.Numbers.{IsTaken}
 use Rattle.gq_sessions.specs.declared.session.Session.{Session}
 use Rattle.gq_sessions.specs.Trading.{Trading, SameButMemory as SameTrading, session_in}

@@ -14,13 +14,13 @@ ghost use Rattle.gq_sessions.specs.Trading.{node_of, Leaves};
 ghost use Rattle.gq_trade.specs.declared.node.Stage.TheVariants as Stage;
 ghost use Rattle.gq_trade.specs.Ends.{CanStart, Ends, HasNoSessions, follower, staged, started};
 ghost use Rattle.gq_trade.specs.Plans.{IsFirst, IsPlan};
-ghost use Rattle.gq_donations.specs.Trees.{number};
+ghost use Rattle.gq_ram.specs.Trees.{number};
 ghost use Rattle.gq_trade.specs.Balances.{node_at, quota, use_of};
 ghost use Rattle.gq_trade.specs.Waiting.{IsIdle};
 ghost use Rattle.gq_trade.specs.Trades.{HasAccount, IsLive, IsTrades, with_trading};
 
 use crate::node::{Node, Stage, follower, handed_to};
-use gq_donations::AccountTree;
+use gq_ram::AccountTree;
 use gq_memory::Memory;
 use gq_ram::{AccountFault, AccountNo, Accounts};
 use gq_requests::Request;

@@ -34,7 +34,7 @@ pub scene_beside : (t u : Slots) → SameBeside t u → SameScene t u
 scene_beside t u b =
     record {
       nodes = b.nodes;
-      parents = ap (λ (r : Rattle.gq_donations.specs.Trees.Tree). r.parents) b.accounts.tree;
+      parents = ap (λ (r : Rattle.gq_ram.specs.Trees.Tree). r.parents) b.accounts.tree;
       leaves = b.accounts.leaves;
       objects = b.accounts.objects;
       room = b.accounts.room;
@@ -45,7 +45,7 @@ pub scene_asked : (t u : Slots) → Stays t u → SameScene t u
 scene_asked t u b =
     record {
       nodes = b.nodes;
-      parents = ap (λ (r : Rattle.gq_donations.specs.Trees.Tree). r.parents) b.tree;
+      parents = ap (λ (r : Rattle.gq_ram.specs.Trees.Tree). r.parents) b.tree;
       leaves = b.leaves;
       objects = b.objects;
       room = b.room;

@@ -19,7 +19,7 @@ use Rattle.gq_laws.specs.Ready.{IsReady}
 use Rattle.gq_scenario.specs.Sizes.{leaf_places}
 use Rattle.gq_scenario.proofs.Preorder.{components-count}
 use Rattle.gq_nodes.specs.NodeTables.{NodeRow, node_rows}
-use Rattle.gq_donations.specs.Trees.{account_of}
+use Rattle.gq_ram.specs.Trees.{account_of}
 use Rattle.gq_sessions.specs.declared.session.Session.{Session}
 use Rattle.gq_sessions.specs.declared.session.Spot.TheVariants.{InLeaf}
 use Rattle.gq_sessions.specs.Trading.{AreBetween, Trading, its_account, node_of}

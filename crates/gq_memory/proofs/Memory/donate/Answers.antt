@@ -1,4 +1,4 @@
-use Rattle.gq_donations.specs.Trees.{number}
+use Rattle.gq_ram.specs.Trees.{number}
 use Rattle.gq_memory.proofs.Donating.{open_after}
 use Rattle.gq_memory.proofs.Memory.donate.Goals as goal
 

@@ -1,8 +1,8 @@
 use Rattle.std.proofs.Common.{sym, subst}
 use Rattle.gq_ram.specs.Entries.{IsOpen}
 use Rattle.gq_ram.specs.Ledgers.{Ledger}
-use Rattle.gq_donations.specs.Trees.{number}
-use Rattle.gq_donations.proofs.Moves.{still_open}
+use Rattle.gq_ram.specs.Trees.{number}
+use Rattle.gq_ram.proofs.Moves.{still_open}
 use Rattle.gq_memory.proofs.Memory.give.Goals as goal
 
 pub invariant_of-self : goal.invariant_of-self

@@ -2,7 +2,7 @@ use Rattle.std.proofs.Common.{sym, subst}
 use Rattle.gq_ram.specs.Entries.{IsOpen}
 use Rattle.gq_ram.specs.Ledgers.{Ledger}
 use Rattle.gq_ram.specs.internal.Fields.{ledger_view}
-use Rattle.gq_ram.proofs.Opening.{opened_balanced}
+use Rattle.gq_ram.proofs.Ram_opening.{opened_balanced}
 use Rattle.gq_ram.proofs.accounts.Accounts.add.Goals as goal
 
 pub invariant_of-self-2 : goal.invariant_of-self-2

@@ -1,7 +1,7 @@
 use Rattle.std.proofs.Common.{◌≡◌, ◌<◌, length, sym, ap, subst, ◌∙◌}
 use Rattle.gq_ram.specs.Entries.{IsOpen}
 use Rattle.gq_ram.specs.Ledgers.{IsBalanced}
-use Rattle.gq_donations.specs.Trees.{number}
+use Rattle.gq_ram.specs.Trees.{number}
 use Rattle.gq_memory.specs.Stores.{Memory}
 use Rattle.gq_sessions.specs.Trading.{Trading, account_no, account_of, node_of}
 use Rattle.gq_sessions.proofs.Inside.{trading_of}

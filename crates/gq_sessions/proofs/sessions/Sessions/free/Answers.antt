@@ -1,5 +1,5 @@
 use Rattle.std.proofs.Common.{◌≡◌, ◌<◌, length, sym, ap, subst, ◌∙◌}
-use Rattle.gq_donations.specs.Trees.{number}
+use Rattle.gq_ram.specs.Trees.{number}
 use Rattle.gq_sessions.specs.Trading.{Trading, Frees, account_no, node_of, with_memory}
 use Rattle.gq_sessions.proofs.Inside.{trading_of}
 use Rattle.gq_sessions.proofs.Kept.{frees_of, item}

@@ -1,6 +1,6 @@
 use Rattle.std.proofs.Common.{◌≡◌, sym, subst}
 use Rattle.gq_ram.specs.Entries.{IsOpen}
-use Rattle.gq_donations.specs.Trees.{number, parent}
+use Rattle.gq_ram.specs.Trees.{number, parent}
 use Rattle.gq_sessions.specs.Trading.{Trading}
 use Rattle.gq_sessions.proofs.Inside.{trading_of}
 use Rattle.gq_sessions.proofs.Kept.{handed_kept}

@@ -1,8 +1,8 @@
 use Rattle.std.proofs.Common.{◌≡◌, ℕ, ◌+◌, ◌<◌, length, get_or, map, refl, sym, ap, subst, ◌∙◌, arith}
 use Rattle.std.proofs.lemmas.List.{length-map}
 use Rattle.gq_ram.specs.Entries.{account_at, no_amount}
-use Rattle.gq_donations.specs.Trees.{AreNodes, account_of, number}
-use Rattle.gq_donations.specs.Handing.{spent}
+use Rattle.gq_ram.specs.Trees.{AreNodes, account_of, number}
+use Rattle.gq_ram.specs.Handing.{spent}
 use Rattle.gq_ram.specs.Ledgers.{Ledger, first_ledger, with_accounts}
 use Rattle.gq_sessions.specs.Trading.{Trading}
 use Rattle.gq_trade.specs.Balances.{handed}

@@ -1,6 +1,6 @@
 use Rattle.std.proofs.Common.{◌≡◌, ◌<◌, length, arith}
-use Rattle.gq_donations.proofs.Handed.{enough, enough_caps, handed_on, handed_all}
-use Rattle.gq_donations.proofs.tree.AccountTree.hand_out.Goals as goal
+use Rattle.gq_ram.proofs.Handed.{enough, enough_caps, handed_on, handed_all}
+use Rattle.gq_ram.proofs.tree.AccountTree.hand_out.Goals as goal
 
 pub give-requires-clause-enough : goal.give-requires-clause-enough
 give-requires-clause-enough c =

@@ -8,8 +8,8 @@ use Rattle.gq_ram.specs.declared.account.Account.{Account}
 use Rattle.gq_ram.specs.declared.account.AccountNo.{AccountNo}
 use Rattle.gq_ram.specs.Entries.{Entries, its_account, first_account, IsOpen}
 use Rattle.gq_ram.specs.Ledgers.{Ledger, with_accounts}
-use Rattle.gq_donations.specs.Trees.{Tree}
-use Rattle.gq_donations.specs.Opening.{IsOpened}
+use Rattle.gq_ram.specs.Trees.{Tree}
+use Rattle.gq_ram.specs.Opening.{IsOpened}
 
 -- the number of an account of these
 abbrev pub its_number : List AccountNo → ℕ → ℕ

@@ -2,10 +2,10 @@
 ghost use Rattle.std.specs.Prelude.{◌≡◌, ℕ, ◌<◌, ◌≤◌, length, get_or, IfOk};
 ghost use Rattle.gq_ram.specs.Entries.{IsOpen};
 ghost use Rattle.gq_ram.specs.Ledgers.{with_accounts};
-ghost use Rattle.gq_donations.specs.Opening.{IsOpened};
+ghost use Rattle.gq_ram.specs.Opening.{IsOpened};
 
 use crate::tree::AccountTree;
-use gq_ram::Accounts;
+use crate::accounts::Accounts;
 use std::alloc::{AllocError, Global};
 
 impl AccountTree {

@@ -1,8 +1,8 @@
 use Rattle.std.proofs.Common.{◌≡◌, ◌<◌, ◌∷◌, ◌++◌, [], List, length, get_or, ap, ◌∙◌, arith}
 use Rattle.gq_ram.specs.declared.account.AccountNo.{AccountNo}
-use Rattle.gq_donations.proofs.Moves.{item, place}
-use Rattle.gq_donations.proofs.Opened.{its_number, open_first, open_more}
-use Rattle.gq_donations.proofs.tree.AccountTree.open.Goals as goal
+use Rattle.gq_ram.proofs.Moves.{item, place}
+use Rattle.gq_ram.proofs.Opened.{its_number, open_first, open_more}
+use Rattle.gq_ram.proofs.tree.AccountTree.open.Goals as goal
 
 pub loop-node-init : goal.loop-node-init
 loop-node-init c =

@@ -5,9 +5,9 @@ use Rattle.gq_tariff.specs.declared.amount.Amount.{Amount}
 use Rattle.gq_ram.specs.declared.account.Account.{Account}
 use Rattle.gq_ram.specs.Entries.{Entries, account_at, available, available_caps, no_amount, IsOpen}
 use Rattle.gq_ram.specs.Ledgers.{Ledger, with_accounts}
-use Rattle.gq_donations.specs.Trees.{Tree, AreNodes, less, more, moved, donated, number, parent}
-use Rattle.gq_donations.specs.Handing.{tail, part, spent_in, spent}
-use Rattle.gq_donations.proofs.Moves.{giver_now, taker_now, other_now, far, nodes_kept, still_open, was_open, reference_kept, used_kept}
+use Rattle.gq_ram.specs.Trees.{Tree, AreNodes, less, more, moved, donated, number, parent}
+use Rattle.gq_ram.specs.Handing.{tail, part, spent_in, spent}
+use Rattle.gq_ram.proofs.Moves.{giver_now, taker_now, other_now, far, nodes_kept, still_open, was_open, reference_kept, used_kept}
 
 -- what the first n of these count for the node i
 abbrev pub spent_first : (Amount → ℕ) → ℕ → ℕ → List ℕ → List Amount → ℕ

@@ -2,11 +2,11 @@
 ghost use Rattle.std.specs.Prelude.{◌≡◌, ℕ, ◌+◌, ◌<◌, ◌≤◌, ◌↔◌, length, get_or};
 ghost use Rattle.gq_ram.specs.Entries.{account_at, no_amount, IsOpen};
 ghost use Rattle.gq_ram.specs.Ledgers.{with_accounts};
-ghost use Rattle.gq_donations.specs.Trees.{account_of, number, AreNodes};
-ghost use Rattle.gq_donations.specs.Handing.{spent};
+ghost use Rattle.gq_ram.specs.Trees.{account_of, number, AreNodes};
+ghost use Rattle.gq_ram.specs.Handing.{spent};
 
 use crate::tree::AccountTree;
-use gq_ram::Accounts;
+use crate::accounts::Accounts;
 use gq_tariff::Amount;
 
 impl AccountTree {

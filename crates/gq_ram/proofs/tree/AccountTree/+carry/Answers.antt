@@ -1,8 +1,8 @@
 use Rattle.std.proofs.Common.{◌≡◌, ◌<◌, length, sym, subst, arith, rules, get_or, inl, inr}
 use Rattle.std.proofs.lemmas.Bool.{cases_lt}
-use Rattle.gq_donations.specs.Trees.{Tree, IsTree, number, parent}
-use Rattle.gq_donations.proofs.Moves.{after_move, node_parent, init_open, far, joined}
-use Rattle.gq_donations.proofs.tree.AccountTree.+carry.Goals as goal
+use Rattle.gq_ram.specs.Trees.{Tree, IsTree, number, parent}
+use Rattle.gq_ram.proofs.Moves.{after_move, node_parent, init_open, far, joined}
+use Rattle.gq_ram.proofs.tree.AccountTree.+carry.Goals as goal
 
 -- UP
 

@@ -1,5 +1,5 @@
 use Rattle.std.proofs.Common.{◌+◌}
-use Rattle.gq_donations.proofs.tree.AccountTree.+carry.Given as goal
+use Rattle.gq_ram.proofs.tree.AccountTree.+carry.Given as goal
 
 abbrev pub decreases-carry : goal.decreases-carry
 decreases-carry l = l.from + l.to

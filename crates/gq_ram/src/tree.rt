@@ -1,9 +1,10 @@
 // The nodes of a scenario in preorder, each with its account.
 ghost use Rattle.std.specs.Prelude.{◌≡◌, ℕ, ◌<◌, ◌≤◌, ◌↔◌, OnOk, OnErr, IsErrOf, length, get_or};
 ghost use Rattle.gq_ram.specs.Entries.{available, available_caps, IsOpen};
-ghost use Rattle.gq_donations.specs.Trees.{account_of, donated, number, parent, AreNodes, IsHop};
+ghost use Rattle.gq_ram.specs.Trees.{account_of, donated, number, parent, AreNodes, IsHop};
 
-use gq_ram::{AccountFault, AccountNo, Accounts};
+use crate::account::{AccountFault, AccountNo};
+use crate::accounts::Accounts;
 use gq_tariff::Amount;
 use std::marker::Model;
 
@@ -15,7 +16,7 @@ pub struct AccountTree {
 }
 
 impl Model for AccountTree {
-    ghost use Rattle.gq_donations.specs.Trees.{Tree, IsTree};
+    ghost use Rattle.gq_ram.specs.Trees.{Tree, IsTree};
 
     ghost Value = { Tree };
 

@@ -1,9 +1,9 @@
 use Rattle.std.proofs.Common.{◌≡◌, ◌<◌, ◌≤◌, ℕ, true, length, sym, ap, subst, ◌∙◌, arith}
 use Rattle.gq_ram.specs.Entries.{Entries, account_at, available_caps, quota_moved, are_related, transfer_caps_refusal, IsOpen}
 use Rattle.gq_ram.specs.Ledgers.{Ledger, with_accounts}
-use Rattle.gq_donations.specs.Trees.{Tree, IsTree, number, moved}
-use Rattle.gq_donations.proofs.Moves.{node_number, hop_apart, hop_done, caps_allowed, related, caps_then, nodes_then, open_then}
-use Rattle.gq_donations.proofs.tree.AccountTree.hop.Goals as goal
+use Rattle.gq_ram.specs.Trees.{Tree, IsTree, number, moved}
+use Rattle.gq_ram.proofs.Moves.{node_number, hop_apart, hop_done, caps_allowed, related, caps_then, nodes_then, open_then}
+use Rattle.gq_ram.proofs.tree.AccountTree.hop.Goals as goal
 
 pub unreachable-requires-in_default-transfer_caps : goal.unreachable-requires-in_default-transfer_caps
 unreachable-requires-in_default-transfer_caps c =

@@ -11,7 +11,7 @@ use Rattle.gq_ram.specs.Entries.{Entries, account_at, its_account, quota_moved, 
 use Rattle.gq_ram.specs.Entries.{available, available_caps, transfer_refusal, transfer_caps_refusal, IsOpen}
 use Rattle.gq_ram.specs.Ledgers.{Ledger, IsBalanced, with_accounts}
 use Rattle.gq_ram.proofs.Callers.{open_there, open_put, it_true}
-use Rattle.gq_donations.specs.Trees.{Tree, IsTree, AreNodes, IsHop, less, more, moved, number, parent}
+use Rattle.gq_ram.specs.Trees.{Tree, IsTree, AreNodes, IsHop, less, more, moved, number, parent}
 
 -- the account where one was put, and elsewhere
 put : (es : Entries) (k : ℕ) (a : Account) → k < length es → account_at (set es k (Some a)) k ≡ a
