@@ -3,7 +3,7 @@ use crate::used::used;
 use gq_heap::Heap;
 use gq_list_store::ListStore;
 use gq_store::{ByteStore, GrowFault};
-use gq_store_example::share;
+use gq_list_store::share;
 
 // What each reads in a heap of its own.
 fn shared<S: ByteStore>(store: &mut S) -> Result<(u8, u8, u8), GrowFault> {

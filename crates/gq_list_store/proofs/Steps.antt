@@ -16,7 +16,7 @@ use Rattle.gq_pool.proofs.Held.{goes, among_others}
 use Rattle.gq_pool.proofs.Entries.{entry_room}
 use Rattle.gq_pool.proofs.Callers.{pool_beside, taken, given}
 use Rattle.gq_pool.proofs.Two.{now_within, swapped, swapped_owns, after_first, first_ends, made_second}
-use Rattle.gq_store_example.specs.Laid.{AreLaid, IsLaid, IsFilled, IsLeft}
+use Rattle.gq_list_store.specs.Laid.{AreLaid, IsLaid, IsFilled, IsLeft}
 
 -- the block is one of the places
 block_in : (ps qs others : List Place) (block : Place) → Inserts block (ps ++ (qs ++ others)) (ps ++ (qs ++ (block ∷ others)))

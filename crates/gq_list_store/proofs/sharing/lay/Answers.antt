@@ -1,6 +1,6 @@
 use Rattle.gq_heap.proofs.Callers.{room_there}
-use Rattle.gq_store_example.proofs.Steps.{block_laid, slice_laid, first_laid, second_laid}
-use Rattle.gq_store_example.proofs.sharing.lay.Goals as goal
+use Rattle.gq_list_store.proofs.Steps.{block_laid, slice_laid, first_laid, second_laid}
+use Rattle.gq_list_store.proofs.sharing.lay.Goals as goal
 
 pub store-requires-clause-inside : goal.store-requires-clause-inside
 store-requires-clause-inside g c = room_there _ _ _ c.in_ok-block.ensures.in_use

@@ -1,7 +1,7 @@
 use Rattle.std.proofs.Common.{◌∙◌, arith}
 use Rattle.gq_heap.proofs.Callers.{room_there}
-use Rattle.gq_store_example.proofs.Steps.{first_takes, first_puts, second_takes, second_gives, second_ends, second_is, left_is, left_block, reads_entry}
-use Rattle.gq_store_example.proofs.sharing.trade.Goals as goal
+use Rattle.gq_list_store.proofs.Steps.{first_takes, first_puts, second_takes, second_gives, second_ends, second_is, left_is, left_block, reads_entry}
+use Rattle.gq_list_store.proofs.sharing.trade.Goals as goal
 
 pub take-requires-2-clause-kept : goal.take-requires-2-clause-kept
 take-requires-2-clause-kept g c =

@@ -1,7 +1,7 @@
 // Two pools, a block and a slice in one store.
 ghost use Rattle.std.specs.Prelude.{◌≡◌, IfOk};
 ghost use Rattle.gq_heap.specs.Heap.{IsHeap};
-ghost use Rattle.gq_store_example.specs.Laid.{IsLaid};
+ghost use Rattle.gq_list_store.specs.Laid.{IsLaid};
 
 use gq_heap::{Heap, Place};
 use gq_pool::Pool;
