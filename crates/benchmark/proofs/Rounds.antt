@@ -10,9 +10,9 @@ use Rattle.gq_requests.specs.declared.requests.Ask.{Ask}
 use Rattle.gq_requests.specs.declared.requests.Ask.TheVariants.{Open, Upgrade}
 use Rattle.gq_requests.specs.declared.requests.Request.{Request}
 use Rattle.gq_requests.specs.Queues.{kept_before, oldest_to}
-use Rattle.gq_things.specs.declared.thing.Thing.{Thing}
-use Rattle.gq_things.specs.declared.thing.Thing.TheVariants.{Empty}
-use Rattle.gq_things.specs.Things.{seen}
+use Rattle.gq_contents.specs.declared.thing.Thing.{Thing}
+use Rattle.gq_contents.specs.declared.thing.Thing.TheVariants.{Empty}
+use Rattle.gq_contents.specs.Things.{seen}
 use Rattle.gq_sessions.specs.declared.session.Session.{Session}
 use Rattle.gq_sessions.specs.declared.session.Spot.TheVariants.{InLeaf}
 use Rattle.gq_sessions.specs.Trading as trading

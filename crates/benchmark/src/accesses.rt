@@ -2,7 +2,7 @@
 ghost use Rattle.std.specs.Prelude.{◌≡◌, ◌≤◌, length};
 ghost use Rattle.gq_dataspace.specs.Dataspaces.{content_of};
 ghost use Rattle.gq_sessions.specs.declared.session.Spot.TheVariants.{InLeaf};
-ghost use Rattle.gq_things.specs.Things.{size_of};
+ghost use Rattle.gq_contents.specs.Things.{size_of};
 ghost use Rattle.gq_trade.specs.Trades.{IsLive};
 ghost use Rattle.gq_slots.specs.Slots.{IsPaidBy, IsSpot, thing_at};
 ghost use Rattle.benchmark.specs.Accesses.{IsNoLink};
@@ -16,7 +16,7 @@ use gq_dataspace::DsId;
 use gq_ram::Accounts;
 use gq_sessions::Spot;
 use gq_slots::Slots;
-use gq_things::Thing;
+use gq_contents::Thing;
 use std::time::Instant;
 
 // The bytes of the space.

@@ -11,7 +11,7 @@ use gq_sessions::Spot;
 use gq_slot_sessions::sessions;
 use gq_slots::Slots;
 use gq_tariff::Amount;
-use gq_things::Thing;
+use gq_contents::Thing;
 use gq_trade::{Node, Plan, Stage};
 use std::alloc::{AllocError, Global};
 use std::time::Instant;

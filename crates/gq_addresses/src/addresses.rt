@@ -7,7 +7,7 @@ ghost use Rattle.gq_model.specs.machine.Scenario.{System};
 ghost use Rattle.gq_model.specs.machine.Memory.{bytes_spot};
 ghost use Rattle.gq_model.specs.machine.World.{slot_at, Link};
 ghost use Rattle.gq_numbered.specs.Numbers.{IsTaken};
-ghost use Rattle.gq_things.specs.Things.{bytes_in, put_in, size_of};
+ghost use Rattle.gq_contents.specs.Things.{bytes_in, put_in, size_of};
 ghost use Rattle.gq_sessions.specs.Seen.{spot_seen};
 ghost use Rattle.gq_sessions.specs.declared.session.Spot.{Spot};
 ghost use Rattle.gq_trade.specs.Trades.{IsLive};
@@ -20,7 +20,7 @@ ghost use Rattle.gq_addresses.specs.internal.Paying.{paying};
 
 use gq_sessions::{Session, Spot};
 use gq_slots::Slots;
-use gq_things::Thing;
+use gq_contents::Thing;
 use std::marker::Model;
 
 // The addresses of a slot, as many as the most bytes that one can have.

@@ -6,9 +6,9 @@ use Rattle.gq_model.specs.machine.World as world
 use Rattle.gq_model.specs.machine.Doing.{Doing}
 use Rattle.gq_model.specs.texts.Operands.{is_slot, is_slot_or_object}
 use Rattle.gq_store.specs.Store.{Store}
-use Rattle.gq_things.specs.declared.thing.Thing.{Thing}
-use Rattle.gq_things.specs.declared.thing.Thing.TheVariants.{Empty, Block, Slice, Space, Pool, Link, Waiting}
-use Rattle.gq_things.specs.Things.{seen}
+use Rattle.gq_contents.specs.declared.thing.Thing.{Thing}
+use Rattle.gq_contents.specs.declared.thing.Thing.TheVariants.{Empty, Block, Slice, Space, Pool, Link, Waiting}
+use Rattle.gq_contents.specs.Things.{seen}
 use Rattle.gq_sessions.specs.declared.session.Spot.{Spot}
 use Rattle.gq_sessions.specs.declared.session.Spot.TheVariants.{InLeaf, InSession, InObject}
 use Rattle.gq_sessions.specs.Seen.{spot_seen}

@@ -17,9 +17,9 @@ use Rattle.gq_model.proofs.Small.{none_some}
 use Rattle.gq_laws.proofs.linking.Opens.{add_else, free_at, free_slot}
 use Rattle.gq_laws.proofs.linking.Worlds.{object_there, session_there, slot_here}
 use Rattle.gq_store.specs.Store.{Store}
-use Rattle.gq_things.specs.declared.thing.Thing.{Thing}
-use Rattle.gq_things.specs.declared.thing.Thing.TheVariants.{Empty, Block, Slice, Space, Pool, Link, Waiting}
-use Rattle.gq_things.specs.Things.{seen}
+use Rattle.gq_contents.specs.declared.thing.Thing.{Thing}
+use Rattle.gq_contents.specs.declared.thing.Thing.TheVariants.{Empty, Block, Slice, Space, Pool, Link, Waiting}
+use Rattle.gq_contents.specs.Things.{seen}
 use Rattle.gq_sessions.specs.declared.session.Spot.{Spot}
 use Rattle.gq_sessions.specs.Seen.{spot_seen}
 use Rattle.gq_slots.specs.Slots.{Frame, Slots, holder, memory_of, world_seen}

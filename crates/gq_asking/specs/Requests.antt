@@ -8,7 +8,7 @@ use Rattle.gq_model.specs.machine.Doing.{Doing, standing}
 use Rattle.gq_model.specs.machine.Scenario.{interface_in, upgrade_caps}
 use Rattle.gq_model.specs.machine.World as world
 use Rattle.gq_numbered.specs.Numbers.{IsTaken}
-use Rattle.gq_things.specs.declared.thing.Thing.TheVariants.{Link}
+use Rattle.gq_contents.specs.declared.thing.Thing.TheVariants.{Link}
 use Rattle.gq_sessions.specs.Trading.{client_of}
 use Rattle.gq_sessions.specs.declared.session.Spot.{Spot}
 use Rattle.gq_slots.specs.Slots.{Frame, IsSpot, Slots, holder, thing_at, world_seen}

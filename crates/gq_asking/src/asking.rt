@@ -23,7 +23,7 @@ use gq_slot_sessions::sessions;
 use gq_slots::Slots;
 use gq_statements::Actor;
 use gq_tariff::Amount;
-use gq_things::Thing;
+use gq_contents::Thing;
 
 // What holds of slots between two calls. It does nothing.
 fn lawful(slots: &Slots)

@@ -5,8 +5,8 @@ use Rattle.gq_model.specs.machine.World as world
 use Rattle.gq_store.specs.Store.{Store}
 use Rattle.gq_heap.specs.declared.heap.Heap.{Heap}
 use Rattle.gq_heap.specs.Heap.{peaks}
-use Rattle.gq_things.specs.Things.{seen}
-use Rattle.gq_things.specs.declared.thing.Thing.{Thing}
+use Rattle.gq_contents.specs.Things.{seen}
+use Rattle.gq_contents.specs.declared.thing.Thing.{Thing}
 use Rattle.gq_slots.specs.Slots.{Frame, Slots, leaf_seen, leaves_seen, memory_of, world_seen}
 use Rattle.gq_sessions.specs.Seen.{sessions_seen}
 use Rattle.gq_leaves.specs.Frames.{IsElsewhere}

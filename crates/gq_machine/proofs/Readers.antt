@@ -21,7 +21,7 @@ use Rattle.gq_ram.specs.declared.account.Account.{Account as Stored}
 use Rattle.gq_ram.specs.Entries.{Entries, account_at, no_account, sum_over}
 use Rattle.gq_store.specs.Store.{Store}
 use Rattle.gq_heap.specs.declared.heap.Heap.{Heap}
-use Rattle.gq_things.specs.declared.thing.Thing.{Thing}
+use Rattle.gq_contents.specs.declared.thing.Thing.{Thing}
 use Rattle.gq_ram.specs.Trees.{account_of}
 use Rattle.gq_sessions.specs.declared.session.Session.{Session}
 use Rattle.gq_sessions.specs.Trading.{account_of as account_no, its_account, node_of, session_in}

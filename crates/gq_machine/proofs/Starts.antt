@@ -30,8 +30,8 @@ use Rattle.gq_store.specs.Store.{Store}
 use Rattle.gq_heap.specs.declared.heap.Heap.{Heap}
 use Rattle.gq_heap.specs.Heap.{peaks}
 use Rattle.gq_requests.specs.Seen.{request_seen}
-use Rattle.gq_things.specs.declared.thing.Thing.TheVariants.{Empty}
-use Rattle.gq_things.specs.Things.{seen}
+use Rattle.gq_contents.specs.declared.thing.Thing.TheVariants.{Empty}
+use Rattle.gq_contents.specs.Things.{seen}
 use Rattle.gq_slots.specs.Slots.{Slots, leaf_seen, leaves_seen, memory_of}
 use Rattle.gq_paid.specs.Systems.{counted_at, stage_in}
 use Rattle.gq_prepared.specs.Prepared.{AreServices}

@@ -8,10 +8,10 @@ use Rattle.gq_store.specs.Store.{Store}
 use Rattle.gq_numbered.specs.Numbers.{added, free_number}
 use Rattle.gq_requests.specs.declared.requests.Request.{Request}
 use Rattle.gq_requests.specs.Queues.{oldest_to}
-use Rattle.gq_things.specs.declared.thing.Thing.{Thing}
-use Rattle.gq_things.specs.declared.thing.Thing.TheVariants.{Empty, Block, Slice, Space, Pool, Link, Waiting}
-use Rattle.gq_things.specs.Things.{IsSlice, IsThing, seen}
-use Rattle.gq_things.proofs.Callers.{empty_kept}
+use Rattle.gq_contents.specs.declared.thing.Thing.{Thing}
+use Rattle.gq_contents.specs.declared.thing.Thing.TheVariants.{Empty, Block, Slice, Space, Pool, Link, Waiting}
+use Rattle.gq_contents.specs.Things.{IsSlice, IsThing, seen}
+use Rattle.gq_contents.proofs.Callers.{empty_kept}
 use Rattle.gq_model.specs.declared.program.Form.TheVariants as form
 use Rattle.gq_model.specs.machine.World as world
 use Rattle.gq_sessions.specs.declared.session.Session.{Session}

@@ -5,8 +5,8 @@ use Rattle.gq_ram.specs.declared.account.AccountNo.{AccountNo}
 use Rattle.gq_ram.specs.Trees.{Tree, number}
 use Rattle.gq_requests.specs.declared.requests.Ask.TheVariants.{Open}
 use Rattle.gq_requests.specs.declared.requests.Request.{Request}
-use Rattle.gq_things.specs.declared.thing.Thing.{Thing}
-use Rattle.gq_things.specs.Things.{IsSlice}
+use Rattle.gq_contents.specs.declared.thing.Thing.{Thing}
+use Rattle.gq_contents.specs.Things.{IsSlice}
 use Rattle.gq_sessions.specs.declared.session.Session.{Session}
 use Rattle.gq_sessions.specs.declared.session.Spot.TheVariants.{InLeaf}
 use Rattle.gq_sessions.specs.Trading.{Trading, fresh, opened, store_of}

@@ -9,7 +9,7 @@ use gq_sessions::Spot;
 use gq_slot_sessions::sessions;
 use gq_slots::Slots;
 use gq_tariff::Amount;
-use gq_things::Thing;
+use gq_contents::Thing;
 use std::alloc::{AllocError, Global};
 
 // A server without a quantum, and a client with three pages. A session's object has no bytes.

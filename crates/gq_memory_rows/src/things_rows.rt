@@ -1,13 +1,13 @@
 // What slots hold: memory of each kind side by side in one store.
 ghost use Rattle.std.specs.Prelude.{[], ◌∷◌};
-ghost use Rattle.gq_things.specs.declared.thing.Thing.TheVariants as thing;
-ghost use Rattle.gq_things.specs.Kept.{Keeps};
+ghost use Rattle.gq_contents.specs.declared.thing.Thing.TheVariants as thing;
+ghost use Rattle.gq_contents.specs.Kept.{Keeps};
 
 use crate::used::used;
 use gq_heap::Heap;
 use gq_list_store::ListStore;
 use gq_store::{ByteStore, GrowFault};
-use gq_things::Thing;
+use gq_contents::Thing;
 
 // What a slice and an entry of a pool read, each after a byte of it was written. Then both are freed.
 fn use_slice_and_pool<S: ByteStore>(

@@ -10,9 +10,9 @@ use Rattle.gq_model.specs.machine.World as world
 use Rattle.gq_store.specs.Store.{Store}
 use Rattle.gq_numbered.specs.Numbers.{IsTaken}
 use Rattle.gq_pool.specs.declared.pool.Pool.{Pool}
-use Rattle.gq_things.specs.declared.thing.Thing.{Thing}
-use Rattle.gq_things.specs.declared.thing.Thing.TheVariants as thing
-use Rattle.gq_things.specs.Things.{seen, size_of}
+use Rattle.gq_contents.specs.declared.thing.Thing.{Thing}
+use Rattle.gq_contents.specs.declared.thing.Thing.TheVariants as thing
+use Rattle.gq_contents.specs.Things.{seen, size_of}
 use Rattle.gq_sessions.specs.declared.session.Session.{Session}
 use Rattle.gq_sessions.specs.declared.session.Spot.TheVariants.{InSession}
 use Rattle.gq_sessions.specs.Seen.{session_seen}

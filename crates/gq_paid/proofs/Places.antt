@@ -11,7 +11,7 @@ use Rattle.gq_model.specs.machine.Sums.{held, paid, places, raised, slot_places,
 use Rattle.gq_heap.specs.declared.heap.Heap.{Heap}
 use Rattle.gq_heap.specs.Heap.{rise, rise_caps}
 use Rattle.gq_heap.proofs.Charges.{pages_are}
-use Rattle.gq_things.specs.Paid.{raised_by}
+use Rattle.gq_contents.specs.Paid.{raised_by}
 use Rattle.gq_slots.specs.Slots.{Frame, IsHeapOf, Slots, one_more_of, rise_of, settled_in, world_seen}
 use Rattle.gq_paid.specs.Systems.{AreLawful, IsOf, Lacks}
 use Rattle.gq_paid.proofs.Made.{unpaid_written}

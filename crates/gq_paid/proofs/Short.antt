@@ -13,7 +13,7 @@ use Rattle.gq_heap.specs.declared.heap.Heap.{Heap}
 use Rattle.gq_ram.specs.declared.account.Account.{Account}
 use Rattle.gq_numbered.specs.Numbers.{IsTaken}
 use Rattle.gq_ram.specs.Entries.{available, available_caps}
-use Rattle.gq_things.specs.declared.thing.Thing.{Thing}
+use Rattle.gq_contents.specs.declared.thing.Thing.{Thing}
 use Rattle.gq_sessions.specs.declared.session.Spot.TheVariants.{InLeaf}
 use Rattle.gq_sessions.specs.Trading.{client_of, its_account, server_of}
 use Rattle.gq_sessions.proofs.Kept.{between_at}

@@ -8,9 +8,9 @@ use Rattle.gq_model.specs.machine.World as world
 use Rattle.gq_model.proofs.Small.{some_same, none_some}
 use Rattle.gq_store.specs.Store.{Store}
 use Rattle.gq_pool.specs.declared.pool.Pool.{Pool}
-use Rattle.gq_things.specs.declared.thing.Thing.{Thing}
-use Rattle.gq_things.specs.declared.thing.Thing.TheVariants as thing
-use Rattle.gq_things.specs.Things.{seen}
+use Rattle.gq_contents.specs.declared.thing.Thing.{Thing}
+use Rattle.gq_contents.specs.declared.thing.Thing.TheVariants as thing
+use Rattle.gq_contents.specs.Things.{seen}
 use Rattle.gq_requests.specs.declared.requests.Ask.TheVariants.{Open}
 use Rattle.gq_requests.specs.declared.requests.Request.{Request}
 use Rattle.gq_requests.specs.Queues.{kept_before, oldest_to}

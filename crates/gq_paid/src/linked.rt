@@ -7,7 +7,7 @@ ghost use Rattle.gq_laws.specs.Links.{IsLinkedWorld};
 ghost use Rattle.gq_numbered.specs.Numbers.{IsTaken, free_number};
 ghost use Rattle.gq_requests.specs.declared.requests.Request.{Request};
 ghost use Rattle.gq_requests.specs.Queues.{oldest_to};
-ghost use Rattle.gq_things.specs.declared.thing.Thing.TheVariants as thing;
+ghost use Rattle.gq_contents.specs.declared.thing.Thing.TheVariants as thing;
 ghost use Rattle.gq_sessions.specs.declared.session.Spot.{Spot};
 ghost use Rattle.gq_sessions.specs.declared.session.Spot.TheVariants.{InLeaf};
 ghost use Rattle.gq_trade.specs.Ends.{HasNoSessions};

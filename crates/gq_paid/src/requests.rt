@@ -11,7 +11,7 @@ ghost use Rattle.gq_ram.specs.Entries.{available, available_caps};
 ghost use Rattle.gq_requests.specs.declared.requests.Ask.TheVariants as ask;
 ghost use Rattle.gq_requests.specs.declared.requests.Request.{Request};
 ghost use Rattle.gq_requests.specs.Queues.{oldest_to};
-ghost use Rattle.gq_things.specs.declared.thing.Thing.TheVariants as thing;
+ghost use Rattle.gq_contents.specs.declared.thing.Thing.TheVariants as thing;
 ghost use Rattle.gq_sessions.specs.declared.session.Spot.TheVariants.{InSession};
 ghost use Rattle.gq_sessions.specs.Trading.{LacksBytes, LacksCaps, bytes_then, caps_then, client_of, its_account, object_size, session_at};
 ghost use Rattle.gq_slots.specs.Slots.{Frame, Slots, thing_at, world_seen};

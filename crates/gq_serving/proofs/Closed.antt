@@ -13,8 +13,8 @@ use Rattle.gq_model.specs.declared.fault.Wrong.TheVariants.{ExceededQuota, Wrong
 use Rattle.gq_model.specs.machine.Step.{active_again, all_empty, reply_close, serving, unblocked}
 use Rattle.gq_model.specs.machine.Sums.{paid, slot_price}
 use Rattle.gq_store.specs.Store.{Store}
-use Rattle.gq_things.specs.declared.thing.Thing.TheVariants as thing
-use Rattle.gq_things.specs.Things.{seen}
+use Rattle.gq_contents.specs.declared.thing.Thing.TheVariants as thing
+use Rattle.gq_contents.specs.Things.{seen}
 use Rattle.gq_sessions.specs.declared.session.Spot.{Spot}
 use Rattle.gq_sessions.specs.declared.session.Spot.TheVariants.{InLeaf, InSession, InObject}
 use Rattle.gq_sessions.specs.Seen.{spot_seen}

@@ -10,9 +10,9 @@ use Rattle.gq_model.specs.machine.Step.{all_released, exit_of, exited, main_ende
 use Rattle.gq_model.proofs.Small.{some_same, none_some}
 use Rattle.gq_store.specs.Store.{Store}
 use Rattle.gq_heap.specs.declared.heap.Heap.{Heap}
-use Rattle.gq_things.specs.declared.thing.Thing.{Thing}
-use Rattle.gq_things.specs.declared.thing.Thing.TheVariants as thing
-use Rattle.gq_things.specs.Things.{seen}
+use Rattle.gq_contents.specs.declared.thing.Thing.{Thing}
+use Rattle.gq_contents.specs.declared.thing.Thing.TheVariants as thing
+use Rattle.gq_contents.specs.Things.{seen}
 use Rattle.gq_sessions.specs.declared.session.Spot.TheVariants.{InLeaf}
 use Rattle.gq_trade.specs.Ends.{HasNoSessions}
 use Rattle.gq_slots.specs.Slots.{AreRead, Frame, Slots, leaves_seen, memory_of, slot_of, world_seen}

@@ -11,9 +11,9 @@ use Rattle.gq_model.specs.machine.Step.{replied, reply, serving}
 use Rattle.gq_model.proofs.Small.{some_same}
 use Rattle.gq_store.specs.Store.{Store}
 use Rattle.gq_numbered.specs.Numbers.{IsTaken}
-use Rattle.gq_things.specs.declared.thing.Thing.{Thing}
-use Rattle.gq_things.specs.declared.thing.Thing.TheVariants as thing
-use Rattle.gq_things.specs.Things.{seen}
+use Rattle.gq_contents.specs.declared.thing.Thing.{Thing}
+use Rattle.gq_contents.specs.declared.thing.Thing.TheVariants as thing
+use Rattle.gq_contents.specs.Things.{seen}
 use Rattle.gq_sessions.specs.declared.session.Session.{Session}
 use Rattle.gq_sessions.specs.Seen.{session_seen, spot_seen}
 use Rattle.gq_sessions.specs.Trading.{IsTrading, server_of, session_at}

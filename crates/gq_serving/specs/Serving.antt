@@ -10,8 +10,8 @@ use Rattle.gq_model.specs.machine.Scenario.{Component, System, interface_in, num
 use Rattle.gq_model.specs.declared.phase.Phase.TheVariants.{Exited}
 use Rattle.gq_model.specs.declared.fault.Wrong.{Wrong}
 use Rattle.gq_numbered.specs.Numbers.{IsTaken}
-use Rattle.gq_things.specs.declared.thing.Thing.TheVariants.{Link, Waiting}
-use Rattle.gq_things.specs.declared.thing.Thing.{Thing}
+use Rattle.gq_contents.specs.declared.thing.Thing.TheVariants.{Link, Waiting}
+use Rattle.gq_contents.specs.declared.thing.Thing.{Thing}
 use Rattle.gq_trade.specs.Ends.{HasNoSessions}
 use Rattle.gq_sessions.specs.declared.session.Spot.TheVariants.{InLeaf}
 use Rattle.gq_requests.specs.declared.requests.Request.{Request}

@@ -12,7 +12,7 @@ use gq_model::fault::Wrong;
 use gq_sessions::Spot;
 use gq_slot_sessions::leaves;
 use gq_slots::Slots;
-use gq_things::Thing;
+use gq_contents::Thing;
 
 /// The end of `main` of a leaf that provides no service: it holds nothing from now on, its account is closed, and who starts after it has its quantum.
 ///

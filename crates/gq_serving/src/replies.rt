@@ -6,7 +6,7 @@ ghost use Rattle.gq_model.specs.machine.Step as step;
 ghost use Rattle.gq_model.specs.declared.program.Section.TheVariants as section;
 ghost use Rattle.gq_sessions.specs.declared.session.Spot.TheVariants.{InObject};
 ghost use Rattle.gq_sessions.specs.Trading.{AreOfOthers};
-ghost use Rattle.gq_things.specs.declared.thing.Thing.TheVariants as thing;
+ghost use Rattle.gq_contents.specs.declared.thing.Thing.TheVariants as thing;
 ghost use Rattle.gq_slots.specs.Slots.{Frame, thing_at, world_seen};
 ghost use Rattle.gq_slots.specs.Calls.{SameBeside};
 ghost use Rattle.gq_addresses.specs.Addresses.{AreBuffers};
@@ -20,7 +20,7 @@ use gq_model::fault::Wrong;
 use gq_sessions::{Session, Spot};
 use gq_slot_sessions::sessions;
 use gq_slots::Slots;
-use gq_things::Thing;
+use gq_contents::Thing;
 
 /// The reply to a request to upgrade a session or to call at it: the client's slot, which waited, is the link to the session, and the client goes on. A
 /// call's result is one operand more of the client's.

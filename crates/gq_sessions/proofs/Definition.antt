@@ -6,9 +6,9 @@ use Rattle.gq_model.specs.machine.Requests as requests
 use Rattle.gq_store.specs.Store.{Store}
 use Rattle.gq_memory.proofs.Donating.{with_left}
 use Rattle.gq_numbered.specs.Numbers.{added, free_number}
-use Rattle.gq_things.specs.declared.thing.Thing.{Thing}
-use Rattle.gq_things.specs.declared.thing.Thing.TheVariants.{Empty, Block, Slice, Space, Pool, Link, Waiting}
-use Rattle.gq_things.specs.Things.{seen}
+use Rattle.gq_contents.specs.declared.thing.Thing.{Thing}
+use Rattle.gq_contents.specs.declared.thing.Thing.TheVariants.{Empty, Block, Slice, Space, Pool, Link, Waiting}
+use Rattle.gq_contents.specs.Things.{seen}
 use Rattle.gq_sessions.specs.declared.session.Session.{Session}
 use Rattle.gq_sessions.specs.declared.session.Spot.{Spot}
 use Rattle.gq_sessions.specs.Seen.{seen_in, session_seen, sessions_seen, spot_seen}

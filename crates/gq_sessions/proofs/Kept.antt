@@ -18,11 +18,11 @@ use Rattle.gq_store.specs.Store.{one_more}
 use Rattle.gq_store.specs.declared.GrowFault.{GrowFault}
 use Rattle.gq_memory.specs.Stores.{Memory, store_at}
 use Rattle.gq_memory.specs.Rest.{SameRest}
-use Rattle.gq_things.specs.declared.thing.Thing.{Thing}
-use Rattle.gq_things.specs.declared.thing.Thing.TheVariants as thing
-use Rattle.gq_things.specs.Things.{seen, size_of}
-use Rattle.gq_things.specs.Kept.{Changes}
-use Rattle.gq_things.specs.Paid.{Pays}
+use Rattle.gq_contents.specs.declared.thing.Thing.{Thing}
+use Rattle.gq_contents.specs.declared.thing.Thing.TheVariants as thing
+use Rattle.gq_contents.specs.Things.{seen, size_of}
+use Rattle.gq_contents.specs.Kept.{Changes}
+use Rattle.gq_contents.specs.Paid.{Pays}
 use Rattle.gq_requests.specs.Queues.{IsOldest, kept_before, oldest_to}
 use Rattle.gq_numbered.specs.Numbers.{added, free_number, IsTaken}
 use Rattle.gq_numbered.proofs.Lowest.{taken_there}

@@ -6,8 +6,8 @@ use Rattle.gq_ram.specs.Ledgers.{Ledger}
 use Rattle.gq_store.specs.Store.{Store}
 use Rattle.gq_memory.specs.Stores.{Memory, store_at, store_of}
 use Rattle.gq_memory.specs.Rest.{SameRest}
-use Rattle.gq_things.specs.declared.thing.Thing.{Thing}
-use Rattle.gq_things.specs.Kept.{Changes}
+use Rattle.gq_contents.specs.declared.thing.Thing.{Thing}
+use Rattle.gq_contents.specs.Kept.{Changes}
 
 -- m is the memory l where the account a pays, n what it is after a call, and k the ledger then
 module _ (l : Ledger) (a : AccountNo) (m n : Memory) (k : Ledger) (first : m ≡ record { ledger = l; payer = a }) (rest : SameRest m n)

@@ -19,11 +19,11 @@ use Rattle.gq_requests.specs.declared.requests.Ask.{Ask}
 use Rattle.gq_requests.specs.declared.requests.Ask.TheVariants.{Open, Upgrade, Close, Call}
 use Rattle.gq_requests.specs.declared.requests.Request.{Request}
 use Rattle.gq_requests.specs.Queues.{oldest_to}
-use Rattle.gq_things.specs.declared.thing.Thing.{Thing}
-use Rattle.gq_things.specs.declared.thing.Thing.TheVariants as thing
-use Rattle.gq_things.specs.Things.{seen, size_of}
-use Rattle.gq_things.specs.Kept.{Changes}
-use Rattle.gq_things.specs.Paid.{Pays}
+use Rattle.gq_contents.specs.declared.thing.Thing.{Thing}
+use Rattle.gq_contents.specs.declared.thing.Thing.TheVariants as thing
+use Rattle.gq_contents.specs.Things.{seen, size_of}
+use Rattle.gq_contents.specs.Kept.{Changes}
+use Rattle.gq_contents.specs.Paid.{Pays}
 use Rattle.gq_sessions.specs.declared.session.Session.{Session}
 use Rattle.gq_sessions.specs.declared.session.Spot.{Spot}
 use Rattle.gq_sessions.specs.declared.session.Spot.TheVariants.{InObject}

@@ -7,16 +7,16 @@ ghost use Rattle.gq_heap.specs.declared.heap.Heap.{Heap};
 ghost use Rattle.gq_ram.specs.Entries.{IsOpen};
 ghost use Rattle.gq_store.specs.Store.{one_more};
 ghost use Rattle.gq_memory.specs.Stores.{store_at};
-ghost use Rattle.gq_things.specs.declared.thing.Thing.TheVariants as thing;
-ghost use Rattle.gq_things.specs.Things.{IsSlice, seen, size_of};
-ghost use Rattle.gq_things.specs.Kept.{Changes};
-ghost use Rattle.gq_things.specs.Paid.{Pays};
+ghost use Rattle.gq_contents.specs.declared.thing.Thing.TheVariants as thing;
+ghost use Rattle.gq_contents.specs.Things.{IsSlice, seen, size_of};
+ghost use Rattle.gq_contents.specs.Kept.{Changes};
+ghost use Rattle.gq_contents.specs.Paid.{Pays};
 ghost use Rattle.gq_sessions.specs.Trading.{SameOthers};
 
 use gq_memory::Memory;
 use gq_ram::AccountNo;
 use gq_store::GrowFault;
-use gq_things::Thing;
+use gq_contents::Thing;
 
 // A new slice of `size` bytes, which read 0, that this account pays for. The account at hand stays.
 pub(crate) fn make_slice_for(

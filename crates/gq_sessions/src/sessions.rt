@@ -7,8 +7,8 @@ ghost use Rattle.gq_ram.specs.Trees.{AreNodes, account_of as tree_account_of, nu
 ghost use Rattle.gq_numbered.specs.Numbers.{free_number, IsTaken};
 ghost use Rattle.gq_requests.specs.declared.requests.Ask.TheVariants as ask;
 ghost use Rattle.gq_requests.specs.Queues.{IsOldest, oldest_to};
-ghost use Rattle.gq_things.specs.declared.thing.Thing.TheVariants as thing;
-ghost use Rattle.gq_things.specs.Things.{IsSlice, size_of};
+ghost use Rattle.gq_contents.specs.declared.thing.Thing.TheVariants as thing;
+ghost use Rattle.gq_contents.specs.Things.{IsSlice, size_of};
 ghost use Rattle.gq_sessions.specs.Trading.{Accepts, AreOfOthers, Begins, Closes, Frees, IsBetween, IsOfOldest, IsTrading, LacksBytes, LacksCaps, Leaves};
 ghost use Rattle.gq_sessions.specs.Trading.{Makes, Opens};
 ghost use Rattle.gq_sessions.specs.Trading.{account_no, account_of, asked, bytes_then, caps_then};
@@ -26,7 +26,7 @@ use gq_ram::{AccountFault, AccountNo};
 use gq_requests::{Ask, Request, Requests};
 use gq_store::{ByteStore, ChunkNo, GrowFault};
 use gq_tariff::{Amount, price_slice};
-use gq_things::Thing;
+use gq_contents::Thing;
 use std::alloc::{AllocError, Global};
 use std::marker::Model;
 

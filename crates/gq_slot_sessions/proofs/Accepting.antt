@@ -19,9 +19,9 @@ use Rattle.gq_requests.specs.Queues.{kept_before, oldest_to}
 use Rattle.gq_requests.specs.Seen.{request_seen, taken_seen, AreServed}
 use Rattle.gq_requests.proofs.Oldest.{oldest_is}
 use Rattle.gq_trade.specs.Trades.{Trades, IsTrades}
-use Rattle.gq_things.specs.declared.thing.Thing.{Thing}
-use Rattle.gq_things.specs.declared.thing.Thing.TheVariants.{Empty, Block, Slice, Space, Pool, Link, Waiting}
-use Rattle.gq_things.specs.Things.{seen}
+use Rattle.gq_contents.specs.declared.thing.Thing.{Thing}
+use Rattle.gq_contents.specs.declared.thing.Thing.TheVariants.{Empty, Block, Slice, Space, Pool, Link, Waiting}
+use Rattle.gq_contents.specs.Things.{seen}
 use Rattle.gq_sessions.specs.declared.session.Session.{Session}
 use Rattle.gq_sessions.specs.declared.session.Spot.{Spot}
 use Rattle.gq_sessions.specs.declared.session.Spot.TheVariants.{InLeaf, InSession, InObject}

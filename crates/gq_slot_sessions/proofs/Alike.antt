@@ -11,13 +11,13 @@ use Rattle.gq_heap.specs.Heap.{peaks}
 use Rattle.gq_heap.proofs.Callers.{heap_stays}
 use Rattle.gq_ram.specs.Entries.{account_at}
 use Rattle.gq_ram.specs.Ledgers.{IsBalanced, Ledger}
-use Rattle.gq_things.specs.declared.thing.Thing.{Thing}
-use Rattle.gq_things.specs.declared.thing.Thing.TheVariants.{Empty}
-use Rattle.gq_things.specs.Things.{chunks, places}
-use Rattle.gq_things.specs.Kept.{AreThings, Blocks, Keeps, SameSeen, all_chunks, all_places}
-use Rattle.gq_things.specs.Paid.{cost, places_used, raised_by}
-use Rattle.gq_things.proofs.Frames.{by_bytes, same_things}
-use Rattle.gq_things.proofs.Peaks.{counts_same}
+use Rattle.gq_contents.specs.declared.thing.Thing.{Thing}
+use Rattle.gq_contents.specs.declared.thing.Thing.TheVariants.{Empty}
+use Rattle.gq_contents.specs.Things.{chunks, places}
+use Rattle.gq_contents.specs.Kept.{AreThings, Blocks, Keeps, SameSeen, all_chunks, all_places}
+use Rattle.gq_contents.specs.Paid.{cost, places_used, raised_by}
+use Rattle.gq_contents.proofs.Frames.{by_bytes, same_things}
+use Rattle.gq_contents.proofs.Peaks.{counts_same}
 use Rattle.gq_sessions.specs.Trading.{account_of, its_account}
 use Rattle.gq_slots.specs.Slots.{Slots, memory_of}
 use Rattle.gq_slots.specs.internal.Holds.{IsHolder, counted, held_by, things}

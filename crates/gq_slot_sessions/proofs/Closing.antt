@@ -18,11 +18,11 @@ use Rattle.gq_ram.proofs.Moves.{used_kept}
 use Rattle.gq_memory.specs.Stores.{Memory}
 use Rattle.gq_numbered.specs.Numbers.{IsTaken}
 use Rattle.gq_requests.specs.declared.requests.Request.{Request}
-use Rattle.gq_things.specs.declared.thing.Thing.{Thing}
-use Rattle.gq_things.specs.declared.thing.Thing.TheVariants.{Empty, Block, Slice, Space, Pool, Link, Waiting}
-use Rattle.gq_things.specs.Kept.{Keeps}
-use Rattle.gq_things.specs.Things.{IsSlice, IsThing, size_of}
-use Rattle.gq_things.proofs.Lists.{each_front}
+use Rattle.gq_contents.specs.declared.thing.Thing.{Thing}
+use Rattle.gq_contents.specs.declared.thing.Thing.TheVariants.{Empty, Block, Slice, Space, Pool, Link, Waiting}
+use Rattle.gq_contents.specs.Kept.{Keeps}
+use Rattle.gq_contents.specs.Things.{IsSlice, IsThing, size_of}
+use Rattle.gq_contents.proofs.Lists.{each_front}
 use Rattle.gq_sessions.specs.declared.session.Session.{Session}
 use Rattle.gq_sessions.specs.declared.session.Spot.{Spot}
 use Rattle.gq_sessions.specs.declared.session.Spot.TheVariants.{InLeaf, InSession, InObject}

@@ -1,13 +1,13 @@
 // Leaves that end, over all slots of a scenario.
 ghost use Rattle.std.specs.Prelude.{◌≡◌, ◌<◌, length, replicate, slice_set};
-ghost use Rattle.gq_things.specs.declared.thing.Thing.TheVariants as thing;
+ghost use Rattle.gq_contents.specs.declared.thing.Thing.TheVariants as thing;
 ghost use Rattle.gq_trade.specs.Ends.{HasNoSessions};
 ghost use Rattle.gq_trade.specs.Trades.{IsLive};
 ghost use Rattle.gq_slot_sessions.specs.Calls.{EndsLeaf};
 
 use gq_heap::Heap;
 use gq_slots::Slots;
-use gq_things::Thing;
+use gq_contents::Thing;
 
 /// Ends a leaf from which and to which there is no session: its slots are empty, its account is closed with all that it has in memory, and its quota of
 /// both kinds goes to its init. A node that starts after it has its quantum from now on. The root's account pays.

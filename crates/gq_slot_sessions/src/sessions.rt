@@ -1,7 +1,7 @@
 // Sessions over all slots of a scenario: the requests of clients, what their servers take of them, and sessions that end.
 ghost use Rattle.std.specs.Prelude.{◌≡◌, ℕ, ◌<◌, ◌≤◌, ◌↔◌, [], length, get_or, None};
 ghost use Rattle.std.specs.Prelude.{IfOk, IfNone, IfSome, OnOk, OnErr, IsErrOf};
-ghost use Rattle.gq_things.specs.declared.thing.Thing.TheVariants as thing;
+ghost use Rattle.gq_contents.specs.declared.thing.Thing.TheVariants as thing;
 ghost use Rattle.gq_model.specs.machine.World as world;
 ghost use Rattle.gq_sessions.specs.Seen.{spot_seen};
 ghost use Rattle.gq_model.specs.machine.Requests.{new_session};

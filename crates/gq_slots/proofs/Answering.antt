@@ -13,11 +13,11 @@ use Rattle.gq_heap.specs.Heap.{peaks}
 use Rattle.gq_memory.specs.Stores.{Memory, store_at, store_of as store_of_memory}
 use Rattle.gq_memory.specs.Rest.{SameRest}
 use Rattle.gq_requests.specs.declared.requests.Request.{Request}
-use Rattle.gq_things.specs.declared.thing.Thing.{Thing}
-use Rattle.gq_things.specs.declared.thing.Thing.TheVariants.{Empty}
-use Rattle.gq_things.specs.Things.{added, entry_in, seen, with_entry}
-use Rattle.gq_things.specs.Kept.{Changes, IsAmong, Keeps}
-use Rattle.gq_things.specs.Paid.{Pays, Raises, places_used, raised_by}
+use Rattle.gq_contents.specs.declared.thing.Thing.{Thing}
+use Rattle.gq_contents.specs.declared.thing.Thing.TheVariants.{Empty}
+use Rattle.gq_contents.specs.Things.{added, entry_in, seen, with_entry}
+use Rattle.gq_contents.specs.Kept.{Changes, IsAmong, Keeps}
+use Rattle.gq_contents.specs.Paid.{Pays, Raises, places_used, raised_by}
 use Rattle.gq_sessions.specs.declared.session.Session.{Session}
 use Rattle.gq_sessions.specs.declared.session.Spot.{Spot}
 use Rattle.gq_sessions.specs.declared.session.Spot.TheVariants.{InLeaf, InSession, InObject}

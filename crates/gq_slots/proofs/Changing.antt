@@ -16,10 +16,10 @@ use Rattle.gq_heap.specs.declared.heap.Heap.{Heap}
 use Rattle.gq_heap.specs.Heap.{peaks}
 use Rattle.gq_memory.specs.Stores.{Memory, store_at}
 use Rattle.gq_memory.specs.Rest.{SameRest}
-use Rattle.gq_things.specs.declared.thing.Thing.{Thing}
-use Rattle.gq_things.specs.Things.{seen}
-use Rattle.gq_things.specs.Kept.{Keeps, KeepsBeside, Changes}
-use Rattle.gq_things.specs.Paid.{cost, cost_with, Pays, places_used, raised_by}
+use Rattle.gq_contents.specs.declared.thing.Thing.{Thing}
+use Rattle.gq_contents.specs.Things.{seen}
+use Rattle.gq_contents.specs.Kept.{Keeps, KeepsBeside, Changes}
+use Rattle.gq_contents.specs.Paid.{cost, cost_with, Pays, places_used, raised_by}
 use Rattle.gq_sessions.specs.declared.session.Spot.{Spot}
 use Rattle.gq_sessions.specs.declared.session.Spot.TheVariants.{InLeaf, InSession, InObject}
 use Rattle.gq_sessions.specs.Seen.{spot_seen}

@@ -14,9 +14,9 @@ use Rattle.gq_store.specs.Store.{Store, plus_caps}
 use Rattle.gq_model.specs.machine.Prices.{heap as class_prices}
 use Rattle.gq_heap.specs.declared.heap.Heap.{Heap}
 use Rattle.gq_heap.specs.Heap.{peaks}
-use Rattle.gq_things.specs.declared.thing.Thing.{Thing}
-use Rattle.gq_things.specs.Things.{put_in, removed, seen, with_entry}
-use Rattle.gq_things.specs.Paid.{cost_with, Pays}
+use Rattle.gq_contents.specs.declared.thing.Thing.{Thing}
+use Rattle.gq_contents.specs.Things.{put_in, removed, seen, with_entry}
+use Rattle.gq_contents.specs.Paid.{cost_with, Pays}
 
 pub price_put : (r : Resource) (i : ℕ) (bs : List ℕ) (slot : world.Slot) → slot_price r (put_in i bs slot) ≡ slot_price r slot
 price_put r i bs world.Empty = refl

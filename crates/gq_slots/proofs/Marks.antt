@@ -6,11 +6,11 @@ use Rattle.gq_model.specs.machine.Sums.{slot_price, slot_places}
 use Rattle.gq_store.specs.Store.{Store, plus_caps}
 use Rattle.gq_heap.specs.declared.heap.Heap.{Heap}
 use Rattle.gq_heap.specs.Heap.{peaks}
-use Rattle.gq_things.specs.declared.thing.Thing.{Thing}
-use Rattle.gq_things.specs.declared.thing.Thing.TheVariants.{Empty, Block, Slice, Space, Pool, Link, Waiting}
-use Rattle.gq_things.specs.Things.{seen}
-use Rattle.gq_things.specs.Paid.{Pays}
-use Rattle.gq_things.proofs.Calls.{HoldsNone, empty_holds, link_holds, none_holds, waiting_holds}
+use Rattle.gq_contents.specs.declared.thing.Thing.{Thing}
+use Rattle.gq_contents.specs.declared.thing.Thing.TheVariants.{Empty, Block, Slice, Space, Pool, Link, Waiting}
+use Rattle.gq_contents.specs.Things.{seen}
+use Rattle.gq_contents.specs.Paid.{Pays}
+use Rattle.gq_contents.proofs.Calls.{HoldsNone, empty_holds, link_holds, none_holds, waiting_holds}
 use Rattle.gq_sessions.specs.declared.session.Spot.{Spot}
 use Rattle.gq_sessions.specs.Trading.{IsTrading}
 use Rattle.gq_trade.specs.Trades.{Trades, with_trading}

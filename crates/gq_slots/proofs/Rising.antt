@@ -19,13 +19,13 @@ use Rattle.gq_heap.specs.Heap.{bin_at, no_bin, peak_of, peaks, peaks_of, rise, r
 use Rattle.gq_heap.proofs.Charges.{pages_are, price_is}
 use Rattle.gq_heap.proofs.ClassLaws.{index_below, number_is, size_is}
 use Rattle.gq_heap.proofs.Rises.{caps_small, price_set, rise_small}
-use Rattle.gq_things.specs.declared.thing.Thing.{Thing}
-use Rattle.gq_things.specs.declared.thing.Thing.TheVariants.{Empty, Block, Slice, Space, Pool, Link, Waiting}
-use Rattle.gq_things.specs.Things.{IsThing, entry_size}
-use Rattle.gq_things.specs.Kept.{Keeps}
-use Rattle.gq_things.specs.Paid.{places_used, raised_by}
-use Rattle.gq_things.proofs.Lists.{each_front}
-use Rattle.gq_things.proofs.Peaks.{counts_are, raised_is}
+use Rattle.gq_contents.specs.declared.thing.Thing.{Thing}
+use Rattle.gq_contents.specs.declared.thing.Thing.TheVariants.{Empty, Block, Slice, Space, Pool, Link, Waiting}
+use Rattle.gq_contents.specs.Things.{IsThing, entry_size}
+use Rattle.gq_contents.specs.Kept.{Keeps}
+use Rattle.gq_contents.specs.Paid.{places_used, raised_by}
+use Rattle.gq_contents.proofs.Lists.{each_front}
+use Rattle.gq_contents.proofs.Peaks.{counts_are, raised_is}
 use Rattle.gq_sessions.specs.declared.session.Spot.{Spot}
 use Rattle.gq_sessions.specs.declared.session.Spot.TheVariants.{InLeaf, InSession, InObject}
 use Rattle.gq_sessions.specs.Trading.{IsTrading}

@@ -9,12 +9,12 @@ use Rattle.gq_model.specs.machine.Sums.{bank_price, held, places, raised, slot_p
 use Rattle.gq_model.specs.machine.World as world
 use Rattle.gq_store.specs.Store.{Store}
 use Rattle.gq_heap.specs.declared.heap.Heap.{Heap}
-use Rattle.gq_things.specs.declared.thing.Thing.{Thing}
-use Rattle.gq_things.specs.declared.thing.Thing.TheVariants.{Empty, Block, Slice, Space, Pool, Link, Waiting}
-use Rattle.gq_things.specs.Things.{seen}
-use Rattle.gq_things.specs.Kept.{SameSeen}
-use Rattle.gq_things.specs.Paid.{cost, places_used, raised_by}
-use Rattle.gq_things.proofs.Peaks.{counts_append, counts_same}
+use Rattle.gq_contents.specs.declared.thing.Thing.{Thing}
+use Rattle.gq_contents.specs.declared.thing.Thing.TheVariants.{Empty, Block, Slice, Space, Pool, Link, Waiting}
+use Rattle.gq_contents.specs.Things.{seen}
+use Rattle.gq_contents.specs.Kept.{SameSeen}
+use Rattle.gq_contents.specs.Paid.{cost, places_used, raised_by}
+use Rattle.gq_contents.proofs.Peaks.{counts_append, counts_same}
 use Rattle.gq_sessions.specs.declared.session.Session.{Session}
 use Rattle.gq_sessions.specs.Seen.{seen_in, session_seen}
 use Rattle.gq_slots.specs.Slots.{Slots, Frame, leaf_seen, memory_of, world_seen}

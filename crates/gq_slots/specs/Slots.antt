@@ -13,10 +13,10 @@ use Rattle.gq_requests.specs.declared.requests.Ask.{Ask}
 use Rattle.gq_requests.specs.declared.requests.Ask.TheVariants as ask
 use Rattle.gq_requests.specs.declared.requests.Request.{Request}
 use Rattle.gq_requests.specs.Seen.{request_seen}
-use Rattle.gq_things.specs.declared.thing.Thing.{Thing}
-use Rattle.gq_things.specs.declared.thing.Thing.TheVariants.{Empty, Block, Slice, Space, Pool, Link, Waiting}
-use Rattle.gq_things.specs.Things.{entry_size, seen}
-use Rattle.gq_things.specs.Paid.{raised_by}
+use Rattle.gq_contents.specs.declared.thing.Thing.{Thing}
+use Rattle.gq_contents.specs.declared.thing.Thing.TheVariants.{Empty, Block, Slice, Space, Pool, Link, Waiting}
+use Rattle.gq_contents.specs.Things.{entry_size, seen}
+use Rattle.gq_contents.specs.Paid.{raised_by}
 use Rattle.gq_sessions.specs.declared.session.Spot.{Spot}
 use Rattle.gq_sessions.specs.declared.session.Spot.TheVariants.{InLeaf, InSession, InObject}
 use Rattle.gq_sessions.specs.Seen.{sessions_seen, spot_seen}

@@ -1,12 +1,12 @@
 // Things that are put into slots.
 ghost use Rattle.std.specs.Prelude.{◌≡◌, ◌<◌, []};
-ghost use Rattle.gq_things.specs.declared.thing.Thing.TheVariants as thing;
+ghost use Rattle.gq_contents.specs.declared.thing.Thing.TheVariants as thing;
 ghost use Rattle.gq_trade.specs.Trades.{with_trading};
 ghost use Rattle.gq_slots.specs.Slots.{IsSlot, IsSpot, thing_at};
 ghost use Rattle.gq_slots.specs.internal.Put.{put_own, put_trading};
 
 use gq_sessions::Spot;
-use gq_things::Thing;
+use gq_contents::Thing;
 use gq_trade::Trades;
 
 // Puts something into an empty slot.

@@ -10,10 +10,10 @@ use Rattle.gq_model.specs.machine.Doing.{Doing, Quiet, Stepped, need, on_stack, 
 use Rattle.gq_model.specs.declared.fault.Wrong.TheVariants.{UnmappedByte, WrongKind}
 use Rattle.gq_model.specs.machine.Memory.{entry_byte, entry_with, give_entry, if_absent, peek, poke, pool_at, pool_in}
 use Rattle.gq_store.specs.Store.{Store}
-use Rattle.gq_things.specs.declared.thing.Thing.{Thing}
-use Rattle.gq_things.specs.declared.thing.Thing.TheVariants.{Empty, Block, Slice, Space, Pool, Link, Waiting}
-use Rattle.gq_things.specs.Things.{entry_count, entry_in, entry_size, removed, seen, shape_of, with_entry}
-use Rattle.gq_things.proofs.Paying.{entries_long}
+use Rattle.gq_contents.specs.declared.thing.Thing.{Thing}
+use Rattle.gq_contents.specs.declared.thing.Thing.TheVariants.{Empty, Block, Slice, Space, Pool, Link, Waiting}
+use Rattle.gq_contents.specs.Things.{entry_count, entry_in, entry_size, removed, seen, shape_of, with_entry}
+use Rattle.gq_contents.proofs.Paying.{entries_long}
 use Rattle.gq_sessions.specs.declared.session.Spot.{Spot}
 use Rattle.gq_sessions.specs.declared.session.Spot.TheVariants.{InLeaf}
 use Rattle.gq_sessions.specs.Seen.{spot_seen}

@@ -9,9 +9,9 @@ use Rattle.gq_model.specs.machine.Doing.{Doing, Quiet, Stepped, fill, if_paid, n
 use Rattle.gq_model.specs.declared.fault.Wrong.TheVariants.{ExceededQuota, WrongKind}
 use Rattle.gq_model.specs.machine.Memory.{make}
 use Rattle.gq_store.specs.Store.{Store}
-use Rattle.gq_things.specs.declared.thing.Thing.{Thing}
-use Rattle.gq_things.specs.declared.thing.Thing.TheVariants.{Empty, Block, Slice, Space, Pool, Link, Waiting}
-use Rattle.gq_things.specs.Things.{seen}
+use Rattle.gq_contents.specs.declared.thing.Thing.{Thing}
+use Rattle.gq_contents.specs.declared.thing.Thing.TheVariants.{Empty, Block, Slice, Space, Pool, Link, Waiting}
+use Rattle.gq_contents.specs.Things.{seen}
 use Rattle.gq_sessions.specs.declared.session.Spot.{Spot}
 use Rattle.gq_sessions.specs.Seen.{spot_seen}
 use Rattle.gq_trade.specs.Balances.{node_at}

@@ -7,10 +7,10 @@ use Rattle.gq_model.specs.machine.World as world
 use Rattle.gq_model.specs.machine.Sums.{slot_price}
 use Rattle.gq_heap.specs.declared.heap.Heap.{Heap}
 use Rattle.gq_heap.specs.Heap.{rise}
-use Rattle.gq_things.specs.Things.{added, entry_count, entry_in, entry_size, with_entry}
+use Rattle.gq_contents.specs.Things.{added, entry_count, entry_in, entry_size, with_entry}
 use Rattle.gq_store.specs.declared.GrowFault.{GrowFault}
 use Rattle.gq_store.specs.declared.GrowFault.TheVariants.{Exceeded, CapsExceeded}
-use Rattle.gq_things.specs.declared.thing.Thing.TheVariants as thing
+use Rattle.gq_contents.specs.declared.thing.Thing.TheVariants as thing
 use Rattle.gq_sessions.specs.declared.session.Spot.{Spot}
 use Rattle.gq_slots.specs.Slots.{IsHeapOf, IsSlot, IsSpot, Slots, holder, memory_of, slot_of, thing_at}
 use Rattle.gq_paid.specs.Systems.{AreLawful}

@@ -8,8 +8,8 @@ use Rattle.gq_numbered.specs.Numbers.{IsTaken}
 use Rattle.gq_sessions.specs.Trading.{server_of}
 use Rattle.gq_sessions.specs.declared.session.Spot.{Spot}
 use Rattle.gq_sessions.specs.declared.session.Spot.TheVariants.{InLeaf}
-use Rattle.gq_things.specs.declared.thing.Thing.{Thing}
-use Rattle.gq_things.specs.declared.thing.Thing.TheVariants as thing
+use Rattle.gq_contents.specs.declared.thing.Thing.{Thing}
+use Rattle.gq_contents.specs.declared.thing.Thing.TheVariants as thing
 use Rattle.gq_slots.specs.Slots.{Frame, IsSpot, Slots, thing_at, world_seen}
 use Rattle.gq_addresses.specs.Addresses.{IsLinked}
 use Rattle.gq_statements.specs.declared.actor.Hand.{Hand}

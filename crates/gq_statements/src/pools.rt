@@ -10,7 +10,7 @@ ghost use Rattle.gq_slots.specs.Slots.{Frame, IsPaidBy, IsSlot, IsSpot, holder, 
 ghost use Rattle.gq_sessions.specs.Seen.{spot_seen};
 ghost use Rattle.gq_sessions.specs.declared.session.Spot.TheVariants.{InLeaf};
 ghost use Rattle.gq_slots.specs.Calls.{SameBeside};
-ghost use Rattle.gq_things.specs.Things.{entry_count, entry_size};
+ghost use Rattle.gq_contents.specs.Things.{entry_count, entry_size};
 ghost use Rattle.gq_statements.specs.declared.actor.Hand.{Hand};
 ghost use Rattle.gq_statements.specs.Statements.{IsAtHand, IsBy, Pushes, done, read, told};
 ghost use Rattle.gq_statements.specs.internal.Found.{IsPool, entries_in};

@@ -8,7 +8,7 @@ use Rattle.gq_ram.specs.Ledgers.{Ledger, IsBalanced}
 use Rattle.gq_memory.specs.Stores.{Memory}
 use Rattle.gq_memory.specs.Rest.{SameRest}
 use Rattle.gq_memory.specs.internal.Rests.{rest_refl}
-use Rattle.gq_things.specs.declared.thing.Thing.{Thing}
+use Rattle.gq_contents.specs.declared.thing.Thing.{Thing}
 use Rattle.gq_numbered.specs.Numbers.{IsTaken}
 use Rattle.gq_sessions.specs.declared.session.Session.{Session}
 use Rattle.gq_sessions.specs.Trading.{Trading, IsTrading, IsBetween, account_of, asked, client_of, its_account}

@@ -5,7 +5,7 @@ use Rattle.gq_model.specs.declared.phase.Phase.TheVariants.{Blocked, Running}
 use Rattle.gq_model.specs.machine.Scenario.{System}
 use Rattle.gq_laws.specs.Links.{IsLinkedWorld, outline}
 use Rattle.gq_numbered.specs.Numbers.{IsTaken}
-use Rattle.gq_things.specs.declared.thing.Thing.TheVariants as thing
+use Rattle.gq_contents.specs.declared.thing.Thing.TheVariants as thing
 use Rattle.gq_sessions.specs.declared.session.Spot.{Spot}
 use Rattle.gq_sessions.specs.declared.session.Spot.TheVariants.{InLeaf, InSession, InObject}
 use Rattle.gq_sessions.specs.Trading.{client_of, server_of, session_at}

@@ -12,9 +12,9 @@ use Rattle.gq_store.specs.Store.{Store}
 use Rattle.gq_numbered.specs.Numbers.{IsTaken, free_number}
 use Rattle.gq_requests.specs.declared.requests.Request.{Request}
 use Rattle.gq_requests.specs.Seen.{request_seen}
-use Rattle.gq_things.specs.declared.thing.Thing.{Thing}
-use Rattle.gq_things.specs.declared.thing.Thing.TheVariants as thing
-use Rattle.gq_things.specs.Things.{seen}
+use Rattle.gq_contents.specs.declared.thing.Thing.{Thing}
+use Rattle.gq_contents.specs.declared.thing.Thing.TheVariants as thing
+use Rattle.gq_contents.specs.Things.{seen}
 use Rattle.gq_sessions.specs.declared.session.Session.{Session}
 use Rattle.gq_sessions.specs.Seen.{seen_in}
 use Rattle.gq_sessions.specs.Trading.{AreBetween, AreOf, account_of, its_account, server_of, session_at, session_in}

@@ -9,8 +9,8 @@ use Rattle.gq_laws.specs.Links.{Belongs, IsLinkedWorld, Leads, Links, Naming, St
 use Rattle.gq_laws.specs.Links.{pending_of, requests_of, stance}
 use Rattle.gq_numbered.specs.Numbers.{IsTaken}
 use Rattle.gq_requests.specs.Seen.{request_seen}
-use Rattle.gq_things.specs.declared.thing.Thing.TheVariants as thing
-use Rattle.gq_things.specs.Things.{seen}
+use Rattle.gq_contents.specs.declared.thing.Thing.TheVariants as thing
+use Rattle.gq_contents.specs.Things.{seen}
 use Rattle.gq_sessions.specs.declared.session.Spot.{Spot}
 use Rattle.gq_sessions.specs.declared.session.Spot.TheVariants.{InLeaf, InSession, InObject}
 use Rattle.gq_sessions.specs.Seen.{spot_seen}

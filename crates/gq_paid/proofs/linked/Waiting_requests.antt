@@ -16,9 +16,9 @@ use Rattle.gq_requests.specs.declared.requests.Ask.TheVariants.{Open, Upgrade, C
 use Rattle.gq_requests.specs.declared.requests.Request.{Request}
 use Rattle.gq_requests.specs.Queues.{kept_before, oldest_to}
 use Rattle.gq_requests.specs.Seen.{ask_seen, request_seen}
-use Rattle.gq_things.specs.declared.thing.Thing.{Thing}
-use Rattle.gq_things.specs.declared.thing.Thing.TheVariants as thing
-use Rattle.gq_things.specs.Things.{seen}
+use Rattle.gq_contents.specs.declared.thing.Thing.{Thing}
+use Rattle.gq_contents.specs.declared.thing.Thing.TheVariants as thing
+use Rattle.gq_contents.specs.Things.{seen}
 use Rattle.gq_sessions.specs.declared.session.Session.{Session}
 use Rattle.gq_sessions.specs.Trading.{AreOf, server_of, session_at}
 use Rattle.gq_sessions.proofs.Kept.{taken_from}

@@ -1,7 +1,7 @@
 -- What is asked of the things in slots.
 use Rattle.std.specs.Prelude.{ℕ, ◌==◌, ◌&&◌, ◌||◌, not, Bool, true, false, List, [], ◌∷◌}
-use Rattle.gq_things.specs.declared.thing.Thing.{Thing}
-use Rattle.gq_things.specs.declared.thing.Thing.TheVariants.{Empty, Block, Slice, Space, Pool, Link, Waiting}
+use Rattle.gq_contents.specs.declared.thing.Thing.{Thing}
+use Rattle.gq_contents.specs.declared.thing.Thing.TheVariants.{Empty, Block, Slice, Space, Pool, Link, Waiting}
 
 abbrev pub is_empty : Thing → Bool
 is_empty Empty = true

@@ -6,9 +6,9 @@ use Rattle.gq_model.specs.machine.Prices.{heap as class_prices}
 use Rattle.gq_store.specs.Store.{plus_caps}
 use Rattle.gq_heap.specs.declared.heap.Heap.{Heap}
 use Rattle.gq_heap.specs.Heap.{peaks}
-use Rattle.gq_things.specs.declared.thing.Thing.{Thing}
-use Rattle.gq_things.specs.Kept.{Keeps}
-use Rattle.gq_things.specs.Paid.{cost, places_used, raised_by}
+use Rattle.gq_contents.specs.declared.thing.Thing.{Thing}
+use Rattle.gq_contents.specs.Kept.{Keeps}
+use Rattle.gq_contents.specs.Paid.{cost, places_used, raised_by}
 use Rattle.gq_sessions.specs.declared.session.Session.{Session}
 use Rattle.gq_sessions.specs.Trading.{its_account}
 use Rattle.gq_slots.specs.Slots.{Slots, memory_of}

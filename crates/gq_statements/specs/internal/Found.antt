@@ -6,9 +6,9 @@ use Rattle.gq_model.specs.machine.World as world
 use Rattle.gq_model.specs.machine.Doing.{Doing, Stepped}
 use Rattle.gq_model.specs.declared.fault.Wrong.TheVariants.{WrongKind}
 use Rattle.gq_model.specs.machine.Memory.{bytes_at, pool_at}
-use Rattle.gq_things.specs.declared.thing.Thing.{Thing}
-use Rattle.gq_things.specs.declared.thing.Thing.TheVariants.{Empty, Block, Slice, Space, Pool, Link, Waiting}
-use Rattle.gq_things.specs.Things.{bytes_in}
+use Rattle.gq_contents.specs.declared.thing.Thing.{Thing}
+use Rattle.gq_contents.specs.declared.thing.Thing.TheVariants.{Empty, Block, Slice, Space, Pool, Link, Waiting}
+use Rattle.gq_contents.specs.Things.{bytes_in}
 use Rattle.gq_sessions.specs.declared.session.Spot.{Spot}
 use Rattle.gq_sessions.specs.Seen.{spot_seen}
 use Rattle.gq_slots.specs.Slots.{Slots, slot_of}

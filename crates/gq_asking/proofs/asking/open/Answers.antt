@@ -1,7 +1,7 @@
 use Rattle.std.proofs.Common.{◌≡◌, ◌<◌, length, IfSome, sym, subst, ap, ◌∙◌, arith}
 use Rattle.gq_model.specs.machine.Requests.{free_place, new_session}
 use Rattle.gq_model.specs.machine.Sums.{paid}
-use Rattle.gq_things.specs.declared.thing.Thing.TheVariants.{Empty}
+use Rattle.gq_contents.specs.declared.thing.Thing.TheVariants.{Empty}
 use Rattle.gq_sessions.specs.Seen.{spot_seen}
 use Rattle.gq_sessions.specs.Trading.{fresh}
 use Rattle.gq_trade.specs.Trades.{IsLive}

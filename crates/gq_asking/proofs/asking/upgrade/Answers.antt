@@ -1,5 +1,5 @@
 use Rattle.std.proofs.Common.{sym, subst, ◌∙◌}
-use Rattle.gq_things.specs.declared.thing.Thing.TheVariants.{Link}
+use Rattle.gq_contents.specs.declared.thing.Thing.TheVariants.{Link}
 use Rattle.gq_slots.specs.Slots.{IsMark, Slots}
 use Rattle.gq_asking.proofs.Asks.{upgrade_none, upgrade_some, upgrade_unpaid}
 use Rattle.gq_asking.proofs.Kept.{carries_upgraded, its_session, paid_then, reads_thing, same_spot, same_thing, session_found, stays_then, stays_upgraded}

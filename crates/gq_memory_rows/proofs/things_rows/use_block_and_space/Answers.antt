@@ -1,5 +1,5 @@
 use Rattle.std.proofs.Common.{[], ◌∷◌}
-use Rattle.gq_things.specs.declared.thing.Thing.TheVariants.{Empty}
+use Rattle.gq_contents.specs.declared.thing.Thing.TheVariants.{Empty}
 use Rattle.gq_memory_rows.proofs.things_rows.use_block_and_space.Goals as goal
 
 pub make_block-requires-clause-kept : goal.make_block-requires-clause-kept

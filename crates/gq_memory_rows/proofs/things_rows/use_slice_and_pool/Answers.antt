@@ -1,5 +1,5 @@
 use Rattle.std.proofs.Common.{[], ◌∷◌}
-use Rattle.gq_things.specs.declared.thing.Thing.TheVariants.{Empty}
+use Rattle.gq_contents.specs.declared.thing.Thing.TheVariants.{Empty}
 use Rattle.gq_memory_rows.proofs.things_rows.use_slice_and_pool.Goals as goal
 
 pub store-requires-clause-kept : goal.store-requires-clause-kept

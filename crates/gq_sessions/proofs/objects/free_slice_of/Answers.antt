@@ -1,7 +1,7 @@
 use Rattle.std.proofs.Common.{sym, ap, subst}
 use Rattle.gq_ram.specs.Entries.{IsOpen}
 use Rattle.gq_memory.specs.Stores.{Memory}
-use Rattle.gq_things.specs.declared.thing.Thing.TheVariants as thing
+use Rattle.gq_contents.specs.declared.thing.Thing.TheVariants as thing
 use Rattle.gq_sessions.proofs.Paying.{changes_for}
 use Rattle.gq_sessions.proofs.objects.free_slice_of.Goals as goal
 

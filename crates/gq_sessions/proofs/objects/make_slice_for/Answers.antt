@@ -2,8 +2,8 @@ use Rattle.std.proofs.Common.{sym, ap, subst}
 use Rattle.gq_heap.specs.declared.heap.Heap.{Heap}
 use Rattle.gq_ram.specs.Entries.{IsOpen}
 use Rattle.gq_memory.specs.Stores.{Memory, store_at, store_of}
-use Rattle.gq_things.specs.declared.thing.Thing.TheVariants as thing
-use Rattle.gq_things.specs.Kept.{Changes}
+use Rattle.gq_contents.specs.declared.thing.Thing.TheVariants as thing
+use Rattle.gq_contents.specs.Kept.{Changes}
 use Rattle.gq_sessions.proofs.Paying.{changes_for, if_ok}
 use Rattle.gq_sessions.proofs.objects.make_slice_for.Goals as goal
 

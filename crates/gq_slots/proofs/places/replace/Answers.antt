@@ -1,5 +1,5 @@
 use Rattle.std.proofs.Common.{[], ap, subst, sym, ◌∙◌}
-use Rattle.gq_things.specs.declared.thing.Thing.TheVariants.{Empty}
+use Rattle.gq_contents.specs.declared.thing.Thing.TheVariants.{Empty}
 use Rattle.gq_trade.specs.Trades.{with_trading}
 use Rattle.gq_slots.specs.Slots.{Slots, IsSpot, thing_at}
 use Rattle.gq_slots.specs.internal.Put.{put_own, put_trading}

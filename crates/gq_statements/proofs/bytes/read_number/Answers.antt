@@ -1,5 +1,5 @@
 use Rattle.std.proofs.Common.{◌≡◌, ◌+◌, ◌≤◌, length, ap, sym, ◌∙◌, arith}
-use Rattle.gq_things.specs.Things.{bytes_in}
+use Rattle.gq_contents.specs.Things.{bytes_in}
 use Rattle.gq_slots.specs.Slots.{Slots, holder, memory_of, slot_of, thing_at}
 use Rattle.gq_model.specs.machine.Program.{bytes_of, little}
 use Rattle.std.specs.Prelude.{slice_range}

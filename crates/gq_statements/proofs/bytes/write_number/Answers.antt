@@ -1,5 +1,5 @@
 use Rattle.std.proofs.Common.{ap, sym, subst}
-use Rattle.gq_things.specs.Things.{put_in}
+use Rattle.gq_contents.specs.Things.{put_in}
 use Rattle.gq_slots.specs.Slots.{slot_of}
 use Rattle.gq_slots.specs.Calls.{Puts}
 use Rattle.gq_model.specs.machine.Program.{bytes_of, spelled}

@@ -1,6 +1,6 @@
 use Rattle.std.proofs.Common.{◌≡◌, ◌∙◌, Some, ap, subst, sym, refl}
 use Rattle.gq_model.specs.machine.World.{slot_at}
-use Rattle.gq_things.specs.Things.{seen}
+use Rattle.gq_contents.specs.Things.{seen}
 use Rattle.gq_sessions.specs.Seen.{spot_seen}
 use Rattle.gq_sessions.specs.Trading.{IsTrading}
 use Rattle.gq_trade.specs.Trades.{Trades}

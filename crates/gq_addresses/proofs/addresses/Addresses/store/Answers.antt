@@ -1,5 +1,5 @@
 use Rattle.std.proofs.Common.{[], ◌∷◌, Some, refl, subst}
-use Rattle.gq_things.specs.Things.{put_in}
+use Rattle.gq_contents.specs.Things.{put_in}
 use Rattle.gq_slots.specs.Slots.{Slots, slot_of, world_seen}
 use Rattle.gq_slots.specs.Calls.{Puts}
 use Rattle.gq_addresses.specs.Addresses.{offset, slot_under}

@@ -1,4 +1,4 @@
-use Rattle.gq_things.specs.Things.{removed, with_entry}
+use Rattle.gq_contents.specs.Things.{removed, with_entry}
 use Rattle.gq_slots.proofs.Facts.{places_entry, removed_less}
 use Rattle.gq_slots.specs.Slots.{Slots}
 use Rattle.gq_slots.proofs.Answering.{at_inside, gives_place, is_among}

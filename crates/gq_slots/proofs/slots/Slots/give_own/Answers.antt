@@ -1,6 +1,6 @@
 use Rattle.std.proofs.Common.{◌≡◌, ◌↔◌, false, None, refl, sym, ap, subst, ◌∙◌}
-use Rattle.gq_things.specs.Things.{entry_in, removed, with_entry}
-use Rattle.gq_things.specs.declared.thing.Thing.TheVariants.{Pool}
+use Rattle.gq_contents.specs.Things.{entry_in, removed, with_entry}
+use Rattle.gq_contents.specs.declared.thing.Thing.TheVariants.{Pool}
 use Rattle.gq_sessions.specs.declared.session.Spot.TheVariants.{InLeaf}
 use Rattle.gq_slots.specs.Slots.{Slots, slot_of}
 use Rattle.gq_slots.proofs.Facts.{places_entry, removed_less}

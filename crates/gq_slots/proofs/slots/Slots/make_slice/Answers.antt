@@ -1,7 +1,7 @@
 use Rattle.std.proofs.Common.{replicate, refl, sym}
 use Rattle.gq_model.specs.declared.program.Form.TheVariants as form
 use Rattle.gq_model.specs.machine.World as world
-use Rattle.gq_things.specs.declared.thing.Thing.TheVariants as thing
+use Rattle.gq_contents.specs.declared.thing.Thing.TheVariants as thing
 use Rattle.gq_slots.specs.Slots.{Slots}
 use Rattle.gq_slots.proofs.Answering.{at_inside, makes_beside}
 use Rattle.gq_slots.proofs.Inside.{slots_of}

@@ -1,5 +1,5 @@
 use Rattle.std.proofs.Common.{refl, sym, ◌∙◌}
-use Rattle.gq_things.specs.declared.thing.Thing.TheVariants.{Pool}
+use Rattle.gq_contents.specs.declared.thing.Thing.TheVariants.{Pool}
 use Rattle.gq_sessions.specs.declared.session.Spot.TheVariants.{InLeaf}
 use Rattle.gq_slots.specs.Slots.{Slots}
 use Rattle.gq_slots.proofs.Answering.{at_inside, is_among}

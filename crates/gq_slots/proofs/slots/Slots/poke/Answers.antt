@@ -1,5 +1,5 @@
 use Rattle.gq_model.specs.machine.Memory.{entry_with}
-use Rattle.gq_things.specs.Things.{with_entry}
+use Rattle.gq_contents.specs.Things.{with_entry}
 use Rattle.gq_slots.specs.Slots.{Slots}
 use Rattle.gq_slots.proofs.Facts.{entry_same, places_entry, price_entry}
 use Rattle.gq_slots.proofs.Answering.{at_inside, is_among, stays}

@@ -1,5 +1,5 @@
 use Rattle.std.proofs.Common.{[], ◌∷◌, arith}
-use Rattle.gq_things.specs.Things.{put_in}
+use Rattle.gq_contents.specs.Things.{put_in}
 use Rattle.gq_slots.specs.Slots.{Slots}
 use Rattle.gq_slots.proofs.Facts.{places_put, price_put}
 use Rattle.gq_slots.proofs.Answering.{at_inside, is_among, stays}

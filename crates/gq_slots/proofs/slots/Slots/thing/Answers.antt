@@ -1,5 +1,5 @@
 use Rattle.std.proofs.Common.{Some, ap, sym, subst, ◌∙◌}
-use Rattle.gq_things.specs.Things.{seen}
+use Rattle.gq_contents.specs.Things.{seen}
 use Rattle.gq_slots.specs.Slots.{holder, memory_of}
 use Rattle.gq_slots.specs.internal.Holds.{IsSlots}
 use Rattle.gq_slots.proofs.Worlds.{reads}

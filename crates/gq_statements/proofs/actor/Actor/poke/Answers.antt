@@ -1,6 +1,6 @@
 use Rattle.std.proofs.Common.{refl, subst}
 use Rattle.gq_model.specs.machine.Memory.{entry_with}
-use Rattle.gq_things.specs.Things.{with_entry}
+use Rattle.gq_contents.specs.Things.{with_entry}
 use Rattle.gq_slots.specs.Slots.{Slots, slot_of, world_seen}
 use Rattle.gq_slots.specs.Calls.{Puts}
 use Rattle.gq_statements.proofs.Entries.{low_byte, poke_none, poke_past, poke_short, poke_some, test_false, test_true}

@@ -1,6 +1,6 @@
 use Rattle.std.proofs.Common.{◌≡◌, Some, sym, subst, ap, ◌∙◌}
 use Rattle.gq_model.specs.machine.World.{Pool}
-use Rattle.gq_things.specs.Things.{seen}
+use Rattle.gq_contents.specs.Things.{seen}
 use Rattle.gq_slots.specs.Slots.{Slots, holder, memory_of, world_seen}
 use Rattle.gq_statements.specs.internal.Found.{IsPool, entries_in}
 use Rattle.gq_statements.proofs.Entries.{pool_others, pool_seen, pool_some}

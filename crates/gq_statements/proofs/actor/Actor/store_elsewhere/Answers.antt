@@ -1,6 +1,6 @@
 use Rattle.std.proofs.Common.{refl, sym, ◌∙◌}
 use Rattle.gq_model.specs.machine.Program.{bytes_of, spelled}
-use Rattle.gq_things.specs.Things.{put_in}
+use Rattle.gq_contents.specs.Things.{put_in}
 use Rattle.gq_slots.specs.Slots.{Slots, slot_of, world_seen}
 use Rattle.gq_slots.specs.Calls.{Puts}
 use Rattle.gq_addresses.proofs.Payers.{changed}

@@ -1,0 +1,24 @@
+//! What a slot holds, over any store and a heap in it: a block, a slice, a space or a pool, or the number of a session, which is no memory.
+//!
+//! ```rust
+//! use gq_heap::Heap;
+//! use gq_list_store::ListStore;
+//! use gq_contents::Thing;
+//!
+//! let mut store = ListStore::new(rt.alloc(), 4, None)?;
+//! let mut heap = Heap::new();
+//! let slice = Thing::make_slice(&mut store, 16)?;
+//! let pool = Thing::make_pool(&mut store, 16, 4)?;
+//! slice.store(&mut store, &heap, 3, 7);
+//! assert!(rt; pool.take(&mut store, &mut heap, 2)?);
+//! pool.poke(&mut store, &heap, 2, 5, 9);
+//! assert_eq!(rt; slice.load(&store, &heap, 3), 7);
+//! assert_eq!(rt; pool.peek(&store, &heap, 2, 5), 9);
+//! slice.free(&mut store, &mut heap);
+//! pool.free(&mut store, &mut heap);
+//! ```
+#![tactic(auto)]
+
+mod thing;
+
+pub use thing::Thing;
