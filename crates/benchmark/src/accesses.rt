@@ -1,7 +1,7 @@
 // Bytes of a space, by its slot and by their addresses, and of a dataspace.
 ghost use Rattle.std.specs.Prelude.{◌≡◌, ◌≤◌, length};
 ghost use Rattle.gq_dataspace.specs.Dataspaces.{content_of};
-ghost use Rattle.gq_sessions.specs.declared.session.Spot.TheVariants.{InLeaf};
+ghost use Rattle.gq_trade.specs.declared.session.Spot.TheVariants.{InLeaf};
 ghost use Rattle.gq_contents.specs.Things.{size_of};
 ghost use Rattle.gq_trade.specs.Trades.{IsLive};
 ghost use Rattle.gq_slots.specs.Slots.{IsPaidBy, IsSpot, thing_at};
@@ -14,7 +14,7 @@ use crate::timing::tell;
 use gq_addresses::Addresses;
 use gq_dataspace::DsId;
 use gq_ram::Accounts;
-use gq_sessions::Spot;
+use gq_trade::Spot;
 use gq_slots::Slots;
 use gq_contents::Thing;
 use std::time::Instant;

@@ -1,13 +1,13 @@
 // Sessions between two leaves, beside others that are open, and marks in a slot.
 ghost use Rattle.std.specs.Prelude.{◌≡◌, ◌<◌, ◌≤◌, IfOk, IfSome, IsTrue, length};
-ghost use Rattle.gq_numbered.specs.Numbers.{free_number};
-ghost use Rattle.gq_sessions.specs.declared.session.Spot.TheVariants.{InLeaf};
+ghost use Rattle.gq_trade.specs.Numbers.{free_number};
+ghost use Rattle.gq_trade.specs.declared.session.Spot.TheVariants.{InLeaf};
 ghost use Rattle.gq_slots.specs.Slots.{IsMark, IsSpot};
 ghost use Rattle.benchmark.specs.Rounds.{Calls, CanClose, Closes, HasRoom, IsCalm, Opens, Passes, live_node, sessions_of};
 
 use crate::fault::Fault;
 use crate::timing::tell;
-use gq_sessions::Spot;
+use gq_trade::Spot;
 use gq_slot_sessions::sessions;
 use gq_slots::Slots;
 use gq_tariff::Amount;

@@ -14,8 +14,8 @@ use Rattle.gq_store.proofs.Lists.{length-listed}
 use Rattle.gq_contents.specs.declared.thing.Thing.{Thing}
 use Rattle.gq_contents.specs.declared.thing.Thing.TheVariants.{Empty, Block, Slice, Space, Pool, Link, Waiting}
 use Rattle.gq_contents.specs.Things.{bytes_in, put_in, seen, size_of}
-use Rattle.gq_sessions.specs.declared.session.Spot.{Spot}
-use Rattle.gq_sessions.specs.Seen.{spot_seen}
+use Rattle.gq_trade.specs.declared.session.Spot.{Spot}
+use Rattle.gq_trade.specs.Seen.{spot_seen}
 use Rattle.gq_slots.specs.Slots.{Frame, Slots, holder, memory_of, slot_of, thing_at, world_seen}
 use Rattle.gq_slots.specs.Calls.{Puts}
 use Rattle.gq_addresses.specs.Addresses.{AreFound, AreThere, byte_of, bytes_behind, bytes_of, bytes_there, four_in, number_of, place_seen, put_behind}

@@ -4,15 +4,15 @@ use Rattle.gq_model.specs.machine.Scenario.{System}
 use Rattle.gq_model.specs.machine.Memory.{behind, bytes_spot}
 use Rattle.gq_model.specs.machine.World as world
 use Rattle.gq_store.specs.Store.{Store}
-use Rattle.gq_numbered.specs.Numbers.{IsTaken}
+use Rattle.gq_trade.specs.Numbers.{IsTaken}
 use Rattle.gq_contents.specs.declared.thing.Thing.{Thing}
 use Rattle.gq_contents.specs.declared.thing.Thing.TheVariants.{Empty, Block, Slice, Space, Pool, Link, Waiting}
 use Rattle.gq_contents.specs.Things.{seen}
-use Rattle.gq_sessions.specs.declared.session.Spot.{Spot}
-use Rattle.gq_sessions.specs.declared.session.Spot.TheVariants.{InSession}
-use Rattle.gq_sessions.specs.Seen.{session_seen, spot_seen}
-use Rattle.gq_sessions.specs.Trading.{IsTrading, session_at}
-use Rattle.gq_sessions.proofs.Kept.{between_at}
+use Rattle.gq_trade.specs.declared.session.Spot.{Spot}
+use Rattle.gq_trade.specs.declared.session.Spot.TheVariants.{InSession}
+use Rattle.gq_trade.specs.Seen.{session_seen, spot_seen}
+use Rattle.gq_trade.specs.Trading.{IsTrading, session_at}
+use Rattle.gq_trade.proofs.Sessions_kept.{between_at}
 use Rattle.gq_slots.specs.Slots.{Frame, Slots, memory_of, thing_at, world_seen}
 use Rattle.gq_slots.proofs.Worlds.{session_there}
 use Rattle.gq_addresses.specs.Addresses.{AreBuffers, IsLinked, buffer_spot, place_in, place_seen}

@@ -6,10 +6,10 @@ ghost use Rattle.gq_model.specs.machine.Program.{little, spelled};
 ghost use Rattle.gq_model.specs.machine.Scenario.{System};
 ghost use Rattle.gq_model.specs.machine.Memory.{bytes_spot};
 ghost use Rattle.gq_model.specs.machine.World.{slot_at, Link};
-ghost use Rattle.gq_numbered.specs.Numbers.{IsTaken};
+ghost use Rattle.gq_trade.specs.Numbers.{IsTaken};
 ghost use Rattle.gq_contents.specs.Things.{bytes_in, put_in, size_of};
-ghost use Rattle.gq_sessions.specs.Seen.{spot_seen};
-ghost use Rattle.gq_sessions.specs.declared.session.Spot.{Spot};
+ghost use Rattle.gq_trade.specs.Seen.{spot_seen};
+ghost use Rattle.gq_trade.specs.declared.session.Spot.{Spot};
 ghost use Rattle.gq_trade.specs.Trades.{IsLive};
 ghost use Rattle.gq_slots.specs.Slots.{Slots as Seen};
 ghost use Rattle.gq_slots.specs.Slots.{Frame, IsMark, IsPaidBy, IsSlot, IsSpot, holder, slot_of, thing_at, world_seen};
@@ -18,7 +18,7 @@ ghost use Rattle.gq_addresses.specs.Addresses.{AreBuffers, AreFound, IsLinked, b
 ghost use Rattle.gq_addresses.specs.Addresses.{IsNumbered, base_for, own_base, place_in, place_of, place_seen, put_under, slot_for, slot_under};
 ghost use Rattle.gq_addresses.specs.internal.Paying.{paying};
 
-use gq_sessions::{Session, Spot};
+use gq_trade::{Session, Spot};
 use gq_slots::Slots;
 use gq_contents::Thing;
 use std::marker::Model;

@@ -2,7 +2,7 @@
 //!
 //! ```rust
 //! use gq_addresses::Addresses;
-//! use gq_sessions::Spot;
+//! use gq_trade::Spot;
 //!
 //! // No service shares a buffer. `slots` are those of `gq_slots`.
 //! let addresses = Addresses::new(Vec::new(rt.alloc()));

@@ -13,8 +13,8 @@ use Rattle.gq_model.specs.machine.Scenario.{interface_in, upgrade_caps}
 use Rattle.gq_model.specs.machine.Sums.{paid}
 use Rattle.gq_model.specs.machine.World as world
 use Rattle.gq_laws.proofs.linking.Worlds.{session_else, session_here}
-use Rattle.gq_sessions.specs.declared.session.Spot.{Spot}
-use Rattle.gq_sessions.specs.Seen.{spot_seen}
+use Rattle.gq_trade.specs.declared.session.Spot.{Spot}
+use Rattle.gq_trade.specs.Seen.{spot_seen}
 use Rattle.gq_slots.specs.Slots.{Frame, Slots, world_seen}
 use Rattle.gq_slots.specs.Calls.{Puts}
 use Rattle.gq_slot_sessions.specs.Calls.{asking, more_for, upgrading}

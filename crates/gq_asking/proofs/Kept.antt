@@ -7,22 +7,22 @@ use Rattle.gq_model.specs.machine.Requests.{free_place}
 use Rattle.gq_model.specs.machine.Scenario.{System}
 use Rattle.gq_model.specs.machine.Sums.{paid}
 use Rattle.gq_model.specs.machine.World as world
-use Rattle.gq_numbered.specs.Numbers.{IsTaken, free_number}
+use Rattle.gq_trade.specs.Numbers.{IsTaken, free_number}
 use Rattle.gq_ram.specs.Entries.{available, available_caps}
 use Rattle.gq_contents.specs.declared.thing.Thing.{Thing}
 use Rattle.gq_contents.specs.Things.{seen}
-use Rattle.gq_sessions.specs.Seen.{session_seen, spot_seen}
-use Rattle.gq_sessions.specs.Trading.{session_at}
-use Rattle.gq_requests.specs.declared.requests.Ask.{Ask}
-use Rattle.gq_sessions.specs.declared.session.Session.{Session}
-use Rattle.gq_sessions.specs.Trading.{Trading, asked, client_of, found, its_account, server_of, upgraded, with_ask, with_more}
-use Rattle.gq_sessions.proofs.Definition.{number_is}
-use Rattle.gq_sessions.proofs.Kept.{added_other}
+use Rattle.gq_trade.specs.Seen.{session_seen, spot_seen}
+use Rattle.gq_trade.specs.Trading.{session_at}
+use Rattle.gq_trade.specs.declared.requests.Ask.{Ask}
+use Rattle.gq_trade.specs.declared.session.Session.{Session}
+use Rattle.gq_trade.specs.Trading.{Trading, asked, client_of, found, its_account, server_of, upgraded, with_ask, with_more}
+use Rattle.gq_trade.proofs.Definition.{number_is}
+use Rattle.gq_trade.proofs.Sessions_kept.{added_other}
 use Rattle.gq_slots.proofs.Spots.{taken_below}
 use Rattle.gq_tariff.specs.declared.amount.Amount.{Amount}
 use Rattle.gq_contents.specs.declared.thing.Thing.TheVariants as thing
-use Rattle.gq_sessions.specs.declared.session.Spot.{Spot}
-use Rattle.gq_sessions.specs.declared.session.Spot.TheVariants.{InLeaf, InSession, InObject}
+use Rattle.gq_trade.specs.declared.session.Spot.{Spot}
+use Rattle.gq_trade.specs.declared.session.Spot.TheVariants.{InLeaf, InSession, InObject}
 use Rattle.gq_slots.specs.Slots.{Frame, IsSpot, Slots, holder, memory_of, thing_at, world_seen}
 use Rattle.gq_slots.specs.Calls.{SameBeside}
 use Rattle.gq_slot_sessions.specs.Calls.{opening, upgrading, with_trades}

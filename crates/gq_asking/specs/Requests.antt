@@ -7,10 +7,10 @@ use Rattle.gq_model.specs.machine.Amounts.{amount}
 use Rattle.gq_model.specs.machine.Doing.{Doing, standing}
 use Rattle.gq_model.specs.machine.Scenario.{interface_in, upgrade_caps}
 use Rattle.gq_model.specs.machine.World as world
-use Rattle.gq_numbered.specs.Numbers.{IsTaken}
+use Rattle.gq_trade.specs.Numbers.{IsTaken}
 use Rattle.gq_contents.specs.declared.thing.Thing.TheVariants.{Link}
-use Rattle.gq_sessions.specs.Trading.{client_of}
-use Rattle.gq_sessions.specs.declared.session.Spot.{Spot}
+use Rattle.gq_trade.specs.Trading.{client_of}
+use Rattle.gq_trade.specs.declared.session.Spot.{Spot}
 use Rattle.gq_slots.specs.Slots.{Frame, IsSpot, Slots, holder, thing_at, world_seen}
 
 -- each link in a slot that the leaf x pays for leads to a session that is there, and whose client is x

@@ -6,8 +6,8 @@ ghost use Rattle.gq_model.specs.machine.Requests as requests;
 ghost use Rattle.gq_model.specs.machine.Routes.{server_of};
 ghost use Rattle.gq_model.specs.machine.Scenario.{interface_in, open_caps};
 ghost use Rattle.gq_model.specs.texts.Operands.{is_slot};
-ghost use Rattle.gq_numbered.specs.Numbers.{IsTaken, free_number};
-ghost use Rattle.gq_sessions.specs.Trading.{client_of};
+ghost use Rattle.gq_trade.specs.Numbers.{IsTaken, free_number};
+ghost use Rattle.gq_trade.specs.Trading.{client_of};
 ghost use Rattle.gq_trade.specs.Trades.{IsLive};
 ghost use Rattle.gq_trade.specs.Waiting.{IsIdle};
 ghost use Rattle.gq_slots.specs.Slots.{Frame, world_seen};
@@ -18,7 +18,7 @@ ghost use Rattle.gq_asking.specs.internal.Leads.{IsLink, IsLinkedAt, IsRoomAt, I
 
 use gq_model::fault::Wrong;
 use gq_model::program::Place;
-use gq_sessions::Spot;
+use gq_trade::Spot;
 use gq_slot_sessions::sessions;
 use gq_slots::Slots;
 use gq_statements::Actor;

@@ -8,7 +8,7 @@ use Rattle.gq_heap.specs.Heap.{peaks}
 use Rattle.gq_contents.specs.Things.{seen}
 use Rattle.gq_contents.specs.declared.thing.Thing.{Thing}
 use Rattle.gq_slots.specs.Slots.{Frame, Slots, leaf_seen, leaves_seen, memory_of, world_seen}
-use Rattle.gq_sessions.specs.Seen.{sessions_seen}
+use Rattle.gq_trade.specs.Seen.{sessions_seen}
 use Rattle.gq_leaves.specs.Frames.{IsElsewhere}
 
 abbrev Leaves : Type 0

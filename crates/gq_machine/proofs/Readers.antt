@@ -16,15 +16,15 @@ use Rattle.gq_model.proofs.Small.{get_within, none_some, some_same}
 use Rattle.gq_scenario.specs.Sizes.{leaf_places}
 use Rattle.gq_nodes.specs.NodeTables.{LeafRow, leaf_row, leaf_rows, leaf_rows_of, node_rows}
 use Rattle.gq_nodes.proofs.Rows.{row_at}
-use Rattle.gq_numbered.specs.Numbers.{IsTaken}
+use Rattle.gq_trade.specs.Numbers.{IsTaken}
 use Rattle.gq_ram.specs.declared.account.Account.{Account as Stored}
 use Rattle.gq_ram.specs.Entries.{Entries, account_at, no_account, sum_over}
 use Rattle.gq_store.specs.Store.{Store}
 use Rattle.gq_heap.specs.declared.heap.Heap.{Heap}
 use Rattle.gq_contents.specs.declared.thing.Thing.{Thing}
 use Rattle.gq_ram.specs.Trees.{account_of}
-use Rattle.gq_sessions.specs.declared.session.Session.{Session}
-use Rattle.gq_sessions.specs.Trading.{account_of as account_no, its_account, node_of, session_in}
+use Rattle.gq_trade.specs.declared.session.Session.{Session}
+use Rattle.gq_trade.specs.Trading.{account_of as account_no, its_account, node_of, session_in}
 use Rattle.gq_trade.specs.declared.node.Node.{Node}
 use Rattle.gq_trade.specs.declared.node.Stage.TheVariants.{Pending, Live, Ended}
 use Rattle.gq_trade.specs.Balances.{node_at, received_for, while_live}

@@ -29,7 +29,7 @@ use Rattle.gq_flat.proofs.Parts.{found_body}
 use Rattle.gq_store.specs.Store.{Store}
 use Rattle.gq_heap.specs.declared.heap.Heap.{Heap}
 use Rattle.gq_heap.specs.Heap.{peaks}
-use Rattle.gq_requests.specs.Seen.{request_seen}
+use Rattle.gq_trade.specs.Seen_requests.{request_seen}
 use Rattle.gq_contents.specs.declared.thing.Thing.TheVariants.{Empty}
 use Rattle.gq_contents.specs.Things.{seen}
 use Rattle.gq_slots.specs.Slots.{Slots, leaf_seen, leaves_seen, memory_of}

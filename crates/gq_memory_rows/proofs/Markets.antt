@@ -5,18 +5,18 @@ use Rattle.gq_tariff.specs.declared.amount.Amount.{Amount}
 use Rattle.gq_heap.specs.declared.heap.Heap.{Heap}
 use Rattle.gq_heap.specs.Heap.{Keeps as KeepsPlaces}
 use Rattle.gq_store.specs.Store.{Store}
-use Rattle.gq_numbered.specs.Numbers.{added, free_number}
-use Rattle.gq_requests.specs.declared.requests.Request.{Request}
-use Rattle.gq_requests.specs.Queues.{oldest_to}
+use Rattle.gq_trade.specs.Numbers.{added, free_number}
+use Rattle.gq_trade.specs.declared.requests.Request.{Request}
+use Rattle.gq_trade.specs.Queues.{oldest_to}
 use Rattle.gq_contents.specs.declared.thing.Thing.{Thing}
 use Rattle.gq_contents.specs.declared.thing.Thing.TheVariants.{Empty, Block, Slice, Space, Pool, Link, Waiting}
 use Rattle.gq_contents.specs.Things.{IsSlice, IsThing, seen}
 use Rattle.gq_contents.proofs.Callers.{empty_kept}
 use Rattle.gq_model.specs.declared.program.Form.TheVariants as form
 use Rattle.gq_model.specs.machine.World as world
-use Rattle.gq_sessions.specs.declared.session.Session.{Session}
-use Rattle.gq_sessions.specs.Trading.{Trading, Accepts, Begins, Makes, Opens, asked, object_size, opened, session_at, session_in, store_of, with_memory}
-use Rattle.gq_sessions.specs.Trading.{with_requests}
+use Rattle.gq_trade.specs.declared.session.Session.{Session}
+use Rattle.gq_trade.specs.Trading.{Trading, Accepts, Begins, Makes, Opens, asked, object_size, opened, session_at, session_in, store_of, with_memory}
+use Rattle.gq_trade.specs.Trading.{with_requests}
 use Rattle.gq_trade.specs.Trades.{Trades, with_trading}
 use Rattle.gq_memory_rows.specs.Markets.{HasAsked, HasOne, IsQuiet, request_of, session_of}
 

@@ -4,11 +4,11 @@ use Rattle.std.specs.Prelude.{is_some}
 use Rattle.gq_tariff.specs.declared.amount.Amount.{Amount}
 use Rattle.gq_model.specs.machine.World as world
 use Rattle.gq_ram.specs.declared.account.AccountNo.{AccountNo}
-use Rattle.gq_numbered.specs.Numbers.{added, free_number}
-use Rattle.gq_requests.specs.declared.requests.Request.{Request}
-use Rattle.gq_sessions.specs.declared.session.Spot.{Spot}
-use Rattle.gq_sessions.specs.declared.session.Spot.TheVariants.{InLeaf, InSession}
-use Rattle.gq_sessions.specs.Trading.{asked, fresh, session_in, with_memory}
+use Rattle.gq_trade.specs.Numbers.{added, free_number}
+use Rattle.gq_trade.specs.declared.requests.Request.{Request}
+use Rattle.gq_trade.specs.declared.session.Spot.{Spot}
+use Rattle.gq_trade.specs.declared.session.Spot.TheVariants.{InLeaf, InSession}
+use Rattle.gq_trade.specs.Trading.{asked, fresh, session_in, with_memory}
 use Rattle.gq_trade.specs.Balances.{node_at}
 use Rattle.gq_trade.specs.Trades.{IsLive, Trades, with_trading}
 use Rattle.gq_slots.specs.Slots.{Slots, IsSpot, holder}

@@ -3,13 +3,13 @@ use Rattle.std.specs.Prelude.{◌≡◌, ℕ, ◌<◌, List, [], ◌∷◌, Some
 use Rattle.gq_tariff.specs.declared.amount.Amount.{Amount}
 use Rattle.gq_ram.specs.declared.account.AccountNo.{AccountNo}
 use Rattle.gq_ram.specs.Trees.{Tree, number}
-use Rattle.gq_requests.specs.declared.requests.Ask.TheVariants.{Open}
-use Rattle.gq_requests.specs.declared.requests.Request.{Request}
+use Rattle.gq_trade.specs.declared.requests.Ask.TheVariants.{Open}
+use Rattle.gq_trade.specs.declared.requests.Request.{Request}
 use Rattle.gq_contents.specs.declared.thing.Thing.{Thing}
 use Rattle.gq_contents.specs.Things.{IsSlice}
-use Rattle.gq_sessions.specs.declared.session.Session.{Session}
-use Rattle.gq_sessions.specs.declared.session.Spot.TheVariants.{InLeaf}
-use Rattle.gq_sessions.specs.Trading.{Trading, fresh, opened, store_of}
+use Rattle.gq_trade.specs.declared.session.Session.{Session}
+use Rattle.gq_trade.specs.declared.session.Spot.TheVariants.{InLeaf}
+use Rattle.gq_trade.specs.Trading.{Trading, fresh, opened, store_of}
 use Rattle.gq_trade.specs.declared.node.Node.{Node}
 use Rattle.gq_trade.specs.declared.node.Stage.TheVariants.{Live, Pending}
 use Rattle.gq_trade.specs.Balances.{node_at}

@@ -1,6 +1,6 @@
 -- A server and its client, and a session between them.
 use Rattle.std.specs.Prelude.{◌≡◌, ℕ, ◌<◌, [], length}
-use Rattle.gq_sessions.specs.declared.session.Spot.TheVariants.{InLeaf, InSession}
+use Rattle.gq_trade.specs.declared.session.Spot.TheVariants.{InLeaf, InSession}
 use Rattle.gq_trade.specs.Trades.{IsLive}
 use Rattle.gq_slots.specs.Slots.{Slots, IsSpot, holder}
 

@@ -1,5 +1,5 @@
 -- What no call on a slot changes of the others.
-use Rattle.gq_sessions.specs.declared.session.Spot.{Spot}
+use Rattle.gq_trade.specs.declared.session.Spot.{Spot}
 use Rattle.gq_slots.specs.Slots.{Slots, IsPaidBy, IsSpot, holder}
 
 -- each slot stays, and who pays for it

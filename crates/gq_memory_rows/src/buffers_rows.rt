@@ -5,7 +5,7 @@ ghost use Rattle.gq_memory_rows.specs.Serves.{IsMarket, Serves};
 use crate::trade_rows::{live, plan};
 use crate::used::used;
 use gq_addresses::Addresses;
-use gq_sessions::Spot;
+use gq_trade::Spot;
 use gq_slot_sessions::sessions;
 use gq_slots::Slots;
 use gq_tariff::Amount;

@@ -1,11 +1,11 @@
 // The memory of many accounts: what each has of its own, and refusals in both kinds.
 ghost use Rattle.std.specs.Prelude.{◌≡◌, ◌≢◌, IfOk};
 ghost use Rattle.gq_ram.specs.Entries.{IsOpen};
-ghost use Rattle.gq_memory.specs.Stores.{store_of};
-ghost use Rattle.gq_memory.specs.Rest.{SameRest};
+ghost use Rattle.gq_trade.specs.Stores.{store_of};
+ghost use Rattle.gq_trade.specs.Rest.{SameRest};
 
 use crate::ram_rows::{added, moved, moved_caps};
-use gq_memory::Memory;
+use gq_trade::Memory;
 use gq_ram::{AccountFault, AccountNo, Accounts};
 use gq_store::{ByteStore, ChunkNo, GrowFault};
 use std::alloc::{AllocError, Global};

@@ -2,7 +2,7 @@
 ghost use Rattle.std.specs.Prelude.{◌≡◌, []};
 
 use crate::used::used;
-use gq_numbered::Numbered;
+use gq_trade::Numbered;
 
 // The numbers of two values, what the second one's reads once the first is removed, the number of a third value, and what that reads once it is set.
 fn numbered(numbers: &mut Numbered<u32>) -> (usize, usize, u32, usize, u32)

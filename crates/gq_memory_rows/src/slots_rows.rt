@@ -1,13 +1,13 @@
 // Slots of leaves: what stands in one, and what it costs its leaf.
 ghost use Rattle.std.specs.Prelude.{◌≡◌, ◌≤◌, length, IfOk};
-ghost use Rattle.gq_sessions.specs.declared.session.Spot.TheVariants.{InLeaf};
+ghost use Rattle.gq_trade.specs.declared.session.Spot.TheVariants.{InLeaf};
 ghost use Rattle.gq_trade.specs.Trades.{IsLive};
 ghost use Rattle.gq_slots.specs.Slots.{IsPaidBy, IsSlot, IsSpot, holder};
 ghost use Rattle.gq_memory_rows.specs.Stays.{Stays};
 
 use crate::trade_rows::{live, plan};
 use crate::used::used;
-use gq_sessions::Spot;
+use gq_trade::Spot;
 use gq_slots::Slots;
 use std::alloc::{AllocError, Global};
 

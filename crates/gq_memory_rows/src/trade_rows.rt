@@ -7,7 +7,7 @@ ghost use Rattle.gq_trade.specs.Trades.{IsLive};
 use crate::used::used;
 use gq_heap::Heap;
 use gq_ram::{AccountFault, AccountNo};
-use gq_sessions::Spot;
+use gq_trade::Spot;
 use gq_store::GrowFault;
 use gq_tariff::Amount;
 use gq_trade::{Node, Plan, Stage, Trades};

@@ -7,11 +7,11 @@ use Rattle.gq_model.specs.machine.Scenario.{System}
 use Rattle.gq_model.specs.machine.Sums.{donated, paid}
 use Rattle.gq_model.specs.machine.World as world
 use Rattle.gq_ram.specs.Entries.{available, available_caps}
-use Rattle.gq_numbered.specs.Numbers.{IsTaken}
-use Rattle.gq_sessions.specs.declared.session.Session.{Session}
-use Rattle.gq_sessions.specs.Seen.{session_seen}
-use Rattle.gq_sessions.specs.Trading.{client_of, its_account, session_at}
-use Rattle.gq_sessions.proofs.Kept.{between_at}
+use Rattle.gq_trade.specs.Numbers.{IsTaken}
+use Rattle.gq_trade.specs.declared.session.Session.{Session}
+use Rattle.gq_trade.specs.Seen.{session_seen}
+use Rattle.gq_trade.specs.Trading.{client_of, its_account, session_at}
+use Rattle.gq_trade.proofs.Sessions_kept.{between_at}
 use Rattle.gq_slots.specs.Slots.{Frame, Slots, memory_of, world_seen}
 use Rattle.gq_slot_sessions.specs.Calls.{opening, upgrading}
 use Rattle.gq_slots.proofs.Worlds.{session_there}

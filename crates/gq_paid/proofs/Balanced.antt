@@ -12,9 +12,9 @@ use Rattle.gq_model.specs.machine.Sums.{donated, from_leaf, handed, lent, receiv
 use Rattle.gq_model.specs.declared.phase.Phase.{Phase}
 use Rattle.gq_model.specs.declared.phase.Phase.TheVariants as phase
 use Rattle.gq_store.specs.Store.{Store}
-use Rattle.gq_sessions.specs.declared.session.Session.{Session}
-use Rattle.gq_sessions.specs.Seen.{seen_in, session_seen}
-use Rattle.gq_sessions.specs.Trading.{AreBetween, Trading, its_account, node_of}
+use Rattle.gq_trade.specs.declared.session.Session.{Session}
+use Rattle.gq_trade.specs.Seen.{seen_in, session_seen}
+use Rattle.gq_trade.specs.Trading.{AreBetween, Trading, its_account, node_of}
 use Rattle.gq_trade.specs.Balances as balance
 use Rattle.gq_trade.specs.Balances.{IsEven, lent_for, node_at, received_for, while_live}
 use Rattle.gq_trade.proofs.Spent.{spent_none}

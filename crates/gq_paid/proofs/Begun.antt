@@ -9,17 +9,17 @@ use Rattle.gq_model.specs.machine.Scenario.{System}
 use Rattle.gq_model.specs.machine.Sums.{paid}
 use Rattle.gq_model.specs.machine.World as world
 use Rattle.gq_ram.specs.Entries.{available_caps}
-use Rattle.gq_numbered.specs.Numbers.{IsTaken}
-use Rattle.gq_requests.specs.declared.requests.Ask.{Ask}
-use Rattle.gq_requests.specs.declared.requests.Ask.TheVariants.{Open, Upgrade, Close, Call}
-use Rattle.gq_requests.specs.declared.requests.Request.{Request}
-use Rattle.gq_requests.specs.Queues.{oldest_to}
+use Rattle.gq_trade.specs.Numbers.{IsTaken}
+use Rattle.gq_trade.specs.declared.requests.Ask.{Ask}
+use Rattle.gq_trade.specs.declared.requests.Ask.TheVariants.{Open, Upgrade, Close, Call}
+use Rattle.gq_trade.specs.declared.requests.Request.{Request}
+use Rattle.gq_trade.specs.Queues.{oldest_to}
 use Rattle.gq_contents.specs.declared.thing.Thing.TheVariants.{Empty}
 use Rattle.gq_contents.specs.Things.{seen}
-use Rattle.gq_sessions.specs.declared.session.Session.{Session}
-use Rattle.gq_sessions.specs.Seen.{session_seen}
-use Rattle.gq_sessions.specs.Trading.{LacksBytes, LacksCaps, its_account, object_size, server_of, session_at}
-use Rattle.gq_sessions.proofs.Kept.{taken_from}
+use Rattle.gq_trade.specs.declared.session.Session.{Session}
+use Rattle.gq_trade.specs.Seen.{session_seen}
+use Rattle.gq_trade.specs.Trading.{LacksBytes, LacksCaps, its_account, object_size, server_of, session_at}
+use Rattle.gq_trade.proofs.Sessions_kept.{taken_from}
 use Rattle.gq_slots.specs.Slots.{Frame, Slots, memory_of, world_seen}
 use Rattle.gq_slot_sessions.specs.Calls.{accepting}
 use Rattle.gq_slots.proofs.Worlds.{session_there}

@@ -8,16 +8,16 @@ use Rattle.gq_model.specs.machine.Scenario.{System}
 use Rattle.gq_model.specs.machine.Sums.{bank_price, donated, paid, slot_price}
 use Rattle.gq_model.specs.machine.World as world
 use Rattle.gq_store.specs.Store.{Store}
-use Rattle.gq_numbered.specs.Numbers.{IsTaken}
+use Rattle.gq_trade.specs.Numbers.{IsTaken}
 use Rattle.gq_pool.specs.declared.pool.Pool.{Pool}
 use Rattle.gq_contents.specs.declared.thing.Thing.{Thing}
 use Rattle.gq_contents.specs.declared.thing.Thing.TheVariants as thing
 use Rattle.gq_contents.specs.Things.{seen, size_of}
-use Rattle.gq_sessions.specs.declared.session.Session.{Session}
-use Rattle.gq_sessions.specs.declared.session.Spot.TheVariants.{InSession}
-use Rattle.gq_sessions.specs.Seen.{session_seen}
-use Rattle.gq_sessions.specs.Trading.{bytes_then, caps_then, its_account, server_of, session_at}
-use Rattle.gq_sessions.proofs.Kept.{between_at}
+use Rattle.gq_trade.specs.declared.session.Session.{Session}
+use Rattle.gq_trade.specs.declared.session.Spot.TheVariants.{InSession}
+use Rattle.gq_trade.specs.Seen.{session_seen}
+use Rattle.gq_trade.specs.Trading.{bytes_then, caps_then, its_account, server_of, session_at}
+use Rattle.gq_trade.proofs.Sessions_kept.{between_at}
 use Rattle.gq_slots.specs.Slots.{Frame, Slots, memory_of, thing_at, world_seen}
 use Rattle.gq_slot_sessions.specs.Calls.{ending}
 use Rattle.gq_slots.proofs.Worlds.{session_there}

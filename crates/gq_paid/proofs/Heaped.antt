@@ -20,8 +20,8 @@ use Rattle.gq_pool.specs.Pools.{entries_of, entry_bytes, held_of}
 use Rattle.gq_contents.specs.declared.thing.Thing.{Thing}
 use Rattle.gq_contents.specs.declared.thing.Thing.TheVariants as thing
 use Rattle.gq_contents.specs.Things.{added, entry_count, entry_in, entry_size, seen, with_entry}
-use Rattle.gq_sessions.specs.declared.session.Spot.{Spot}
-use Rattle.gq_sessions.specs.Seen.{spot_seen}
+use Rattle.gq_trade.specs.declared.session.Spot.{Spot}
+use Rattle.gq_trade.specs.Seen.{spot_seen}
 use Rattle.gq_slots.specs.Slots.{Frame, IsHeapOf, IsSlot, IsSpot, Slots, holder, memory_of, settled_in, slot_of, thing_at, world_seen}
 use Rattle.gq_slots.proofs.Facts.{price_entry}
 use Rattle.gq_paid.specs.Systems.{AreLawful, IsOf, Lacks}

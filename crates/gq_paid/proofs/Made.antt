@@ -10,10 +10,10 @@ use Rattle.gq_model.specs.machine.World as world
 use Rattle.gq_model.specs.machine.Sums.{handed, held, lent, paid, received, slot_price, with_peaks}
 use Rattle.gq_contents.specs.declared.thing.Thing.TheVariants as thing
 use Rattle.gq_contents.specs.Things.{seen}
-use Rattle.gq_sessions.specs.declared.session.Spot.{Spot}
-use Rattle.gq_sessions.specs.declared.session.Spot.TheVariants.{InLeaf, InSession, InObject}
-use Rattle.gq_sessions.specs.Seen.{session_seen, spot_seen}
-use Rattle.gq_sessions.specs.Trading.{account_of, its_account, session_in}
+use Rattle.gq_trade.specs.declared.session.Spot.{Spot}
+use Rattle.gq_trade.specs.declared.session.Spot.TheVariants.{InLeaf, InSession, InObject}
+use Rattle.gq_trade.specs.Seen.{session_seen, spot_seen}
+use Rattle.gq_trade.specs.Trading.{account_of, its_account, session_in}
 use Rattle.gq_slots.specs.Slots.{Frame, IsSlot, IsSpot, Slots, holder, memory_of, raised_in, settled_in, slot_of, thing_at, world_seen}
 use Rattle.gq_slots.proofs.Worlds.{session_there}
 use Rattle.gq_laws.proofs.linking.Worlds.{leaf_there, set_here}

@@ -11,7 +11,7 @@ use Rattle.gq_model.specs.machine.Sums.{are_paid, handed, is_paid, paid}
 use Rattle.gq_store.specs.Store.{Store}
 use Rattle.gq_heap.specs.declared.heap.Heap.{Heap}
 use Rattle.gq_contents.specs.declared.thing.Thing.{Thing}
-use Rattle.gq_sessions.specs.Trading.{account_of}
+use Rattle.gq_trade.specs.Trading.{account_of}
 use Rattle.gq_slots.specs.Slots.{Frame, Slots, leaves_seen, memory_of, world_seen}
 use Rattle.gq_laws.proofs.paying.Prices.{paid_all}
 use Rattle.gq_paid.specs.Systems.{AreLawful, IsOf}

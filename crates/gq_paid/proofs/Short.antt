@@ -11,12 +11,12 @@ use Rattle.gq_model.proofs.Small.{get_within}
 use Rattle.gq_store.specs.Store.{Store}
 use Rattle.gq_heap.specs.declared.heap.Heap.{Heap}
 use Rattle.gq_ram.specs.declared.account.Account.{Account}
-use Rattle.gq_numbered.specs.Numbers.{IsTaken}
+use Rattle.gq_trade.specs.Numbers.{IsTaken}
 use Rattle.gq_ram.specs.Entries.{available, available_caps}
 use Rattle.gq_contents.specs.declared.thing.Thing.{Thing}
-use Rattle.gq_sessions.specs.declared.session.Spot.TheVariants.{InLeaf}
-use Rattle.gq_sessions.specs.Trading.{client_of, its_account, server_of}
-use Rattle.gq_sessions.proofs.Kept.{between_at}
+use Rattle.gq_trade.specs.declared.session.Spot.TheVariants.{InLeaf}
+use Rattle.gq_trade.specs.Trading.{client_of, its_account, server_of}
+use Rattle.gq_trade.proofs.Sessions_kept.{between_at}
 use Rattle.gq_slots.specs.Slots.{Frame, Slots, leaves_seen, memory_of, slot_of, world_seen}
 use Rattle.gq_laws.proofs.linking.Worlds.{leaf_there}
 use Rattle.gq_paid.specs.Among.{IsAmong}

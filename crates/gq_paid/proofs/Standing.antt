@@ -11,11 +11,11 @@ use Rattle.gq_pool.specs.declared.pool.Pool.{Pool}
 use Rattle.gq_contents.specs.declared.thing.Thing.{Thing}
 use Rattle.gq_contents.specs.declared.thing.Thing.TheVariants as thing
 use Rattle.gq_contents.specs.Things.{seen}
-use Rattle.gq_requests.specs.declared.requests.Ask.TheVariants.{Open}
-use Rattle.gq_requests.specs.declared.requests.Request.{Request}
-use Rattle.gq_requests.specs.Queues.{kept_before, oldest_to}
-use Rattle.gq_sessions.specs.declared.session.Session.{Session}
-use Rattle.gq_sessions.specs.Trading.{session_in}
+use Rattle.gq_trade.specs.declared.requests.Ask.TheVariants.{Open}
+use Rattle.gq_trade.specs.declared.requests.Request.{Request}
+use Rattle.gq_trade.specs.Queues.{kept_before, oldest_to}
+use Rattle.gq_trade.specs.declared.session.Session.{Session}
+use Rattle.gq_trade.specs.Trading.{session_in}
 use Rattle.gq_slots.specs.internal.Holds.{AreUnmade, IsObject, IsUnmade}
 
 -- nothing stands where the test finds nothing

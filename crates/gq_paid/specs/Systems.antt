@@ -5,7 +5,7 @@ use Rattle.gq_model.specs.machine.Scenario.{System, Component}
 use Rattle.gq_model.specs.declared.phase.Phase.{Phase}
 use Rattle.gq_model.specs.declared.phase.Phase.TheVariants as phase
 use Rattle.gq_ram.specs.Ledgers.{IsBalanced}
-use Rattle.gq_sessions.specs.Trading.{IsTrading, node_of}
+use Rattle.gq_trade.specs.Trading.{IsTrading, node_of}
 use Rattle.gq_trade.specs.declared.node.Stage.{Stage}
 use Rattle.gq_trade.specs.declared.node.Stage.TheVariants.{Pending, Live, Ended}
 use Rattle.gq_trade.specs.Balances.{node_at}

@@ -4,12 +4,12 @@ ghost use Rattle.gq_model.specs.declared.phase.Phase.TheVariants.{Blocked, Runni
 ghost use Rattle.gq_model.specs.machine.Scenario.{System};
 ghost use Rattle.gq_model.specs.machine.World as world;
 ghost use Rattle.gq_laws.specs.Links.{IsLinkedWorld};
-ghost use Rattle.gq_numbered.specs.Numbers.{IsTaken, free_number};
-ghost use Rattle.gq_requests.specs.declared.requests.Request.{Request};
-ghost use Rattle.gq_requests.specs.Queues.{oldest_to};
+ghost use Rattle.gq_trade.specs.Numbers.{IsTaken, free_number};
+ghost use Rattle.gq_trade.specs.declared.requests.Request.{Request};
+ghost use Rattle.gq_trade.specs.Queues.{oldest_to};
 ghost use Rattle.gq_contents.specs.declared.thing.Thing.TheVariants as thing;
-ghost use Rattle.gq_sessions.specs.declared.session.Spot.{Spot};
-ghost use Rattle.gq_sessions.specs.declared.session.Spot.TheVariants.{InLeaf};
+ghost use Rattle.gq_trade.specs.declared.session.Spot.{Spot};
+ghost use Rattle.gq_trade.specs.declared.session.Spot.TheVariants.{InLeaf};
 ghost use Rattle.gq_trade.specs.Ends.{HasNoSessions};
 ghost use Rattle.gq_trade.specs.Waiting.{IsIdle};
 ghost use Rattle.gq_slots.specs.Slots.{AreLong, AreSound, Frame, IsSpot, Slots, thing_at, world_seen};

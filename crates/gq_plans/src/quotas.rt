@@ -7,7 +7,7 @@ ghost use Rattle.gq_model.specs.machine.Sums.{held};
 ghost use Rattle.gq_model.specs.machine.World as world;
 ghost use Rattle.gq_laws.specs.Ready.{IsReady};
 ghost use Rattle.gq_ram.specs.Trees.{account_of};
-ghost use Rattle.gq_sessions.specs.Trading.{its_account};
+ghost use Rattle.gq_trade.specs.Trading.{its_account};
 ghost use Rattle.gq_slots.specs.Slots.{Frame, Slots, world_seen};
 ghost use Rattle.gq_paid.specs.Systems.{AreLawful, IsOf};
 ghost use Rattle.gq_plans.specs.Nodes.{AreNodesOf};

@@ -15,12 +15,12 @@ use Rattle.gq_model.specs.machine.Sums.{paid, slot_price}
 use Rattle.gq_store.specs.Store.{Store}
 use Rattle.gq_contents.specs.declared.thing.Thing.TheVariants as thing
 use Rattle.gq_contents.specs.Things.{seen}
-use Rattle.gq_sessions.specs.declared.session.Spot.{Spot}
-use Rattle.gq_sessions.specs.declared.session.Spot.TheVariants.{InLeaf, InSession, InObject}
-use Rattle.gq_sessions.specs.Seen.{spot_seen}
-use Rattle.gq_sessions.specs.Trading.{IsTrading, Trading, bytes_then, caps_then, node_of, server_of, session_at}
+use Rattle.gq_trade.specs.declared.session.Spot.{Spot}
+use Rattle.gq_trade.specs.declared.session.Spot.TheVariants.{InLeaf, InSession, InObject}
+use Rattle.gq_trade.specs.Seen.{spot_seen}
+use Rattle.gq_trade.specs.Trading.{IsTrading, Trading, bytes_then, caps_then, node_of, server_of, session_at}
 use Rattle.gq_trade.specs.Balances.{node_at}
-use Rattle.gq_sessions.proofs.Kept.{between_at}
+use Rattle.gq_trade.proofs.Sessions_kept.{between_at}
 use Rattle.gq_slots.specs.Slots.{AreSound, Frame, IsMark, IsSlot, Slots, holder, memory_of, slot_of, thing_at, world_seen}
 use Rattle.gq_slots.specs.Calls.{Puts}
 use Rattle.gq_slot_sessions.specs.Calls.{EndsSession, IsBeside, ending}

@@ -13,7 +13,7 @@ use Rattle.gq_heap.specs.declared.heap.Heap.{Heap}
 use Rattle.gq_contents.specs.declared.thing.Thing.{Thing}
 use Rattle.gq_contents.specs.declared.thing.Thing.TheVariants as thing
 use Rattle.gq_contents.specs.Things.{seen}
-use Rattle.gq_sessions.specs.declared.session.Spot.TheVariants.{InLeaf}
+use Rattle.gq_trade.specs.declared.session.Spot.TheVariants.{InLeaf}
 use Rattle.gq_trade.specs.Ends.{HasNoSessions}
 use Rattle.gq_slots.specs.Slots.{AreRead, Frame, Slots, leaves_seen, memory_of, slot_of, world_seen}
 use Rattle.gq_slot_sessions.specs.Calls.{EndsLeaf, bare, bare_in}

@@ -2,8 +2,8 @@
 use Rattle.std.proofs.Common.{◌≡◌, length, ap, ◌∙◌, subst}
 use Rattle.std.specs.Prelude.{Result, Ok, Err, OnOk, OnErr}
 use Rattle.gq_ram.specs.Ledgers.{IsBalanced, Ledger}
-use Rattle.gq_memory.specs.Stores.{Memory}
-use Rattle.gq_sessions.specs.Trading.{IsTrading}
+use Rattle.gq_trade.specs.Stores.{Memory}
+use Rattle.gq_trade.specs.Trading.{IsTrading}
 use Rattle.gq_trade.specs.Trades.{IsTrades, Trades}
 use Rattle.gq_slots.specs.Slots.{ArePaidFor, AreRead, AreRises, AreSmallEntries, Slots}
 use Rattle.gq_paid.specs.Systems.{AreLawful}

@@ -12,13 +12,13 @@ use Rattle.gq_model.specs.machine.Step.{accept_oldest, oldest}
 use Rattle.gq_model.proofs.Small.{some_same, none_some}
 use Rattle.gq_store.specs.declared.GrowFault.{GrowFault}
 use Rattle.gq_store.specs.declared.GrowFault.TheVariants.{Exceeded, CapsExceeded}
-use Rattle.gq_numbered.specs.Numbers.{IsTaken}
-use Rattle.gq_requests.specs.declared.requests.Ask.TheVariants.{Open}
-use Rattle.gq_requests.specs.declared.requests.Request.{Request}
-use Rattle.gq_requests.specs.Queues.{oldest_to}
-use Rattle.gq_requests.specs.Seen.{request_seen}
+use Rattle.gq_trade.specs.Numbers.{IsTaken}
+use Rattle.gq_trade.specs.declared.requests.Ask.TheVariants.{Open}
+use Rattle.gq_trade.specs.declared.requests.Request.{Request}
+use Rattle.gq_trade.specs.Queues.{oldest_to}
+use Rattle.gq_trade.specs.Seen_requests.{request_seen}
 use Rattle.gq_contents.specs.declared.thing.Thing.TheVariants.{Empty}
-use Rattle.gq_sessions.specs.Trading.{IsOfOldest, LacksBytes, LacksCaps, object_size, server_of, session_at}
+use Rattle.gq_trade.specs.Trading.{IsOfOldest, LacksBytes, LacksCaps, object_size, server_of, session_at}
 use Rattle.gq_slots.specs.Slots.{AreSound, Frame, Slots, memory_of, world_seen}
 use Rattle.gq_slot_sessions.specs.Calls.{TakesOldest}
 use Rattle.gq_paid.specs.Systems.{AreLawful}

@@ -10,14 +10,14 @@ use Rattle.gq_model.specs.machine.Step as step
 use Rattle.gq_model.specs.machine.Step.{replied, reply, serving}
 use Rattle.gq_model.proofs.Small.{some_same}
 use Rattle.gq_store.specs.Store.{Store}
-use Rattle.gq_numbered.specs.Numbers.{IsTaken}
+use Rattle.gq_trade.specs.Numbers.{IsTaken}
 use Rattle.gq_contents.specs.declared.thing.Thing.{Thing}
 use Rattle.gq_contents.specs.declared.thing.Thing.TheVariants as thing
 use Rattle.gq_contents.specs.Things.{seen}
-use Rattle.gq_sessions.specs.declared.session.Session.{Session}
-use Rattle.gq_sessions.specs.Seen.{session_seen, spot_seen}
-use Rattle.gq_sessions.specs.Trading.{IsTrading, server_of, session_at}
-use Rattle.gq_sessions.proofs.Kept.{between_at}
+use Rattle.gq_trade.specs.declared.session.Session.{Session}
+use Rattle.gq_trade.specs.Seen.{session_seen, spot_seen}
+use Rattle.gq_trade.specs.Trading.{IsTrading, server_of, session_at}
+use Rattle.gq_trade.proofs.Sessions_kept.{between_at}
 use Rattle.gq_slots.specs.Slots.{Frame, Slots, memory_of, world_seen}
 use Rattle.gq_slots.specs.Calls.{Puts}
 use Rattle.gq_slots.proofs.Worlds.{session_there}

@@ -10,16 +10,16 @@ use Rattle.gq_model.specs.declared.fault.Wrong.TheVariants.{ExceededQuota, Missi
 use Rattle.gq_model.specs.machine.Step.{accept_oldest, accepted_as, is_to, oldest, section_for}
 use Rattle.gq_model.specs.machine.Sums.{paid}
 use Rattle.gq_model.proofs.Small.{some_same}
-use Rattle.gq_numbered.specs.Numbers.{IsTaken}
-use Rattle.gq_requests.specs.declared.requests.Ask.{Ask}
-use Rattle.gq_requests.specs.declared.requests.Ask.TheVariants.{Open, Upgrade, Close, Call}
-use Rattle.gq_requests.specs.declared.requests.Request.{Request}
-use Rattle.gq_requests.specs.Queues.{oldest_to}
-use Rattle.gq_requests.specs.Seen.{AreServed, ask_seen, request_seen, taken_seen}
-use Rattle.gq_requests.proofs.Oldest.{oldest_is}
-use Rattle.gq_sessions.specs.Seen.{session_seen}
-use Rattle.gq_sessions.specs.Trading.{AreOf, Begins as BeginsIn, IsTrading, Trading, object_size, server_of, session_at, with_requests}
-use Rattle.gq_sessions.proofs.Kept.{between_at}
+use Rattle.gq_trade.specs.Numbers.{IsTaken}
+use Rattle.gq_trade.specs.declared.requests.Ask.{Ask}
+use Rattle.gq_trade.specs.declared.requests.Ask.TheVariants.{Open, Upgrade, Close, Call}
+use Rattle.gq_trade.specs.declared.requests.Request.{Request}
+use Rattle.gq_trade.specs.Queues.{oldest_to}
+use Rattle.gq_trade.specs.Seen_requests.{AreServed, ask_seen, request_seen, taken_seen}
+use Rattle.gq_trade.proofs.Oldest.{oldest_is}
+use Rattle.gq_trade.specs.Seen.{session_seen}
+use Rattle.gq_trade.specs.Trading.{AreOf, Begins as BeginsIn, IsTrading, Trading, object_size, server_of, session_at, with_requests}
+use Rattle.gq_trade.proofs.Sessions_kept.{between_at}
 use Rattle.gq_slots.specs.Slots.{Frame, Slots, memory_of, world_seen}
 use Rattle.gq_slot_sessions.specs.Calls.{TakesOldest, accepting, begun, begun_at}
 use Rattle.gq_slots.proofs.Worlds.{session_there}

@@ -9,15 +9,15 @@ use Rattle.gq_model.specs.declared.program.Section.TheVariants.{Main, Opening, U
 use Rattle.gq_model.specs.machine.Scenario.{Component, System, interface_in, number_of}
 use Rattle.gq_model.specs.declared.phase.Phase.TheVariants.{Exited}
 use Rattle.gq_model.specs.declared.fault.Wrong.{Wrong}
-use Rattle.gq_numbered.specs.Numbers.{IsTaken}
+use Rattle.gq_trade.specs.Numbers.{IsTaken}
 use Rattle.gq_contents.specs.declared.thing.Thing.TheVariants.{Link, Waiting}
 use Rattle.gq_contents.specs.declared.thing.Thing.{Thing}
 use Rattle.gq_trade.specs.Ends.{HasNoSessions}
-use Rattle.gq_sessions.specs.declared.session.Spot.TheVariants.{InLeaf}
-use Rattle.gq_requests.specs.declared.requests.Request.{Request}
-use Rattle.gq_requests.specs.Seen.{request_seen}
+use Rattle.gq_trade.specs.declared.session.Spot.TheVariants.{InLeaf}
+use Rattle.gq_trade.specs.declared.requests.Request.{Request}
+use Rattle.gq_trade.specs.Seen_requests.{request_seen}
 use Rattle.gq_paid.specs.Systems.{IsOf}
-use Rattle.gq_sessions.specs.Trading.{client_of}
+use Rattle.gq_trade.specs.Trading.{client_of}
 use Rattle.gq_slots.specs.Slots.{Frame, IsSlot, IsSpot, Slots, holder, thing_at, world_seen}
 use Rattle.gq_slots.specs.Calls.{Puts}
 use Rattle.gq_slot_sessions.specs.Calls.{EndsSession}

@@ -9,7 +9,7 @@ ghost use Rattle.gq_serving.specs.Serving.{IsAloneWithoutLinks, IsReleased, fini
 ghost use Rattle.gq_serving.specs.internal.Tests.{has_no_link, is_link};
 
 use gq_model::fault::Wrong;
-use gq_sessions::Spot;
+use gq_trade::Spot;
 use gq_slot_sessions::leaves;
 use gq_slots::Slots;
 use gq_contents::Thing;

@@ -4,8 +4,8 @@ ghost use Rattle.gq_model.specs.machine.World as world;
 ghost use Rattle.gq_model.specs.machine.Doing.{Doing, Quiet};
 ghost use Rattle.gq_model.specs.machine.Step as step;
 ghost use Rattle.gq_model.specs.declared.program.Section.TheVariants as section;
-ghost use Rattle.gq_sessions.specs.declared.session.Spot.TheVariants.{InObject};
-ghost use Rattle.gq_sessions.specs.Trading.{AreOfOthers};
+ghost use Rattle.gq_trade.specs.declared.session.Spot.TheVariants.{InObject};
+ghost use Rattle.gq_trade.specs.Trading.{AreOfOthers};
 ghost use Rattle.gq_contents.specs.declared.thing.Thing.TheVariants as thing;
 ghost use Rattle.gq_slots.specs.Slots.{Frame, thing_at, world_seen};
 ghost use Rattle.gq_slots.specs.Calls.{SameBeside};
@@ -17,7 +17,7 @@ ghost use Rattle.gq_serving.specs.internal.Tests.{are_empty, fits, is_empty, is_
 
 use gq_addresses::Addresses;
 use gq_model::fault::Wrong;
-use gq_sessions::{Session, Spot};
+use gq_trade::{Session, Spot};
 use gq_slot_sessions::sessions;
 use gq_slots::Slots;
 use gq_contents::Thing;

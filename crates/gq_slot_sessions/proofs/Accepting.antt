@@ -10,24 +10,24 @@ use Rattle.gq_model.specs.machine.Sums.{slot_places}
 use Rattle.gq_model.specs.machine.Step as step
 use Rattle.gq_store.specs.Store.{Store}
 use Rattle.gq_heap.specs.declared.heap.Heap.{Heap}
-use Rattle.gq_memory.specs.Stores.{store_at}
-use Rattle.gq_numbered.specs.Numbers.{IsTaken}
-use Rattle.gq_requests.specs.declared.requests.Ask.{Ask}
-use Rattle.gq_requests.specs.declared.requests.Ask.TheVariants.{Open, Upgrade, Close, Call}
-use Rattle.gq_requests.specs.declared.requests.Request.{Request}
-use Rattle.gq_requests.specs.Queues.{kept_before, oldest_to}
-use Rattle.gq_requests.specs.Seen.{request_seen, taken_seen, AreServed}
-use Rattle.gq_requests.proofs.Oldest.{oldest_is}
+use Rattle.gq_trade.specs.Stores.{store_at}
+use Rattle.gq_trade.specs.Numbers.{IsTaken}
+use Rattle.gq_trade.specs.declared.requests.Ask.{Ask}
+use Rattle.gq_trade.specs.declared.requests.Ask.TheVariants.{Open, Upgrade, Close, Call}
+use Rattle.gq_trade.specs.declared.requests.Request.{Request}
+use Rattle.gq_trade.specs.Queues.{kept_before, oldest_to}
+use Rattle.gq_trade.specs.Seen_requests.{request_seen, taken_seen, AreServed}
+use Rattle.gq_trade.proofs.Oldest.{oldest_is}
 use Rattle.gq_trade.specs.Trades.{Trades, IsTrades}
 use Rattle.gq_contents.specs.declared.thing.Thing.{Thing}
 use Rattle.gq_contents.specs.declared.thing.Thing.TheVariants.{Empty, Block, Slice, Space, Pool, Link, Waiting}
 use Rattle.gq_contents.specs.Things.{seen}
-use Rattle.gq_sessions.specs.declared.session.Session.{Session}
-use Rattle.gq_sessions.specs.declared.session.Spot.{Spot}
-use Rattle.gq_sessions.specs.declared.session.Spot.TheVariants.{InLeaf, InSession, InObject}
-use Rattle.gq_sessions.specs.Seen.{session_seen}
-use Rattle.gq_sessions.specs.Trading.{Trading, AreOf, IsTrading, found, raised, session_at, session_in, Accepts, Begins, Opens, account_no, account_of}
-use Rattle.gq_sessions.specs.Trading.{object_size, opened, server_of, with_requests, with_session}
+use Rattle.gq_trade.specs.declared.session.Session.{Session}
+use Rattle.gq_trade.specs.declared.session.Spot.{Spot}
+use Rattle.gq_trade.specs.declared.session.Spot.TheVariants.{InLeaf, InSession, InObject}
+use Rattle.gq_trade.specs.Seen.{session_seen}
+use Rattle.gq_trade.specs.Trading.{Trading, AreOf, IsTrading, found, raised, session_at, session_in, Accepts, Begins, Opens, account_no, account_of}
+use Rattle.gq_trade.specs.Trading.{object_size, opened, server_of, with_requests, with_session}
 use Rattle.gq_trade.specs.Waiting.{AreApart, AreOther, clients_in}
 use Rattle.gq_slots.specs.Slots.{Slots, Frame, IsSpot, holder, memory_of, world_seen}
 use Rattle.gq_slots.specs.Calls.{Puts}
@@ -38,7 +38,7 @@ use Rattle.gq_slots.proofs.Spots.{server_set, session_same, slots_long, taken_se
 use Rattle.gq_slots.proofs.Changing.{IsCall, holder_same, kept_then, others_stay, puts_then, same_quotas, stays_raised}
 use Rattle.gq_slots.proofs.Paid.{HasHeap, heap_in}
 use Rattle.gq_slots.proofs.Again.{session_put, set_again}
-use Rattle.gq_sessions.proofs.Kept.{between_at}
+use Rattle.gq_trade.proofs.Sessions_kept.{between_at}
 use Rattle.gq_slots.proofs.Worlds.{session_there, set_there, some_same}
 use Rattle.gq_slots.proofs.Answering.{objects_set, of_parts, same_heap, sound_set}
 use Rattle.gq_slot_sessions.proofs.Asking.{map_set}

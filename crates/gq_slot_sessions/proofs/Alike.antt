@@ -18,7 +18,7 @@ use Rattle.gq_contents.specs.Kept.{AreThings, Blocks, Keeps, SameSeen, all_chunk
 use Rattle.gq_contents.specs.Paid.{cost, places_used, raised_by}
 use Rattle.gq_contents.proofs.Frames.{by_bytes, same_things}
 use Rattle.gq_contents.proofs.Peaks.{counts_same}
-use Rattle.gq_sessions.specs.Trading.{account_of, its_account}
+use Rattle.gq_trade.specs.Trading.{account_of, its_account}
 use Rattle.gq_slots.specs.Slots.{Slots, memory_of}
 use Rattle.gq_slots.specs.internal.Holds.{IsHolder, counted, held_by, things}
 use Rattle.gq_slots.proofs.Sums.{cost_same}

@@ -11,22 +11,22 @@ use Rattle.gq_heap.specs.Heap.{peaks}
 use Rattle.gq_ram.specs.Entries.{Entries, IsOpen}
 use Rattle.gq_ram.specs.Ledgers.{IsBalanced, Ledger, with_accounts}
 use Rattle.gq_ram.proofs.Moves.{used_kept}
-use Rattle.gq_memory.specs.Stores.{store_at}
-use Rattle.gq_numbered.specs.Numbers.{IsTaken, added, free_number}
-use Rattle.gq_requests.specs.declared.requests.Ask.{Ask}
-use Rattle.gq_requests.specs.declared.requests.Ask.TheVariants.{Open, Upgrade}
-use Rattle.gq_requests.specs.declared.requests.Request.{Request}
-use Rattle.gq_requests.specs.Seen.{ask_seen, request_seen}
+use Rattle.gq_trade.specs.Stores.{store_at}
+use Rattle.gq_trade.specs.Numbers.{IsTaken, added, free_number}
+use Rattle.gq_trade.specs.declared.requests.Ask.{Ask}
+use Rattle.gq_trade.specs.declared.requests.Ask.TheVariants.{Open, Upgrade}
+use Rattle.gq_trade.specs.declared.requests.Request.{Request}
+use Rattle.gq_trade.specs.Seen_requests.{ask_seen, request_seen}
 use Rattle.gq_contents.specs.declared.thing.Thing.{Thing}
 use Rattle.gq_contents.specs.declared.thing.Thing.TheVariants.{Empty, Block, Slice, Space, Pool, Link, Waiting}
 use Rattle.gq_contents.specs.Things.{seen}
-use Rattle.gq_sessions.specs.declared.session.Session.{Session}
-use Rattle.gq_sessions.specs.declared.session.Spot.{Spot}
-use Rattle.gq_sessions.specs.Seen.{seen_in, session_seen, sessions_seen, spot_seen}
-use Rattle.gq_sessions.specs.Trading.{Trading, AreOf, IsTrading, account_of, asked, client_of, fresh, node_of, server_of, session_at, session_in, store_of}
-use Rattle.gq_sessions.specs.Trading.{upgraded}
-use Rattle.gq_sessions.specs.Trading.{with_ask, with_more}
-use Rattle.gq_sessions.proofs.Definition.{asked_is, given_is, number_is}
+use Rattle.gq_trade.specs.declared.session.Session.{Session}
+use Rattle.gq_trade.specs.declared.session.Spot.{Spot}
+use Rattle.gq_trade.specs.Seen.{seen_in, session_seen, sessions_seen, spot_seen}
+use Rattle.gq_trade.specs.Trading.{Trading, AreOf, IsTrading, account_of, asked, client_of, fresh, node_of, server_of, session_at, session_in, store_of}
+use Rattle.gq_trade.specs.Trading.{upgraded}
+use Rattle.gq_trade.specs.Trading.{with_ask, with_more}
+use Rattle.gq_trade.proofs.Definition.{asked_is, given_is, number_is}
 use Rattle.gq_trade.specs.declared.node.Stage.TheVariants.{Live, Ended}
 use Rattle.gq_trade.specs.Trades.{Trades, IsLive, IsTrades, with_trading}
 use Rattle.gq_slots.specs.Slots.{Slots, Frame, leaves_seen, memory_of, world_seen}

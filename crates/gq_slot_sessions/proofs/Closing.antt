@@ -15,22 +15,22 @@ use Rattle.gq_ram.specs.declared.account.Account.{Account}
 use Rattle.gq_ram.specs.Entries.{IsOpen, account_at, its_account as the_account}
 use Rattle.gq_ram.specs.Ledgers.{IsBalanced}
 use Rattle.gq_ram.proofs.Moves.{used_kept}
-use Rattle.gq_memory.specs.Stores.{Memory}
-use Rattle.gq_numbered.specs.Numbers.{IsTaken}
-use Rattle.gq_requests.specs.declared.requests.Request.{Request}
+use Rattle.gq_trade.specs.Stores.{Memory}
+use Rattle.gq_trade.specs.Numbers.{IsTaken}
+use Rattle.gq_trade.specs.declared.requests.Request.{Request}
 use Rattle.gq_contents.specs.declared.thing.Thing.{Thing}
 use Rattle.gq_contents.specs.declared.thing.Thing.TheVariants.{Empty, Block, Slice, Space, Pool, Link, Waiting}
 use Rattle.gq_contents.specs.Kept.{Keeps}
 use Rattle.gq_contents.specs.Things.{IsSlice, IsThing, size_of}
 use Rattle.gq_contents.proofs.Lists.{each_front}
-use Rattle.gq_sessions.specs.declared.session.Session.{Session}
-use Rattle.gq_sessions.specs.declared.session.Spot.{Spot}
-use Rattle.gq_sessions.specs.declared.session.Spot.TheVariants.{InLeaf, InSession, InObject}
-use Rattle.gq_sessions.specs.Seen.{seen_in, session_seen, sessions_seen}
-use Rattle.gq_sessions.specs.Trading.{AreOfOthers, Closes, Frees, IsTrading, Trading, account_no, account_of, found, given, server_of, session_at}
-use Rattle.gq_sessions.specs.Trading.{session_in, store_of, with_memory, with_session, with_sessions}
-use Rattle.gq_sessions.proofs.Definition.{given_is}
-use Rattle.gq_sessions.proofs.Kept.{between_at}
+use Rattle.gq_trade.specs.declared.session.Session.{Session}
+use Rattle.gq_trade.specs.declared.session.Spot.{Spot}
+use Rattle.gq_trade.specs.declared.session.Spot.TheVariants.{InLeaf, InSession, InObject}
+use Rattle.gq_trade.specs.Seen.{seen_in, session_seen, sessions_seen}
+use Rattle.gq_trade.specs.Trading.{AreOfOthers, Closes, Frees, IsTrading, Trading, account_no, account_of, found, given, server_of, session_at}
+use Rattle.gq_trade.specs.Trading.{session_in, store_of, with_memory, with_session, with_sessions}
+use Rattle.gq_trade.proofs.Definition.{given_is}
+use Rattle.gq_trade.proofs.Sessions_kept.{between_at}
 use Rattle.gq_trade.specs.Trades.{IsTrades, Trades}
 use Rattle.gq_slots.specs.Slots.{Frame, IsSpot, Slots, holder, memory_of, thing_at, world_seen}
 use Rattle.gq_slots.specs.Calls.{Puts}

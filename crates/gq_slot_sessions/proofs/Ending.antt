@@ -12,18 +12,18 @@ use Rattle.gq_ram.specs.Entries.{Entries, IsOpen, account_at, its_account as the
 use Rattle.gq_ram.specs.Ledgers.{IsBalanced}
 use Rattle.gq_ram.specs.Trees.{number, parent}
 use Rattle.gq_ram.proofs.Moves.{used_kept}
-use Rattle.gq_memory.specs.Stores.{Memory, content_for}
-use Rattle.gq_memory.specs.Rest.{IsClosed}
-use Rattle.gq_numbered.specs.Numbers.{IsTaken}
+use Rattle.gq_trade.specs.Stores.{Memory, content_for}
+use Rattle.gq_trade.specs.Rest.{IsClosed}
+use Rattle.gq_trade.specs.Numbers.{IsTaken}
 use Rattle.gq_contents.specs.declared.thing.Thing.{Thing}
 use Rattle.gq_contents.specs.declared.thing.Thing.TheVariants.{Empty, Block, Slice, Space, Pool, Link, Waiting}
 use Rattle.gq_contents.specs.Things.{seen}
-use Rattle.gq_sessions.specs.declared.session.Session.{Session}
-use Rattle.gq_sessions.specs.declared.session.Spot.{Spot}
-use Rattle.gq_sessions.specs.declared.session.Spot.TheVariants.{InLeaf, InSession, InObject}
-use Rattle.gq_sessions.specs.Seen.{seen_in, session_seen}
-use Rattle.gq_sessions.specs.Trading.{AreBetween, IsTrading, Leaves, Trading, account_no, account_of, init_no, node_of, root_no, session_in, with_memory}
-use Rattle.gq_sessions.proofs.Closing.{closed_kept, gone, heir_now, other_entry}
+use Rattle.gq_trade.specs.declared.session.Session.{Session}
+use Rattle.gq_trade.specs.declared.session.Spot.{Spot}
+use Rattle.gq_trade.specs.declared.session.Spot.TheVariants.{InLeaf, InSession, InObject}
+use Rattle.gq_trade.specs.Seen.{seen_in, session_seen}
+use Rattle.gq_trade.specs.Trading.{AreBetween, IsTrading, Leaves, Trading, account_no, account_of, init_no, node_of, root_no, session_in, with_memory}
+use Rattle.gq_trade.proofs.Closing.{closed_kept, gone, heir_now, other_entry}
 use Rattle.gq_trade.specs.declared.node.Stage.TheVariants.{Ended}
 use Rattle.gq_trade.specs.Balances.{node_at}
 use Rattle.gq_trade.specs.Ends.{CanStart, Ends, HasNoSessions, follower, staged, started}

@@ -6,13 +6,13 @@ use Rattle.gq_model.specs.machine.Requests.{add_session, free_place}
 use Rattle.gq_model.specs.declared.program.Form.TheVariants as form
 use Rattle.gq_model.specs.machine.World as world
 use Rattle.gq_model.specs.machine.Step as step
-use Rattle.gq_requests.specs.declared.requests.Ask.{Ask}
-use Rattle.gq_requests.specs.declared.requests.Ask.TheVariants.{Open, Upgrade, Close, Call}
-use Rattle.gq_requests.specs.declared.requests.Request.{Request}
-use Rattle.gq_requests.specs.Seen.{request_seen}
-use Rattle.gq_sessions.specs.declared.session.Spot.{Spot}
-use Rattle.gq_sessions.specs.declared.session.Spot.TheVariants.{InLeaf, InSession, InObject}
-use Rattle.gq_sessions.specs.Trading.{Trading, Accepts, Closes, object_size}
+use Rattle.gq_trade.specs.declared.requests.Ask.{Ask}
+use Rattle.gq_trade.specs.declared.requests.Ask.TheVariants.{Open, Upgrade, Close, Call}
+use Rattle.gq_trade.specs.declared.requests.Request.{Request}
+use Rattle.gq_trade.specs.Seen_requests.{request_seen}
+use Rattle.gq_trade.specs.declared.session.Spot.{Spot}
+use Rattle.gq_trade.specs.declared.session.Spot.TheVariants.{InLeaf, InSession, InObject}
+use Rattle.gq_trade.specs.Trading.{Trading, Accepts, Closes, object_size}
 use Rattle.gq_trade.specs.Ends.{Ends}
 use Rattle.gq_trade.specs.Trades.{with_trading}
 use Rattle.gq_slots.specs.Slots.{Slots, Frame, IsSpot, holder, world_seen}

@@ -2,7 +2,7 @@
 //! closed, and leaves that are no more.
 //!
 //! ```rust
-//! use gq_sessions::Spot;
+//! use gq_trade::Spot;
 //! use gq_slot_sessions::{leaves, sessions};
 //!
 //! // The leaf 1 opens a session to the leaf 0, which takes the request; then the session is closed, and the client ends.

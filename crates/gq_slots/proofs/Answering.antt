@@ -10,18 +10,18 @@ use Rattle.gq_model.specs.machine.World as world
 use Rattle.gq_store.specs.Store.{Store}
 use Rattle.gq_heap.specs.declared.heap.Heap.{Heap}
 use Rattle.gq_heap.specs.Heap.{peaks}
-use Rattle.gq_memory.specs.Stores.{Memory, store_at, store_of as store_of_memory}
-use Rattle.gq_memory.specs.Rest.{SameRest}
-use Rattle.gq_requests.specs.declared.requests.Request.{Request}
+use Rattle.gq_trade.specs.Stores.{Memory, store_at, store_of as store_of_memory}
+use Rattle.gq_trade.specs.Rest.{SameRest}
+use Rattle.gq_trade.specs.declared.requests.Request.{Request}
 use Rattle.gq_contents.specs.declared.thing.Thing.{Thing}
 use Rattle.gq_contents.specs.declared.thing.Thing.TheVariants.{Empty}
 use Rattle.gq_contents.specs.Things.{added, entry_in, seen, with_entry}
 use Rattle.gq_contents.specs.Kept.{Changes, IsAmong, Keeps}
 use Rattle.gq_contents.specs.Paid.{Pays, Raises, places_used, raised_by}
-use Rattle.gq_sessions.specs.declared.session.Session.{Session}
-use Rattle.gq_sessions.specs.declared.session.Spot.{Spot}
-use Rattle.gq_sessions.specs.declared.session.Spot.TheVariants.{InLeaf, InSession, InObject}
-use Rattle.gq_sessions.specs.Trading.{IsTrading, Trading, account_of, session_at, session_in, with_memory, with_session, with_slot}
+use Rattle.gq_trade.specs.declared.session.Session.{Session}
+use Rattle.gq_trade.specs.declared.session.Spot.{Spot}
+use Rattle.gq_trade.specs.declared.session.Spot.TheVariants.{InLeaf, InSession, InObject}
+use Rattle.gq_trade.specs.Trading.{IsTrading, Trading, account_of, session_at, session_in, with_memory, with_session, with_slot}
 use Rattle.gq_trade.specs.Trades.{Trades, SameButMemory, with_trading}
 use Rattle.gq_slots.specs.Slots.{Slots, IsHeapOf, IsPaidBy, IsSlot, IsSpot, holder, memory_of, slot_of, thing_at}
 use Rattle.gq_slots.specs.Calls.{Puts, Settles}

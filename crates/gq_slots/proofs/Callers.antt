@@ -1,7 +1,7 @@
 -- What is known after a call, for who calls again.
 use Rattle.std.proofs.Common.{get_or, sym, ◌∙◌}
 use Rattle.gq_ram.specs.Trees.{number}
-use Rattle.gq_sessions.specs.declared.session.Spot.{Spot}
+use Rattle.gq_trade.specs.declared.session.Spot.{Spot}
 use Rattle.gq_slots.specs.Slots.{Slots, IsPaidBy, holder}
 use Rattle.gq_slots.specs.Calls.{SameBeside}
 

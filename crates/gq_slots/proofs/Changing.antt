@@ -14,16 +14,16 @@ use Rattle.gq_ram.specs.declared.account.AccountNo.{AccountNo}
 use Rattle.gq_ram.specs.Ledgers.{Ledger}
 use Rattle.gq_heap.specs.declared.heap.Heap.{Heap}
 use Rattle.gq_heap.specs.Heap.{peaks}
-use Rattle.gq_memory.specs.Stores.{Memory, store_at}
-use Rattle.gq_memory.specs.Rest.{SameRest}
+use Rattle.gq_trade.specs.Stores.{Memory, store_at}
+use Rattle.gq_trade.specs.Rest.{SameRest}
 use Rattle.gq_contents.specs.declared.thing.Thing.{Thing}
 use Rattle.gq_contents.specs.Things.{seen}
 use Rattle.gq_contents.specs.Kept.{Keeps, KeepsBeside, Changes}
 use Rattle.gq_contents.specs.Paid.{cost, cost_with, Pays, places_used, raised_by}
-use Rattle.gq_sessions.specs.declared.session.Spot.{Spot}
-use Rattle.gq_sessions.specs.declared.session.Spot.TheVariants.{InLeaf, InSession, InObject}
-use Rattle.gq_sessions.specs.Seen.{spot_seen}
-use Rattle.gq_sessions.specs.Trading.{Trading, AreBetween, IsTrading, account_of, its_account}
+use Rattle.gq_trade.specs.declared.session.Spot.{Spot}
+use Rattle.gq_trade.specs.declared.session.Spot.TheVariants.{InLeaf, InSession, InObject}
+use Rattle.gq_trade.specs.Seen.{spot_seen}
+use Rattle.gq_trade.specs.Trading.{Trading, AreBetween, IsTrading, account_of, its_account}
 use Rattle.gq_slots.specs.Slots.{Slots, Frame, IsSpot, IsHeapOf, memory_of, holder, thing_at, world_seen, leaf_seen, settled_in}
 use Rattle.gq_slots.specs.Slots.{raised_in}
 use Rattle.gq_slots.specs.Calls.{Puts, SameAccounts, SameBeside, Settles}

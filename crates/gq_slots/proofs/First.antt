@@ -8,13 +8,13 @@ use Rattle.gq_model.specs.machine.Prices.{heap as class_prices}
 use Rattle.gq_store.specs.Store.{Store, plus_caps}
 use Rattle.gq_heap.specs.declared.heap.Heap.{Heap}
 use Rattle.gq_ram.specs.Entries.{no_amount}
-use Rattle.gq_numbered.specs.Numbers.{IsTaken}
+use Rattle.gq_trade.specs.Numbers.{IsTaken}
 use Rattle.gq_contents.specs.declared.thing.Thing.TheVariants.{Empty}
 use Rattle.gq_contents.specs.Kept.{Keeps}
 use Rattle.gq_contents.specs.Paid.{cost, places_used, raised_by}
 use Rattle.gq_contents.proofs.Callers.{empty_kept}
-use Rattle.gq_sessions.specs.Trading.{its_account, node_of}
-use Rattle.gq_sessions.specs.declared.session.Session.{Session}
+use Rattle.gq_trade.specs.Trading.{its_account, node_of}
+use Rattle.gq_trade.specs.declared.session.Session.{Session}
 use Rattle.gq_trade.specs.declared.node.Node.{Node}
 use Rattle.gq_trade.specs.Plans.{IsFirst, IsPlan}
 use Rattle.gq_slots.specs.Slots.{AreNew, IsNew, Slots, memory_of}

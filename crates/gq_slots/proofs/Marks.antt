@@ -11,8 +11,8 @@ use Rattle.gq_contents.specs.declared.thing.Thing.TheVariants.{Empty, Block, Sli
 use Rattle.gq_contents.specs.Things.{seen}
 use Rattle.gq_contents.specs.Paid.{Pays}
 use Rattle.gq_contents.proofs.Calls.{HoldsNone, empty_holds, link_holds, none_holds, waiting_holds}
-use Rattle.gq_sessions.specs.declared.session.Spot.{Spot}
-use Rattle.gq_sessions.specs.Trading.{IsTrading}
+use Rattle.gq_trade.specs.declared.session.Spot.{Spot}
+use Rattle.gq_trade.specs.Trading.{IsTrading}
 use Rattle.gq_trade.specs.Trades.{Trades, with_trading}
 use Rattle.gq_slots.specs.Slots.{Slots, IsHeapOf, IsMark, IsSlot, IsSpot, holder, memory_of, thing_at}
 use Rattle.gq_slots.specs.Calls.{Puts}

@@ -11,7 +11,7 @@ use Rattle.gq_heap.specs.declared.heap.Heap.{Heap}
 use Rattle.gq_heap.specs.Heap.{peaks}
 use Rattle.gq_ram.specs.Ledgers.{IsBalanced}
 use Rattle.gq_contents.specs.declared.thing.Thing.{Thing}
-use Rattle.gq_sessions.specs.Trading.{account_of, its_account}
+use Rattle.gq_trade.specs.Trading.{account_of, its_account}
 use Rattle.gq_slots.specs.Slots.{Slots, Frame, IsPaidFor, leaf_seen, leaves_seen, memory_of, world_seen}
 use Rattle.gq_slots.specs.internal.Holds.{IsHolder, IsSlots, held_by}
 use Rattle.gq_slots.proofs.Sums.{held_is, raised_is}

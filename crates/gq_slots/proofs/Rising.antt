@@ -26,10 +26,10 @@ use Rattle.gq_contents.specs.Kept.{Keeps}
 use Rattle.gq_contents.specs.Paid.{places_used, raised_by}
 use Rattle.gq_contents.proofs.Lists.{each_front}
 use Rattle.gq_contents.proofs.Peaks.{counts_are, raised_is}
-use Rattle.gq_sessions.specs.declared.session.Spot.{Spot}
-use Rattle.gq_sessions.specs.declared.session.Spot.TheVariants.{InLeaf, InSession, InObject}
-use Rattle.gq_sessions.specs.Trading.{IsTrading}
-use Rattle.gq_sessions.proofs.Kept.{between_at}
+use Rattle.gq_trade.specs.declared.session.Spot.{Spot}
+use Rattle.gq_trade.specs.declared.session.Spot.TheVariants.{InLeaf, InSession, InObject}
+use Rattle.gq_trade.specs.Trading.{IsTrading}
+use Rattle.gq_trade.proofs.Sessions_kept.{between_at}
 use Rattle.gq_slots.specs.Slots.{AreRises, AreSmallEntries, IsSpot, Slots, holder, leaf_seen, memory_of, one_more_of, rise_of, thing_at, world_seen}
 use Rattle.gq_slots.specs.internal.Holds.{IsHolder, IsSlots, things}
 use Rattle.gq_slots.proofs.Paid.{heap_in, leaf_below, some_is}

@@ -15,8 +15,8 @@ use Rattle.gq_contents.specs.Things.{seen}
 use Rattle.gq_contents.specs.Kept.{SameSeen}
 use Rattle.gq_contents.specs.Paid.{cost, places_used, raised_by}
 use Rattle.gq_contents.proofs.Peaks.{counts_append, counts_same}
-use Rattle.gq_sessions.specs.declared.session.Session.{Session}
-use Rattle.gq_sessions.specs.Seen.{seen_in, session_seen}
+use Rattle.gq_trade.specs.declared.session.Session.{Session}
+use Rattle.gq_trade.specs.Seen.{seen_in, session_seen}
 use Rattle.gq_slots.specs.Slots.{Slots, Frame, leaf_seen, memory_of, world_seen}
 use Rattle.gq_slots.specs.internal.Holds.{AreObjects, IsObject, held_by, session_things, things, things_of}
 

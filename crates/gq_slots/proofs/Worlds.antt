@@ -8,17 +8,17 @@ use Rattle.gq_model.specs.machine.World as world
 use Rattle.gq_store.specs.Store.{Store}
 use Rattle.gq_heap.specs.declared.heap.Heap.{Heap}
 use Rattle.gq_heap.specs.Heap.{peaks}
-use Rattle.gq_memory.specs.Stores.{Memory, store_at}
-use Rattle.gq_numbered.specs.Numbers.{IsTaken}
+use Rattle.gq_trade.specs.Stores.{Memory, store_at}
+use Rattle.gq_trade.specs.Numbers.{IsTaken}
 use Rattle.gq_contents.specs.declared.thing.Thing.{Thing}
 use Rattle.gq_contents.specs.declared.thing.Thing.TheVariants.{Empty}
 use Rattle.gq_contents.specs.Things.{seen}
 use Rattle.gq_contents.specs.Kept.{SameSeen}
-use Rattle.gq_sessions.specs.declared.session.Session.{Session}
-use Rattle.gq_sessions.specs.declared.session.Spot.{Spot}
-use Rattle.gq_sessions.specs.declared.session.Spot.TheVariants.{InLeaf, InSession, InObject}
-use Rattle.gq_sessions.specs.Seen.{seen_in, session_seen, spot_seen}
-use Rattle.gq_sessions.specs.Trading.{account_of, AreBetween, session_in, with_slot}
+use Rattle.gq_trade.specs.declared.session.Session.{Session}
+use Rattle.gq_trade.specs.declared.session.Spot.{Spot}
+use Rattle.gq_trade.specs.declared.session.Spot.TheVariants.{InLeaf, InSession, InObject}
+use Rattle.gq_trade.specs.Seen.{seen_in, session_seen, spot_seen}
+use Rattle.gq_trade.specs.Trading.{account_of, AreBetween, session_in, with_slot}
 use Rattle.gq_slots.specs.Slots.{Slots, Frame, IsSpot, IsHeapOf, holder, leaf_seen, leaves_seen, memory_of, slot_of, world_seen}
 use Rattle.gq_slots.specs.internal.Holds.{AreLong, session_things, things_of}
 use Rattle.gq_slots.specs.internal.Put.{peaks_in, put, with_object, with_peaks_at, with_store}

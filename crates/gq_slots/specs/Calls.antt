@@ -2,9 +2,9 @@
 use Rattle.std.specs.Prelude.{◌≡◌, ℕ}
 use Rattle.gq_model.specs.machine.World as world
 use Rattle.gq_ram.specs.Entries.{account_at}
-use Rattle.gq_sessions.specs.declared.session.Spot.{Spot}
-use Rattle.gq_sessions.specs.Seen.{spot_seen}
-use Rattle.gq_sessions.specs.Trading.{Trading}
+use Rattle.gq_trade.specs.declared.session.Spot.{Spot}
+use Rattle.gq_trade.specs.Seen.{spot_seen}
+use Rattle.gq_trade.specs.Trading.{Trading}
 use Rattle.gq_slots.specs.Slots.{Slots, Frame, IsSpot, holder, settled_in, world_seen}
 
 -- the tree with its quotas, and who pays, stay

@@ -8,20 +8,20 @@ use Rattle.gq_model.specs.machine.Sums.{held, places, with_peaks}
 use Rattle.gq_store.specs.Store.{Store}
 use Rattle.gq_heap.specs.declared.heap.Heap.{Heap}
 use Rattle.gq_heap.specs.Heap.{Keeps, peaks, rise, rise_caps}
-use Rattle.gq_numbered.specs.Numbers.{IsTaken}
-use Rattle.gq_requests.specs.declared.requests.Ask.{Ask}
-use Rattle.gq_requests.specs.declared.requests.Ask.TheVariants as ask
-use Rattle.gq_requests.specs.declared.requests.Request.{Request}
-use Rattle.gq_requests.specs.Seen.{request_seen}
+use Rattle.gq_trade.specs.Numbers.{IsTaken}
+use Rattle.gq_trade.specs.declared.requests.Ask.{Ask}
+use Rattle.gq_trade.specs.declared.requests.Ask.TheVariants as ask
+use Rattle.gq_trade.specs.declared.requests.Request.{Request}
+use Rattle.gq_trade.specs.Seen_requests.{request_seen}
 use Rattle.gq_contents.specs.declared.thing.Thing.{Thing}
 use Rattle.gq_contents.specs.declared.thing.Thing.TheVariants.{Empty, Block, Slice, Space, Pool, Link, Waiting}
 use Rattle.gq_contents.specs.Things.{entry_size, seen}
 use Rattle.gq_contents.specs.Paid.{raised_by}
-use Rattle.gq_sessions.specs.declared.session.Spot.{Spot}
-use Rattle.gq_sessions.specs.declared.session.Spot.TheVariants.{InLeaf, InSession, InObject}
-use Rattle.gq_sessions.specs.Seen.{sessions_seen, spot_seen}
-use Rattle.gq_sessions.specs.declared.session.Session.{Session}
-use Rattle.gq_sessions.specs.Trading.{Trading, session_at, session_in, server_of, store_of, account_no, its_account}
+use Rattle.gq_trade.specs.declared.session.Spot.{Spot}
+use Rattle.gq_trade.specs.declared.session.Spot.TheVariants.{InLeaf, InSession, InObject}
+use Rattle.gq_trade.specs.Seen.{sessions_seen, spot_seen}
+use Rattle.gq_trade.specs.declared.session.Session.{Session}
+use Rattle.gq_trade.specs.Trading.{Trading, session_at, session_in, server_of, store_of, account_no, its_account}
 use Rattle.gq_trade.specs.Trades.{Trades}
 
 -- sessions over accounts, and of each leaf its own slots and its heap

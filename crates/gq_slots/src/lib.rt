@@ -1,7 +1,7 @@
 //! What every slot of a scenario holds, in the memory of the leaf that pays for it: the slots of its leaves, those of its sessions, and their objects.
 //!
 //! ```rust
-//! use gq_sessions::Spot;
+//! use gq_trade::Spot;
 //! use gq_slots::Slots;
 //!
 //! // Accounts for the nodes of a plan, as `gq_trade` has them.

@@ -5,7 +5,7 @@ ghost use Rattle.gq_trade.specs.Trades.{with_trading};
 ghost use Rattle.gq_slots.specs.Slots.{IsSlot, IsSpot, thing_at};
 ghost use Rattle.gq_slots.specs.internal.Put.{put_own, put_trading};
 
-use gq_sessions::Spot;
+use gq_trade::Spot;
 use gq_contents::Thing;
 use gq_trade::Trades;
 

@@ -14,9 +14,9 @@ use Rattle.gq_contents.specs.declared.thing.Thing.{Thing}
 use Rattle.gq_contents.specs.declared.thing.Thing.TheVariants.{Empty, Block, Slice, Space, Pool, Link, Waiting}
 use Rattle.gq_contents.specs.Things.{entry_count, entry_in, entry_size, removed, seen, shape_of, with_entry}
 use Rattle.gq_contents.proofs.Paying.{entries_long}
-use Rattle.gq_sessions.specs.declared.session.Spot.{Spot}
-use Rattle.gq_sessions.specs.declared.session.Spot.TheVariants.{InLeaf}
-use Rattle.gq_sessions.specs.Seen.{spot_seen}
+use Rattle.gq_trade.specs.declared.session.Spot.{Spot}
+use Rattle.gq_trade.specs.declared.session.Spot.TheVariants.{InLeaf}
+use Rattle.gq_trade.specs.Seen.{spot_seen}
 use Rattle.gq_slots.specs.Slots.{AreRead, Frame, IsSpot, Slots, holder, memory_of, slot_of, thing_at, world_seen}
 use Rattle.gq_slots.specs.Calls.{Puts}
 use Rattle.gq_slots.proofs.Worlds.{set_there}

@@ -11,8 +11,8 @@ use Rattle.gq_store.specs.Store.{Store}
 use Rattle.gq_contents.specs.declared.thing.Thing.{Thing}
 use Rattle.gq_contents.specs.declared.thing.Thing.TheVariants.{Empty, Block, Slice, Space, Pool, Link, Waiting}
 use Rattle.gq_contents.specs.Things.{bytes_in, seen}
-use Rattle.gq_sessions.specs.declared.session.Spot.{Spot}
-use Rattle.gq_sessions.specs.Seen.{spot_seen}
+use Rattle.gq_trade.specs.declared.session.Spot.{Spot}
+use Rattle.gq_trade.specs.Seen.{spot_seen}
 use Rattle.gq_slots.specs.Slots.{Frame, Slots, holder, memory_of, thing_at, world_seen}
 use Rattle.gq_addresses.specs.Addresses.{AreBuffers, place_seen}
 use Rattle.gq_model.specs.machine.Scenario.{System}

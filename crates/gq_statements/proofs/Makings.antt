@@ -12,8 +12,8 @@ use Rattle.gq_store.specs.Store.{Store}
 use Rattle.gq_contents.specs.declared.thing.Thing.{Thing}
 use Rattle.gq_contents.specs.declared.thing.Thing.TheVariants.{Empty, Block, Slice, Space, Pool, Link, Waiting}
 use Rattle.gq_contents.specs.Things.{seen}
-use Rattle.gq_sessions.specs.declared.session.Spot.{Spot}
-use Rattle.gq_sessions.specs.Seen.{spot_seen}
+use Rattle.gq_trade.specs.declared.session.Spot.{Spot}
+use Rattle.gq_trade.specs.Seen.{spot_seen}
 use Rattle.gq_trade.specs.Balances.{node_at}
 use Rattle.gq_slots.specs.Slots.{Frame, IsSlot, IsSpot, Slots, holder, memory_of, raised_in, settled_in, world_seen}
 use Rattle.gq_slots.specs.Calls.{SameBeside, Settles}

@@ -10,8 +10,8 @@ use Rattle.gq_model.specs.machine.Doing.{Doing, Quiet, Stepped, on_stack, pop, s
 use Rattle.gq_model.specs.declared.fault.Wrong.TheVariants.{UnmappedByte, WrongKind}
 use Rattle.gq_model.specs.machine.Memory.{bytes_at, load, store}
 use Rattle.gq_contents.specs.Things.{bytes_in, put_in, size_of}
-use Rattle.gq_sessions.specs.declared.session.Spot.{Spot}
-use Rattle.gq_sessions.specs.Seen.{spot_seen}
+use Rattle.gq_trade.specs.declared.session.Spot.{Spot}
+use Rattle.gq_trade.specs.Seen.{spot_seen}
 use Rattle.gq_slots.specs.Slots.{Frame, Slots, holder, memory_of, slot_of, thing_at, world_seen}
 use Rattle.gq_slots.specs.Calls.{Puts}
 use Rattle.gq_addresses.proofs.Founds.{length_seen}

@@ -11,7 +11,7 @@ use Rattle.gq_contents.specs.Things.{added, entry_count, entry_in, entry_size, w
 use Rattle.gq_store.specs.declared.GrowFault.{GrowFault}
 use Rattle.gq_store.specs.declared.GrowFault.TheVariants.{Exceeded, CapsExceeded}
 use Rattle.gq_contents.specs.declared.thing.Thing.TheVariants as thing
-use Rattle.gq_sessions.specs.declared.session.Spot.{Spot}
+use Rattle.gq_trade.specs.declared.session.Spot.{Spot}
 use Rattle.gq_slots.specs.Slots.{IsHeapOf, IsSlot, IsSpot, Slots, holder, memory_of, slot_of, thing_at}
 use Rattle.gq_paid.specs.Systems.{AreLawful}
 use Rattle.gq_paid.proofs.Made.{unpaid_made}

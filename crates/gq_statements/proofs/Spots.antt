@@ -1,12 +1,12 @@
 -- Who pays for the bytes that a statement names.
 use Rattle.std.proofs.Common.{◌≡◌, ℕ, Bool, true, false, cond, eqb, List, length, Some, None, refl, subst}
-use Rattle.gq_numbered.specs.Numbers.{IsTaken}
+use Rattle.gq_trade.specs.Numbers.{IsTaken}
 use Rattle.gq_contents.specs.declared.thing.Thing.{Thing}
 use Rattle.gq_contents.specs.declared.thing.Thing.TheVariants.{Empty, Block, Slice, Space, Pool, Link, Waiting}
-use Rattle.gq_sessions.specs.declared.session.Spot.{Spot}
-use Rattle.gq_sessions.specs.declared.session.Spot.TheVariants.{InSession}
-use Rattle.gq_sessions.specs.Trading.{IsTrading}
-use Rattle.gq_sessions.proofs.Kept.{between_at}
+use Rattle.gq_trade.specs.declared.session.Spot.{Spot}
+use Rattle.gq_trade.specs.declared.session.Spot.TheVariants.{InSession}
+use Rattle.gq_trade.specs.Trading.{IsTrading}
+use Rattle.gq_trade.proofs.Sessions_kept.{between_at}
 use Rattle.gq_trade.specs.Trades.{IsLive, IsTrades}
 use Rattle.gq_slots.specs.Slots.{Slots, holder}
 use Rattle.gq_addresses.specs.Addresses.{buffer_at, place_in}

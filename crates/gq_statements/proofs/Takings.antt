@@ -8,8 +8,8 @@ use Rattle.gq_model.specs.machine.Doing.{Doing, Quiet, Stepped, need, on_stack, 
 use Rattle.gq_model.specs.declared.fault.Wrong.TheVariants.{ExceededQuota, UnmappedByte, WrongKind}
 use Rattle.gq_model.specs.machine.Memory.{if_absent, pool_at, take_entry}
 use Rattle.gq_contents.specs.Things.{added, entry_count, entry_in, with_entry}
-use Rattle.gq_sessions.specs.declared.session.Spot.{Spot}
-use Rattle.gq_sessions.specs.Seen.{spot_seen}
+use Rattle.gq_trade.specs.declared.session.Spot.{Spot}
+use Rattle.gq_trade.specs.Seen.{spot_seen}
 use Rattle.gq_slots.specs.Slots.{Frame, IsSlot, IsSpot, Slots, holder, raised_in, settled_in, slot_of, thing_at, world_seen}
 use Rattle.gq_slots.specs.Calls.{Settles}
 use Rattle.gq_slots.proofs.Worlds.{set_there}

@@ -4,10 +4,10 @@ use Rattle.gq_tariff.specs.Prices.{up}
 use Rattle.gq_model.specs.machine.World as world
 use Rattle.gq_model.specs.machine.Doing.{Doing, Quiet, Stepped, on_stack, standing, with_operands}
 use Rattle.gq_model.specs.declared.fault.Wrong.{Wrong}
-use Rattle.gq_numbered.specs.Numbers.{IsTaken}
-use Rattle.gq_sessions.specs.Trading.{server_of}
-use Rattle.gq_sessions.specs.declared.session.Spot.{Spot}
-use Rattle.gq_sessions.specs.declared.session.Spot.TheVariants.{InLeaf}
+use Rattle.gq_trade.specs.Numbers.{IsTaken}
+use Rattle.gq_trade.specs.Trading.{server_of}
+use Rattle.gq_trade.specs.declared.session.Spot.{Spot}
+use Rattle.gq_trade.specs.declared.session.Spot.TheVariants.{InLeaf}
 use Rattle.gq_contents.specs.declared.thing.Thing.{Thing}
 use Rattle.gq_contents.specs.declared.thing.Thing.TheVariants as thing
 use Rattle.gq_slots.specs.Slots.{Frame, IsSpot, Slots, thing_at, world_seen}

@@ -7,7 +7,7 @@ ghost use Rattle.gq_addresses.specs.Addresses.{place_seen};
 ghost use Rattle.gq_statements.specs.Statements.{IsAtHand, hand_seen};
 
 use gq_model::program::{Place, Section};
-use gq_sessions::Spot;
+use gq_trade::Spot;
 
 /// The session whose request a leaf has at hand, and the section that it does for it.
 #[derive(Clone, Copy)]

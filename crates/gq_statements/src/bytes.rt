@@ -19,7 +19,7 @@ use crate::actor::Actor;
 use gq_addresses::Addresses;
 use gq_model::fault::Wrong;
 use gq_model::program::{Place, Width};
-use gq_sessions::Spot;
+use gq_trade::Spot;
 use gq_slots::Slots;
 use gq_contents::Thing;
 

@@ -7,8 +7,8 @@ ghost use Rattle.gq_model.specs.machine.World.{Pool, slot_at};
 ghost use Rattle.gq_model.specs.texts.Operands.{is_slot};
 ghost use Rattle.gq_trade.specs.Trades.{IsLive};
 ghost use Rattle.gq_slots.specs.Slots.{Frame, IsPaidBy, IsSlot, IsSpot, holder, slot_of, thing_at, world_seen};
-ghost use Rattle.gq_sessions.specs.Seen.{spot_seen};
-ghost use Rattle.gq_sessions.specs.declared.session.Spot.TheVariants.{InLeaf};
+ghost use Rattle.gq_trade.specs.Seen.{spot_seen};
+ghost use Rattle.gq_trade.specs.declared.session.Spot.TheVariants.{InLeaf};
 ghost use Rattle.gq_slots.specs.Calls.{SameBeside};
 ghost use Rattle.gq_contents.specs.Things.{entry_count, entry_size};
 ghost use Rattle.gq_statements.specs.declared.actor.Hand.{Hand};
@@ -18,7 +18,7 @@ ghost use Rattle.gq_statements.specs.internal.Found.{IsPool, entries_in};
 use crate::actor::Actor;
 use gq_model::fault::Wrong;
 use gq_model::program::Place;
-use gq_sessions::Spot;
+use gq_trade::Spot;
 use gq_slots::Slots;
 
 impl Actor {

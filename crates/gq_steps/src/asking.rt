@@ -7,7 +7,7 @@ ghost use Rattle.gq_model.specs.texts.Operands.{is_slot};
 ghost use Rattle.gq_registers.specs.Layout.{instruction_in};
 ghost use Rattle.gq_steps.specs.Statements.{slot_named};
 ghost use Rattle.gq_registers.specs.declared.operation.Operation.TheVariants as operation;
-ghost use Rattle.gq_numbered.specs.Numbers.{free_number};
+ghost use Rattle.gq_trade.specs.Numbers.{free_number};
 ghost use Rattle.gq_trade.specs.Trades.{IsLive};
 ghost use Rattle.gq_trade.specs.Waiting.{IsIdle};
 ghost use Rattle.gq_statements.specs.Statements.{IsAtHand, done};

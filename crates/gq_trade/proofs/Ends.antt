@@ -1,5 +1,5 @@
 -- What holds in a `Trades` once a request is accepted, and once a session is closed.
-use Rattle.gq_sessions.specs.declared.session.Session.{Session}
+use Rattle.gq_trade.specs.declared.session.Session.{Session}
 use Rattle.std.proofs.Common.{◌≡◌, ℕ, ◌+◌, ◌<◌, ◌≤◌, inl, inr, List, set, Option, Some, None, Result, Ok, Err, IfOk, OnOk, OnErr, IfSome, IfNone, IsErrOf}
 use Rattle.std.proofs.Common.{ap, get_or}
 use Rattle.std.proofs.Common.{◌↔◌, refl, sym, subst, ◌∙◌, arith}
@@ -9,27 +9,27 @@ use Rattle.gq_ram.specs.declared.account.Account.{Account}
 use Rattle.gq_ram.specs.Entries.{account_at, available_caps}
 use Rattle.gq_ram.specs.Trees.{AreNodes}
 use Rattle.gq_store.specs.Store.{one_more}
-use Rattle.gq_memory.specs.Stores.{Memory, caps_left}
-use Rattle.gq_memory.specs.internal.Rests.{rest_refl}
-use Rattle.gq_numbered.specs.Numbers.{IsTaken}
-use Rattle.gq_requests.specs.declared.requests.Ask.{Ask}
-use Rattle.gq_requests.specs.declared.requests.Ask.TheVariants.{Open, Upgrade, Close, Call}
-use Rattle.gq_requests.specs.declared.requests.Request.{Request}
-use Rattle.gq_requests.specs.Queues.{oldest_to}
-use Rattle.gq_sessions.specs.Trading.{Trading, IsTrading, Accepts, Begins, Closes, account_no, account_of, bytes_then, caps_then}
-use Rattle.gq_sessions.specs.Trading.{node_of, opened, raised, server_of, session_at, with_memory, with_requests}
-use Rattle.gq_sessions.proofs.Kept.{rest_kept, taken_from}
+use Rattle.gq_trade.specs.Stores.{Memory, caps_left}
+use Rattle.gq_trade.specs.internal.Rests.{rest_refl}
+use Rattle.gq_trade.specs.Numbers.{IsTaken}
+use Rattle.gq_trade.specs.declared.requests.Ask.{Ask}
+use Rattle.gq_trade.specs.declared.requests.Ask.TheVariants.{Open, Upgrade, Close, Call}
+use Rattle.gq_trade.specs.declared.requests.Request.{Request}
+use Rattle.gq_trade.specs.Queues.{oldest_to}
+use Rattle.gq_trade.specs.Trading.{Trading, IsTrading, Accepts, Begins, Closes, account_no, account_of, bytes_then, caps_then}
+use Rattle.gq_trade.specs.Trading.{node_of, opened, raised, server_of, session_at, with_memory, with_requests}
+use Rattle.gq_trade.proofs.Sessions_kept.{rest_kept, taken_from}
 use Rattle.gq_trade.specs.Balances.{quota}
 use Rattle.gq_trade.specs.Trades.{Trades, IsTrades, IsSettled, with_trading}
 use Rattle.gq_trade.proofs.Evens.{ram_kind, caps_kind, closed_even, rest_quota}
-use Rattle.gq_sessions.specs.Trading.{AreOfOthers}
+use Rattle.gq_trade.specs.Trading.{AreOfOthers}
 use Rattle.gq_trade.specs.Waiting.{AreApart, IsBounded, is_upgrade, upgrades}
 use Rattle.gq_trade.proofs.Waiting.{clients_unset, taken_apart, taken_upgrades}
 use Rattle.std.specs.Prelude.{is_some}
 use Rattle.std.proofs.lemmas.Bool.{cases_eq}
 use Rattle.std.proofs.lemmas.List.{get_or-set_same, get_or-set_other}
-use Rattle.gq_numbered.proofs.Lowest.{taken_there}
-use Rattle.gq_sessions.specs.Trading.{found, session_in}
+use Rattle.gq_trade.proofs.Lowest.{taken_there}
+use Rattle.gq_trade.specs.Trading.{found, session_in}
 use Rattle.gq_trade.specs.Balances.{for_node}
 use Rattle.gq_trade.proofs.Evens.{for_same, for_other}
 use Rattle.gq_trade.proofs.Settled.{each_set}

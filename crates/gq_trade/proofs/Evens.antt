@@ -7,12 +7,12 @@ use Rattle.gq_ram.specs.declared.account.Account.{Account}
 use Rattle.gq_ram.specs.Entries.{Entries, account_at, its_account, no_amount, with_caps, with_quota, IsOpen}
 use Rattle.gq_ram.specs.Trees.{Tree, AreNodes, account_of as account_in, donated, number, less, more}
 use Rattle.gq_ram.proofs.Moves.{giver_now, taker_now, other_now}
-use Rattle.gq_numbered.specs.Numbers.{IsTaken}
-use Rattle.gq_memory.specs.Stores.{Memory}
-use Rattle.gq_memory.specs.Rest.{SameRest}
-use Rattle.gq_sessions.specs.declared.session.Session.{Session}
-use Rattle.gq_sessions.specs.Trading.{Trading, account_of, asked, client_of, node_of, given, server_of, session_at, upgraded, with_memory, with_more}
-use Rattle.gq_sessions.specs.Trading.{with_session, with_sessions}
+use Rattle.gq_trade.specs.Numbers.{IsTaken}
+use Rattle.gq_trade.specs.Stores.{Memory}
+use Rattle.gq_trade.specs.Rest.{SameRest}
+use Rattle.gq_trade.specs.declared.session.Session.{Session}
+use Rattle.gq_trade.specs.Trading.{Trading, account_of, asked, client_of, node_of, given, server_of, session_at, upgraded, with_memory, with_more}
+use Rattle.gq_trade.specs.Trading.{with_session, with_sessions}
 use Rattle.gq_trade.specs.declared.node.Node.{Node}
 use Rattle.gq_trade.specs.Balances.{IsEven, for_node, lent_for, quota, received_for}
 use Rattle.gq_trade.proofs.Sums.{sum_added, sum_set}

@@ -10,7 +10,7 @@ use Rattle.gq_ram.specs.Ledgers.{Ledger, first_ledger, price_where}
 use Rattle.gq_ram.specs.Trees.{Tree, account_of, number, parent}
 use Rattle.gq_ram.specs.Handing.{spent}
 use Rattle.gq_ram.specs.Opening.{IsOpened}
-use Rattle.gq_memory.specs.Stores.{Memory}
+use Rattle.gq_trade.specs.Stores.{Memory}
 use Rattle.gq_trade.specs.declared.node.Node.{Node}
 use Rattle.gq_trade.specs.declared.node.Stage.{Stage}
 use Rattle.gq_trade.specs.declared.node.Stage.TheVariants.{Pending, Live, Ended}

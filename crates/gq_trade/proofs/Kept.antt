@@ -5,32 +5,32 @@ use Rattle.gq_tariff.specs.declared.amount.Amount.{Amount}
 use Rattle.gq_ram.specs.declared.account.AccountNo.{AccountNo}
 use Rattle.gq_ram.specs.Entries.{account_at, available, available_caps, IsOpen}
 use Rattle.gq_ram.specs.Ledgers.{Ledger, IsBalanced}
-use Rattle.gq_memory.specs.Stores.{Memory}
-use Rattle.gq_memory.specs.Rest.{SameRest}
-use Rattle.gq_memory.specs.internal.Rests.{rest_refl}
+use Rattle.gq_trade.specs.Stores.{Memory}
+use Rattle.gq_trade.specs.Rest.{SameRest}
+use Rattle.gq_trade.specs.internal.Rests.{rest_refl}
 use Rattle.gq_contents.specs.declared.thing.Thing.{Thing}
-use Rattle.gq_numbered.specs.Numbers.{IsTaken}
-use Rattle.gq_sessions.specs.declared.session.Session.{Session}
-use Rattle.gq_sessions.specs.Trading.{Trading, IsTrading, IsBetween, account_of, asked, client_of, its_account}
-use Rattle.gq_sessions.specs.Trading.{SameButMemory, SameOthers, node_of, server_of, session_at, upgraded, with_memory, with_more}
-use Rattle.gq_sessions.specs.Trading.{with_session, with_slot}
-use Rattle.gq_sessions.proofs.Kept.{between_at}
+use Rattle.gq_trade.specs.Numbers.{IsTaken}
+use Rattle.gq_trade.specs.declared.session.Session.{Session}
+use Rattle.gq_trade.specs.Trading.{Trading, IsTrading, IsBetween, account_of, asked, client_of, its_account}
+use Rattle.gq_trade.specs.Trading.{SameButMemory, SameOthers, node_of, server_of, session_at, upgraded, with_memory, with_more}
+use Rattle.gq_trade.specs.Trading.{with_session, with_slot}
+use Rattle.gq_trade.proofs.Sessions_kept.{between_at}
 use Rattle.gq_trade.specs.declared.node.Stage.{Stage}
 use Rattle.gq_trade.specs.declared.node.Stage.TheVariants.{Live, Ended}
 use Rattle.gq_trade.specs.Balances.{node_at}
 use Rattle.gq_trade.specs.Trades.{Trades, IsTrades, IsSettled, IsLive, with_trading}
 use Rattle.gq_trade.proofs.Evens.{ram_kind, caps_kind, asked_even, upgraded_even, session_even, rest_quota}
 use Rattle.std.proofs.lemmas.List.{get_or-set_same}
-use Rattle.gq_numbered.specs.Numbers.{added, free_number}
-use Rattle.gq_numbered.proofs.Lowest.{taken_there}
-use Rattle.gq_requests.specs.declared.requests.Ask.{Ask}
-use Rattle.gq_requests.specs.declared.requests.Ask.TheVariants.{Open, Upgrade}
-use Rattle.gq_sessions.specs.Trading.{found, session_in, with_ask}
-use Rattle.gq_sessions.proofs.Kept.{added_here}
+use Rattle.gq_trade.specs.Numbers.{added, free_number}
+use Rattle.gq_trade.proofs.Lowest.{taken_there}
+use Rattle.gq_trade.specs.declared.requests.Ask.{Ask}
+use Rattle.gq_trade.specs.declared.requests.Ask.TheVariants.{Open, Upgrade}
+use Rattle.gq_trade.specs.Trading.{found, session_in, with_ask}
+use Rattle.gq_trade.proofs.Sessions_kept.{added_here}
 use Rattle.gq_trade.specs.Waiting.{AreApart, AreOther, IsBounded, IsIdle, upgrades}
 use Rattle.gq_trade.proofs.Waiting.{asked_apart, clients_added, clients_set, fewer, upgrade_bounded, waits_more}
-use Rattle.gq_requests.specs.declared.requests.Request.{Request}
-use Rattle.gq_sessions.proofs.Bounds.{caps_within, ram_within}
+use Rattle.gq_trade.specs.declared.requests.Request.{Request}
+use Rattle.gq_trade.proofs.Bounds.{caps_within, ram_within}
 use Rattle.gq_trade.proofs.Settled.{Each, each_added, each_set, moved_settled, rest_settled}
 
 pub not_both : (s : Stage) → s ≡ Live → s ≡ Ended → ⊥

@@ -12,11 +12,11 @@ use Rattle.gq_ram.specs.Ledgers.{IsBalanced}
 use Rattle.gq_ram.proofs.Callers.{is_same}
 use Rattle.gq_ram.specs.Trees.{number, parent, account_of as account_in}
 use Rattle.gq_ram.specs.Handing.{spent}
-use Rattle.gq_memory.specs.Stores.{Memory}
-use Rattle.gq_numbered.specs.Numbers.{IsTaken}
-use Rattle.gq_sessions.specs.Trading.{Trading, IsTrading, Leaves, client_of, handed_on, init_no, node_of, server_of}
-use Rattle.gq_sessions.specs.Trading.{session_at, with_memory}
-use Rattle.gq_sessions.proofs.Closing.{gone, heir_now, open_still, other_entry, reference_stays}
+use Rattle.gq_trade.specs.Stores.{Memory}
+use Rattle.gq_trade.specs.Numbers.{IsTaken}
+use Rattle.gq_trade.specs.Trading.{Trading, IsTrading, Leaves, client_of, handed_on, init_no, node_of, server_of}
+use Rattle.gq_trade.specs.Trading.{session_at, with_memory}
+use Rattle.gq_trade.proofs.Closing.{gone, heir_now, open_still, other_entry, reference_stays}
 use Rattle.gq_trade.specs.declared.node.Node.{Node}
 use Rattle.gq_trade.specs.declared.node.Stage.{Stage}
 use Rattle.gq_trade.specs.declared.node.Stage.TheVariants.{Pending, Live, Ended}

@@ -8,3 +8,16 @@ pub mod Settled
 pub mod Spent
 pub mod Sums
 pub mod Waiting
+pub mod Views
+mod Growing
+mod Writing
+pub mod Donating
+pub mod Lowest
+pub mod Places
+pub mod Oldest
+pub mod Bounds
+pub mod Closing
+pub mod Definition
+mod Sessions_inside
+pub mod Sessions_kept
+pub mod Paying

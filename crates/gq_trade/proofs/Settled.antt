@@ -5,11 +5,11 @@ use Rattle.gq_tariff.specs.declared.amount.Amount.{Amount}
 use Rattle.gq_ram.specs.Entries.{Entries, account_at, its_account, IsOpen}
 use Rattle.gq_ram.specs.Trees.{Tree, moved, number}
 use Rattle.gq_ram.proofs.Moves.{still_open, reference_kept}
-use Rattle.gq_numbered.specs.Numbers.{added, free_number, IsTaken}
-use Rattle.gq_memory.specs.Stores.{Memory}
-use Rattle.gq_memory.specs.Rest.{SameRest}
-use Rattle.gq_sessions.specs.declared.session.Session.{Session}
-use Rattle.gq_sessions.specs.Trading.{session_in}
+use Rattle.gq_trade.specs.Numbers.{added, free_number, IsTaken}
+use Rattle.gq_trade.specs.Stores.{Memory}
+use Rattle.gq_trade.specs.Rest.{SameRest}
+use Rattle.gq_trade.specs.declared.session.Session.{Session}
+use Rattle.gq_trade.specs.Trading.{session_in}
 use Rattle.gq_trade.specs.declared.node.Node.{Node}
 use Rattle.gq_trade.specs.Trades.{AreSettled}
 

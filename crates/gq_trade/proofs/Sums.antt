@@ -2,9 +2,9 @@
 use Rattle.std.proofs.Common.{◌≡◌, ℕ, zero, suc, ◌+◌, List, [], ◌∷◌, set, Option, Some, None, arith}
 use Rattle.std.specs.Prelude.{sum_by}
 use Rattle.std.proofs.lemmas.List.Sums.{sum_by-cons}
-use Rattle.gq_numbered.specs.Numbers.{added, IsTaken}
-use Rattle.gq_sessions.specs.declared.session.Session.{Session}
-use Rattle.gq_sessions.specs.Trading.{session_in}
+use Rattle.gq_trade.specs.Numbers.{added, IsTaken}
+use Rattle.gq_trade.specs.declared.session.Session.{Session}
+use Rattle.gq_trade.specs.Trading.{session_in}
 
 module _ (g : Option Session → ℕ) (none : g None ≡ 0) where
   pub sum_added : (s : Session) (ss : List (Option Session)) → sum_by g (added s ss) ≡ g (Some s) + sum_by g ss

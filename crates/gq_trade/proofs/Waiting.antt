@@ -4,17 +4,17 @@ use Rattle.std.proofs.Common.{subst, ◌∙◌, arith}
 use Rattle.std.proofs.lemmas.Bool.{cases_eq}
 use Rattle.std.proofs.lemmas.Bool.Decides.{eqb_tells}
 use Rattle.std.proofs.lemmas.List.{get_or-set_same, get_or-set_other}
-use Rattle.gq_numbered.proofs.Lowest.{taken_there}
-use Rattle.gq_numbered.specs.Numbers.{added, IsTaken}
-use Rattle.gq_requests.specs.declared.requests.Request.{Request}
-use Rattle.gq_requests.specs.Queues.{kept_before, oldest_to}
-use Rattle.gq_sessions.specs.declared.session.Session.{Session}
-use Rattle.gq_sessions.specs.Trading.{AreBetween, AreOf, AreOfOthers, found, session_in}
-use Rattle.gq_sessions.proofs.Kept.{added_other, between_at}
+use Rattle.gq_trade.proofs.Lowest.{taken_there}
+use Rattle.gq_trade.specs.Numbers.{added, IsTaken}
+use Rattle.gq_trade.specs.declared.requests.Request.{Request}
+use Rattle.gq_trade.specs.Queues.{kept_before, oldest_to}
+use Rattle.gq_trade.specs.declared.session.Session.{Session}
+use Rattle.gq_trade.specs.Trading.{AreBetween, AreOf, AreOfOthers, found, session_in}
+use Rattle.gq_trade.proofs.Sessions_kept.{added_other, between_at}
 use Rattle.gq_trade.specs.Waiting.{AreApart, AreOther, IsBounded, clients_in, is_upgrade, upgrades}
 use Rattle.gq_tariff.specs.declared.amount.Amount.{Amount}
-use Rattle.gq_requests.specs.declared.requests.Ask.TheVariants.{Upgrade}
-use Rattle.gq_sessions.specs.Trading.{with_more}
+use Rattle.gq_trade.specs.declared.requests.Ask.TheVariants.{Upgrade}
+use Rattle.gq_trade.specs.Trading.{with_more}
 use Rattle.gq_trade.specs.Balances.{for_node}
 use Rattle.gq_trade.proofs.Evens.{for_same, for_other}
 

@@ -2,8 +2,8 @@
 use Rattle.std.specs.Prelude.{◌≡◌, ℕ, suc, nat_eq, if◌then◌else◌, Bool, false, List, [], ◌∷◌, Option, Some, None, length, slice_set, ◌<◌, ◌≤◌}
 use Rattle.gq_ram.specs.Entries.{available, available_caps}
 use Rattle.gq_ram.specs.Trees.{account_of as account_in, parent}
-use Rattle.gq_numbered.specs.Numbers.{IsTaken}
-use Rattle.gq_sessions.specs.Trading.{Trading, Leaves, client_of, server_of, handed_on, node_of}
+use Rattle.gq_trade.specs.Numbers.{IsTaken}
+use Rattle.gq_trade.specs.Trading.{Trading, Leaves, client_of, server_of, handed_on, node_of}
 use Rattle.gq_trade.specs.declared.node.Node.{Node}
 use Rattle.gq_trade.specs.declared.node.Stage.{Stage}
 use Rattle.gq_trade.specs.declared.node.Stage.TheVariants.{Pending, Live, Ended}

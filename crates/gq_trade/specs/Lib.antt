@@ -4,3 +4,11 @@ pub mod Plans
 pub mod Trades
 pub mod Waiting
 pub mod internal
+pub mod Stores
+pub mod Rest
+pub mod Lends
+pub mod Numbers
+pub mod Queues
+pub mod Seen_requests
+pub mod Trading
+pub mod Seen

@@ -2,9 +2,9 @@
 use Rattle.std.specs.Prelude.{◌≡◌, ℕ, ◌<◌, ◌≤◌, List, length, Some, get_or}
 use Rattle.gq_ram.specs.Entries.{Entries, account_at, IsOpen}
 use Rattle.gq_ram.specs.Trees.{Tree, number, parent}
-use Rattle.gq_numbered.specs.Numbers.{IsTaken}
-use Rattle.gq_sessions.specs.declared.session.Session.{Session}
-use Rattle.gq_sessions.specs.Trading.{Trading, SameButMemory as SameTrading, session_in}
+use Rattle.gq_trade.specs.Numbers.{IsTaken}
+use Rattle.gq_trade.specs.declared.session.Session.{Session}
+use Rattle.gq_trade.specs.Trading.{Trading, SameButMemory as SameTrading, session_in}
 use Rattle.gq_trade.specs.declared.node.Node.{Node}
 use Rattle.gq_trade.specs.declared.node.Stage.TheVariants.{Live, Ended}
 use Rattle.gq_trade.specs.Balances.{IsEven, node_at}

@@ -1,10 +1,10 @@
 -- The clients whose requests wait.
 use Rattle.std.specs.Prelude.{◌≡◌, ℕ, ◌+◌, ◌*◌, ◌≤◌, List, [], ◌∷◌, Option}
-use Rattle.gq_requests.specs.declared.requests.Ask.{Ask}
-use Rattle.gq_requests.specs.declared.requests.Ask.TheVariants.{Open, Upgrade, Close, Call}
-use Rattle.gq_requests.specs.declared.requests.Request.{Request}
-use Rattle.gq_sessions.specs.declared.session.Session.{Session}
-use Rattle.gq_sessions.specs.Trading.{Trading, session_in}
+use Rattle.gq_trade.specs.declared.requests.Ask.{Ask}
+use Rattle.gq_trade.specs.declared.requests.Ask.TheVariants.{Open, Upgrade, Close, Call}
+use Rattle.gq_trade.specs.declared.requests.Request.{Request}
+use Rattle.gq_trade.specs.declared.session.Session.{Session}
+use Rattle.gq_trade.specs.Trading.{Trading, session_in}
 use Rattle.gq_trade.specs.Balances.{for_node}
 
 -- none of these is x

@@ -1,16 +1,16 @@
 // Sessions over accounts whose balances are sums.
 ghost use Rattle.std.specs.Prelude.{◌≡◌, ℕ, ◌+◌, ◌<◌, ◌≤◌, ◌%◌, ◌^◌, ◌↔◌, length, get_or, Some, None, IfOk, OnOk, OnErr, IsErrOf, IfSome, IfNone};
 ghost use Rattle.gq_ram.specs.Entries.{available, available_caps, IsOpen};
-ghost use Rattle.gq_numbered.specs.Numbers.{free_number, IsTaken};
-ghost use Rattle.gq_requests.specs.declared.requests.Ask.TheVariants as ask;
-ghost use Rattle.gq_requests.specs.Queues.{IsOldest, oldest_to};
+ghost use Rattle.gq_trade.specs.Numbers.{free_number, IsTaken};
+ghost use Rattle.gq_trade.specs.declared.requests.Ask.TheVariants as ask;
+ghost use Rattle.gq_trade.specs.Queues.{IsOldest, oldest_to};
 ghost use Rattle.gq_contents.specs.declared.thing.Thing.TheVariants as thing;
 ghost use Rattle.gq_contents.specs.Things.{IsSlice};
-ghost use Rattle.gq_sessions.specs.Trading.{Accepts, AreOfOthers, Closes, IsOfOldest, IsTrading, LacksBytes, LacksCaps, account_no, asked};
-ghost use Rattle.gq_sessions.specs.Trading.{bytes_then, caps_then};
-ghost use Rattle.gq_sessions.specs.Trading.{client_of, fresh, its_account, server_of, session_at, store_of, upgraded, with_ask, with_memory};
-ghost use Rattle.gq_sessions.specs.Trading.{with_session, with_slot};
-ghost use Rattle.gq_sessions.specs.Trading.{node_of, Leaves};
+ghost use Rattle.gq_trade.specs.Trading.{Accepts, AreOfOthers, Closes, IsOfOldest, IsTrading, LacksBytes, LacksCaps, account_no, asked};
+ghost use Rattle.gq_trade.specs.Trading.{bytes_then, caps_then};
+ghost use Rattle.gq_trade.specs.Trading.{client_of, fresh, its_account, server_of, session_at, store_of, upgraded, with_ask, with_memory};
+ghost use Rattle.gq_trade.specs.Trading.{with_session, with_slot};
+ghost use Rattle.gq_trade.specs.Trading.{node_of, Leaves};
 ghost use Rattle.gq_trade.specs.declared.node.Stage.TheVariants as Stage;
 ghost use Rattle.gq_trade.specs.Ends.{CanStart, Ends, HasNoSessions, follower, staged, started};
 ghost use Rattle.gq_trade.specs.Plans.{IsFirst, IsPlan};
@@ -21,10 +21,11 @@ ghost use Rattle.gq_trade.specs.Trades.{HasAccount, IsLive, IsTrades, with_tradi
 
 use crate::node::{Node, Stage, follower, handed_to};
 use gq_ram::AccountTree;
-use gq_memory::Memory;
+use crate::memory::Memory;
 use gq_ram::{AccountFault, AccountNo, Accounts};
-use gq_requests::Request;
-use gq_sessions::{Session, Sessions, Spot};
+use crate::requests::Request;
+use crate::session::{Session, Spot};
+use crate::sessions::Sessions;
 use gq_store::{ByteStore, ChunkNo, GrowFault};
 use gq_tariff::Amount;
 use gq_contents::Thing;
@@ -427,7 +428,7 @@ impl Trades {
 }
 
 impl ByteStore for Trades {
-    ghost use Rattle.gq_memory.specs.Stores.{store_of as store_of_memory};
+    ghost use Rattle.gq_trade.specs.Stores.{store_of as store_of_memory};
     ghost use Rattle.gq_trade.specs.Trades.{SameButMemory};
 
     ghost state = { λ t. store_of_memory t.trading.memory };

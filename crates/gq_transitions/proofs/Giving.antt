@@ -4,9 +4,9 @@ use Rattle.std.specs.Prelude.{slice_get, ◌==◌}
 use Rattle.gq_model.specs.machine.Scenario.{Interface, Scenario, interface_in, open_caps, upgrade_caps}
 use Rattle.gq_model.specs.machine.World as world
 use Rattle.gq_model.proofs.Small.{some_same}
-use Rattle.gq_numbered.specs.Numbers.{IsTaken}
-use Rattle.gq_sessions.specs.Trading.{session_at}
-use Rattle.gq_sessions.proofs.Kept.{between_at}
+use Rattle.gq_trade.specs.Numbers.{IsTaken}
+use Rattle.gq_trade.specs.Trading.{session_at}
+use Rattle.gq_trade.proofs.Sessions_kept.{between_at}
 use Rattle.gq_paid.specs.Systems.{AreLawful}
 use Rattle.gq_asking.proofs.Kept.{its_session, session_found}
 use Rattle.gq_laws.specs.Ready.{IsUncounted}

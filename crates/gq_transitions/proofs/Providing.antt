@@ -3,9 +3,9 @@ use Rattle.std.proofs.Common.{◌≡◌, ◌<◌, ◌≤◌, ℕ, not, cond, eqb
 use Rattle.std.specs.Prelude.{IfSome, nat_eq, slice_get}
 use Rattle.gq_model.specs.machine.Scenario.{Scenario, Component, components}
 use Rattle.gq_model.proofs.Small.{get_within}
-use Rattle.gq_numbered.specs.Numbers.{IsTaken}
-use Rattle.gq_sessions.specs.Trading.{object_size, session_at}
-use Rattle.gq_sessions.proofs.Kept.{between_at}
+use Rattle.gq_trade.specs.Numbers.{IsTaken}
+use Rattle.gq_trade.specs.Trading.{object_size, session_at}
+use Rattle.gq_trade.proofs.Sessions_kept.{between_at}
 use Rattle.gq_slots.specs.Slots.{Slots}
 use Rattle.gq_paid.specs.Systems.{AreLawful}
 use Rattle.gq_serving.specs.Serving.{AreSections}

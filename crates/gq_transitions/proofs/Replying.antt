@@ -17,10 +17,10 @@ use Rattle.gq_model.proofs.Small.{get_within, some_same}
 use Rattle.gq_registers.specs.declared.operation.Operation.TheVariants as operation
 use Rattle.gq_registers.specs.Nexts.{Active}
 use Rattle.gq_laws.proofs.linking.Worlds.{set_else}
-use Rattle.gq_numbered.specs.Numbers.{IsTaken}
-use Rattle.gq_numbered.proofs.Lowest.{taken_there}
-use Rattle.gq_sessions.specs.Seen.{session_seen}
-use Rattle.gq_sessions.specs.Trading.{server_of, session_at}
+use Rattle.gq_trade.specs.Numbers.{IsTaken}
+use Rattle.gq_trade.proofs.Lowest.{taken_there}
+use Rattle.gq_trade.specs.Seen.{session_seen}
+use Rattle.gq_trade.specs.Trading.{server_of, session_at}
 use Rattle.gq_slots.specs.Slots.{AreLong, Frame, Slots, memory_of, world_seen}
 use Rattle.gq_slots.proofs.Worlds.{session_there}
 use Rattle.gq_addresses.specs.Addresses.{AreBuffers}

@@ -1,11 +1,11 @@
 -- What stays of slots: the nodes of the scenario, and which system goes with them.
 use Rattle.std.proofs.Common.{◌≡◌, ◌<◌, ℕ, List, length, get_or, refl, sym, ap, ◌∙◌, arith}
 use Rattle.gq_model.specs.machine.Scenario.{Scenario, System, system}
-use Rattle.gq_requests.specs.declared.requests.Ask.{Ask}
-use Rattle.gq_requests.specs.declared.requests.Ask.TheVariants.{Open, Upgrade, Close, Call}
-use Rattle.gq_requests.specs.declared.requests.Request.{Request}
-use Rattle.gq_sessions.specs.Trading as trading
-use Rattle.gq_sessions.specs.Trading.{Trading, node_of, with_requests}
+use Rattle.gq_trade.specs.declared.requests.Ask.{Ask}
+use Rattle.gq_trade.specs.declared.requests.Ask.TheVariants.{Open, Upgrade, Close, Call}
+use Rattle.gq_trade.specs.declared.requests.Request.{Request}
+use Rattle.gq_trade.specs.Trading as trading
+use Rattle.gq_trade.specs.Trading.{Trading, node_of, with_requests}
 use Rattle.gq_trade.specs.declared.node.Node.{Node}
 use Rattle.gq_trade.specs.Balances.{node_at}
 use Rattle.gq_slots.specs.Slots.{Frame, Slots}

@@ -21,12 +21,12 @@ use Rattle.gq_program.specs.Interfaces.{are_interfaces}
 use Rattle.gq_prepared.specs.Prepared.{names_of}
 use Rattle.gq_prepared.proofs.Named.{entry_at, own_entry}
 use Rattle.gq_paid.proofs.linked.Stored.{session_is}
-use Rattle.gq_numbered.specs.Numbers.{IsTaken}
-use Rattle.gq_requests.specs.declared.requests.Ask.TheVariants.{Upgrade}
-use Rattle.gq_requests.specs.declared.requests.Request.{Request}
-use Rattle.gq_requests.specs.Queues.{IsOldest, oldest_to}
-use Rattle.gq_requests.specs.Seen.{request_seen}
-use Rattle.gq_sessions.specs.Trading.{object_size, server_of, session_at}
+use Rattle.gq_trade.specs.Numbers.{IsTaken}
+use Rattle.gq_trade.specs.declared.requests.Ask.TheVariants.{Upgrade}
+use Rattle.gq_trade.specs.declared.requests.Request.{Request}
+use Rattle.gq_trade.specs.Queues.{IsOldest, oldest_to}
+use Rattle.gq_trade.specs.Seen_requests.{request_seen}
+use Rattle.gq_trade.specs.Trading.{object_size, server_of, session_at}
 use Rattle.gq_slot_sessions.specs.Calls.{TakesOldest}
 use Rattle.gq_slots.specs.Slots.{AreSound, Frame, Slots, memory_of, world_seen}
 use Rattle.gq_paid.specs.Systems.{AreLawful, IsOf, stage_in}

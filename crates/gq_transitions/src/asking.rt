@@ -5,7 +5,7 @@ ghost use Rattle.gq_model.specs.declared.program.Place.{Place};
 ghost use Rattle.gq_model.specs.machine.Scenario.{components, interface_in, upgrade_caps};
 ghost use Rattle.gq_model.specs.machine.World as world;
 ghost use Rattle.gq_registers.specs.declared.operation.Operation.TheVariants as operation;
-ghost use Rattle.gq_numbered.specs.Numbers.{IsTaken};
+ghost use Rattle.gq_trade.specs.Numbers.{IsTaken};
 ghost use Rattle.gq_statements.specs.Statements.{done};
 ghost use Rattle.gq_transitions.specs.Worlds.{world_of};
 ghost use Rattle.gq_transitions.specs.internal.Holds.{CanStep, Goes, Holds, IsLong, IsNext};

@@ -3,8 +3,8 @@ ghost use Rattle.std.specs.Prelude.{◌≡◌, ℕ, ◌+◌, ◌<◌, ◌^◌, �
 ghost use Rattle.gq_model.specs.declared.program.Section.TheVariants as section;
 ghost use Rattle.gq_registers.specs.declared.operation.Operation.TheVariants as operation;
 ghost use Rattle.gq_contents.specs.declared.thing.Thing.TheVariants as thing;
-ghost use Rattle.gq_sessions.specs.declared.session.Spot.TheVariants.{InObject};
-ghost use Rattle.gq_sessions.specs.Trading.{AreOfOthers};
+ghost use Rattle.gq_trade.specs.declared.session.Spot.TheVariants.{InObject};
+ghost use Rattle.gq_trade.specs.Trading.{AreOfOthers};
 ghost use Rattle.gq_slots.specs.Slots.{thing_at};
 ghost use Rattle.gq_serving.specs.Serving.{IsAwaited};
 ghost use Rattle.gq_statements.specs.Statements.{done};

@@ -1,6 +1,6 @@
 -- Slots of which another leaf pays.
 use Rattle.std.specs.Prelude.{ℕ}
-use Rattle.gq_sessions.specs.Trading.{account_no, with_memory}
+use Rattle.gq_trade.specs.Trading.{account_no, with_memory}
 use Rattle.gq_trade.specs.Trades.{with_trading}
 use Rattle.gq_slots.specs.Slots.{Slots}
 

@@ -4,11 +4,11 @@ use Rattle.gq_model.specs.declared.phase.Phase.{Phase}
 use Rattle.gq_model.specs.declared.phase.Phase.TheVariants.{Blocked, Running}
 use Rattle.gq_model.specs.machine.Scenario.{System}
 use Rattle.gq_laws.specs.Links.{IsLinkedWorld, outline}
-use Rattle.gq_numbered.specs.Numbers.{IsTaken}
+use Rattle.gq_trade.specs.Numbers.{IsTaken}
 use Rattle.gq_contents.specs.declared.thing.Thing.TheVariants as thing
-use Rattle.gq_sessions.specs.declared.session.Spot.{Spot}
-use Rattle.gq_sessions.specs.declared.session.Spot.TheVariants.{InLeaf, InSession, InObject}
-use Rattle.gq_sessions.specs.Trading.{client_of, server_of, session_at}
+use Rattle.gq_trade.specs.declared.session.Spot.{Spot}
+use Rattle.gq_trade.specs.declared.session.Spot.TheVariants.{InLeaf, InSession, InObject}
+use Rattle.gq_trade.specs.Trading.{client_of, server_of, session_at}
 use Rattle.gq_trade.specs.Ends.{HasNoSessions}
 use Rattle.gq_slots.specs.Slots.{AreLong, Frame, IsSlot, IsSpot, Slots, holder, thing_at, world_seen}
 use Rattle.gq_paid.specs.Systems.{AreLawful}

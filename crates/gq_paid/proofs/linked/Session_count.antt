@@ -9,16 +9,16 @@ use Rattle.gq_model.specs.machine.Sums.{bank_price, slot_price, to_leaf}
 use Rattle.gq_laws.specs.Links.{IsBytes, IsLinkedWorld, one_if, outline, requests_of, shape}
 use Rattle.gq_laws.specs.Shapes.{Each}
 use Rattle.gq_store.specs.Store.{Store}
-use Rattle.gq_numbered.specs.Numbers.{IsTaken, free_number}
-use Rattle.gq_requests.specs.declared.requests.Request.{Request}
-use Rattle.gq_requests.specs.Seen.{request_seen}
+use Rattle.gq_trade.specs.Numbers.{IsTaken, free_number}
+use Rattle.gq_trade.specs.declared.requests.Request.{Request}
+use Rattle.gq_trade.specs.Seen_requests.{request_seen}
 use Rattle.gq_contents.specs.declared.thing.Thing.{Thing}
 use Rattle.gq_contents.specs.declared.thing.Thing.TheVariants as thing
 use Rattle.gq_contents.specs.Things.{seen}
-use Rattle.gq_sessions.specs.declared.session.Session.{Session}
-use Rattle.gq_sessions.specs.Seen.{seen_in}
-use Rattle.gq_sessions.specs.Trading.{AreBetween, AreOf, account_of, its_account, server_of, session_at, session_in}
-use Rattle.gq_sessions.proofs.Kept.{between_at}
+use Rattle.gq_trade.specs.declared.session.Session.{Session}
+use Rattle.gq_trade.specs.Seen.{seen_in}
+use Rattle.gq_trade.specs.Trading.{AreBetween, AreOf, account_of, its_account, server_of, session_at, session_in}
+use Rattle.gq_trade.proofs.Sessions_kept.{between_at}
 use Rattle.gq_trade.specs.Waiting.{clients_in}
 use Rattle.gq_slots.specs.Slots.{AreObjects, AreSound, Frame, IsObject, Slots, memory_of, world_seen}
 use Rattle.gq_paid.specs.Systems.{AreLawful}

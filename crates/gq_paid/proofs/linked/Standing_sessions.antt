@@ -7,15 +7,15 @@ use Rattle.gq_model.specs.machine.World as world
 use Rattle.gq_model.proofs.Small.{not_both, some_same}
 use Rattle.gq_laws.specs.Links.{Belongs, IsLinkedWorld, Leads, Links, Naming, Stance, Stands, Waits, at_hand, by_hand, links, named, naming, naming_in, outline}
 use Rattle.gq_laws.specs.Links.{pending_of, requests_of, stance}
-use Rattle.gq_numbered.specs.Numbers.{IsTaken}
-use Rattle.gq_requests.specs.Seen.{request_seen}
+use Rattle.gq_trade.specs.Numbers.{IsTaken}
+use Rattle.gq_trade.specs.Seen_requests.{request_seen}
 use Rattle.gq_contents.specs.declared.thing.Thing.TheVariants as thing
 use Rattle.gq_contents.specs.Things.{seen}
-use Rattle.gq_sessions.specs.declared.session.Spot.{Spot}
-use Rattle.gq_sessions.specs.declared.session.Spot.TheVariants.{InLeaf, InSession, InObject}
-use Rattle.gq_sessions.specs.Seen.{spot_seen}
-use Rattle.gq_sessions.specs.Trading.{client_of, server_of, session_at}
-use Rattle.gq_sessions.proofs.Kept.{between_at}
+use Rattle.gq_trade.specs.declared.session.Spot.{Spot}
+use Rattle.gq_trade.specs.declared.session.Spot.TheVariants.{InLeaf, InSession, InObject}
+use Rattle.gq_trade.specs.Seen.{spot_seen}
+use Rattle.gq_trade.specs.Trading.{client_of, server_of, session_at}
+use Rattle.gq_trade.proofs.Sessions_kept.{between_at}
 use Rattle.gq_slots.specs.Slots.{AreLong, Frame, IsMark, IsSlot, IsSpot, Slots, holder, memory_of, slot_of, thing_at, world_seen}
 use Rattle.gq_paid.specs.Systems.{AreLawful}
 use Rattle.gq_paid.specs.Linked.{IsAtRest, IsAwaited, IsInSlot, IsOfOther, IsSlotOf, Names, Tells}

@@ -8,17 +8,17 @@ use Rattle.gq_model.proofs.Small.{some_same, none_some}
 use Rattle.gq_laws.specs.Links.{Naming, Leads, Waits, Stance, stance, named, naming, naming_in, outline, outline_in, links, requests_of, stance_in}
 use Rattle.gq_store.specs.Store.{Store}
 use Rattle.gq_heap.specs.declared.heap.Heap.{Heap}
-use Rattle.gq_numbered.specs.Numbers.{IsTaken}
-use Rattle.gq_requests.specs.declared.requests.Request.{Request}
-use Rattle.gq_requests.specs.Seen.{request_seen}
+use Rattle.gq_trade.specs.Numbers.{IsTaken}
+use Rattle.gq_trade.specs.declared.requests.Request.{Request}
+use Rattle.gq_trade.specs.Seen_requests.{request_seen}
 use Rattle.gq_contents.specs.declared.thing.Thing.{Thing}
 use Rattle.gq_contents.specs.declared.thing.Thing.TheVariants as thing
 use Rattle.gq_contents.specs.Things.{seen}
-use Rattle.gq_sessions.specs.declared.session.Session.{Session}
-use Rattle.gq_sessions.specs.declared.session.Spot.{Spot}
-use Rattle.gq_sessions.specs.declared.session.Spot.TheVariants.{InLeaf, InSession, InObject}
-use Rattle.gq_sessions.specs.Seen.{seen_in, session_seen, spot_seen}
-use Rattle.gq_sessions.specs.Trading.{AreOfOthers, found, server_of, session_at}
+use Rattle.gq_trade.specs.declared.session.Session.{Session}
+use Rattle.gq_trade.specs.declared.session.Spot.{Spot}
+use Rattle.gq_trade.specs.declared.session.Spot.TheVariants.{InLeaf, InSession, InObject}
+use Rattle.gq_trade.specs.Seen.{seen_in, session_seen, spot_seen}
+use Rattle.gq_trade.specs.Trading.{AreOfOthers, found, server_of, session_at}
 use Rattle.gq_slots.specs.Slots.{AreLong, Frame, IsSpot, Slots, leaves_seen, memory_of, slot_of, world_seen}
 use Rattle.gq_slots.proofs.Worlds.{session_there}
 use Rattle.gq_slots.proofs.Paid.{leaf_below}

@@ -9,19 +9,19 @@ use Rattle.gq_laws.specs.Links.{IsBytes, IsLinkedWorld, Links, by_hand, is_open,
 use Rattle.gq_laws.specs.Links as linked
 use Rattle.gq_laws.specs.Shapes.{Each}
 use Rattle.gq_store.specs.Store.{Store}
-use Rattle.gq_numbered.specs.Numbers.{IsTaken}
+use Rattle.gq_trade.specs.Numbers.{IsTaken}
 use Rattle.gq_pool.specs.declared.pool.Pool.{Pool}
-use Rattle.gq_requests.specs.declared.requests.Ask.{Ask}
-use Rattle.gq_requests.specs.declared.requests.Ask.TheVariants.{Open, Upgrade, Close, Call}
-use Rattle.gq_requests.specs.declared.requests.Request.{Request}
-use Rattle.gq_requests.specs.Queues.{kept_before, oldest_to}
-use Rattle.gq_requests.specs.Seen.{ask_seen, request_seen}
+use Rattle.gq_trade.specs.declared.requests.Ask.{Ask}
+use Rattle.gq_trade.specs.declared.requests.Ask.TheVariants.{Open, Upgrade, Close, Call}
+use Rattle.gq_trade.specs.declared.requests.Request.{Request}
+use Rattle.gq_trade.specs.Queues.{kept_before, oldest_to}
+use Rattle.gq_trade.specs.Seen_requests.{ask_seen, request_seen}
 use Rattle.gq_contents.specs.declared.thing.Thing.{Thing}
 use Rattle.gq_contents.specs.declared.thing.Thing.TheVariants as thing
 use Rattle.gq_contents.specs.Things.{seen}
-use Rattle.gq_sessions.specs.declared.session.Session.{Session}
-use Rattle.gq_sessions.specs.Trading.{AreOf, server_of, session_at}
-use Rattle.gq_sessions.proofs.Kept.{taken_from}
+use Rattle.gq_trade.specs.declared.session.Session.{Session}
+use Rattle.gq_trade.specs.Trading.{AreOf, server_of, session_at}
+use Rattle.gq_trade.proofs.Sessions_kept.{taken_from}
 use Rattle.gq_trade.specs.Waiting.{AreOther, IsIdle, clients_in}
 use Rattle.gq_slots.specs.Slots.{AreSound, Frame, Slots, memory_of, world_seen}
 use Rattle.gq_paid.specs.Systems.{AreLawful}

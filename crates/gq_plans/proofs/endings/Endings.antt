@@ -13,7 +13,7 @@ use Rattle.gq_laws.specs.Ready.{IsReady}
 use Rattle.gq_scenario.specs.Sizes.{leaf_places}
 use Rattle.gq_nodes.specs.NodeTables.{NodeRow, node_rows}
 use Rattle.gq_nodes.proofs.Rows.{places-count}
-use Rattle.gq_sessions.specs.Trading.{Trading, node_of}
+use Rattle.gq_trade.specs.Trading.{Trading, node_of}
 use Rattle.gq_trade.specs.declared.node.Node.{Node}
 use Rattle.gq_trade.specs.declared.node.Stage.{Stage}
 use Rattle.gq_trade.specs.declared.node.Stage.TheVariants.{Pending, Live, Ended}

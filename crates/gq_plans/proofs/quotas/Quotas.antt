@@ -20,9 +20,9 @@ use Rattle.gq_scenario.specs.Sizes.{leaf_places}
 use Rattle.gq_scenario.proofs.Preorder.{components-count}
 use Rattle.gq_nodes.specs.NodeTables.{NodeRow, node_rows}
 use Rattle.gq_ram.specs.Trees.{account_of}
-use Rattle.gq_sessions.specs.declared.session.Session.{Session}
-use Rattle.gq_sessions.specs.declared.session.Spot.TheVariants.{InLeaf}
-use Rattle.gq_sessions.specs.Trading.{AreBetween, Trading, its_account, node_of}
+use Rattle.gq_trade.specs.declared.session.Session.{Session}
+use Rattle.gq_trade.specs.declared.session.Spot.TheVariants.{InLeaf}
+use Rattle.gq_trade.specs.Trading.{AreBetween, Trading, its_account, node_of}
 use Rattle.gq_trade.specs.declared.node.Node.{Node}
 use Rattle.gq_trade.specs.Balances.{IsEven, handed, lent_for, node_at, received_for, while_live}
 use Rattle.gq_trade.proofs.Evens.{for_other}

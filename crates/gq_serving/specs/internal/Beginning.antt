@@ -3,8 +3,8 @@ use Rattle.std.specs.Prelude.{ℕ, suc, ◌+◌, nat_le, ◌&&◌, not, Bool, tr
 use Rattle.gq_tariff.specs.Prices.{up}
 use Rattle.gq_model.specs.declared.program.Section.{Section}
 use Rattle.gq_model.specs.declared.program.Section.TheVariants.{Opening, Upgrading, Calling, Closing}
-use Rattle.gq_requests.specs.declared.requests.Ask.{Ask}
-use Rattle.gq_requests.specs.declared.requests.Ask.TheVariants.{Open, Upgrade, Close, Call}
+use Rattle.gq_trade.specs.declared.requests.Ask.{Ask}
+use Rattle.gq_trade.specs.declared.requests.Ask.TheVariants.{Open, Upgrade, Close, Call}
 use Rattle.gq_store.specs.Store.{Store}
 
 -- the section that a request to a session of this level starts

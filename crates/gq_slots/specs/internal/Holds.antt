@@ -9,8 +9,8 @@ use Rattle.gq_heap.specs.Heap.{peaks}
 use Rattle.gq_contents.specs.declared.thing.Thing.{Thing}
 use Rattle.gq_contents.specs.Kept.{Keeps}
 use Rattle.gq_contents.specs.Paid.{cost, places_used, raised_by}
-use Rattle.gq_sessions.specs.declared.session.Session.{Session}
-use Rattle.gq_sessions.specs.Trading.{its_account}
+use Rattle.gq_trade.specs.declared.session.Session.{Session}
+use Rattle.gq_trade.specs.Trading.{its_account}
 use Rattle.gq_slots.specs.Slots.{Slots, memory_of}
 pub use Rattle.gq_slots.specs.Slots.{AreLong, AreObjects, AreSound, AreUnmade, IsObject, IsUnmade}
 

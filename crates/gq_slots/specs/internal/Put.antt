@@ -2,12 +2,12 @@
 use Rattle.std.specs.Prelude.{ℕ, List, [], Option, None, Some, get_or, slice_get, slice_set}
 use Rattle.gq_model.specs.machine.World as world
 use Rattle.gq_heap.specs.declared.heap.Heap.{Heap}
-use Rattle.gq_memory.specs.Stores.{Memory}
+use Rattle.gq_trade.specs.Stores.{Memory}
 use Rattle.gq_contents.specs.declared.thing.Thing.{Thing}
-use Rattle.gq_sessions.specs.declared.session.Session.{Session}
-use Rattle.gq_sessions.specs.declared.session.Spot.{Spot}
-use Rattle.gq_sessions.specs.declared.session.Spot.TheVariants.{InLeaf, InSession, InObject}
-use Rattle.gq_sessions.specs.Trading.{Trading, session_at, with_memory, with_session, with_slot}
+use Rattle.gq_trade.specs.declared.session.Session.{Session}
+use Rattle.gq_trade.specs.declared.session.Spot.{Spot}
+use Rattle.gq_trade.specs.declared.session.Spot.TheVariants.{InLeaf, InSession, InObject}
+use Rattle.gq_trade.specs.Trading.{Trading, session_at, with_memory, with_session, with_slot}
 use Rattle.gq_trade.specs.Trades.{with_trading}
 use Rattle.gq_slots.specs.Slots.{Slots}
 

@@ -9,8 +9,8 @@ use Rattle.gq_model.specs.machine.Memory.{bytes_at, pool_at}
 use Rattle.gq_contents.specs.declared.thing.Thing.{Thing}
 use Rattle.gq_contents.specs.declared.thing.Thing.TheVariants.{Empty, Block, Slice, Space, Pool, Link, Waiting}
 use Rattle.gq_contents.specs.Things.{bytes_in}
-use Rattle.gq_sessions.specs.declared.session.Spot.{Spot}
-use Rattle.gq_sessions.specs.Seen.{spot_seen}
+use Rattle.gq_trade.specs.declared.session.Spot.{Spot}
+use Rattle.gq_trade.specs.Seen.{spot_seen}
 use Rattle.gq_slots.specs.Slots.{Slots, slot_of}
 
 -- how many bytes it has, if it is one of bytes

@@ -6,8 +6,8 @@ use Rattle.gq_model.specs.machine.World as world
 use Rattle.gq_model.specs.machine.Sums.{paid}
 use Rattle.gq_model.specs.machine.Doing.{Doing, Stepped, fill, need}
 use Rattle.gq_model.specs.declared.fault.Wrong.TheVariants.{WrongKind}
-use Rattle.gq_sessions.specs.declared.session.Spot.{Spot}
-use Rattle.gq_sessions.specs.Seen.{spot_seen}
+use Rattle.gq_trade.specs.declared.session.Spot.{Spot}
+use Rattle.gq_trade.specs.Seen.{spot_seen}
 use Rattle.gq_slots.specs.Slots.{Frame, Slots, holder, settled_in, world_seen}
 use Rattle.gq_paid.specs.Systems.{IsOf}
 

@@ -1,6 +1,6 @@
 -- What stays of all else along several calls of the store.
 use Rattle.std.proofs.Common.{refl, ◌∙◌}
-use Rattle.gq_sessions.specs.internal.Stored.{rest_refl as trading_refl, rest_trans as trading_trans}
+use Rattle.gq_trade.specs.internal.Sessions_stored.{rest_refl as trading_refl, rest_trans as trading_trans}
 use Rattle.gq_trade.specs.Trades.{Trades, SameButMemory}
 
 pub rest_refl : (w : Trades) → SameButMemory w w

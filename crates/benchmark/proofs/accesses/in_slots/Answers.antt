@@ -1,5 +1,5 @@
 use Rattle.std.proofs.Common.{get_or, length, refl, sym, subst, ◌∙◌, ◌<◌, arith}
-use Rattle.gq_sessions.specs.declared.session.Spot.TheVariants.{InLeaf}
+use Rattle.gq_trade.specs.declared.session.Spot.TheVariants.{InLeaf}
 use Rattle.gq_trade.specs.Trades.{IsLive}
 use Rattle.gq_trade.specs.Balances.{node_at}
 use Rattle.gq_slots.specs.Slots.{IsPaidBy, IsSpot, Slots}

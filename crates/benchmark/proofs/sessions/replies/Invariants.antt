@@ -1,4 +1,4 @@
-use Rattle.gq_sessions.specs.declared.session.Spot.TheVariants.{InLeaf}
+use Rattle.gq_trade.specs.declared.session.Spot.TheVariants.{InLeaf}
 use Rattle.gq_slots.specs.Slots.{IsSpot}
 use Rattle.benchmark.proofs.sessions.replies.Given as goal
 

@@ -1,4 +1,4 @@
-use Rattle.gq_sessions.specs.declared.session.Spot.TheVariants.{InLeaf}
+use Rattle.gq_trade.specs.declared.session.Spot.TheVariants.{InLeaf}
 use Rattle.benchmark.proofs.sessions.reply.Goals as goal
 
 pub returns-in-Empty : goal.returns-in-Empty

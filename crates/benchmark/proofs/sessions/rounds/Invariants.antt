@@ -1,5 +1,5 @@
 use Rattle.std.proofs.Common.{◌<◌}
-use Rattle.gq_numbered.specs.Numbers.{free_number}
+use Rattle.gq_trade.specs.Numbers.{free_number}
 use Rattle.benchmark.specs.Rounds.{IsCalm, sessions_of}
 use Rattle.benchmark.proofs.sessions.rounds.Given as goal
 

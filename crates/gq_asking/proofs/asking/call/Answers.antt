@@ -1,4 +1,4 @@
-use Rattle.gq_requests.specs.declared.requests.Ask.TheVariants as ask
+use Rattle.gq_trade.specs.declared.requests.Ask.TheVariants as ask
 use Rattle.gq_slots.specs.Slots.{Slots}
 use Rattle.gq_asking.proofs.Asks.{call_none, call_some}
 use Rattle.gq_asking.proofs.Kept.{its_session, paid_then, session_found, stays_ask, stays_then}

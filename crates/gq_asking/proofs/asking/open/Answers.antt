@@ -2,8 +2,8 @@ use Rattle.std.proofs.Common.{◌≡◌, ◌<◌, length, IfSome, sym, subst, ap
 use Rattle.gq_model.specs.machine.Requests.{free_place, new_session}
 use Rattle.gq_model.specs.machine.Sums.{paid}
 use Rattle.gq_contents.specs.declared.thing.Thing.TheVariants.{Empty}
-use Rattle.gq_sessions.specs.Seen.{spot_seen}
-use Rattle.gq_sessions.specs.Trading.{fresh}
+use Rattle.gq_trade.specs.Seen.{spot_seen}
+use Rattle.gq_trade.specs.Trading.{fresh}
 use Rattle.gq_trade.specs.Trades.{IsLive}
 use Rattle.gq_slots.specs.Slots.{IsMark, Slots, world_seen}
 use Rattle.gq_slot_sessions.specs.Calls.{opening}

@@ -1,4 +1,4 @@
-use Rattle.gq_sessions.specs.Trading.{account_no}
+use Rattle.gq_trade.specs.Trading.{account_no}
 use Rattle.gq_memory_rows.proofs.Serves.{serves_beside, serves_paid}
 use Rattle.gq_memory_rows.proofs.buffers_rows.make_buffer.Goals as goal
 

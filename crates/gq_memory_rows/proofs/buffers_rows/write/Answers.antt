@@ -1,4 +1,4 @@
-use Rattle.gq_sessions.specs.Trading.{account_no}
+use Rattle.gq_trade.specs.Trading.{account_no}
 use Rattle.gq_slots.specs.Slots.{slot_of}
 use Rattle.std.specs.Prelude.{[], ◌∷◌}
 use Rattle.gq_contents.specs.Things.{put_in}

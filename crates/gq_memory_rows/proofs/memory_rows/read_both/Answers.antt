@@ -1,8 +1,8 @@
 use Rattle.std.proofs.Common.{◌≡◌, ℕ, ◌<◌, length, sym, ap, ◌∙◌, arith}
 use Rattle.gq_store.specs.Store.{Store}
 use Rattle.gq_ram.specs.declared.account.AccountNo.{AccountNo}
-use Rattle.gq_memory.specs.Stores.{Memory, content_for, store_at, store_of}
-use Rattle.gq_memory.specs.Rest.{SameRest}
+use Rattle.gq_trade.specs.Stores.{Memory, content_for, store_at, store_of}
+use Rattle.gq_trade.specs.Rest.{SameRest}
 use Rattle.gq_memory_rows.proofs.memory_rows.read_both.Goals as goal
 
 -- a page of the first account is there after the second one's calls

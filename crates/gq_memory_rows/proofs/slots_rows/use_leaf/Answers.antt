@@ -1,4 +1,4 @@
-use Rattle.gq_sessions.specs.declared.session.Spot.TheVariants.{InLeaf}
+use Rattle.gq_trade.specs.declared.session.Spot.TheVariants.{InLeaf}
 use Rattle.gq_slots.proofs.Callers.{still_paid}
 use Rattle.gq_memory_rows.proofs.slots_rows.use_leaf.Goals as goal
 

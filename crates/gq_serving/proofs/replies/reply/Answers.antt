@@ -1,5 +1,5 @@
 use Rattle.std.proofs.Common.{ap, ◌∙◌}
-use Rattle.gq_sessions.specs.Trading.{session_at}
+use Rattle.gq_trade.specs.Trading.{session_at}
 use Rattle.gq_model.specs.machine.World as world
 use Rattle.gq_serving.proofs.Replied.{at_slot, called_is, replied_is}
 use Rattle.gq_serving.proofs.replies.reply.Goals as goal

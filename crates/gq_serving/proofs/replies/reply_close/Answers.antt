@@ -1,6 +1,6 @@
 use Rattle.std.proofs.Common.{◌<◌, ◌≤◌, ap, sym, subst, ◌∙◌}
 use Rattle.gq_model.specs.machine.World as world
-use Rattle.gq_sessions.specs.Trading.{bytes_then, caps_then, session_at}
+use Rattle.gq_trade.specs.Trading.{bytes_then, caps_then, session_at}
 use Rattle.gq_trade.specs.Trades.{Trades}
 use Rattle.gq_addresses.specs.Addresses.{slot_for}
 use Rattle.gq_slots.specs.Slots.{IsMark, IsSpot, thing_at}

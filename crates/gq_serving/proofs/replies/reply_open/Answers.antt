@@ -1,5 +1,5 @@
 use Rattle.std.proofs.Common.{ap, get_or, sym, subst, ◌∙◌}
-use Rattle.gq_sessions.specs.Trading.{IsTrading, session_at}
+use Rattle.gq_trade.specs.Trading.{IsTrading, session_at}
 use Rattle.gq_trade.specs.Trades.{Trades}
 use Rattle.gq_serving.proofs.Replied.{opened_is, opened_wrong}
 use Rattle.gq_serving.proofs.replies.reply_open.Goals as goal

@@ -1,7 +1,7 @@
 use Rattle.std.proofs.Common.{◌≡◌, None, ap, ◌∙◌}
 use Rattle.std.specs.Prelude.{IfNone, IfSome}
-use Rattle.gq_requests.specs.Queues.{oldest_to}
-use Rattle.gq_sessions.specs.Trading.{session_at}
+use Rattle.gq_trade.specs.Queues.{oldest_to}
+use Rattle.gq_trade.specs.Trading.{session_at}
 use Rattle.gq_trade.specs.Trades.{Trades}
 use Rattle.gq_slot_sessions.specs.Calls.{TakesOldest}
 use Rattle.gq_serving.proofs.Lawful.{lawful}

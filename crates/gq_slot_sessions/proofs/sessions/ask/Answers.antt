@@ -1,8 +1,8 @@
 use Rattle.std.proofs.Common.{[], get_or, sym, ap, subst, ◌∙◌}
 use Rattle.gq_model.specs.machine.Requests.{new_session}
 use Rattle.gq_ram.specs.Ledgers.{IsBalanced}
-use Rattle.gq_sessions.specs.Seen.{spot_seen}
-use Rattle.gq_sessions.specs.Trading.{asked, fresh}
+use Rattle.gq_trade.specs.Seen.{spot_seen}
+use Rattle.gq_trade.specs.Trading.{asked, fresh}
 use Rattle.gq_trade.specs.Trades.{IsLive}
 use Rattle.gq_slots.specs.Slots.{Slots, world_seen}
 use Rattle.gq_slot_sessions.specs.Calls.{opening}

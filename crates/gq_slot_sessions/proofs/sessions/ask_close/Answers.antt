@@ -1,5 +1,5 @@
 use Rattle.std.proofs.Common.{sym, subst}
-use Rattle.gq_requests.specs.declared.requests.Ask.TheVariants as ask
+use Rattle.gq_trade.specs.declared.requests.Ask.TheVariants as ask
 use Rattle.gq_slots.specs.Slots.{Slots}
 use Rattle.gq_slots.specs.internal.Holds.{IsSlots}
 use Rattle.gq_slots.proofs.Answering.{of_parts}

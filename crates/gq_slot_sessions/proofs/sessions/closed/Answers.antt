@@ -1,8 +1,8 @@
 use Rattle.std.proofs.Common.{ap, subst, sym, ◌∙◌}
-use Rattle.gq_numbered.specs.Numbers.{IsTaken}
+use Rattle.gq_trade.specs.Numbers.{IsTaken}
 use Rattle.gq_ram.specs.Ledgers.{IsBalanced}
-use Rattle.gq_sessions.specs.declared.session.Spot.TheVariants.{InObject, InSession}
-use Rattle.gq_sessions.specs.Trading.{AreOfOthers}
+use Rattle.gq_trade.specs.declared.session.Spot.TheVariants.{InObject, InSession}
+use Rattle.gq_trade.specs.Trading.{AreOfOthers}
 use Rattle.gq_slots.specs.Slots.{Slots, thing_at}
 use Rattle.gq_slot_sessions.proofs.Closing.{closed_ends, closed_kept, slice_there}
 use Rattle.gq_slots.proofs.Inside.{slots_of}

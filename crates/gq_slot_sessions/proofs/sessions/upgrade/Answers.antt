@@ -1,8 +1,8 @@
 use Rattle.std.proofs.Common.{length, sym, ap, subst, ◌∙◌}
 use Rattle.gq_ram.specs.Ledgers.{IsBalanced}
-use Rattle.gq_numbered.specs.Numbers.{IsTaken}
-use Rattle.gq_sessions.specs.Trading.{client_of, server_of, upgraded}
-use Rattle.gq_sessions.proofs.Kept.{between_at}
+use Rattle.gq_trade.specs.Numbers.{IsTaken}
+use Rattle.gq_trade.specs.Trading.{client_of, server_of, upgraded}
+use Rattle.gq_trade.proofs.Sessions_kept.{between_at}
 use Rattle.gq_slots.specs.Slots.{Slots, world_seen}
 use Rattle.gq_slot_sessions.specs.Calls.{upgrading}
 use Rattle.gq_slots.proofs.Answering.{of_parts}

@@ -1,7 +1,7 @@
 use Rattle.std.proofs.Common.{ap, subst, ◌∙◌, get_or}
 use Rattle.std.specs.Prelude.{nat_lt}
-use Rattle.gq_sessions.specs.declared.session.Session.{Session}
-use Rattle.gq_sessions.specs.Trading.{IsTrading, session_at}
+use Rattle.gq_trade.specs.declared.session.Session.{Session}
+use Rattle.gq_trade.specs.Trading.{IsTrading, session_at}
 use Rattle.gq_trade.specs.Trades.{Trades}
 use Rattle.gq_slots.specs.Slots.{Slots}
 use Rattle.gq_statements.proofs.Freeing.{buffer_is}

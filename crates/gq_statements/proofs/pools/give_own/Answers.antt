@@ -1,5 +1,5 @@
 use Rattle.std.proofs.Common.{arith}
-use Rattle.gq_sessions.specs.declared.session.Spot.TheVariants.{InLeaf}
+use Rattle.gq_trade.specs.declared.session.Spot.TheVariants.{InLeaf}
 use Rattle.gq_slots.specs.Slots.{IsSpot, Slots}
 use Rattle.gq_statements.proofs.Entries.{own_given}
 use Rattle.gq_statements.proofs.pools.give_own.Goals as goal

@@ -1,6 +1,6 @@
 use Rattle.std.proofs.Common.{arith, refl, ◌∙◌}
 use Rattle.gq_model.specs.declared.program.Place.TheVariants.{Own}
-use Rattle.gq_sessions.specs.declared.session.Spot.TheVariants.{InLeaf}
+use Rattle.gq_trade.specs.declared.session.Spot.TheVariants.{InLeaf}
 use Rattle.gq_contents.specs.Things.{entry_count, entry_size}
 use Rattle.gq_slots.specs.Slots.{IsSpot, Slots, thing_at, world_seen}
 use Rattle.gq_statements.proofs.Entries.{own_pool, peek_some, test_true}

@@ -1,7 +1,7 @@
 use Rattle.std.proofs.Common.{arith, refl, subst}
 use Rattle.gq_model.specs.declared.program.Place.TheVariants.{Own}
 use Rattle.gq_model.specs.machine.Memory.{entry_with}
-use Rattle.gq_sessions.specs.declared.session.Spot.TheVariants.{InLeaf}
+use Rattle.gq_trade.specs.declared.session.Spot.TheVariants.{InLeaf}
 use Rattle.gq_contents.specs.Things.{entry_count, entry_size, with_entry}
 use Rattle.gq_slots.specs.Slots.{IsSpot, Slots, holder, memory_of, slot_of, thing_at, world_seen}
 use Rattle.gq_slots.specs.Calls.{Puts}

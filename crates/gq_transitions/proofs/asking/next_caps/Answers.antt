@@ -2,8 +2,8 @@
 use Rattle.std.proofs.Common.{◌≡◌, ℕ, Option, Some, None, refl, ap, ◌∙◌}
 use Rattle.std.specs.Prelude.{IfSome}
 use Rattle.gq_model.specs.machine.World as world
-use Rattle.gq_sessions.specs.Trading.{session_at}
-use Rattle.gq_sessions.specs.declared.session.Session.{Session}
+use Rattle.gq_trade.specs.Trading.{session_at}
+use Rattle.gq_trade.specs.declared.session.Session.{Session}
 use Rattle.gq_trade.specs.Trades.{Trades}
 use Rattle.gq_prepared.specs.Prepared.{Given, caps_at}
 use Rattle.gq_transitions.specs.Worlds.{world_of}

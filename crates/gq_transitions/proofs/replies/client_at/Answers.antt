@@ -1,8 +1,8 @@
 -- The client of the session at hand.
 use Rattle.std.proofs.Common.{refl, sym, ap, subst, ◌∙◌}
-use Rattle.gq_numbered.specs.Numbers.{IsTaken}
-use Rattle.gq_sessions.specs.Trading.{client_of}
-use Rattle.gq_sessions.specs.declared.session.Session.{Session}
+use Rattle.gq_trade.specs.Numbers.{IsTaken}
+use Rattle.gq_trade.specs.Trading.{client_of}
+use Rattle.gq_trade.specs.declared.session.Session.{Session}
 use Rattle.gq_trade.specs.Trades.{Trades}
 use Rattle.gq_transitions.specs.internal.Replies.{IsEnd}
 use Rattle.gq_transitions.proofs.Replying.{apart, awaited, client_there, counts, is_handled, rooms, small, there}

@@ -5,9 +5,9 @@ use Rattle.std.proofs.lemmas.Option.{slice_get_within}
 use Rattle.gq_model.specs.declared.phase.Phase.TheVariants as phase
 use Rattle.gq_model.specs.machine.Scenario.{Component, components}
 use Rattle.gq_model.specs.texts.Code.{IsProgram}
-use Rattle.gq_numbered.specs.Numbers.{IsTaken}
-use Rattle.gq_requests.specs.Queues.{oldest_to}
-use Rattle.gq_sessions.specs.Trading.{server_of, session_at}
+use Rattle.gq_trade.specs.Numbers.{IsTaken}
+use Rattle.gq_trade.specs.Queues.{oldest_to}
+use Rattle.gq_trade.specs.Trading.{server_of, session_at}
 use Rattle.gq_trade.specs.Trades.{Trades}
 use Rattle.gq_serving.proofs.Outcomes.{from_some}
 use Rattle.gq_transitions.proofs.Standing.{of_leaf}

@@ -1,8 +1,8 @@
 -- What a leaf knows of its program and of its service.
 use Rattle.std.proofs.Common.{ap, ◌∙◌}
 use Rattle.gq_model.proofs.Small.{get_within}
-use Rattle.gq_sessions.specs.Trading.{session_at}
-use Rattle.gq_sessions.specs.declared.session.Session.{Session}
+use Rattle.gq_trade.specs.Trading.{session_at}
+use Rattle.gq_trade.specs.declared.session.Session.{Session}
 use Rattle.gq_trade.specs.Trades.{Trades}
 use Rattle.gq_transitions.proofs.Providing.{prepared_there, sections_told, service_there}
 use Rattle.gq_transitions.proofs.Standing.{item_there}

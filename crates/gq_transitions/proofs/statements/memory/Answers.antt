@@ -12,7 +12,7 @@ use Rattle.gq_laws.proofs.linking.Worlds.{set_here}
 use Rattle.gq_paid.specs.Systems.{stage_in}
 use Rattle.gq_steps.specs.Coded.{Coded, IsStanding, operation_of}
 use Rattle.gq_steps.specs.Steps.{on}
-use Rattle.gq_sessions.specs.Trading.{account_no, node_of}
+use Rattle.gq_trade.specs.Trading.{account_no, node_of}
 use Rattle.gq_ram.specs.Trees.{number}
 use Rattle.gq_slots.specs.Slots.{IsPaidBy, Slots}
 use Rattle.gq_slots.specs.Calls.{SameBeside}

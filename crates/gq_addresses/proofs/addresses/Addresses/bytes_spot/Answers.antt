@@ -1,5 +1,5 @@
 use Rattle.std.proofs.Common.{◌≡◌, Some, rules, subst}
-use Rattle.gq_sessions.specs.Trading.{IsTrading}
+use Rattle.gq_trade.specs.Trading.{IsTrading}
 use Rattle.gq_trade.specs.Trades.{Trades}
 use Rattle.gq_slots.specs.Slots.{Slots, holder, memory_of}
 use Rattle.gq_addresses.specs.Addresses.{place_in}

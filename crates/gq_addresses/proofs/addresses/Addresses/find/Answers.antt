@@ -1,5 +1,5 @@
 use Rattle.std.proofs.Common.{◌/◌, Some, refl, subst, sym, arith}
-use Rattle.gq_sessions.specs.Trading.{IsTrading}
+use Rattle.gq_trade.specs.Trading.{IsTrading}
 use Rattle.gq_trade.specs.Trades.{IsTrades, Trades}
 use Rattle.gq_slots.specs.Slots.{Slots, thing_at, world_seen}
 use Rattle.gq_addresses.specs.Addresses.{offset, slot_under}

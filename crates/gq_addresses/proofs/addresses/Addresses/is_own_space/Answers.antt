@@ -1,8 +1,8 @@
 use Rattle.std.proofs.Common.{◌≡◌, ◌∙◌, Some, ap, subst, sym, refl}
 use Rattle.gq_model.specs.machine.World.{slot_at}
 use Rattle.gq_contents.specs.Things.{seen}
-use Rattle.gq_sessions.specs.Seen.{spot_seen}
-use Rattle.gq_sessions.specs.Trading.{IsTrading}
+use Rattle.gq_trade.specs.Seen.{spot_seen}
+use Rattle.gq_trade.specs.Trading.{IsTrading}
 use Rattle.gq_trade.specs.Trades.{Trades}
 use Rattle.gq_slots.specs.Slots.{Slots, holder, memory_of, thing_at, world_seen}
 use Rattle.gq_addresses.specs.Addresses.{offset, place_in, slot_under}

@@ -1,7 +1,7 @@
 use Rattle.std.proofs.Common.{◌≡◌, ◌↔◌, false, None, refl, sym, ap, subst, ◌∙◌}
 use Rattle.gq_contents.specs.Things.{entry_in, removed, with_entry}
 use Rattle.gq_contents.specs.declared.thing.Thing.TheVariants.{Pool}
-use Rattle.gq_sessions.specs.declared.session.Spot.TheVariants.{InLeaf}
+use Rattle.gq_trade.specs.declared.session.Spot.TheVariants.{InLeaf}
 use Rattle.gq_slots.specs.Slots.{Slots, slot_of}
 use Rattle.gq_slots.proofs.Facts.{places_entry, removed_less}
 use Rattle.gq_slots.proofs.Answering.{at_inside, gives_place, is_among, slot_paying}

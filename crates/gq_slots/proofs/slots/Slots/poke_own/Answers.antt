@@ -2,7 +2,7 @@ use Rattle.std.proofs.Common.{refl, sym, ◌∙◌}
 use Rattle.gq_model.specs.machine.Memory.{entry_with}
 use Rattle.gq_contents.specs.Things.{with_entry}
 use Rattle.gq_contents.specs.declared.thing.Thing.TheVariants.{Pool}
-use Rattle.gq_sessions.specs.declared.session.Spot.TheVariants.{InLeaf}
+use Rattle.gq_trade.specs.declared.session.Spot.TheVariants.{InLeaf}
 use Rattle.gq_slots.specs.Slots.{Slots}
 use Rattle.gq_slots.proofs.Facts.{entry_same, places_entry, price_entry}
 use Rattle.gq_slots.proofs.Answering.{at_inside, is_among, stays}

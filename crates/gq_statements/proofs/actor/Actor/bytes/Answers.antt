@@ -1,5 +1,5 @@
 use Rattle.std.proofs.Common.{◌<◌, length, sym, subst, arith}
-use Rattle.gq_sessions.specs.Trading.{IsTrading}
+use Rattle.gq_trade.specs.Trading.{IsTrading}
 use Rattle.gq_trade.specs.Trades.{IsLive, IsTrades, Trades}
 use Rattle.gq_slots.specs.Slots.{Slots, thing_at, world_seen}
 use Rattle.gq_statements.specs.internal.Found.{IsFound}

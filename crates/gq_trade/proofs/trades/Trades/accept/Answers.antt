@@ -1,7 +1,7 @@
 use Rattle.std.proofs.Common.{◌≡◌, ◌<◌, IfSome, sym, subst}
-use Rattle.gq_requests.specs.declared.requests.Ask.TheVariants.{Upgrade}
-use Rattle.gq_requests.specs.Queues.{oldest_to}
-use Rattle.gq_sessions.specs.Trading.{session_at}
+use Rattle.gq_trade.specs.declared.requests.Ask.TheVariants.{Upgrade}
+use Rattle.gq_trade.specs.Queues.{oldest_to}
+use Rattle.gq_trade.specs.Trading.{session_at}
 use Rattle.gq_trade.specs.Trades.{Trades}
 use Rattle.gq_trade.proofs.Inside.{trades_of}
 use Rattle.gq_trade.proofs.Ends.{accepted_by}

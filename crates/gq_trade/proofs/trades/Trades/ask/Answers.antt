@@ -3,7 +3,7 @@ use Rattle.gq_ram.specs.Ledgers.{IsBalanced}
 use Rattle.gq_trade.specs.Trades.{Trades, IsLive}
 use Rattle.gq_trade.specs.Waiting.{IsIdle}
 use Rattle.gq_trade.proofs.Inside.{trades_of}
-use Rattle.gq_sessions.specs.Trading.{fresh}
+use Rattle.gq_trade.specs.Trading.{fresh}
 use Rattle.gq_trade.proofs.Kept.{asked_by, few_wait}
 use Rattle.gq_trade.proofs.trades.Trades.ask.Goals as goal
 

@@ -1,11 +1,11 @@
 use Rattle.std.proofs.Common.{◌≡◌, sym, subst}
 use Rattle.gq_trade.specs.Trades.{Trades, IsTrades, with_trading}
-use Rattle.gq_sessions.specs.Trading.{client_of}
+use Rattle.gq_trade.specs.Trading.{client_of}
 use Rattle.gq_trade.specs.Waiting.{IsIdle}
 use Rattle.gq_trade.proofs.Inside.{trades_of}
-use Rattle.gq_requests.specs.declared.requests.Ask.TheVariants.{Call}
+use Rattle.gq_trade.specs.declared.requests.Ask.TheVariants.{Call}
 use Rattle.gq_trade.proofs.Kept.{few_wait, parties, with_ask_kept}
-use Rattle.gq_numbered.specs.Numbers.{IsTaken}
+use Rattle.gq_trade.specs.Numbers.{IsTaken}
 use Rattle.gq_trade.proofs.trades.Trades.ask_call.Goals as goal
 
 pub invariant_of-self : goal.invariant_of-self

@@ -1,8 +1,8 @@
 use Rattle.std.proofs.Common.{◌≡◌, sym, subst}
 use Rattle.gq_trade.specs.Trades.{Trades}
-use Rattle.gq_sessions.specs.Trading.{AreOfOthers}
+use Rattle.gq_trade.specs.Trading.{AreOfOthers}
 use Rattle.gq_trade.proofs.Inside.{trades_of}
-use Rattle.gq_numbered.specs.Numbers.{IsTaken}
+use Rattle.gq_trade.specs.Numbers.{IsTaken}
 use Rattle.gq_ram.specs.declared.account.AccountFault.TheVariants.{Exceeded, CapsExceeded}
 use Rattle.gq_trade.proofs.Ends.{closed_by}
 use Rattle.gq_trade.proofs.trades.Trades.closed.Goals as goal

@@ -1,6 +1,6 @@
 use Rattle.std.proofs.Common.{◌≡◌, ◌<◌, IfSome, length, slice_set, refl, sym, ap, subst, arith}
 use Rattle.gq_ram.specs.Ledgers.{IsBalanced}
-use Rattle.gq_sessions.specs.Trading.{account_no, node_of}
+use Rattle.gq_trade.specs.Trading.{account_no, node_of}
 use Rattle.gq_trade.specs.declared.node.Node.{Node}
 use Rattle.gq_trade.specs.declared.node.Stage.TheVariants.{Ended}
 use Rattle.gq_trade.specs.Balances.{no_node, node_at}

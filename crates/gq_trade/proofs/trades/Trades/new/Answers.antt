@@ -4,7 +4,7 @@ use Rattle.gq_ram.specs.Entries.{account_at, no_amount}
 use Rattle.gq_ram.specs.Trees.{AreNodes, account_of, number}
 use Rattle.gq_ram.specs.Handing.{spent}
 use Rattle.gq_ram.specs.Ledgers.{Ledger, first_ledger, with_accounts}
-use Rattle.gq_sessions.specs.Trading.{Trading}
+use Rattle.gq_trade.specs.Trading.{Trading}
 use Rattle.gq_trade.specs.Balances.{handed}
 use Rattle.gq_trade.specs.Trades.{IsTrades}
 use Rattle.gq_trade.specs.Plans.{IsFirst}

@@ -1,7 +1,7 @@
 use Rattle.std.proofs.Common.{◌≡◌, sym, subst}
 use Rattle.gq_trade.specs.Trades.{Trades}
 use Rattle.gq_trade.proofs.Inside.{trades_of}
-use Rattle.gq_numbered.specs.Numbers.{IsTaken}
+use Rattle.gq_trade.specs.Numbers.{IsTaken}
 use Rattle.gq_trade.proofs.Kept.{slot_kept}
 use Rattle.gq_trade.proofs.trades.Trades.put.Goals as goal
 

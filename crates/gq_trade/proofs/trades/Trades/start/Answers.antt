@@ -1,5 +1,5 @@
 use Rattle.std.proofs.Common.{◌≡◌, ◌<◌, length, slice_set, sym, ap, subst, ◌∙◌, arith}
-use Rattle.gq_sessions.specs.Trading.{Trading, handed_on}
+use Rattle.gq_trade.specs.Trading.{Trading, handed_on}
 use Rattle.gq_trade.specs.declared.node.Node.{Node}
 use Rattle.gq_trade.specs.declared.node.Stage.TheVariants.{Live}
 use Rattle.gq_trade.specs.Balances.{no_node, node_at}

@@ -1,10 +1,10 @@
 use Rattle.std.proofs.Common.{◌≡◌, sym, ap, arith, subst, ◌∙◌}
 use Rattle.gq_ram.specs.Ledgers.{IsBalanced}
 use Rattle.gq_trade.specs.Trades.{Trades}
-use Rattle.gq_sessions.specs.Trading.{client_of}
+use Rattle.gq_trade.specs.Trading.{client_of}
 use Rattle.gq_trade.specs.Waiting.{IsIdle}
 use Rattle.gq_trade.proofs.Inside.{trades_of}
-use Rattle.gq_numbered.specs.Numbers.{IsTaken}
+use Rattle.gq_trade.specs.Numbers.{IsTaken}
 use Rattle.gq_trade.proofs.Waiting.{idle_none}
 use Rattle.gq_trade.proofs.Kept.{few_wait, parties, upgraded_by}
 use Rattle.gq_trade.proofs.trades.Trades.upgrade.Goals as goal

@@ -1,4 +1,0 @@
-pub mod Views
-mod Growing
-mod Writing
-pub mod Donating

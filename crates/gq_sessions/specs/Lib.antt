@@ -1,3 +1,0 @@
-pub mod Trading
-pub mod Seen
-pub mod internal
