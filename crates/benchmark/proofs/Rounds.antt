@@ -22,7 +22,7 @@ use Rattle.gq_tariff.specs.declared.amount.Amount.{Amount}
 use Rattle.gq_trade.specs.Balances.{node_at}
 use Rattle.gq_trade.specs.Trades.{IsLive, Trades}
 use Rattle.gq_slots.specs.Slots.{Slots}
-use Rattle.gq_slot_sessions.specs.Calls.{TakesOldest, with_trades}
+use Rattle.gq_slots.specs.Session_calls.{TakesOldest, with_trades}
 use Rattle.gq_slots.proofs.Again.{session_put, set_again}
 use Rattle.gq_slots.proofs.Spots.{taken_set}
 use Rattle.benchmark.specs.Rounds.{CanClose, IsCalm, Opens, sessions_of}

@@ -11,7 +11,7 @@ ghost use Rattle.benchmark.specs.Rounds.{HasRoom};
 use crate::fault::Fault;
 use crate::sessions::market;
 use crate::timing::tell;
-use gq_addresses::Addresses;
+use gq_slots::Addresses;
 use gq_dataspace::DsId;
 use gq_ram::Accounts;
 use gq_trade::Spot;

@@ -8,7 +8,7 @@ ghost use Rattle.benchmark.specs.Rounds.{Calls, CanClose, Closes, HasRoom, IsCal
 use crate::fault::Fault;
 use crate::timing::tell;
 use gq_trade::Spot;
-use gq_slot_sessions::sessions;
+use gq_slots::sessions;
 use gq_slots::Slots;
 use gq_tariff::Amount;
 use gq_contents::Thing;

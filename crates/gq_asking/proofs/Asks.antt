@@ -17,7 +17,7 @@ use Rattle.gq_trade.specs.declared.session.Spot.{Spot}
 use Rattle.gq_trade.specs.Seen.{spot_seen}
 use Rattle.gq_slots.specs.Slots.{Frame, Slots, world_seen}
 use Rattle.gq_slots.specs.Calls.{Puts}
-use Rattle.gq_slot_sessions.specs.Calls.{asking, more_for, upgrading}
+use Rattle.gq_slots.specs.Session_calls.{asking, more_for, upgrading}
 use Rattle.gq_paid.proofs.Marked.{marked_paid, slot_asking}
 use Rattle.gq_asking.specs.Requests.{Blocks, IsNextLevel, leads_from, leads_to, session_named}
 use Rattle.gq_asking.specs.internal.Leads.{IsLinkedAt}

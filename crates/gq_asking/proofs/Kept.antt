@@ -25,7 +25,7 @@ use Rattle.gq_trade.specs.declared.session.Spot.{Spot}
 use Rattle.gq_trade.specs.declared.session.Spot.TheVariants.{InLeaf, InSession, InObject}
 use Rattle.gq_slots.specs.Slots.{Frame, IsSpot, Slots, holder, memory_of, thing_at, world_seen}
 use Rattle.gq_slots.specs.Calls.{SameBeside}
-use Rattle.gq_slot_sessions.specs.Calls.{opening, upgrading, with_trades}
+use Rattle.gq_slots.specs.Session_calls.{opening, upgrading, with_trades}
 use Rattle.gq_slots.proofs.Worlds.{session_there}
 use Rattle.gq_trade.specs.Balances.{node_at}
 use Rattle.gq_paid.specs.Systems.{AreLawful, IsOf, counted_at}

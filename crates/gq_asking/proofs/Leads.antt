@@ -13,7 +13,7 @@ use Rattle.gq_trade.specs.declared.session.Spot.{Spot}
 use Rattle.gq_trade.specs.declared.session.Spot.TheVariants.{InLeaf, InSession, InObject}
 use Rattle.gq_trade.specs.Seen.{spot_seen}
 use Rattle.gq_slots.specs.Slots.{Frame, IsSlot, Slots, holder, memory_of, world_seen}
-use Rattle.gq_addresses.specs.Addresses.{place_seen}
+use Rattle.gq_slots.specs.Addresses.{place_seen}
 use Rattle.gq_statements.specs.declared.actor.Actor.{Actor}
 use Rattle.gq_statements.specs.Statements.{IsBy, hand_seen}
 use Rattle.gq_statements.proofs.Founds.{same_spot}

@@ -24,8 +24,8 @@ use Rattle.gq_trade.specs.declared.session.Spot.{Spot}
 use Rattle.gq_trade.specs.Seen.{spot_seen}
 use Rattle.gq_slots.specs.Slots.{Frame, Slots, holder, memory_of, world_seen}
 use Rattle.gq_slots.specs.Calls.{Puts}
-use Rattle.gq_slot_sessions.specs.Calls.{asking, opening}
-use Rattle.gq_addresses.specs.Addresses.{place_seen}
+use Rattle.gq_slots.specs.Session_calls.{asking, opening}
+use Rattle.gq_slots.specs.Addresses.{place_seen}
 use Rattle.gq_statements.specs.declared.actor.Actor.{Actor}
 use Rattle.gq_statements.specs.Statements.{IsBy, hand_seen}
 use Rattle.gq_statements.proofs.Founds.{same_spot}

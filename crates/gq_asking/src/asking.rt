@@ -19,7 +19,7 @@ ghost use Rattle.gq_asking.specs.internal.Leads.{IsLink, IsLinkedAt, IsRoomAt, I
 use gq_model::fault::Wrong;
 use gq_model::program::Place;
 use gq_trade::Spot;
-use gq_slot_sessions::sessions;
+use gq_slots::sessions;
 use gq_slots::Slots;
 use gq_statements::Actor;
 use gq_tariff::Amount;

@@ -13,7 +13,7 @@ use Rattle.gq_trade.specs.Balances.{node_at}
 use Rattle.gq_trade.specs.Trades.{IsLive, Trades, with_trading}
 use Rattle.gq_slots.specs.Slots.{Slots, IsSpot, holder}
 use Rattle.gq_slots.specs.Calls.{Puts, SameBeside}
-use Rattle.gq_slot_sessions.specs.Calls.{TakesOldest, with_trades}
+use Rattle.gq_slots.specs.Session_calls.{TakesOldest, with_trades}
 use Rattle.gq_memory_rows.specs.Serves.{IsMarket, Serves}
 
 live_then : (t v : Trades) (x : ℕ) → v.nodes ≡ t.nodes → v.trading.leaves ≡ t.trading.leaves → IsLive t x → IsLive v x

@@ -4,9 +4,9 @@ ghost use Rattle.gq_memory_rows.specs.Serves.{IsMarket, Serves};
 
 use crate::trade_rows::{live, plan};
 use crate::used::used;
-use gq_addresses::Addresses;
+use gq_slots::Addresses;
 use gq_trade::Spot;
-use gq_slot_sessions::sessions;
+use gq_slots::sessions;
 use gq_slots::Slots;
 use gq_tariff::Amount;
 use gq_contents::Thing;

@@ -13,7 +13,7 @@ use Rattle.gq_trade.specs.Seen.{session_seen}
 use Rattle.gq_trade.specs.Trading.{client_of, its_account, session_at}
 use Rattle.gq_trade.proofs.Sessions_kept.{between_at}
 use Rattle.gq_slots.specs.Slots.{Frame, Slots, memory_of, world_seen}
-use Rattle.gq_slot_sessions.specs.Calls.{opening, upgrading}
+use Rattle.gq_slots.specs.Session_calls.{opening, upgrading}
 use Rattle.gq_slots.proofs.Worlds.{session_there}
 use Rattle.gq_paid.specs.Systems.{AreLawful, IsOf}
 use Rattle.gq_paid.proofs.Short.{HasLeaf, IsPriced, client_leaf, has_leaf, left_in, short}

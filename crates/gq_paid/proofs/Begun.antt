@@ -21,7 +21,7 @@ use Rattle.gq_trade.specs.Seen.{session_seen}
 use Rattle.gq_trade.specs.Trading.{LacksBytes, LacksCaps, its_account, object_size, server_of, session_at}
 use Rattle.gq_trade.proofs.Sessions_kept.{taken_from}
 use Rattle.gq_slots.specs.Slots.{Frame, Slots, memory_of, world_seen}
-use Rattle.gq_slot_sessions.specs.Calls.{accepting}
+use Rattle.gq_slots.specs.Session_calls.{accepting}
 use Rattle.gq_slots.proofs.Worlds.{session_there}
 use Rattle.gq_paid.specs.Systems.{AreLawful, IsOf}
 use Rattle.gq_paid.proofs.Short.{HasLeaf, IsPriced, left_in, server_leaf, short}

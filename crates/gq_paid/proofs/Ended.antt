@@ -19,7 +19,7 @@ use Rattle.gq_trade.specs.Seen.{session_seen}
 use Rattle.gq_trade.specs.Trading.{bytes_then, caps_then, its_account, server_of, session_at}
 use Rattle.gq_trade.proofs.Sessions_kept.{between_at}
 use Rattle.gq_slots.specs.Slots.{Frame, Slots, memory_of, thing_at, world_seen}
-use Rattle.gq_slot_sessions.specs.Calls.{ending}
+use Rattle.gq_slots.specs.Session_calls.{ending}
 use Rattle.gq_slots.proofs.Worlds.{session_there}
 use Rattle.gq_paid.specs.Systems.{AreLawful, IsOf}
 use Rattle.gq_paid.proofs.Asked.{caps_priced}

@@ -14,7 +14,7 @@ use Rattle.gq_model.proofs.Small.{some_same, none_some, set_there}
 use Rattle.gq_laws.proofs.linking.Opens.{free_at, add_else}
 use Rattle.gq_laws.proofs.linking.Worlds.{set_here, set_else, leaf_there, session_there, object_there, session_here, session_else, slot_here}
 use Rattle.gq_laws.proofs.paying.Prices.{IsNoDearer, same_price, session_stands, slot_no_dearer, still_paid}
-use Rattle.gq_slot_sessions.specs.Calls.{asking, ending, more_for, opening, upgrading}
+use Rattle.gq_slots.specs.Session_calls.{asking, ending, more_for, opening, upgrading}
 
 -- TESTS
 

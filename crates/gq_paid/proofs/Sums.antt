@@ -12,7 +12,7 @@ use Rattle.gq_model.specs.machine.Sums.{slot_price, bank_price, donated, to_leaf
 use Rattle.gq_model.specs.machine.World.{Empty, Request, Session, Leaf, World, session_at}
 use Rattle.gq_model.proofs.Small.{equal_self}
 use Rattle.gq_trade.specs.declared.requests.Ask.TheVariants.{Open}
-use Rattle.gq_slot_sessions.specs.Calls.{accepting, begun, begun_at, ending, more_for, opening, upgrading}
+use Rattle.gq_slots.specs.Session_calls.{accepting, begun, begun_at, ending, more_for, opening, upgrading}
 use Rattle.gq_laws.proofs.paying.Prices.{sum_set, session_stands}
 
 -- SUMS OVER SESSIONS

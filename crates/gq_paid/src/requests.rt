@@ -15,7 +15,7 @@ ghost use Rattle.gq_contents.specs.declared.thing.Thing.TheVariants as thing;
 ghost use Rattle.gq_trade.specs.declared.session.Spot.TheVariants.{InSession};
 ghost use Rattle.gq_trade.specs.Trading.{LacksBytes, LacksCaps, bytes_then, caps_then, client_of, its_account, object_size, session_at};
 ghost use Rattle.gq_slots.specs.Slots.{Frame, Slots, thing_at, world_seen};
-ghost use Rattle.gq_slot_sessions.specs.Calls.{accepting, asking, ending, opening, upgrading};
+ghost use Rattle.gq_slots.specs.Session_calls.{accepting, asking, ending, opening, upgrading};
 ghost use Rattle.gq_paid.specs.Systems.{AreLawful, IsOf};
 
 /// Where `sessions::ask` is refused, since its client has fewer bytes or fewer capabilities that are not used than it would give, the machine's world with

@@ -5,7 +5,7 @@ ghost use Rattle.gq_model.specs.machine.Scenario.{Component, Scenario, component
 ghost use Rattle.gq_model.specs.machine.Step.{released};
 ghost use Rattle.gq_laws.specs.Ready.{IsReady};
 ghost use Rattle.gq_trade.specs.Trades.{IsLive};
-ghost use Rattle.gq_slot_sessions.specs.Calls.{EndsLeaf};
+ghost use Rattle.gq_slots.specs.Session_calls.{EndsLeaf};
 ghost use Rattle.gq_slots.specs.Slots.{Frame, Slots};
 ghost use Rattle.gq_paid.specs.Systems.{AreLawful, IsOf};
 ghost use Rattle.gq_plans.specs.Nodes.{AreNodesOf};

@@ -4,7 +4,7 @@ ghost use Rattle.gq_model.specs.machine.Amounts.{amount};
 ghost use Rattle.gq_prepared.specs.Prepared.{AreServices, caps_at};
 ghost use Rattle.gq_prepared.specs.internal.Upgraded.{AreUpgrades, IsUpgrades};
 
-use gq_addresses::Addresses;
+use gq_slots::Addresses;
 use gq_nodes::NodeTable;
 use gq_program::interface::{Interface, Interfaces, Upgrade};
 use std::alloc::{AllocError, Global};

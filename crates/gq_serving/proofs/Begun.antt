@@ -22,7 +22,7 @@ use Rattle.gq_trade.specs.declared.session.Session.{Session}
 use Rattle.gq_trade.specs.Seen.{session_seen}
 use Rattle.gq_trade.specs.Trading.{LacksBytes, LacksCaps, account_of, its_account, object_size, server_of, session_at}
 use Rattle.gq_slots.specs.Slots.{Frame, Slots, memory_of, world_seen}
-use Rattle.gq_slot_sessions.specs.Calls.{accepting, begun_at}
+use Rattle.gq_slots.specs.Session_calls.{accepting, begun_at}
 use Rattle.gq_slots.proofs.Worlds.{session_there}
 use Rattle.gq_laws.proofs.paying.Prices.{IsNoDearer, paid_all, same_price, still_paid}
 use Rattle.gq_paid.specs.Systems.{AreLawful, IsOf}

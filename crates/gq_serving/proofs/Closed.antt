@@ -23,9 +23,9 @@ use Rattle.gq_trade.specs.Balances.{node_at}
 use Rattle.gq_trade.proofs.Sessions_kept.{between_at}
 use Rattle.gq_slots.specs.Slots.{AreSound, Frame, IsMark, IsSlot, Slots, holder, memory_of, slot_of, thing_at, world_seen}
 use Rattle.gq_slots.specs.Calls.{Puts}
-use Rattle.gq_slot_sessions.specs.Calls.{EndsSession, IsBeside, ending}
+use Rattle.gq_slots.specs.Session_calls.{EndsSession, IsBeside, ending}
 use Rattle.gq_slots.proofs.Answering.{object_at}
-use Rattle.gq_addresses.specs.Addresses.{slot_for}
+use Rattle.gq_slots.specs.Addresses.{slot_for}
 use Rattle.gq_laws.proofs.linking.Worlds.{set_else}
 use Rattle.gq_paid.specs.Systems.{AreLawful, IsOf, counted_at}
 use Rattle.gq_paid.proofs.Ended.{unpaid_ending, unpaid_ending_caps}

@@ -16,7 +16,7 @@ use Rattle.gq_contents.specs.Things.{seen}
 use Rattle.gq_trade.specs.declared.session.Spot.TheVariants.{InLeaf}
 use Rattle.gq_trade.specs.Ends.{HasNoSessions}
 use Rattle.gq_slots.specs.Slots.{AreRead, Frame, Slots, leaves_seen, memory_of, slot_of, world_seen}
-use Rattle.gq_slot_sessions.specs.Calls.{EndsLeaf, bare, bare_in}
+use Rattle.gq_slots.specs.Session_calls.{EndsLeaf, bare, bare_in}
 use Rattle.gq_laws.proofs.linking.Worlds.{leaf_there}
 use Rattle.gq_serving.specs.Serving.{IsAloneWithoutLinks, IsReleased, leaving, own_slots}
 use Rattle.gq_serving.specs.internal.Tests.{has_no_link, is_link}

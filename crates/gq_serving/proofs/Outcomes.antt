@@ -20,7 +20,7 @@ use Rattle.gq_trade.specs.Seen_requests.{request_seen}
 use Rattle.gq_contents.specs.declared.thing.Thing.TheVariants.{Empty}
 use Rattle.gq_trade.specs.Trading.{IsOfOldest, LacksBytes, LacksCaps, object_size, server_of, session_at}
 use Rattle.gq_slots.specs.Slots.{AreSound, Frame, Slots, memory_of, world_seen}
-use Rattle.gq_slot_sessions.specs.Calls.{TakesOldest}
+use Rattle.gq_slots.specs.Session_calls.{TakesOldest}
 use Rattle.gq_paid.specs.Systems.{AreLawful}
 use Rattle.gq_paid.proofs.Begun.{unpaid_beginning, unpaid_beginning_caps}
 use Rattle.gq_paid.proofs.Standing.{unmade_oldest}

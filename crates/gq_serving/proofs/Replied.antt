@@ -21,7 +21,7 @@ use Rattle.gq_trade.proofs.Sessions_kept.{between_at}
 use Rattle.gq_slots.specs.Slots.{Frame, Slots, memory_of, world_seen}
 use Rattle.gq_slots.specs.Calls.{Puts}
 use Rattle.gq_slots.proofs.Worlds.{session_there}
-use Rattle.gq_addresses.specs.Addresses.{AreBuffers, slot_for}
+use Rattle.gq_slots.specs.Addresses.{AreBuffers, slot_for}
 use Rattle.gq_serving.specs.Serving.{GoesOn}
 use Rattle.gq_serving.specs.internal.Tests.{fits, is_space_of}
 use Rattle.gq_serving.proofs.Clients.{going_sessions, going_slot}

@@ -21,7 +21,7 @@ use Rattle.gq_trade.specs.Seen.{session_seen}
 use Rattle.gq_trade.specs.Trading.{AreOf, Begins as BeginsIn, IsTrading, Trading, object_size, server_of, session_at, with_requests}
 use Rattle.gq_trade.proofs.Sessions_kept.{between_at}
 use Rattle.gq_slots.specs.Slots.{Frame, Slots, memory_of, world_seen}
-use Rattle.gq_slot_sessions.specs.Calls.{TakesOldest, accepting, begun, begun_at}
+use Rattle.gq_slots.specs.Session_calls.{TakesOldest, accepting, begun, begun_at}
 use Rattle.gq_slots.proofs.Worlds.{session_there}
 use Rattle.gq_paid.specs.Systems.{AreLawful}
 use Rattle.gq_paid.proofs.Paid.{all_paid}

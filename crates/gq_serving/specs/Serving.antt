@@ -20,8 +20,8 @@ use Rattle.gq_paid.specs.Systems.{IsOf}
 use Rattle.gq_trade.specs.Trading.{client_of}
 use Rattle.gq_slots.specs.Slots.{Frame, IsSlot, IsSpot, Slots, holder, thing_at, world_seen}
 use Rattle.gq_slots.specs.Calls.{Puts}
-use Rattle.gq_slot_sessions.specs.Calls.{EndsSession}
-use Rattle.gq_addresses.specs.Addresses.{slot_for}
+use Rattle.gq_slots.specs.Session_calls.{EndsSession}
+use Rattle.gq_slots.specs.Addresses.{slot_for}
 
 -- REPLIES
 

@@ -4,13 +4,13 @@ ghost use Rattle.gq_model.specs.machine.Doing.{Doing};
 ghost use Rattle.gq_model.specs.machine.Step as step;
 ghost use Rattle.gq_trade.specs.Trades.{IsLive};
 ghost use Rattle.gq_slots.specs.Slots.{Frame, world_seen};
-ghost use Rattle.gq_slot_sessions.specs.Calls.{EndsLeaf};
+ghost use Rattle.gq_slots.specs.Session_calls.{EndsLeaf};
 ghost use Rattle.gq_serving.specs.Serving.{IsAloneWithoutLinks, IsReleased, finished, own_slots};
 ghost use Rattle.gq_serving.specs.internal.Tests.{has_no_link, is_link};
 
 use gq_model::fault::Wrong;
 use gq_trade::Spot;
-use gq_slot_sessions::leaves;
+use gq_slots::leaves;
 use gq_slots::Slots;
 use gq_contents::Thing;
 

@@ -9,16 +9,16 @@ ghost use Rattle.gq_trade.specs.Trading.{AreOfOthers};
 ghost use Rattle.gq_contents.specs.declared.thing.Thing.TheVariants as thing;
 ghost use Rattle.gq_slots.specs.Slots.{Frame, thing_at, world_seen};
 ghost use Rattle.gq_slots.specs.Calls.{SameBeside};
-ghost use Rattle.gq_addresses.specs.Addresses.{AreBuffers};
+ghost use Rattle.gq_slots.specs.Addresses.{AreBuffers};
 ghost use Rattle.gq_statements.specs.Statements.{done};
 ghost use Rattle.gq_paid.specs.Systems.{IsOf};
 ghost use Rattle.gq_serving.specs.Serving.{Closes, GoesOn, IsAwaited};
 ghost use Rattle.gq_serving.specs.internal.Tests.{are_empty, fits, is_empty, is_space_of};
 
-use gq_addresses::Addresses;
+use gq_slots::Addresses;
 use gq_model::fault::Wrong;
 use gq_trade::{Session, Spot};
-use gq_slot_sessions::sessions;
+use gq_slots::sessions;
 use gq_slots::Slots;
 use gq_contents::Thing;
 

@@ -9,7 +9,7 @@ ghost use Rattle.gq_trade.specs.Numbers.{IsTaken};
 ghost use Rattle.gq_trade.specs.Trading.{object_size, server_of, session_at};
 ghost use Rattle.gq_trade.specs.Trades.{IsLive};
 ghost use Rattle.gq_slots.specs.Slots.{Frame, IsPaidBy, memory_of, world_seen};
-ghost use Rattle.gq_slot_sessions.specs.Calls.{TakesOldest};
+ghost use Rattle.gq_slots.specs.Session_calls.{TakesOldest};
 ghost use Rattle.gq_serving.specs.Serving.{AreSections, Begins, IsSection, found, place, taken};
 ghost use Rattle.gq_serving.specs.internal.Beginning.{can_pay, has_some, section_of};
 ghost use Rattle.gq_trade.specs.Stores.{store_of};
@@ -19,7 +19,7 @@ use gq_trade::Memory;
 use gq_model::fault::Wrong;
 use gq_model::program::Section;
 use gq_trade::{Ask, Request};
-use gq_slot_sessions::sessions;
+use gq_slots::sessions;
 use gq_slots::Slots;
 use gq_tariff::round_up;
 

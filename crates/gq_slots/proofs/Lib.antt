@@ -11,3 +11,11 @@ pub mod First
 pub mod Callers
 pub mod Marks
 pub mod Again
+pub mod Alike
+pub mod Asking
+pub mod Accepting
+pub mod Closing
+pub mod Ending
+pub mod Founds
+pub mod Payers
+pub mod Addresses_places

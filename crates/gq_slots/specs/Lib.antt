@@ -1,3 +1,5 @@
 pub mod Slots
 pub mod Calls
 pub mod internal
+pub mod Session_calls
+pub mod Addresses

@@ -13,9 +13,45 @@
 //! assert_eq!(rt; slots.load(spot, 7), 42);
 //! slots.free(spot);
 //! ```
+//!
+//! What the sessions of a scenario and the ends of its leaves do to all slots: the requests of clients, what their servers take of them, sessions that are
+//! closed, and leaves that are no more.
+//!
+//! ```rust
+//! use gq_trade::Spot;
+//! use gq_slots::{leaves, sessions};
+//!
+//! // The leaf 1 opens a session to the leaf 0, which takes the request; then the session is closed, and the client ends.
+//! let session = sessions::ask(&mut slots, 1, Spot::InLeaf(1, 0), 0, 0, donation)?;
+//! sessions::accept(&mut slots, 0)?;
+//! sessions::ask_close(&mut slots, session);
+//! sessions::accept(&mut slots, 0)?;
+//! sessions::closed(&mut slots, session)?;
+//! leaves::end(&mut slots, 1);
+//! ```
+//!
+//! Which bytes lie at an address of a leaf: its 64 slots lie in windows of 64 MiB, one behind the other.
+//!
+//! ```rust
+//! use gq_slots::Addresses;
+//! use gq_trade::Spot;
+//!
+//! // No service shares a buffer. `slots` are those of `gq_slots`.
+//! let addresses = Addresses::new(Vec::new(rt.alloc()));
+//! slots.pay_by(0);
+//! slots.make_slice(Spot::InLeaf(0, 3), 100)?;
+//! let address = Addresses::base(3) + 7;
+//! assert!(rt; addresses.store(&mut slots, 0, address, 42));
+//! assert_eq!(rt; addresses.load(&mut slots, 0, address), Some(42));
+//! assert_eq!(rt; addresses.load(&mut slots, 0, address + 100), None);
+//! ```
 #![tactic(auto)]
 
+pub mod addresses;
+pub mod leaves;
 mod places;
+pub mod sessions;
 pub mod slots;
 
+pub use addresses::Addresses;
 pub use slots::Slots;

@@ -23,7 +23,7 @@ use Rattle.gq_slots.proofs.Worlds.{set_there}
 use Rattle.gq_statements.specs.declared.actor.Actor.{Actor}
 use Rattle.gq_statements.specs.declared.actor.Hand.{Hand}
 use Rattle.gq_statements.specs.Statements.{IsBy, Pushes, hand_seen, told}
-use Rattle.gq_addresses.specs.Addresses.{place_seen}
+use Rattle.gq_slots.specs.Addresses.{place_seen}
 use Rattle.gq_statements.specs.internal.Found.{IsPool, entries_in}
 use Rattle.gq_statements.proofs.Founds.{same_spot}
 use Rattle.gq_statements.proofs.Worlds.{with_same}

@@ -14,7 +14,7 @@ use Rattle.gq_contents.specs.Things.{bytes_in, seen}
 use Rattle.gq_trade.specs.declared.session.Spot.{Spot}
 use Rattle.gq_trade.specs.Seen.{spot_seen}
 use Rattle.gq_slots.specs.Slots.{Frame, Slots, holder, memory_of, thing_at, world_seen}
-use Rattle.gq_addresses.specs.Addresses.{AreBuffers, place_seen}
+use Rattle.gq_slots.specs.Addresses.{AreBuffers, place_seen}
 use Rattle.gq_model.specs.machine.Scenario.{System}
 use Rattle.gq_statements.specs.declared.actor.Actor.{Actor}
 use Rattle.gq_statements.specs.Statements.{IsBy, hand_seen}

@@ -16,7 +16,7 @@ use Rattle.gq_trade.proofs.Sessions_kept.{between_at}
 use Rattle.gq_slots.specs.Slots.{Frame, Slots, memory_of, world_seen}
 use Rattle.gq_slots.specs.Calls.{Puts}
 use Rattle.gq_slots.proofs.Worlds.{session_there}
-use Rattle.gq_addresses.specs.Addresses.{AreBuffers, place_seen}
+use Rattle.gq_slots.specs.Addresses.{AreBuffers, place_seen}
 use Rattle.gq_paid.specs.Systems.{AreLawful, IsOf}
 use Rattle.gq_paid.proofs.Paid.{all_paid}
 use Rattle.gq_statements.specs.declared.actor.Actor.{Actor}

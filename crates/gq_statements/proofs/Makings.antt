@@ -20,7 +20,7 @@ use Rattle.gq_slots.specs.Calls.{SameBeside, Settles}
 use Rattle.gq_paid.specs.Systems.{AreLawful, IsOf, counted_at}
 use Rattle.gq_paid.proofs.Paid.{all_paid}
 use Rattle.gq_paid.proofs.Made.{leaf_found, written_at}
-use Rattle.gq_addresses.specs.Addresses.{place_seen}
+use Rattle.gq_slots.specs.Addresses.{place_seen}
 use Rattle.gq_statements.specs.declared.actor.Actor.{Actor}
 use Rattle.gq_statements.specs.Statements.{IsBy, hand_seen}
 use Rattle.gq_statements.specs.internal.Made.{IsFilled, IsUnpaid, filling}

@@ -9,7 +9,7 @@ use Rattle.gq_trade.specs.Trading.{IsTrading}
 use Rattle.gq_trade.proofs.Sessions_kept.{between_at}
 use Rattle.gq_trade.specs.Trades.{IsLive, IsTrades}
 use Rattle.gq_slots.specs.Slots.{Slots, holder}
-use Rattle.gq_addresses.specs.Addresses.{buffer_at, place_in}
+use Rattle.gq_slots.specs.Addresses.{buffer_at, place_in}
 
 same_live : (s : Slots) (q p : Spot) → IsLive s.trades (holder s q) → Some q ≡ Some p → IsLive s.trades (holder s p)
 same_live s q p l e = let f : q ≡ p = cc in subst (λ z. IsLive s.trades (holder s z)) f l

@@ -11,7 +11,7 @@ use Rattle.gq_trade.specs.declared.session.Spot.TheVariants.{InLeaf}
 use Rattle.gq_contents.specs.declared.thing.Thing.{Thing}
 use Rattle.gq_contents.specs.declared.thing.Thing.TheVariants as thing
 use Rattle.gq_slots.specs.Slots.{Frame, IsSpot, Slots, thing_at, world_seen}
-use Rattle.gq_addresses.specs.Addresses.{IsLinked}
+use Rattle.gq_slots.specs.Addresses.{IsLinked}
 use Rattle.gq_statements.specs.declared.actor.Hand.{Hand}
 use Rattle.gq_statements.specs.declared.actor.Actor.{Actor}
 

@@ -3,7 +3,7 @@ ghost use Rattle.std.specs.Prelude.{◌≡◌, ◌<◌, length, IfSome, IsTrue};
 ghost use Rattle.gq_model.specs.machine.World as world;
 ghost use Rattle.gq_model.specs.texts.Operands.{is_slot_or_object};
 ghost use Rattle.gq_slots.specs.Slots.{IsSpot, Slots, holder};
-ghost use Rattle.gq_addresses.specs.Addresses.{place_seen};
+ghost use Rattle.gq_slots.specs.Addresses.{place_seen};
 ghost use Rattle.gq_statements.specs.Statements.{IsAtHand, hand_seen};
 
 use gq_model::program::{Place, Section};

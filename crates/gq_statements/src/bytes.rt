@@ -9,14 +9,14 @@ ghost use Rattle.gq_trade.specs.Trades.{IsLive};
 ghost use Rattle.gq_slots.specs.Slots.{Frame, IsPaidBy, IsSpot, holder, slot_of, thing_at, world_seen};
 ghost use Rattle.gq_slots.specs.Calls.{Puts, SameBeside};
 ghost use Rattle.gq_contents.specs.Things.{size_of};
-ghost use Rattle.gq_addresses.specs.Addresses.{AreBuffers};
+ghost use Rattle.gq_slots.specs.Addresses.{AreBuffers};
 ghost use Rattle.gq_statements.specs.Statements.{AreLinked, IsAtHand, IsBy, done, read, space_in};
 ghost use Rattle.gq_model.specs.machine.Program.{bytes_of, little, spelled};
 ghost use Rattle.gq_contents.specs.Things.{bytes_in, put_in};
 ghost use Rattle.gq_statements.specs.internal.Found.{IsFound, byte_count};
 
 use crate::actor::Actor;
-use gq_addresses::Addresses;
+use gq_slots::Addresses;
 use gq_model::fault::Wrong;
 use gq_model::program::{Place, Width};
 use gq_trade::Spot;

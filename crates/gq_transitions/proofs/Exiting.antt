@@ -27,7 +27,7 @@ use Rattle.gq_trade.specs.Ends as trade
 use Rattle.gq_trade.specs.Ends.{follower, is_number, staged}
 use Rattle.gq_trade.specs.Trades.{Trades}
 use Rattle.gq_slots.specs.Slots.{Frame, Slots}
-use Rattle.gq_slot_sessions.specs.Calls.{EndsLeaf}
+use Rattle.gq_slots.specs.Session_calls.{EndsLeaf}
 use Rattle.gq_statements.specs.Statements.{hand_seen}
 use Rattle.gq_leaves.specs.Leaves.{LeafState, body_in, leaf_of, section_at}
 use Rattle.gq_steps.specs.Coded.{Coded}

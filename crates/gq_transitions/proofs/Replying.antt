@@ -23,7 +23,7 @@ use Rattle.gq_trade.specs.Seen.{session_seen}
 use Rattle.gq_trade.specs.Trading.{server_of, session_at}
 use Rattle.gq_slots.specs.Slots.{AreLong, Frame, Slots, memory_of, world_seen}
 use Rattle.gq_slots.proofs.Worlds.{session_there}
-use Rattle.gq_addresses.specs.Addresses.{AreBuffers}
+use Rattle.gq_slots.specs.Addresses.{AreBuffers}
 use Rattle.gq_paid.proofs.Made.{leaf_found}
 use Rattle.gq_paid.specs.Systems.{AreLawful, IsOf, stage_in}
 use Rattle.gq_statements.specs.declared.actor.Hand.{Hand}

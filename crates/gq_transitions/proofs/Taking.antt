@@ -27,7 +27,7 @@ use Rattle.gq_trade.specs.declared.requests.Request.{Request}
 use Rattle.gq_trade.specs.Queues.{IsOldest, oldest_to}
 use Rattle.gq_trade.specs.Seen_requests.{request_seen}
 use Rattle.gq_trade.specs.Trading.{object_size, server_of, session_at}
-use Rattle.gq_slot_sessions.specs.Calls.{TakesOldest}
+use Rattle.gq_slots.specs.Session_calls.{TakesOldest}
 use Rattle.gq_slots.specs.Slots.{AreSound, Frame, Slots, memory_of, world_seen}
 use Rattle.gq_paid.specs.Systems.{AreLawful, IsOf, stage_in}
 use Rattle.gq_serving.specs.Serving.{AreSections, Begins, HaveObjects, begun_leaf, taken}

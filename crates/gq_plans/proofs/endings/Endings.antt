@@ -22,7 +22,7 @@ use Rattle.gq_trade.specs.Ends.{follower, staged, with_stage}
 use Rattle.gq_trade.specs.Trades.{IsLive, Trades}
 use Rattle.gq_trade.proofs.Leaving.{IsFollower}
 use Rattle.gq_trade.proofs.Spent.{staged_here, staged_other, staged_same}
-use Rattle.gq_slot_sessions.specs.Calls.{EndsLeaf}
+use Rattle.gq_slots.specs.Session_calls.{EndsLeaf}
 use Rattle.gq_slots.specs.Slots.{Frame, Slots}
 use Rattle.gq_paid.specs.Systems.{AreLawful, IsOf, counted_at, stage_in}
 use Rattle.gq_plans.specs.Nodes.{AreNodesOf, node_after}

@@ -1,5 +1,5 @@
 use Rattle.std.proofs.Common.{IfSome, subst}
-use Rattle.gq_slot_sessions.specs.Calls.{TakesOldest}
+use Rattle.gq_slots.specs.Session_calls.{TakesOldest}
 use Rattle.benchmark.proofs.Rounds.{opens}
 use Rattle.benchmark.proofs.sessions.open.Goals as goal
 

@@ -6,7 +6,7 @@ use Rattle.gq_trade.specs.Seen.{spot_seen}
 use Rattle.gq_trade.specs.Trading.{fresh}
 use Rattle.gq_trade.specs.Trades.{IsLive}
 use Rattle.gq_slots.specs.Slots.{IsMark, Slots, world_seen}
-use Rattle.gq_slot_sessions.specs.Calls.{opening}
+use Rattle.gq_slots.specs.Session_calls.{opening}
 use Rattle.gq_asking.proofs.Kept.{carries_asked, free_seen, paid_then, reads_thing, same_spot, same_thing, stays_asked, stays_then, unpaid_open}
 use Rattle.gq_asking.proofs.Opens.{open_nowhere, open_some, open_unpaid}
 use Rattle.gq_asking.proofs.asking.open.Goals as goal

@@ -1,5 +1,5 @@
 use Rattle.std.proofs.Common.{IfSome, subst}
-use Rattle.gq_slot_sessions.specs.Calls.{TakesOldest}
+use Rattle.gq_slots.specs.Session_calls.{TakesOldest}
 use Rattle.gq_memory_rows.proofs.Serves.{serves_opened}
 use Rattle.gq_memory_rows.proofs.buffers_rows.opened.Goals as goal
 

@@ -2,10 +2,10 @@ use Rattle.std.proofs.Common.{◌<◌, ◌≤◌, ap, sym, subst, ◌∙◌}
 use Rattle.gq_model.specs.machine.World as world
 use Rattle.gq_trade.specs.Trading.{bytes_then, caps_then, session_at}
 use Rattle.gq_trade.specs.Trades.{Trades}
-use Rattle.gq_addresses.specs.Addresses.{slot_for}
+use Rattle.gq_slots.specs.Addresses.{slot_for}
 use Rattle.gq_slots.specs.Slots.{IsMark, IsSpot, thing_at}
 use Rattle.gq_slots.specs.Calls.{Puts}
-use Rattle.gq_slot_sessions.specs.Calls.{EndsSession}
+use Rattle.gq_slots.specs.Session_calls.{EndsSession}
 use Rattle.gq_serving.specs.internal.Tests.{are_empty}
 use Rattle.gq_serving.proofs.Closed.{awaited_beside, close_done, close_refused, close_wrong, still_mark}
 use Rattle.gq_serving.proofs.Emptied.{empty_each}

@@ -3,7 +3,7 @@ use Rattle.std.specs.Prelude.{IfNone, IfSome}
 use Rattle.gq_trade.specs.Queues.{oldest_to}
 use Rattle.gq_trade.specs.Trading.{session_at}
 use Rattle.gq_trade.specs.Trades.{Trades}
-use Rattle.gq_slot_sessions.specs.Calls.{TakesOldest}
+use Rattle.gq_slots.specs.Session_calls.{TakesOldest}
 use Rattle.gq_serving.proofs.Lawful.{lawful}
 use Rattle.gq_serving.proofs.Outcomes.{has_is, if_ok, outcome, refusal, takes_oldest, without}
 use Rattle.gq_serving.proofs.requests.accept.Goals as goal

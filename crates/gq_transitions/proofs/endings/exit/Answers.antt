@@ -13,7 +13,7 @@ use Rattle.gq_registers.specs.Nexts.{Active}
 use Rattle.gq_paid.proofs.linked.Ended_leaves.{no_sessions}
 use Rattle.gq_paid.proofs.linked.Stored.{stance_is}
 use Rattle.gq_slots.specs.Slots.{AreLong, Frame, Slots, world_seen}
-use Rattle.gq_slot_sessions.specs.Calls.{EndsLeaf}
+use Rattle.gq_slots.specs.Session_calls.{EndsLeaf}
 use Rattle.gq_paid.specs.Systems.{AreLawful, IsOf}
 use Rattle.gq_plans.specs.Nodes.{AreNodesOf}
 use Rattle.gq_trade.specs.Trades.{IsLive}

@@ -3,7 +3,7 @@ use Rattle.gq_model.specs.machine.Program.{bytes_of, spelled}
 use Rattle.gq_contents.specs.Things.{put_in}
 use Rattle.gq_slots.specs.Slots.{Slots, slot_of, world_seen}
 use Rattle.gq_slots.specs.Calls.{Puts}
-use Rattle.gq_addresses.proofs.Payers.{changed}
+use Rattle.gq_slots.proofs.Payers.{changed}
 use Rattle.gq_statements.proofs.Moves.{store_none, store_short, store_some}
 use Rattle.gq_statements.proofs.actor.Actor.store_elsewhere.Goals as goal
 

@@ -1,0 +1,104 @@
+-- Bytes that were found, and what they read in the machine's world.
+use Rattle.std.proofs.Common.{◌≡◌, ℕ, ◌+◌, ◌<◌, ◌≤◌, cond, List, length, Option, Some, None, IfSome, refl, sym, ap}
+use Rattle.std.proofs.Common.{subst, ◌∙◌, arith}
+use Rattle.std.specs.Prelude.{IsTrue, is_some, nat_le, slice_get, slice_index, slice_range}
+use Rattle.std.proofs.lemmas.Bool.Decides.{nat_tests}
+use Rattle.std.proofs.lemmas.Option.{slice_get-get_or, slice_get_past}
+use Rattle.gq_tariff.specs.Prices.{up}
+use Rattle.gq_model.specs.machine.Program.{little}
+use Rattle.gq_model.specs.machine.Scenario.{System}
+use Rattle.gq_model.specs.machine.Memory.{bytes_spot}
+use Rattle.gq_model.specs.machine.World as world
+use Rattle.gq_store.specs.Store.{Store}
+use Rattle.gq_store.proofs.Lists.{length-listed}
+use Rattle.gq_contents.specs.declared.thing.Thing.{Thing}
+use Rattle.gq_contents.specs.declared.thing.Thing.TheVariants.{Empty, Block, Slice, Space, Pool, Link, Waiting}
+use Rattle.gq_contents.specs.Things.{bytes_in, put_in, seen, size_of}
+use Rattle.gq_trade.specs.declared.session.Spot.{Spot}
+use Rattle.gq_trade.specs.Seen.{spot_seen}
+use Rattle.gq_slots.specs.Slots.{Frame, Slots, holder, memory_of, slot_of, thing_at, world_seen}
+use Rattle.gq_slots.specs.Calls.{Puts}
+use Rattle.gq_slots.specs.Addresses.{AreFound, AreThere, byte_of, bytes_behind, bytes_of, bytes_there, four_in, number_of, place_seen, put_behind}
+use Rattle.gq_slots.specs.Addresses.{put_slot, put_there}
+
+-- it has as many bytes as it says
+pub length_seen : (st : Store) (t : Thing) → length (bytes_in (seen st t)) ≡ size_of t
+length_seen st Empty = refl
+length_seen st (Block p n) = length-listed n _
+length_seen st (Slice k n) = length-listed n _
+length_seen st (Space k n) = length-listed (up n) _
+length_seen st (Pool p) = refl
+length_seen st (Link k) = refl
+length_seen st (Waiting k) = refl
+
+module _ (system : System) (w : world.World) (s : Slots) (p : Spot) (i n : ℕ) where
+  abbrev there : Option world.Spot
+  there = bytes_spot system w (world.slot_at w (spot_seen p)) (spot_seen p)
+
+  -- WHAT IS FOUND
+
+  pub found_none : (o : Option (Spot × ℕ)) → o ≡ None → None ≡ there → 0 < n → AreFound system w s p i n o
+  found_none o e f lt =
+      let long : length (bytes_behind system w (spot_seen p)) ≡ 0 = ap (λ y. length (bytes_there w y)) (sym f) in
+      subst (AreFound system w s p i n) (sym e) (omega (arith, long, lt))
+
+  slot_is : (q : Spot) (t : Thing) → t ≡ thing_at s q → world.slot_at w (spot_seen q) ≡ Some (seen (memory_of s (holder s q)) t)
+      → world.slot_at w (spot_seen q) ≡ Some (slot_of s q)
+  slot_is q t e r = r ∙ ap (λ y. Some (seen (memory_of s (holder s q)) y)) e
+
+  pub found_some : (o : Option Spot) (q : Spot) (t : Thing) → o ≡ Some q → place_seen o ≡ there → t ≡ thing_at s q
+      → world.slot_at w (spot_seen q) ≡ Some (seen (memory_of s (holder s q)) t) → i + n ≤ size_of t → AreFound system w s p i n (Some (q, i))
+  found_some o q t e f g r le =
+      let size = length_seen (memory_of s (holder s q)) (thing_at s q) in
+      let same = ap size_of g in
+      record {
+        place = sym f ∙ ap place_seen e;
+        slot = slot_is q t g r;
+        index = refl;
+        long = omega (arith, size, same, le);
+      }
+
+  pub found_short : (o : Option Spot) (q : Spot) (t : Thing) → o ≡ Some q → place_seen o ≡ there → t ≡ thing_at s q
+      → world.slot_at w (spot_seen q) ≡ Some (seen (memory_of s (holder s q)) t) → size_of t < i + n → AreFound system w s p i n None
+  found_short o q t e f g r lt =
+      let size = length_seen (memory_of s (holder s q)) (thing_at s q) in
+      let same = ap size_of g in
+      let bytes : bytes_behind system w (spot_seen p) ≡ bytes_in (slot_of s q) =
+      ap (bytes_there w) (sym f ∙ ap place_seen e) ∙ ap bytes_of (slot_is q t g r) in
+      omega (arith, size, same, lt, ap length bytes)
+
+  -- WHAT IT READS
+
+  bytes_are : (q : Spot) (j : ℕ) → AreThere system w s p i n q j → bytes_behind system w (spot_seen p) ≡ bytes_in (slot_of s q)
+  bytes_are q j a = ap (bytes_there w) a.place ∙ ap bytes_of a.slot
+
+  pub fits : (o : Option (Spot × ℕ)) → AreFound system w s p i n o → is_some o ≡ nat_le (i + n) (length (bytes_behind system w (spot_seen p)))
+  fits None a = grind (arith, nat_tests, a)
+  fits (Some f) a = let e = ap length (bytes_are f.0 f.1 a) in let l = a.long in grind (arith, nat_tests, e, l)
+
+  pub stored : (f : Frame) (b : Slots) (bs : List ℕ) (o : Option (Spot × ℕ)) → w ≡ world_seen f s → AreFound system w s p i n o
+      → IfSome o (λ g. Puts s b g.0 (put_in g.1 bs (slot_of s g.0))) → IsTrue (is_some o) → world_seen f b ≡ put_behind system w (spot_seen p) i bs
+  stored f b bs None e a h t = cc
+  stored f b bs (Some g) e a h t =
+      h.seen_so f ∙ ap (λ y. world.with_slot y (spot_seen g.0) (put_in g.1 bs (slot_of s g.0))) (sym e)
+      ∙ ap (λ j. world.with_slot w (spot_seen g.0) (put_in j bs (slot_of s g.0))) a.index ∙ sym (ap (put_there w i bs) a.place
+      ∙ ap (put_slot w (spot_seen g.0) i bs) a.slot)
+
+pub loaded : (system : System) (w : world.World) (s : Slots) (p : Spot) (i : ℕ) (o : Option (Spot × ℕ)) → AreFound system w s p i 1 o
+    → byte_of s o ≡ slice_get (bytes_behind system w (spot_seen p)) i
+loaded system w s p i None a = sym (slice_get_past (bytes_behind system w (spot_seen p)) i (omega (arith, a)))
+loaded system w s p i (Some f) a =
+    let bytes = bytes_in (slot_of s f.0) in
+    ap (λ j. Some (slice_index bytes j)) a.index ∙ sym (slice_get-get_or bytes i 0 (omega (arith, a.long)))
+    ∙ ap (λ y. slice_get y i) (sym (bytes_are system w s p i 1 f.0 f.1 a))
+
+pub loaded4 : (system : System) (w : world.World) (s : Slots) (p : Spot) (i : ℕ) (o : Option (Spot × ℕ)) → AreFound system w s p i 4 o
+    → number_of s o ≡ four_in (bytes_behind system w (spot_seen p)) i
+loaded4 system w s p i None a =
+    let bytes = bytes_behind system w (spot_seen p) in
+    ap (λ b. cond b (Some (little (slice_range bytes i (i + 4)))) None) (fits system w s p i 4 None a)
+loaded4 system w s p i (Some f) a =
+    let bytes = bytes_in (slot_of s f.0) in
+    let e = bytes_are system w s p i 4 f.0 f.1 a in
+    ap (λ j. Some (little (slice_range bytes j (j + 4)))) a.index ∙ ap (λ y. Some (little (slice_range y i (i + 4)))) (sym e)
+    ∙ ap (λ b. cond b (Some (little (slice_range (bytes_behind system w (spot_seen p)) i (i + 4)))) None) (fits system w s p i 4 (Some f) a)
