@@ -20,12 +20,12 @@ use Rattle.gq_plans.proofs.Firsts.{afters_fit}
 use Rattle.gq_plans.proofs.Kept.{first_kept, quantum_of, stage_of}
 use Rattle.gq_plans.specs.Nodes.{AreNodesOf}
 use Rattle.gq_plans.specs.Plans.{first_stage}
-use Rattle.gq_registers.specs.Cores.{Core}
-use Rattle.gq_flat.specs.Programs.{AreFound, IsCodeOfProgram, ProgramCode, code_in}
-use Rattle.gq_registers.specs.Views.{state_of}
-use Rattle.gq_registers.specs.declared.operation.Operation.{Operation}
-use Rattle.gq_flat.proofs.Named.{started}
-use Rattle.gq_flat.proofs.Parts.{found_body}
+use Rattle.gq_bytecode.specs.Cores.{Core}
+use Rattle.gq_bytecode.specs.Programs.{AreFound, IsCodeOfProgram, ProgramCode, code_in}
+use Rattle.gq_bytecode.specs.Views.{state_of}
+use Rattle.gq_bytecode.specs.declared.operation.Operation.{Operation}
+use Rattle.gq_bytecode.proofs.Named.{started}
+use Rattle.gq_bytecode.proofs.Parts.{found_body}
 use Rattle.gq_store.specs.Store.{Store}
 use Rattle.gq_heap.specs.declared.heap.Heap.{Heap}
 use Rattle.gq_heap.specs.Heap.{peaks}

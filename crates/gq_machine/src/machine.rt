@@ -7,7 +7,7 @@ ghost use Rattle.gq_model.specs.machine.Sums.{held};
 ghost use Rattle.gq_model.specs.machine.World.{first_phase, start};
 ghost use Rattle.gq_nodes.specs.NodeTables.{node_rows};
 ghost use Rattle.gq_laws.specs.Ready.{IsReady};
-ghost use Rattle.gq_flat.specs.Programs.{IsCodeOfProgram};
+ghost use Rattle.gq_bytecode.specs.Programs.{IsCodeOfProgram};
 ghost use Rattle.gq_plans.specs.Nodes.{caps_of};
 ghost use Rattle.gq_prepared.specs.Prepared.{AreServices};
 ghost use Rattle.gq_plans.specs.Held.{held_by_all};
@@ -16,7 +16,7 @@ ghost use Rattle.gq_transitions.specs.internal.Holds.{IsPrepared};
 ghost use Rattle.gq_machine.specs.internal.Held.{held_before};
 ghost use Rattle.gq_machine.specs.internal.Starts.{AreFirst, ArePrepared, IsFirstOf, AreFirstSlots};
 
-use gq_flat::Code;
+use gq_bytecode::Code;
 use gq_model::phase::Phase;
 use gq_nodes::NodeTable;
 use gq_plans::plan_of;

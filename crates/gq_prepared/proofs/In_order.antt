@@ -4,9 +4,9 @@ use Rattle.gq_model.specs.declared.program.Section.{Section}
 use Rattle.gq_model.specs.declared.program.Section.TheVariants.{Main, Opening, Upgrading, Calling, Closing}
 use Rattle.gq_model.specs.machine.Program.{Statements, section_in}
 use Rattle.gq_model.specs.declared.program.Instruction.{Instruction}
-use Rattle.gq_registers.specs.declared.operation.Operation.{Operation}
-use Rattle.gq_flat.specs.Programs.{AreFound, IsCodeOfProgram, ProgramCode, code_in}
-use Rattle.gq_flat.proofs.Parts.{found_body}
+use Rattle.gq_bytecode.specs.declared.operation.Operation.{Operation}
+use Rattle.gq_bytecode.specs.Programs.{AreFound, IsCodeOfProgram, ProgramCode, code_in}
+use Rattle.gq_bytecode.proofs.Parts.{found_body}
 use Rattle.gq_serving.specs.Serving.{IsSection, place}
 
 found_same : (code : Option (List Operation)) (longs : List Instruction) (body : Option Statements) → AreFound code longs body → is_some code ≡ is_some body

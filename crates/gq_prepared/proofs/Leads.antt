@@ -11,7 +11,7 @@ use Rattle.gq_model.specs.machine.Routes.{server_of}
 use Rattle.gq_model.specs.machine.Scenario.{Component, Interface, Interfaces, Scenario, components, interface_in, open_caps, system}
 use Rattle.gq_model.specs.rules.Use.{services}
 use Rattle.gq_model.proofs.Small.{none_some, some_same, text_is}
-use Rattle.gq_flat.specs.Programs.{IsCodeOfProgram, ProgramCode}
+use Rattle.gq_bytecode.specs.Programs.{IsCodeOfProgram, ProgramCode}
 use Rattle.gq_nodes.specs.NodeTables.{interface_number, leaf_row, leaf_rows, opened_server}
 use Rattle.gq_nodes.proofs.Rows.{row_at}
 use Rattle.gq_laws.specs.Ready.{IsReady}

@@ -10,15 +10,15 @@ use Rattle.gq_model.specs.machine.Program.{Statements, Done, Do, If, Loop, ◌th
 use Rattle.gq_model.specs.machine.Scenario.{Component}
 use Rattle.gq_model.specs.rules.Use.{opened_by, services, services_in, services_of}
 use Rattle.gq_model.proofs.Small.{none_some, some_same, text_self}
-use Rattle.gq_registers.specs.declared.operation.Operation.{Operation}
-use Rattle.gq_registers.specs.declared.operation.Operation.TheVariants as operation
-use Rattle.gq_registers.specs.Alones.{State}
-use Rattle.gq_registers.specs.Cores.{Core}
-use Rattle.gq_registers.specs.Layout.{IsCodeOf, instruction_in, width}
-use Rattle.gq_registers.specs.Places.{Frame, Place, frame, place, place_or_end, places, section_places}
-use Rattle.gq_flat.specs.Programs.{AreFound, IsCodeOfProgram, ProgramCode, code_in}
-use Rattle.gq_registers.specs.Stated.{IsStated}
-use Rattle.gq_flat.proofs.Parts.{found_body}
+use Rattle.gq_bytecode.specs.declared.operation.Operation.{Operation}
+use Rattle.gq_bytecode.specs.declared.operation.Operation.TheVariants as operation
+use Rattle.gq_bytecode.specs.Alones.{State}
+use Rattle.gq_bytecode.specs.Cores.{Core}
+use Rattle.gq_bytecode.specs.Layout.{IsCodeOf, instruction_in, width}
+use Rattle.gq_bytecode.specs.Places.{Frame, Place, frame, place, place_or_end, places, section_places}
+use Rattle.gq_bytecode.specs.Programs.{AreFound, IsCodeOfProgram, ProgramCode, code_in}
+use Rattle.gq_bytecode.specs.Stated.{IsStated}
+use Rattle.gq_bytecode.proofs.Parts.{found_body}
 use Rattle.gq_laws.proofs.verified.Linkless_flows.{none_append}
 use Rattle.std.proofs.lemmas.Bool.{or_parts, or_from}
 

@@ -7,9 +7,9 @@ use Rattle.gq_model.specs.machine.Memory.{buffer_of}
 use Rattle.gq_model.specs.machine.Program.{Statements, section_in}
 use Rattle.gq_model.specs.machine.Routes.{server_of}
 use Rattle.gq_model.specs.machine.Scenario.{Component, Scenario, interface_in, open_caps, system, upgrade_caps}
-use Rattle.gq_registers.specs.declared.operation.Operation.{Operation}
-use Rattle.gq_registers.specs.declared.operation.Operation.TheVariants.{Long}
-use Rattle.gq_flat.specs.Programs.{ProgramCode, code_in}
+use Rattle.gq_bytecode.specs.declared.operation.Operation.{Operation}
+use Rattle.gq_bytecode.specs.declared.operation.Operation.TheVariants.{Long}
+use Rattle.gq_bytecode.specs.Programs.{ProgramCode, code_in}
 use Rattle.gq_prepared.specs.declared.openings.Opening.{Opening}
 
 -- the names of the services, by their numbers

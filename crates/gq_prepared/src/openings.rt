@@ -3,12 +3,12 @@ ghost use Rattle.std.specs.Prelude.{◌≡◌, ◌<◌, length, slice_get, IfOk,
 ghost use Rattle.gq_model.specs.machine.Scenario.{components};
 ghost use Rattle.gq_nodes.specs.NodeTables.{interface_number};
 ghost use Rattle.gq_laws.specs.Ready.{IsReady};
-ghost use Rattle.gq_flat.specs.Programs.{IsCodeOfProgram};
+ghost use Rattle.gq_bytecode.specs.Programs.{IsCodeOfProgram};
 ghost use Rattle.gq_prepared.specs.Prepared.{AreOpenings};
 ghost use Rattle.gq_prepared.specs.internal.Opened.{IsOpened, IsOpenedBy, IsServed};
 
-use gq_flat::Code;
-use gq_flat::laws::stated;
+use gq_bytecode::Code;
+use gq_bytecode::laws::stated;
 use gq_laws::ready::served;
 use gq_model::program::{Instruction, Name};
 use gq_nodes::NodeTable;

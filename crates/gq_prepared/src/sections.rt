@@ -1,10 +1,10 @@
 // Which sections a program has.
 ghost use Rattle.std.specs.Prelude.{◌≡◌, is_some};
 ghost use Rattle.gq_model.specs.machine.Scenario.{Component};
-ghost use Rattle.gq_flat.specs.Programs.{IsCodeOfProgram, code_in};
+ghost use Rattle.gq_bytecode.specs.Programs.{IsCodeOfProgram, code_in};
 ghost use Rattle.gq_serving.specs.Serving.{AreSections};
 
-use gq_flat::Code;
+use gq_bytecode::Code;
 use gq_model::program::Section;
 
 // Whether there is code of a section.

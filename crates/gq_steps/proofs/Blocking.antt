@@ -14,11 +14,11 @@ use Rattle.gq_model.specs.machine.Requests as requests
 use Rattle.gq_model.specs.machine.Scenario.{System, Component}
 use Rattle.gq_model.specs.machine.Step.{instruct}
 use Rattle.gq_model.specs.machine.World as world
-use Rattle.gq_registers.specs.declared.operation.Operation.{Operation}
-use Rattle.gq_registers.specs.declared.operation.Operation.TheVariants as operation
-use Rattle.gq_registers.specs.Layout.{instruction_in}
-use Rattle.gq_registers.specs.Nexts.{Active}
-use Rattle.gq_registers.specs.Stated.{IsStated}
+use Rattle.gq_bytecode.specs.declared.operation.Operation.{Operation}
+use Rattle.gq_bytecode.specs.declared.operation.Operation.TheVariants as operation
+use Rattle.gq_bytecode.specs.Layout.{instruction_in}
+use Rattle.gq_bytecode.specs.Nexts.{Active}
+use Rattle.gq_bytecode.specs.Stated.{IsStated}
 use Rattle.gq_slots.specs.Slots.{Frame, Slots, world_seen}
 use Rattle.gq_paid.specs.Systems.{AreLawful, IsOf, stage_in}
 use Rattle.gq_statements.specs.declared.actor.Actor.{Actor}

@@ -13,8 +13,8 @@ use Rattle.gq_model.specs.machine.Requests as requests
 use Rattle.gq_model.specs.machine.Routes.{server_of}
 use Rattle.gq_model.specs.machine.Scenario.{interface_in, open_caps, upgrade_caps}
 use Rattle.gq_model.specs.machine.World as world
-use Rattle.gq_registers.specs.declared.operation.Operation.{Operation}
-use Rattle.gq_registers.specs.declared.operation.Operation.TheVariants as operation
+use Rattle.gq_bytecode.specs.declared.operation.Operation.{Operation}
+use Rattle.gq_bytecode.specs.declared.operation.Operation.TheVariants as operation
 use Rattle.gq_slots.specs.Slots.{Frame, Slots, world_seen}
 use Rattle.gq_paid.specs.Systems.{IsOf}
 use Rattle.gq_statements.specs.declared.actor.Actor.{Actor}

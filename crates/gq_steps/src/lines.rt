@@ -1,7 +1,7 @@
 // Statements that give a line.
 ghost use Rattle.std.specs.Prelude.{◌≡◌, ℕ, ◌+◌, ◌<◌, ◌^◌, ◌∷◌, List, decimal, drop, slice_get, IfErr, IfOk, OnErr, Err, Some};
 ghost use Rattle.gq_model.specs.declared.program.Instruction.TheVariants as instruction;
-ghost use Rattle.gq_registers.specs.declared.operation.Operation.TheVariants as operation;
+ghost use Rattle.gq_bytecode.specs.declared.operation.Operation.TheVariants as operation;
 ghost use Rattle.gq_slots.specs.Slots.{Slots};
 ghost use Rattle.gq_statements.specs.Statements.{done};
 ghost use Rattle.gq_steps.specs.Coded.{operation_of};

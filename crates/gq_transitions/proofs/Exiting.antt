@@ -19,8 +19,8 @@ use Rattle.gq_laws.specs.Ready.{IsReady}
 use Rattle.gq_laws.proofs.ready.Servers.{provided}
 use Rattle.gq_nodes.specs.NodeTables.{number_named}
 use Rattle.gq_plans.proofs.endings.Afters.{own_number}
-use Rattle.gq_registers.specs.Nexts.{Active}
-use Rattle.gq_registers.specs.Views.{state_of}
+use Rattle.gq_bytecode.specs.Nexts.{Active}
+use Rattle.gq_bytecode.specs.Views.{state_of}
 use Rattle.gq_trade.specs.Trading.{Trading, node_of}
 use Rattle.gq_trade.specs.declared.node.Stage.TheVariants.{Ended}
 use Rattle.gq_trade.specs.Ends as trade

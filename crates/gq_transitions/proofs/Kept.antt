@@ -6,7 +6,7 @@ use Rattle.gq_model.specs.machine.Doing.{Event}
 use Rattle.gq_model.specs.machine.Scenario.{Scenario, Component, components, system}
 use Rattle.gq_model.specs.machine.World as world
 use Rattle.gq_model.proofs.Small.{some_same}
-use Rattle.gq_flat.specs.Programs.{IsCodeOfProgram, ProgramCode}
+use Rattle.gq_bytecode.specs.Programs.{IsCodeOfProgram, ProgramCode}
 use Rattle.gq_laws.specs.Links.{IsLinkedWorld, stance, stance_in}
 use Rattle.gq_laws.proofs.linking.Linked_worlds.{kept_linked}
 use Rattle.gq_laws.proofs.linking.Worlds.{set_else, set_here}

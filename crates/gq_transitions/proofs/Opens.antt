@@ -10,11 +10,11 @@ use Rattle.gq_model.specs.machine.Program.{Statements, body_of, section_in, text
 use Rattle.gq_model.specs.machine.Scenario.{Component, components}
 use Rattle.gq_model.specs.rules.Use.{services}
 use Rattle.gq_model.proofs.Small.{get_within}
-use Rattle.gq_registers.specs.declared.operation.Operation.{Operation}
-use Rattle.gq_registers.specs.declared.operation.Operation.TheVariants.{Long}
-use Rattle.gq_flat.specs.Programs.{AreFound, code_in}
-use Rattle.gq_flat.proofs.Named.{stated}
-use Rattle.gq_flat.proofs.Parts.{found_body}
+use Rattle.gq_bytecode.specs.declared.operation.Operation.{Operation}
+use Rattle.gq_bytecode.specs.declared.operation.Operation.TheVariants.{Long}
+use Rattle.gq_bytecode.specs.Programs.{AreFound, code_in}
+use Rattle.gq_bytecode.proofs.Named.{stated}
+use Rattle.gq_bytecode.proofs.Parts.{found_body}
 use Rattle.gq_leaves.specs.Leaves.{section_at}
 use Rattle.gq_prepared.specs.Prepared.{IsOpening}
 use Rattle.gq_prepared.specs.declared.openings.Opening.{Opening}

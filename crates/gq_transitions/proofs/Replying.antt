@@ -14,8 +14,8 @@ use Rattle.gq_model.specs.machine.Step.{next, reply, section_ended}
 use Rattle.gq_model.specs.machine.Step as step
 use Rattle.gq_model.specs.machine.World as world
 use Rattle.gq_model.proofs.Small.{get_within, some_same}
-use Rattle.gq_registers.specs.declared.operation.Operation.TheVariants as operation
-use Rattle.gq_registers.specs.Nexts.{Active}
+use Rattle.gq_bytecode.specs.declared.operation.Operation.TheVariants as operation
+use Rattle.gq_bytecode.specs.Nexts.{Active}
 use Rattle.gq_laws.proofs.linking.Worlds.{set_else}
 use Rattle.gq_trade.specs.Numbers.{IsTaken}
 use Rattle.gq_trade.proofs.Lowest.{taken_there}

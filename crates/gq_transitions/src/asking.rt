@@ -4,7 +4,7 @@ ghost use Rattle.gq_model.specs.declared.program.Instruction.TheVariants as inst
 ghost use Rattle.gq_model.specs.declared.program.Place.{Place};
 ghost use Rattle.gq_model.specs.machine.Scenario.{components, interface_in, upgrade_caps};
 ghost use Rattle.gq_model.specs.machine.World as world;
-ghost use Rattle.gq_registers.specs.declared.operation.Operation.TheVariants as operation;
+ghost use Rattle.gq_bytecode.specs.declared.operation.Operation.TheVariants as operation;
 ghost use Rattle.gq_trade.specs.Numbers.{IsTaken};
 ghost use Rattle.gq_statements.specs.Statements.{done};
 ghost use Rattle.gq_transitions.specs.Worlds.{world_of};
@@ -17,7 +17,7 @@ use gq_asking::link;
 use gq_model::fault::Wrong;
 use gq_model::program::Place;
 use gq_prepared::Opening;
-use gq_registers::Operation;
+use gq_bytecode::Operation;
 use gq_statements::Actor;
 use gq_tariff::Amount;
 

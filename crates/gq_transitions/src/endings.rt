@@ -1,7 +1,7 @@
 // The end of `main` of a leaf that provides nothing.
 ghost use Rattle.std.specs.Prelude.{◌≡◌, ℕ, ◌+◌, ◌<◌, ◌^◌, List, length, slice_get, Err, Ok, OnErr, OnOk};
 ghost use Rattle.gq_model.specs.machine.Scenario.{components};
-ghost use Rattle.gq_registers.specs.declared.operation.Operation.TheVariants as operation;
+ghost use Rattle.gq_bytecode.specs.declared.operation.Operation.TheVariants as operation;
 ghost use Rattle.gq_serving.specs.Serving.{finished};
 ghost use Rattle.gq_transitions.specs.internal.Endings.{AreGone, AreReleased, follows, released_if};
 ghost use Rattle.gq_transitions.specs.internal.Holds.{CanStep, EndsMain, Goes, Holds, IsNext, OfLeaf};

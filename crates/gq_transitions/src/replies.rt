@@ -1,7 +1,7 @@
 // At the end of a section for a session its server replies.
 ghost use Rattle.std.specs.Prelude.{◌≡◌, ℕ, ◌+◌, ◌<◌, ◌^◌, ◌∷◌, OnErr, OnOk, Some, length, slice_get};
 ghost use Rattle.gq_model.specs.declared.program.Section.TheVariants as section;
-ghost use Rattle.gq_registers.specs.declared.operation.Operation.TheVariants as operation;
+ghost use Rattle.gq_bytecode.specs.declared.operation.Operation.TheVariants as operation;
 ghost use Rattle.gq_contents.specs.declared.thing.Thing.TheVariants as thing;
 ghost use Rattle.gq_trade.specs.declared.session.Spot.TheVariants.{InObject};
 ghost use Rattle.gq_trade.specs.Trading.{AreOfOthers};

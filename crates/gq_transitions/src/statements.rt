@@ -2,7 +2,7 @@
 ghost use Rattle.std.specs.Prelude.{◌≡◌, ℕ, List, IfErr, IfOk, IsTrue, OnErr, OnOk, Err, Ok, decimal};
 ghost use Rattle.gq_statements.specs.Statements.{done};
 ghost use Rattle.gq_paid.specs.Systems.{AreLawful};
-ghost use Rattle.gq_registers.specs.declared.operation.Operation.TheVariants as operation;
+ghost use Rattle.gq_bytecode.specs.declared.operation.Operation.TheVariants as operation;
 ghost use Rattle.gq_leaves.specs.Operations.{is_on_memory};
 ghost use Rattle.gq_steps.specs.Steps.{shows};
 ghost use Rattle.gq_transitions.specs.internal.Holds.{ActsOn, CanStep, Goes, Holds, IsLong, IsNext, Provides};
@@ -11,7 +11,7 @@ ghost use Rattle.gq_model.specs.declared.program.Instruction.TheVariants as inst
 use crate::state::{Fixed, State};
 use gq_model::fault::Wrong;
 use gq_model::program::Place;
-use gq_registers::Operation;
+use gq_bytecode::Operation;
 use gq_slots::Slots;
 
 // What holds of slots between two calls. It does nothing.

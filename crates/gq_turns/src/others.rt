@@ -1,8 +1,8 @@
 // A step in which others have a part: a statement, or the end of a section.
 ghost use Rattle.std.specs.Prelude.{◌≡◌, ◌<◌, ◌≤◌, ℕ, List, [], IfOk, IfSome, IsTrue, OnErr, OnOk, Err, is_some, length, slice_get};
 ghost use Rattle.gq_model.specs.machine.Scenario.{components};
-ghost use Rattle.gq_registers.specs.Cores.{is_shared};
-ghost use Rattle.gq_registers.specs.declared.operation.Operation.TheVariants as operation;
+ghost use Rattle.gq_bytecode.specs.Cores.{is_shared};
+ghost use Rattle.gq_bytecode.specs.declared.operation.Operation.TheVariants as operation;
 ghost use Rattle.gq_laws.specs.Ready.{IsReady};
 ghost use Rattle.gq_statements.specs.Statements.{done};
 ghost use Rattle.gq_turns.specs.declared.event.Event.TheVariants as event;
@@ -14,7 +14,7 @@ use crate::event::Event;
 use arrayvec::ArrayVec;
 use gq_model::fault::Wrong;
 use gq_model::program::Instruction;
-use gq_registers::Operation;
+use gq_bytecode::Operation;
 use gq_scenario::scenario::LeafNo;
 use gq_transitions::asking::{open, upgrade};
 use gq_transitions::endings::exit;

@@ -5,9 +5,9 @@ use Rattle.gq_model.specs.machine.Doing.{Stepped}
 use Rattle.gq_model.specs.machine.Scenario.{Scenario, Component, components, system}
 use Rattle.gq_model.specs.machine.Step.{next}
 use Rattle.gq_model.specs.machine.World as world
-use Rattle.gq_registers.specs.Nexts.{Active}
-use Rattle.gq_flat.specs.Programs.{IsCodeOfProgram}
-use Rattle.gq_registers.specs.declared.operation.Operation.{Operation}
+use Rattle.gq_bytecode.specs.Nexts.{Active}
+use Rattle.gq_bytecode.specs.Programs.{IsCodeOfProgram}
+use Rattle.gq_bytecode.specs.declared.operation.Operation.{Operation}
 use Rattle.gq_laws.specs.Links.{IsLinkedWorld}
 use Rattle.gq_laws.specs.Room.{IsRoomy}
 use Rattle.gq_laws.proofs.progress.Phases.{AreReady}

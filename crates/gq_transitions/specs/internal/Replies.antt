@@ -1,6 +1,6 @@
 -- The end of a section for a session, and leaves after the reply.
 use Rattle.std.specs.Prelude.{◌≡◌, ℕ, List, slice_get, slice_set, Some}
-use Rattle.gq_registers.specs.declared.operation.Operation.TheVariants.{End}
+use Rattle.gq_bytecode.specs.declared.operation.Operation.TheVariants.{End}
 use Rattle.gq_trade.specs.Trading.{client_of}
 use Rattle.gq_paid.specs.Systems.{AreLawful}
 use Rattle.gq_statements.specs.declared.actor.Hand.{Hand}

@@ -1,7 +1,7 @@
 -- The end of `main` of a leaf that provides nothing.
 use Rattle.std.proofs.Common.{refl, sym, ap, subst, ◌∙◌}
 use Rattle.gq_model.specs.machine.Step.{main_ended, section_ended}
-use Rattle.gq_registers.specs.Nexts.{Active}
+use Rattle.gq_bytecode.specs.Nexts.{Active}
 use Rattle.gq_statements.specs.Statements.{hand_seen}
 use Rattle.gq_steps.proofs.Beginning.{exits}
 use Rattle.gq_steps.proofs.Ending.{end_is}

@@ -9,8 +9,8 @@ use Rattle.gq_model.specs.machine.Scenario.{interface_in, system, upgrade_caps}
 use Rattle.gq_model.specs.machine.World as world
 use Rattle.gq_model.specs.texts.Operands.{is_slot}
 use Rattle.gq_model.proofs.Small.{none_some, some_same}
-use Rattle.gq_registers.specs.Nexts.{Active}
-use Rattle.gq_registers.specs.declared.operation.Operation.TheVariants as operation
+use Rattle.gq_bytecode.specs.Nexts.{Active}
+use Rattle.gq_bytecode.specs.declared.operation.Operation.TheVariants as operation
 use Rattle.gq_statements.specs.Statements.{IsAtHand, hand_seen}
 use Rattle.gq_steps.specs.Coded.{Coded, operation_of}
 use Rattle.gq_steps.specs.Steps.{session_of}

@@ -7,8 +7,8 @@ use Rattle.gq_model.specs.machine.Amounts.{amount}
 use Rattle.gq_model.specs.machine.Doing.{Quiet}
 use Rattle.gq_model.specs.machine.Scenario.{Component, Scenario, components, interface_in, open_caps, system}
 use Rattle.gq_model.proofs.Small.{set_there}
-use Rattle.gq_registers.specs.Nexts.{Active}
-use Rattle.gq_registers.specs.declared.operation.Operation.TheVariants.{Long}
+use Rattle.gq_bytecode.specs.Nexts.{Active}
+use Rattle.gq_bytecode.specs.declared.operation.Operation.TheVariants.{Long}
 use Rattle.gq_prepared.specs.Prepared.{IsOpening, names_of}
 use Rattle.gq_prepared.specs.declared.openings.Opening.{Opening}
 use Rattle.gq_paid.specs.Systems.{stage_in}

@@ -6,7 +6,7 @@ use Rattle.gq_model.specs.declared.program.Instruction.TheVariants as instructio
 use Rattle.gq_model.specs.declared.program.Place.{Place}
 use Rattle.gq_model.specs.machine.Scenario.{Component, Scenario, components}
 use Rattle.gq_model.proofs.Small.{none_some, some_same}
-use Rattle.gq_registers.specs.declared.operation.Operation.TheVariants.{Long}
+use Rattle.gq_bytecode.specs.declared.operation.Operation.TheVariants.{Long}
 use Rattle.gq_prepared.specs.Prepared.{IsOpening}
 use Rattle.gq_prepared.specs.declared.openings.Opening.{Opening}
 use Rattle.gq_steps.specs.Coded.{operation_of}

@@ -8,8 +8,8 @@ use Rattle.gq_model.specs.machine.Scenario.{Component, components, system}
 use Rattle.gq_model.specs.machine.Step.{main_ended, next, released, section_ended}
 use Rattle.gq_model.specs.machine.World as world
 use Rattle.gq_model.proofs.Small.{some_same}
-use Rattle.gq_registers.specs.declared.operation.Operation.TheVariants as operation
-use Rattle.gq_registers.specs.Nexts.{Active}
+use Rattle.gq_bytecode.specs.declared.operation.Operation.TheVariants as operation
+use Rattle.gq_bytecode.specs.Nexts.{Active}
 use Rattle.gq_paid.proofs.linked.Ended_leaves.{no_sessions}
 use Rattle.gq_paid.proofs.linked.Stored.{stance_is}
 use Rattle.gq_slots.specs.Slots.{AreLong, Frame, Slots, world_seen}

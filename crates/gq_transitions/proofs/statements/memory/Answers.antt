@@ -7,7 +7,7 @@ use Rattle.gq_statements.specs.Statements.{done}
 use Rattle.gq_model.specs.machine.Scenario.{system}
 use Rattle.gq_model.specs.machine.Doing.{Quiet}
 use Rattle.gq_model.proofs.Small.{set_there, some_same}
-use Rattle.gq_registers.specs.Nexts.{Active}
+use Rattle.gq_bytecode.specs.Nexts.{Active}
 use Rattle.gq_laws.proofs.linking.Worlds.{set_here}
 use Rattle.gq_paid.specs.Systems.{stage_in}
 use Rattle.gq_steps.specs.Coded.{Coded, IsStanding, operation_of}

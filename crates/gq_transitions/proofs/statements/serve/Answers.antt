@@ -4,8 +4,8 @@ use Rattle.std.specs.Prelude.{slice_get, slice_set}
 use Rattle.gq_model.specs.machine.Doing.{Quiet}
 use Rattle.gq_model.specs.machine.Scenario.{Component, components, system}
 use Rattle.gq_model.proofs.Small.{some_same}
-use Rattle.gq_registers.specs.declared.operation.Operation.TheVariants as operation
-use Rattle.gq_registers.specs.Nexts.{Active}
+use Rattle.gq_bytecode.specs.declared.operation.Operation.TheVariants as operation
+use Rattle.gq_bytecode.specs.Nexts.{Active}
 use Rattle.gq_paid.specs.Systems.{stage_in}
 use Rattle.gq_leaves.specs.Leaves.{leaf_of}
 use Rattle.gq_steps.specs.Coded.{Coded, operation_of}

@@ -1,9 +1,9 @@
 -- A step of a leaf in which others have a part.
 use Rattle.std.proofs.Common.{◌≡◌, ℕ, refl}
 use Rattle.std.specs.Prelude.{IsTrue}
-use Rattle.gq_registers.specs.Cores.{is_shared}
-use Rattle.gq_registers.specs.declared.operation.Operation.{Operation}
-use Rattle.gq_registers.specs.declared.operation.Operation.TheVariants.{End, Long, Out}
+use Rattle.gq_bytecode.specs.Cores.{is_shared}
+use Rattle.gq_bytecode.specs.declared.operation.Operation.{Operation}
+use Rattle.gq_bytecode.specs.declared.operation.Operation.TheVariants.{End, Long, Out}
 use Rattle.gq_turns.specs.internal.Kinds.{is_quiet}
 use Rattle.gq_turns.proofs.others.shared.Goals as goal
 

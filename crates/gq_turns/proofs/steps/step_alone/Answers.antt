@@ -2,8 +2,8 @@
 use Rattle.std.proofs.Common.{◌≡◌, ◌-◌, ◌≤◌, ℕ, zero, suc, refl, ◌∙◌, arith}
 use Rattle.std.specs.Prelude.{slice_get}
 use Rattle.std.specs.Vec.{with_item}
-use Rattle.gq_registers.specs.Nexts.{Active}
-use Rattle.gq_registers.specs.declared.operation.Operation.{Operation}
+use Rattle.gq_bytecode.specs.Nexts.{Active}
+use Rattle.gq_bytecode.specs.declared.operation.Operation.{Operation}
 use Rattle.gq_steps.specs.declared.leaf.Reached.{Reached}
 use Rattle.gq_steps.specs.declared.leaf.Reached.TheVariants as reached
 use Rattle.gq_turns.specs.declared.steps.Alone.TheVariants.{Shared}

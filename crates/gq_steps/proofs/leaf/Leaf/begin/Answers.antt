@@ -1,6 +1,6 @@
 -- The first place of a section.
 use Rattle.std.proofs.Common.{ap}
-use Rattle.gq_registers.specs.Cores.{Core}
+use Rattle.gq_bytecode.specs.Cores.{Core}
 use Rattle.gq_steps.proofs.Codes.{first_inside}
 use Rattle.gq_steps.proofs.leaf.Leaf.begin.Goals as goal
 

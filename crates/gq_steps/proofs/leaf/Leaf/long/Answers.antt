@@ -1,6 +1,6 @@
 -- The number of a long statement is a place of the list.
 use Rattle.std.proofs.Common.{◌≡◌, ℕ, ap, ◌∙◌}
-use Rattle.gq_registers.specs.declared.operation.Operation.TheVariants as operation
+use Rattle.gq_bytecode.specs.declared.operation.Operation.TheVariants as operation
 use Rattle.gq_leaves.specs.Leaves.{section_at}
 use Rattle.gq_steps.specs.Coded.{Coded, operation_of}
 use Rattle.gq_steps.proofs.Leading.{section}

@@ -2,8 +2,8 @@
 use Rattle.std.proofs.Common.{◌≡◌, ◌+◌, ◌<◌, ◌^◌, ℕ, Ok, Err, refl, sym, ap, subst, ◌∙◌, arith}
 use Rattle.std.specs.Prelude.{Result}
 use Rattle.gq_model.specs.declared.fault.Wrong.{Wrong}
-use Rattle.gq_registers.specs.Cores.{Core}
-use Rattle.gq_flat.specs.Programs.{code_in}
+use Rattle.gq_bytecode.specs.Cores.{Core}
+use Rattle.gq_bytecode.specs.Programs.{code_in}
 use Rattle.gq_leaves.specs.Leaves.{section_at, stepped}
 use Rattle.gq_leaves.specs.Steps.{Does}
 use Rattle.gq_leaves.proofs.Stepping.{steps_err, steps_ok}

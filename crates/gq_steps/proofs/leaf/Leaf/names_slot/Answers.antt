@@ -1,6 +1,6 @@
 -- What a request names is a slot.
 use Rattle.std.proofs.Common.{ap, ◌∙◌}
-use Rattle.gq_registers.specs.Layout.{instruction_in}
+use Rattle.gq_bytecode.specs.Layout.{instruction_in}
 use Rattle.gq_steps.specs.Coded.{Coded, operation_of}
 use Rattle.gq_steps.proofs.Leading.{slot_next}
 use Rattle.gq_steps.proofs.leaf.Leaf.names_slot.Goals as goal

@@ -1,8 +1,8 @@
 -- A request is the leaf's step.
 use Rattle.std.proofs.Common.{◌≡◌, ◌+◌, ℕ, Ok, Err, refl, ap, subst, ◌∙◌, arith}
 use Rattle.gq_model.specs.declared.phase.Phase.TheVariants as phase
-use Rattle.gq_registers.specs.Cores.{Core}
-use Rattle.gq_registers.specs.declared.operation.Operation.TheVariants as operation
+use Rattle.gq_bytecode.specs.Cores.{Core}
+use Rattle.gq_bytecode.specs.declared.operation.Operation.TheVariants as operation
 use Rattle.gq_leaves.specs.Leaves.{stepped}
 use Rattle.gq_statements.specs.Statements.{done}
 use Rattle.gq_steps.specs.Coded.{Coded, operation_of}

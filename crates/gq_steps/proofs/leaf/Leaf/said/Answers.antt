@@ -1,7 +1,7 @@
 -- A text that is said.
 use Rattle.std.proofs.Common.{◌≡◌, ◌+◌, ℕ, refl, ap, subst, ◌∙◌, arith}
-use Rattle.gq_registers.specs.Cores.{Core}
-use Rattle.gq_registers.specs.declared.operation.Operation.TheVariants as operation
+use Rattle.gq_bytecode.specs.Cores.{Core}
+use Rattle.gq_bytecode.specs.declared.operation.Operation.TheVariants as operation
 use Rattle.gq_leaves.specs.Leaves.{stepped}
 use Rattle.gq_steps.specs.Coded.{Coded, operation_of}
 use Rattle.gq_steps.specs.Steps.{LeadsTo, shows}

@@ -1,7 +1,7 @@
 -- The first place of `main`.
 use Rattle.std.proofs.Common.{ap}
 use Rattle.gq_model.specs.declared.program.Section.TheVariants.{Main}
-use Rattle.gq_registers.specs.Cores.{Core}
+use Rattle.gq_bytecode.specs.Cores.{Core}
 use Rattle.gq_steps.proofs.Codes.{first_inside}
 use Rattle.gq_steps.proofs.leaf.Leaf.serve.Goals as goal
 

@@ -2,8 +2,8 @@
 use Rattle.std.proofs.Common.{◌≡◌, ◌+◌, Err, ap, subst, ◌∙◌, arith}
 use Rattle.std.specs.Prelude.{decimal}
 use Rattle.gq_model.specs.declared.fault.Wrong.TheVariants.{MissingOperand}
-use Rattle.gq_registers.specs.Cores.{Core}
-use Rattle.gq_registers.specs.declared.operation.Operation.TheVariants as operation
+use Rattle.gq_bytecode.specs.Cores.{Core}
+use Rattle.gq_bytecode.specs.declared.operation.Operation.TheVariants as operation
 use Rattle.gq_leaves.specs.Leaves.{stepped}
 use Rattle.gq_statements.specs.Statements.{done}
 use Rattle.gq_steps.specs.Coded.{Coded, operation_of}

@@ -3,8 +3,8 @@ use Rattle.std.proofs.Common.{◌≡◌, ◌+◌, ℕ, Ok, Err, refl, ap, subst,
 use Rattle.gq_model.specs.declared.phase.Phase.TheVariants as phase
 use Rattle.gq_model.specs.declared.program.Instruction.TheVariants as instruction
 use Rattle.gq_model.specs.declared.program.Place.{Place}
-use Rattle.gq_registers.specs.Cores.{Core}
-use Rattle.gq_registers.specs.declared.operation.Operation.TheVariants as operation
+use Rattle.gq_bytecode.specs.Cores.{Core}
+use Rattle.gq_bytecode.specs.declared.operation.Operation.TheVariants as operation
 use Rattle.gq_leaves.specs.Leaves.{stepped}
 use Rattle.gq_statements.specs.Statements.{done}
 use Rattle.gq_steps.specs.Coded.{Coded, operation_of}
