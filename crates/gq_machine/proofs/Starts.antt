@@ -33,7 +33,7 @@ use Rattle.gq_trade.specs.Seen_requests.{request_seen}
 use Rattle.gq_contents.specs.declared.thing.Thing.TheVariants.{Empty}
 use Rattle.gq_contents.specs.Things.{seen}
 use Rattle.gq_slots.specs.Slots.{Slots, leaf_seen, leaves_seen, memory_of}
-use Rattle.gq_paid.specs.Systems.{counted_at, stage_in}
+use Rattle.gq_statements.specs.Systems.{counted_at, stage_in}
 use Rattle.gq_prepared.specs.Prepared.{AreServices}
 use Rattle.gq_leaves.specs.Leaves.{leaf_of, body_in}
 use Rattle.gq_steps.specs.Coded.{Coded}

@@ -7,7 +7,7 @@ ghost use Rattle.gq_laws.specs.Ready.{IsReady};
 ghost use Rattle.gq_trade.specs.Trades.{IsLive};
 ghost use Rattle.gq_slots.specs.Session_calls.{EndsLeaf};
 ghost use Rattle.gq_slots.specs.Slots.{Frame, Slots};
-ghost use Rattle.gq_paid.specs.Systems.{AreLawful, IsOf};
+ghost use Rattle.gq_statements.specs.Systems.{AreLawful, IsOf};
 ghost use Rattle.gq_plans.specs.Nodes.{AreNodesOf};
 
 /// Where a leaf of a scenario has ended, and each other leaf is in the phase that the account machine gives it then, the system goes with the slots as

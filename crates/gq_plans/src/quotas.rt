@@ -9,7 +9,7 @@ ghost use Rattle.gq_laws.specs.Ready.{IsReady};
 ghost use Rattle.gq_ram.specs.Trees.{account_of};
 ghost use Rattle.gq_trade.specs.Trading.{its_account};
 ghost use Rattle.gq_slots.specs.Slots.{Frame, Slots, world_seen};
-ghost use Rattle.gq_paid.specs.Systems.{AreLawful, IsOf};
+ghost use Rattle.gq_statements.specs.Systems.{AreLawful, IsOf};
 ghost use Rattle.gq_plans.specs.Nodes.{AreNodesOf};
 
 /// In lawful slots of a scenario that is ready, the account that the definition gives each node has the quota that is stored for it, in bytes and, in version

@@ -7,7 +7,7 @@ use Rattle.gq_model.specs.declared.program.Instruction.{Instruction}
 use Rattle.gq_bytecode.specs.declared.operation.Operation.{Operation}
 use Rattle.gq_bytecode.specs.Programs.{AreFound, IsCodeOfProgram, ProgramCode, code_in}
 use Rattle.gq_bytecode.proofs.Parts.{found_body}
-use Rattle.gq_serving.specs.Serving.{IsSection, place}
+use Rattle.gq_statements.specs.Serving.{IsSection, place}
 
 found_same : (code : Option (List Operation)) (longs : List Instruction) (body : Option Statements) → AreFound code longs body → is_some code ≡ is_some body
 found_same None longs None h = refl

@@ -2,7 +2,7 @@
 ghost use Rattle.std.specs.Prelude.{◌≡◌, is_some};
 ghost use Rattle.gq_model.specs.machine.Scenario.{Component};
 ghost use Rattle.gq_bytecode.specs.Programs.{IsCodeOfProgram, code_in};
-ghost use Rattle.gq_serving.specs.Serving.{AreSections};
+ghost use Rattle.gq_statements.specs.Serving.{AreSections};
 
 use gq_bytecode::Code;
 use gq_model::program::Section;

@@ -17,8 +17,8 @@ use Rattle.gq_slots.specs.Slots.{Frame, Slots, memory_of, world_seen}
 use Rattle.gq_slots.specs.Calls.{Puts}
 use Rattle.gq_slots.proofs.Worlds.{session_there}
 use Rattle.gq_slots.specs.Addresses.{AreBuffers, place_seen}
-use Rattle.gq_paid.specs.Systems.{AreLawful, IsOf}
-use Rattle.gq_paid.proofs.Paid.{all_paid}
+use Rattle.gq_statements.specs.Systems.{AreLawful, IsOf}
+use Rattle.gq_statements.proofs.Paid.{all_paid}
 use Rattle.gq_statements.specs.declared.actor.Actor.{Actor}
 use Rattle.gq_statements.specs.Statements.{IsBy, hand_seen}
 use Rattle.gq_statements.proofs.Founds.{same_spot}

@@ -17,9 +17,9 @@ use Rattle.gq_trade.specs.Seen.{spot_seen}
 use Rattle.gq_trade.specs.Balances.{node_at}
 use Rattle.gq_slots.specs.Slots.{Frame, IsSlot, IsSpot, Slots, holder, memory_of, raised_in, settled_in, world_seen}
 use Rattle.gq_slots.specs.Calls.{SameBeside, Settles}
-use Rattle.gq_paid.specs.Systems.{AreLawful, IsOf, counted_at}
-use Rattle.gq_paid.proofs.Paid.{all_paid}
-use Rattle.gq_paid.proofs.Made.{leaf_found, written_at}
+use Rattle.gq_statements.specs.Systems.{AreLawful, IsOf, counted_at}
+use Rattle.gq_statements.proofs.Paid.{all_paid}
+use Rattle.gq_statements.proofs.Made.{leaf_found, written_at}
 use Rattle.gq_slots.specs.Addresses.{place_seen}
 use Rattle.gq_statements.specs.declared.actor.Actor.{Actor}
 use Rattle.gq_statements.specs.Statements.{IsBy, hand_seen}

@@ -13,9 +13,9 @@ use Rattle.gq_store.specs.declared.GrowFault.TheVariants.{Exceeded, CapsExceeded
 use Rattle.gq_contents.specs.declared.thing.Thing.TheVariants as thing
 use Rattle.gq_trade.specs.declared.session.Spot.{Spot}
 use Rattle.gq_slots.specs.Slots.{IsHeapOf, IsSlot, IsSpot, Slots, holder, memory_of, slot_of, thing_at}
-use Rattle.gq_paid.specs.Systems.{AreLawful}
-use Rattle.gq_paid.proofs.Made.{unpaid_made}
-use Rattle.gq_paid.proofs.Heaped.{unpaid_block, unpaid_entry}
+use Rattle.gq_statements.specs.Systems.{AreLawful}
+use Rattle.gq_statements.proofs.Made.{unpaid_made}
+use Rattle.gq_statements.proofs.Heaped.{unpaid_block, unpaid_entry}
 use Rattle.gq_statements.specs.internal.Made.{IsUnpaid}
 
 pub refused : {A : Type 0} (s : Slots) (p : Spot) (slot : world.Slot) (res : Result A GrowFault) → AreLawful s → IsSpot s p → IsSlot p

@@ -13,9 +13,9 @@ use Rattle.gq_trade.specs.Seen.{spot_seen}
 use Rattle.gq_slots.specs.Slots.{Frame, IsSlot, IsSpot, Slots, holder, raised_in, settled_in, slot_of, thing_at, world_seen}
 use Rattle.gq_slots.specs.Calls.{Settles}
 use Rattle.gq_slots.proofs.Worlds.{set_there}
-use Rattle.gq_paid.specs.Systems.{AreLawful, IsOf}
-use Rattle.gq_paid.proofs.Paid.{all_paid}
-use Rattle.gq_paid.proofs.Made.{leaf_found, written_at}
+use Rattle.gq_statements.specs.Systems.{AreLawful, IsOf}
+use Rattle.gq_statements.proofs.Paid.{all_paid}
+use Rattle.gq_statements.proofs.Made.{leaf_found, written_at}
 use Rattle.gq_statements.specs.declared.actor.Actor.{Actor}
 use Rattle.gq_statements.specs.Statements.{IsBy, Pushes, told}
 use Rattle.gq_statements.specs.internal.Found.{IsPool, entries_in}

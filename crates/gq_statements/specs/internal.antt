@@ -1,2 +1,5 @@
 pub mod Found
 pub mod Made
+pub mod Leads
+pub mod Beginning
+pub mod Tests

@@ -9,13 +9,54 @@
 //! actor.store(&addresses, &mut slots, Width::Word, Place::Own(0), 8, 77)?;
 //! assert_eq!(rt; actor.load(&addresses, &slots, Width::Word, Place::Own(0), 8), Ok(77));
 //! ```
+//!
+//! Laws of slots and quota: in the machine's world of lawful slots every leaf is paid for, and with what is refused there for want of quota it would not be.
+//! Each is the contract of a call that does nothing.
+//!
+//! ```rust
+//! use gq_statements::laws::lawful_is_paid;
+//!
+//! // From here on the proof of this function knows of the world of these slots.
+//! lawful_is_paid();
+//! ```
+//!
+//! What a leaf asks other leaves for: to open, to upgrade, to call and to close a session, each as the account machine has it.
+//!
+//! ```rust
+//! use gq_statements::{call, close, link};
+//!
+//! // The leaf of `actor` calls the session in its slot o0 with 21; its slot waits until the server has replied.
+//! if link(actor, &slots, Place::Own(0)).is_some() {
+//!     call(actor, &mut slots, Place::Own(0), 21)?;
+//! }
+//! ```
+//!
+//! What a leaf does with the requests of its clients, and how a leaf ends, each as the account machine has it.
+//!
+//! ```rust
+//! use gq_statements::replies::reply;
+//! use gq_statements::serving_requests::accept;
+//!
+//! // The oldest request to the leaf 1 is taken, and replied to once its section is at its end.
+//! if let Some(request) = accept(&provider, &mut slots, 1)? {
+//!     reply(&mut slots, request.session);
+//! }
+//! ```
 #![tactic(auto)]
 
 pub mod actor;
+mod asking;
 mod bytes;
+pub mod endings;
+pub mod laws;
+pub mod linked;
 mod making;
 mod pools;
+pub mod replies;
+pub mod requests;
+pub mod serving_requests;
 
 pub use actor::{Actor, Hand};
+pub use asking::{call, close, link, open, upgrade};
 pub use bytes::{load_own, store_own};
 pub use pools::{give_own, peek_own, poke_own};

@@ -20,10 +20,10 @@ use Rattle.gq_bytecode.specs.Layout.{instruction_in}
 use Rattle.gq_bytecode.specs.Nexts.{Active}
 use Rattle.gq_bytecode.specs.Stated.{IsStated}
 use Rattle.gq_slots.specs.Slots.{Frame, Slots, world_seen}
-use Rattle.gq_paid.specs.Systems.{AreLawful, IsOf, stage_in}
+use Rattle.gq_statements.specs.Systems.{AreLawful, IsOf, stage_in}
 use Rattle.gq_statements.specs.declared.actor.Actor.{Actor}
 use Rattle.gq_statements.specs.Statements.{IsBy, done}
-use Rattle.gq_asking.specs.Requests.{Blocks}
+use Rattle.gq_statements.specs.Requests.{Blocks}
 use Rattle.gq_leaves.specs.Frames.{IsElsewhere}
 use Rattle.gq_leaves.specs.Leaves.{LeafState, StandsAs, body_at, leaf_of, stepped}
 use Rattle.gq_steps.specs.Coded.{Coded, operation_of}

@@ -16,10 +16,10 @@ use Rattle.gq_model.specs.machine.World as world
 use Rattle.gq_bytecode.specs.declared.operation.Operation.{Operation}
 use Rattle.gq_bytecode.specs.declared.operation.Operation.TheVariants as operation
 use Rattle.gq_slots.specs.Slots.{Frame, Slots, world_seen}
-use Rattle.gq_paid.specs.Systems.{IsOf}
+use Rattle.gq_statements.specs.Systems.{IsOf}
 use Rattle.gq_statements.specs.declared.actor.Actor.{Actor}
 use Rattle.gq_statements.specs.Statements.{IsBy, done}
-use Rattle.gq_asking.specs.Requests.{Blocks, IsNextLevel, leads_from, session_named}
+use Rattle.gq_statements.specs.Requests.{Blocks, IsNextLevel, leads_from, session_named}
 use Rattle.gq_leaves.specs.Leaves.{leaf_of, stepped}
 use Rattle.gq_steps.specs.Coded.{Coded, operation_of}
 use Rattle.gq_steps.specs.Steps.{OpensNowhere, OpensTo, UpgradesTo}

@@ -11,12 +11,12 @@ ghost use Rattle.gq_trade.specs.Numbers.{free_number};
 ghost use Rattle.gq_trade.specs.Trades.{IsLive};
 ghost use Rattle.gq_trade.specs.Waiting.{IsIdle};
 ghost use Rattle.gq_statements.specs.Statements.{IsAtHand, done};
-ghost use Rattle.gq_asking.specs.Requests.{OwnsLinks, Stays};
+ghost use Rattle.gq_statements.specs.Requests.{OwnsLinks, Stays};
 ghost use Rattle.gq_steps.specs.Coded.{operation_of};
 ghost use Rattle.gq_steps.specs.Steps.{LeadsTo, OpensTo, UpgradesTo, blocked_on};
 
 use crate::leaf::Leaf;
-use gq_asking::{call, close, open, upgrade};
+use gq_statements::{call, close, open, upgrade};
 use gq_model::fault::Wrong;
 use gq_model::phase::Phase;
 use gq_model::program::Place;

@@ -8,7 +8,7 @@ ghost use Rattle.gq_model.specs.machine.World as world;
 ghost use Rattle.gq_bytecode.specs.declared.operation.Operation.TheVariants as operation;
 ghost use Rattle.gq_bytecode.specs.Nexts.{Active};
 ghost use Rattle.gq_slots.specs.Slots.{Frame, Slots, world_seen};
-ghost use Rattle.gq_paid.specs.Systems.{AreLawful};
+ghost use Rattle.gq_statements.specs.Systems.{AreLawful};
 ghost use Rattle.gq_statements.specs.declared.actor.Hand.{Hand};
 ghost use Rattle.gq_leaves.specs.Frames.{IsElsewhere};
 ghost use Rattle.gq_leaves.specs.Leaves.{LeafState, leaf_of};

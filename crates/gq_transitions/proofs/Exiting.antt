@@ -14,7 +14,7 @@ use Rattle.gq_model.proofs.Small.{equal_self, get_within, none_some, not_both, s
 use Rattle.gq_laws.specs.Links.{Fits}
 use Rattle.gq_laws.specs.Names.{NamesDiffer}
 use Rattle.gq_laws.proofs.paying.Servers.{numbered_name}
-use Rattle.gq_paid.specs.Linked.{ProvidesNothing}
+use Rattle.gq_statements.specs.Linked.{ProvidesNothing}
 use Rattle.gq_laws.specs.Ready.{IsReady}
 use Rattle.gq_laws.proofs.ready.Servers.{provided}
 use Rattle.gq_nodes.specs.NodeTables.{number_named}

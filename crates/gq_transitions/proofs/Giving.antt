@@ -7,8 +7,8 @@ use Rattle.gq_model.proofs.Small.{some_same}
 use Rattle.gq_trade.specs.Numbers.{IsTaken}
 use Rattle.gq_trade.specs.Trading.{session_at}
 use Rattle.gq_trade.proofs.Sessions_kept.{between_at}
-use Rattle.gq_paid.specs.Systems.{AreLawful}
-use Rattle.gq_asking.proofs.Kept.{its_session, session_found}
+use Rattle.gq_statements.specs.Systems.{AreLawful}
+use Rattle.gq_statements.proofs.Kept.{its_session, session_found}
 use Rattle.gq_laws.specs.Ready.{IsUncounted}
 use Rattle.gq_prepared.specs.Prepared.{caps_at, names_of}
 use Rattle.gq_transitions.specs.Worlds.{frame_of, world_of}

@@ -14,7 +14,7 @@ use Rattle.gq_laws.proofs.progress.Phases.{HandsProvide, kept_ready}
 use Rattle.gq_laws.specs.Ready.{IsReady}
 use Rattle.gq_laws.proofs.ready.Servers.{provided}
 use Rattle.gq_laws.proofs.room.Worlds.{kept_roomy}
-use Rattle.gq_paid.specs.Systems.{AreLawful, IsOf, stage_in}
+use Rattle.gq_statements.specs.Systems.{AreLawful, IsOf, stage_in}
 use Rattle.gq_plans.specs.Nodes.{AreNodesOf}
 use Rattle.gq_prepared.specs.Prepared.{AreOpenings}
 use Rattle.gq_steps.specs.Coded.{Coded}

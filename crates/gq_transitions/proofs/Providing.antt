@@ -7,8 +7,8 @@ use Rattle.gq_trade.specs.Numbers.{IsTaken}
 use Rattle.gq_trade.specs.Trading.{object_size, session_at}
 use Rattle.gq_trade.proofs.Sessions_kept.{between_at}
 use Rattle.gq_slots.specs.Slots.{Slots}
-use Rattle.gq_paid.specs.Systems.{AreLawful}
-use Rattle.gq_serving.specs.Serving.{AreSections}
+use Rattle.gq_statements.specs.Systems.{AreLawful}
+use Rattle.gq_statements.specs.Serving.{AreSections}
 use Rattle.gq_transitions.specs.declared.state.Fixed.{Fixed}
 use Rattle.gq_transitions.specs.declared.state.Prepared.{Prepared}
 use Rattle.gq_transitions.specs.declared.state.State.{State}

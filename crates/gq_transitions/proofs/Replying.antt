@@ -24,15 +24,15 @@ use Rattle.gq_trade.specs.Trading.{server_of, session_at}
 use Rattle.gq_slots.specs.Slots.{AreLong, Frame, Slots, memory_of, world_seen}
 use Rattle.gq_slots.proofs.Worlds.{session_there}
 use Rattle.gq_slots.specs.Addresses.{AreBuffers}
-use Rattle.gq_paid.proofs.Made.{leaf_found}
-use Rattle.gq_paid.specs.Systems.{AreLawful, IsOf, stage_in}
+use Rattle.gq_statements.proofs.Made.{leaf_found}
+use Rattle.gq_statements.specs.Systems.{AreLawful, IsOf, stage_in}
 use Rattle.gq_statements.specs.declared.actor.Hand.{Hand}
 use Rattle.gq_statements.specs.Statements.{done, hand_seen}
 use Rattle.gq_leaves.proofs.Frames.{seen_leaf}
-use Rattle.gq_serving.specs.Serving.{GoesOn}
-use Rattle.gq_serving.specs.Serving as serving
-use Rattle.gq_paid.specs.Linked as linked
-use Rattle.gq_paid.proofs.linked.Standing_sessions.{client_below, in_slot}
+use Rattle.gq_statements.specs.Serving.{GoesOn}
+use Rattle.gq_statements.specs.Serving as serving
+use Rattle.gq_statements.specs.Linked as linked
+use Rattle.gq_statements.proofs.linked.Standing_sessions.{client_below, in_slot}
 use Rattle.gq_laws.specs.Room.{calling}
 use Rattle.gq_steps.specs.Coded.{Coded, IsStanding, operation_of}
 use Rattle.gq_steps.specs.Ends.{resumed, resumed_phase, served}

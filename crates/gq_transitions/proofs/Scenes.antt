@@ -11,8 +11,8 @@ use Rattle.gq_trade.specs.Balances.{node_at}
 use Rattle.gq_slots.specs.Slots.{Frame, Slots}
 use Rattle.gq_slots.specs.Calls.{SameBeside}
 use Rattle.gq_slots.specs.Session_calls.{EndsSession, TakesOldest}
-use Rattle.gq_paid.specs.Systems.{AreLawful, IsOf, counted_at, stage_in}
-use Rattle.gq_asking.specs.Requests.{Stays}
+use Rattle.gq_statements.specs.Systems.{AreLawful, IsOf, counted_at, stage_in}
+use Rattle.gq_statements.specs.Requests.{Stays}
 use Rattle.gq_plans.specs.Nodes.{AreNodesOf}
 use Rattle.gq_transitions.specs.internal.Scenes.{SameScene}
 

@@ -14,7 +14,7 @@ use Rattle.gq_model.specs.machine.Scenario.{Scenario, System, Component, compone
 use Rattle.gq_model.specs.rules.Use.{is_there, services, uses}
 use Rattle.gq_model.proofs.Small.{get_within, text_is}
 use Rattle.gq_laws.proofs.verified.Use_chains.{Chain, Uses, chain_short, resolved_acyclic}
-use Rattle.gq_paid.proofs.linked.Session_count.{few}
+use Rattle.gq_statements.proofs.linked.Session_count.{few}
 use Rattle.gq_trade.specs.Numbers.{free_number}
 use Rattle.gq_laws.proofs.progress.Phases.{Suits}
 use Rattle.gq_laws.specs.Ready.{IsReady}
@@ -22,7 +22,7 @@ use Rattle.gq_laws.proofs.ready.Servers.{found, provided}
 use Rattle.gq_trade.specs.Trades.{IsLive}
 use Rattle.gq_trade.specs.declared.node.Stage.TheVariants.{Live}
 use Rattle.gq_slots.specs.Slots.{AreSound}
-use Rattle.gq_paid.specs.Systems.{AreLawful, stage_in}
+use Rattle.gq_statements.specs.Systems.{AreLawful, stage_in}
 use Rattle.gq_steps.proofs.Standing.{phase_is, there}
 use Rattle.gq_transitions.specs.Worlds.{frame_of}
 use Rattle.gq_transitions.specs.declared.state.Fixed.{Fixed}

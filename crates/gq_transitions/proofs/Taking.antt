@@ -20,7 +20,7 @@ use Rattle.gq_laws.specs.Links.{outline, outline_in}
 use Rattle.gq_program.specs.Interfaces.{are_interfaces}
 use Rattle.gq_prepared.specs.Prepared.{names_of}
 use Rattle.gq_prepared.proofs.Named.{entry_at, own_entry}
-use Rattle.gq_paid.proofs.linked.Stored.{session_is}
+use Rattle.gq_statements.proofs.linked.Stored.{session_is}
 use Rattle.gq_trade.specs.Numbers.{IsTaken}
 use Rattle.gq_trade.specs.declared.requests.Ask.TheVariants.{Upgrade}
 use Rattle.gq_trade.specs.declared.requests.Request.{Request}
@@ -29,11 +29,11 @@ use Rattle.gq_trade.specs.Seen_requests.{request_seen}
 use Rattle.gq_trade.specs.Trading.{object_size, server_of, session_at}
 use Rattle.gq_slots.specs.Session_calls.{TakesOldest}
 use Rattle.gq_slots.specs.Slots.{AreSound, Frame, Slots, memory_of, world_seen}
-use Rattle.gq_paid.specs.Systems.{AreLawful, IsOf, stage_in}
-use Rattle.gq_serving.specs.Serving.{AreSections, Begins, HaveObjects, begun_leaf, taken}
-use Rattle.gq_serving.specs.internal.Beginning.{can_pay, section_of}
-use Rattle.gq_serving.proofs.Outcomes.{from_some, without}
-use Rattle.gq_serving.proofs.Taken.{none_taken}
+use Rattle.gq_statements.specs.Systems.{AreLawful, IsOf, stage_in}
+use Rattle.gq_statements.specs.Serving.{AreSections, Begins, HaveObjects, begun_leaf, taken}
+use Rattle.gq_statements.specs.internal.Beginning.{can_pay, section_of}
+use Rattle.gq_statements.proofs.Outcomes.{from_some, without}
+use Rattle.gq_statements.proofs.Taken.{none_taken}
 use Rattle.gq_steps.specs.Coded.{Coded, IsStanding}
 use Rattle.gq_steps.proofs.Beginning.{begins as begins_in}
 use Rattle.gq_steps.proofs.Standing.{first, next_in, phase_is}

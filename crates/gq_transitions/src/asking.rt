@@ -13,7 +13,7 @@ ghost use Rattle.gq_transitions.specs.internal.Gifts.{IsGift, LeadsBy, Opens, Op
 
 use crate::state::{Fixed, State};
 use crate::statements::lawful;
-use gq_asking::link;
+use gq_statements::link;
 use gq_model::fault::Wrong;
 use gq_model::program::Place;
 use gq_prepared::Opening;

@@ -2,7 +2,7 @@
 ghost use Rattle.std.specs.Prelude.{◌≡◌, ℕ, ◌+◌, ◌<◌, ◌^◌, List, length, slice_get, Err, Ok, OnErr, OnOk};
 ghost use Rattle.gq_model.specs.machine.Scenario.{components};
 ghost use Rattle.gq_bytecode.specs.declared.operation.Operation.TheVariants as operation;
-ghost use Rattle.gq_serving.specs.Serving.{finished};
+ghost use Rattle.gq_statements.specs.Serving.{finished};
 ghost use Rattle.gq_transitions.specs.internal.Endings.{AreGone, AreReleased, follows, released_if};
 ghost use Rattle.gq_transitions.specs.internal.Holds.{CanStep, EndsMain, Goes, Holds, IsNext, OfLeaf};
 
@@ -26,7 +26,7 @@ pub fn exit(fixed: &Fixed, state: &mut State, number: usize) -> Result<(), Wrong
 {
     lawful(&state.slots);
     state.slots.laws();
-    match gq_serving::endings::exit(&mut state.slots, number) {
+    match gq_statements::endings::exit(&mut state.slots, number) {
         Err(wrong) => Err(wrong),
         Ok(()) => {
             lawful(&state.slots);

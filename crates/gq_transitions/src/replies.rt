@@ -6,7 +6,7 @@ ghost use Rattle.gq_contents.specs.declared.thing.Thing.TheVariants as thing;
 ghost use Rattle.gq_trade.specs.declared.session.Spot.TheVariants.{InObject};
 ghost use Rattle.gq_trade.specs.Trading.{AreOfOthers};
 ghost use Rattle.gq_slots.specs.Slots.{thing_at};
-ghost use Rattle.gq_serving.specs.Serving.{IsAwaited};
+ghost use Rattle.gq_statements.specs.Serving.{IsAwaited};
 ghost use Rattle.gq_statements.specs.Statements.{done};
 ghost use Rattle.gq_steps.specs.Coded.{Coded};
 ghost use Rattle.gq_transitions.specs.internal.Holds.{CanStep, Goes, Holds, IsNext, OfLeaf};
@@ -16,7 +16,7 @@ use crate::state::{Fixed, State};
 use crate::statements::lawful;
 use gq_model::fault::Wrong;
 use gq_model::program::Section;
-use gq_serving::replies::{reply_close, reply_open};
+use gq_statements::replies::{reply_close, reply_open};
 use gq_statements::Hand;
 use gq_steps::Leaf;
 
@@ -105,7 +105,7 @@ fn upgraded(fixed: &Fixed, state: &mut State, number: usize, hand: Hand) -> Resu
     ensures slots { OnErr result (state.new.slots ≡ state.old.slots) }
 {
     let client = client_at(fixed, state, number, hand);
-    gq_serving::replies::reply(&mut state.slots, hand.session);
+    gq_statements::replies::reply(&mut state.slots, hand.session);
     lawful(&state.slots);
     go_on(&mut state.leaves, number, client);
     Ok(())
@@ -127,7 +127,7 @@ fn called(fixed: &Fixed, state: &mut State, number: usize, hand: Hand) -> Result
     match leaf.top() {
         None => Err(Wrong::MissingOperand),
         Some(value) => {
-            gq_serving::replies::reply(&mut state.slots, hand.session);
+            gq_statements::replies::reply(&mut state.slots, hand.session);
             lawful(&state.slots);
             go_on_with(&mut state.leaves, number, client, value);
             Ok(())

@@ -9,7 +9,7 @@ ghost use Rattle.gq_trade.specs.declared.requests.Ask.TheVariants as asks;
 ghost use Rattle.gq_trade.specs.Queues.{IsOldest};
 ghost use Rattle.gq_trade.specs.Seen_requests.{request_seen};
 ghost use Rattle.gq_trade.specs.Trading.{object_size, server_of, session_at};
-ghost use Rattle.gq_serving.specs.Serving.{AreSections};
+ghost use Rattle.gq_statements.specs.Serving.{AreSections};
 ghost use Rattle.gq_statements.specs.Statements.{done};
 ghost use Rattle.gq_transitions.specs.internal.Holds.{CanStep, Goes, Holds, OfLeaf};
 ghost use Rattle.gq_transitions.specs.internal.Requests.{begun_for, takes};
@@ -20,7 +20,7 @@ use gq_model::fault::Wrong;
 use gq_model::program::Section;
 use gq_trade::{Ask, Request};
 use gq_scenario::scenario::Version;
-use gq_serving::requests::Provider;
+use gq_statements::serving_requests::Provider;
 use gq_statements::Hand;
 use gq_steps::Leaf;
 
@@ -131,7 +131,7 @@ fn take(
     lawful(&state.slots);
     scenario_laws(fixed, number);
     let provider = provider(fixed, state, number, request.session);
-    match gq_serving::requests::accept(&provider, &mut state.slots, number, request) {
+    match gq_statements::serving_requests::accept(&provider, &mut state.slots, number, request) {
         Err(wrong) => Err(wrong),
         Ok(()) => {
             lawful(&state.slots);

@@ -1,7 +1,7 @@
 // Statements of a leaf.
 ghost use Rattle.std.specs.Prelude.{◌≡◌, ℕ, List, IfErr, IfOk, IsTrue, OnErr, OnOk, Err, Ok, decimal};
 ghost use Rattle.gq_statements.specs.Statements.{done};
-ghost use Rattle.gq_paid.specs.Systems.{AreLawful};
+ghost use Rattle.gq_statements.specs.Systems.{AreLawful};
 ghost use Rattle.gq_bytecode.specs.declared.operation.Operation.TheVariants as operation;
 ghost use Rattle.gq_leaves.specs.Operations.{is_on_memory};
 ghost use Rattle.gq_steps.specs.Steps.{shows};

@@ -24,7 +24,7 @@ use Rattle.gq_trade.proofs.Leaving.{IsFollower}
 use Rattle.gq_trade.proofs.Spent.{staged_here, staged_other, staged_same}
 use Rattle.gq_slots.specs.Session_calls.{EndsLeaf}
 use Rattle.gq_slots.specs.Slots.{Frame, Slots}
-use Rattle.gq_paid.specs.Systems.{AreLawful, IsOf, counted_at, stage_in}
+use Rattle.gq_statements.specs.Systems.{AreLawful, IsOf, counted_at, stage_in}
 use Rattle.gq_plans.specs.Nodes.{AreNodesOf, node_after}
 use Rattle.gq_plans.proofs.endings.Afters.{after_node, node_then, one_after}
 use Rattle.gq_plans.proofs.endings.Followers.{SameWhole, Waits, alone_follows, follows_then, started_nodes, started_whole, then_live, then_long, then_nodes}

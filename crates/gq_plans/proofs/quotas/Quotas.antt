@@ -27,9 +27,9 @@ use Rattle.gq_trade.specs.declared.node.Node.{Node}
 use Rattle.gq_trade.specs.Balances.{IsEven, handed, lent_for, node_at, received_for, while_live}
 use Rattle.gq_trade.proofs.Evens.{for_other}
 use Rattle.gq_slots.specs.Slots.{Frame, Slots, memory_of, slot_of, world_seen}
-use Rattle.gq_paid.specs.Systems.{AreLawful, IsOf, stage_in}
-use Rattle.gq_paid.proofs.Balanced.{balances}
-use Rattle.gq_paid.proofs.Paid.{phase_seen}
+use Rattle.gq_statements.specs.Systems.{AreLawful, IsOf, stage_in}
+use Rattle.gq_statements.proofs.Balanced.{balances}
+use Rattle.gq_statements.proofs.Paid.{phase_seen}
 use Rattle.gq_plans.specs.Nodes.{AreNodesOf}
 use Rattle.gq_plans.proofs.Firsts.{Counts, given_part, live_part}
 use Rattle.gq_plans.proofs.Spots.{spot_of, place_of}

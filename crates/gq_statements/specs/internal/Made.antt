@@ -9,7 +9,7 @@ use Rattle.gq_model.specs.declared.fault.Wrong.TheVariants.{WrongKind}
 use Rattle.gq_trade.specs.declared.session.Spot.{Spot}
 use Rattle.gq_trade.specs.Seen.{spot_seen}
 use Rattle.gq_slots.specs.Slots.{Frame, Slots, holder, settled_in, world_seen}
-use Rattle.gq_paid.specs.Systems.{IsOf}
+use Rattle.gq_statements.specs.Systems.{IsOf}
 
 -- a step goes on with something new in the slot that it names
 abbrev pub filling : Doing → world.World → Place → world.Slot → (world.World → Stepped) → Stepped

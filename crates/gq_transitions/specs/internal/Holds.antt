@@ -12,8 +12,8 @@ use Rattle.gq_laws.specs.Links.{IsLinkedWorld}
 use Rattle.gq_laws.specs.Room.{IsRoomy}
 use Rattle.gq_laws.proofs.progress.Phases.{AreReady}
 use Rattle.gq_slots.specs.Slots.{IsPaidBy}
-use Rattle.gq_paid.specs.Systems.{IsOf}
-use Rattle.gq_serving.specs.Serving.{AreSections}
+use Rattle.gq_statements.specs.Systems.{IsOf}
+use Rattle.gq_statements.specs.Serving.{AreSections}
 use Rattle.gq_laws.specs.Ready.{IsReady}
 use Rattle.gq_plans.specs.Nodes.{AreNodesOf}
 use Rattle.gq_prepared.specs.Prepared.{AreOpenings, AreServices}

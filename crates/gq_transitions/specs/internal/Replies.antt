@@ -2,7 +2,7 @@
 use Rattle.std.specs.Prelude.{◌≡◌, ℕ, List, slice_get, slice_set, Some}
 use Rattle.gq_bytecode.specs.declared.operation.Operation.TheVariants.{End}
 use Rattle.gq_trade.specs.Trading.{client_of}
-use Rattle.gq_paid.specs.Systems.{AreLawful}
+use Rattle.gq_statements.specs.Systems.{AreLawful}
 use Rattle.gq_statements.specs.declared.actor.Hand.{Hand}
 use Rattle.gq_steps.specs.Coded.{Coded}
 use Rattle.gq_steps.specs.Ends.{resumed, served}

@@ -1,7 +1,7 @@
 use Rattle.std.proofs.Common.{◌≡◌, Bool, List, get_or, is_some, false, ap, ◌∙◌, ◌∷◌, []}
 use Rattle.gq_model.specs.declared.program.Section.{Section}
 use Rattle.gq_bytecode.specs.Programs.{code_in}
-use Rattle.gq_serving.specs.Serving.{place}
+use Rattle.gq_statements.specs.Serving.{place}
 use Rattle.gq_prepared.proofs.In_order.{in_order, same_sections, told_at}
 use Rattle.gq_prepared.proofs.sections.sections_of.Goals as goal
 

@@ -11,7 +11,7 @@ use Rattle.gq_bytecode.specs.Nexts.{Active}
 use Rattle.gq_bytecode.specs.declared.operation.Operation.TheVariants.{Long}
 use Rattle.gq_prepared.specs.Prepared.{IsOpening, names_of}
 use Rattle.gq_prepared.specs.declared.openings.Opening.{Opening}
-use Rattle.gq_paid.specs.Systems.{stage_in}
+use Rattle.gq_statements.specs.Systems.{stage_in}
 use Rattle.gq_statements.specs.Statements.{done}
 use Rattle.gq_steps.specs.Coded.{Coded, operation_of}
 use Rattle.gq_steps.proofs.Blocking.{active_stage}

@@ -10,14 +10,14 @@ use Rattle.gq_model.specs.machine.World as world
 use Rattle.gq_model.proofs.Small.{some_same}
 use Rattle.gq_bytecode.specs.declared.operation.Operation.TheVariants as operation
 use Rattle.gq_bytecode.specs.Nexts.{Active}
-use Rattle.gq_paid.proofs.linked.Ended_leaves.{no_sessions}
-use Rattle.gq_paid.proofs.linked.Stored.{stance_is}
+use Rattle.gq_statements.proofs.linked.Ended_leaves.{no_sessions}
+use Rattle.gq_statements.proofs.linked.Stored.{stance_is}
 use Rattle.gq_slots.specs.Slots.{AreLong, Frame, Slots, world_seen}
 use Rattle.gq_slots.specs.Session_calls.{EndsLeaf}
-use Rattle.gq_paid.specs.Systems.{AreLawful, IsOf}
+use Rattle.gq_statements.specs.Systems.{AreLawful, IsOf}
 use Rattle.gq_plans.specs.Nodes.{AreNodesOf}
 use Rattle.gq_trade.specs.Trades.{IsLive}
-use Rattle.gq_serving.specs.Serving.{IsAloneWithoutLinks, IsReleased, finished}
+use Rattle.gq_statements.specs.Serving.{IsAloneWithoutLinks, IsReleased, finished}
 use Rattle.gq_plans.proofs.endings.Endings.{nodes_then, of_then}
 use Rattle.gq_statements.specs.Statements.{hand_seen}
 use Rattle.gq_leaves.specs.Leaves.{leaf_of}

@@ -3,7 +3,7 @@ use Rattle.std.proofs.Common.{ℕ, Ok, ap, ◌∙◌}
 use Rattle.gq_statements.specs.Statements.{done}
 use Rattle.gq_transitions.specs.Worlds.{world_of}
 use Rattle.gq_slots.specs.Slots.{Slots}
-use Rattle.gq_serving.specs.Serving.{Closes}
+use Rattle.gq_statements.specs.Serving.{Closes}
 use Rattle.gq_transitions.specs.internal.Scenes.{SameScene}
 use Rattle.gq_transitions.proofs.Replying.{after, client, client_is, closed_to, goes_to, had, kept_two, server, server_is}
 use Rattle.gq_transitions.proofs.Scenes.{scene_beside, scene_ended, scene_then}

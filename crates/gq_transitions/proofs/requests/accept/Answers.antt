@@ -9,7 +9,7 @@ use Rattle.gq_trade.specs.Numbers.{IsTaken}
 use Rattle.gq_trade.specs.Queues.{oldest_to}
 use Rattle.gq_trade.specs.Trading.{server_of, session_at}
 use Rattle.gq_trade.specs.Trades.{Trades}
-use Rattle.gq_serving.proofs.Outcomes.{from_some}
+use Rattle.gq_statements.proofs.Outcomes.{from_some}
 use Rattle.gq_transitions.proofs.Standing.{of_leaf}
 use Rattle.gq_transitions.proofs.Taking.{beyond, none_waits}
 use Rattle.gq_transitions.proofs.requests.accept.Goals as goal

@@ -6,8 +6,8 @@ use Rattle.gq_model.specs.declared.phase.Phase.TheVariants as phase
 use Rattle.gq_model.specs.machine.Doing.{Quiet}
 use Rattle.gq_model.specs.machine.Scenario.{components}
 use Rattle.gq_model.proofs.Small.{some_same}
-use Rattle.gq_paid.specs.Systems.{stage_in}
-use Rattle.gq_serving.specs.Serving.{found}
+use Rattle.gq_statements.specs.Systems.{stage_in}
+use Rattle.gq_statements.specs.Serving.{found}
 use Rattle.gq_steps.specs.Coded.{Coded}
 use Rattle.gq_transitions.proofs.Kept.{kept_one}
 use Rattle.gq_transitions.proofs.Scenes.{scene_taken}

@@ -7,7 +7,7 @@ use Rattle.gq_model.specs.machine.Scenario.{system}
 use Rattle.gq_model.proofs.Small.{set_there, some_same}
 use Rattle.gq_bytecode.specs.Nexts.{Active}
 use Rattle.gq_bytecode.specs.declared.operation.Operation.TheVariants as operation
-use Rattle.gq_paid.specs.Systems.{stage_in}
+use Rattle.gq_statements.specs.Systems.{stage_in}
 use Rattle.gq_statements.specs.Statements.{done}
 use Rattle.gq_steps.specs.Coded.{Coded, operation_of}
 use Rattle.gq_steps.proofs.Blocking.{active_stage}

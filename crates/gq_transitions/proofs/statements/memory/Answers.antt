@@ -9,7 +9,7 @@ use Rattle.gq_model.specs.machine.Doing.{Quiet}
 use Rattle.gq_model.proofs.Small.{set_there, some_same}
 use Rattle.gq_bytecode.specs.Nexts.{Active}
 use Rattle.gq_laws.proofs.linking.Worlds.{set_here}
-use Rattle.gq_paid.specs.Systems.{stage_in}
+use Rattle.gq_statements.specs.Systems.{stage_in}
 use Rattle.gq_steps.specs.Coded.{Coded, IsStanding, operation_of}
 use Rattle.gq_steps.specs.Steps.{on}
 use Rattle.gq_trade.specs.Trading.{account_no, node_of}

@@ -6,7 +6,7 @@ use Rattle.gq_model.specs.machine.Scenario.{Component, components, system}
 use Rattle.gq_model.proofs.Small.{some_same}
 use Rattle.gq_bytecode.specs.declared.operation.Operation.TheVariants as operation
 use Rattle.gq_bytecode.specs.Nexts.{Active}
-use Rattle.gq_paid.specs.Systems.{stage_in}
+use Rattle.gq_statements.specs.Systems.{stage_in}
 use Rattle.gq_leaves.specs.Leaves.{leaf_of}
 use Rattle.gq_steps.specs.Coded.{Coded, operation_of}
 use Rattle.gq_steps.proofs.Ending.{main_serves}

@@ -1,4 +1,0 @@
-pub mod Leads
-pub mod Asks
-pub mod Kept
-pub mod Opens

@@ -1,0 +1,56 @@
+use Rattle.std.proofs.Common.{sym, subst, ◌∙◌}
+use Rattle.gq_contents.specs.declared.thing.Thing.TheVariants.{Link}
+use Rattle.gq_slots.specs.Slots.{IsMark, Slots}
+use Rattle.gq_statements.proofs.Asks.{upgrade_none, upgrade_some, upgrade_unpaid}
+use Rattle.gq_statements.proofs.Kept.{carries_upgraded, its_session, paid_then, reads_thing, same_spot, same_thing, session_found, stays_then, stays_upgraded}
+use Rattle.gq_statements.proofs.Kept.{unpaid_upgrade}
+use Rattle.gq_statements.proofs.asking.upgrade.Goals as goal
+
+pub mark-requires-clause-there : goal.mark-requires-clause-there
+mark-requires-clause-there c =
+    let s : Slots = c.args.slots.now in
+    let k = c.in-Some.session in
+    same_spot s _ (carries_upgraded s.trades.trading k c.args.donation c.in-Some.ensures.is.taken) c.upgrade.new.slots c.in-Some.spot
+    c.in-Ok.ensures.upgraded c.in-Some.ensures.is.there
+
+pub mark-requires-clause-free : goal.mark-requires-clause-free
+mark-requires-clause-free c =
+    let s : Slots = c.args.slots.now in
+    let k = c.in-Some.session in
+    let same = same_thing s _ (carries_upgraded s.trades.trading k c.args.donation c.in-Some.ensures.is.taken) c.upgrade.new.slots c.in-Some.spot
+    c.in-Ok.ensures.upgraded c.in-Some.ensures.is.there in
+    subst IsMark (sym (same ∙ c.in-Some.ensures.is.thing)) tt
+
+pub returns-in_default-clause-step : goal.returns-in_default-clause-step
+returns-in_default-clause-step c before after d n h o b next = upgrade_none d c.args.place n (c.in_default.ensures.found before d h b.world_before)
+
+pub returns-in-Err-clause-step : goal.returns-in-Err-clause-step
+returns-in-Err-clause-step c before after d n h o b next =
+    let s : Slots = c.args.slots.now in
+    let p = c.in-Some.spot in
+    let k = c.in-Some.session in
+    let is = c.in-Some.ensures.is in
+    upgrade_unpaid d c.args.place p k (c.in-Some.ensures.found before d h b.world_before) before after s (its_session before s k)
+    (session_found before s k is.taken) b n c.args.donation next (its_session after s k) (session_found after s k is.taken)
+    (reads_thing after s p (Link k) c.lawful.ensures is.there is.thing)
+    (unpaid_upgrade d.system after s k c.args.donation c.lawful.ensures o is.taken c.requires.counted c.in-Err.ensures.only)
+
+pub returns-in-Ok-clause-step : goal.returns-in-Ok-clause-step
+returns-in-Ok-clause-step c before after d n h o b next =
+    let s : Slots = c.args.slots.now in
+    let u : Slots = c.upgrade.new.slots in
+    let t : Slots = c.mark.new.self in
+    let p = c.in-Some.spot in
+    let k = c.in-Some.session in
+    let is = c.in-Some.ensures.is in
+    let stays = stays_then s u t (stays_upgraded s u k c.args.donation is.taken c.in-Ok.ensures.upgraded) c.mark.ensures.rest in
+    upgrade_some d c.args.place p k (c.in-Some.ensures.found before d h b.world_before) before after s (its_session before s k)
+    (session_found before s k is.taken) b n c.args.donation next u t (c.in-Ok.ensures.world after) c.mark.ensures
+    (paid_then d.system after s t c.lawful.ensures c.lawful-in-Ok.ensures stays o)
+
+pub returns-in-Ok-clause-stays : goal.returns-in-Ok-clause-stays
+returns-in-Ok-clause-stays c =
+    let s : Slots = c.args.slots.now in
+    let u : Slots = c.upgrade.new.slots in
+    stays_then s u c.mark.new.self (stays_upgraded s u c.in-Some.session c.args.donation c.in-Some.ensures.is.taken c.in-Ok.ensures.upgraded)
+    c.mark.ensures.rest

@@ -1,0 +1,220 @@
+// Requests of a leaf: its slot waits, and the request is behind all others.
+ghost use Rattle.std.specs.Prelude.{◌≡◌, ℕ, ◌<◌, List, [], ◌∷◌, get_or, length, IfSome, IsTrue, OnErr};
+ghost use Rattle.gq_model.specs.machine.Amounts.{amount};
+ghost use Rattle.gq_model.specs.machine.Doing.{Doing, with_operands};
+ghost use Rattle.gq_model.specs.machine.Requests as requests;
+ghost use Rattle.gq_model.specs.machine.Routes.{server_of};
+ghost use Rattle.gq_model.specs.machine.Scenario.{interface_in, open_caps};
+ghost use Rattle.gq_model.specs.texts.Operands.{is_slot};
+ghost use Rattle.gq_trade.specs.Numbers.{IsTaken, free_number};
+ghost use Rattle.gq_trade.specs.Trading.{client_of};
+ghost use Rattle.gq_trade.specs.Trades.{IsLive};
+ghost use Rattle.gq_trade.specs.Waiting.{IsIdle};
+ghost use Rattle.gq_slots.specs.Slots.{Frame, world_seen};
+ghost use Rattle.gq_statements.specs.Statements.{IsAtHand, IsBy, done};
+ghost use Rattle.gq_statements.specs.Systems.{AreLawful, IsOf};
+ghost use Rattle.gq_statements.specs.Requests.{Blocks, IsNextLevel, OwnsLinks, Stays, session_named};
+ghost use Rattle.gq_statements.specs.internal.Leads.{IsLink, IsLinkedAt, IsRoomAt, IsVacant, link_of};
+
+use gq_model::fault::Wrong;
+use gq_model::program::Place;
+use gq_trade::Spot;
+use gq_slots::sessions;
+use gq_slots::Slots;
+use crate::actor::Actor;
+use gq_tariff::Amount;
+use gq_contents::Thing;
+
+// What holds of slots between two calls. It does nothing.
+fn lawful(slots: &Slots)
+    ensures { AreLawful slots.now }
+{
+    slots.laws();
+    slots.trades().laws();
+    slots.trades().memory().accounts().laws();
+}
+
+// The session to which a thing leads, if it is a link.
+fn link_of(thing: Thing) -> Option<u32>
+    ensures { result ≡ link_of thing }
+{
+    match thing {
+        Thing::Link(session) => Some(session),
+        Thing::Empty
+        | Thing::Block(_, _)
+        | Thing::Slice(_, _)
+        | Thing::Space(_, _)
+        | Thing::Pool(_)
+        | Thing::Waiting(_) => None,
+    }
+}
+
+// Where the link stands that a statement names, and the session to which it leads. `None` where it names no link.
+fn linked(actor: Actor, slots: &Slots, place: Place) -> Option<(Spot, u32)>
+    requires place { IsTrue (is_slot place) }
+    requires live { IsLive slots.now.trades actor.leaf }
+    requires hand { IsAtHand slots.now actor.leaf actor.hand }
+    requires linked { OwnsLinks slots.now actor.leaf }
+    ensures is { IfSome result (λ f. IsLink slots.now actor.leaf f.0 f.1) }
+    ensures found { (f : Frame) (d : Doing) → IsBy d actor → d.world ≡ world_seen f slots.now → IsLinkedAt d place result }
+{
+    slots.laws();
+    let spot = actor.spot(place)?;
+    let session = link_of(slots.thing(spot))?;
+    Some((spot, session))
+}
+
+/// The session to which the slot leads that a statement names. `None` where the slot is not there or is no link.
+pub fn link(actor: Actor, slots: &Slots, place: Place) -> Option<usize>
+    requires place { IsTrue (is_slot place) }
+    requires live { IsLive slots.now.trades actor.leaf }
+    requires hand { IsAtHand slots.now actor.leaf actor.hand }
+    requires linked { OwnsLinks slots.now actor.leaf }
+    ensures is { (f : Frame) (d : Doing) → IsBy d actor → d.world ≡ world_seen f slots.now → result ≡ session_named d place }
+    ensures taken { IfSome result (λ k. IsTaken slots.now.trades.trading.sessions k) }
+    ensures client { IfSome result (λ k. client_of slots.now.trades.trading k ≡ actor.leaf) }
+{
+    let (_spot, session) = linked(actor, slots, place)?;
+    Some(session as usize)
+}
+
+/// Asks for the end of the session to which a link leads: the client's slot waits, and the request is behind all others.
+///
+/// `WrongKind` where the slot is not there or is no link; then nothing changes. It costs nothing.
+pub fn close(actor: Actor, slots: &mut Slots, place: Place) -> Result<(), Wrong>
+    requires place { IsTrue (is_slot place) }
+    requires live { IsLive slots.old.trades actor.leaf }
+    requires hand { IsAtHand slots.old actor.leaf actor.hand }
+    requires idle { IsIdle slots.old.trades.trading actor.leaf }
+    requires linked { OwnsLinks slots.old actor.leaf }
+    ensures step { (before after : Frame) (d : Doing) → IsBy d actor → IsOf d.system after slots.old → Blocks d d.leaf before after slots.old
+        → requests.close d place ≡ done result (world_seen after slots.new) }
+    ensures stays { Stays slots.old slots.new }
+    ensures unchanged { OnErr result (slots.new ≡ slots.old) }
+{
+    let Some((spot, session)) = linked(actor, slots, place) else {
+        return Err(Wrong::WrongKind);
+    };
+    lawful(slots);
+    sessions::ask_close(slots, session as usize);
+    slots.mark(spot, Thing::Waiting(session));
+    lawful(slots);
+    Ok(())
+}
+
+/// Asks the server of the session to which a link leads for its reply to a number: the client's slot waits, and the request is behind all others. Wrong
+/// as in `close`; then nothing changes.
+pub fn call(actor: Actor, slots: &mut Slots, place: Place, value: u32) -> Result<(), Wrong>
+    requires place { IsTrue (is_slot place) }
+    requires live { IsLive slots.old.trades actor.leaf }
+    requires hand { IsAtHand slots.old actor.leaf actor.hand }
+    requires idle { IsIdle slots.old.trades.trading actor.leaf }
+    requires linked { OwnsLinks slots.old actor.leaf }
+    ensures step { (before after : Frame) (d : Doing) (rest : List ℕ) → IsBy d actor → IsOf d.system after slots.old
+        → Blocks d (with_operands d rest) before after slots.old → d.leaf.operands ≡ value ∷ rest
+        → requests.call d place ≡ done result (world_seen after slots.new) }
+    ensures stays { Stays slots.old slots.new }
+    ensures unchanged { OnErr result (slots.new ≡ slots.old) }
+{
+    let Some((spot, session)) = linked(actor, slots, place) else {
+        return Err(Wrong::WrongKind);
+    };
+    lawful(slots);
+    sessions::ask_call(slots, session as usize, value);
+    slots.mark(spot, Thing::Waiting(session));
+    lawful(slots);
+    Ok(())
+}
+
+/// Asks for the next level of the session to which a link leads, and gives its server what that needs: the client's slot waits, and the request is behind
+/// all others.
+///
+/// `WrongKind` as in `close`, else `ExceededQuota` where the leaf has too little that is not used; then nothing changes.
+pub fn upgrade(actor: Actor, slots: &mut Slots, place: Place, donation: Amount) -> Result<(), Wrong>
+    requires place { IsTrue (is_slot place) }
+    requires live { IsLive slots.old.trades actor.leaf }
+    requires hand { IsAtHand slots.old actor.leaf actor.hand }
+    requires idle { IsIdle slots.old.trades.trading actor.leaf }
+    requires linked { OwnsLinks slots.old actor.leaf }
+    requires counted { slots.old.trades.trading.memory.ledger.price ≡ 0 → donation.caps ≡ 0 }
+    ensures step { (before after : Frame) (d : Doing) (n : ℕ) → IsBy d actor → IsOf d.system after slots.old → Blocks d d.leaf before after slots.old
+        → IsNextLevel d place n donation → requests.upgrade d place n ≡ done result (world_seen after slots.new) }
+    ensures stays { Stays slots.old slots.new }
+    ensures unchanged { OnErr result (slots.new ≡ slots.old) }
+{
+    let Some((spot, session)) = linked(actor, slots, place) else {
+        return Err(Wrong::WrongKind);
+    };
+    lawful(slots);
+    match sessions::upgrade(slots, session as usize, donation) {
+        Err(_) => Err(Wrong::ExceededQuota),
+        Ok(()) => {
+            slots.mark(spot, Thing::Waiting(session));
+            lawful(slots);
+            Ok(())
+        }
+    }
+}
+
+// The slot that a statement names, if it is there and empty.
+fn vacant(actor: Actor, slots: &Slots, place: Place) -> Option<Spot>
+    requires place { IsTrue (is_slot place) }
+    requires live { IsLive slots.now.trades actor.leaf }
+    requires hand { IsAtHand slots.now actor.leaf actor.hand }
+    ensures is { IfSome result (λ p. IsVacant slots.now p) }
+    ensures found { (f : Frame) (d : Doing) → IsBy d actor → d.world ≡ world_seen f slots.now → IsRoomAt d place result }
+{
+    slots.laws();
+    let spot = actor.spot(place)?;
+    if slots.thing(spot).is_empty() {
+        Some(spot)
+    } else {
+        None
+    }
+}
+
+/// Asks a server for a session of a service, and gives it what the service needs: the client's slot, which is empty, waits, the session takes the lowest
+/// free number, and its request to open is behind all others. There is no server where the client's routes lead to none.
+///
+/// `WrongKind` where the slot is not there or not empty, or there is no server; else `ExceededQuota` where the leaf has too little that is not used. Then
+/// nothing changes.
+pub fn open(
+    actor: Actor,
+    slots: &mut Slots,
+    place: Place,
+    server: Option<usize>,
+    service: usize,
+    donation: Amount,
+) -> Result<(), Wrong>
+    requires place { IsTrue (is_slot place) }
+    requires live { IsLive slots.old.trades actor.leaf }
+    requires hand { IsAtHand slots.old actor.leaf actor.hand }
+    requires server { IfSome server (λ y. IsLive slots.old.trades y × (actor.leaf ≡ y → ⊥)) }
+    requires service { service < length slots.old.trades.trading.objects }
+    requires counted { slots.old.trades.trading.memory.ledger.price ≡ 0 → donation.caps ≡ 0 }
+    requires room { free_number slots.old.trades.trading.sessions < slots.old.trades.trading.room }
+    requires small { free_number slots.old.trades.trading.sessions < 4294967296 }
+    requires idle { IsIdle slots.old.trades.trading actor.leaf }
+    ensures step { (before after : Frame) (d : Doing) (name : List ℕ) (n : ℕ) → IsBy d actor → IsOf d.system after slots.old
+        → Blocks d d.leaf before after slots.old → name ≡ get_or after.names service [] → server_of d.system d.component name ≡ server
+        → donation ≡ amount n (open_caps (interface_in name d.system.interfaces))
+        → requests.open_session d place name n ≡ done result (world_seen after slots.new) }
+    ensures stays { Stays slots.old slots.new }
+    ensures unchanged { OnErr result (slots.new ≡ slots.old) }
+{
+    let Some(spot) = vacant(actor, slots, place) else {
+        return Err(Wrong::WrongKind);
+    };
+    let Some(server) = server else {
+        return Err(Wrong::WrongKind);
+    };
+    lawful(slots);
+    match sessions::ask(slots, actor.leaf, spot, server, service, donation) {
+        Err(_) => Err(Wrong::ExceededQuota),
+        Ok(session) => {
+            slots.mark(spot, Thing::Waiting(session as u32));
+            lawful(slots);
+            Ok(())
+        }
+    }
+}

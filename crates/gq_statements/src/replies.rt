@@ -1,0 +1,149 @@
+// Replies to requests: the client goes on.
+ghost use Rattle.std.specs.Prelude.{◌≡◌, ℕ, ◌<◌, ◌∷◌, List, OnErr, OnOk, Ok, Some};
+ghost use Rattle.gq_model.specs.machine.World as world;
+ghost use Rattle.gq_model.specs.machine.Doing.{Doing, Quiet};
+ghost use Rattle.gq_model.specs.machine.Step as step;
+ghost use Rattle.gq_model.specs.declared.program.Section.TheVariants as section;
+ghost use Rattle.gq_trade.specs.declared.session.Spot.TheVariants.{InObject};
+ghost use Rattle.gq_trade.specs.Trading.{AreOfOthers};
+ghost use Rattle.gq_contents.specs.declared.thing.Thing.TheVariants as thing;
+ghost use Rattle.gq_slots.specs.Slots.{Frame, thing_at, world_seen};
+ghost use Rattle.gq_slots.specs.Calls.{SameBeside};
+ghost use Rattle.gq_slots.specs.Addresses.{AreBuffers};
+ghost use Rattle.gq_statements.specs.Statements.{done};
+ghost use Rattle.gq_statements.specs.Systems.{IsOf};
+ghost use Rattle.gq_statements.specs.Serving.{Closes, GoesOn, IsAwaited};
+ghost use Rattle.gq_statements.specs.internal.Tests.{are_empty, fits, is_empty, is_space_of};
+
+use gq_slots::Addresses;
+use gq_model::fault::Wrong;
+use gq_trade::{Session, Spot};
+use gq_slots::sessions;
+use gq_slots::Slots;
+use gq_contents::Thing;
+
+/// The reply to a request to upgrade a session or to call at it: the client's slot, which waited, is the link to the session, and the client goes on. A
+/// call's result is one operand more of the client's.
+pub fn reply(slots: &mut Slots, session: usize)
+    requires awaited { IsAwaited slots.old session }
+    requires small { session < 4294967296 }
+    ensures replied { (f : Frame) (d : Doing) (q : world.Session) (g : List ℕ → List ℕ) → world.session_at d.world session ≡ Some q → GoesOn d q g f slots.old
+        → step.replied d session q g ≡ Ok (world_seen f slots.new, Quiet) }
+    ensures upgraded { (f : Frame) (d : Doing) (q : world.Session) (level : ℕ) → world.session_at d.world session ≡ Some q
+        → GoesOn d q (λ operands. operands) f slots.old
+        → step.reply d session (section.Upgrading level) q ≡ Ok (world_seen f slots.new, Quiet) }
+    ensures called { (f : Frame) (d : Doing) (q : world.Session) (level a : ℕ) (rest : List ℕ) → world.session_at d.world session ≡ Some q
+        → d.leaf.operands ≡ a ∷ rest → GoesOn d q (λ operands. a ∷ operands) f slots.old
+        → step.reply d session (section.Calling level) q ≡ Ok (world_seen f slots.new, Quiet) }
+    ensures beside { SameBeside slots.old slots.new }
+{
+    let spot = slots.trades().session(session).spot;
+    slots.mark(spot, Thing::Link(session as u32));
+}
+
+/// The reply to a request to open a session: as `reply`, without an operand more.
+///
+/// `WrongKind` where the session's service shares a buffer and the session's first slot is no space of just so many bytes; then nothing changes.
+pub fn reply_open(addresses: &Addresses, slots: &mut Slots, session: usize) -> Result<(), Wrong>
+    requires awaited { IsAwaited slots.old session }
+    requires small { session < 4294967296 }
+    ensures opened { (f : Frame) (d : Doing) (q : world.Session) → world.session_at d.world session ≡ Some q → AreBuffers d.system f slots.old addresses.now
+        → GoesOn d q (λ operands. operands) f slots.old → step.reply d session section.Opening q ≡ done result (world_seen f slots.new) }
+    ensures beside { SameBeside slots.old slots.new }
+    ensures unchanged { OnErr result (slots.new ≡ slots.old) }
+{
+    slots.trades().laws();
+    let service = slots.trades().session(session).service;
+    let size = addresses.buffer(service);
+    let first = slots.thing(Spot::InSession(session, 0));
+    if !fits(size, first) {
+        return Err(Wrong::WrongKind);
+    }
+    reply(slots, session);
+    Ok(())
+}
+
+// Whether no buffer is shared, or this is a space of its size.
+fn fits(size: u32, first: Thing) -> bool
+    ensures { result ≡ fits size first }
+{
+    size == 0 || is_space_of(first, size)
+}
+
+// Whether it is a space of that size.
+fn is_space_of(thing: Thing, size: u32) -> bool
+    ensures { result ≡ is_space_of size thing }
+{
+    match thing {
+        Thing::Space(_, bytes) => bytes == size,
+        Thing::Empty
+        | Thing::Block(_, _)
+        | Thing::Slice(_, _)
+        | Thing::Pool(_)
+        | Thing::Link(_)
+        | Thing::Waiting(_) => false,
+    }
+}
+
+/// The reply to a request to close a session: the session ends, what was given for it is its client's again, the client's slot is empty and the client
+/// goes on.
+///
+/// `WrongKind` where a slot of the session is not empty, else `ExceededQuota` where what was given can't be paid back; then nothing changes.
+pub fn reply_close(slots: &mut Slots, session: usize) -> Result<(), Wrong>
+    requires awaited { IsAwaited slots.old session }
+    requires object { thing_at slots.old (InObject session) ≡ thing.Empty → ⊥ }
+    requires none_waits { AreOfOthers session slots.old.trades.trading.requests }
+    ensures closed { (f : Frame) (d : Doing) (q : world.Session) (level : ℕ) → world.session_at d.world session ≡ Some q → IsOf d.system f slots.old
+        → GoesOn d q (λ operands. operands) f slots.old → step.reply d session (section.Closing level) q ≡ done result (world_seen f slots.new) }
+    ensures ends { OnOk result (Closes slots.old slots.new session) }
+    ensures unchanged { OnErr result (slots.new ≡ slots.old) }
+{
+    slots.laws();
+    slots.trades().laws();
+    slots.trades().memory().accounts().laws();
+    let Session {
+        spot,
+        slots: bank,
+        ..
+    } = slots.trades().session(session);
+    if !are_empty(&bank) {
+        return Err(Wrong::WrongKind);
+    }
+    match sessions::closed(slots, session) {
+        Err(_) => Err(Wrong::ExceededQuota),
+        Ok(()) => {
+            slots.laws();
+            slots.trades().laws();
+            slots.trades().memory().accounts().laws();
+            slots.mark(spot, Thing::Empty);
+            Ok(())
+        }
+    }
+}
+
+// Whether all of these are empty.
+fn are_empty(things: &[Thing]) -> bool
+    ensures { result ≡ are_empty things.now }
+{
+    for thing in things {
+        if !is_empty(*thing) {
+            return false;
+        }
+    }
+    true
+}
+
+// Whether it is empty.
+fn is_empty(thing: Thing) -> bool
+    ensures { result ≡ is_empty thing }
+{
+    match thing {
+        Thing::Empty => true,
+        Thing::Block(_, _)
+        | Thing::Slice(_, _)
+        | Thing::Space(_, _)
+        | Thing::Pool(_)
+        | Thing::Link(_)
+        | Thing::Waiting(_) => false,
+    }
+}

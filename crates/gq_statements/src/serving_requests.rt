@@ -1,0 +1,158 @@
+// Requests that a serving leaf takes.
+ghost use Rattle.std.specs.Prelude.{◌≡◌, ◌<◌, ◌≤◌, ◌+◌, ℕ, if◌then◌else◌, false, not, nat_eq, OnErr, OnOk, get_or};
+ghost use Rattle.gq_model.specs.machine.World as world;
+ghost use Rattle.gq_model.specs.machine.Doing.{Doing};
+ghost use Rattle.gq_model.specs.machine.Step as step;
+ghost use Rattle.gq_trade.specs.declared.requests.Ask.TheVariants as asks;
+ghost use Rattle.gq_trade.specs.Queues.{IsOldest};
+ghost use Rattle.gq_trade.specs.Numbers.{IsTaken};
+ghost use Rattle.gq_trade.specs.Trading.{object_size, server_of, session_at};
+ghost use Rattle.gq_trade.specs.Trades.{IsLive};
+ghost use Rattle.gq_slots.specs.Slots.{Frame, IsPaidBy, memory_of, world_seen};
+ghost use Rattle.gq_slots.specs.Session_calls.{TakesOldest};
+ghost use Rattle.gq_statements.specs.Serving.{AreSections, Begins, IsSection, found, place, taken};
+ghost use Rattle.gq_statements.specs.internal.Beginning.{can_pay, has_some, section_of};
+ghost use Rattle.gq_trade.specs.Stores.{store_of};
+ghost use Rattle.gq_model.specs.declared.fault.Wrong.TheVariants as wrong;
+
+use gq_trade::Memory;
+use gq_model::fault::Wrong;
+use gq_model::program::Section;
+use gq_trade::{Ask, Request};
+use gq_slots::sessions;
+use gq_slots::Slots;
+use gq_tariff::round_up;
+
+/// What a leaf that serves knows of its program and its service: which sections it has, each at its place in `Section::ALL`; how many bytes the object
+/// of a session has; and whether capabilities are counted.
+#[derive(Clone, Copy)]
+pub struct Provider<'a> {
+    pub sections: &'a [bool; 13],
+    pub object: u32,
+    pub counts_caps: bool,
+}
+
+impl<'a> Provider<'a> {
+    // Whether the program has a section.
+    fn has(&self, section: Section) -> bool
+        requires { IsSection section }
+        ensures { result ≡ get_or self.now.sections.now (place section) false }
+    {
+        self.sections[place(section)]
+    }
+
+    // What is wrong where the program has no section for a request: it can't be paid for, or the section is missing.
+    fn wrong_without(&self, slots: &Slots, server: usize, ask: Ask) -> Wrong
+        requires paid { IsPaidBy slots.now server }
+        requires counted { self.now.counts_caps ≡ not (nat_eq slots.now.trades.trading.memory.ledger.price 0) }
+        requires size { self.now.object ≤ 67108864 }
+        ensures { result ≡ (if can_pay ask self.now.object (memory_of slots.now server) then wrong.MissingSection else wrong.ExceededQuota) }
+    {
+        if self.can_pay(slots.trades().memory(), ask) {
+            Wrong::MissingSection
+        } else {
+            Wrong::ExceededQuota
+        }
+    }
+
+    // Whether the account that pays can pay for what a request makes.
+    fn can_pay(&self, memory: &Memory, ask: Ask) -> bool
+        requires counted { self.now.counts_caps ≡ not (nat_eq memory.now.ledger.price 0) }
+        requires size { self.now.object ≤ 67108864 }
+        ensures { result ≡ can_pay ask self.now.object (store_of memory.now) }
+    {
+        match ask {
+            Ask::Open => {
+                let price = round_up(u64::from(self.object) + 32);
+                let bytes = memory.accounts().avail(memory.payer());
+                price <= bytes && self.has_caps(memory)
+            }
+            Ask::Upgrade | Ask::Close | Ask::Call(_) => true,
+        }
+    }
+
+    // Whether it has a capability left, where they are counted.
+    fn has_caps(&self, memory: &Memory) -> bool
+        requires { self.now.counts_caps ≡ not (nat_eq memory.now.ledger.price 0) }
+        ensures { result ≡ has_some (store_of memory.now).caps }
+    {
+        let payer = memory.payer();
+        let accounts = memory.accounts();
+        !self.counts_caps || accounts.caps_used(payer) < accounts.caps(payer)
+    }
+}
+
+// The place of a section in `Section::ALL`.
+fn place(section: Section) -> usize
+    requires { IsSection section }
+    ensures is { result ≡ place section }
+    ensures below { result < 13 }
+{
+    match section {
+        Section::Main => 0,
+        Section::Opening => 1,
+        Section::Upgrading(level) => 1 + usize::from(level),
+        Section::Calling(level) => 5 + usize::from(level),
+        Section::Closing(level) => 9 + usize::from(level),
+    }
+}
+
+// The section that a request to a session of a level starts.
+fn section_of(ask: Ask, level: u8) -> Section
+    requires level { level ≤ 3 }
+    requires upgrade { ask ≡ asks.Upgrade → level < 3 }
+    ensures is { result ≡ section_of ask level }
+    ensures section { IsSection result }
+{
+    match ask {
+        Ask::Open => Section::Opening,
+        Ask::Upgrade => Section::Upgrading(level + 1),
+        Ask::Close => Section::Closing(level),
+        Ask::Call(_) => Section::Calling(level),
+    }
+}
+
+/// A leaf that serves takes the oldest request to it, which is this one, and is at the start of its section. A request to open makes the session's object;
+/// one to upgrade raises the level.
+///
+/// `ExceededQuota` where the object can't be paid, else `MissingSection` where the leaf's program has no such section; then nothing changes.
+#[inline(always)]
+pub fn accept(
+    provider: &Provider,
+    slots: &mut Slots,
+    server: usize,
+    request: Request,
+) -> Result<(), Wrong>
+    requires live { IsLive slots.old.trades server }
+    requires paid { IsPaidBy slots.old server }
+    requires oldest { IsOldest server slots.old.trades.trading.requests request }
+    requires there { IsTaken slots.old.trades.trading.sessions request.session }
+    requires its { server_of slots.old.trades.trading request.session ≡ server }
+    requires level { request.ask ≡ asks.Upgrade → (session_at slots.old.trades.trading request.session).level < 3 }
+    requires object { object_size slots.old.trades.trading request.session ≡ provider.now.object }
+    requires size { provider.now.object ≤ 67108864 }
+    requires counted { provider.now.counts_caps ≡ not (nat_eq slots.old.trades.trading.memory.ledger.price 0) }
+    ensures step { (e : Frame) (f : world.Request → Frame) (d : Doing) → d.x ≡ server → d.world ≡ world_seen e slots.old
+        → AreSections provider.now.sections.now d.component → Begins d f slots.old
+        → step.accept_oldest d (step.oldest d.world d.x d.world.requests) ≡ taken d f slots.new (found request result) }
+    ensures takes { OnOk result (TakesOldest slots.old slots.new server request) }
+    ensures unchanged { OnErr result (slots.new ≡ slots.old) }
+{
+    slots.laws();
+    slots.trades().laws();
+    slots.trades().memory().accounts().laws();
+    let level = slots.trades().level(request.session);
+    let section = section_of(request.ask, level);
+    if !provider.has(section) {
+        return Err(provider.wrong_without(slots, server, request.ask));
+    }
+    match sessions::accept(slots, server) {
+        Err(_) => Err(Wrong::ExceededQuota),
+        Ok(_) => {
+            slots.laws();
+            slots.trades().laws();
+            slots.trades().memory().accounts().laws();
+            Ok(())
+        }
+    }
+}
