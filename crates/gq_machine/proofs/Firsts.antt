@@ -18,7 +18,7 @@ use Rattle.gq_trade.specs.declared.node.Stage.TheVariants as stage
 use Rattle.gq_ram.specs.Entries.{no_amount}
 use Rattle.gq_plans.specs.internal.Firsts.{first_leaf}
 use Rattle.gq_bytecode.specs.Programs.{IsCodeOfProgram, ProgramCode}
-use Rattle.gq_steps.specs.Coded.{Coded}
+use Rattle.gq_leaf.specs.Coded.{Coded}
 use Rattle.gq_transitions.specs.declared.state.Prepared.{Prepared}
 use Rattle.gq_transitions.specs.internal.Holds.{IsPrepared}
 use Rattle.gq_machine.specs.internal.Starts.{AreFirst, ArePrepared, IsFirstOf}

@@ -34,8 +34,8 @@ use Rattle.gq_slots.specs.Slots.{Slots, leaf_seen, leaves_seen, memory_of}
 use Rattle.gq_statements.specs.Systems.{AreLawful, stage_in}
 use Rattle.gq_plans.proofs.quotas.Quotas.{caps_used, leaf_there, quota_stored, ram_used}
 use Rattle.gq_plans.specs.Held.{held_by_all, held_from}
-use Rattle.gq_leaves.specs.Leaves.{leaf_of}
-use Rattle.gq_steps.specs.Coded.{Coded}
+use Rattle.gq_leaf.specs.Leaves.{leaf_of}
+use Rattle.gq_leaf.specs.Coded.{Coded}
 use Rattle.gq_machine.specs.Machines.{Machine}
 use Rattle.gq_transitions.specs.Worlds.{frame_of, world_of}
 use Rattle.gq_machine.specs.declared.machine.Machine.TheInside.{Inside}

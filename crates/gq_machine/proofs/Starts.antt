@@ -35,9 +35,9 @@ use Rattle.gq_contents.specs.Things.{seen}
 use Rattle.gq_slots.specs.Slots.{Slots, leaf_seen, leaves_seen, memory_of}
 use Rattle.gq_statements.specs.Systems.{counted_at, stage_in}
 use Rattle.gq_prepared.specs.Prepared.{AreServices}
-use Rattle.gq_leaves.specs.Leaves.{leaf_of, body_in}
-use Rattle.gq_steps.specs.Coded.{Coded}
-use Rattle.gq_steps.proofs.Codes.{code_found}
+use Rattle.gq_leaf.specs.Leaves.{leaf_of, body_in}
+use Rattle.gq_leaf.specs.Coded.{Coded}
+use Rattle.gq_leaf.proofs.Codes.{code_found}
 use Rattle.gq_transitions.specs.Worlds.{frame_of, leaf_in, world_of}
 use Rattle.gq_transitions.specs.declared.state.Fixed.{Fixed}
 use Rattle.gq_transitions.specs.declared.state.State.{State}

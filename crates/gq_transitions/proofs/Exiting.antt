@@ -29,11 +29,11 @@ use Rattle.gq_trade.specs.Trades.{Trades}
 use Rattle.gq_slots.specs.Slots.{Frame, Slots}
 use Rattle.gq_slots.specs.Session_calls.{EndsLeaf}
 use Rattle.gq_statements.specs.Statements.{hand_seen}
-use Rattle.gq_leaves.specs.Leaves.{LeafState, body_in, leaf_of, section_at}
-use Rattle.gq_steps.specs.Coded.{Coded}
-use Rattle.gq_steps.specs.Ends.{exited, released_by}
-use Rattle.gq_steps.specs.Sections.{IsGone}
-use Rattle.gq_steps.proofs.Standing.{set_else, set_here, setting}
+use Rattle.gq_leaf.specs.Leaves.{LeafState, body_in, leaf_of, section_at}
+use Rattle.gq_leaf.specs.Coded.{Coded}
+use Rattle.gq_leaf.specs.Ends.{exited, released_by}
+use Rattle.gq_leaf.specs.Sections.{IsGone}
+use Rattle.gq_leaf.proofs.Standing.{set_else, set_here, setting}
 use Rattle.gq_transitions.specs.Worlds.{frame_of}
 use Rattle.gq_transitions.specs.internal.Endings.{AreGone, follows, released_if, started}
 use Rattle.gq_transitions.proofs.Frames.{leaf_at}

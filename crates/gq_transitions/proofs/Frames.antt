@@ -3,9 +3,9 @@ use Rattle.std.proofs.Common.{◌≡◌, ℕ, List, Some, refl, ap}
 use Rattle.std.specs.Prelude.{slice_get, slice_set}
 use Rattle.gq_model.specs.machine.Scenario.{Scenario, Component, components}
 use Rattle.gq_laws.proofs.linking.Worlds.{set_else, set_here}
-use Rattle.gq_leaves.specs.Frames.{IsElsewhere}
-use Rattle.gq_leaves.specs.Leaves.{leaf_of}
-use Rattle.gq_steps.specs.Coded.{Coded}
+use Rattle.gq_leaf.specs.Frames.{IsElsewhere}
+use Rattle.gq_leaf.specs.Leaves.{leaf_of}
+use Rattle.gq_leaf.specs.Coded.{Coded}
 use Rattle.gq_transitions.specs.Worlds.{frame_of, leaf_in}
 
 -- the leaf of a component in the frame

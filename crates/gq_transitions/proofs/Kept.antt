@@ -17,7 +17,7 @@ use Rattle.gq_laws.proofs.room.Worlds.{kept_roomy}
 use Rattle.gq_statements.specs.Systems.{AreLawful, IsOf, stage_in}
 use Rattle.gq_plans.specs.Nodes.{AreNodesOf}
 use Rattle.gq_prepared.specs.Prepared.{AreOpenings}
-use Rattle.gq_steps.specs.Coded.{Coded}
+use Rattle.gq_leaf.specs.Coded.{Coded}
 use Rattle.gq_transitions.specs.Worlds.{frame_of, world_of}
 use Rattle.gq_transitions.specs.declared.state.Fixed.{Fixed}
 use Rattle.gq_transitions.specs.declared.state.Prepared.{Prepared}

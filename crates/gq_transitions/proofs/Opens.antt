@@ -15,12 +15,12 @@ use Rattle.gq_bytecode.specs.declared.operation.Operation.TheVariants.{Long}
 use Rattle.gq_bytecode.specs.Programs.{AreFound, code_in}
 use Rattle.gq_bytecode.proofs.Named.{stated}
 use Rattle.gq_bytecode.proofs.Parts.{found_body}
-use Rattle.gq_leaves.specs.Leaves.{section_at}
+use Rattle.gq_leaf.specs.Leaves.{section_at}
 use Rattle.gq_prepared.specs.Prepared.{IsOpening}
 use Rattle.gq_prepared.specs.declared.openings.Opening.{Opening}
 use Rattle.gq_prepared.proofs.Opens.{opened}
-use Rattle.gq_steps.specs.Coded.{Coded, operation_in, operation_of}
-use Rattle.gq_steps.proofs.Codes.{code_found}
+use Rattle.gq_leaf.specs.Coded.{Coded, operation_in, operation_of}
+use Rattle.gq_leaf.proofs.Codes.{code_found}
 use Rattle.gq_transitions.specs.declared.state.Fixed.{Fixed}
 use Rattle.gq_transitions.specs.declared.state.Prepared.{Prepared}
 use Rattle.gq_transitions.specs.declared.state.State.{State}

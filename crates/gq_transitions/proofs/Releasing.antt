@@ -12,8 +12,8 @@ use Rattle.gq_laws.proofs.linking.Worlds.{set_else, set_here}
 use Rattle.gq_nodes.specs.NodeTables.{LeafRow, leaf_rows, number_named}
 use Rattle.gq_nodes.proofs.Rows.{row_at}
 use Rattle.gq_trade.specs.Ends.{is_number}
-use Rattle.gq_steps.specs.Coded.{Coded}
-use Rattle.gq_steps.specs.Ends.{exited}
+use Rattle.gq_leaf.specs.Coded.{Coded}
+use Rattle.gq_leaf.specs.Ends.{exited}
 use Rattle.gq_transitions.specs.internal.Endings.{AreGone, AreReleased, AreReleasedBelow, follows, released_if}
 use Rattle.gq_transitions.specs.internal.Holds.{OfLeaf}
 

@@ -28,17 +28,17 @@ use Rattle.gq_statements.proofs.Made.{leaf_found}
 use Rattle.gq_statements.specs.Systems.{AreLawful, IsOf, stage_in}
 use Rattle.gq_statements.specs.declared.actor.Hand.{Hand}
 use Rattle.gq_statements.specs.Statements.{done, hand_seen}
-use Rattle.gq_leaves.proofs.Frames.{seen_leaf}
+use Rattle.gq_leaf.proofs.Frames.{seen_leaf}
 use Rattle.gq_statements.specs.Serving.{GoesOn}
 use Rattle.gq_statements.specs.Serving as serving
 use Rattle.gq_statements.specs.Linked as linked
 use Rattle.gq_statements.proofs.linked.Standing_sessions.{client_below, in_slot}
 use Rattle.gq_laws.specs.Room.{calling}
-use Rattle.gq_steps.specs.Coded.{Coded, IsStanding, operation_of}
-use Rattle.gq_steps.specs.Ends.{resumed, resumed_phase, served}
-use Rattle.gq_steps.proofs.Ending.{end_is, ending}
-use Rattle.gq_steps.proofs.Ending as ends
-use Rattle.gq_steps.proofs.Standing.{shape}
+use Rattle.gq_leaf.specs.Coded.{Coded, IsStanding, operation_of}
+use Rattle.gq_leaf.specs.Ends.{resumed, resumed_phase, served}
+use Rattle.gq_leaf.proofs.Ending.{end_is, ending}
+use Rattle.gq_leaf.proofs.Ending as ends
+use Rattle.gq_leaf.proofs.Standing.{shape}
 use Rattle.gq_transitions.specs.Worlds.{frame_of, world_of}
 use Rattle.gq_transitions.specs.declared.state.Fixed.{Fixed}
 use Rattle.gq_transitions.specs.declared.state.State.{State}

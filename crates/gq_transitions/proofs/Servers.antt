@@ -23,7 +23,7 @@ use Rattle.gq_trade.specs.Trades.{IsLive}
 use Rattle.gq_trade.specs.declared.node.Stage.TheVariants.{Live}
 use Rattle.gq_slots.specs.Slots.{AreSound}
 use Rattle.gq_statements.specs.Systems.{AreLawful, stage_in}
-use Rattle.gq_steps.proofs.Standing.{phase_is, there}
+use Rattle.gq_leaf.proofs.Standing.{phase_is, there}
 use Rattle.gq_transitions.specs.Worlds.{frame_of}
 use Rattle.gq_transitions.specs.declared.state.Fixed.{Fixed}
 use Rattle.gq_transitions.specs.declared.state.State.{State}

@@ -34,9 +34,9 @@ use Rattle.gq_statements.specs.Serving.{AreSections, Begins, HaveObjects, begun_
 use Rattle.gq_statements.specs.internal.Beginning.{can_pay, section_of}
 use Rattle.gq_statements.proofs.Outcomes.{from_some, without}
 use Rattle.gq_statements.proofs.Taken.{none_taken}
-use Rattle.gq_steps.specs.Coded.{Coded, IsStanding}
-use Rattle.gq_steps.proofs.Beginning.{begins as begins_in}
-use Rattle.gq_steps.proofs.Standing.{first, next_in, phase_is}
+use Rattle.gq_leaf.specs.Coded.{Coded, IsStanding}
+use Rattle.gq_leaf.proofs.Beginning.{begins as begins_in}
+use Rattle.gq_leaf.proofs.Standing.{first, next_in, phase_is}
 use Rattle.gq_transitions.specs.Worlds.{frame_of, world_of}
 use Rattle.gq_transitions.specs.declared.state.Fixed.{Fixed}
 use Rattle.gq_transitions.specs.declared.state.State.{State}

@@ -5,9 +5,9 @@ use Rattle.gq_model.specs.machine.Program.{Done}
 use Rattle.gq_model.specs.machine.Scenario.{Scenario, Component, components}
 use Rattle.gq_model.specs.machine.World as world
 use Rattle.gq_slots.specs.Slots.{Frame, Slots, world_seen}
-use Rattle.gq_leaves.specs.Leaves.{leaf_of}
+use Rattle.gq_leaf.specs.Leaves.{leaf_of}
 use Rattle.gq_prepared.specs.Prepared.{names_of}
-use Rattle.gq_steps.specs.Coded.{Coded}
+use Rattle.gq_leaf.specs.Coded.{Coded}
 
 abbrev pub no_leaf : world.Leaf
 no_leaf = record { phase = Exited; hand = None; todo = Done; loops = []; operands = []; locals = []; slots = []; peaks = []; steps = 0 }

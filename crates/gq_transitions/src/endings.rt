@@ -12,7 +12,7 @@ use gq_model::fault::Wrong;
 use gq_model::phase::Phase;
 use gq_nodes::NodeTable;
 use gq_scenario::scenario::LeafNo;
-use gq_steps::Leaf;
+use gq_leaf::Leaf;
 
 // At the end of `main` of a leaf that provides nothing it exits, if it has closed its sessions, and who starts after it runs.
 pub fn exit(fixed: &Fixed, state: &mut State, number: usize) -> Result<(), Wrong>

@@ -8,7 +8,7 @@ ghost use Rattle.gq_trade.specs.Trading.{AreOfOthers};
 ghost use Rattle.gq_slots.specs.Slots.{thing_at};
 ghost use Rattle.gq_statements.specs.Serving.{IsAwaited};
 ghost use Rattle.gq_statements.specs.Statements.{done};
-ghost use Rattle.gq_steps.specs.Coded.{Coded};
+ghost use Rattle.gq_leaf.specs.Coded.{Coded};
 ghost use Rattle.gq_transitions.specs.internal.Holds.{CanStep, Goes, Holds, IsNext, OfLeaf};
 ghost use Rattle.gq_transitions.specs.internal.Replies.{IsEnd, replied};
 
@@ -18,7 +18,7 @@ use gq_model::fault::Wrong;
 use gq_model::program::Section;
 use gq_statements::replies::{reply_close, reply_open};
 use gq_statements::Hand;
-use gq_steps::Leaf;
+use gq_leaf::Leaf;
 
 // The client of the session at hand, which waits for the reply.
 fn client_at(fixed: &Fixed, state: &State, number: usize, hand: Hand) -> usize

@@ -22,7 +22,7 @@ use gq_trade::{Ask, Request};
 use gq_scenario::scenario::Version;
 use gq_statements::serving_requests::Provider;
 use gq_statements::Hand;
-use gq_steps::Leaf;
+use gq_leaf::Leaf;
 
 // What every scenario has: its interfaces stand in the order of their names, and each leaf has a program. It does nothing.
 fn scenario_laws(fixed: &Fixed, number: usize)

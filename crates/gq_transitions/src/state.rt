@@ -2,7 +2,7 @@
 use gq_nodes::NodeTable;
 use gq_prepared::{Opening, Services};
 use gq_slots::Slots;
-use gq_steps::Leaf;
+use gq_leaf::Leaf;
 
 /// What the steps of a leaf need beside its code: where its `open` statements lead, and which sections its program has.
 #[derive(Drop)]

@@ -3,8 +3,8 @@ ghost use Rattle.std.specs.Prelude.{◌≡◌, ℕ, List, IfErr, IfOk, IsTrue, O
 ghost use Rattle.gq_statements.specs.Statements.{done};
 ghost use Rattle.gq_statements.specs.Systems.{AreLawful};
 ghost use Rattle.gq_bytecode.specs.declared.operation.Operation.TheVariants as operation;
-ghost use Rattle.gq_leaves.specs.Operations.{is_on_memory};
-ghost use Rattle.gq_steps.specs.Steps.{shows};
+ghost use Rattle.gq_leaf.specs.Operations.{is_on_memory};
+ghost use Rattle.gq_leaf.specs.Steps.{shows};
 ghost use Rattle.gq_transitions.specs.internal.Holds.{ActsOn, CanStep, Goes, Holds, IsLong, IsNext, Provides};
 ghost use Rattle.gq_model.specs.declared.program.Instruction.TheVariants as instruction;
 

@@ -9,7 +9,7 @@ use Rattle.gq_trade.specs.Plans.{IsFirst}
 use Rattle.gq_slots.specs.Slots.{AreNew, Slots}
 use Rattle.gq_plans.specs.Nodes.{caps_of}
 use Rattle.gq_plans.specs.Plans.{IsPlanOf}
-use Rattle.gq_steps.specs.Coded.{Coded, first_state}
+use Rattle.gq_leaf.specs.Coded.{Coded, first_state}
 use Rattle.gq_machine.specs.Machines.{Machine}
 use Rattle.gq_transitions.specs.Worlds.{world_of}
 use Rattle.gq_machine.specs.declared.machine.Machine.TheInside.{Inside}

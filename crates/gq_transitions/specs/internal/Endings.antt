@@ -6,8 +6,8 @@ use Rattle.gq_model.specs.machine.Routes.{numbered}
 use Rattle.gq_model.specs.machine.Scenario.{Scenario, Component, components}
 use Rattle.gq_nodes.specs.NodeTables.{number_named}
 use Rattle.gq_trade.specs.Ends.{is_number}
-use Rattle.gq_steps.specs.Coded.{Coded}
-use Rattle.gq_steps.specs.Ends.{exited}
+use Rattle.gq_leaf.specs.Coded.{Coded}
+use Rattle.gq_leaf.specs.Ends.{exited}
 
 -- it is a component that starts after the leaf x
 abbrev pub follows : Scenario → ℕ → Option Component → Bool

@@ -8,8 +8,8 @@ use Rattle.gq_model.specs.machine.Scenario.{Scenario, Component, interface_in, s
 use Rattle.gq_model.specs.machine.World as world
 use Rattle.gq_prepared.specs.Prepared.{IsOpening}
 use Rattle.gq_prepared.specs.declared.openings.Opening.{Opening}
-use Rattle.gq_steps.specs.Coded.{Coded}
-use Rattle.gq_steps.specs.Steps.{session_of}
+use Rattle.gq_leaf.specs.Coded.{Coded}
+use Rattle.gq_leaf.specs.Steps.{session_of}
 use Rattle.gq_transitions.specs.Worlds.{frame_of, world_of}
 use Rattle.gq_transitions.specs.declared.state.Fixed.{Fixed}
 use Rattle.gq_transitions.specs.declared.state.State.{State}

@@ -17,7 +17,7 @@ use Rattle.gq_statements.specs.Serving.{AreSections}
 use Rattle.gq_laws.specs.Ready.{IsReady}
 use Rattle.gq_plans.specs.Nodes.{AreNodesOf}
 use Rattle.gq_prepared.specs.Prepared.{AreOpenings, AreServices}
-use Rattle.gq_steps.specs.Coded.{Coded, operation_of}
+use Rattle.gq_leaf.specs.Coded.{Coded, operation_of}
 use Rattle.gq_transitions.specs.Worlds.{frame_of, world_of}
 use Rattle.gq_transitions.specs.declared.state.Fixed.{Fixed}
 use Rattle.gq_transitions.specs.declared.state.Prepared.{Prepared}

@@ -4,8 +4,8 @@ use Rattle.gq_bytecode.specs.declared.operation.Operation.TheVariants.{End}
 use Rattle.gq_trade.specs.Trading.{client_of}
 use Rattle.gq_statements.specs.Systems.{AreLawful}
 use Rattle.gq_statements.specs.declared.actor.Hand.{Hand}
-use Rattle.gq_steps.specs.Coded.{Coded}
-use Rattle.gq_steps.specs.Ends.{resumed, served}
+use Rattle.gq_leaf.specs.Coded.{Coded}
+use Rattle.gq_leaf.specs.Ends.{resumed, served}
 use Rattle.gq_transitions.specs.declared.state.Fixed.{Fixed}
 use Rattle.gq_transitions.specs.declared.state.State.{State}
 use Rattle.gq_transitions.specs.internal.Holds.{CanStep, IsNext, OfLeaf}

@@ -5,8 +5,8 @@ use Rattle.gq_model.specs.declared.program.Section.TheVariants.{Opening, Upgradi
 use Rattle.gq_model.specs.machine.Doing.{Idle, Quiet, Stepped}
 use Rattle.gq_model.specs.machine.Step.{first_operands}
 use Rattle.gq_model.specs.machine.World as world
-use Rattle.gq_steps.specs.Coded.{Coded}
-use Rattle.gq_steps.specs.Ends.{begun}
+use Rattle.gq_leaf.specs.Coded.{Coded}
+use Rattle.gq_leaf.specs.Ends.{begun}
 
 -- a request was taken, or none waited
 abbrev pub takes : Bool → world.World → Stepped

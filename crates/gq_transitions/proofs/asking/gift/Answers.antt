@@ -12,8 +12,8 @@ use Rattle.gq_model.proofs.Small.{none_some, some_same}
 use Rattle.gq_bytecode.specs.Nexts.{Active}
 use Rattle.gq_bytecode.specs.declared.operation.Operation.TheVariants as operation
 use Rattle.gq_statements.specs.Statements.{IsAtHand, hand_seen}
-use Rattle.gq_steps.specs.Coded.{Coded, operation_of}
-use Rattle.gq_steps.specs.Steps.{session_of}
+use Rattle.gq_leaf.specs.Coded.{Coded, operation_of}
+use Rattle.gq_leaf.specs.Steps.{session_of}
 use Rattle.gq_transitions.specs.Worlds.{frame_of, world_of}
 use Rattle.gq_transitions.specs.internal.Gifts.{IsGiftOf}
 use Rattle.gq_transitions.specs.internal.Holds.{OfLeaf}

@@ -13,8 +13,8 @@ use Rattle.gq_prepared.specs.Prepared.{IsOpening, names_of}
 use Rattle.gq_prepared.specs.declared.openings.Opening.{Opening}
 use Rattle.gq_statements.specs.Systems.{stage_in}
 use Rattle.gq_statements.specs.Statements.{done}
-use Rattle.gq_steps.specs.Coded.{Coded, operation_of}
-use Rattle.gq_steps.proofs.Blocking.{active_stage}
+use Rattle.gq_leaf.specs.Coded.{Coded, operation_of}
+use Rattle.gq_leaf.proofs.Blocking.{active_stage}
 use Rattle.gq_transitions.specs.Worlds.{frame_of, world_of}
 use Rattle.gq_transitions.specs.internal.Gifts.{LeadsBy}
 use Rattle.gq_transitions.proofs.Frames.{elsewhere, leaf_set}

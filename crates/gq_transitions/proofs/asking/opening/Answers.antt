@@ -9,7 +9,7 @@ use Rattle.gq_model.proofs.Small.{none_some, some_same}
 use Rattle.gq_bytecode.specs.declared.operation.Operation.TheVariants.{Long}
 use Rattle.gq_prepared.specs.Prepared.{IsOpening}
 use Rattle.gq_prepared.specs.declared.openings.Opening.{Opening}
-use Rattle.gq_steps.specs.Coded.{operation_of}
+use Rattle.gq_leaf.specs.Coded.{operation_of}
 use Rattle.gq_transitions.specs.declared.state.Prepared.{Prepared}
 use Rattle.gq_transitions.specs.internal.Gifts.{LeadsBy}
 use Rattle.gq_transitions.proofs.Opens.{opening_at, prepared_at}

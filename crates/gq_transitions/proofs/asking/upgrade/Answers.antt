@@ -9,8 +9,8 @@ use Rattle.gq_bytecode.specs.Nexts.{Active}
 use Rattle.gq_bytecode.specs.declared.operation.Operation.TheVariants as operation
 use Rattle.gq_statements.specs.Systems.{stage_in}
 use Rattle.gq_statements.specs.Statements.{done}
-use Rattle.gq_steps.specs.Coded.{Coded, operation_of}
-use Rattle.gq_steps.proofs.Blocking.{active_stage}
+use Rattle.gq_leaf.specs.Coded.{Coded, operation_of}
+use Rattle.gq_leaf.proofs.Blocking.{active_stage}
 use Rattle.gq_transitions.specs.Worlds.{frame_of, world_of}
 use Rattle.gq_transitions.specs.internal.Gifts.{IsGiftOf}
 use Rattle.gq_transitions.proofs.Frames.{elsewhere, leaf_set}

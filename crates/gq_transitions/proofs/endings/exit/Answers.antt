@@ -20,12 +20,12 @@ use Rattle.gq_trade.specs.Trades.{IsLive}
 use Rattle.gq_statements.specs.Serving.{IsAloneWithoutLinks, IsReleased, finished}
 use Rattle.gq_plans.proofs.endings.Endings.{nodes_then, of_then}
 use Rattle.gq_statements.specs.Statements.{hand_seen}
-use Rattle.gq_leaves.specs.Leaves.{leaf_of}
-use Rattle.gq_steps.specs.Coded.{Coded, operation_of}
-use Rattle.gq_steps.specs.Sections.{IsGone}
-use Rattle.gq_steps.proofs.Beginning.{exits}
-use Rattle.gq_steps.proofs.Ending.{end_is}
-use Rattle.gq_steps.proofs.Standing.{first}
+use Rattle.gq_leaf.specs.Leaves.{leaf_of}
+use Rattle.gq_leaf.specs.Coded.{Coded, operation_of}
+use Rattle.gq_leaf.specs.Sections.{IsGone}
+use Rattle.gq_leaf.proofs.Beginning.{exits}
+use Rattle.gq_leaf.proofs.Ending.{end_is}
+use Rattle.gq_leaf.proofs.Standing.{first}
 use Rattle.gq_transitions.specs.Worlds.{frame_of, world_of}
 use Rattle.gq_transitions.specs.declared.state.Fixed.{Fixed}
 use Rattle.gq_transitions.specs.declared.state.State.{State}

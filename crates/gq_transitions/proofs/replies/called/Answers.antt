@@ -3,7 +3,7 @@ use Rattle.std.proofs.Common.{◌≡◌, ℕ, List, [], ◌∷◌, Some, Ok, dro
 use Rattle.std.specs.Prelude.{slice_get}
 use Rattle.gq_model.specs.declared.program.Section.TheVariants as section
 use Rattle.gq_model.proofs.Small.{some_same}
-use Rattle.gq_steps.specs.Coded.{Coded}
+use Rattle.gq_leaf.specs.Coded.{Coded}
 use Rattle.gq_transitions.proofs.Replying.{client, client_is, goes_to, had, kept_two, none_to, replied_to, server, server_is}
 use Rattle.gq_transitions.proofs.Scenes.{scene_beside}
 use Rattle.gq_transitions.proofs.Standing.{item_there}

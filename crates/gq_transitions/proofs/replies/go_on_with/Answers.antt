@@ -1,6 +1,6 @@
 -- The server waits for requests, and the client goes on with the result of its call.
 use Rattle.std.specs.Prelude.{◌+◌, ◌<◌, ◌^◌, ◌∷◌, length, slice_set}
-use Rattle.gq_steps.specs.Coded.{Coded}
+use Rattle.gq_leaf.specs.Coded.{Coded}
 use Rattle.gq_transitions.proofs.Replying.{both_set, of_item, of_other}
 use Rattle.gq_transitions.proofs.replies.go_on_with.Goals as goal
 

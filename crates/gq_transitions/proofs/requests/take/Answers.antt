@@ -8,7 +8,7 @@ use Rattle.gq_model.specs.machine.Scenario.{components}
 use Rattle.gq_model.proofs.Small.{some_same}
 use Rattle.gq_statements.specs.Systems.{stage_in}
 use Rattle.gq_statements.specs.Serving.{found}
-use Rattle.gq_steps.specs.Coded.{Coded}
+use Rattle.gq_leaf.specs.Coded.{Coded}
 use Rattle.gq_transitions.proofs.Kept.{kept_one}
 use Rattle.gq_transitions.proofs.Scenes.{scene_taken}
 use Rattle.gq_transitions.proofs.Standing.{item_there, live, of_leaf}

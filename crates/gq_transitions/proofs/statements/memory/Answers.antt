@@ -10,8 +10,8 @@ use Rattle.gq_model.proofs.Small.{set_there, some_same}
 use Rattle.gq_bytecode.specs.Nexts.{Active}
 use Rattle.gq_laws.proofs.linking.Worlds.{set_here}
 use Rattle.gq_statements.specs.Systems.{stage_in}
-use Rattle.gq_steps.specs.Coded.{Coded, IsStanding, operation_of}
-use Rattle.gq_steps.specs.Steps.{on}
+use Rattle.gq_leaf.specs.Coded.{Coded, IsStanding, operation_of}
+use Rattle.gq_leaf.specs.Steps.{on}
 use Rattle.gq_trade.specs.Trading.{account_no, node_of}
 use Rattle.gq_ram.specs.Trees.{number}
 use Rattle.gq_slots.specs.Slots.{IsPaidBy, Slots}

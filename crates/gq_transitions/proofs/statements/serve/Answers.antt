@@ -7,9 +7,9 @@ use Rattle.gq_model.proofs.Small.{some_same}
 use Rattle.gq_bytecode.specs.declared.operation.Operation.TheVariants as operation
 use Rattle.gq_bytecode.specs.Nexts.{Active}
 use Rattle.gq_statements.specs.Systems.{stage_in}
-use Rattle.gq_leaves.specs.Leaves.{leaf_of}
-use Rattle.gq_steps.specs.Coded.{Coded, operation_of}
-use Rattle.gq_steps.proofs.Ending.{main_serves}
+use Rattle.gq_leaf.specs.Leaves.{leaf_of}
+use Rattle.gq_leaf.specs.Coded.{Coded, operation_of}
+use Rattle.gq_leaf.proofs.Ending.{main_serves}
 use Rattle.gq_transitions.specs.Worlds.{frame_of}
 use Rattle.gq_transitions.specs.internal.Holds.{ProvidesOne}
 use Rattle.gq_transitions.proofs.Frames.{elsewhere, leaf_set}

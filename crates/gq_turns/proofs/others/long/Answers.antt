@@ -6,7 +6,7 @@ use Rattle.gq_model.specs.declared.program.Instruction.TheVariants.{Open, Say}
 use Rattle.gq_model.specs.declared.program.Place.{Place}
 use Rattle.gq_model.specs.machine.Doing.{Line}
 use Rattle.gq_bytecode.specs.declared.operation.Operation.TheVariants.{Long}
-use Rattle.gq_steps.specs.Coded.{Coded, operation_of}
+use Rattle.gq_leaf.specs.Coded.{Coded, operation_of}
 use Rattle.gq_transitions.specs.Worlds.{world_of}
 use Rattle.gq_transitions.specs.declared.state.State.{State}
 use Rattle.gq_transitions.specs.internal.Holds.{IsLong, OfLeaf}

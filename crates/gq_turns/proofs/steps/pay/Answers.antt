@@ -4,7 +4,7 @@ use Rattle.std.specs.Prelude.{slice_get}
 use Rattle.gq_model.specs.machine.Scenario.{components}
 use Rattle.gq_model.proofs.Small.{get_within}
 use Rattle.gq_slots.specs.Slots.{IsPaidBy, Slots}
-use Rattle.gq_steps.specs.Coded.{Coded}
+use Rattle.gq_leaf.specs.Coded.{Coded}
 use Rattle.gq_transitions.specs.Worlds.{world_of}
 use Rattle.gq_turns.proofs.Same.{holds_paid}
 use Rattle.gq_transitions.proofs.Standing.{of_leaf}

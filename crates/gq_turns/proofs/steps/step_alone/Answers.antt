@@ -4,8 +4,8 @@ use Rattle.std.specs.Prelude.{slice_get}
 use Rattle.std.specs.Vec.{with_item}
 use Rattle.gq_bytecode.specs.Nexts.{Active}
 use Rattle.gq_bytecode.specs.declared.operation.Operation.{Operation}
-use Rattle.gq_steps.specs.declared.leaf.Reached.{Reached}
-use Rattle.gq_steps.specs.declared.leaf.Reached.TheVariants as reached
+use Rattle.gq_leaf.specs.declared.leaf.Reached.{Reached}
+use Rattle.gq_leaf.specs.declared.leaf.Reached.TheVariants as reached
 use Rattle.gq_turns.specs.declared.steps.Alone.TheVariants.{Shared}
 use Rattle.gq_transitions.specs.declared.state.State.{State}
 use Rattle.gq_turns.proofs.Pausing.{still, still_active, still_can, still_holds, still_missing, still_next, took, took_holds}

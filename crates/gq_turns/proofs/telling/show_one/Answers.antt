@@ -6,7 +6,7 @@ use Rattle.gq_model.proofs.Small.{get_within}
 use Rattle.gq_trade.specs.declared.node.Stage.TheVariants.{Live}
 use Rattle.gq_bytecode.specs.Nexts.{Active}
 use Rattle.gq_statements.specs.Systems.{stage_in}
-use Rattle.gq_steps.specs.Coded.{Coded}
+use Rattle.gq_leaf.specs.Coded.{Coded}
 use Rattle.gq_transitions.specs.internal.Holds.{OfLeaf}
 use Rattle.gq_transitions.proofs.Standing.{active_live, item_there}
 use Rattle.gq_turns.proofs.Counting.{counted_there}

@@ -2,7 +2,7 @@
 use Rattle.std.proofs.Common.{◌<◌, ◌+◌, ◌^◌, length, sym, subst}
 use Rattle.std.specs.Prelude.{slice_get}
 use Rattle.gq_model.specs.machine.Scenario.{components}
-use Rattle.gq_steps.specs.Coded.{Coded}
+use Rattle.gq_leaf.specs.Coded.{Coded}
 use Rattle.gq_machine.specs.Machines.{Machine}
 use Rattle.gq_transitions.specs.internal.Holds.{OfLeaf}
 use Rattle.gq_turns.specs.Countable.{IsCountable}

@@ -1,0 +1,15 @@
+pub mod Codes
+pub mod Running
+pub mod Standing
+pub mod Ranges
+pub mod Leading
+pub mod Over
+pub mod Instructing
+pub mod Telling
+pub mod Blocking
+pub mod Upgrading
+pub mod Ending
+pub mod Beginning
+pub mod Frames
+pub mod Instructed
+pub mod Leaves_stepping

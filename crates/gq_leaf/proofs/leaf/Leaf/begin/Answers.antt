@@ -1,0 +1,14 @@
+-- The first place of a section.
+use Rattle.std.proofs.Common.{ap}
+use Rattle.gq_bytecode.specs.Cores.{Core}
+use Rattle.gq_leaf.proofs.Codes.{first_inside}
+use Rattle.gq_leaf.proofs.leaf.Leaf.begin.Goals as goal
+
+pub invariant_of-self : goal.invariant_of-self
+invariant_of-self c =
+    let i = c.self.inside in
+    record {
+      code = c.self.invariant.code;
+      inside = first_inside i.code c.args.hand.section c.begin.new.self.position c.self.invariant.code (ap (λ (r : Core). r.position) c.begin.ensures);
+      placed = c.place-self-inside.ensures;
+    }

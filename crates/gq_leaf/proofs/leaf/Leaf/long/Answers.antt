@@ -1,0 +1,18 @@
+-- The number of a long statement is a place of the list.
+use Rattle.std.proofs.Common.{◌≡◌, ℕ, ap, ◌∙◌}
+use Rattle.gq_bytecode.specs.declared.operation.Operation.TheVariants as operation
+use Rattle.gq_leaf.specs.Leaves.{section_at}
+use Rattle.gq_leaf.specs.Coded.{Coded, operation_of}
+use Rattle.gq_leaf.proofs.Leading.{section}
+use Rattle.gq_leaf.proofs.leaf.Leaf.long.Goals as goal
+
+no_end : (n : ℕ) → operation.Long n ≡ operation.End → ⊥
+no_end n e = cc
+
+pub long-requires : goal.long-requires
+long-requires c =
+    let i = c.self.inside in
+    let n = c.args.number in
+    let v : Coded = record { state = record { phase = i.phase; hand = i.hand; registers = i.registers; steps = i.steps }; code = i.code } in
+    let at = section v (operation.Long n) c.self.invariant.code (ap operation_of c.self.view_is ∙ c.requires) (no_end n) in
+    (c.self.invariant.code (section_at i.hand) at.ops at.found).listed i.registers.position n at.at

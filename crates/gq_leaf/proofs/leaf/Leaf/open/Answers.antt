@@ -1,0 +1,62 @@
+-- A request is the leaf's step.
+use Rattle.std.proofs.Common.{◌≡◌, ◌+◌, ℕ, Ok, Err, refl, ap, subst, ◌∙◌, arith}
+use Rattle.gq_model.specs.declared.phase.Phase.TheVariants as phase
+use Rattle.gq_bytecode.specs.Cores.{Core}
+use Rattle.gq_bytecode.specs.declared.operation.Operation.TheVariants as operation
+use Rattle.gq_leaf.specs.Leaves.{stepped}
+use Rattle.gq_statements.specs.Statements.{done}
+use Rattle.gq_leaf.specs.Coded.{Coded, operation_of}
+use Rattle.gq_leaf.specs.Steps.{OpensTo}
+use Rattle.gq_leaf.proofs.Upgrading.{open_fails, open_leads}
+use Rattle.gq_leaf.proofs.Leading.{inside_then, small_then}
+use Rattle.gq_leaf.proofs.leaf.Leaf.open.Goals as goal
+
+no_end : (n : ℕ) → operation.Long n ≡ operation.End → ⊥
+no_end n e = cc
+
+pub advance-requires : goal.advance-requires
+advance-requires c =
+    let i = c.self.inside in
+    let v : Coded = record { state = record { phase = i.phase; hand = i.hand; registers = i.registers; steps = i.steps }; code = i.code } in
+    small_then v (operation.Long c.args.statement) c.self.invariant.code (ap operation_of c.self.view_is ∙ c.requires.next) (no_end c.args.statement)
+    i.registers refl
+
+pub invariant_of-self : goal.invariant_of-self
+invariant_of-self c =
+    let i = c.self.inside in
+    let v : Coded = record { state = record { phase = i.phase; hand = i.hand; registers = i.registers; steps = i.steps }; code = i.code } in
+    record {
+      code = c.self.invariant.code;
+      inside = inside_then v (operation.Long c.args.statement) c.self.invariant.code (ap operation_of c.self.view_is ∙ c.requires.next)
+          (no_end c.args.statement) (λ size p h. h) c.advance.new.self
+          (ap (λ (r : Core). r.position) c.advance.ensures);
+      placed = c.self.invariant.placed;
+    }
+
+pub returns-in-Err-clause-step : goal.returns-in-Err-clause-step
+returns-in-Err-clause-step c name n bs stands =
+    let i = c.self.inside in
+    let v : Coded = record { state = record { phase = i.phase; hand = i.hand; registers = i.registers; steps = i.steps }; code = i.code } in
+    let P : Coded → Type 0 = λ o. OpensTo c.args.number bs name n c.args.server c.args.service c.args.donation o o c.args.slots.now c.open.new.slots
+    (done (Err c.in-Err.wrong)) in
+    subst P c.self.view_is
+    (open_fails v c.self.invariant.code c.args.statement c.args.place name n (ap operation_of c.self.view_is ∙ c.requires.next)
+    (ap (λ (o : Coded). Rattle.std.specs.Prelude.slice_get o.code.longs c.args.statement) c.self.view_is ∙ stands)
+    c.args.number bs c.args.slots.now c.open.new.slots c.args.server c.args.service c.args.donation v c.in-Err.wrong
+    (λ f g d. c.in-Err.ensures.step f g d name n))
+
+pub returns-in-Ok-clause-step : goal.returns-in-Ok-clause-step
+returns-in-Ok-clause-step c name number bs stands =
+    let i = c.self.inside in
+    let v : Coded = record { state = record { phase = i.phase; hand = i.hand; registers = i.registers; steps = i.steps }; code = i.code } in
+    let n : Coded = record { state = record { phase = phase.Blocked; hand = i.hand; registers = c.advance.new.self; steps = i.steps + 1 }; code = i.code } in
+    let to : n.state ≡ record (stepped v.state i.registers.operands) { phase = phase.Blocked } =
+    ap (λ (r : Core). record n.state { registers = r }) c.advance.ensures
+    ∙ ap (λ k. record (stepped v.state i.registers.operands) { phase = phase.Blocked; steps = k }) (omega arith) in
+    let P : Coded → Type 0 = λ o. OpensTo c.args.number bs name number c.args.server c.args.service c.args.donation o n c.args.slots.now c.open.new.slots
+    (done (Ok tt)) in
+    subst P c.self.view_is
+    (open_leads v c.self.invariant.code c.args.statement c.args.place name number (ap operation_of c.self.view_is ∙ c.requires.next)
+    (ap (λ (o : Coded). Rattle.std.specs.Prelude.slice_get o.code.longs c.args.statement) c.self.view_is ∙ stands)
+    c.args.number bs c.args.slots.now c.open.new.slots c.args.server c.args.service c.args.donation n (Ok tt) to
+    (λ f g d. c.in-Ok.ensures.step f g d name number))

@@ -1,0 +1,43 @@
+-- A text that is said.
+use Rattle.std.proofs.Common.{◌≡◌, ◌+◌, ℕ, refl, ap, subst, ◌∙◌, arith}
+use Rattle.gq_bytecode.specs.Cores.{Core}
+use Rattle.gq_bytecode.specs.declared.operation.Operation.TheVariants as operation
+use Rattle.gq_leaf.specs.Leaves.{stepped}
+use Rattle.gq_leaf.specs.Coded.{Coded, operation_of}
+use Rattle.gq_leaf.specs.Steps.{LeadsTo, shows}
+use Rattle.gq_leaf.proofs.Leading.{inside_then, small_then}
+use Rattle.gq_leaf.proofs.Telling.{say_leads}
+use Rattle.gq_leaf.proofs.leaf.Leaf.said.Goals as goal
+
+no_end : (n : ℕ) → operation.Long n ≡ operation.End → ⊥
+no_end n e = cc
+
+pub advance-requires : goal.advance-requires
+advance-requires c =
+    let i = c.self.inside in
+    let v : Coded = record { state = record { phase = i.phase; hand = i.hand; registers = i.registers; steps = i.steps }; code = i.code } in
+    small_then v (operation.Long c.args.number) c.self.invariant.code (ap operation_of c.self.view_is ∙ c.requires.next) (no_end c.args.number) i.registers refl
+
+pub invariant_of-self : goal.invariant_of-self
+invariant_of-self c =
+    let i = c.self.inside in
+    let v : Coded = record { state = record { phase = i.phase; hand = i.hand; registers = i.registers; steps = i.steps }; code = i.code } in
+    record {
+      code = c.self.invariant.code;
+      inside = inside_then v (operation.Long c.args.number) c.self.invariant.code (ap operation_of c.self.view_is ∙ c.requires.next) (no_end c.args.number)
+          (λ size p h. h) c.advance.new.self (ap (λ (r : Core). r.position) c.advance.ensures);
+      placed = c.self.invariant.placed;
+    }
+
+pub returns-clause-step : goal.returns-clause-step
+returns-clause-step c text x bs s stands =
+    let i = c.self.inside in
+    let v : Coded = record { state = record { phase = i.phase; hand = i.hand; registers = i.registers; steps = i.steps }; code = i.code } in
+    let n : Coded = record { state = record { phase = i.phase; hand = i.hand; registers = c.advance.new.self; steps = i.steps + 1 }; code = i.code } in
+    let on : n.state ≡ stepped v.state i.registers.operands =
+    ap (λ (r : Core). record v.state { registers = r; steps = i.steps + 1 }) c.advance.ensures
+    ∙ ap (λ k. record (stepped v.state i.registers.operands) { steps = k }) (omega arith) in
+    let P : Coded → Type 0 = λ o. LeadsTo x bs o n s s (shows text) in
+    subst P c.self.view_is
+    (say_leads v c.self.invariant.code x bs s n c.args.number text (ap operation_of c.self.view_is ∙ c.requires.next)
+    (ap (λ (o : Coded). Rattle.std.specs.Prelude.slice_get o.code.longs c.args.number) c.self.view_is ∙ stands) on)

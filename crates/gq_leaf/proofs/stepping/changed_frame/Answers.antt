@@ -1,0 +1,5 @@
+use Rattle.gq_leaf.proofs.Frames as frames
+use Rattle.gq_leaf.proofs.stepping.changed_frame.Goals as goal
+
+pub returns : goal.returns
+returns c = frames.changed_frame

@@ -1,0 +1,5 @@
+use Rattle.gq_leaf.proofs.Instructed as steps
+use Rattle.gq_leaf.proofs.stepping.instructed.Goals as goal
+
+pub returns : goal.returns
+returns c = steps.instructed

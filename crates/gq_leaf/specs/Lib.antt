@@ -1,0 +1,11 @@
+pub mod Coded
+pub mod Ends
+pub mod Phases
+pub mod Sections
+pub mod Statements
+pub mod Steps
+pub mod internal
+pub mod Frames
+pub mod Leaves
+pub mod Leaves_steps
+pub mod Operations

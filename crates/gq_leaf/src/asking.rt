@@ -1,0 +1,187 @@
+// Statements that ask something of others: the leaf is blocked until the reply.
+ghost use Rattle.std.specs.Prelude.{◌≡◌, ℕ, ◌+◌, ◌<◌, ◌^◌, ◌∷◌, List, IsTrue, OnErr, OnOk, Some, drop, length, slice_get};
+ghost use Rattle.gq_model.specs.declared.program.Instruction.TheVariants as instruction;
+ghost use Rattle.gq_model.specs.declared.program.Instruction.{Instruction};
+ghost use Rattle.gq_model.specs.declared.program.Place.{Place};
+ghost use Rattle.gq_model.specs.texts.Operands.{is_slot};
+ghost use Rattle.gq_bytecode.specs.Layout.{instruction_in};
+ghost use Rattle.gq_leaf.specs.Statements.{slot_named};
+ghost use Rattle.gq_bytecode.specs.declared.operation.Operation.TheVariants as operation;
+ghost use Rattle.gq_trade.specs.Numbers.{free_number};
+ghost use Rattle.gq_trade.specs.Trades.{IsLive};
+ghost use Rattle.gq_trade.specs.Waiting.{IsIdle};
+ghost use Rattle.gq_statements.specs.Statements.{IsAtHand, done};
+ghost use Rattle.gq_statements.specs.Requests.{OwnsLinks, Stays};
+ghost use Rattle.gq_leaf.specs.Coded.{operation_of};
+ghost use Rattle.gq_leaf.specs.Steps.{LeadsTo, OpensTo, UpgradesTo, blocked_on};
+
+use crate::leaf::Leaf;
+use gq_statements::{call, close, open, upgrade};
+use gq_model::fault::Wrong;
+use gq_model::phase::Phase;
+use gq_model::program::Place;
+use gq_bytecode::Operation;
+use gq_slots::Slots;
+use gq_statements::Actor;
+use gq_tariff::Amount;
+
+impl Leaf {
+    /// What the request at the leaf's place names is a slot, of the leaf or of its session. It does nothing.
+    pub fn names_slot(&self, fetched: Operation)
+        requires next { operation_of self.now ≡ Some fetched }
+        requires more { fetched ≡ operation.End → ⊥ }
+        ensures { (i : Instruction) (place : Place) → instruction_in self.now.code.longs fetched ≡ Some i → slot_named i ≡ Some place
+            → IsTrue (is_slot place) }
+    {
+        let _steps = self.steps;
+        let _fetched = fetched;
+    }
+
+    /// Asks for the end of the session of a link, and waits for the reply. Wrong as `gq_asking::close` says; then nothing changes.
+    pub fn close(&mut self, place: Place, number: usize, slots: &mut Slots) -> Result<(), Wrong>
+        requires next { operation_of self.old ≡ Some (operation.Close place) }
+        requires countable { self.old.state.steps + 1 < 2 ^ 64 }
+        requires live { IsLive slots.old.trades number }
+        requires hand { IsAtHand slots.old number self.old.state.hand }
+        requires idle { IsIdle slots.old.trades.trading number }
+        requires linked { OwnsLinks slots.old number }
+        ensures step { (bs : List ℕ) → LeadsTo number bs self.old self.new slots.old slots.new (done result) }
+        ensures waits { OnOk result (self.new ≡ blocked_on self.old self.old.state.registers.operands) }
+        ensures stays { Stays slots.old slots.new }
+        ensures unchanged { OnErr result (slots.new ≡ slots.old) }
+        ensures same { OnErr result (self.new ≡ self.old) }
+    {
+        let actor = Actor {
+            leaf: number,
+            hand: self.hand,
+        };
+        match close(actor, slots, place) {
+            Err(wrong) => Err(wrong),
+            Ok(()) => {
+                self.phase = Phase::Blocked;
+                self.registers.advance();
+                self.steps += 1;
+                Ok(())
+            }
+        }
+    }
+
+    /// Calls the service of a link with the top operand, and waits for the reply. `MissingOperand` where there is none; else wrong as
+    /// `gq_asking::call` says. Then nothing changes.
+    pub fn call(&mut self, place: Place, number: usize, slots: &mut Slots) -> Result<(), Wrong>
+        requires next { operation_of self.old ≡ Some (operation.Call place) }
+        requires countable { self.old.state.steps + 1 < 2 ^ 64 }
+        requires live { IsLive slots.old.trades number }
+        requires hand { IsAtHand slots.old number self.old.state.hand }
+        requires idle { IsIdle slots.old.trades.trading number }
+        requires linked { OwnsLinks slots.old number }
+        ensures step { (bs : List ℕ) → LeadsTo number bs self.old self.new slots.old slots.new (done result) }
+        ensures waits { OnOk result (self.new ≡ blocked_on self.old (drop 1 self.old.state.registers.operands)) }
+        ensures stays { Stays slots.old slots.new }
+        ensures unchanged { OnErr result (slots.new ≡ slots.old) }
+        ensures same { OnErr result (self.new ≡ self.old) }
+    {
+        let Some(value) = self.registers.top() else {
+            return Err(Wrong::MissingOperand);
+        };
+        let actor = Actor {
+            leaf: number,
+            hand: self.hand,
+        };
+        match call(actor, slots, place, value) {
+            Err(wrong) => Err(wrong),
+            Ok(()) => {
+                self.phase = Phase::Blocked;
+                let _value = self.registers.pop();
+                self.registers.advance();
+                self.steps += 1;
+                Ok(())
+            }
+        }
+    }
+
+    /// Asks for the next level of the session of a link, gives its server what that needs, and waits for the reply. Wrong as
+    /// `gq_asking::upgrade` says; then nothing changes.
+    pub fn upgrade(
+        &mut self,
+        place: Place,
+        bytes: u32,
+        donation: Amount,
+        number: usize,
+        slots: &mut Slots,
+    ) -> Result<(), Wrong>
+        requires next { operation_of self.old ≡ Some (operation.Upgrade place bytes) }
+        requires countable { self.old.state.steps + 1 < 2 ^ 64 }
+        requires live { IsLive slots.old.trades number }
+        requires hand { IsAtHand slots.old number self.old.state.hand }
+        requires idle { IsIdle slots.old.trades.trading number }
+        requires linked { OwnsLinks slots.old number }
+        requires counted { slots.old.trades.trading.memory.ledger.price ≡ 0 → donation.caps ≡ 0 }
+        ensures step { (bs : List ℕ) → UpgradesTo number bs place bytes donation self.old self.new slots.old slots.new (done result) }
+        ensures waits { OnOk result (self.new ≡ blocked_on self.old self.old.state.registers.operands) }
+        ensures stays { Stays slots.old slots.new }
+        ensures unchanged { OnErr result (slots.new ≡ slots.old) }
+        ensures same { OnErr result (self.new ≡ self.old) }
+    {
+        let _bytes = bytes;
+        let actor = Actor {
+            leaf: number,
+            hand: self.hand,
+        };
+        match upgrade(actor, slots, place, donation) {
+            Err(wrong) => Err(wrong),
+            Ok(()) => {
+                self.phase = Phase::Blocked;
+                self.registers.advance();
+                self.steps += 1;
+                Ok(())
+            }
+        }
+    }
+
+    /// Asks a server for a session of a service, gives it what the service needs, and waits for the reply. Wrong as `gq_asking::open` says; then
+    /// nothing changes.
+    pub fn open(
+        &mut self,
+        statement: u32,
+        place: Place,
+        server: usize,
+        service: usize,
+        donation: Amount,
+        number: usize,
+        slots: &mut Slots,
+    ) -> Result<(), Wrong>
+        requires next { operation_of self.old ≡ Some (operation.Long statement) }
+        requires place { IsTrue (is_slot place) }
+        requires countable { self.old.state.steps + 1 < 2 ^ 64 }
+        requires live { IsLive slots.old.trades number }
+        requires hand { IsAtHand slots.old number self.old.state.hand }
+        requires server { IsLive slots.old.trades server × (number ≡ server → ⊥) }
+        requires service { service < length slots.old.trades.trading.objects }
+        requires counted { slots.old.trades.trading.memory.ledger.price ≡ 0 → donation.caps ≡ 0 }
+        requires room { free_number slots.old.trades.trading.sessions < slots.old.trades.trading.room }
+        requires small { free_number slots.old.trades.trading.sessions < 4294967296 }
+        requires idle { IsIdle slots.old.trades.trading number }
+        ensures step { (name : List ℕ) (n : ℕ) (bs : List ℕ) → slice_get self.old.code.longs statement ≡ Some (instruction.Open place name n)
+            → OpensTo number bs name n server service donation self.old self.new slots.old slots.new (done result) }
+        ensures waits { OnOk result (self.new ≡ blocked_on self.old self.old.state.registers.operands) }
+        ensures stays { Stays slots.old slots.new }
+        ensures unchanged { OnErr result (slots.new ≡ slots.old) }
+        ensures same { OnErr result (self.new ≡ self.old) }
+    {
+        let _statement = statement;
+        let actor = Actor {
+            leaf: number,
+            hand: self.hand,
+        };
+        match open(actor, slots, place, Some(server), service, donation) {
+            Err(wrong) => Err(wrong),
+            Ok(()) => {
+                self.phase = Phase::Blocked;
+                self.registers.advance();
+                self.steps += 1;
+                Ok(())
+            }
+        }
+    }
+}

@@ -1,4 +1,0 @@
-pub mod Frames
-pub mod Leaves
-pub mod Steps
-pub mod Operations
