@@ -10,13 +10,13 @@ use Rattle.gq_model.specs.machine.World.{first_phase}
 use Rattle.gq_model.proofs.Small.{get_within, none_some, some_same}
 use Rattle.gq_nodes.specs.NodeTables.{leaf_rows, number_named}
 use Rattle.gq_laws.specs.Ready.{IsReady}
-use Rattle.gq_plans.specs.Plans.{first_stage}
-use Rattle.gq_plans.proofs.Lists.{in_append}
-use Rattle.gq_plans.proofs.Made as made
+use Rattle.gq_prepared.specs.Plans.{first_stage}
+use Rattle.gq_prepared.proofs.Lists.{in_append}
+use Rattle.gq_prepared.proofs.Made as made
 use Rattle.gq_trade.specs.declared.node.Node.{Node}
 use Rattle.gq_trade.specs.declared.node.Stage.TheVariants as stage
 use Rattle.gq_ram.specs.Entries.{no_amount}
-use Rattle.gq_plans.specs.internal.Firsts.{first_leaf}
+use Rattle.gq_prepared.specs.internal.Firsts.{first_leaf}
 use Rattle.gq_bytecode.specs.Programs.{IsCodeOfProgram, ProgramCode}
 use Rattle.gq_leaf.specs.Coded.{Coded}
 use Rattle.gq_transitions.specs.declared.state.Prepared.{Prepared}

@@ -10,7 +10,7 @@ use Rattle.gq_model.specs.declared.program.Form.{Form}
 use Rattle.gq_model.specs.declared.program.Form.TheVariants.{Block, Slice, Space}
 use Rattle.gq_model.specs.machine.Sums.{bank_price, held, slot_price, to_leaf}
 use Rattle.gq_model.specs.machine.World as world
-use Rattle.gq_plans.specs.Held.{held_by_all, held_from}
+use Rattle.gq_prepared.specs.Held.{held_by_all, held_from}
 
 abbrev IsWhole : ℕ → Type 0
 IsWhole n = (k : ℕ) × (n ≡ k * 4096)

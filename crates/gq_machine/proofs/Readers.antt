@@ -32,8 +32,8 @@ use Rattle.gq_trade.specs.Trades.{HasAccount, Trades}
 use Rattle.gq_trade.proofs.Evens.{for_other}
 use Rattle.gq_slots.specs.Slots.{Slots, leaf_seen, leaves_seen, memory_of}
 use Rattle.gq_statements.specs.Systems.{AreLawful, stage_in}
-use Rattle.gq_plans.proofs.quotas.Quotas.{caps_used, leaf_there, quota_stored, ram_used}
-use Rattle.gq_plans.specs.Held.{held_by_all, held_from}
+use Rattle.gq_prepared.proofs.quotas.Quotas.{caps_used, leaf_there, quota_stored, ram_used}
+use Rattle.gq_prepared.specs.Held.{held_by_all, held_from}
 use Rattle.gq_leaf.specs.Leaves.{leaf_of}
 use Rattle.gq_leaf.specs.Coded.{Coded}
 use Rattle.gq_machine.specs.Machines.{Machine}

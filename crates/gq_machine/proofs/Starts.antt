@@ -16,10 +16,10 @@ use Rattle.gq_laws.proofs.room.Worlds.{start_roomy}
 use Rattle.gq_laws.proofs.progress.Phases.{AreReady, start_ready}
 use Rattle.gq_nodes.proofs.Rows.{places-count}
 use Rattle.gq_laws.specs.Ready.{IsReady}
-use Rattle.gq_plans.proofs.Firsts.{afters_fit}
-use Rattle.gq_plans.proofs.Kept.{first_kept, quantum_of, stage_of}
-use Rattle.gq_plans.specs.Nodes.{AreNodesOf}
-use Rattle.gq_plans.specs.Plans.{first_stage}
+use Rattle.gq_prepared.proofs.Firsts.{afters_fit}
+use Rattle.gq_prepared.proofs.Kept.{first_kept, quantum_of, stage_of}
+use Rattle.gq_prepared.specs.Nodes.{AreNodesOf}
+use Rattle.gq_prepared.specs.Plans.{first_stage}
 use Rattle.gq_bytecode.specs.Cores.{Core}
 use Rattle.gq_bytecode.specs.Programs.{AreFound, IsCodeOfProgram, ProgramCode, code_in}
 use Rattle.gq_bytecode.specs.Views.{state_of}

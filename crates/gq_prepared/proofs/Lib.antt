@@ -3,3 +3,9 @@ pub mod Opens
 pub mod In_order
 pub mod Gifts
 pub mod Leads
+pub mod Lists
+pub mod Sums
+pub mod Spots
+pub mod Firsts
+pub mod Kept
+pub mod Made

@@ -15,7 +15,7 @@ use Rattle.gq_laws.specs.Ready.{IsReady}
 use Rattle.gq_laws.proofs.ready.Servers.{provided}
 use Rattle.gq_laws.proofs.room.Worlds.{kept_roomy}
 use Rattle.gq_statements.specs.Systems.{AreLawful, IsOf, stage_in}
-use Rattle.gq_plans.specs.Nodes.{AreNodesOf}
+use Rattle.gq_prepared.specs.Nodes.{AreNodesOf}
 use Rattle.gq_prepared.specs.Prepared.{AreOpenings}
 use Rattle.gq_leaf.specs.Coded.{Coded}
 use Rattle.gq_transitions.specs.Worlds.{frame_of, world_of}

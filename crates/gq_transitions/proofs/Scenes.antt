@@ -13,7 +13,7 @@ use Rattle.gq_slots.specs.Calls.{SameBeside}
 use Rattle.gq_slots.specs.Session_calls.{EndsSession, TakesOldest}
 use Rattle.gq_statements.specs.Systems.{AreLawful, IsOf, counted_at, stage_in}
 use Rattle.gq_statements.specs.Requests.{Stays}
-use Rattle.gq_plans.specs.Nodes.{AreNodesOf}
+use Rattle.gq_prepared.specs.Nodes.{AreNodesOf}
 use Rattle.gq_transitions.specs.internal.Scenes.{SameScene}
 
 pub scene_self : (t : Slots) → SameScene t t

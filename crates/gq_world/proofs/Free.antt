@@ -15,7 +15,7 @@ use Rattle.gq_model.specs.rules.Accept.{budgets, step_budgets}
 use Rattle.gq_model.proofs.Small.{get_within}
 use Rattle.gq_scenario.proofs.Preorder.{components-count}
 use Rattle.gq_laws.specs.Stands.{Stands}
-use Rattle.gq_plans.specs.Held.{held_by_all, held_from}
+use Rattle.gq_prepared.specs.Held.{held_by_all, held_from}
 use Rattle.gq_world.proofs.Turns.{Promises}
 
 -- WHAT ACCOUNTS TELL

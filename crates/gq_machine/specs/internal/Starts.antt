@@ -7,8 +7,8 @@ use Rattle.gq_contents.specs.declared.thing.Thing.TheVariants.{Empty}
 use Rattle.gq_trade.specs.declared.node.Node.{Node}
 use Rattle.gq_trade.specs.Plans.{IsFirst}
 use Rattle.gq_slots.specs.Slots.{AreNew, Slots}
-use Rattle.gq_plans.specs.Nodes.{caps_of}
-use Rattle.gq_plans.specs.Plans.{IsPlanOf}
+use Rattle.gq_prepared.specs.Nodes.{caps_of}
+use Rattle.gq_prepared.specs.Plans.{IsPlanOf}
 use Rattle.gq_leaf.specs.Coded.{Coded, first_state}
 use Rattle.gq_machine.specs.Machines.{Machine}
 use Rattle.gq_transitions.specs.Worlds.{world_of}

@@ -15,7 +15,7 @@ use Rattle.gq_slots.specs.Slots.{IsPaidBy}
 use Rattle.gq_statements.specs.Systems.{IsOf}
 use Rattle.gq_statements.specs.Serving.{AreSections}
 use Rattle.gq_laws.specs.Ready.{IsReady}
-use Rattle.gq_plans.specs.Nodes.{AreNodesOf}
+use Rattle.gq_prepared.specs.Nodes.{AreNodesOf}
 use Rattle.gq_prepared.specs.Prepared.{AreOpenings, AreServices}
 use Rattle.gq_leaf.specs.Coded.{Coded, operation_of}
 use Rattle.gq_transitions.specs.Worlds.{frame_of, world_of}

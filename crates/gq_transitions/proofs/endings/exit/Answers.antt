@@ -15,10 +15,10 @@ use Rattle.gq_statements.proofs.linked.Stored.{stance_is}
 use Rattle.gq_slots.specs.Slots.{AreLong, Frame, Slots, world_seen}
 use Rattle.gq_slots.specs.Session_calls.{EndsLeaf}
 use Rattle.gq_statements.specs.Systems.{AreLawful, IsOf}
-use Rattle.gq_plans.specs.Nodes.{AreNodesOf}
+use Rattle.gq_prepared.specs.Nodes.{AreNodesOf}
 use Rattle.gq_trade.specs.Trades.{IsLive}
 use Rattle.gq_statements.specs.Serving.{IsAloneWithoutLinks, IsReleased, finished}
-use Rattle.gq_plans.proofs.endings.Endings.{nodes_then, of_then}
+use Rattle.gq_prepared.proofs.endings.Endings.{nodes_then, of_then}
 use Rattle.gq_statements.specs.Statements.{hand_seen}
 use Rattle.gq_leaf.specs.Leaves.{leaf_of}
 use Rattle.gq_leaf.specs.Coded.{Coded, operation_of}

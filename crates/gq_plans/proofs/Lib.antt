@@ -1,6 +1,0 @@
-pub mod Lists
-pub mod Sums
-pub mod Spots
-pub mod Firsts
-pub mod Kept
-pub mod Made

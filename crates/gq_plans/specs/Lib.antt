@@ -1,4 +1,0 @@
-pub mod Nodes
-pub mod Plans
-pub mod Held
-pub mod internal
