@@ -19,10 +19,10 @@ use Rattle.gq_ram.specs.Entries.{no_amount}
 use Rattle.gq_prepared.specs.internal.Firsts.{first_leaf}
 use Rattle.gq_bytecode.specs.Programs.{IsCodeOfProgram, ProgramCode}
 use Rattle.gq_leaf.specs.Coded.{Coded}
-use Rattle.gq_transitions.specs.declared.state.Prepared.{Prepared}
-use Rattle.gq_transitions.specs.internal.Holds.{IsPrepared}
+use Rattle.gq_machine.specs.declared.state.Prepared.{Prepared}
+use Rattle.gq_machine.specs.internal.Holds.{IsPrepared}
 use Rattle.gq_machine.specs.internal.Starts.{AreFirst, ArePrepared, IsFirstOf}
-use Rattle.gq_transitions.proofs.Standing.{item_there}
+use Rattle.gq_machine.proofs.Standing.{item_there}
 
 running : (after : Option (List ℕ)) → stage.Live ≡ first_stage after → Running ≡ first_phase after
 running None e = refl

@@ -37,15 +37,15 @@ use Rattle.gq_prepared.specs.Held.{held_by_all, held_from}
 use Rattle.gq_leaf.specs.Leaves.{leaf_of}
 use Rattle.gq_leaf.specs.Coded.{Coded}
 use Rattle.gq_machine.specs.Machines.{Machine}
-use Rattle.gq_transitions.specs.Worlds.{frame_of, world_of}
+use Rattle.gq_machine.specs.Worlds.{frame_of, world_of}
 use Rattle.gq_machine.specs.declared.machine.Machine.TheInside.{Inside}
-use Rattle.gq_transitions.specs.declared.state.Fixed.{Fixed}
-use Rattle.gq_transitions.specs.declared.state.State.{State}
+use Rattle.gq_machine.specs.declared.state.Fixed.{Fixed}
+use Rattle.gq_machine.specs.declared.state.State.{State}
 use Rattle.gq_machine.specs.internal.Held.{held_before}
-use Rattle.gq_transitions.specs.internal.Holds.{Holds}
+use Rattle.gq_machine.specs.internal.Holds.{Holds}
 use Rattle.gq_machine.specs.internal.Starts.{machine_seen}
-use Rattle.gq_transitions.proofs.Frames.{leaf_at}
-use Rattle.gq_transitions.proofs.Standing.{item_there}
+use Rattle.gq_machine.proofs.Frames.{leaf_at}
+use Rattle.gq_machine.proofs.Standing.{item_there}
 
 pub if_some : {A : Type 0} (o : Option A) (P : A → Type 0) → ((a : A) → o ≡ Some a → P a) → IfSome o P
 if_some None P f = tt

@@ -38,12 +38,12 @@ use Rattle.gq_prepared.specs.Prepared.{AreServices}
 use Rattle.gq_leaf.specs.Leaves.{leaf_of, body_in}
 use Rattle.gq_leaf.specs.Coded.{Coded}
 use Rattle.gq_leaf.proofs.Codes.{code_found}
-use Rattle.gq_transitions.specs.Worlds.{frame_of, leaf_in, world_of}
-use Rattle.gq_transitions.specs.declared.state.Fixed.{Fixed}
-use Rattle.gq_transitions.specs.declared.state.State.{State}
-use Rattle.gq_transitions.specs.internal.Holds.{Holds, room}
+use Rattle.gq_machine.specs.Worlds.{frame_of, leaf_in, world_of}
+use Rattle.gq_machine.specs.declared.state.Fixed.{Fixed}
+use Rattle.gq_machine.specs.declared.state.State.{State}
+use Rattle.gq_machine.specs.internal.Holds.{Holds, room}
 use Rattle.gq_machine.specs.internal.Starts.{AreFirst, AreFirstSlots, ArePrepared, IsFirstOf}
-use Rattle.gq_transitions.proofs.Frames.{leaf_at}
+use Rattle.gq_machine.proofs.Frames.{leaf_at}
 
 -- ONE LEAF
 

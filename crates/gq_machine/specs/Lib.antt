@@ -1,5 +1,8 @@
-pub use Rattle.gq_turns.specs.Bursts
-pub use Rattle.gq_turns.specs.Countable
-pub use Rattle.gq_turns.specs.Events
 pub mod Machines
 pub mod internal
+pub mod Worlds
+pub mod Bursts
+pub mod Countable
+pub mod Events
+pub mod Shows
+pub mod Stints

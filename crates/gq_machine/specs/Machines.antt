@@ -1,5 +1,5 @@
 -- What the machine stands for.
-pub use Rattle.gq_turns.specs.Countable.{AreCountable, IsCountable}
+pub use Rattle.gq_machine.specs.Countable.{AreCountable, IsCountable}
 use Rattle.gq_model.specs.machine.Scenario.{Scenario}
 use Rattle.gq_model.specs.machine.World.{World}
 

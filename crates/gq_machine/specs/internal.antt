@@ -1,2 +1,11 @@
 pub mod Held
 pub mod Starts
+pub mod Endings
+pub mod Gifts
+pub mod Holds
+pub mod Longs
+pub mod Replies
+pub mod Requests
+pub mod Scenes
+pub mod Going
+pub mod Kinds

@@ -12,7 +12,7 @@ ghost use Rattle.gq_prepared.specs.Nodes.{caps_of};
 ghost use Rattle.gq_prepared.specs.Prepared.{AreServices};
 ghost use Rattle.gq_prepared.specs.Held.{held_by_all};
 ghost use Rattle.gq_leaf.specs.Coded.{Coded};
-ghost use Rattle.gq_transitions.specs.internal.Holds.{IsPrepared};
+ghost use Rattle.gq_machine.specs.internal.Holds.{IsPrepared};
 ghost use Rattle.gq_machine.specs.internal.Held.{held_before};
 ghost use Rattle.gq_machine.specs.internal.Starts.{AreFirst, ArePrepared, IsFirstOf, AreFirstSlots};
 
@@ -29,8 +29,8 @@ use gq_slots::Slots;
 use gq_leaf::Leaf;
 use gq_tariff::price::PAGE;
 use gq_trade::Stage;
-use gq_transitions::state::{Fixed, Prepared, State};
-use gq_transitions::statements::lawful;
+use crate::state::{Fixed, Prepared, State};
+use crate::statements::lawful;
 use std::alloc::{AllocError, Global};
 use std::marker::Model;
 
@@ -46,7 +46,7 @@ pub struct Machine {
 
 impl Model for Machine {
     ghost use Rattle.gq_machine.specs.Machines.{Machine};
-    ghost use Rattle.gq_transitions.specs.internal.Holds.{Holds};
+    ghost use Rattle.gq_machine.specs.internal.Holds.{Holds};
     ghost use Rattle.gq_machine.specs.internal.Starts.{machine_seen};
     ghost use Rattle.gq_model.specs.internal.Stored.{statements_code, nodes_code};
     ghost use Rattle.std.specs.Coded.{codes};

@@ -2,19 +2,22 @@
 ghost use Rattle.std.specs.Prelude.{◌≡◌, ◌-◌, ◌<◌, ◌≤◌, [], IfErr, IfOk, IsOk, OnErr, Err, Ok, length};
 ghost use Rattle.gq_model.specs.machine.Scenario.{components, system};
 ghost use Rattle.gq_model.specs.machine.Step.{next};
-ghost use Rattle.gq_turns.specs.Bursts.{Takes, Tells};
-ghost use Rattle.gq_turns.specs.Countable.{AreCountable, IsCountable};
-ghost use Rattle.gq_turns.specs.Events.{event_of};
-ghost use Rattle.gq_turns.specs.declared.event.Event.TheVariants as event;
+ghost use Rattle.gq_machine.specs.Bursts.{Takes, Tells};
+ghost use Rattle.gq_machine.specs.Countable.{AreCountable, IsCountable};
+ghost use Rattle.gq_machine.specs.Events.{event_of};
+ghost use Rattle.gq_machine.specs.declared.event.Event.TheVariants as event;
 
 use crate::machine::Machine;
 use arrayvec::ArrayVec;
 use gq_lines::lines::Lines;
 use gq_model::fault::Wrong;
 use gq_scenario::scenario::LeafNo;
-use gq_transitions::statements::lawful;
-use gq_turns::event::Event;
-use gq_turns::{LINE, take_turns, tell_turns, turn};
+use crate::statements::lawful;
+use crate::event::Event;
+use crate::others::LINE;
+use crate::bursts::take_turns;
+use crate::telling::tell_turns;
+use crate::steps::turn;
 
 impl Machine {
     /// One turn of a leaf, tested: where the leaf can run it is one step. After it the line has the text that was given, without label and line feed, and

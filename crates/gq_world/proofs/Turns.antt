@@ -16,8 +16,8 @@ use Rattle.gq_model.specs.Promises.{IsUpheld}
 use Rattle.gq_laws.specs.Stands.{Stands}
 use Rattle.gq_machine.specs.Events.{event_of}
 use Rattle.gq_machine.specs.Machines.{AreCountable, IsCountable}
-use Rattle.gq_turns.specs.declared.event.Event.{Event}
-use Rattle.gq_turns.specs.declared.event.Event.TheVariants as events
+use Rattle.gq_machine.specs.declared.event.Event.{Event}
+use Rattle.gq_machine.specs.declared.event.Event.TheVariants as events
 use Rattle.gq_machine.specs.Bursts.{Tells, lines_of, told_to}
 use Rattle.gq_model.specs.rules.Accept.{Budget, budgets}
 use Rattle.gq_world.specs.Worlds.{World, line_told, shown}

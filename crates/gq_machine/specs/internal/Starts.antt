@@ -11,10 +11,10 @@ use Rattle.gq_prepared.specs.Nodes.{caps_of}
 use Rattle.gq_prepared.specs.Plans.{IsPlanOf}
 use Rattle.gq_leaf.specs.Coded.{Coded, first_state}
 use Rattle.gq_machine.specs.Machines.{Machine}
-use Rattle.gq_transitions.specs.Worlds.{world_of}
+use Rattle.gq_machine.specs.Worlds.{world_of}
 use Rattle.gq_machine.specs.declared.machine.Machine.TheInside.{Inside}
-use Rattle.gq_transitions.specs.declared.state.Prepared.{Prepared}
-use Rattle.gq_transitions.specs.internal.Holds.{IsPrepared, room}
+use Rattle.gq_machine.specs.declared.state.Prepared.{Prepared}
+use Rattle.gq_machine.specs.internal.Holds.{IsPrepared, room}
 
 abbrev pub machine_seen : Inside → Machine
 machine_seen m = record { scenario = m.fixed.table; world = world_of m.fixed.table m.state.leaves.items m.state.slots }

@@ -1,5 +1,5 @@
 -- The machine at the start of a scenario.
-use Rattle.gq_transitions.specs.declared.state.Fixed.{Fixed}
+use Rattle.gq_machine.specs.declared.state.Fixed.{Fixed}
 use Rattle.gq_machine.proofs.Starts.{first_world, holds_first}
 use Rattle.gq_machine.proofs.machine.Machine.new.Goals as goal
 

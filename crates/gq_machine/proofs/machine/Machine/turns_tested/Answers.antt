@@ -1,8 +1,8 @@
 -- Turns of a leaf.
 use Rattle.std.proofs.Common.{sym, subst}
-use Rattle.gq_transitions.specs.Worlds.{world_of}
+use Rattle.gq_machine.specs.Worlds.{world_of}
 use Rattle.gq_machine.specs.Machines.{Machine}
-use Rattle.gq_turns.specs.Countable.{AreCountable}
+use Rattle.gq_machine.specs.Countable.{AreCountable}
 use Rattle.gq_machine.proofs.machine.Machine.turns_tested.Goals as goal
 
 pub take_turns-requires-clause-countable : goal.take_turns-requires-clause-countable

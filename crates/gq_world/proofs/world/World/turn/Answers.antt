@@ -9,7 +9,7 @@ use Rattle.gq_model.specs.machine.Step.{next}
 use Rattle.gq_model.specs.rules.Accept.{Budget, budgets}
 use Rattle.gq_model.specs.machine.Run.{label_at}
 use Rattle.gq_machine.specs.Events.{event_of}
-use Rattle.gq_turns.specs.declared.event.Event.TheVariants as events
+use Rattle.gq_machine.specs.declared.event.Event.TheVariants as events
 use Rattle.gq_laws.specs.Stands.{Stands}
 use Rattle.gq_world.specs.Worlds.{World}
 use Rattle.gq_world.specs.internal.Keeping.{IsBudgeted}

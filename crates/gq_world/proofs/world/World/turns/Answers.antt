@@ -4,8 +4,8 @@ use Rattle.std.specs.Io.KnownBytes.{Appends}
 use Rattle.std.proofs.lemmas.Result.{err_from_is_err_and}
 use Rattle.gq_model.specs.declared.fault.Wrong.{Wrong}
 use Rattle.gq_machine.specs.Bursts.{Tells, lines_of, told_to}
-use Rattle.gq_turns.specs.declared.event.Event.{Event}
-use Rattle.gq_turns.specs.declared.event.Event.TheVariants as events
+use Rattle.gq_machine.specs.declared.event.Event.{Event}
+use Rattle.gq_machine.specs.declared.event.Event.TheVariants as events
 use Rattle.gq_machine.proofs.Resting.{no_line_in}
 use Rattle.gq_world.specs.Worlds.{World}
 use Rattle.gq_lines.proofs.Known.{appends_nothing}

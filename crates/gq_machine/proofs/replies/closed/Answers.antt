@@ -1,0 +1,49 @@
+-- The reply to a request to close.
+use Rattle.std.proofs.Common.{ℕ, Ok, ap, ◌∙◌}
+use Rattle.gq_statements.specs.Statements.{done}
+use Rattle.gq_machine.specs.Worlds.{world_of}
+use Rattle.gq_slots.specs.Slots.{Slots}
+use Rattle.gq_statements.specs.Serving.{Closes}
+use Rattle.gq_machine.specs.internal.Scenes.{SameScene}
+use Rattle.gq_machine.proofs.Replying.{after, client, client_is, closed_to, goes_to, had, kept_two, server, server_is}
+use Rattle.gq_machine.proofs.Scenes.{scene_beside, scene_ended, scene_then}
+use Rattle.gq_machine.proofs.replies.closed.Goals as goal
+
+scene_closed : (t u : Slots) (k : ℕ) → Closes t u k → SameScene t u
+scene_closed t u k b = scene_then t b.between u (scene_ended t b.between k b.ends) (scene_beside b.between u b.puts.rest)
+
+pub returns-in-Err-clause-step : goal.returns-in-Err-clause-step
+returns-in-Err-clause-step c =
+    let f = c.args.fixed.now in
+    let m = c.args.state.now in
+    let x = c.args.number in
+    let hand = c.args.hand in
+    let y = c.client_at-client.result in
+    let e = c.client_at-client.ensures.end in
+    closed_to f m x y hand e c.requires.section.0 c.reply_close.result c.reply_close.new.slots c.requires.section.1
+    c.reply_close.ensures.closed ∙ ap (λ r. done r (world_of f.table (after f m x y hand e (had f m x y hand e)) c.reply_close.new.slots)) c.in-Err.is
+
+pub returns-in-Ok-clause-step : goal.returns-in-Ok-clause-step
+returns-in-Ok-clause-step c =
+    let f = c.args.fixed.now in
+    let m = c.args.state.now in
+    let x = c.args.number in
+    let hand = c.args.hand in
+    let y = c.client_at-client.result in
+    let e = c.client_at-client.ensures.end in
+    goes_to f m x y hand e (had f m x y hand e) c.go_on.new.leaves.items c.reply_close.new.slots (Ok tt)
+    (c.go_on.ensures (server f m x y hand e) (client f m x y hand e) (server_is f m x y hand e) (client_is f m x y hand e))
+    (closed_to f m x y hand e c.requires.section.0 c.reply_close.result c.reply_close.new.slots c.requires.section.1
+    c.reply_close.ensures.closed ∙ ap (λ r. done r (world_of f.table (after f m x y hand e (had f m x y hand e)) c.reply_close.new.slots)) c.in-Ok.is)
+
+pub returns-in-Ok-clause-holds : goal.returns-in-Ok-clause-holds
+returns-in-Ok-clause-holds c =
+    let f = c.args.fixed.now in
+    let m = c.args.state.now in
+    let x = c.args.number in
+    let hand = c.args.hand in
+    let y = c.client_at-client.result in
+    let e = c.client_at-client.ensures.end in
+    kept_two f m x y hand e (had f m x y hand e) _
+    (c.go_on.ensures (server f m x y hand e) (client f m x y hand e) (server_is f m x y hand e) (client_is f m x y hand e))
+    c.lawful.ensures (scene_closed m.slots c.reply_close.new.slots hand.session c.in-Ok.ensures.ends) (returns-in-Ok-clause-step c)

@@ -1,0 +1,43 @@
+-- The reply to a request to open.
+use Rattle.std.proofs.Common.{Ok, ap, ◌∙◌}
+use Rattle.gq_statements.specs.Statements.{done}
+use Rattle.gq_machine.specs.Worlds.{world_of}
+use Rattle.gq_machine.proofs.Replying.{after, client, client_is, goes_to, had, kept_two, opened_to, server, server_is}
+use Rattle.gq_machine.proofs.Scenes.{scene_beside}
+use Rattle.gq_machine.proofs.replies.opened.Goals as goal
+
+pub returns-in-Err-clause-step : goal.returns-in-Err-clause-step
+returns-in-Err-clause-step c =
+    let f = c.args.fixed.now in
+    let m = c.args.state.now in
+    let x = c.args.number in
+    let hand = c.args.hand in
+    let y = c.client_at-client.result in
+    let e = c.client_at-client.ensures.end in
+    opened_to f m x y hand e c.reply_open.result c.addresses.result.now c.reply_open.new.slots c.addresses.ensures c.requires.section
+    c.reply_open.ensures.opened ∙ ap (λ r. done r (world_of f.table (after f m x y hand e (had f m x y hand e)) c.reply_open.new.slots)) c.in-Err.is
+
+pub returns-in-Ok-clause-step : goal.returns-in-Ok-clause-step
+returns-in-Ok-clause-step c =
+    let f = c.args.fixed.now in
+    let m = c.args.state.now in
+    let x = c.args.number in
+    let hand = c.args.hand in
+    let y = c.client_at-client.result in
+    let e = c.client_at-client.ensures.end in
+    goes_to f m x y hand e (had f m x y hand e) c.go_on.new.leaves.items c.reply_open.new.slots (Ok tt)
+    (c.go_on.ensures (server f m x y hand e) (client f m x y hand e) (server_is f m x y hand e) (client_is f m x y hand e))
+    (opened_to f m x y hand e c.reply_open.result c.addresses.result.now c.reply_open.new.slots c.addresses.ensures c.requires.section
+    c.reply_open.ensures.opened ∙ ap (λ r. done r (world_of f.table (after f m x y hand e (had f m x y hand e)) c.reply_open.new.slots)) c.in-Ok.is)
+
+pub returns-in-Ok-clause-holds : goal.returns-in-Ok-clause-holds
+returns-in-Ok-clause-holds c =
+    let f = c.args.fixed.now in
+    let m = c.args.state.now in
+    let x = c.args.number in
+    let hand = c.args.hand in
+    let y = c.client_at-client.result in
+    let e = c.client_at-client.ensures.end in
+    kept_two f m x y hand e (had f m x y hand e) _
+    (c.go_on.ensures (server f m x y hand e) (client f m x y hand e) (server_is f m x y hand e) (client_is f m x y hand e))
+    c.lawful.ensures (scene_beside m.slots c.reply_open.new.slots c.reply_open.ensures.beside) (returns-in-Ok-clause-step c)

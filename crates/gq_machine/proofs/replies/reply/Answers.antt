@@ -1,0 +1,23 @@
+-- The reply at the end of a section.
+use Rattle.gq_machine.proofs.Replying.{main_wrong}
+use Rattle.gq_machine.proofs.replies.reply.Goals as goal
+
+pub returns-in-Main-clause-step : goal.returns-in-Main-clause-step
+returns-in-Main-clause-step c =
+    let f = c.args.fixed.now in
+    let m = c.args.state.now in
+    let x = c.args.number in
+    let hand = c.args.hand in
+    main_wrong f m x c.client_at-client.result hand c.client_at-client.ensures.end c.in-Main.is
+
+pub upgraded-requires-clause-section : goal.upgraded-requires-clause-section
+upgraded-requires-clause-section c =
+    (c.in-Upgrading.field-0, c.in-Upgrading.is)
+
+pub called-requires-clause-section : goal.called-requires-clause-section
+called-requires-clause-section c =
+    (c.in-Calling.field-0, c.in-Calling.is)
+
+pub closed-requires-clause-section : goal.closed-requires-clause-section
+closed-requires-clause-section c =
+    (c.in-Closing.field-0, c.in-Closing.is)

@@ -1,0 +1,188 @@
+// A step in which others have a part: a statement, or the end of a section.
+ghost use Rattle.std.specs.Prelude.{◌≡◌, ◌<◌, ◌≤◌, ℕ, List, [], IfOk, IfSome, IsTrue, OnErr, OnOk, Err, is_some, length, slice_get};
+ghost use Rattle.gq_model.specs.machine.Scenario.{components};
+ghost use Rattle.gq_bytecode.specs.Cores.{is_shared};
+ghost use Rattle.gq_bytecode.specs.declared.operation.Operation.TheVariants as operation;
+ghost use Rattle.gq_laws.specs.Ready.{IsReady};
+ghost use Rattle.gq_statements.specs.Statements.{done};
+ghost use Rattle.gq_machine.specs.declared.event.Event.TheVariants as event;
+ghost use Rattle.gq_machine.specs.internal.Holds.{CanStep, Goes, Holds, IsNext};
+ghost use Rattle.gq_machine.specs.internal.Kinds.{is_quiet};
+ghost use Rattle.gq_machine.specs.Shows.{Gives};
+
+use crate::event::Event;
+use arrayvec::ArrayVec;
+use gq_model::fault::Wrong;
+use gq_model::program::Instruction;
+use gq_bytecode::Operation;
+use gq_scenario::scenario::LeafNo;
+use crate::asking::{open, upgrade};
+use crate::endings::exit;
+use crate::replies::reply;
+use crate::state::{Fixed, State};
+use crate::statements::{call, close, memory, say, serve, show};
+use itoa::Buffer;
+
+/// The greatest number of bytes of a line's text, without label and line feed.
+pub const LINE: usize = 64;
+
+// A statement that shows nothing.
+fn quiet(fixed: &Fixed, state: &mut State, number: usize, operation: Operation) -> Result<(), Wrong>
+    requires can { CanStep fixed.now state.old number }
+    requires next { IsNext state.old number operation }
+    requires quiet { IsTrue (is_quiet operation) }
+    ensures step { Goes fixed.now number state.old state.new (done result) }
+    ensures holds { OnOk result (Holds fixed.now state.new) }
+    ensures leaves { OnErr result (state.new.leaves.items ≡ state.old.leaves.items) }
+    ensures slots { OnErr result (state.new.slots ≡ state.old.slots) }
+{
+    match operation {
+        Operation::Upgrade(place, bytes) => upgrade(fixed, state, number, place, bytes),
+        Operation::Call(place) => call(fixed, state, number, place),
+        Operation::Close(place) => close(fixed, state, number, place),
+        _ => memory(fixed, state, number, operation),
+    }
+}
+
+// Writes these bytes to an empty line.
+fn write_line(line: &mut ArrayVec<u8, LINE>, bytes: &[u8])
+    requires empty { line.old.items ≡ [] }
+    requires short { length bytes.now ≤ LINE }
+    ensures { line.new.items ≡ bytes.now }
+{
+    match line.try_extend_from_slice(bytes) {
+        Ok(()) => (),
+        Err(_) => unreachable!(),
+    }
+}
+
+// A number that is shown.
+pub(crate) fn out(
+    fixed: &Fixed,
+    state: &mut State,
+    number: usize,
+    line: &mut ArrayVec<u8, LINE>,
+) -> Result<Event, Wrong>
+    requires can { CanStep fixed.now state.old number }
+    requires next { IsNext state.old number operation.Out }
+    requires empty { line.old.items ≡ [] }
+    ensures step { Gives fixed.now number state.old state.new line.new.items result }
+    ensures no_line { IfOk result (λ e. (e ≡ event.Line → ⊥) → line.new.items ≡ []) }
+    ensures holds { OnOk result (Holds fixed.now state.new) }
+    ensures leaves { OnErr result (state.new.leaves.items ≡ state.old.leaves.items) }
+    ensures slots { OnErr result (state.new.slots ≡ state.old.slots) }
+{
+    match show(fixed, state, number) {
+        Err(wrong) => Err(wrong),
+        Ok(top) => {
+            write_line(line, Buffer::new().format(top).as_bytes());
+            Ok(Event::Line)
+        }
+    }
+}
+
+// A statement that does not fit into eight bytes: a text that is said, or a session that is opened.
+fn long(
+    fixed: &Fixed,
+    state: &mut State,
+    number: usize,
+    statement: u32,
+    line: &mut ArrayVec<u8, LINE>,
+) -> Result<Event, Wrong>
+    requires can { CanStep fixed.now state.old number }
+    requires next { IsNext state.old number (operation.Long statement) }
+    requires empty { line.old.items ≡ [] }
+    ensures step { Gives fixed.now number state.old state.new line.new.items result }
+    ensures no_line { IfOk result (λ e. (e ≡ event.Line → ⊥) → line.new.items ≡ []) }
+    ensures holds { OnOk result (Holds fixed.now state.new) }
+    ensures leaves { OnErr result (state.new.leaves.items ≡ state.old.leaves.items) }
+    ensures slots { OnErr result (state.new.slots ≡ state.old.slots) }
+{
+    let _table = &fixed.table;
+    let leaf = &state.leaves[number];
+    match leaf.long(statement) {
+        Instruction::Say(text) => {
+            write_line(line, text.as_bytes());
+            say(fixed, state, number, statement);
+            Ok(Event::Line)
+        }
+        Instruction::Open(place, _, bytes) => {
+            let (place, bytes) = (*place, *bytes);
+            match open(fixed, state, number, statement, place, bytes) {
+                Err(wrong) => Err(wrong),
+                Ok(()) => Ok(Event::Quiet),
+            }
+        }
+        _ => unreachable!(),
+    }
+}
+
+// Whether a leaf provides a service.
+fn provides(fixed: &Fixed, leaf: usize) -> bool
+    requires ready { IsReady fixed.now.table }
+    requires leaf { leaf < length (components fixed.now.table) }
+    ensures { IfSome (slice_get (components fixed.now.table) leaf) (λ c. result ≡ is_some c.node.provides) }
+{
+    let _leaves = fixed.table.leaf_count();
+    fixed.table.service(LeafNo::new(leaf as u32)).is_some()
+}
+
+// The end of a section: a reply, or at the end of `main` a leaf that serves from now on or exits.
+fn end(fixed: &Fixed, state: &mut State, number: usize) -> Result<Event, Wrong>
+    requires can { CanStep fixed.now state.old number }
+    requires next { IsNext state.old number operation.End }
+    ensures step { (text : List ℕ) → Gives fixed.now number state.old state.new text result }
+    ensures no_line { IfOk result (λ e. e ≡ event.Line → ⊥) }
+    ensures holds { OnOk result (Holds fixed.now state.new) }
+    ensures leaves { OnErr result (state.new.leaves.items ≡ state.old.leaves.items) }
+    ensures slots { OnErr result (state.new.slots ≡ state.old.slots) }
+{
+    let _table = &fixed.table;
+    let hand = state.leaves[number].hand();
+    match hand {
+        Some(hand) => match reply(fixed, state, number, hand) {
+            Err(wrong) => Err(wrong),
+            Ok(()) => Ok(Event::Quiet),
+        },
+        None => {
+            if provides(fixed, number) {
+                serve(fixed, state, number);
+                return Ok(Event::Quiet);
+            }
+            match exit(fixed, state, number) {
+                Err(wrong) => Err(wrong),
+                Ok(()) => Ok(Event::Finished),
+            }
+        }
+    }
+}
+
+// A step of a leaf in which others have a part.
+#[inline(never)]
+pub(crate) fn shared(
+    fixed: &Fixed,
+    state: &mut State,
+    number: usize,
+    operation: Operation,
+    line: &mut ArrayVec<u8, LINE>,
+) -> Result<Event, Wrong>
+    requires can { CanStep fixed.now state.old number }
+    requires next { IsNext state.old number operation }
+    requires shared { IsTrue (is_shared operation) }
+    requires empty { line.old.items ≡ [] }
+    ensures step { Gives fixed.now number state.old state.new line.new.items result }
+    ensures no_line { IfOk result (λ e. (e ≡ event.Line → ⊥) → line.new.items ≡ []) }
+    ensures holds { OnOk result (Holds fixed.now state.new) }
+    ensures leaves { OnErr result (state.new.leaves.items ≡ state.old.leaves.items) }
+    ensures slots { OnErr result (state.new.slots ≡ state.old.slots) }
+{
+    match operation {
+        Operation::End => end(fixed, state, number),
+        Operation::Out => out(fixed, state, number, line),
+        Operation::Long(statement) => long(fixed, state, number, statement, line),
+        _ => match quiet(fixed, state, number, operation) {
+            Err(wrong) => Err(wrong),
+            Ok(()) => Ok(Event::Quiet),
+        },
+    }
+}

@@ -1,0 +1,180 @@
+// At the end of a section for a session its server replies.
+ghost use Rattle.std.specs.Prelude.{◌≡◌, ℕ, ◌+◌, ◌<◌, ◌^◌, ◌∷◌, OnErr, OnOk, Some, length, slice_get};
+ghost use Rattle.gq_model.specs.declared.program.Section.TheVariants as section;
+ghost use Rattle.gq_bytecode.specs.declared.operation.Operation.TheVariants as operation;
+ghost use Rattle.gq_contents.specs.declared.thing.Thing.TheVariants as thing;
+ghost use Rattle.gq_trade.specs.declared.session.Spot.TheVariants.{InObject};
+ghost use Rattle.gq_trade.specs.Trading.{AreOfOthers};
+ghost use Rattle.gq_slots.specs.Slots.{thing_at};
+ghost use Rattle.gq_statements.specs.Serving.{IsAwaited};
+ghost use Rattle.gq_statements.specs.Statements.{done};
+ghost use Rattle.gq_leaf.specs.Coded.{Coded};
+ghost use Rattle.gq_machine.specs.internal.Holds.{CanStep, Goes, Holds, IsNext, OfLeaf};
+ghost use Rattle.gq_machine.specs.internal.Replies.{IsEnd, replied};
+
+use crate::state::{Fixed, State};
+use crate::statements::lawful;
+use gq_model::fault::Wrong;
+use gq_model::program::Section;
+use gq_statements::replies::{reply_close, reply_open};
+use gq_statements::Hand;
+use gq_leaf::Leaf;
+
+// The client of the session at hand, which waits for the reply.
+fn client_at(fixed: &Fixed, state: &State, number: usize, hand: Hand) -> usize
+    requires can { CanStep fixed.now state.now number }
+    requires next { IsNext state.now number operation.End }
+    requires hand { OfLeaf (λ l. l.state.hand ≡ Some hand) (slice_get state.now.leaves.items number) }
+    ensures end { IsEnd fixed.now state.now number result hand }
+    ensures there { result < length state.now.leaves.items }
+    ensures apart { result ≡ number → ⊥ }
+    ensures countable { OfLeaf (λ l. l.state.steps + 1 < 2 ^ 64) (slice_get state.now.leaves.items number) }
+    ensures room { (level : ℕ) → hand.section ≡ section.Calling level
+        → OfLeaf (λ l. length l.state.registers.operands < 16) (slice_get state.now.leaves.items result) }
+    ensures awaited { IsAwaited state.now.slots hand.session }
+    ensures small { hand.session < 4294967296 }
+    ensures object { thing_at state.now.slots (InObject hand.session) ≡ thing.Empty → ⊥ }
+    ensures none_waits { AreOfOthers hand.session state.now.slots.trades.trading.requests }
+{
+    let _table = &fixed.table;
+    let _number = number;
+    lawful(&state.slots);
+    state.slots.laws();
+    state.slots.trades().session(hand.session).client
+}
+
+// The server waits for requests, and the client goes on.
+fn go_on(leaves: &mut Vec<Leaf>, server: usize, client: usize)
+    requires there { client < length leaves.old.items }
+    requires apart { client ≡ server → ⊥ }
+    requires countable { OfLeaf (λ l. l.state.steps + 1 < 2 ^ 64) (slice_get leaves.old.items server) }
+    ensures { (l d : Coded) → slice_get leaves.old.items server ≡ Some l → slice_get leaves.old.items client ≡ Some d
+        → leaves.new.items ≡ replied leaves.old.items server client l d d.state.registers.operands }
+{
+    let waiting = &mut leaves[client];
+    waiting.resume();
+    let serving = &mut leaves[server];
+    serving.serve();
+}
+
+// The same, where the client called: the result is one operand more of its.
+fn go_on_with(leaves: &mut Vec<Leaf>, server: usize, client: usize, value: u32)
+    requires room { OfLeaf (λ l. length l.state.registers.operands < 16) (slice_get leaves.old.items client) }
+    requires apart { client ≡ server → ⊥ }
+    requires countable { OfLeaf (λ l. l.state.steps + 1 < 2 ^ 64) (slice_get leaves.old.items server) }
+    ensures { (l d : Coded) → slice_get leaves.old.items server ≡ Some l → slice_get leaves.old.items client ≡ Some d
+        → leaves.new.items ≡ replied leaves.old.items server client l d (value ∷ d.state.registers.operands) }
+{
+    let waiting = &mut leaves[client];
+    waiting.resume_with(value);
+    let serving = &mut leaves[server];
+    serving.serve();
+}
+
+// The reply to a request to open the session.
+fn opened(fixed: &Fixed, state: &mut State, number: usize, hand: Hand) -> Result<(), Wrong>
+    requires can { CanStep fixed.now state.old number }
+    requires next { IsNext state.old number operation.End }
+    requires hand { OfLeaf (λ l. l.state.hand ≡ Some hand) (slice_get state.old.leaves.items number) }
+    requires section { hand.section ≡ section.Opening }
+    ensures step { Goes fixed.now number state.old state.new (done result) }
+    ensures holds { OnOk result (Holds fixed.now state.new) }
+    ensures leaves { OnErr result (state.new.leaves.items ≡ state.old.leaves.items) }
+    ensures slots { OnErr result (state.new.slots ≡ state.old.slots) }
+{
+    let client = client_at(fixed, state, number, hand);
+    match reply_open(fixed.services.addresses(), &mut state.slots, hand.session) {
+        Err(wrong) => Err(wrong),
+        Ok(()) => {
+            lawful(&state.slots);
+            go_on(&mut state.leaves, number, client);
+            Ok(())
+        }
+    }
+}
+
+// The reply to a request for the next level of the session.
+fn upgraded(fixed: &Fixed, state: &mut State, number: usize, hand: Hand) -> Result<(), Wrong>
+    requires can { CanStep fixed.now state.old number }
+    requires next { IsNext state.old number operation.End }
+    requires hand { OfLeaf (λ l. l.state.hand ≡ Some hand) (slice_get state.old.leaves.items number) }
+    requires section { (level : ℕ) × (hand.section ≡ section.Upgrading level) }
+    ensures step { Goes fixed.now number state.old state.new (done result) }
+    ensures holds { OnOk result (Holds fixed.now state.new) }
+    ensures leaves { OnErr result (state.new.leaves.items ≡ state.old.leaves.items) }
+    ensures slots { OnErr result (state.new.slots ≡ state.old.slots) }
+{
+    let client = client_at(fixed, state, number, hand);
+    gq_statements::replies::reply(&mut state.slots, hand.session);
+    lawful(&state.slots);
+    go_on(&mut state.leaves, number, client);
+    Ok(())
+}
+
+// The reply to a call: the top operand is its result. `MissingOperand` where there is none.
+fn called(fixed: &Fixed, state: &mut State, number: usize, hand: Hand) -> Result<(), Wrong>
+    requires can { CanStep fixed.now state.old number }
+    requires next { IsNext state.old number operation.End }
+    requires hand { OfLeaf (λ l. l.state.hand ≡ Some hand) (slice_get state.old.leaves.items number) }
+    requires section { (level : ℕ) × (hand.section ≡ section.Calling level) }
+    ensures step { Goes fixed.now number state.old state.new (done result) }
+    ensures holds { OnOk result (Holds fixed.now state.new) }
+    ensures leaves { OnErr result (state.new.leaves.items ≡ state.old.leaves.items) }
+    ensures slots { OnErr result (state.new.slots ≡ state.old.slots) }
+{
+    let client = client_at(fixed, state, number, hand);
+    let leaf = &state.leaves[number];
+    match leaf.top() {
+        None => Err(Wrong::MissingOperand),
+        Some(value) => {
+            gq_statements::replies::reply(&mut state.slots, hand.session);
+            lawful(&state.slots);
+            go_on_with(&mut state.leaves, number, client, value);
+            Ok(())
+        }
+    }
+}
+
+// The reply to a request to close the session.
+fn closed(fixed: &Fixed, state: &mut State, number: usize, hand: Hand) -> Result<(), Wrong>
+    requires can { CanStep fixed.now state.old number }
+    requires next { IsNext state.old number operation.End }
+    requires hand { OfLeaf (λ l. l.state.hand ≡ Some hand) (slice_get state.old.leaves.items number) }
+    requires section { (level : ℕ) × (hand.section ≡ section.Closing level) }
+    ensures step { Goes fixed.now number state.old state.new (done result) }
+    ensures holds { OnOk result (Holds fixed.now state.new) }
+    ensures leaves { OnErr result (state.new.leaves.items ≡ state.old.leaves.items) }
+    ensures slots { OnErr result (state.new.slots ≡ state.old.slots) }
+{
+    let client = client_at(fixed, state, number, hand);
+    match reply_close(&mut state.slots, hand.session) {
+        Err(wrong) => Err(wrong),
+        Ok(()) => {
+            lawful(&state.slots);
+            go_on(&mut state.leaves, number, client);
+            Ok(())
+        }
+    }
+}
+
+// At the end of a section for a session its server replies: it waits for requests, and the session's client goes on.
+pub fn reply(fixed: &Fixed, state: &mut State, number: usize, hand: Hand) -> Result<(), Wrong>
+    requires can { CanStep fixed.now state.old number }
+    requires next { IsNext state.old number operation.End }
+    requires hand { OfLeaf (λ l. l.state.hand ≡ Some hand) (slice_get state.old.leaves.items number) }
+    ensures step { Goes fixed.now number state.old state.new (done result) }
+    ensures holds { OnOk result (Holds fixed.now state.new) }
+    ensures leaves { OnErr result (state.new.leaves.items ≡ state.old.leaves.items) }
+    ensures slots { OnErr result (state.new.slots ≡ state.old.slots) }
+{
+    match hand.section {
+        Section::Main => {
+            let _client = client_at(fixed, state, number, hand);
+            Err(Wrong::WrongKind)
+        }
+        Section::Opening => opened(fixed, state, number, hand),
+        Section::Upgrading(_) => upgraded(fixed, state, number, hand),
+        Section::Calling(_) => called(fixed, state, number, hand),
+        Section::Closing(_) => closed(fixed, state, number, hand),
+    }
+}

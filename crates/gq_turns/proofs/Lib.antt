@@ -1,8 +1,0 @@
-pub mod Counting
-pub mod Going
-pub mod Pausing
-pub mod Provided
-pub mod Resting
-pub mod Same
-pub mod Saying
-pub mod Several
