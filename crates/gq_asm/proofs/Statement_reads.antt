@@ -3,9 +3,9 @@ use Rattle.std.proofs.Common.{◌≡◌, ℕ, Bool, List, [], ◌∷◌, Option,
 use Rattle.gq_model.specs.declared.program.Place.{Place}
 use Rattle.gq_model.specs.declared.program.Instruction.TheVariants.{MakePool, Open}
 use Rattle.gq_model.specs.texts.Operands.{greatest_number}
-use Rattle.gq_spelling.specs.declared.spelling.WithBytes.{WithBytes}
-use Rattle.gq_spelling.specs.declared.spelling.Shape.TheVariants as shapes
-use Rattle.gq_spelling.specs.Spelling.{shape_of, bytes_instruction}
+use Rattle.gq_program.specs.declared.shapes.WithBytes.{WithBytes}
+use Rattle.gq_program.specs.declared.shapes.Shape.TheVariants as shapes
+use Rattle.gq_program.specs.Spelling.{shape_of, bytes_instruction}
 use Rattle.gq_model.specs.declared.fault.TextFault.{TextFault}
 use Rattle.gq_model.specs.declared.fault.TextFault.TheVariants.{BadNumber, BadSlot, BadText}
 use Rattle.gq_model.specs.texts.Letters.{number_in}

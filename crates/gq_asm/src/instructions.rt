@@ -3,14 +3,14 @@
 ghost use Rattle.std.specs.Prelude.{◌≡◌};
 ghost use Rattle.gq_model.specs.texts.Letters.{words};
 ghost use Rattle.gq_model.specs.texts.Spelling.{instruction_in};
-ghost use Rattle.gq_spelling.specs.Spelling.{shape_of};
+ghost use Rattle.gq_program.specs.Spelling.{shape_of};
 ghost use Rattle.gq_asm.specs.internal.State.{Gives};
 
 use crate::faults::LineError;
 use crate::operands::{at_end, next_name, next_number, next_slot, next_slot_or_object};
 use gq_model::fault::TextFault;
 use gq_model::program::Instruction;
-use gq_spelling::{Bare, Shape, WithAmount, WithBytes, WithNumber, WithSlot};
+use gq_program::{Bare, Shape, WithAmount, WithBytes, WithNumber, WithSlot};
 use gq_words::said_in;
 use std::alloc::Global;
 

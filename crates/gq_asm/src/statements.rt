@@ -4,7 +4,7 @@ ghost use Rattle.gq_model.specs.texts.Letters.{words};
 ghost use Rattle.gq_model.specs.texts.Spelling.{spellings, shape_of_word, found, instruction_in};
 ghost use Rattle.gq_model.specs.declared.fault.TextFault.TheVariants.{UnknownWord};
 ghost use Rattle.gq_model.specs.texts.Text.{First_arm, Loop_body, at_end, numbered, opening, counted, nested, put, statement};
-ghost use Rattle.gq_spelling.specs.Spelling.{shape_of};
+ghost use Rattle.gq_program.specs.Spelling.{shape_of};
 ghost use Rattle.gq_asm.specs.internal.State.{Gives, reading_of};
 
 use crate::faults::LineError;
@@ -17,7 +17,7 @@ use gq_model::fault::TextFault;
 use gq_model::program::Instruction;
 use gq_program::Statement;
 use gq_program::spelling::same_text;
-use gq_spelling::Shape;
+use gq_program::Shape;
 use gq_words::shape_with;
 use std::alloc::Global;
 

@@ -2,7 +2,7 @@
 ghost use Rattle.std.specs.Prelude.{◌≡◌, ◌≤◌, ◌∷◌, [], IfOk, OnOk, Ok, alloc_error, length};
 ghost use Rattle.gq_model.specs.machine.Program.{Do, Done, ◌then◌};
 ghost use Rattle.gq_model.specs.texts.Decode.{one_more, limits_at, sections_at, operands_at, decoded};
-ghost use Rattle.gq_spelling.specs.Spelling.{shape_of};
+ghost use Rattle.gq_program.specs.Spelling.{shape_of};
 ghost use Rattle.gq_program.specs.Trees.{tree_of};
 ghost use Rattle.gq_code.specs.internal.Decoding.{Answers, limit_at};
 ghost use Rattle.gq_code.specs.internal.Bodies.{Reads, body_in, opened_at, arms_at, round_at, choice_with, round_with, statement_with};
@@ -19,7 +19,7 @@ use gq_model::fault::CodeFault;
 use gq_model::limits::{GREATEST_DEPTH, GREATEST_STATEMENTS, LOCALS};
 use gq_model::program::{Instruction, Section};
 use gq_program::program::{Body, Program, Statement};
-use gq_spelling::Shape;
+use gq_program::Shape;
 use std::alloc::{AllocError, AllocFailed, Global};
 use thiserror::Error;
 

@@ -20,4 +20,4 @@ pub use gq_program::{
     Body, Form, Instruction, Interface, Interfaces, Name, Operator, Place, Program, Section,
     Statement, Text, Upgrade, Width, interface, program,
 };
-pub use gq_spelling::spelling;
+pub use gq_program::shapes as spelling;

@@ -1,10 +1,10 @@
 // Statements by their numbers in code.
 ghost use Rattle.std.specs.Prelude.{◌≡◌, Some, IfSome, option_map};
 ghost use Rattle.gq_model.specs.texts.Spelling.{shape_of_opcode, spellings};
-ghost use Rattle.gq_spelling.specs.Spelling.{shape_of};
+ghost use Rattle.gq_program.specs.Spelling.{shape_of};
 
 use gq_model::program::{Form, Operator, Width};
-use gq_spelling::{Bare, Shape, WithAmount, WithBytes, WithNumber, WithSlot, shape_of_opcode};
+use gq_program::{Bare, Shape, WithAmount, WithBytes, WithNumber, WithSlot, shape_of_opcode};
 
 /// The statement with this number, found at once.
 fn known_shape(opcode: u8) -> Option<Shape>

@@ -3,14 +3,14 @@ ghost use Rattle.std.specs.Prelude.{◌≡◌, ◌≤◌, ◌<◌, ◌+◌, ◌^
 ghost use Rattle.gq_model.specs.texts.Letters.{is_name_byte, is_said_byte};
 ghost use Rattle.gq_model.specs.machine.Program.{little};
 ghost use Rattle.gq_model.specs.texts.Decode.{cut, number_at, place_of, text_at, operands_at};
-ghost use Rattle.gq_spelling.specs.Spelling.{shape_of};
+ghost use Rattle.gq_program.specs.Spelling.{shape_of};
 ghost use Rattle.gq_code.specs.internal.Decoding.{Answers, ranged_at, place_at, counted_at};
 ghost use Rattle.gq_code.specs.internal.Bodies.{Reads};
 
 use crate::decode::DecodeError;
 use gq_model::fault::CodeFault;
 use gq_model::program::{GREATEST_NAME, GREATEST_TEXT, Instruction, Name, Place, Text};
-use gq_spelling::{Shape, WithAmount, WithBytes, WithNumber, WithSlot};
+use gq_program::{Shape, WithAmount, WithBytes, WithNumber, WithSlot};
 use gq_tariff::price::GREATEST_PLACE;
 use std::alloc::Global;
 

@@ -3,3 +3,4 @@ pub mod Notes
 pub mod Interfaces
 pub mod Keys
 pub mod internal
+pub mod Spelling

@@ -11,6 +11,18 @@
 //! sections.push((Section::Main, body))?;
 //! let program = Program::new(sections, [u32::MAX; 8]);
 //! ```
+//!
+//! The table of statements: for each the word that it has in program text, its number in code, and the operands that it takes.
+//!
+//! ```rust
+//! use gq_model::program::Place;
+//! use gq_program::{Shape, shape_of_word};
+//!
+//! // `free` takes a slot.
+//! if let Some(Shape::Slot(statement)) = shape_of_word(b"free") {
+//!     let free = statement.instruction(Place::Own(3));
+//! }
+//! ```
 #![tactic(auto)]
 
 mod check;
@@ -19,10 +31,12 @@ pub mod keys;
 pub mod notes;
 pub mod places;
 pub mod program;
+pub mod shapes;
 pub mod spare;
 pub mod spelling;
 
 pub use gq_model::program::{Form, Instruction, Name, Operator, Place, Section, Text, Width};
 pub use interface::{Interface, Interfaces, Upgrade};
 pub use program::{Body, Program, Statement};
+pub use shapes::{Bare, Shape, WithAmount, WithBytes, WithNumber, WithSlot, shape_of_opcode, shape_of_word};
 pub use spare::Spare;

@@ -7,14 +7,14 @@ use Rattle.gq_model.specs.declared.program.Width.TheVariants.{Byte, Word}
 use Rattle.gq_model.specs.declared.program.Operator.TheVariants.{Add, Subtract, Multiply, And, Equal, Less}
 use Rattle.gq_model.specs.texts.Spelling.{shape_of_word, spellings}
 use Rattle.gq_model.proofs.Small.{text_is}
-use Rattle.gq_spelling.specs.declared.spelling.Bare.TheVariants.{Out, Drop, Dup, Combine}
-use Rattle.gq_spelling.specs.declared.spelling.WithNumber.TheVariants.{Push, Divide, Modulo, Get, Set, Index}
-use Rattle.gq_spelling.specs.declared.spelling.WithSlot.TheVariants.{Free, Take, Give, Peek, Poke, Call, Close}
-use Rattle.gq_spelling.specs.declared.spelling.WithBytes.TheVariants.{Load, Store}
-use Rattle.gq_spelling.specs.declared.spelling.WithAmount.TheVariants.{Make, Upgrade}
-use Rattle.gq_spelling.specs.declared.spelling.Shape.{Shape}
-use Rattle.gq_spelling.specs.declared.spelling.Shape.TheVariants.{Say, Plain, Number, Slot, Bytes, Amount, Pool, Open}
-use Rattle.gq_spelling.specs.Spelling.{shape_of, word_of}
+use Rattle.gq_program.specs.declared.shapes.Bare.TheVariants.{Out, Drop, Dup, Combine}
+use Rattle.gq_program.specs.declared.shapes.WithNumber.TheVariants.{Push, Divide, Modulo, Get, Set, Index}
+use Rattle.gq_program.specs.declared.shapes.WithSlot.TheVariants.{Free, Take, Give, Peek, Poke, Call, Close}
+use Rattle.gq_program.specs.declared.shapes.WithBytes.TheVariants.{Load, Store}
+use Rattle.gq_program.specs.declared.shapes.WithAmount.TheVariants.{Make, Upgrade}
+use Rattle.gq_program.specs.declared.shapes.Shape.{Shape}
+use Rattle.gq_program.specs.declared.shapes.Shape.TheVariants.{Say, Plain, Number, Slot, Bytes, Amount, Pool, Open}
+use Rattle.gq_program.specs.Spelling.{shape_of, word_of}
 use Rattle.gq_words.specs.Fronts.{is_plain, is_of_statement, BeginsWith}
 
 -- a word is that of a statement where it has the same bytes

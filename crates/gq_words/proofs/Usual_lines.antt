@@ -13,9 +13,9 @@ use Rattle.gq_model.specs.texts.Operands.{greatest_number}
 use Rattle.gq_model.specs.texts.Spelling.{Shape, Made, Slot, number, slot_and, shape_of_word, spellings, slot_in, numbered_slot}
 use Rattle.gq_model.specs.texts.Text.{OpenBlock, counted, put, in_place, is_comment}
 use Rattle.gq_model.specs.declared.fault.TextFault.{TextFault}
-use Rattle.gq_spelling.specs.declared.spelling.Shape as Shapes
-use Rattle.gq_spelling.specs.declared.spelling.Shape.TheVariants as shape
-use Rattle.gq_spelling.specs.Spelling.{shape_of}
+use Rattle.gq_program.specs.declared.shapes.Shape as Shapes
+use Rattle.gq_program.specs.declared.shapes.Shape.TheVariants as shape
+use Rattle.gq_program.specs.Spelling.{shape_of}
 use Rattle.gq_words.specs.Fronts.{is_plain, BeginsWith}
 use Rattle.gq_words.specs.Pieces.{front_word, front_line, past_feed, fed_line}
 use Rattle.gq_words.specs.Usual.{IsUsual}

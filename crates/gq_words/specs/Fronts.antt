@@ -4,8 +4,8 @@ use Rattle.gq_model.specs.machine.Lists.{all_of}
 use Rattle.gq_model.specs.machine.Program.{text_eq}
 use Rattle.gq_model.specs.texts.Spelling.{shape_of_word, spellings}
 use Rattle.gq_model.specs.texts.Text.{is_comment}
-use Rattle.gq_spelling.specs.declared.spelling.Shape.{Shape}
-use Rattle.gq_spelling.specs.Spelling.{shape_of}
+use Rattle.gq_program.specs.declared.shapes.Shape.{Shape}
+use Rattle.gq_program.specs.Spelling.{shape_of}
 
 -- a byte that ends no word and no line
 abbrev pub is_plain : ℕ → Bool

@@ -1,10 +1,10 @@
 // The word of a statement at the front of a text, by its letters: first the first one, then all of them.
 ghost use Rattle.std.specs.Prelude.{◌≡◌, ◌++◌, IfSome};
-ghost use Rattle.gq_spelling.specs.Spelling.{word_of};
+ghost use Rattle.gq_program.specs.Spelling.{word_of};
 ghost use Rattle.gq_words.specs.Fronts.{BeginsWith};
 
 use gq_model::program::{Form, Operator, Width};
-use gq_spelling::{Bare, Shape, WithAmount, WithBytes, WithNumber, WithSlot};
+use gq_program::{Bare, Shape, WithAmount, WithBytes, WithNumber, WithSlot};
 
 /// This statement, whose word stands at the front of a text, and what follows it.
 #[inline(always)]

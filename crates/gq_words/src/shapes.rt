@@ -1,11 +1,11 @@
 // Statements by their words.
 ghost use Rattle.std.specs.Prelude.{◌≡◌, Some, IfSome, option_map};
 ghost use Rattle.gq_model.specs.texts.Spelling.{shape_of_word, spellings};
-ghost use Rattle.gq_spelling.specs.Spelling.{shape_of};
+ghost use Rattle.gq_program.specs.Spelling.{shape_of};
 
 use gq_model::program::{Form, Operator, Width};
 use gq_program::spelling::same_text;
-use gq_spelling::{Bare, Shape, WithAmount, WithBytes, WithNumber, WithSlot, shape_of_word};
+use gq_program::{Bare, Shape, WithAmount, WithBytes, WithNumber, WithSlot, shape_of_word};
 
 /// The statement with this word of two letters.
 fn of_two(word: &[u8]) -> Option<Shape>

@@ -2,7 +2,7 @@
 // are read from front to back, without a search for the line's end. Of any other line nothing is said here.
 ghost use Rattle.std.specs.Prelude.{◌≡◌, ◌∷◌, ◌++◌, true, IfSome};
 ghost use Rattle.gq_model.specs.machine.Lists.{all_of};
-ghost use Rattle.gq_spelling.specs.Spelling.{shape_of};
+ghost use Rattle.gq_program.specs.Spelling.{shape_of};
 ghost use Rattle.gq_words.specs.Fronts.{is_plain};
 ghost use Rattle.gq_words.specs.Usual.{IsUsual};
 ghost use Rattle.gq_words.specs.internal.Operands.{IsLastWord, Completes};
@@ -12,7 +12,7 @@ use crate::numbers::number_in;
 use crate::slots::{numbered_slot, slot_or_object};
 use crate::words::unindented;
 use gq_model::program::{Instruction, Name};
-use gq_spelling::{Bare, Shape, WithAmount, WithBytes, WithNumber, WithSlot};
+use gq_program::{Bare, Shape, WithAmount, WithBytes, WithNumber, WithSlot};
 
 /// A text up to its first blank, line feed or other control byte, and from there on.
 #[inline(always)]

@@ -1,7 +1,7 @@
 use Rattle.std.proofs.Common.{Ok, Err}
 use Rattle.std.proofs.lemmas.Result.{err_from_is_err_and}
 use Rattle.gq_model.specs.texts.Letters.{words}
-use Rattle.gq_spelling.specs.Spelling.{bytes_instruction}
+use Rattle.gq_program.specs.Spelling.{bytes_instruction}
 use Rattle.gq_asm.proofs.Statement_reads.{bytes_err, bytes_then, end_ok, end_err}
 use Rattle.gq_asm.proofs.instructions.with_bytes.Goals as goal
 

@@ -1,5 +1,5 @@
 use Rattle.std.proofs.lemmas.Result.{err_from_is_err_and}
-use Rattle.gq_spelling.specs.Spelling.{shape_of}
+use Rattle.gq_program.specs.Spelling.{shape_of}
 use Rattle.gq_code.proofs.Bodies.{coded_ok, coded_err}
 use Rattle.gq_code.proofs.decode.push_coded.Goals as goal
 

@@ -2,7 +2,7 @@ use Rattle.std.proofs.Common.{Ok, ap, sym, ◌∙◌, false}
 use Rattle.std.proofs.lemmas.Result.{err_from_is_err_and}
 use Rattle.gq_model.specs.declared.program.Place.{Place}
 use Rattle.gq_model.specs.texts.Spelling.{Made, Number}
-use Rattle.gq_spelling.specs.Spelling.{amount_low, amount_high, amount_instruction}
+use Rattle.gq_program.specs.Spelling.{amount_low, amount_high, amount_instruction}
 use Rattle.gq_code.proofs.Operand_parts.{slot_ok, number_ok, number_err}
 use Rattle.gq_code.proofs.operands.with_amount.Goals as goal
 

@@ -1,6 +1,6 @@
 use Rattle.std.proofs.Common.{Ok, ap, sym, ◌∙◌}
 use Rattle.gq_model.specs.texts.Spelling.{Made}
-use Rattle.gq_spelling.specs.Spelling.{number_width, number_low, number_high, number_instruction}
+use Rattle.gq_program.specs.Spelling.{number_width, number_low, number_high, number_instruction}
 use Rattle.gq_code.proofs.Operand_parts.{number_ok}
 use Rattle.gq_code.proofs.operands.with_number.Goals as goal
 

@@ -1,7 +1,7 @@
 use Rattle.std.proofs.Common.{refl, sym}
 use Rattle.std.specs.Prelude.{codes}
-use Rattle.gq_spelling.specs.declared.spelling.Shape.TheVariants as Shape
-use Rattle.gq_spelling.specs.declared.spelling.WithBytes.TheVariants as WithBytes
+use Rattle.gq_program.specs.declared.shapes.Shape.TheVariants as Shape
+use Rattle.gq_program.specs.declared.shapes.WithBytes.TheVariants as WithBytes
 use Rattle.gq_model.specs.declared.program.Width.TheVariants as Width
 use Rattle.gq_words.proofs.Spelled.{spelled}
 use Rattle.gq_words.proofs.shapes.of_six.Goals as goal

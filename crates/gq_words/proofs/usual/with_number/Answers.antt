@@ -1,7 +1,7 @@
 use Rattle.std.proofs.Common.{sym, subst}
 use Rattle.gq_model.specs.declared.program.Instruction.{Instruction}
-use Rattle.gq_spelling.specs.declared.spelling.Shape.TheVariants.{Number}
-use Rattle.gq_spelling.specs.Spelling.{shape_of, number_width, number_low, number_high, number_instruction}
+use Rattle.gq_program.specs.declared.shapes.Shape.TheVariants.{Number}
+use Rattle.gq_program.specs.Spelling.{shape_of, number_width, number_low, number_high, number_instruction}
 use Rattle.gq_words.specs.internal.Operands.{Completes}
 use Rattle.gq_words.proofs.Usual_lines.{number_completes}
 use Rattle.gq_words.proofs.usual.with_number.Goals as goal

@@ -1,7 +1,7 @@
 use Rattle.std.proofs.Common.{ℕ, List, sym, subst}
 use Rattle.gq_model.specs.declared.program.Instruction.TheVariants as program
-use Rattle.gq_spelling.specs.declared.spelling.Shape.TheVariants.{Open}
-use Rattle.gq_spelling.specs.Spelling.{shape_of}
+use Rattle.gq_program.specs.declared.shapes.Shape.TheVariants.{Open}
+use Rattle.gq_program.specs.Spelling.{shape_of}
 use Rattle.gq_words.specs.internal.Operands.{Completes}
 use Rattle.gq_words.proofs.Usual_lines.{named, on_blank, service_completes}
 use Rattle.gq_words.proofs.usual.with_service.Goals as goal

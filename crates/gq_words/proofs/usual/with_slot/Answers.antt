@@ -1,7 +1,7 @@
 use Rattle.std.proofs.Common.{false, sym, subst}
 use Rattle.gq_model.specs.declared.program.Instruction.{Instruction}
-use Rattle.gq_spelling.specs.declared.spelling.Shape.TheVariants.{Slot}
-use Rattle.gq_spelling.specs.Spelling.{shape_of, slot_instruction}
+use Rattle.gq_program.specs.declared.shapes.Shape.TheVariants.{Slot}
+use Rattle.gq_program.specs.Spelling.{shape_of, slot_instruction}
 use Rattle.gq_words.specs.internal.Operands.{Completes}
 use Rattle.gq_words.proofs.Usual_lines.{slot_completes}
 use Rattle.gq_words.proofs.usual.with_slot.Goals as goal

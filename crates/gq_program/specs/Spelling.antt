@@ -9,18 +9,18 @@ use Rattle.gq_model.specs.declared.program.Instruction.{Instruction}
 use Rattle.gq_model.specs.declared.program.Instruction.TheVariants as program
 use Rattle.gq_model.specs.texts.Operands.{greatest_number, greatest_size}
 use Rattle.gq_model.specs.texts.Spelling as model
-use Rattle.gq_spelling.specs.declared.spelling.Bare.{Bare}
-use Rattle.gq_spelling.specs.declared.spelling.Bare.TheVariants.{Out, Drop, Dup, Combine}
-use Rattle.gq_spelling.specs.declared.spelling.WithNumber.{WithNumber}
-use Rattle.gq_spelling.specs.declared.spelling.WithNumber.TheVariants.{Push, Divide, Modulo, Get, Set, Index}
-use Rattle.gq_spelling.specs.declared.spelling.WithSlot.{WithSlot}
-use Rattle.gq_spelling.specs.declared.spelling.WithSlot.TheVariants.{Free, Take, Give, Peek, Poke, Call, Close}
-use Rattle.gq_spelling.specs.declared.spelling.WithBytes.{WithBytes}
-use Rattle.gq_spelling.specs.declared.spelling.WithBytes.TheVariants.{Load, Store}
-use Rattle.gq_spelling.specs.declared.spelling.WithAmount.{WithAmount}
-use Rattle.gq_spelling.specs.declared.spelling.WithAmount.TheVariants.{Make, Upgrade}
-use Rattle.gq_spelling.specs.declared.spelling.Shape.{Shape}
-use Rattle.gq_spelling.specs.declared.spelling.Shape.TheVariants.{Say, Plain, Number, Slot, Bytes, Amount, Pool, Open}
+use Rattle.gq_program.specs.declared.shapes.Bare.{Bare}
+use Rattle.gq_program.specs.declared.shapes.Bare.TheVariants.{Out, Drop, Dup, Combine}
+use Rattle.gq_program.specs.declared.shapes.WithNumber.{WithNumber}
+use Rattle.gq_program.specs.declared.shapes.WithNumber.TheVariants.{Push, Divide, Modulo, Get, Set, Index}
+use Rattle.gq_program.specs.declared.shapes.WithSlot.{WithSlot}
+use Rattle.gq_program.specs.declared.shapes.WithSlot.TheVariants.{Free, Take, Give, Peek, Poke, Call, Close}
+use Rattle.gq_program.specs.declared.shapes.WithBytes.{WithBytes}
+use Rattle.gq_program.specs.declared.shapes.WithBytes.TheVariants.{Load, Store}
+use Rattle.gq_program.specs.declared.shapes.WithAmount.{WithAmount}
+use Rattle.gq_program.specs.declared.shapes.WithAmount.TheVariants.{Make, Upgrade}
+use Rattle.gq_program.specs.declared.shapes.Shape.{Shape}
+use Rattle.gq_program.specs.declared.shapes.Shape.TheVariants.{Say, Plain, Number, Slot, Bytes, Amount, Pool, Open}
 
 -- WITHOUT OPERANDS
 

@@ -1,7 +1,7 @@
 use Rattle.std.proofs.Common.{◌≡◌, drop}
 use Rattle.gq_model.specs.texts.Spelling.{shape_of_opcode}
-use Rattle.gq_spelling.specs.Spelling.{spellings_of}
-use Rattle.gq_spelling.proofs.spelling.with_opcode.Given as goal
+use Rattle.gq_program.specs.Spelling.{spellings_of}
+use Rattle.gq_program.proofs.shapes.with_opcode.Given as goal
 
 abbrev pub invariant-loop-shape : goal.invariant-loop-shape
 invariant-loop-shape l = shape_of_opcode l.opcode (spellings_of (drop l.shape-index l.shapes)) ≡ shape_of_opcode l.opcode (spellings_of l.shapes)

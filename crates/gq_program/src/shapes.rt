@@ -1,14 +1,14 @@
 // How the statements but `if` and `loop` are spelled: one table, by the shape of their operands.
 ghost use Rattle.std.specs.Prelude.{◌≡◌, ◌≤◌, option_map};
 ghost use Rattle.gq_model.specs.texts.Spelling.{spellings, shape_of_word, shape_of_opcode};
-ghost use Rattle.gq_spelling.specs.Spelling.{operator_word, operator_opcode, bare_instruction, bare_word, bare_opcode, number_instruction};
-ghost use Rattle.gq_spelling.specs.Spelling.{number_word, number_opcode, number_width, number_low, number_high, slot_instruction, slot_word};
-ghost use Rattle.gq_spelling.specs.Spelling.{slot_opcode, bytes_instruction, bytes_word, bytes_opcode, amount_instruction, amount_word, amount_opcode};
-ghost use Rattle.gq_spelling.specs.Spelling.{amount_low, amount_high, shape_of, word_of, opcode_of, spellings_of};
+ghost use Rattle.gq_program.specs.Spelling.{operator_word, operator_opcode, bare_instruction, bare_word, bare_opcode, number_instruction};
+ghost use Rattle.gq_program.specs.Spelling.{number_word, number_opcode, number_width, number_low, number_high, slot_instruction, slot_word};
+ghost use Rattle.gq_program.specs.Spelling.{slot_opcode, bytes_instruction, bytes_word, bytes_opcode, amount_instruction, amount_word, amount_opcode};
+ghost use Rattle.gq_program.specs.Spelling.{amount_low, amount_high, shape_of, word_of, opcode_of, spellings_of};
 
 use gq_model::limits::{GREATEST_DEPTH, GREATEST_SIZE, LOCALS};
 use gq_model::program::{Form, Instruction, Operator, Place, Width};
-pub use gq_program::spelling::same_text;
+pub use crate::spelling::same_text;
 
 /// A statement without operands.
 #[derive(Clone, Copy)]
