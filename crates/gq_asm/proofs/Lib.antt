@@ -1,5 +1,8 @@
-pub mod Lines
+pub mod Asm_lines
 pub mod Statement_reads
 pub mod Blocks
 pub mod Orders
 pub mod Finishing
+pub mod Spelled
+pub mod Pieces
+pub mod Usual_lines

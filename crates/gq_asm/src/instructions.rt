@@ -11,7 +11,7 @@ use crate::operands::{at_end, next_name, next_number, next_slot, next_slot_or_ob
 use gq_model::fault::TextFault;
 use gq_model::program::Instruction;
 use gq_program::{Bare, Shape, WithAmount, WithBytes, WithNumber, WithSlot};
-use gq_words::said_in;
+use crate::says::said_in;
 use std::alloc::Global;
 
 /// Without operands.

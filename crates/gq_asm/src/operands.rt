@@ -5,7 +5,9 @@ ghost use Rattle.gq_asm.specs.internal.Operands.{Answers, nothing_at, number_at,
 
 use gq_model::fault::TextFault;
 use gq_model::program::{Name, Place};
-use gq_words::{next_word, number_in, numbered_slot, slot_or_object};
+use crate::words::next_word;
+use crate::numbers::number_in;
+use crate::slots::{numbered_slot, slot_or_object};
 
 /// Nothing but blanks.
 pub fn at_end(text: &[u8]) -> Result<(), TextFault>

@@ -18,7 +18,7 @@ use gq_model::program::Instruction;
 use gq_program::Statement;
 use gq_program::spelling::same_text;
 use gq_program::Shape;
-use gq_words::shape_with;
+use crate::shapes::shape_with;
 use std::alloc::Global;
 
 impl Reading {

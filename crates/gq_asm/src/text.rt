@@ -9,7 +9,7 @@ ghost use Rattle.gq_asm.specs.internal.State.{Gives, reading_of};
 ghost use Rattle.gq_asm.specs.Faults.{Assembles};
 ghost use Rattle.gq_asm.specs.declared.faults.LineError.TheVariants.{Memory};
 ghost use Rattle.gq_asm.specs.internal.Lines.{IsTaking, ReadsUsual};
-ghost use Rattle.gq_words.specs.Pieces.{line_at, past_feed};
+ghost use Rattle.gq_asm.specs.Pieces.{line_at, past_feed};
 ghost use Rattle.gq_asm.specs.internal.Order.{without, IsFirstAt, IsAbsent, is_distinct};
 
 use crate::faults::{AssembleError, LineError};
@@ -19,7 +19,9 @@ use gq_model::fault::TextFault;
 use gq_model::limits::{GREATEST_STATEMENTS, LOCALS};
 use gq_model::program::Section;
 use gq_program::{Body, Program, Spare, Statement};
-use gq_words::{first_line, next_word, usual_line};
+use crate::lines::first_line;
+use crate::words::next_word;
+use crate::usual::usual_line;
 use std::alloc::{AllocError, Global};
 use std::mem;
 

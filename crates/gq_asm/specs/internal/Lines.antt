@@ -3,7 +3,7 @@ use Rattle.std.specs.Prelude.{◌≡◌, ◌<◌, ℕ, suc, length, List, [], Op
 use Rattle.gq_model.specs.texts.Code.{greatest_statements}
 use Rattle.gq_model.specs.texts.Letters.{words, lines}
 use Rattle.gq_model.specs.texts.Text.{Reading, line_read}
-use Rattle.gq_words.specs.Pieces.{past_feed, fed_line}
+use Rattle.gq_asm.specs.Pieces.{past_feed, fed_line}
 
 -- the lines of a text that may not be there
 abbrev pub lines_left : Option (List ℕ) → List (List ℕ)

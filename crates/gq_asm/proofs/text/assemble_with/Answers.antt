@@ -4,7 +4,7 @@ use Rattle.gq_model.specs.texts.Text.{assembled}
 use Rattle.gq_asm.specs.Faults.{Assembles}
 use Rattle.gq_asm.specs.declared.faults.AssembleError.{AssembleError}
 use Rattle.gq_asm.specs.internal.State.{reading_of}
-use Rattle.gq_asm.proofs.Lines.{goes_on, fails_here, shorter}
+use Rattle.gq_asm.proofs.Asm_lines.{goes_on, fails_here, shorter}
 use Rattle.gq_asm.proofs.text.assemble_with.Goals as goal
 
 pub finish-requires : goal.finish-requires

@@ -1,6 +1,6 @@
 use Rattle.std.proofs.Common.{refl}
 use Rattle.gq_asm.specs.internal.State.{reading_of}
-use Rattle.gq_asm.proofs.Lines.{usual_reads}
+use Rattle.gq_asm.proofs.Asm_lines.{usual_reads}
 use Rattle.gq_asm.proofs.reading.Reading.read_usual.Goals as goal
 
 pub returns-clause-read : goal.returns-clause-read

@@ -1,0 +1,16 @@
+use Rattle.std.proofs.Common.{sym, subst}
+use Rattle.gq_model.specs.declared.program.Instruction.{Instruction}
+use Rattle.gq_program.specs.declared.shapes.Shape.TheVariants.{Number}
+use Rattle.gq_program.specs.Spelling.{shape_of, number_width, number_low, number_high, number_instruction}
+use Rattle.gq_asm.specs.internal.Words_operands.{Completes}
+use Rattle.gq_asm.proofs.Usual_lines.{number_completes}
+use Rattle.gq_asm.proofs.usual.with_number.Goals as goal
+
+pub returns : goal.returns
+returns c =
+    let st = c.args.statement in
+    let n = c.in_ok-number.number in
+    let e = sym (rw (c.low.ensures, c.high.ensures) at c.in_ok-number.ensures.number) in
+    subst (λ (i : Instruction). Completes c.args.text.now (shape_of (Number st)) i c.in_ok-word.rest.now) (sym c.instruction.ensures)
+    (number_completes c.args.text.now c.in_ok-word.word.now c.in_ok-word.rest.now (number_width st) (number_low st) (number_high st) n
+    (number_instruction st) c.in_ok-word.ensures e)

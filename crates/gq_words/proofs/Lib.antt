@@ -1,3 +1,0 @@
-pub mod Spelled
-pub mod Pieces
-pub mod Usual_lines

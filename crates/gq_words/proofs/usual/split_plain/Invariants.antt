@@ -1,7 +1,0 @@
-use Rattle.std.proofs.Common.{◌≡◌, true, take}
-use Rattle.gq_model.specs.machine.Lists.{all_of}
-use Rattle.gq_words.specs.Fronts.{is_plain}
-use Rattle.gq_words.proofs.usual.split_plain.Given as goal
-
-abbrev pub invariant-loop-i : goal.invariant-loop-i
-invariant-loop-i l = all_of is_plain (take l.i l.text) ≡ true

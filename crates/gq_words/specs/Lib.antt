@@ -1,4 +1,0 @@
-pub mod Pieces
-pub mod Fronts
-pub mod Usual
-pub mod internal
