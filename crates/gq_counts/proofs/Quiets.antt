@@ -10,7 +10,7 @@ use Rattle.gq_model.specs.rules.Kinds.{State, Context, inside}
 use Rattle.gq_model.specs.rules.Rules.{judged}
 use Rattle.gq_model.specs.rules.Flow.{at, flow, state_or}
 use Rattle.gq_model.specs.rules.Budgets.{asks, requests}
-use Rattle.gq_flow.specs.internal.Steps.{chosen}
+use Rattle.gq_rules.specs.internal.Steps.{chosen}
 use Rattle.gq_counts.specs.Counting.{saturated}
 use Rattle.gq_counts.specs.Requested.{Requested, requests_for}
 use Rattle.gq_program.specs.Notes.{asks_nothing, is_quiet}

@@ -11,9 +11,9 @@ use Rattle.gq_model.specs.rules.Rules.{Judged, judged}
 use Rattle.gq_model.specs.rules.Flow.{Flowed, at, later, flow_then, is_nil, chosen_from, none_left, flow, state_or}
 use Rattle.gq_program.specs.Trees.{tree_of}
 use Rattle.gq_program.specs.declared.program.Statement.{Statement}
-use Rattle.gq_flow.specs.internal.Steps.{chosen, next_state}
-use Rattle.gq_flow.proofs.Flows.{flow_here}
-use Rattle.gq_flow.proofs.Points.{then_ok, later_ok, must_ok, chosen_is, next_is}
+use Rattle.gq_rules.specs.internal.Steps.{chosen, next_state}
+use Rattle.gq_rules.proofs.Flows.{flow_here}
+use Rattle.gq_rules.proofs.Points.{then_ok, later_ok, must_ok, chosen_is, next_is}
 use Rattle.gq_counts.specs.Rights.{IsRight}
 use Rattle.gq_counts.specs.internal.Requesting.{requests_in}
 use Rattle.gq_counts.specs.Counting.{saturated}

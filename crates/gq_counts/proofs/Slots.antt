@@ -23,9 +23,9 @@ use Rattle.gq_model.specs.rules.Flow.{Flowed, at, later, flow, state_or}
 use Rattle.gq_model.proofs.Rules_laws.{at_ok}
 use Rattle.gq_program.specs.Notes.{keeps_slots, is_still}
 use Rattle.gq_program.specs.declared.program.Statement.TheVariants as statement
-use Rattle.gq_flow.specs.internal.Steps.{chosen, next_state}
-use Rattle.gq_flow.proofs.Points.{then_ok, next_is}
-use Rattle.gq_flow.proofs.Unchanged.{Same, flow_still}
+use Rattle.gq_rules.specs.internal.Steps.{chosen, next_state}
+use Rattle.gq_rules.proofs.Points.{then_ok, next_is}
+use Rattle.gq_rules.proofs.Unchanged.{Same, flow_still}
 use Rattle.gq_rules.specs.declared.broken.Broken.{Broken}
 use Rattle.gq_rules.specs.Flowing.{flowed}
 use Rattle.gq_rules.specs.Judging.{after}

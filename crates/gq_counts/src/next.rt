@@ -4,10 +4,10 @@ ghost use Rattle.gq_model.specs.machine.Program.{size};
 ghost use Rattle.gq_program.specs.Trees.{tree_of};
 ghost use Rattle.gq_counts.specs.Rights.{IsRight};
 ghost use Rattle.gq_rules.specs.Flowing.{few_loops};
-ghost use Rattle.gq_flow.specs.internal.Steps.{next_state};
+ghost use Rattle.gq_rules.specs.internal.Steps.{next_state};
 
 use gq_caps::Totals;
-use gq_flow::flow::flow;
+use gq_rules::flow::flow;
 use gq_program::Statement;
 use gq_rules::{Context, State};
 

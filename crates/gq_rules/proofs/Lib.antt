@@ -1,1 +1,4 @@
 pub mod Programs
+pub mod Flows
+pub mod Points
+pub mod Unchanged

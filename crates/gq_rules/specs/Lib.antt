@@ -1,2 +1,4 @@
 pub mod Judging
 pub mod Flowing
+pub mod Peaks
+pub mod internal

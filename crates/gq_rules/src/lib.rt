@@ -8,10 +8,21 @@
 //! context.judged(&mut state, &Instruction::Push(7))?;
 //! assert_eq!(rt; state.pop(), Ok(7));
 //! ```
+//!
+//! What is known before and after each list of statements, arms and bodies of loops included, and the first rule that one of them breaks.
+//!
+//! ```rust
+//! use gq_rules::flow::flow;
+//!
+//! // A section is walked through from what is known at its start; its statements are counted from 0 on.
+//! flow(&context, &mut state, &mut 0, &mut peaks, body)?;
+//! // What `peaks` has now is the most that its slots hold at any time.
+//! ```
 #![tactic(auto)]
 
 pub mod broken;
 pub mod context;
+pub mod flow;
 mod judge;
 pub mod memory;
 pub mod operands;

@@ -15,7 +15,7 @@ use Rattle.gq_caps.specs.declared.kind.Kind.{Kind}
 use Rattle.gq_caps.specs.declared.kind.Kind.TheVariants.{Empty}
 use Rattle.gq_caps.specs.declared.totals.Measure.{Measure}
 use Rattle.gq_caps.specs.declared.totals.Totals.{Totals}
-use Rattle.gq_flow.specs.Peaks.{measure_of, Peaks}
+use Rattle.gq_rules.specs.Peaks.{measure_of, Peaks}
 use Rattle.gq_verify.specs.internal.Mains.{IsMost, MostWhereRight}
 use Rattle.gq_rules.specs.declared.broken.Broken.{Broken}
 use Rattle.gq_rules.specs.Flowing.{flowed}

@@ -1,7 +1,7 @@
 // What is known where sections start.
 ghost use Rattle.std.specs.Prelude.{◌≡◌, ◌≤◌, [], ◌∷◌, IfOk, IsTrue};
 ghost use Rattle.gq_caps.specs.Measured.{AreFew};
-ghost use Rattle.gq_flow.specs.Peaks.{Peaks};
+ghost use Rattle.gq_rules.specs.Peaks.{Peaks};
 ghost use Rattle.gq_verify.specs.internal.Mains.{MostWhereRight};
 ghost use Rattle.gq_model.specs.machine.Program.{size};
 ghost use Rattle.gq_model.specs.texts.Code.{is_section};
@@ -13,7 +13,7 @@ ghost use Rattle.gq_verify.specs.internal.Starting.{IsStarts};
 
 use crate::ends::main_section_end;
 use gq_caps::{Bank, Totals};
-use gq_flow::flow::flow;
+use gq_rules::flow::flow;
 use gq_model::limits::{OWN_SLOTS, SESSION_SLOTS};
 use gq_program::Section;
 use gq_rules::{Broken, Context, State, Subject, at};

@@ -2,7 +2,7 @@
 use Rattle.std.specs.Prelude.{◌≡◌}
 use Rattle.gq_model.specs.machine.Program.{Statements}
 use Rattle.gq_model.specs.rules.Kinds.{State, Context}
-use Rattle.gq_flow.specs.internal.Steps.{chosen}
+use Rattle.gq_rules.specs.internal.Steps.{chosen}
 use Rattle.gq_counts.specs.Rights.{IsRight}
 
 -- both have the same slots

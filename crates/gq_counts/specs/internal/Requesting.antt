@@ -6,7 +6,7 @@ use Rattle.gq_model.specs.rules.Kinds.{State, Context, inside}
 use Rattle.gq_model.specs.rules.Budgets.{asks, requests}
 use Rattle.gq_program.specs.declared.program.Statement.{Statement}
 use Rattle.gq_program.specs.declared.program.Statement.TheVariants.{Plain, If, Loop}
-use Rattle.gq_flow.specs.internal.Steps.{chosen}
+use Rattle.gq_rules.specs.internal.Steps.{chosen}
 use Rattle.gq_counts.specs.declared.asking.ByLevel.{ByLevel}
 use Rattle.gq_counts.specs.declared.asking.ByLevel.TheVariants.{Upgrading, Calling, Closing}
 

@@ -9,7 +9,7 @@ use Rattle.gq_caps.specs.declared.totals.Measure.{Measure}
 use Rattle.gq_caps.specs.declared.totals.Totals.{Totals}
 use Rattle.gq_rules.specs.declared.broken.Broken.{Broken}
 use Rattle.gq_rules.specs.Flowing.{flowed}
-use Rattle.gq_flow.specs.Peaks.{measure_of}
+use Rattle.gq_rules.specs.Peaks.{measure_of}
 
 -- the points of `main`
 abbrev pub main_points : Subject → List State

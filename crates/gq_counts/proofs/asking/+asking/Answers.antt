@@ -4,7 +4,7 @@ use Rattle.gq_model.specs.machine.Program.{size}
 use Rattle.gq_model.specs.rules.Kinds.{State, Context, inside}
 use Rattle.gq_model.specs.rules.Budgets.{requests}
 use Rattle.gq_program.specs.Trees.{tree_of}
-use Rattle.gq_flow.proofs.Flows.{few_here}
+use Rattle.gq_rules.proofs.Flows.{few_here}
 use Rattle.gq_rules.proofs.Programs.{parts}
 use Rattle.gq_rules.specs.Flowing.{few_loops}
 use Rattle.gq_counts.specs.Rights.{IsRight}

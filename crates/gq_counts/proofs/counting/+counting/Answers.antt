@@ -1,6 +1,6 @@
 use Rattle.std.proofs.Common.{◌-◌, ◌+◌, ◌*◌, ap, arith, length, refl, subst, sym, ◌∙◌}
 use Rattle.gq_model.specs.machine.Program.{size}
-use Rattle.gq_flow.proofs.Flows.{few_here}
+use Rattle.gq_rules.proofs.Flows.{few_here}
 use Rattle.gq_model.specs.rules.Budgets.{requests}
 use Rattle.gq_model.specs.rules.Kinds.{Context, inside}
 use Rattle.gq_counts.specs.Counting.{saturated}
@@ -9,7 +9,7 @@ use Rattle.gq_counts.specs.Rights.{IsRight}
 use Rattle.gq_counts.specs.internal.Requesting.{requests_in}
 use Rattle.gq_counts.proofs.Quiets.{quiet_arms, quiet_round}
 use Rattle.gq_counts.proofs.Rights.{arms_right, round_right, on_then, round_counted}
-use Rattle.gq_flow.specs.internal.Steps.{chosen}
+use Rattle.gq_rules.specs.internal.Steps.{chosen}
 use Rattle.gq_counts.proofs.Slots.{count_next, count_all, arms_counted}
 use Rattle.gq_program.proofs.Sizes.{size_here}
 use Rattle.gq_counts.proofs.counting.+counting.Goals as goal

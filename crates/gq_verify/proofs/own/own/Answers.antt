@@ -1,7 +1,7 @@
 use Rattle.std.proofs.Common.{◌+◌, ◌∙◌, ap, arith}
 use Rattle.gq_model.specs.machine.Lists.{greatest}
 use Rattle.gq_caps.specs.declared.totals.Measure.TheVariants.{Ram, Caps}
-use Rattle.gq_flow.specs.Peaks.{measure_of}
+use Rattle.gq_rules.specs.Peaks.{measure_of}
 use Rattle.gq_verify.specs.internal.Mains.{main_points}
 use Rattle.gq_verify.proofs.own.own.Goals as goal
 

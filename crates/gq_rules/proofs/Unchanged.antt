@@ -18,13 +18,13 @@ use Rattle.gq_model.specs.rules.Rules.{Judged, must, given, top, pushed, and_the
 use Rattle.gq_model.specs.rules.Rules.{judge, judged, within_need}
 use Rattle.gq_model.specs.rules.Flow.{Flowed, at, later, flow_then, chosen_from, none_left, join, flow, is_nil}
 use Rattle.gq_program.specs.Notes.{keeps_slots, is_still}
-use Rattle.gq_flow.specs.internal.Steps.{chosen}
-use Rattle.gq_flow.specs.internal.Reached.{PeaksWith}
+use Rattle.gq_rules.specs.internal.Steps.{chosen}
+use Rattle.gq_rules.specs.internal.Reached.{PeaksWith}
 use Rattle.gq_rules.specs.declared.broken.Broken.{Broken}
 use Rattle.gq_rules.specs.Flowing.{flowed}
 use Rattle.gq_rules.specs.Judging.{after}
 use Rattle.gq_caps.specs.declared.totals.Totals.{Totals}
-use Rattle.gq_flow.proofs.Points.{then_ok, later_ok, must_ok, ok_same, chosen_is, joined_is, peaks_stay}
+use Rattle.gq_rules.proofs.Points.{then_ok, later_ok, must_ok, ok_same, chosen_is, joined_is, peaks_stay}
 use Rattle.gq_model.proofs.Rules_laws.{within_same, at_ok, nil_is, join_ok}
 use Rattle.std.proofs.lemmas.Bool.{and_parts}
 use Rattle.gq_model.proofs.Small.{equal_self, text_self}

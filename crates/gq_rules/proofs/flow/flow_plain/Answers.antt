@@ -1,6 +1,6 @@
 use Rattle.std.proofs.Common.{sym, ◌∙◌}
-use Rattle.gq_flow.proofs.Unchanged.{still_measured}
-use Rattle.gq_flow.proofs.flow.flow_plain.Goals as goal
+use Rattle.gq_rules.proofs.Unchanged.{still_measured}
+use Rattle.gq_rules.proofs.flow.flow_plain.Goals as goal
 
 pub returns-then-keeps_slots-clause-peaks : goal.returns-then-keeps_slots-clause-peaks
 returns-then-keeps_slots-clause-peaks c =

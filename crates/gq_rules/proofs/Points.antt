@@ -15,9 +15,9 @@ use Rattle.gq_program.specs.declared.program.Statement.TheVariants as statement
 use Rattle.gq_caps.specs.Measured.{total_of, measured}
 use Rattle.gq_caps.specs.declared.totals.Measure.{Measure}
 use Rattle.gq_caps.specs.declared.totals.Totals.{Totals}
-use Rattle.gq_flow.specs.internal.Steps.{chosen, next_state, points_in}
-use Rattle.gq_flow.specs.internal.Reached.{PeaksWith}
-use Rattle.gq_flow.specs.Peaks.{measure_of, Peaks}
+use Rattle.gq_rules.specs.internal.Steps.{chosen, next_state, points_in}
+use Rattle.gq_rules.specs.internal.Reached.{PeaksWith}
+use Rattle.gq_rules.specs.Peaks.{measure_of, Peaks}
 use Rattle.gq_program.proofs.Sizes.{here_is}
 use Rattle.gq_model.proofs.Rules_laws.{at_ok}
 

@@ -6,8 +6,8 @@ use Rattle.gq_program.specs.Trees.{tree_of}
 use Rattle.gq_caps.specs.Measured.{total_of, AreFew}
 use Rattle.gq_caps.specs.declared.totals.Measure.{Measure}
 use Rattle.gq_rules.specs.Flowing.{few_loops}
-use Rattle.gq_flow.specs.Peaks.{measure_of}
-use Rattle.gq_flow.proofs.flow.+flows.Given as goal
+use Rattle.gq_rules.specs.Peaks.{measure_of}
+use Rattle.gq_rules.proofs.flow.+flows.Given as goal
 
 abbrev pub decreases-flow : goal.decreases-flow
 decreases-flow l = 3 * size l.body.now + 2

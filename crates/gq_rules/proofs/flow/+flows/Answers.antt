@@ -10,17 +10,17 @@ use Rattle.gq_program.specs.Trees.{tree_of}
 use Rattle.gq_caps.specs.Known.{all_known}
 use Rattle.gq_caps.specs.Measured.{total_of, measured}
 use Rattle.gq_rules.specs.Flowing.{few_loops}
-use Rattle.gq_flow.specs.internal.Steps.{chosen}
-use Rattle.gq_flow.specs.Peaks.{measure_of, Peaks}
+use Rattle.gq_rules.specs.internal.Steps.{chosen}
+use Rattle.gq_rules.specs.Peaks.{measure_of, Peaks}
 use Rattle.gq_program.specs.Notes.{is_still}
-use Rattle.gq_flow.proofs.Unchanged.{still_second, still_join, still_round, if_as, loop_as, none_are, on_any, after_either, same_state}
-use Rattle.gq_flow.proofs.Flows.{flow_here, stops, size_at, few_here, goes_on}
+use Rattle.gq_rules.proofs.Unchanged.{still_second, still_join, still_round, if_as, loop_as, none_are, on_any, after_either, same_state}
+use Rattle.gq_rules.proofs.Flows.{flow_here, stops, size_at, few_here, goes_on}
 use Rattle.gq_rules.proofs.Programs.{parts}
-use Rattle.gq_flow.proofs.Points.{peaks_on, peak_end, peaks_append, chosen_is}
+use Rattle.gq_rules.proofs.Points.{peaks_on, peak_end, peaks_append, chosen_is}
 use Rattle.gq_program.proofs.Sizes.{size_here}
 use Rattle.gq_model.proofs.Rules_laws.{at_ok}
 use Rattle.std.proofs.lemmas.Bool.{and_parts}
-use Rattle.gq_flow.proofs.flow.+flows.Goals as goal
+use Rattle.gq_rules.proofs.flow.+flows.Goals as goal
 
 pub flow-flow_statement-requires : goal.flow-flow_statement-requires
 flow-flow_statement-requires t c =

@@ -6,15 +6,17 @@ ghost use Rattle.gq_model.specs.rules.Flow.{later, flow, points};
 ghost use Rattle.gq_program.specs.Trees.{tree_of};
 ghost use Rattle.gq_caps.specs.Measured.{AreFew};
 ghost use Rattle.gq_rules.specs.Flowing.{flowed, few_loops};
-ghost use Rattle.gq_flow.specs.internal.Steps.{chosen, points_in};
-ghost use Rattle.gq_flow.specs.internal.Reached.{PeaksWith};
-ghost use Rattle.gq_flow.specs.Peaks.{Peaks};
+ghost use Rattle.gq_rules.specs.internal.Steps.{chosen, points_in};
+ghost use Rattle.gq_rules.specs.internal.Reached.{PeaksWith};
+ghost use Rattle.gq_rules.specs.Peaks.{Peaks};
 ghost use Rattle.gq_program.specs.Notes.{is_still};
 
 use gq_caps::Totals;
 use gq_program::notes::keeps_slots;
 use gq_program::{Body, Instruction, Statement};
-use gq_rules::{Broken, Context, State, at};
+use crate::broken::{Broken, at};
+use crate::context::Context;
+use crate::state::State;
 
 /// Walks through a list of statements, from what is known before it to what is known after it. Statements are counted on from
 /// `place`. A join is judged after what is inside of the arms or the loop. What is measured of the own slots, at the greatest, is kept in

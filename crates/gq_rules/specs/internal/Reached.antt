@@ -5,7 +5,7 @@ use Rattle.gq_model.specs.rules.Kinds.{State}
 use Rattle.gq_caps.specs.Measured.{total_of}
 use Rattle.gq_caps.specs.declared.totals.Measure.{Measure}
 use Rattle.gq_caps.specs.declared.totals.Totals.{Totals}
-use Rattle.gq_flow.specs.Peaks.{measure_of}
+use Rattle.gq_rules.specs.Peaks.{measure_of}
 
 -- the greatest of what was known and of these points, once the state after them is measured too
 abbrev pub PeaksWith : Totals → Totals → List State → State → Type 0

@@ -1,3 +1,0 @@
-pub mod Flows
-pub mod Points
-pub mod Unchanged
