@@ -10,9 +10,9 @@ use Rattle.gq_model.specs.declared.program.Section.{Section}
 use Rattle.gq_model.specs.rules.Kinds.{Subject}
 use Rattle.gq_model.specs.rules.Budgets.{section_requests}
 use Rattle.gq_model.specs.rules.Use.{from_sections}
-use Rattle.gq_counts.specs.declared.asked.Asker.{Asker}
-use Rattle.gq_counts.specs.Requested.{Requested, is_asked, requests_for}
-use Rattle.gq_counts.specs.Askers.{askers_of}
+use Rattle.gq_verify.specs.declared.asked.Asker.{Asker}
+use Rattle.gq_verify.specs.Requested.{Requested, is_asked, requests_for}
+use Rattle.gq_verify.specs.Askers.{askers_of}
 use Rattle.gq_verify.specs.Counting.{saturated}
 use Rattle.gq_budget.specs.internal.Counted.{AreRequests}
 use Rattle.gq_budget.specs.internal.Rounds.{askers_in, runs, asked_sum}

@@ -10,7 +10,7 @@ use Rattle.gq_model.specs.machine.Scenario.{System, Component}
 use Rattle.gq_model.specs.machine.Routes.{server_of}
 use Rattle.gq_model.specs.rules.Budgets.{section_cost}
 use Rattle.gq_model.specs.rules.Use.{subject, is_there, from_sections, from_leaves, asked_of, provided_by, times, steps_of, step_budget}
-use Rattle.gq_counts.specs.declared.asked.Asker.{Asker}
+use Rattle.gq_verify.specs.declared.asked.Asker.{Asker}
 use Rattle.gq_verify.specs.Counting.{saturated}
 use Rattle.gq_budget.specs.Leaves.{leaves_from, leaves_of, leads_for, leads_from, leads_of}
 use Rattle.gq_budget.specs.Counts.{Counted, AreCountsOf, Agree, AgreeFor, AgreeWhereAsked, asks}

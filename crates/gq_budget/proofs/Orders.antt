@@ -6,7 +6,7 @@ use Rattle.std.proofs.lemmas.Bool.{cases_lt}
 use Rattle.gq_model.specs.machine.Program.{same_section}
 use Rattle.gq_model.specs.declared.program.Section.{Section}
 use Rattle.gq_model.specs.declared.program.Section.TheVariants.{Main, Opening, Upgrading, Calling, Closing}
-use Rattle.gq_counts.specs.declared.asked.Asker.{Asker}
+use Rattle.gq_verify.specs.declared.asked.Asker.{Asker}
 use Rattle.gq_verify.specs.Counting.{saturated}
 use Rattle.gq_budget.specs.internal.Rounds.{Asks, runs, asked_sum, often, leaf_round, round, rounds}
 use Rattle.gq_budget.specs.internal.Order.{IsOrder, no_asker, no_asks}

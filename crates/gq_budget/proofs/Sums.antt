@@ -1,6 +1,6 @@
 -- Sums of products that are kept as far as they go.
 use Rattle.std.proofs.Common.{◌≡◌, ◌≤◌, ℕ, arith, ◌+◌, ◌*◌, List, [], ◌∷◌, min, ap, ◌∙◌, ◌⊎◌, inl, inr}
-use Rattle.gq_counts.proofs.Counts.{times}
+use Rattle.gq_verify.proofs.Counts.{times}
 use Rattle.gq_budget.specs.internal.Sums.{products}
 
 -- a product of two numbers of which both are kept as far as they go

@@ -5,7 +5,7 @@ ghost use Rattle.gq_budget.specs.internal.Rounds.{askers_in};
 
 use crate::leaf::Leaf;
 use crate::numbers::Numbers;
-use gq_counts::{Asker, Service};
+use gq_verify::{Asker, Service};
 use gq_program::{Name, Section};
 use gq_verify::Requests;
 use std::alloc::{AllocError, Global};

@@ -19,5 +19,5 @@ mod rounds;
 
 pub use budgets::{counted_budgets, step_budgets};
 pub use counted::CountedLeaf;
-pub use gq_counts::Service;
+pub use gq_verify::Service;
 pub use leaf::Leaf;

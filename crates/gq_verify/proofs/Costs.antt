@@ -11,7 +11,7 @@ use Rattle.gq_model.specs.rules.Flow.{Flowed, section_flow}
 use Rattle.gq_model.specs.rules.Budgets.{section_cost}
 use Rattle.gq_model.specs.rules.Verdict.{Fault, greatest_cost, fault_of, first_fault, program_fault}
 use Rattle.gq_verify.specs.Subjects.{cost_in}
-use Rattle.gq_counts.specs.Counting.{saturated}
+use Rattle.gq_verify.specs.Counting.{saturated}
 use Rattle.gq_model.proofs.Rules_laws.{accepted}
 use Rattle.gq_model.proofs.Small.{or_first_none}
 

@@ -1,3 +1,11 @@
 pub mod Costs
 pub mod Mains
 pub mod Rights
+pub mod Adding
+pub mod Askers
+pub mod Counts
+pub mod Quiets
+pub mod Counts_rights
+pub mod Slots
+pub mod Keys
+pub mod Outside

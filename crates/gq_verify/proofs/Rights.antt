@@ -5,7 +5,7 @@ use Rattle.gq_model.specs.declared.program.Section.{Section}
 use Rattle.gq_model.specs.rules.Kinds.{State, Context, Subject}
 use Rattle.gq_model.specs.rules.Flow.{context, start_of}
 use Rattle.gq_model.specs.rules.Verdict.{program_fault}
-use Rattle.gq_counts.specs.Rights.{IsRight}
+use Rattle.gq_verify.specs.Rights.{IsRight}
 use Rattle.gq_model.proofs.Rules_laws.{section_flows}
 
 -- no section of it breaks a rule

@@ -1,5 +1,7 @@
-pub use Rattle.gq_counts.specs.Counting
-pub use Rattle.gq_counts.specs.Requested
 pub mod Subjects
 pub mod Faults
 pub mod internal
+pub mod Counting
+pub mod Requested
+pub mod Askers
+pub mod Rights

@@ -2,3 +2,7 @@ pub mod Walks
 pub mod Mains
 pub mod Starting
 pub mod Keeping
+pub mod Requesting
+pub mod Adding
+pub mod Alike
+pub mod Keys

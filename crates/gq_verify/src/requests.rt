@@ -4,12 +4,14 @@ ghost use Rattle.gq_model.specs.declared.program.Section.{Section};
 ghost use Rattle.gq_model.specs.texts.Code.{is_section};
 ghost use Rattle.gq_model.specs.rules.Verdict.{program_fault};
 ghost use Rattle.gq_model.specs.rules.Budgets.{section_requests};
-ghost use Rattle.gq_counts.specs.Counting.{saturated};
-ghost use Rattle.gq_counts.specs.Requested.{requests_for};
+ghost use Rattle.gq_verify.specs.Counting.{saturated};
+ghost use Rattle.gq_verify.specs.Requested.{requests_for};
 ghost use Rattle.gq_verify.specs.internal.Starting.{IsStarts};
 
 use crate::starts::Starts;
-use gq_counts::{Asked, Requests, all_requests, requests};
+use crate::asking::{Asked, requests};
+use crate::asked::Requests;
+use crate::counting::all_requests;
 use gq_program::Section;
 use gq_rules::{Context, Subject};
 use std::alloc::{AllocError, Global};

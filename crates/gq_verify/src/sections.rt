@@ -13,7 +13,7 @@ use crate::fault::Fault;
 use crate::sizes::count;
 use crate::starts::{Starts, walk};
 use gq_caps::Totals;
-use gq_counts::section_cost;
+use crate::steps::section_cost;
 use gq_model::fault::Rule;
 use gq_model::limits::GREATEST_STEPS;
 use gq_program::{Body, Interface, Section};

@@ -3,9 +3,9 @@ use Rattle.std.specs.Prelude.{ℕ, zero, suc, ◌+◌, ◌*◌, if◌then◌else
 use Rattle.gq_model.specs.machine.Program.{same_section}
 use Rattle.gq_model.specs.declared.program.Section.{Section}
 use Rattle.gq_model.specs.declared.program.Section.TheVariants.{Main}
-use Rattle.gq_counts.specs.declared.asked.Asker.{Asker}
-use Rattle.gq_counts.specs.Requested.{Requested}
-use Rattle.gq_counts.specs.Askers.{askers_of}
+use Rattle.gq_verify.specs.declared.asked.Asker.{Asker}
+use Rattle.gq_verify.specs.Requested.{Requested}
+use Rattle.gq_verify.specs.Askers.{askers_of}
 use Rattle.gq_verify.specs.Counting.{saturated}
 use Rattle.gq_budget.specs.Counts.{Counted}
 use Rattle.gq_budget.specs.internal.Sums.{products}

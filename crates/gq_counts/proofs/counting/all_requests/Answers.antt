@@ -1,7 +1,0 @@
-use Rattle.std.proofs.Common.{sym, ◌∙◌}
-use Rattle.gq_counts.proofs.Quiets.{quiet_list}
-use Rattle.gq_counts.proofs.counting.all_requests.Goals as goal
-
-pub returns-then-is_quiet : goal.returns-then-is_quiet
-returns-then-is_quiet c = λ v r.
-    quiet_list v r c.args.context.now c.args.state.now c.args.body.now c.new.result c.new.ensures (sym c.is_quiet.ensures ∙ c.if-is_quiet.true)

@@ -1,4 +1,0 @@
-pub mod Requesting
-pub mod Adding
-pub mod Alike
-pub mod Keys

@@ -1,0 +1,13 @@
+use Rattle.std.proofs.Common.{List, ℕ, ap, sym, ◌∙◌}
+use Rattle.gq_verify.specs.Requested.{Requested}
+use Rattle.gq_verify.proofs.Adding.{added_on}
+use Rattle.gq_verify.proofs.asked.Requests.add_all.Goals as goal
+
+pub loop-entry-preserved : goal.loop-entry-preserved
+loop-entry-preserved c = λ v r.
+    let l = c.loop-entry in
+    let named = ap (λ (s : List ℕ). let e : Requested = record { service = s; section = c.entry.inside.section; count = c.entry.inside.count } in e)
+    (sym (c.new-service.ensures ∙ c.as_slice.ensures)) in
+    added_on l.self c.add.new.self c.deref-entry-items.result.now l.entry-index c.entry-item.result c.new-service.result c.entry.inside.section
+    c.entry.inside.count c.args.times c.saturating_mul.result v r _ c.loop-entry-test.true c.entry-item.is (sym c.entry.view_is ∙ named)
+    c.saturating_mul.ensures c.in_ok-add.ensures (l.invariant v r)
