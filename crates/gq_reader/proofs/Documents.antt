@@ -25,7 +25,7 @@ use Rattle.gq_scenario.specs.Sizes.{IsQuantum, IsMemory, depth}
 use Rattle.std.proofs.Math.Nat.{max-le}
 use Rattle.gq_model.specs.machine.Scenario.{LeafNode, InitNode, Nodes, Leaf_node, Init_node}
 use Rattle.gq_reader.specs.internal.Sound.{AreNodes}
-use Rattle.gq_tables.proofs.Passed.{absent}
+use Rattle.gq_reader.proofs.Passed.{absent}
 use Rattle.gq_reader.proofs.Kept.{fits_or_none, kept, one_there, number_small}
 use Rattle.gq_reader.proofs.Interface_tables.{interfaces_length, rest_named}
 use Rattle.gq_reader.proofs.Node_tables.{no_caps}

@@ -19,8 +19,8 @@ use Rattle.std.specs.Map.{keys_of as keys}
 use Rattle.std.specs.String.{string_cmp}
 use Rattle.toml.specs.View.{members_view}
 use Rattle.toml.proofs.Views.{Entry}
-use Rattle.gq_tables.proofs.Faults.{members_at_table}
-use Rattle.gq_tables.proofs.Passed.{absent}
+use Rattle.gq_reader.proofs.Faults.{members_at_table}
+use Rattle.gq_reader.proofs.Passed.{absent}
 use Rattle.gq_reader.proofs.Kept.{fits_or_none, kept, number_small, quantity_small}
 use Rattle.gq_model.proofs.Small.{or_first_none}
 

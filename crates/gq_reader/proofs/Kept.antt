@@ -11,7 +11,7 @@ use Rattle.gq_scenario.specs.Keys.{missing_key, bad_value, is_bad, table_fault}
 use Rattle.gq_scenario.specs.Tables.{is_declared}
 use Rattle.gq_scenario.specs.Document.{or_zero, value_of}
 use Rattle.gq_reader.specs.internal.Sound.{is_name_or_none}
-use Rattle.gq_tables.proofs.Passed.{none_at_false}
+use Rattle.gq_reader.proofs.Passed.{none_at_false}
 use Rattle.gq_model.proofs.Small.{text_is, or_first_none}
 use Rattle.std.proofs.lemmas.Bool.{not-false, or_parts, and_parts}
 

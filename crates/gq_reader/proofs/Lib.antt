@@ -6,3 +6,8 @@ pub mod Documents
 pub mod Described
 pub mod Texts
 pub mod Upgrades
+pub mod Hex_digits
+pub mod Listed
+pub mod Faults
+pub mod Walked
+pub mod Passed

@@ -10,7 +10,7 @@ use Rattle.gq_scenario.specs.Tables.{is_declared, greatest_caps, route_keys}
 use Rattle.gq_scenario.specs.Document.{text_at, number_at, quantity_at}
 use Rattle.gq_scenario.specs.Sizes.{IsQuantum}
 use Rattle.gq_reader.specs.internal.Sound.{is_name_or_none, has_source, IsLeafTable, IsInitTable}
-use Rattle.gq_tables.proofs.Passed.{absent}
+use Rattle.gq_reader.proofs.Passed.{absent}
 use Rattle.gq_reader.proofs.Kept.{kept, one_there, some_there, last_there, number_small, quantity_small, name_or_none, name_there, declared_name, source_there}
 
 abbrev caps_by : Bool → List KeyRule → List KeyRule

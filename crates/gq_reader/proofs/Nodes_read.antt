@@ -13,11 +13,11 @@ use Rattle.gq_scenario.specs.Tables.{init_keys, leaf_keys}
 use Rattle.gq_scenario.specs.Document.{is_init, leaf_of, init_of, list_at, routes_of, routes_fault, first_of, node_fault, node_onto, nodes_by}
 use Rattle.gq_reader.specs.internal.Sound.{route_of, IsLeafTable, IsInitTable, IsNode, AreNodes}
 use Rattle.gq_scenario.specs.Trees.{before, onto, IsBefore}
-use Rattle.gq_tables.specs.internal.Walk.{own_fault, keys_fault}
+use Rattle.gq_reader.specs.internal.Walk.{own_fault, keys_fault}
 use Rattle.gq_scenario.specs.declared.scenario.Node.{Node}
 use Rattle.gq_scenario.specs.declared.scenario.Node.TheVariants.{Leaf, Init}
-use Rattle.gq_tables.proofs.Faults.{members_at_table}
-use Rattle.gq_tables.proofs.Walked.{node_step, nameless}
+use Rattle.gq_reader.proofs.Faults.{members_at_table}
+use Rattle.gq_reader.proofs.Walked.{node_step, nameless}
 use Rattle.gq_model.proofs.Small.{or_first_none}
 
 -- the route of the first of the rest

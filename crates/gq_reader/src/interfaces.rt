@@ -9,14 +9,14 @@ ghost use Rattle.gq_program.specs.Interfaces.{or_none, is_rising, are_interfaces
 ghost use Rattle.gq_scenario.specs.Keys.{listed, is_number, is_quantity, number_of, quantity, table_fault};
 ghost use Rattle.gq_scenario.specs.Tables.{greatest_caps, are_named_tables, interface_keys};
 ghost use Rattle.gq_scenario.specs.Document.{or_zero, number_at, upgrades_of, interface_of, interfaces_of, keys_of, interfaces_fault};
-ghost use Rattle.gq_tables.specs.Rules.{entries_or_none};
+ghost use Rattle.gq_reader.specs.Rules.{entries_or_none};
 ghost use Rattle.gq_scenario.specs.Trees.{version_number};
 
 use gq_model::program::Name;
 use gq_program::interface::{Interface, Interfaces, Upgrade};
 use gq_scenario::key::Key;
 use gq_scenario::scenario::Version;
-use gq_tables::value::{list_at, number_at, number_of, quantity, quantity_at};
+use crate::value::{list_at, number_at, number_of, quantity, quantity_at};
 use std::alloc::{AllocError, Global};
 use toml::{Table, Value};
 

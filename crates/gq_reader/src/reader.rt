@@ -17,8 +17,8 @@ use gq_scenario::scenario::{Nodes, Parts, Route, Scenario, told};
 use gq_scenario::tree::{
     GREATEST_COUNT, count_inits, count_leaves, has_long_routes, is_long, name_twice, push_names,
 };
-use gq_tables::value::table_at;
-use gq_tables::walk::{version_of, walk_fault};
+use crate::value::table_at;
+use crate::walk::{version_of, walk_fault};
 use std::alloc::{AllocError, Global};
 use toml::Table;
 

@@ -21,8 +21,8 @@ use gq_program::interface::{Interface, Upgrade};
 use gq_scenario::key::Key;
 use gq_scenario::scenario::{Init, Leaf, Node, Nodes, Quantum, Route, Target, Version};
 use gq_scenario::source::Source;
-use gq_tables::hexadecimal::unhex;
-use gq_tables::value::{has, number_at, number_of, quantity, quantity_at, text_at, values_at};
+use crate::hexadecimal::unhex;
+use crate::value::{has, number_at, number_of, quantity, quantity_at, text_at, values_at};
 use std::alloc::{AllocError, Global};
 use toml::{Table, Value};
 

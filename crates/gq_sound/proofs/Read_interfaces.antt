@@ -9,7 +9,7 @@ use Rattle.gq_model.specs.machine.Scenario.{Interface, interface_in}
 use Rattle.gq_scenario.specs.Keys.{members_of, table_fault}
 use Rattle.gq_scenario.specs.Tables.{interface_keys}
 use Rattle.gq_scenario.specs.Document.{number_at, list_at, upgrades_of, interface_of, interfaces_of, interfaces_fault, keys_of}
-use Rattle.gq_tables.proofs.Passed.{absent}
+use Rattle.gq_reader.proofs.Passed.{absent}
 use Rattle.gq_reader.proofs.Kept.{kept}
 use Rattle.gq_laws.specs.Ready.{IsWithoutCaps}
 use Rattle.gq_model.proofs.Small.{none_some, some_same, or_first_none}

@@ -11,7 +11,7 @@ use Rattle.gq_scenario.specs.Tables.{greatest_caps, is_declared, leaf_keys, init
 use Rattle.gq_scenario.specs.Document.{value_of, list_at, leaf_of, is_init, init_of, nodes_by, node_onto, first_of, routes_fault, node_fault}
 use Rattle.gq_scenario.specs.Sizes.{leaves_in}
 use Rattle.gq_scenario.proofs.Preorder.{components-leaves_in}
-use Rattle.gq_tables.proofs.Passed.{absent}
+use Rattle.gq_reader.proofs.Passed.{absent}
 use Rattle.gq_reader.proofs.Kept.{AreKept, fits_or_none, kept}
 use Rattle.gq_laws.specs.Shapes.{Each}
 use Rattle.gq_laws.specs.Ready.{AreWithoutCaps}

@@ -2,7 +2,7 @@ use Rattle.std.proofs.Common.{◌≡◌, length, refl, ap, sym, ◌∙◌, arith
 use Rattle.toml.specs.View.{table_view}
 use Rattle.gq_scenario.specs.Trees.{version_number}
 use Rattle.gq_reader.proofs.Interface_tables.{sound_interface}
-use Rattle.gq_tables.proofs.Listed.{listed_length}
+use Rattle.gq_reader.proofs.Listed.{listed_length}
 use Rattle.gq_reader.proofs.interfaces.read_interface.Goals as goal
 
 pub overflow_cast-need : goal.overflow_cast-need

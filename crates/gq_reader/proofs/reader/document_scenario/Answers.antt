@@ -6,7 +6,7 @@ use Rattle.gq_scenario.specs.Made.{IsScenario}
 use Rattle.gq_reader.specs.internal.Parts.{interfaces_at, parts_fault}
 use Rattle.gq_scenario.specs.Words.{Tells}
 use Rattle.gq_reader.proofs.Described.{fault_read}
-use Rattle.gq_tables.proofs.Faults.{tells_none}
+use Rattle.gq_reader.proofs.Faults.{tells_none}
 use Rattle.gq_reader.proofs.Documents.{many_interfaces, parts_left, is_scenario}
 use Rattle.gq_reader.proofs.reader.document_scenario.Goals as goal
 

@@ -3,7 +3,7 @@ use Rattle.toml.specs.Data.{as_table}
 use Rattle.toml.specs.View.{view, table_view}
 use Rattle.gq_scenario.specs.Keys.{table_fault}
 use Rattle.gq_scenario.specs.Tables.{route_keys}
-use Rattle.gq_tables.proofs.Faults.{leaf_none}
+use Rattle.gq_reader.proofs.Faults.{leaf_none}
 use Rattle.gq_reader.proofs.Nodes_read.{route_read}
 use Rattle.gq_reader.proofs.tables.read_routes.Goals as goal
 

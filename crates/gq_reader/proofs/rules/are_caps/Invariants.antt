@@ -1,0 +1,10 @@
+use Rattle.std.proofs.Common.{◌≡◌, drop}
+use Rattle.toml.specs.View.{items_view}
+use Rattle.gq_model.specs.machine.Lists.{all_of}
+use Rattle.gq_scenario.specs.Tables.{greatest_caps}
+use Rattle.gq_scenario.specs.Keys.{is_number, listed}
+use Rattle.gq_reader.proofs.rules.are_caps.Given as goal
+
+abbrev pub invariant-loop-value : goal.invariant-loop-value
+invariant-loop-value l = all_of (is_number 0 greatest_caps) (listed (items_view (drop l.value-index l.values)))
+    ≡ all_of (is_number 0 greatest_caps) (listed (items_view l.values))

@@ -1,8 +1,0 @@
-use Rattle.std.proofs.Common.{◌≡◌, map, drop}
-use Rattle.toml.specs.View.{table_view}
-use Rattle.gq_scenario.specs.Keys.{bad_value}
-use Rattle.gq_tables.specs.Rules.{rule_of}
-use Rattle.gq_tables.proofs.rules.bad_value.Given as goal
-
-abbrev pub invariant-loop-rule : goal.invariant-loop-rule
-invariant-loop-rule l = bad_value (map rule_of (drop l.rule-index l.rules)) (table_view l.table) ≡ bad_value (map rule_of l.rules) (table_view l.table)

@@ -1,8 +1,0 @@
-use Rattle.std.proofs.Common.{◌≡◌, map, drop}
-use Rattle.toml.specs.View.{table_view}
-use Rattle.gq_scenario.specs.Keys.{missing_key}
-use Rattle.gq_tables.specs.Rules.{rule_of}
-use Rattle.gq_tables.proofs.rules.missing_key.Given as goal
-
-abbrev pub invariant-loop-rule : goal.invariant-loop-rule
-invariant-loop-rule l = missing_key (map rule_of (drop l.rule-index l.rules)) (table_view l.table) ≡ missing_key (map rule_of l.rules) (table_view l.table)

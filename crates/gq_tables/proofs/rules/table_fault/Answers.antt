@@ -1,8 +1,0 @@
-use Rattle.std.proofs.Common.{rules}
-use Rattle.gq_tables.proofs.rules.table_fault.Goals as goal
-
-pub returns : goal.returns
-returns c = search rules
-
-pub returns-in-Some : goal.returns-in-Some
-returns-in-Some c = search rules
