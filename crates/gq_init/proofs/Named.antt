@@ -9,7 +9,7 @@ use Rattle.gq_model.specs.machine.Scenario.{Scenario, Component, components}
 use Rattle.gq_model.proofs.Small.{none_some, some_same, none_add, text_is}
 use Rattle.gq_scenario.specs.Document.{names_of, name_twice}
 use Rattle.gq_scenario.proofs.Differing.{names_differ}
-use Rattle.gq_nodes.specs.NodeTables.{LeafRow, leaf_row}
+use Rattle.gq_resolve.specs.NodeTables.{LeafRow, leaf_row}
 
 -- the first of these that bears a name, where they are numbered from k
 record First (k : ℕ) (name : List ℕ) (cs : List Component) : Type 0 where

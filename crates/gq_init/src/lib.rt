@@ -15,7 +15,7 @@ mod turn_list;
 pub mod turn_reader;
 pub mod turns;
 
-pub use gq_nodes::{NodeTable, table};
+pub use gq_resolve::{NodeTable, table};
 pub use gq_reader::{read_scenario, reader};
 pub use gq_resolve::resolve;
 pub use gq_resolve::routes::Routes;

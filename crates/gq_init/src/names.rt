@@ -6,7 +6,7 @@ ghost use Rattle.gq_model.specs.machine.Scenario.{components};
 ghost use Rattle.gq_model.specs.texts.Letters.{is_name};
 ghost use Rattle.gq_init.specs.internal.Ahead.{IsLeafAhead, four_at};
 
-use gq_nodes::NodeTable;
+use gq_resolve::NodeTable;
 use gq_scenario::lines::same_bytes;
 use gq_scenario::scenario::LeafNo;
 

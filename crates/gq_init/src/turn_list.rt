@@ -12,7 +12,7 @@ use crate::names::NameIndex;
 use crate::turns::{TurnsError, next_turn, turn_ahead};
 use gq_model::fault::TurnFault;
 use gq_model::limits::GREATEST_TURNS;
-use gq_nodes::NodeTable;
+use gq_resolve::NodeTable;
 use std::alloc::{AllocError, Global};
 
 // Whether more of a line may come: no line feed ends it, and the text is not the last one.

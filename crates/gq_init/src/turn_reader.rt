@@ -12,7 +12,7 @@ use crate::turn_list::TurnList;
 use crate::turns::TurnsError;
 use gq_model::fault::TurnFault;
 use gq_model::limits::{GREATEST_TURNS, GREATEST_TURNS_TEXT};
-use gq_nodes::NodeTable;
+use gq_resolve::NodeTable;
 use memchr::{memchr, memrchr};
 use std::alloc::{AllocError, Global};
 use std::marker::Model;

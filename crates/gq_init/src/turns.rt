@@ -14,7 +14,7 @@ use crate::turn_list::TurnList;
 use gq_model::fault::TurnFault;
 use gq_model::letters::{is_digit, is_name};
 use gq_model::limits::{GREATEST_TURNS, GREATEST_TURNS_TEXT};
-use gq_nodes::NodeTable;
+use gq_resolve::NodeTable;
 use gq_scenario::lines::{next_line, next_piece};
 use gq_scenario::scenario::LeafNo;
 use memchr::memchr;

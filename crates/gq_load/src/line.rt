@@ -7,7 +7,7 @@ ghost use Rattle.gq_model.specs.rules.Accept.{budget_line, budget_lines_of};
 ghost use Rattle.gq_scenario.specs.Trees.{version_number};
 
 use crate::budget::Budget;
-use gq_nodes::NodeTable;
+use gq_resolve::NodeTable;
 use gq_resolve::component::Component;
 use gq_scenario::scenario::{LeafNo, Version};
 use itoa::Buffer;

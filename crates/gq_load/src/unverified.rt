@@ -1,15 +1,15 @@
 // Scenarios that are read and resolved, but not judged.
 ghost use Rattle.std.specs.Prelude.{◌≡◌, None, Ok, IfOk, IfErr};
 ghost use Rattle.gq_model.specs.machine.Scenario as model;
-ghost use Rattle.gq_nodes.specs.NodeTables.{all_rows};
+ghost use Rattle.gq_resolve.specs.NodeTables.{all_rows};
 ghost use Rattle.gq_load.specs.Faults.{Gives, Refuses};
 ghost use Rattle.gq_load.specs.internal.Judged.{programs_of};
 ghost use Rattle.gq_load.specs.Unverified.{unverified, unverified_fault};
 
 use crate::fault::{LoadError, LoadFault};
 use crate::programs::read_programs;
-use gq_nodes::NodeTable;
-use gq_nodes::table::Entries;
+use gq_resolve::NodeTable;
+use gq_resolve::table::Entries;
 use gq_program::program::Program;
 use gq_reader::reader::read_scenario;
 use gq_resolve::component::components;

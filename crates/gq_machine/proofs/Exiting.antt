@@ -17,7 +17,7 @@ use Rattle.gq_laws.proofs.paying.Servers.{numbered_name}
 use Rattle.gq_statements.specs.Linked.{ProvidesNothing}
 use Rattle.gq_laws.specs.Ready.{IsReady}
 use Rattle.gq_laws.proofs.ready.Servers.{provided}
-use Rattle.gq_nodes.specs.NodeTables.{number_named}
+use Rattle.gq_resolve.specs.NodeTables.{number_named}
 use Rattle.gq_prepared.proofs.endings.Afters.{own_number}
 use Rattle.gq_bytecode.specs.Nexts.{Active}
 use Rattle.gq_bytecode.specs.Views.{state_of}

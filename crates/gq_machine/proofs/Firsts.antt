@@ -8,7 +8,7 @@ use Rattle.gq_model.specs.machine.Routes.{numbered}
 use Rattle.gq_model.specs.machine.Scenario.{Scenario, Component, components}
 use Rattle.gq_model.specs.machine.World.{first_phase}
 use Rattle.gq_model.proofs.Small.{get_within, none_some, some_same}
-use Rattle.gq_nodes.specs.NodeTables.{leaf_rows, number_named}
+use Rattle.gq_resolve.specs.NodeTables.{leaf_rows, number_named}
 use Rattle.gq_laws.specs.Ready.{IsReady}
 use Rattle.gq_prepared.specs.Plans.{first_stage}
 use Rattle.gq_prepared.proofs.Lists.{in_append}

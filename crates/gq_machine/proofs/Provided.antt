@@ -4,7 +4,7 @@ use Rattle.std.specs.Prelude.{is_some, slice_get}
 use Rattle.gq_model.specs.machine.Program.{text_eq}
 use Rattle.gq_model.specs.machine.Scenario.{Component, Interface, Interfaces, Scenario, components, interface_in}
 use Rattle.gq_model.proofs.Small.{none_some}
-use Rattle.gq_nodes.specs.NodeTables.{interface_number, number_named}
+use Rattle.gq_resolve.specs.NodeTables.{interface_number, number_named}
 use Rattle.gq_laws.specs.Ready.{IsReady}
 
 number_in : (k : ℕ) (service : List ℕ) (interfaces : Interfaces) (i : Interface) → interface_in service interfaces ≡ Some i

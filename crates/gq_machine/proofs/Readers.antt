@@ -14,8 +14,8 @@ use Rattle.gq_model.specs.machine.Sums.{held}
 use Rattle.gq_model.specs.machine.World as world
 use Rattle.gq_model.proofs.Small.{get_within, none_some, some_same}
 use Rattle.gq_scenario.specs.Sizes.{leaf_places}
-use Rattle.gq_nodes.specs.NodeTables.{LeafRow, leaf_row, leaf_rows, leaf_rows_of, node_rows}
-use Rattle.gq_nodes.proofs.Rows.{row_at}
+use Rattle.gq_resolve.specs.NodeTables.{LeafRow, leaf_row, leaf_rows, leaf_rows_of, node_rows}
+use Rattle.gq_resolve.proofs.Rows.{row_at}
 use Rattle.gq_trade.specs.Numbers.{IsTaken}
 use Rattle.gq_ram.specs.declared.account.Account.{Account as Stored}
 use Rattle.gq_ram.specs.Entries.{Entries, account_at, no_account, sum_over}

@@ -9,8 +9,8 @@ use Rattle.gq_model.specs.machine.Routes.{numbered}
 use Rattle.gq_model.specs.machine.Scenario.{Scenario, components}
 use Rattle.gq_model.proofs.Small.{some_same}
 use Rattle.gq_laws.proofs.linking.Worlds.{set_else, set_here}
-use Rattle.gq_nodes.specs.NodeTables.{LeafRow, leaf_rows, number_named}
-use Rattle.gq_nodes.proofs.Rows.{row_at}
+use Rattle.gq_resolve.specs.NodeTables.{LeafRow, leaf_rows, number_named}
+use Rattle.gq_resolve.proofs.Rows.{row_at}
 use Rattle.gq_trade.specs.Ends.{is_number}
 use Rattle.gq_leaf.specs.Coded.{Coded}
 use Rattle.gq_leaf.specs.Ends.{exited}

@@ -10,7 +10,7 @@ use crate::state::{Fixed, State};
 use crate::statements::lawful;
 use gq_model::fault::Wrong;
 use gq_model::phase::Phase;
-use gq_nodes::NodeTable;
+use gq_resolve::NodeTable;
 use gq_scenario::scenario::LeafNo;
 use gq_leaf::Leaf;
 

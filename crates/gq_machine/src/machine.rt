@@ -5,7 +5,7 @@ ghost use Rattle.gq_model.specs.machine.Accounts.{accounts};
 ghost use Rattle.gq_model.specs.machine.Scenario.{Component, components, system};
 ghost use Rattle.gq_model.specs.machine.Sums.{held};
 ghost use Rattle.gq_model.specs.machine.World.{first_phase, start};
-ghost use Rattle.gq_nodes.specs.NodeTables.{node_rows};
+ghost use Rattle.gq_resolve.specs.NodeTables.{node_rows};
 ghost use Rattle.gq_laws.specs.Ready.{IsReady};
 ghost use Rattle.gq_bytecode.specs.Programs.{IsCodeOfProgram};
 ghost use Rattle.gq_prepared.specs.Nodes.{caps_of};
@@ -18,7 +18,7 @@ ghost use Rattle.gq_machine.specs.internal.Starts.{AreFirst, ArePrepared, IsFirs
 
 use gq_bytecode::Code;
 use gq_model::phase::Phase;
-use gq_nodes::NodeTable;
+use gq_resolve::NodeTable;
 use gq_prepared::plan_of;
 use gq_prepared::openings::openings;
 use gq_prepared::sections::sections_of;

@@ -1,5 +1,5 @@
 // What a machine has: what is fixed at load, and what changes.
-use gq_nodes::NodeTable;
+use gq_resolve::NodeTable;
 use gq_prepared::{Opening, Services};
 use gq_slots::Slots;
 use gq_leaf::Leaf;

@@ -23,7 +23,7 @@ use Rattle.gq_laws.proofs.paying.Quanta_kept.{start_fits}
 use Rattle.gq_laws.proofs.paying.Servers.{numbered_name}
 use Rattle.gq_laws.specs.Ready.{IsReady}
 use Rattle.gq_scenario.specs.Sizes.{leaf_places}
-use Rattle.gq_nodes.specs.NodeTables.{NodeRow, init_node, node_rows, number_named}
+use Rattle.gq_resolve.specs.NodeTables.{NodeRow, init_node, node_rows, number_named}
 use Rattle.gq_ram.specs.Handing.{tail, spent}
 use Rattle.gq_trade.specs.declared.node.Node.{Node}
 use Rattle.gq_trade.specs.declared.node.Stage.{Stage}
@@ -36,7 +36,7 @@ use Rattle.gq_prepared.specs.Plans.{IsPlanOf, first_stage}
 use Rattle.gq_prepared.proofs.Lists.{get_map}
 use Rattle.gq_prepared.proofs.Sums.{due, row_due, all_spent, length-each_spent, spent_at, fits_at, none_spent}
 use Rattle.gq_prepared.proofs.Spots.{Spot, spot_of, above_at, place_of}
-use Rattle.gq_nodes.proofs.Rows.{length-rows_of, length-leaf_places}
+use Rattle.gq_resolve.proofs.Rows.{length-rows_of, length-leaf_places}
 use Rattle.gq_scenario.proofs.Preorder.{components-count}
 use Rattle.gq_scenario.specs.Sizes.{node_count}
 

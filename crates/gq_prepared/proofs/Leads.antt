@@ -12,8 +12,8 @@ use Rattle.gq_model.specs.machine.Scenario.{Component, Interface, Interfaces, Sc
 use Rattle.gq_model.specs.rules.Use.{services}
 use Rattle.gq_model.proofs.Small.{none_some, some_same, text_is}
 use Rattle.gq_bytecode.specs.Programs.{IsCodeOfProgram, ProgramCode}
-use Rattle.gq_nodes.specs.NodeTables.{interface_number, leaf_row, leaf_rows, opened_server}
-use Rattle.gq_nodes.proofs.Rows.{row_at}
+use Rattle.gq_resolve.specs.NodeTables.{interface_number, leaf_row, leaf_rows, opened_server}
+use Rattle.gq_resolve.proofs.Rows.{row_at}
 use Rattle.gq_laws.specs.Ready.{IsReady}
 use Rattle.gq_prepared.specs.Prepared.{AreOpenings, names_of}
 use Rattle.gq_prepared.specs.internal.Opened.{IsOpened, IsOpenedBy, IsServed}

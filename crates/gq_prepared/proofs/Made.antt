@@ -13,8 +13,8 @@ use Rattle.gq_laws.proofs.paying.Places.{starts_after}
 use Rattle.gq_laws.proofs.paying.Servers.{numbered_name}
 use Rattle.gq_laws.specs.Ready.{IsReady}
 use Rattle.gq_scenario.specs.Sizes.{leaf_places}
-use Rattle.gq_nodes.specs.NodeTables.{NodeRow, LeafRow, node_rows, leaf_row, leaf_rows_of, leaf_rows, number_named}
-use Rattle.gq_nodes.proofs.Rows.{row_at, places-count}
+use Rattle.gq_resolve.specs.NodeTables.{NodeRow, LeafRow, node_rows, leaf_row, leaf_rows_of, leaf_rows, number_named}
+use Rattle.gq_resolve.proofs.Rows.{row_at, places-count}
 use Rattle.gq_trade.specs.declared.node.Node.{Node}
 use Rattle.gq_trade.specs.declared.node.Stage.TheVariants.{Pending, Live}
 use Rattle.gq_trade.specs.Balances.{node_at, no_node}

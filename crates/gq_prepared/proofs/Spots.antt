@@ -10,8 +10,8 @@ use Rattle.gq_model.specs.rules.Resolve.{leaf_child, sibling}
 use Rattle.gq_model.proofs.Small.{some_same, none_some}
 use Rattle.gq_model.proofs.Component_laws.{components_count}
 use Rattle.gq_scenario.specs.Sizes.{node_count, leaf_places}
-use Rattle.gq_nodes.specs.NodeTables.{NodeRow, leaf_node, init_node, rows_of, node_rows}
-use Rattle.gq_nodes.proofs.Rows.{length-rows_of, length-leaf_places}
+use Rattle.gq_resolve.specs.NodeTables.{NodeRow, leaf_node, init_node, rows_of, node_rows}
+use Rattle.gq_resolve.proofs.Rows.{length-rows_of, length-leaf_places}
 use Rattle.gq_laws.proofs.paying.Places.{get_left, get_right}
 use Rattle.gq_prepared.proofs.Lists.{in_append, Stand, stand_left, stand_right, stand_tail, stand_whole}
 

@@ -12,8 +12,8 @@ use Rattle.gq_model.specs.machine.Scenario.{Nodes, End, Leaf_node, Init_node, Sc
 use Rattle.gq_model.specs.machine.World.{World}
 use Rattle.gq_model.proofs.Small.{some_same, none_some}
 use Rattle.gq_scenario.specs.Sizes.{node_count}
-use Rattle.gq_nodes.specs.NodeTables.{NodeRow, rows_of, node_rows}
-use Rattle.gq_nodes.proofs.Rows.{length-rows_of}
+use Rattle.gq_resolve.specs.NodeTables.{NodeRow, rows_of, node_rows}
+use Rattle.gq_resolve.proofs.Rows.{length-rows_of}
 use Rattle.gq_ram.specs.Trees.{Tree}
 use Rattle.gq_ram.specs.Handing.{tail, spent_in, spent}
 use Rattle.gq_trade.specs.declared.node.Node.{Node}

@@ -4,7 +4,7 @@ use Rattle.gq_tariff.specs.declared.amount.Amount.{Amount}
 use Rattle.gq_model.specs.machine.Routes.{numbered}
 use Rattle.gq_model.specs.machine.Scenario.{Scenario, Component, components}
 use Rattle.gq_scenario.specs.Sizes.{leaf_places}
-use Rattle.gq_nodes.specs.NodeTables.{NodeRow, node_rows, number_named}
+use Rattle.gq_resolve.specs.NodeTables.{NodeRow, node_rows, number_named}
 use Rattle.gq_trade.specs.declared.node.Stage.TheVariants.{Live}
 use Rattle.gq_trade.specs.Balances.{node_at}
 use Rattle.gq_trade.specs.Trades.{Trades}

@@ -2,7 +2,7 @@
 use Rattle.std.specs.Prelude.{◌≡◌, ℕ, List, length, get_or, slice_get, Option, Some, None}
 use Rattle.gq_model.specs.machine.Scenario.{Scenario, Component, components}
 use Rattle.gq_scenario.specs.Sizes.{leaf_places}
-use Rattle.gq_nodes.specs.NodeTables.{NodeRow, node_rows}
+use Rattle.gq_resolve.specs.NodeTables.{NodeRow, node_rows}
 use Rattle.gq_trade.specs.declared.node.Node.{Node}
 use Rattle.gq_trade.specs.declared.node.Stage.{Stage}
 use Rattle.gq_trade.specs.declared.node.Stage.TheVariants.{Pending, Live}

@@ -1,7 +1,7 @@
 // Where the open statements of a program lead.
 ghost use Rattle.std.specs.Prelude.{◌≡◌, ◌<◌, length, slice_get, IfOk, IfSome, None};
 ghost use Rattle.gq_model.specs.machine.Scenario.{components};
-ghost use Rattle.gq_nodes.specs.NodeTables.{interface_number};
+ghost use Rattle.gq_resolve.specs.NodeTables.{interface_number};
 ghost use Rattle.gq_laws.specs.Ready.{IsReady};
 ghost use Rattle.gq_bytecode.specs.Programs.{IsCodeOfProgram};
 ghost use Rattle.gq_prepared.specs.Prepared.{AreOpenings};
@@ -11,7 +11,7 @@ use gq_bytecode::Code;
 use gq_bytecode::laws::stated;
 use gq_laws::ready::served;
 use gq_model::program::{Instruction, Name};
-use gq_nodes::NodeTable;
+use gq_resolve::NodeTable;
 use gq_program::interface::Interfaces;
 use gq_scenario::lines::same_bytes;
 use gq_scenario::scenario::LeafNo;

@@ -3,14 +3,14 @@ ghost use Rattle.std.specs.Prelude.{◌≡◌, ◌≤◌, ◌<◌, ℕ, length, 
 ghost use Rattle.gq_model.specs.machine.Scenario.{components};
 ghost use Rattle.gq_scenario.specs.Sizes.{leaf_places};
 ghost use Rattle.gq_scenario.specs.Trees.{version_number};
-ghost use Rattle.gq_nodes.specs.NodeTables.{node_rows};
+ghost use Rattle.gq_resolve.specs.NodeTables.{node_rows};
 ghost use Rattle.gq_laws.specs.Ready.{IsReady};
 ghost use Rattle.gq_trade.specs.Plans.{IsPlan};
 ghost use Rattle.gq_prepared.specs.Nodes.{parents_of, objects_of, caps_of, given_in, or_zero};
 ghost use Rattle.gq_prepared.specs.Plans.{IsPlanOf};
 ghost use Rattle.gq_prepared.specs.internal.Firsts.{first_leaf, first_node};
 
-use gq_nodes::NodeTable;
+use gq_resolve::NodeTable;
 use gq_scenario::node::NodeNo;
 use gq_scenario::scenario::{LeafNo, Quantum, Version};
 use gq_tariff::Amount;

@@ -5,7 +5,7 @@ ghost use Rattle.gq_prepared.specs.Prepared.{AreServices, caps_at};
 ghost use Rattle.gq_prepared.specs.internal.Upgraded.{AreUpgrades, IsUpgrades};
 
 use gq_slots::Addresses;
-use gq_nodes::NodeTable;
+use gq_resolve::NodeTable;
 use gq_program::interface::{Interface, Interfaces, Upgrade};
 use std::alloc::{AllocError, Global};
 use std::marker::Model;

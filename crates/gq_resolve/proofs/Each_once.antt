@@ -5,7 +5,7 @@ use Rattle.gq_model.specs.machine.Program.{text_eq}
 use Rattle.gq_model.specs.machine.Scenario.{Component}
 use Rattle.gq_model.specs.machine.Routes.{route}
 use Rattle.gq_model.specs.rules.Resolve.{Unresolved, unrouted, services_fault}
-use Rattle.gq_routes.specs.Served.{without, once}
+use Rattle.gq_resolve.specs.Served.{without, once}
 use Rattle.gq_model.proofs.Small.{text_is}
 
 module _ (c : Component) where

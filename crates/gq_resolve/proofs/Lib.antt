@@ -6,3 +6,8 @@ pub mod Servers
 pub mod Rows_cycles
 pub mod Items
 pub mod Each_once
+pub mod Opened_services
+pub mod Pushed
+pub mod Name_keys
+pub mod Named
+pub mod Rows

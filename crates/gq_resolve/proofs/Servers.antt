@@ -10,10 +10,10 @@ use Rattle.gq_model.specs.machine.Routes.{server_of}
 use Rattle.gq_model.specs.rules.Use.{services, used_at}
 use Rattle.gq_model.specs.rules.Resolve.{Cycle, routes_fault, cycle_fault}
 use Rattle.gq_resolve.specs.Reaching.{used_there, first_on_cycle}
-use Rattle.gq_routes.specs.Served.{once, entry, served, servers, server_among, leaf_routes, routes_of, server_in, server_told, server_at, AreServers}
+use Rattle.gq_resolve.specs.Served.{once, entry, served, servers, server_among, leaf_routes, routes_of, server_in, server_told, server_at, AreServers}
 use Rattle.gq_resolve.proofs.Providers.{has_server}
 use Rattle.gq_resolve.proofs.Reaching.{AreUsed, led_to, used_by, no_cycle, cycle_found}
-use Rattle.gq_routes.proofs.Opened_services.{any_once}
+use Rattle.gq_resolve.proofs.Opened_services.{any_once}
 use Rattle.std.proofs.lemmas.Option.{slice_get-map}
 use Rattle.gq_model.proofs.Small.{text_is}
 

@@ -1,5 +1,6 @@
-pub use Rattle.gq_routes.specs.Routing
-pub use Rattle.gq_routes.specs.Served
 pub mod Resolved
 pub mod Reaching
 pub mod internal
+pub mod Routing
+pub mod Served
+pub mod NodeTables

@@ -1,2 +1,4 @@
 pub mod Afters
 pub mod Order
+pub mod Keys
+pub mod Kept_tables

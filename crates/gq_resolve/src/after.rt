@@ -8,8 +8,8 @@ ghost use Rattle.gq_resolve.specs.Resolved.{refused};
 
 use crate::fault::ResolveFault;
 use gq_model::program::Name;
-use gq_routes::component::Component;
-use gq_routes::routing::Level;
+use crate::component::Component;
+use crate::routing::Level;
 use gq_scenario::lines::same_bytes;
 use gq_scenario::scenario::{Leaf, Node, Nodes};
 use gq_scenario::tree::copied;

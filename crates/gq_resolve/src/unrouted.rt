@@ -5,18 +5,18 @@ ghost use Rattle.gq_model.specs.rules.Resolve as model;
 ghost use Rattle.gq_model.specs.rules.Resolve.{Unrouted, services_fault, routes_fault};
 ghost use Rattle.gq_model.specs.rules.Use.{services, services_in};
 ghost use Rattle.gq_resolve.specs.Resolved.{Finds, fault_of, refused};
-ghost use Rattle.gq_routes.specs.Routing.{routed_not};
-ghost use Rattle.gq_routes.specs.Served.{entry, server_among, leaf_routes};
+ghost use Rattle.gq_resolve.specs.Routing.{routed_not};
+ghost use Rattle.gq_resolve.specs.Served.{entry, server_among, leaf_routes};
 
 use crate::fault::{ResolveError, ResolveFault};
 use gq_model::program::Name;
 use gq_program::program::Program;
-use gq_routes::component::Component;
-use gq_routes::leaf_names::LeafNames;
-use gq_routes::router::Router;
-use gq_routes::routes::{LeafRoutes, Routes};
-use gq_routes::routing::RouteFault;
-use gq_routes::services::{once, opened};
+use crate::component::Component;
+use crate::leaf_names::LeafNames;
+use crate::router::Router;
+use crate::routes::{LeafRoutes, Routes};
+use crate::routing::RouteFault;
+use crate::services::{once, opened};
 use gq_scenario::tree::copied;
 use std::alloc::{AllocError, Global};
 

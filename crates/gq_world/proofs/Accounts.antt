@@ -14,7 +14,7 @@ use Rattle.gq_model.specs.machine.Accounts.{LeafAccount, Account, leaf_count, le
 use Rattle.gq_model.specs.machine.Accounts.{account_lines}
 use Rattle.gq_model.specs.rules.Accept.{Budget, budgets, step_budgets}
 use Rattle.gq_scenario.specs.Sizes.{node_count}
-use Rattle.gq_nodes.specs.NodeTables.{NodeRow, leaf_node, rows_of, node_rows}
+use Rattle.gq_resolve.specs.NodeTables.{NodeRow, leaf_node, rows_of, node_rows}
 use Rattle.gq_laws.specs.Stands.{Stands}
 use Rattle.gq_world.specs.Worlds as worlds
 use Rattle.gq_lines.specs.Told.{Told, told_of, with_label}

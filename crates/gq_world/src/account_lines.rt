@@ -4,7 +4,7 @@ ghost use Rattle.std.specs.Io.KnownBytes.{Appends};
 ghost use Rattle.gq_model.specs.machine.Accounts.{account_line, account_lines};
 ghost use Rattle.gq_model.specs.machine.Scenario.{components};
 ghost use Rattle.gq_model.specs.rules.Accept.{step_budgets};
-ghost use Rattle.gq_nodes.specs.NodeTables.{node_rows};
+ghost use Rattle.gq_resolve.specs.NodeTables.{node_rows};
 ghost use Rattle.gq_lines.specs.Counts.{written_to, failures_of};
 ghost use Rattle.gq_lines.specs.Writes.{IsFront, IsRaised};
 ghost use Rattle.gq_world.specs.Lines.{accounts_by};

@@ -2,7 +2,7 @@
 ghost use Rattle.std.specs.Prelude.{ℕ, ◌==◌, if◌then◌else◌, ◌≡◌, ◌<◌, length, slice_get, slice_index, IfSome};
 ghost use Rattle.gq_model.specs.machine.Scenario.{components};
 ghost use Rattle.gq_model.specs.rules.Accept.{step_budgets};
-ghost use Rattle.gq_nodes.specs.NodeTables.{node_rows};
+ghost use Rattle.gq_resolve.specs.NodeTables.{node_rows};
 ghost use Rattle.gq_scenario.specs.Trees.{version_number};
 ghost use Rattle.gq_lines.specs.Told.{told_of};
 ghost use Rattle.gq_world.specs.Lines.{accounts_by, TellsOf};

@@ -9,7 +9,7 @@ ghost use Rattle.gq_model.specs.machine.Doing.{Line};
 ghost use Rattle.gq_model.specs.machine.Run.{turns_of};
 ghost use Rattle.gq_model.specs.machine.Step.{next};
 ghost use Rattle.gq_model.specs.rules.Accept as accept;
-ghost use Rattle.gq_nodes.specs.NodeTables.{IsNodeOf, node_rows};
+ghost use Rattle.gq_resolve.specs.NodeTables.{IsNodeOf, node_rows};
 ghost use Rattle.gq_laws.specs.Stands.{Stands};
 ghost use Rattle.gq_prepared.specs.Held.{held_by_all};
 ghost use Rattle.gq_lines.specs.Counts.{written_to, failures_of};

@@ -14,7 +14,7 @@ use Rattle.gq_laws.specs.Resolved.{IsResolved}
 use Rattle.gq_laws.proofs.paying.Places.{not_again}
 use Rattle.gq_laws.proofs.paying.Servers.{numbered_name}
 use Rattle.gq_scenario.specs.Sizes.{leaf_places}
-use Rattle.gq_nodes.specs.NodeTables.{number_named}
+use Rattle.gq_resolve.specs.NodeTables.{number_named}
 use Rattle.gq_prepared.specs.Nodes.{node_after}
 
 -- BY NAMES

@@ -11,8 +11,8 @@ use Rattle.gq_model.specs.machine.Scenario.{Component, Scenario, components, sys
 use Rattle.gq_model.specs.machine.Step.{is_named, released}
 use Rattle.gq_laws.specs.Ready.{IsReady}
 use Rattle.gq_scenario.specs.Sizes.{leaf_places}
-use Rattle.gq_nodes.specs.NodeTables.{NodeRow, node_rows}
-use Rattle.gq_nodes.proofs.Rows.{places-count}
+use Rattle.gq_resolve.specs.NodeTables.{NodeRow, node_rows}
+use Rattle.gq_resolve.proofs.Rows.{places-count}
 use Rattle.gq_trade.specs.Trading.{Trading, node_of}
 use Rattle.gq_trade.specs.declared.node.Node.{Node}
 use Rattle.gq_trade.specs.declared.node.Stage.{Stage}

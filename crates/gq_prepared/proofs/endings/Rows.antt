@@ -5,8 +5,8 @@ use Rattle.gq_model.proofs.Small.{none_some, some_same}
 use Rattle.gq_model.specs.machine.Accounts.{leaf_count}
 use Rattle.gq_model.specs.machine.Scenario.{Nodes, End, Leaf_node, Init_node, Scenario, below}
 use Rattle.gq_scenario.specs.Sizes.{leaf_places, node_count}
-use Rattle.gq_nodes.specs.NodeTables.{NodeRow, init_node, leaf_node, node_rows, rows_of}
-use Rattle.gq_nodes.proofs.Rows.{length-rows_of}
+use Rattle.gq_resolve.specs.NodeTables.{NodeRow, init_node, leaf_node, node_rows, rows_of}
+use Rattle.gq_resolve.proofs.Rows.{length-rows_of}
 
 -- LISTS
 

@@ -18,7 +18,7 @@ use Rattle.gq_model.proofs.Small.{some_same, none_some, get_within}
 use Rattle.gq_laws.specs.Ready.{IsReady}
 use Rattle.gq_scenario.specs.Sizes.{leaf_places}
 use Rattle.gq_scenario.proofs.Preorder.{components-count}
-use Rattle.gq_nodes.specs.NodeTables.{NodeRow, node_rows}
+use Rattle.gq_resolve.specs.NodeTables.{NodeRow, node_rows}
 use Rattle.gq_ram.specs.Trees.{account_of}
 use Rattle.gq_trade.specs.declared.session.Session.{Session}
 use Rattle.gq_trade.specs.declared.session.Spot.TheVariants.{InLeaf}

@@ -9,8 +9,8 @@ use Rattle.gq_model.specs.machine.Sums.{quota}
 use Rattle.gq_model.specs.machine.World.{Leaf, World}
 use Rattle.gq_model.proofs.Small.{some_same, none_some}
 use Rattle.gq_scenario.specs.Sizes.{node_count}
-use Rattle.gq_nodes.specs.NodeTables.{NodeRow, rows_of, node_rows}
-use Rattle.gq_nodes.proofs.Rows.{length-rows_of}
+use Rattle.gq_resolve.specs.NodeTables.{NodeRow, rows_of, node_rows}
+use Rattle.gq_resolve.proofs.Rows.{length-rows_of}
 use Rattle.gq_laws.proofs.paying.Places.{get_left, get_right}
 use Rattle.gq_prepared.proofs.Lists.{in_both}
 use Rattle.gq_prepared.proofs.Sums.{all_spent, each_spent, length-each_spent}

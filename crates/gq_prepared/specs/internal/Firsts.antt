@@ -2,7 +2,7 @@
 use Rattle.std.specs.Prelude.{ℕ, Option, Some, None, slice_get}
 use Rattle.gq_tariff.specs.declared.amount.Amount.{Amount}
 use Rattle.gq_model.specs.machine.Scenario.{Scenario, Component, components}
-use Rattle.gq_nodes.specs.NodeTables.{NodeRow}
+use Rattle.gq_resolve.specs.NodeTables.{NodeRow}
 use Rattle.gq_trade.specs.declared.node.Node.{Node}
 use Rattle.gq_trade.specs.declared.node.Stage.TheVariants.{Live}
 use Rattle.gq_trade.specs.Balances.{no_node}

@@ -3,7 +3,7 @@ use Rattle.std.specs.Prelude.{◌≡◌, ℕ, ◌<◌, List, [], length, get_or,
 use Rattle.gq_model.specs.declared.program.Instruction.{Instruction}
 use Rattle.gq_model.specs.declared.program.Instruction.TheVariants.{Open}
 use Rattle.gq_model.specs.machine.Scenario.{Component, Scenario, interface_in, open_caps, system}
-use Rattle.gq_nodes.specs.NodeTables.{opened_server}
+use Rattle.gq_resolve.specs.NodeTables.{opened_server}
 use Rattle.gq_prepared.specs.Prepared.{names_of}
 use Rattle.gq_prepared.specs.declared.openings.Opening.{Opening}
 

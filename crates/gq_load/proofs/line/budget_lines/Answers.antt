@@ -2,8 +2,8 @@ use Rattle.std.proofs.Common.{◌≡◌, ◌∙◌, ◌<◌, ◌+◌, ℕ, List,
 use Rattle.std.specs.Prelude.{IfSome, slice_get}
 use Rattle.gq_model.specs.machine.Scenario.{components}
 use Rattle.gq_model.specs.rules.Accept.{budget_line, budget_lines_of}
-use Rattle.gq_nodes.specs.NodeTables.{IsNodeOf, node_rows}
-use Rattle.gq_nodes.proofs.Rows.{leaf_at, label_of_node}
+use Rattle.gq_resolve.specs.NodeTables.{IsNodeOf, node_rows}
+use Rattle.gq_resolve.proofs.Rows.{leaf_at, label_of_node}
 use Rattle.gq_load.proofs.Loads.{here_is}
 use Rattle.gq_load.proofs.line.budget_lines.Goals as goal
 

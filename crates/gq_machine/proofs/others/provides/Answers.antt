@@ -2,8 +2,8 @@
 use Rattle.std.proofs.Common.{◌≡◌, ◌<◌, ℕ, Bool, length, Option, refl, sym, ap, subst, ◌∙◌}
 use Rattle.std.specs.Prelude.{IfSome, is_some, slice_get}
 use Rattle.gq_model.specs.machine.Scenario.{Component, Scenario, components}
-use Rattle.gq_nodes.specs.NodeTables.{LeafRow, interface_number, leaf_rows, number_named}
-use Rattle.gq_nodes.proofs.Rows.{row_at}
+use Rattle.gq_resolve.specs.NodeTables.{LeafRow, interface_number, leaf_rows, number_named}
+use Rattle.gq_resolve.proofs.Rows.{row_at}
 use Rattle.gq_laws.specs.Ready.{IsReady}
 use Rattle.gq_machine.proofs.Provided.{named_some}
 use Rattle.gq_machine.proofs.others.provides.Goals as goal

@@ -1,5 +1,5 @@
 use Rattle.std.proofs.Common.{◌≡◌, drop}
-use Rattle.gq_nodes.specs.NodeTables.{interface_number}
+use Rattle.gq_resolve.specs.NodeTables.{interface_number}
 use Rattle.gq_prepared.proofs.openings.interface_number.Given as goal
 
 -- the interface is among those that are left, or nowhere

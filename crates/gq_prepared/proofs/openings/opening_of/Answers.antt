@@ -2,7 +2,7 @@ use Rattle.std.proofs.Common.{◌≡◌, ◌<◌, ◌∙◌, length, List, ℕ, 
 use Rattle.std.specs.Prelude.{slice_get}
 use Rattle.std.proofs.lemmas.Option.{slice_get_read}
 use Rattle.gq_model.specs.machine.Scenario.{Interface}
-use Rattle.gq_nodes.specs.NodeTables.{interface_number}
+use Rattle.gq_resolve.specs.NodeTables.{interface_number}
 use Rattle.gq_prepared.proofs.Leads.{opened_nowhere, opened_there, within_found}
 use Rattle.gq_prepared.proofs.Named.{few}
 use Rattle.gq_prepared.proofs.openings.opening_of.Goals as goal

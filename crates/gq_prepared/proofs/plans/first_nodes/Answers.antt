@@ -1,6 +1,6 @@
 use Rattle.std.proofs.Common.{ℕ, subst, arith, map, IfSome}
 use Rattle.std.specs.Prelude.{◌≡◌, slice_get}
-use Rattle.gq_nodes.specs.NodeTables.{node_rows}
+use Rattle.gq_resolve.specs.NodeTables.{node_rows}
 use Rattle.gq_prepared.specs.internal.Firsts.{first_node}
 use Rattle.gq_prepared.proofs.Lists.{push_map}
 use Rattle.gq_prepared.proofs.plans.first_nodes.Goals as goal

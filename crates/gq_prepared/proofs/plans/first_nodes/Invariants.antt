@@ -1,5 +1,5 @@
 use Rattle.std.proofs.Common.{◌≡◌, ◌++◌, map, drop}
-use Rattle.gq_nodes.specs.NodeTables.{node_rows}
+use Rattle.gq_resolve.specs.NodeTables.{node_rows}
 use Rattle.gq_prepared.specs.internal.Firsts.{first_node}
 use Rattle.gq_prepared.proofs.plans.first_nodes.Given as goal
 

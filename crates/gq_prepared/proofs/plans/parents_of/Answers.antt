@@ -1,6 +1,6 @@
 use Rattle.std.proofs.Common.{ℕ, subst, arith, IfSome}
 use Rattle.std.specs.Prelude.{◌≡◌, slice_get}
-use Rattle.gq_nodes.specs.NodeTables.{NodeRow, node_rows}
+use Rattle.gq_resolve.specs.NodeTables.{NodeRow, node_rows}
 use Rattle.gq_prepared.specs.Nodes.{or_zero, parents_of}
 use Rattle.gq_prepared.proofs.Lists.{push_map}
 use Rattle.gq_prepared.proofs.plans.parents_of.Goals as goal

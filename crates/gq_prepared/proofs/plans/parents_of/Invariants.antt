@@ -1,5 +1,5 @@
 use Rattle.std.proofs.Common.{◌≡◌, ◌++◌, map, drop}
-use Rattle.gq_nodes.specs.NodeTables.{NodeRow, node_rows}
+use Rattle.gq_resolve.specs.NodeTables.{NodeRow, node_rows}
 use Rattle.gq_prepared.specs.Nodes.{or_zero, parents_of}
 use Rattle.gq_prepared.proofs.plans.parents_of.Given as goal
 

@@ -2,8 +2,8 @@ use Rattle.std.proofs.Common.{List, [], ◌∷◌, ◌++◌, ◌+◌, ◌∙◌,
 use Rattle.gq_model.specs.rules.Resolve.{routes_fault}
 use Rattle.gq_model.specs.machine.Scenario.{Component}
 use Rattle.gq_model.specs.machine.Lists.{or_first}
-use Rattle.gq_routes.specs.Served.{leaf_routes}
-use Rattle.gq_routes.proofs.Pushed.{next_is, onto}
+use Rattle.gq_resolve.specs.Served.{leaf_routes}
+use Rattle.gq_resolve.proofs.Pushed.{next_is, onto}
 use Rattle.gq_model.specs.rules.Use.{services}
 use Rattle.gq_resolve.proofs.Items.{same_item}
 use Rattle.gq_resolve.proofs.unrouted.all_routes.Goals as goal

@@ -1,6 +1,6 @@
 use Rattle.std.proofs.Common.{◌≡◌, ◌++◌, drop, map}
 use Rattle.gq_model.specs.rules.Resolve.{routes_fault}
-use Rattle.gq_routes.specs.Served.{leaf_routes}
+use Rattle.gq_resolve.specs.Served.{leaf_routes}
 use Rattle.gq_resolve.proofs.unrouted.all_routes.Given as goal
 
 abbrev pub invariant-loop-place : goal.invariant-loop-place

@@ -1,7 +1,7 @@
 use Rattle.std.proofs.Common.{◌++◌, ◌∙◌, ap, List, ℕ, sym}
 use Rattle.gq_model.specs.rules.Resolve.{services_fault}
 use Rattle.gq_model.specs.rules.Use.{services}
-use Rattle.gq_routes.specs.Served.{once, served, server_among}
+use Rattle.gq_resolve.specs.Served.{once, served, server_among}
 use Rattle.gq_resolve.proofs.Each_once.{fault_once}
 use Rattle.gq_resolve.proofs.unrouted.leaf_routes.Goals as goal
 

@@ -1,7 +1,7 @@
 use Rattle.std.proofs.Common.{◌≡◌, ◌++◌}
 use Rattle.gq_model.specs.rules.Resolve.{services_fault}
 use Rattle.gq_model.specs.rules.Use.{services}
-use Rattle.gq_routes.specs.Served.{served, server_among, leaf_routes}
+use Rattle.gq_resolve.specs.Served.{served, server_among, leaf_routes}
 use Rattle.gq_resolve.proofs.unrouted.leaf_routes.Given as goal
 
 -- the services that are left end the routes, and the first fault is among them

@@ -3,7 +3,7 @@ use Rattle.std.specs.Prelude.{slice_get}
 use Rattle.gq_model.specs.machine.Scenario.{Scenario}
 use Rattle.gq_model.specs.rules.Accept.{step_budgets}
 use Rattle.gq_scenario.specs.Trees.{version_number}
-use Rattle.gq_nodes.specs.NodeTables.{node_rows}
+use Rattle.gq_resolve.specs.NodeTables.{node_rows}
 use Rattle.gq_world.specs.Lines.{accounts_by}
 use Rattle.gq_world.proofs.Accounts.{account_at_node, line_is}
 use Rattle.gq_world.proofs.account_lines.line_of.Goals as goal

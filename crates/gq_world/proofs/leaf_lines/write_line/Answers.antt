@@ -3,8 +3,8 @@ use Rattle.std.specs.Prelude.{slice_get, OnErr}
 use Rattle.gq_model.specs.machine.Doing as doing
 use Rattle.gq_model.specs.machine.Run.{line_of}
 use Rattle.gq_model.specs.machine.Scenario.{Component, components}
-use Rattle.gq_nodes.specs.NodeTables.{node_rows}
-use Rattle.gq_nodes.proofs.Rows.{leaf_at, label_of_node}
+use Rattle.gq_resolve.specs.NodeTables.{node_rows}
+use Rattle.gq_resolve.proofs.Rows.{leaf_at, label_of_node}
 use Rattle.gq_lines.specs.Writes.{IsFront}
 use Rattle.gq_world.specs.Worlds.{line_told}
 use Rattle.gq_world.proofs.Turns.{label_told}

@@ -4,7 +4,7 @@ use Rattle.gq_model.specs.machine.Accounts.{accounts}
 use Rattle.gq_model.specs.machine.Scenario.{Scenario}
 use Rattle.gq_model.specs.machine.World.{World}
 use Rattle.gq_model.specs.rules.Accept.{step_budgets}
-use Rattle.gq_nodes.specs.NodeTables.{node_rows}
+use Rattle.gq_resolve.specs.NodeTables.{node_rows}
 use Rattle.gq_world.specs.Lines.{accounts_by}
 use Rattle.gq_world.proofs.Accounts.{LeafRead, account_at_node, leaf_within, told_is}
 use Rattle.gq_world.proofs.node_accounts.account_of.Goals as goal

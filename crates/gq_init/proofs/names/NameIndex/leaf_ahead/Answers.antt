@@ -4,9 +4,9 @@ use Rattle.std.proofs.lemmas.List.{drop_more, take_rest}
 use Rattle.gq_model.specs.machine.Scenario.{Scenario}
 use Rattle.gq_model.specs.texts.Letters.{is_name}
 use Rattle.gq_scenario.specs.Document.{names_of, name_twice}
-use Rattle.gq_nodes.specs.NodeTables.{leaf_rows}
+use Rattle.gq_resolve.specs.NodeTables.{leaf_rows}
 use Rattle.gq_init.proofs.Ahead.{name_is_some, same_name}
-use Rattle.gq_nodes.proofs.Rows.{row_at}
+use Rattle.gq_resolve.proofs.Rows.{row_at}
 use Rattle.gq_init.proofs.Named.{name_in_row, numbered_there}
 use Rattle.gq_init.proofs.names.NameIndex.leaf_ahead.Goals as goal
 

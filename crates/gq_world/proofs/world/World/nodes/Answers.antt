@@ -1,5 +1,5 @@
 use Rattle.std.proofs.Common.{◌∙◌, ap, sym, length}
-use Rattle.gq_nodes.specs.NodeTables.{node_rows}
+use Rattle.gq_resolve.specs.NodeTables.{node_rows}
 use Rattle.gq_world.proofs.Accounts.{all_count, leaves_count}
 use Rattle.gq_world.proofs.Turns.{stands_seen}
 use Rattle.gq_world.proofs.world.World.nodes.Goals as goal

@@ -1,2 +1,0 @@
-pub mod NodeTables
-pub mod internal

@@ -1,0 +1,36 @@
+// Numbers that are made of names: names with other numbers are other ones, so that a search among many goes over numbers.
+ghost use Rattle.std.specs.Prelude.{◌≡◌};
+ghost use Rattle.gq_model.specs.machine.Program.{text_eq};
+ghost use Rattle.gq_program.specs.Keys.{AreWithin, key_of};
+ghost use Rattle.gq_resolve.specs.internal.Keys.{node_key, keys_of};
+
+use gq_model::program::Name;
+use gq_program::keys::key_of;
+use gq_program::places::Places;
+use gq_scenario::lines::same_bytes;
+use gq_scenario::scenario::{Node, Nodes};
+
+// The number of the service that a node provides; 0 where it provides none.
+fn node_key(node: &Node) -> u64
+    ensures { result ≡ node_key node.now }
+{
+    let provided = match node {
+        Node::Leaf(leaf) => leaf.provides(),
+        Node::Init(..) => None,
+    };
+    match provided {
+        Some(service) => key_of(service.as_bytes()),
+        None => 0,
+    }
+}
+
+// Where services may stand among these, by the numbers of their names.
+pub(crate) fn places_of(siblings: &Nodes) -> Places
+    ensures { AreWithin result (keys_of siblings.now) }
+{
+    let mut places = Places::new();
+    for (place, node) in siblings.nodes().iter().enumerate() {
+        places.put(node_key(node), place);
+    }
+    places
+}

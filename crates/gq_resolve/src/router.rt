@@ -1,0 +1,114 @@
+// Where services of a component lead, of which many are asked for.
+ghost use Rattle.std.specs.Prelude.{◌≡◌};
+ghost use Rattle.gq_model.specs.machine.Routes.{providers, only, route};
+ghost use Rattle.gq_resolve.specs.Routing.{routed};
+ghost use Rattle.gq_program.specs.Keys.{AreWithin};
+ghost use Rattle.gq_resolve.specs.internal.Keys.{keys_of, first_keys};
+
+use crate::keys::places_of;
+use crate::routing::{Level, RouteFault, first_target, provider, route};
+use gq_model::program::Name;
+use gq_program::keys::key_of;
+use gq_program::places::Places;
+use gq_scenario::scenario::{Nodes, Target};
+use std::marker::Model;
+
+// For fewer services than these the siblings are gone through one by one.
+const MANY: usize = 4;
+
+// Where services may stand among the siblings at the first of these levels.
+fn first_places(levels: &[Level<'_>]) -> Places
+    ensures { AreWithin result (first_keys levels.now) }
+{
+    match levels.first() {
+        Some(level) => places_of(level.siblings()),
+        None => Places::new(),
+    }
+}
+
+// The only one of these children that provides the service, by where it may stand.
+fn only_by<'a>(service: &Name, siblings: &'a Nodes, places: &Places) -> Result<&'a Name, RouteFault>
+    requires { AreWithin places.now (keys_of siblings.now) }
+    ensures { routed result ≡ only (providers service.now siblings.now) }
+{
+    let nodes = siblings.nodes();
+    let (first, end) = places.range(key_of(service.as_bytes()), nodes.len());
+    let mut found: Option<&'a Name> = None;
+    for place in first..end {
+        if let Some(name) = provider(&nodes[place], service) {
+            if found.is_some() {
+                return Err(RouteFault::Ambiguous);
+            }
+            found = Some(name);
+        }
+    }
+    match found {
+        Some(name) => Ok(name),
+        None => Err(RouteFault::NoRoute),
+    }
+}
+
+// Where a service leads, by where services may stand among the siblings at the first level.
+fn route_by<'a>(
+    levels: &[Level<'a>],
+    places: &Places,
+    service: &Name,
+) -> Result<&'a Name, RouteFault>
+    requires { AreWithin places.now (first_keys levels.now) }
+    ensures { routed result ≡ route levels.now service.now }
+{
+    if let Some(level) = levels.first() {
+        if let Some(Target::AnyChild) = first_target(level.routes(), service) {
+            return only_by(service, level.siblings(), places);
+        }
+    }
+    route(levels, service)
+}
+
+/// The levels of a component, its own init's first, for the routes of its services. Where these are many, it is told where services may stand among its
+/// siblings.
+#[derive(Drop)]
+pub struct Router<'l, 'a> {
+    levels: &'l [Level<'a>],
+    places: Option<Places>,
+}
+
+impl<'l, 'a> Model for Router<'l, 'a> {
+    ghost use Rattle.std.specs.Prelude.{List};
+    ghost use Rattle.std.specs.Coded.{codes};
+    ghost use Rattle.gq_model.specs.machine.Scenario.{Level};
+    ghost use Rattle.gq_model.specs.internal.Stored.{statements_code, nodes_code};
+    ghost use Rattle.gq_resolve.specs.internal.Keys.{AreTold};
+
+    ghost Value = { List Level };
+
+    ghost coded = { Prim.hlevel (codes, nodes_code (Prim.hlevel (codes, statements_code (Prim.hlevel codes))) (Prim.hlevel codes)) };
+
+    ghost view = { λ r. r.levels.now };
+
+    ghost invariant = { λ r. AreTold r.places r.levels.now };
+}
+
+impl<'l, 'a> Router<'l, 'a> {
+    /// These levels, to be asked for the routes of so many services. It takes no host memory.
+    pub fn new(levels: &'l [Level<'a>], services: usize) -> Router<'l, 'a>
+        ensures { result ≡ levels.now }
+    {
+        let places = if services < MANY {
+            None
+        } else {
+            Some(first_places(levels))
+        };
+        Router { levels, places }
+    }
+
+    /// The name of the leaf to which a service leads, as `route` tells it by these levels; and its refusals.
+    pub fn route(&self, service: &Name) -> Result<&'a Name, RouteFault>
+        ensures { routed result ≡ route self.now service.now }
+    {
+        match &self.places {
+            Some(places) => route_by(self.levels, places, service),
+            None => route(self.levels, service),
+        }
+    }
+}

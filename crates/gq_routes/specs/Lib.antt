@@ -1,3 +1,0 @@
-pub mod Routing
-pub mod Served
-pub mod internal
