@@ -1,9 +1,9 @@
 -- What a command does: what it reads, writes and tells.
 use Rattle.std.specs.Prelude.{◌≡◌, ◌⊎◌, ℕ, ◌≤◌, Bool, true, false, List, [], length, Option, Ok, Err, codes, string_bytes}
 use Rattle.std.specs.Io.KnownBytes.{Appends, Consumes, IsAtEnd}
-use Rattle.gq_lines.specs.declared.counted.Counted.{Counted}
-use Rattle.gq_lines.specs.Counts.{written_to, failures_of}
-use Rattle.gq_lines.specs.Writes.{IsFront, IsRaised}
+use Rattle.gq_init.specs.declared.counted.Counted.{Counted}
+use Rattle.gq_init.specs.Counts.{written_to, failures_of}
+use Rattle.gq_init.specs.Writes.{IsFront, IsRaised}
 use Rattle.gq_world.specs.Whole.{Written, refused_with, run_written, check_written, asm_written}
 use Rattle.gq_world.specs.Headline.{WritesPromised}
 use Rattle.gq_input.specs.Stored.{parted}

@@ -1,7 +1,7 @@
 //! Doing what a command line asks for.
 ghost use Rattle.std.specs.Prelude.{◌≡◌, ◌≢◌, ◌⊎◌, true, false, string_bytes, Ok, Err, IfErr, OnOk};
-ghost use Rattle.gq_lines.specs.Counts.{written_to, failures_of};
-ghost use Rattle.gq_lines.specs.Writes.{IsRaised};
+ghost use Rattle.gq_init.specs.Counts.{written_to, failures_of};
+ghost use Rattle.gq_init.specs.Writes.{IsRaised};
 ghost use Rattle.gq_world.specs.Outcomes.{GivesOf, IsCutShort, IsWhole};
 ghost use Rattle.gq_world.specs.Whole.{run_written};
 ghost use Rattle.gq_world.specs.Headline.{WritesPromised};
@@ -18,7 +18,7 @@ use gq_command::command::Command;
 use gq_command::status::Status;
 use gq_input::input::{InputError, read_input};
 use gq_input::stored::parted;
-use gq_lines::counted::{Counted, put};
+use gq_init::counted::{Counted, put};
 use gq_world::asm::asm;
 use gq_world::check::check;
 use gq_world::fault::RunFault;

@@ -4,3 +4,4 @@ pub mod Counts
 pub mod Named
 pub mod Ahead
 pub mod Fronts
+pub mod Known

@@ -9,7 +9,7 @@ ghost use Rattle.gq_machine.specs.declared.event.Event.TheVariants as event;
 
 use crate::machine::Machine;
 use arrayvec::ArrayVec;
-use gq_lines::lines::Lines;
+use gq_init::lines::Lines;
 use gq_model::fault::Wrong;
 use gq_scenario::scenario::LeafNo;
 use crate::statements::lawful;

@@ -9,8 +9,8 @@ use Rattle.gq_model.specs.machine.Run.{Ran, after_step, turn_from, turns_of, run
 use Rattle.gq_model.specs.machine.Scenario.{Scenario, System, system}
 use Rattle.gq_model.specs.machine.Step.{next}
 use Rattle.gq_model.specs.machine.World.{World}
-use Rattle.gq_lines.specs.Writes.{IsFront}
-use Rattle.gq_lines.proofs.Known.{appends_nothing, appends_both}
+use Rattle.gq_init.specs.Writes.{IsFront}
+use Rattle.gq_init.proofs.Known.{appends_nothing, appends_both}
 use Rattle.gq_world.specs.Worlds.{line_told}
 use Rattle.gq_world.specs.internal.Going.{going}
 use Rattle.gq_world.proofs.Going.{joined}

@@ -13,8 +13,8 @@ use Rattle.gq_load.specs.Unverified.{unverified}
 use Rattle.gq_load.specs.Faults.{Refuses}
 use Rattle.gq_load.specs.declared.fault.LoadError.{LoadError}
 use Rattle.gq_load.specs.declared.fault.LoadError.TheVariants as error
-use Rattle.gq_lines.specs.Writes.{IsFront}
-use Rattle.gq_lines.proofs.Known.{appends_both}
+use Rattle.gq_init.specs.Writes.{IsFront}
+use Rattle.gq_init.proofs.Known.{appends_both}
 use Rattle.gq_world.specs.Lines.{accounts_by}
 use Rattle.gq_world.specs.Outcomes.{run_fault_of}
 use Rattle.gq_world.specs.Whole.{refused_with, turn_fault_text}

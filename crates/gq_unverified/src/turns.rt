@@ -2,14 +2,14 @@
 ghost use Rattle.std.specs.Prelude.{◌≡◌, ◌<◌, length, IfOk, IfSome, OnOk, OnErr};
 ghost use Rattle.gq_model.specs.machine.Run.{turns_of, run_on};
 ghost use Rattle.gq_model.specs.machine.Scenario.{components, system};
-ghost use Rattle.gq_lines.specs.Counts.{written_to, failures_of};
-ghost use Rattle.gq_lines.specs.Writes.{IsRaised};
+ghost use Rattle.gq_init.specs.Counts.{written_to, failures_of};
+ghost use Rattle.gq_init.specs.Writes.{IsRaised};
 ghost use Rattle.gq_world.specs.internal.Going.{AreBelow};
 ghost use Rattle.gq_unverified.specs.internal.Taking.{HasCome, HasRoom, IsCut, IsNear, turns_in};
 
 use arrayvec::ArrayVec;
 use gq_laws::turns::turn_laws;
-use gq_lines::counted::{Counted, WriteFault};
+use gq_init::counted::{Counted, WriteFault};
 use gq_machine::event::Event;
 use gq_machine::machine::Machine;
 use gq_model::fault::Wrong;

@@ -5,8 +5,8 @@ use Rattle.std.specs.Io.KnownBytes.{Appends}
 use Rattle.std.proofs.lemmas.List.{take-append-drop}
 use Rattle.std.proofs.Math.Seq.{take-append_seam, take-length}
 use Rattle.gq_model.specs.machine.Accounts.{Account, account_line, account_lines}
-use Rattle.gq_lines.specs.Writes.{IsFront}
-use Rattle.gq_lines.proofs.Known.{appends_both}
+use Rattle.gq_init.specs.Writes.{IsFront}
+use Rattle.gq_init.proofs.Known.{appends_both}
 use Rattle.gq_world.proofs.Accounts.{lines_next}
 
 -- what a text begins with is a front of it

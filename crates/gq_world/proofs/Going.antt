@@ -12,9 +12,9 @@ use Rattle.gq_model.specs.machine.Step.{next}
 use Rattle.gq_model.specs.machine.Run.{Ran, label_at, line_of, after_step, turn_from, turns_of, run_on}
 use Rattle.gq_machine.proofs.Several.{turns_then}
 use Rattle.gq_world.specs.Worlds.{World}
-use Rattle.gq_lines.specs.Writes.{IsFront}
+use Rattle.gq_init.specs.Writes.{IsFront}
 use Rattle.gq_world.specs.internal.Going.{going, AreBelow, HasRun, HasLeft, IsCut}
-use Rattle.gq_lines.proofs.Known.{appends_nothing, appends_both}
+use Rattle.gq_init.proofs.Known.{appends_nothing, appends_both}
 
 -- TEXTS GROW
 

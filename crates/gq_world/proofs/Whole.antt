@@ -8,7 +8,7 @@ use Rattle.gq_model.specs.declared.fault.Wrong.{Wrong}
 use Rattle.gq_model.specs.machine.Run.{Ran, run, run_on}
 use Rattle.gq_model.specs.rules.Accept.{budgets, step_budgets}
 use Rattle.gq_model.specs.machine.Accounts.{accounts, account_lines, text_of}
-use Rattle.gq_lines.specs.Writes.{IsFront}
+use Rattle.gq_init.specs.Writes.{IsFront}
 use Rattle.gq_world.specs.Worlds.{World}
 use Rattle.gq_world.specs.internal.Going.{going, HasRun, IsCut}
 use Rattle.gq_world.specs.Lines.{accounts_by, all_accounts, accounts_text}
@@ -27,7 +27,7 @@ use Rattle.gq_world.specs.Outcomes.{IsFaultOf, GivesOf}
 use Rattle.gq_world.specs.Whole.{Written, whole_of, refused_with, turn_fault_text, with_scenario, written_turns, run_written}
 use Rattle.gq_world.specs.internal.Going.{AreBelow}
 use Rattle.gq_world.proofs.Below.{AreBelowIn, turned_below}
-use Rattle.gq_lines.proofs.Known.{appends_both}
+use Rattle.gq_init.proofs.Known.{appends_both}
 use Rattle.gq_world.proofs.Fronts.{front_by, front_after}
 
 -- the text of what ran, and the rest of the whole

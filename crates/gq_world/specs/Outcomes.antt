@@ -7,7 +7,7 @@ use Rattle.gq_load.specs.declared.fault.LoadError.{LoadError}
 use Rattle.gq_load.specs.declared.fault.LoadError.TheVariants as error
 use Rattle.gq_world.specs.declared.fault.RunFault.{RunFault}
 use Rattle.gq_world.specs.declared.fault.RunFault.TheVariants.{Load, NoComponent, Turns, Memory, Write}
-use Rattle.gq_lines.specs.Writes.{IsFront}
+use Rattle.gq_init.specs.Writes.{IsFront}
 use Rattle.gq_world.specs.Whole.{Written, refused_with, turn_fault_text}
 
 -- the line that a fault prints

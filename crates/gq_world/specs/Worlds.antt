@@ -8,7 +8,7 @@ use Rattle.gq_model.specs.machine.Step.{next}
 use Rattle.gq_model.specs.machine.Run.{label_at, line_of}
 use Rattle.gq_machine.specs.declared.event.Event.{Event}
 use Rattle.gq_machine.specs.declared.event.Event.TheVariants as events
-use Rattle.gq_lines.specs.Writes.{IsFront}
+use Rattle.gq_init.specs.Writes.{IsFront}
 
 -- an accepted scenario, the world of the account machine, and whether a turn has stopped it
 pub record World : Type 0 where

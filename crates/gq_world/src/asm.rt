@@ -3,15 +3,15 @@ ghost use Rattle.std.specs.Prelude.{◌≡◌, ◌∷◌, ◌++◌, [], Ok, Err,
 ghost use Rattle.gq_model.specs.texts.Code.{code_of, hex_of};
 ghost use Rattle.gq_load.specs.Faults.{Gives};
 ghost use Rattle.gq_load.specs.Load.{source_fault};
-ghost use Rattle.gq_lines.specs.Counts.{written_to, failures_of};
+ghost use Rattle.gq_init.specs.Counts.{written_to, failures_of};
 ghost use Rattle.gq_world.specs.Outcomes.{IsBefore, IsCutShort, IsFaultOf, IsWhole};
 ghost use Rattle.gq_world.specs.Whole.{asm_from, asm_written};
-ghost use Rattle.gq_lines.specs.Writes.{IsRaised};
+ghost use Rattle.gq_init.specs.Writes.{IsRaised};
 ghost use Rattle.gq_world.specs.declared.fault.RunFault.TheVariants as fault;
 
 use crate::fault::RunFault;
 use gq_code::program_code::encode;
-use gq_lines::counted::{Counted, put};
+use gq_init::counted::{Counted, put};
 use gq_load::fault::{LoadError, LoadFault};
 use gq_load::named::leaf_named;
 use gq_load::programs::read_program;

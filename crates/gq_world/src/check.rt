@@ -2,13 +2,13 @@
 ghost use Rattle.std.specs.Prelude.{◌≡◌, Ok, Err, IfOk, IfErr, OnOk};
 ghost use Rattle.gq_load.specs.Faults.{Refuses};
 ghost use Rattle.gq_load.specs.Load.{loaded};
-ghost use Rattle.gq_lines.specs.Counts.{written_to, failures_of};
+ghost use Rattle.gq_init.specs.Counts.{written_to, failures_of};
 ghost use Rattle.gq_world.specs.Outcomes.{IsBefore, IsCutShort, IsFaultOf, IsWhole};
 ghost use Rattle.gq_world.specs.Whole.{check_written};
-ghost use Rattle.gq_lines.specs.Writes.{IsRaised};
+ghost use Rattle.gq_init.specs.Writes.{IsRaised};
 
 use crate::fault::RunFault;
-use gq_lines::counted::{Counted, put};
+use gq_init::counted::{Counted, put};
 use gq_load::checked::checked_lines;
 use gq_load::fault::LoadError;
 use std::alloc::Global;

@@ -3,13 +3,13 @@ ghost use Rattle.std.specs.Prelude.{◌≡◌, ◌<◌, ◌≤◌, length, OnOk,
 ghost use Rattle.std.specs.Io.KnownBytes.{Appends};
 ghost use Rattle.gq_model.specs.machine.Doing as doing;
 ghost use Rattle.gq_model.specs.machine.Scenario.{components};
-ghost use Rattle.gq_lines.specs.Counts.{written_to, failures_of};
-ghost use Rattle.gq_lines.specs.Writes.{IsFront, IsRaised};
+ghost use Rattle.gq_init.specs.Counts.{written_to, failures_of};
+ghost use Rattle.gq_init.specs.Writes.{IsFront, IsRaised};
 ghost use Rattle.gq_world.specs.Worlds.{line_told};
 
 use gq_init::NodeTable;
-use gq_lines::counted::{Counted, WriteFault, put};
-use gq_lines::leaf_line::LeafLine;
+use gq_init::counted::{Counted, WriteFault, put};
+use gq_init::leaf_line::LeafLine;
 use gq_scenario::scenario::LeafNo;
 use std::io::Write;
 

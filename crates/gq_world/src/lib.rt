@@ -23,6 +23,6 @@ pub mod run;
 pub mod world;
 
 pub use fault::RunFault;
-pub use gq_lines::counted::Counted;
-pub use gq_lines::{account, counted};
+pub use gq_init::counted::Counted;
+pub use gq_init::{account, counted};
 pub use gq_machine::event;

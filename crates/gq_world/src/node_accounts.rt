@@ -4,10 +4,10 @@ ghost use Rattle.gq_model.specs.machine.Scenario.{components};
 ghost use Rattle.gq_model.specs.rules.Accept.{step_budgets};
 ghost use Rattle.gq_resolve.specs.NodeTables.{node_rows};
 ghost use Rattle.gq_scenario.specs.Trees.{version_number};
-ghost use Rattle.gq_lines.specs.Told.{told_of};
+ghost use Rattle.gq_init.specs.Told.{told_of};
 ghost use Rattle.gq_world.specs.Lines.{accounts_by, TellsOf};
 
-use gq_lines::account::{Account, LeafAccount};
+use gq_init::account::{Account, LeafAccount};
 use gq_load::budget::Budget;
 use gq_machine::machine::Machine;
 use gq_scenario::node::NodeNo;

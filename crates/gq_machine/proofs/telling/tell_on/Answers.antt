@@ -1,6 +1,6 @@
 -- A line, and the numbers that follow it.
 use Rattle.std.proofs.Common.{◌≡◌, ◌<◌, ◌-◌, ◌++◌, ◌∙◌, ◌∷◌, ℕ, List, [], length, length-append, ap, subst, arith}
-use Rattle.gq_lines.specs.LeafLines.{Lines, front_of, line_with}
+use Rattle.gq_init.specs.LeafLines.{Lines, front_of, line_with}
 use Rattle.gq_machine.specs.internal.Going.{Says}
 use Rattle.gq_machine.proofs.Going.{label}
 use Rattle.gq_machine.proofs.telling.tell_on.Goals as goal

@@ -5,7 +5,7 @@ use Rattle.gq_model.specs.machine.Run.{run_on}
 use Rattle.gq_model.specs.machine.Scenario.{Scenario, components, system}
 use Rattle.gq_model.specs.machine.World.{World}
 use Rattle.std.specs.Io.KnownBytes.{Appends}
-use Rattle.gq_lines.specs.Writes.{IsFront}
+use Rattle.gq_init.specs.Writes.{IsFront}
 use Rattle.gq_world.specs.Lines.{accounts_by}
 use Rattle.gq_unverified.specs.internal.Taking.{HasCome, HasRoom, turns_in}
 use Rattle.gq_unverified.proofs.Counting.{start_room, start_count}

@@ -5,8 +5,8 @@ use Rattle.gq_model.specs.machine.Doing as doing
 use Rattle.gq_model.specs.machine.Run.{label_at}
 use Rattle.gq_model.specs.machine.Scenario.{Scenario, components, system}
 use Rattle.gq_machine.specs.Events.{event_of}
-use Rattle.gq_lines.specs.Writes.{IsFront}
-use Rattle.gq_lines.proofs.Known.{appends_nothing}
+use Rattle.gq_init.specs.Writes.{IsFront}
+use Rattle.gq_init.proofs.Known.{appends_nothing}
 use Rattle.gq_world.specs.Worlds.{line_told}
 use Rattle.gq_world.proofs.Turns.{silent}
 use Rattle.gq_unverified.proofs.Counting.{countable, near_turn}

@@ -5,8 +5,8 @@ use Rattle.std.specs.Io.KnownBytes.{Appends}
 use Rattle.gq_model.specs.machine.Accounts.{account_line, account_lines}
 use Rattle.gq_model.specs.rules.Accept.{step_budgets}
 use Rattle.gq_world.specs.Lines.{accounts_by}
-use Rattle.gq_lines.specs.Writes.{IsFront}
-use Rattle.gq_lines.proofs.Known.{appends_nothing}
+use Rattle.gq_init.specs.Writes.{IsFront}
+use Rattle.gq_init.proofs.Known.{appends_nothing}
 use Rattle.gq_world.proofs.Fronts.{next_line, next_front, all_lines}
 use Rattle.gq_world.proofs.account_lines.write_accounts.Goals as goal
 

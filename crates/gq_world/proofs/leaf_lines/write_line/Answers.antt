@@ -5,7 +5,7 @@ use Rattle.gq_model.specs.machine.Run.{line_of}
 use Rattle.gq_model.specs.machine.Scenario.{Component, components}
 use Rattle.gq_resolve.specs.NodeTables.{node_rows}
 use Rattle.gq_resolve.proofs.Rows.{leaf_at, label_of_node}
-use Rattle.gq_lines.specs.Writes.{IsFront}
+use Rattle.gq_init.specs.Writes.{IsFront}
 use Rattle.gq_world.specs.Worlds.{line_told}
 use Rattle.gq_world.proofs.Turns.{label_told}
 use Rattle.gq_world.proofs.leaf_lines.write_line.Goals as goal

@@ -1,9 +1,9 @@
 use Rattle.std.proofs.lemmas.Result.{err_from_is_err_and}
 use Rattle.std.specs.Io.KnownBytes.{Appends}
 use Rattle.gq_world.specs.Lines.{accounts_text}
-use Rattle.gq_lines.specs.Writes.{IsFront}
+use Rattle.gq_init.specs.Writes.{IsFront}
 use Rattle.gq_world.specs.Whole.{whole_of}
-use Rattle.gq_lines.proofs.Known.{on_ok, on_err}
+use Rattle.gq_init.proofs.Known.{on_ok, on_err}
 use Rattle.gq_world.proofs.Whole.{complete, cut_lines, cut_turns}
 use Rattle.gq_world.proofs.run.run_world.Goals as goal
 

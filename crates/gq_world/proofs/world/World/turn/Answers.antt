@@ -13,7 +13,7 @@ use Rattle.gq_machine.specs.declared.event.Event.TheVariants as events
 use Rattle.gq_laws.specs.Stands.{Stands}
 use Rattle.gq_world.specs.Worlds.{World}
 use Rattle.gq_world.specs.internal.Keeping.{IsBudgeted}
-use Rattle.gq_lines.proofs.Known.{appends_nothing}
+use Rattle.gq_init.proofs.Known.{appends_nothing}
 use Rattle.gq_world.proofs.Turns.{Keeps, countable, defined, stands_after, silent, shown-event_of, told_in}
 use Rattle.gq_world.proofs.world.World.turn.Goals as goal
 

@@ -8,7 +8,7 @@ use Rattle.gq_machine.specs.declared.event.Event.{Event}
 use Rattle.gq_machine.specs.declared.event.Event.TheVariants as events
 use Rattle.gq_machine.proofs.Resting.{no_line_in}
 use Rattle.gq_world.specs.Worlds.{World}
-use Rattle.gq_lines.proofs.Known.{appends_nothing}
+use Rattle.gq_init.proofs.Known.{appends_nothing}
 use Rattle.gq_world.proofs.Going.{has_run, is_cut}
 use Rattle.gq_world.proofs.Turns.{countable_turns, kept_told, never_wrong, no_lines, told_seen}
 use Rattle.gq_world.proofs.world.World.turns.Goals as goal

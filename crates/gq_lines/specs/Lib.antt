@@ -1,5 +1,0 @@
-pub mod Counts
-pub mod LeafLines
-pub mod Told
-pub mod Writes
-pub mod internal
