@@ -6,3 +6,4 @@ pub mod Kept
 pub mod Agreeing
 pub mod Ends
 pub mod Orders
+mod Leads

@@ -2,3 +2,4 @@ pub mod Sums
 pub mod Counted
 pub mod Rounds
 pub mod Order
+pub mod Leads

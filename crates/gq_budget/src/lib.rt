@@ -7,6 +7,15 @@
 //! let leaves = [Leaf::new(&server, &judged_server, Some(&echo)), Leaf::new(&client, &judged_client, None)];
 //! let steps = step_budgets(alloc, &leaves, &leads)?;
 //! ```
+//!
+//! How many steps each leaf of a scenario may take, from what was counted of its program and who may ask it, by the scenario's routes.
+//!
+//! ```rust
+//! use gq_budget::steps_of;
+//!
+//! // What was counted of each leaf's program, in the order of the leaves, and the routes that were told as the scenario was resolved.
+//! let steps = steps_of(alloc, &scenario, &components, &routes, &counted)?;
+//! ```
 #![tactic(auto)]
 
 mod asks;
@@ -16,8 +25,9 @@ mod leaf;
 mod levels;
 mod numbers;
 mod rounds;
+mod steps;
 
-pub use budgets::{counted_budgets, step_budgets};
+pub use budgets::step_budgets;
 pub use counted::CountedLeaf;
-pub use gq_verify::Service;
 pub use leaf::Leaf;
+pub use steps::steps_of;

@@ -28,7 +28,7 @@ use gq_resolve::resolve_opened;
 use gq_resolve::routes::Routes;
 use gq_scenario::fault::ScenarioError;
 use gq_scenario::scenario::Scenario;
-use gq_step_budgets::steps_of;
+use gq_budget::steps_of;
 use std::alloc::{AllocError, Global};
 use std::marker::Model;
 

@@ -11,7 +11,7 @@ use Rattle.gq_model.specs.rules.Use.{is_there, services}
 use Rattle.gq_resolve.specs.Served.{AreServers}
 use Rattle.gq_budget.specs.Leaves.{leads_for, leads_from, leaves_from}
 use Rattle.gq_budget.specs.Counts.{Counted, Agree, AgreeFor, AgreeWhereAsked, AreCountsOf, asks}
-use Rattle.gq_step_budgets.specs.internal.Leads.{AreTold, leads_row, leads_rows}
+use Rattle.gq_budget.specs.internal.Leads.{AreTold, leads_row, leads_rows}
 
 -- ROUTES
 

@@ -2,9 +2,9 @@ use Rattle.std.proofs.Common.{Bool, List, ◌∙◌, ap, map, subst, sym}
 use Rattle.gq_model.specs.machine.Scenario.{Component, components, system}
 use Rattle.gq_budget.specs.Leaves.{leads_of}
 use Rattle.gq_budget.specs.Counts.{AgreeWhereAsked}
-use Rattle.gq_step_budgets.specs.internal.Leads.{leads_rows}
-use Rattle.gq_step_budgets.proofs.Leads.{are_told, as_many, rows_agree}
-use Rattle.gq_step_budgets.proofs.steps.steps_of.Goals as goal
+use Rattle.gq_budget.specs.internal.Leads.{leads_rows}
+use Rattle.gq_budget.proofs.Leads.{are_told, as_many, rows_agree}
+use Rattle.gq_budget.proofs.steps.steps_of.Goals as goal
 
 pub leads_rows-requires-clause-told : goal.leads_rows-requires-clause-told
 leads_rows-requires-clause-told c = are_told c.args.scenario.now c.args.components.now c.args.routes.now c.requires.components c.requires.routes

@@ -6,9 +6,11 @@ ghost use Rattle.gq_budget.specs.Budgets.{budgets_of};
 ghost use Rattle.gq_budget.specs.Counts.{AreCountsOf};
 ghost use Rattle.gq_resolve.specs.Served.{AreServers, server_among};
 ghost use Rattle.gq_budget.specs.Leaves.{leaves_of};
-ghost use Rattle.gq_step_budgets.specs.internal.Leads.{AreTold, leads_to, leads_row, leads_rows};
+ghost use Rattle.gq_budget.specs.internal.Leads.{AreTold, leads_to, leads_row, leads_rows};
 
-use gq_budget::{CountedLeaf, Service, counted_budgets};
+use crate::counted::CountedLeaf;
+use gq_verify::Service;
+use crate::budgets::counted_budgets;
 use gq_model::program::Name;
 use gq_resolve::component::Component;
 use gq_resolve::routes::{Routes, server_of};

@@ -1,6 +1,6 @@
 use Rattle.std.proofs.Common.{◌≡◌, ◌++◌, drop, map}
-use Rattle.gq_step_budgets.specs.internal.Leads.{leads_rows}
-use Rattle.gq_step_budgets.proofs.steps.leads_rows.Given as goal
+use Rattle.gq_budget.specs.internal.Leads.{leads_rows}
+use Rattle.gq_budget.proofs.steps.leads_rows.Given as goal
 
 -- the rows so far, with those that are left, are all
 abbrev pub invariant-loop-place : goal.invariant-loop-place

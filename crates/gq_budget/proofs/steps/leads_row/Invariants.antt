@@ -1,6 +1,6 @@
 use Rattle.std.proofs.Common.{◌≡◌, ◌++◌, drop, Some}
-use Rattle.gq_step_budgets.specs.internal.Leads.{leads_row}
-use Rattle.gq_step_budgets.proofs.steps.leads_row.Given as goal
+use Rattle.gq_budget.specs.internal.Leads.{leads_row}
+use Rattle.gq_budget.proofs.steps.leads_row.Given as goal
 
 -- the row so far, with what is left of it, is all
 abbrev pub invariant-loop-place : goal.invariant-loop-place
