@@ -4,3 +4,10 @@ pub mod Texts
 pub mod Leaves
 pub mod Budgets
 pub mod Refusals
+pub mod Sound_programs
+pub mod Services
+pub mod Sound_texts
+-- what is read, accepted or not
+pub mod Read_interfaces
+pub mod Read_nodes
+pub mod Read_texts

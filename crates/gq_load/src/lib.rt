@@ -7,6 +7,15 @@
 //! let lines = accepted.budget_lines(alloc)?;
 //! let (table, budgets) = accepted.into_parts();
 //! ```
+//!
+//! A scenario that is loaded is sound: the laws of accepted scenarios hold of every run of it. And what holds of each that is read, accepted or not.
+//!
+//! ```rust
+//! use gq_load::loaded::loaded_laws;
+//!
+//! // From here on the proof of this function knows of the scenario of any text that is loaded.
+//! loaded_laws();
+//! ```
 #![tactic(auto)]
 
 pub mod accepted;
@@ -15,8 +24,10 @@ pub mod checked;
 pub mod fault;
 mod judged;
 mod line;
+pub mod loaded;
 pub mod named;
 mod over;
 pub mod programs;
+pub mod read;
 mod surveys;
 pub mod unverified;

@@ -22,7 +22,7 @@ use gq_load::unverified::read_unverified;
 use gq_machine::machine::Machine;
 use gq_model::fault::Wrong;
 use gq_scenario::scenario::LeafNo;
-use gq_sound::read::unverified_laws;
+use gq_load::read::unverified_laws;
 use gq_world::account_lines::write_accounts;
 use gq_world::fault::RunFault;
 use std::alloc::Global;

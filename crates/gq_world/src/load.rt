@@ -12,8 +12,8 @@ use crate::world::World;
 use gq_laws::accepted::accepted_laws;
 use gq_load::accepted::Accepted;
 use gq_machine::machine::Machine;
-use gq_sound::loaded::loaded_laws;
-use gq_sound::read::read_laws;
+use gq_load::loaded::loaded_laws;
+use gq_load::read::read_laws;
 use std::alloc::Global;
 
 impl World {

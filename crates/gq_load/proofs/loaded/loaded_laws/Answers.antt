@@ -1,6 +1,6 @@
 use Rattle.gq_laws.proofs.gathering.Runs.{run_upholds}
-use Rattle.gq_sound.proofs.Sound_texts.{loaded_sound}
-use Rattle.gq_sound.proofs.loaded.loaded_laws.Goals as goal
+use Rattle.gq_load.proofs.Sound_texts.{loaded_sound}
+use Rattle.gq_load.proofs.loaded.loaded_laws.Goals as goal
 
 pub returns-clause-sound : goal.returns-clause-sound
 returns-clause-sound c text s e = loaded_sound text s e

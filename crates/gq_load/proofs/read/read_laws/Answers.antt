@@ -1,6 +1,6 @@
 -- Laws of what is read.
-use Rattle.gq_sound.proofs.Read_texts.{text_read, text_differ, loaded_read, loaded_ready}
-use Rattle.gq_sound.proofs.read.read_laws.Goals as goal
+use Rattle.gq_load.proofs.Read_texts.{text_read, text_differ, loaded_read, loaded_ready}
+use Rattle.gq_load.proofs.read.read_laws.Goals as goal
 
 pub returns-clause-read : goal.returns-clause-read
 returns-clause-read c = loaded_read

@@ -13,8 +13,8 @@ use Rattle.gq_load.specs.Load.{Fault, Unread, sources_fault, refused, scenario_f
 use Rattle.gq_laws.specs.Sound.{IsSound}
 use Rattle.gq_model.proofs.Small.{none_some, or_first_none}
 use Rattle.gq_scenario.proofs.Differing.{names_differ}
-use Rattle.gq_sound.proofs.Programs.{nodes_given, programs_are}
-use Rattle.gq_sound.proofs.Services.{services_fair}
+use Rattle.gq_load.proofs.Sound_programs.{nodes_given, programs_are}
+use Rattle.gq_load.proofs.Services.{services_fair}
 
 pub same_scenario : {F : Type 0} (s t : Scenario) → ◌≡◌ {A = Result Scenario F} (Ok s) (Ok t) → s ≡ t
 same_scenario s t e = cc

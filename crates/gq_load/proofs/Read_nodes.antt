@@ -16,8 +16,8 @@ use Rattle.gq_reader.proofs.Kept.{AreKept, fits_or_none, kept}
 use Rattle.gq_laws.specs.Shapes.{Each}
 use Rattle.gq_laws.specs.Ready.{AreWithoutCaps}
 use Rattle.gq_model.proofs.Small.{none_some, some_none, some_same, or_first_none}
-use Rattle.gq_sound.proofs.Programs.{each_append}
-use Rattle.gq_sound.proofs.Read_interfaces.{no_number}
+use Rattle.gq_load.proofs.Sound_programs.{each_append}
+use Rattle.gq_load.proofs.Read_interfaces.{no_number}
 
 -- A LEAF
 

@@ -17,9 +17,9 @@ use Rattle.gq_laws.proofs.verified.Sound_systems.{is_resolved}
 use Rattle.gq_laws.specs.Ready.{IsRead, IsReady}
 use Rattle.gq_model.proofs.Small.{or_first_none}
 use Rattle.gq_scenario.proofs.Differing.{names_differ}
-use Rattle.gq_sound.proofs.Read_interfaces.{services_plain, declared_in}
-use Rattle.gq_sound.proofs.Read_nodes.{IsDeclared, nodes_read, each_component}
-use Rattle.gq_sound.proofs.Sound_texts.{same_scenario, not_ok, loaded_sound}
+use Rattle.gq_load.proofs.Read_interfaces.{services_plain, declared_in}
+use Rattle.gq_load.proofs.Read_nodes.{IsDeclared, nodes_read, each_component}
+use Rattle.gq_load.proofs.Sound_texts.{same_scenario, not_ok, loaded_sound}
 
 -- DOCUMENTS
 
