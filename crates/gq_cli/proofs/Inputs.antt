@@ -8,7 +8,7 @@ use Rattle.gq_cli.specs.Ends.{Ended, IsKnown}
 use Rattle.gq_command.specs.declared.command.Command.{Command}
 use Rattle.gq_command.specs.declared.command.Command.TheVariants.{Check, Run, Asm, Stored, Help}
 use Rattle.gq_init.specs.declared.counted.Counted.{Counted}
-use Rattle.gq_input.specs.Stored.{parted}
+use Rattle.gq_command.specs.Stored.{parted}
 use Rattle.gq_cli.specs.Executed.{Asked, Check_of, Run_of, Asm_of, Text_of, Executes, IsInput, IsRefusal, IsTold, RunsFiles, written_of}
 
 module _ (scenario scenario_left turns turns_left : Option (List ℕ)) (holds : Asked → Type 0) where

@@ -3,7 +3,7 @@ use Rattle.std.proofs.Common.{◌≡◌, ◌≤◌, ◌+◌, ℕ, List, [], ◌+
 use Rattle.std.proofs.Common.{append-nil, append_assoc, length-append}
 use Rattle.std.specs.Io.KnownBytes.{Consumes, IsAtEnd}
 use Rattle.std.proofs.KnownBytes.{Consumes-nil, Consumes-trans}
-use Rattle.gq_input.specs.Input.{GivesAtMost}
+use Rattle.gq_command.specs.Input.{GivesAtMost}
 use Rattle.std.specs.Prelude.{OnOk}
 use Rattle.gq_model.specs.machine.Scenario.{Component, Scenario, components}
 use Rattle.gq_model.specs.rules.Accept.{IsAccepted}

@@ -6,7 +6,7 @@ use Rattle.gq_init.specs.Counts.{written_to, failures_of}
 use Rattle.gq_init.specs.Writes.{IsFront, IsRaised}
 use Rattle.gq_world.specs.Whole.{Written, refused_with, run_written, check_written, asm_written}
 use Rattle.gq_world.specs.Headline.{WritesPromised}
-use Rattle.gq_input.specs.Stored.{parted}
+use Rattle.gq_command.specs.Stored.{parted}
 use Rattle.gq_command.specs.declared.command.Command.{Command}
 use Rattle.gq_command.specs.declared.command.Command.TheVariants.{Check, Run, Asm, Stored, Help}
 use Rattle.gq_command.specs.declared.status.Status.{Status}

@@ -13,4 +13,4 @@ pub mod execute;
 mod turns;
 
 pub use gq_command::{command, command_line, status};
-pub use gq_input::{input, stored};
+pub use gq_command::{input, stored};

@@ -1,3 +1,5 @@
 pub mod CommandLine
 pub mod Status
 pub mod internal
+pub mod Input
+pub mod Stored

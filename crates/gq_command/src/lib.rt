@@ -7,8 +7,20 @@
 //! let command = command(rt.alloc(), &["check", "hello.toml"])?;
 //! assert!(rt; matches!(command, Command::Check(_)));
 //! ```
+//!
+//! What the commands of `trade` read: an input whole, up to a limit, and the stored form of a run in its two parts.
+//!
+//! ```rust
+//! use gq_command::input::read_input;
+//! use gq_command::stored::parted;
+//!
+//! let input = read_input(rt.alloc(), &mut rt.stdin())?;
+//! let (scenario, turns) = parted(input.as_slice());
+//! ```
 #![tactic(auto)]
 
 pub mod command;
 pub mod command_line;
+pub mod input;
 pub mod status;
+pub mod stored;

@@ -2,7 +2,7 @@
 #![tactic(auto)]
 
 use gq_command::status::Status;
-use gq_input::input::{InputError, read_input};
+use gq_command::input::{InputError, read_input};
 use gq_unverified::run::run_unverified;
 use gq_world::Counted;
 use gq_world::fault::RunFault;

@@ -1,7 +1,7 @@
 use Rattle.std.proofs.Common.{refl, sym, ◌∙◌, subst, option_map}
-use Rattle.gq_input.specs.Stored.{IsFirstLine}
-use Rattle.gq_input.proofs.Stored_laws.{border-turns, parted-step, fallback}
-use Rattle.gq_input.proofs.stored.parted.Goals as goal
+use Rattle.gq_command.specs.Stored.{IsFirstLine}
+use Rattle.gq_command.proofs.Stored_laws.{border-turns, parted-step, fallback}
+use Rattle.gq_command.proofs.stored.parted.Goals as goal
 
 pub returns-then-is_border-clause-turns : goal.returns-then-is_border-clause-turns
 returns-then-is_border-clause-turns c =

@@ -2,7 +2,7 @@
 ghost use Rattle.std.specs.Prelude.{◌≡◌, ◌≤◌, IfOk, OnOk, vec_len};
 ghost use Rattle.std.specs.Io.KnownBytes.{Consumes, IsAtEnd, ReadConsumes};
 ghost use Rattle.std.specs.Io.{ReadsAtMost};
-ghost use Rattle.gq_input.specs.Input.{GivesAtMost};
+ghost use Rattle.gq_command.specs.Input.{GivesAtMost};
 
 use gq_model::limits::GREATEST_INPUT;
 use std::alloc::{AllocError, Global};
@@ -24,7 +24,7 @@ pub enum InputError {
 }
 
 impl From<AllocError> for InputError {
-    ghost use Rattle.gq_input.specs.declared.input.InputError.TheVariants.{Memory};
+    ghost use Rattle.gq_command.specs.declared.input.InputError.TheVariants.{Memory};
 
     ghost from_gives = { λ a e. e ≡ Memory a };
 

@@ -4,7 +4,7 @@ use Rattle.std.proofs.Common.{length-append, append_assoc, append-nil, arith, co
 use Rattle.std.proofs.Math.Seq.{take-append_seam}
 use Rattle.gq_model.specs.machine.Program.{text_eq}
 use Rattle.gq_model.specs.texts.Letters.{onto_first}
-use Rattle.gq_input.specs.Stored.{IsFirstLine, lines_of, is_border, fed, joined, parted_lines, parted}
+use Rattle.gq_command.specs.Stored.{IsFirstLine, lines_of, is_border, fed, joined, parted_lines, parted}
 
 -- BORDERS
 

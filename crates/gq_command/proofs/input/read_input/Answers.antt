@@ -2,7 +2,7 @@ use Rattle.std.proofs.lemmas.Grind.{common_steps}
 use Rattle.std.proofs.Common.{arith, ◌≡◌, ℕ, List, ◌-◌, min, rules, ◌++◌, ◌≤◌, length, take, length-append, length-take}
 use Rattle.std.proofs.lemmas.List.{places}
 use Rattle.std.proofs.KnownBytes.{Consumes-trans}
-use Rattle.gq_input.proofs.input.read_input.Goals as goal
+use Rattle.gq_command.proofs.input.read_input.Goals as goal
 
 -- one more read of what there is room for
 still_fits : (held room buffer : List ℕ) (asked taken size : ℕ) → length held ≡ size → size ≤ 18874369 → asked ≡ min 65536 (18874369 - size)

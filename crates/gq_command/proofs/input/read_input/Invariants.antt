@@ -1,7 +1,7 @@
 -- What is held is what the reader gave; each turn adds to it.
 use Rattle.std.proofs.Common.{◌≤◌, ◌-◌, vec_len}
 use Rattle.std.specs.Io.KnownBytes.{Consumes}
-use Rattle.gq_input.proofs.input.read_input.Given as goal
+use Rattle.gq_command.proofs.input.read_input.Given as goal
 
 abbrev pub invariant-loop-buffer : goal.invariant-loop-buffer
 invariant-loop-buffer g l = record {

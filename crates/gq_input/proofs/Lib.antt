@@ -1,2 +1,0 @@
-pub mod Stored_laws
-pub mod Rows_stored
