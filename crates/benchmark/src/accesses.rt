@@ -11,12 +11,11 @@ ghost use Rattle.benchmark.specs.Rounds.{HasRoom};
 use crate::fault::Fault;
 use crate::sessions::market;
 use crate::timing::tell;
-use gq_slots::Addresses;
+use gq_contents::Thing;
 use gq_dataspace::DsId;
 use gq_ram::Accounts;
+use gq_slots::{Addresses, Slots};
 use gq_trade::Spot;
-use gq_slots::Slots;
-use gq_contents::Thing;
 use std::time::Instant;
 
 // The bytes of the space.

@@ -7,12 +7,10 @@ ghost use Rattle.benchmark.specs.Rounds.{Calls, CanClose, Closes, HasRoom, IsCal
 
 use crate::fault::Fault;
 use crate::timing::tell;
-use gq_trade::Spot;
-use gq_slots::sessions;
-use gq_slots::Slots;
-use gq_tariff::Amount;
 use gq_contents::Thing;
-use gq_trade::{Node, Plan, Stage};
+use gq_slots::{Slots, sessions};
+use gq_tariff::Amount;
+use gq_trade::{Node, Plan, Spot, Stage};
 use std::alloc::{AllocError, Global};
 use std::time::Instant;
 

@@ -8,10 +8,10 @@ ghost use Rattle.gq_asm.specs.internal.State.{Gives};
 
 use crate::faults::LineError;
 use crate::operands::{at_end, next_name, next_number, next_slot, next_slot_or_object};
+use crate::says::said_in;
 use gq_model::fault::TextFault;
 use gq_model::program::Instruction;
 use gq_program::{Bare, Shape, WithAmount, WithBytes, WithNumber, WithSlot};
-use crate::says::said_in;
 use std::alloc::Global;
 
 /// Without operands.

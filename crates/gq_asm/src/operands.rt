@@ -3,11 +3,11 @@ ghost use Rattle.std.specs.Prelude.{◌≤◌, IfOk, true, false};
 ghost use Rattle.gq_model.specs.texts.Letters.{words};
 ghost use Rattle.gq_asm.specs.internal.Operands.{Answers, nothing_at, number_at, slot_at, name_at};
 
-use gq_model::fault::TextFault;
-use gq_model::program::{Name, Place};
-use crate::words::next_word;
 use crate::numbers::number_in;
 use crate::slots::{numbered_slot, slot_or_object};
+use crate::words::next_word;
+use gq_model::fault::TextFault;
+use gq_model::program::{Name, Place};
 
 /// Nothing but blanks.
 pub fn at_end(text: &[u8]) -> Result<(), TextFault>

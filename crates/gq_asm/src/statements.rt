@@ -13,12 +13,11 @@ use crate::instructions::{
 };
 use crate::operands::{at_end, next_number};
 use crate::reading::{BlockKind, Reading};
+use crate::shapes::shape_with;
 use gq_model::fault::TextFault;
 use gq_model::program::Instruction;
-use gq_program::Statement;
 use gq_program::spelling::same_text;
-use gq_program::Shape;
-use crate::shapes::shape_with;
+use gq_program::{Shape, Statement};
 use std::alloc::Global;
 
 impl Reading {

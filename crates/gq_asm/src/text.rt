@@ -14,14 +14,14 @@ ghost use Rattle.gq_asm.specs.internal.Order.{without, IsFirstAt, IsAbsent, is_d
 
 use crate::faults::{AssembleError, LineError};
 use crate::headings::{limit_of, same_section};
+use crate::lines::first_line;
 use crate::reading::Reading;
+use crate::usual::usual_line;
+use crate::words::next_word;
 use gq_model::fault::TextFault;
 use gq_model::limits::{GREATEST_STATEMENTS, LOCALS};
 use gq_model::program::Section;
 use gq_program::{Body, Program, Spare, Statement};
-use crate::lines::first_line;
-use crate::words::next_word;
-use crate::usual::usual_line;
 use std::alloc::{AllocError, Global};
 use std::mem;
 

@@ -6,8 +6,8 @@ ghost use Rattle.gq_budget.specs.internal.Rounds.{runs, asked_sum, often, leaf_r
 
 use crate::counted::CountedLeaf;
 use crate::numbers::Numbers;
-use gq_verify::{Asker, Service};
 use gq_program::Section;
+use gq_verify::{Asker, Service};
 use smallvec::SmallVec;
 use std::alloc::{AllocError, Global};
 use std::marker::Model;

@@ -5,9 +5,8 @@ ghost use Rattle.gq_budget.specs.internal.Rounds.{askers_in};
 
 use crate::leaf::Leaf;
 use crate::numbers::Numbers;
-use gq_verify::{Asker, Service};
 use gq_program::{Name, Section};
-use gq_verify::Requests;
+use gq_verify::{Asker, Requests, Service};
 use std::alloc::{AllocError, Global};
 use std::marker::Model;
 

@@ -8,13 +8,13 @@ ghost use Rattle.gq_resolve.specs.Served.{AreServers, server_among};
 ghost use Rattle.gq_budget.specs.Leaves.{leaves_of};
 ghost use Rattle.gq_budget.specs.internal.Leads.{AreTold, leads_to, leads_row, leads_rows};
 
-use crate::counted::CountedLeaf;
-use gq_verify::Service;
 use crate::budgets::counted_budgets;
+use crate::counted::CountedLeaf;
 use gq_model::program::Name;
 use gq_resolve::component::Component;
 use gq_resolve::routes::{Routes, server_of};
 use gq_scenario::scenario::{LeafNo, Scenario};
+use gq_verify::Service;
 use std::alloc::{AllocError, Global};
 use std::marker::Model;
 

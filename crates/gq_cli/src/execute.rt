@@ -15,8 +15,8 @@ ghost use Rattle.gq_cli.specs.declared.execute.Fault.TheVariants as fault;
 
 use crate::turns::run_loaded;
 use gq_command::command::Command;
-use gq_command::status::Status;
 use gq_command::input::{InputError, read_input};
+use gq_command::status::Status;
 use gq_command::stored::parted;
 use gq_init::counted::{Counted, put};
 use gq_world::asm::asm;

@@ -12,5 +12,4 @@
 pub mod execute;
 mod turns;
 
-pub use gq_command::{command, command_line, status};
-pub use gq_command::{input, stored};
+pub use gq_command::{command, command_line, input, status, stored};

@@ -13,10 +13,10 @@ ghost use Rattle.gq_cli.specs.declared.execute.Fault.TheVariants as fault;
 ghost use Rattle.gq_cli.specs.internal.Running.{EndsAs, HasCome, ReadsTurns};
 
 use crate::execute::Fault;
-use gq_init::turns::TurnsError;
-use gq_init::{NodeTable, TurnItem, TurnReader};
 use gq_command::input::{CHUNK, read_once};
 use gq_init::counted::Counted;
+use gq_init::turns::TurnsError;
+use gq_init::{NodeTable, TurnItem, TurnReader};
 use gq_model::limits::GREATEST_INPUT;
 use gq_world::fault::RunFault;
 use gq_world::run::run_world;

@@ -18,8 +18,8 @@ use crate::program_code::NO_LIMIT;
 use gq_model::fault::CodeFault;
 use gq_model::limits::{GREATEST_DEPTH, GREATEST_STATEMENTS, LOCALS};
 use gq_model::program::{Instruction, Section};
-use gq_program::program::{Body, Program, Statement};
 use gq_program::Shape;
+use gq_program::program::{Body, Program, Statement};
 use std::alloc::{AllocError, AllocFailed, Global};
 use thiserror::Error;
 

@@ -18,6 +18,5 @@ pub mod program_code;
 
 pub use gq_program::{
     Body, Form, Instruction, Interface, Interfaces, Name, Operator, Place, Program, Section,
-    Statement, Text, Upgrade, Width, interface, program,
+    Statement, Text, Upgrade, Width, interface, program, shapes as spelling,
 };
-pub use gq_program::shapes as spelling;

@@ -35,10 +35,10 @@ pub mod turn_reader;
 pub mod turns;
 
 pub use gq_reader::{read_scenario, reader};
-pub use gq_resolve::{NodeTable, resolve, table};
 pub use gq_resolve::routes::Routes;
-pub use gq_scenario::{fault, key, node, scenario, source};
+pub use gq_resolve::{NodeTable, resolve, table};
 pub use gq_scenario::scenario::Scenario;
+pub use gq_scenario::{fault, key, node, scenario, source};
 pub use item::TurnItem;
 pub use turn_reader::TurnReader;
 pub use turns::{read_items, read_turns};

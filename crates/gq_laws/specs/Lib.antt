@@ -29,4 +29,5 @@ pub mod internal
 pub mod Separation
 -- what is seen of a group, and its turns alone
 pub mod Alone
+
 -- what only proofs speak of

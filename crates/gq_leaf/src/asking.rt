@@ -16,13 +16,12 @@ ghost use Rattle.gq_leaf.specs.Coded.{operation_of};
 ghost use Rattle.gq_leaf.specs.Steps.{LeadsTo, OpensTo, UpgradesTo, blocked_on};
 
 use crate::leaf::Leaf;
-use gq_statements::{call, close, open, upgrade};
+use gq_bytecode::Operation;
 use gq_model::fault::Wrong;
 use gq_model::phase::Phase;
 use gq_model::program::Place;
-use gq_bytecode::Operation;
 use gq_slots::Slots;
-use gq_statements::Actor;
+use gq_statements::{Actor, call, close, open, upgrade};
 use gq_tariff::Amount;
 
 impl Leaf {

@@ -23,8 +23,6 @@
 
 mod sharing;
 
-pub use sharing::share;
-
 ghost use Rattle.std.specs.Prelude.{◌≡◌, ℕ, ◌+◌, ◌-◌, ◌*◌, ◌%◌, ◌<◌, ◌≤◌, ◌↔◌, ◌⊎◌, Option, Some, None, IfOk, OnErr, IsErrOf, MatchOption, IsTrue, length};
 ghost use Rattle.std.specs.Prelude.{slice_index};
 ghost use Rattle.gq_store.specs.Store.{one_more};
@@ -32,6 +30,7 @@ ghost use Rattle.gq_list_store.specs.Slots.{AreSlots, caps_or_none};
 
 use gq_store::{ByteStore, ChunkNo, GrowFault};
 use gq_tariff::price;
+pub use sharing::share;
 use std::alloc::{AllocError, Global};
 
 /// The bytes of a page, as a size of a chunk.

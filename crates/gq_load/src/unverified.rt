@@ -8,12 +8,11 @@ ghost use Rattle.gq_load.specs.Unverified.{unverified, unverified_fault};
 
 use crate::fault::{LoadError, LoadFault};
 use crate::programs::read_programs;
-use gq_resolve::NodeTable;
-use gq_resolve::table::Entries;
 use gq_program::program::Program;
 use gq_reader::reader::read_scenario;
 use gq_resolve::component::components;
-use gq_resolve::resolve_components;
+use gq_resolve::table::Entries;
+use gq_resolve::{NodeTable, resolve_components};
 use gq_scenario::fault::ScenarioError;
 use gq_scenario::scenario::Scenario;
 use std::alloc::Global;

@@ -13,12 +13,11 @@ ghost use Rattle.gq_machine.specs.internal.Gifts.{IsGift, LeadsBy, Opens, OpensA
 
 use crate::state::{Fixed, State};
 use crate::statements::lawful;
-use gq_statements::link;
+use gq_bytecode::Operation;
 use gq_model::fault::Wrong;
 use gq_model::program::Place;
 use gq_prepared::Opening;
-use gq_bytecode::Operation;
-use gq_statements::Actor;
+use gq_statements::{Actor, link};
 use gq_tariff::Amount;
 
 // What is given with an upgrade: so many bytes, and the capabilities that the session's service asks for its next level.

@@ -16,21 +16,21 @@ ghost use Rattle.gq_machine.specs.internal.Holds.{IsPrepared};
 ghost use Rattle.gq_machine.specs.internal.Held.{held_before};
 ghost use Rattle.gq_machine.specs.internal.Starts.{AreFirst, ArePrepared, IsFirstOf, AreFirstSlots};
 
+use crate::state::{Fixed, Prepared, State};
+use crate::statements::lawful;
 use gq_bytecode::Code;
+use gq_leaf::Leaf;
 use gq_model::phase::Phase;
-use gq_resolve::NodeTable;
-use gq_prepared::plan_of;
 use gq_prepared::openings::openings;
+use gq_prepared::plan_of;
 use gq_prepared::sections::sections_of;
 use gq_prepared::services::Services;
+use gq_resolve::NodeTable;
 use gq_scenario::node::NodeNo;
 use gq_scenario::scenario::{LeafNo, Version};
 use gq_slots::Slots;
-use gq_leaf::Leaf;
 use gq_tariff::price::PAGE;
 use gq_trade::Stage;
-use crate::state::{Fixed, Prepared, State};
-use crate::statements::lawful;
 use std::alloc::{AllocError, Global};
 use std::marker::Model;
 

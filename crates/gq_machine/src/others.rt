@@ -10,17 +10,17 @@ ghost use Rattle.gq_machine.specs.internal.Holds.{CanStep, Goes, Holds, IsNext};
 ghost use Rattle.gq_machine.specs.internal.Kinds.{is_quiet};
 ghost use Rattle.gq_machine.specs.Shows.{Gives};
 
-use crate::event::Event;
-use arrayvec::ArrayVec;
-use gq_model::fault::Wrong;
-use gq_model::program::Instruction;
-use gq_bytecode::Operation;
-use gq_scenario::scenario::LeafNo;
 use crate::asking::{open, upgrade};
 use crate::endings::exit;
+use crate::event::Event;
 use crate::replies::reply;
 use crate::state::{Fixed, State};
 use crate::statements::{call, close, memory, say, serve, show};
+use arrayvec::ArrayVec;
+use gq_bytecode::Operation;
+use gq_model::fault::Wrong;
+use gq_model::program::Instruction;
+use gq_scenario::scenario::LeafNo;
 use itoa::Buffer;
 
 /// The greatest number of bytes of a line's text, without label and line feed.

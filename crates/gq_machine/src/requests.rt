@@ -16,13 +16,13 @@ ghost use Rattle.gq_machine.specs.internal.Requests.{begun_for, takes};
 
 use crate::state::{Fixed, State};
 use crate::statements::lawful;
+use gq_leaf::Leaf;
 use gq_model::fault::Wrong;
 use gq_model::program::Section;
-use gq_trade::{Ask, Request};
 use gq_scenario::scenario::Version;
-use gq_statements::serving_requests::Provider;
 use gq_statements::Hand;
-use gq_leaf::Leaf;
+use gq_statements::serving_requests::Provider;
+use gq_trade::{Ask, Request};
 
 // What every scenario has: its interfaces stand in the order of their names, and each leaf has a program. It does nothing.
 fn scenario_laws(fixed: &Fixed, number: usize)

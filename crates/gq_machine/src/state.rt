@@ -1,8 +1,8 @@
 // What a machine has: what is fixed at load, and what changes.
-use gq_resolve::NodeTable;
-use gq_prepared::{Opening, Services};
-use gq_slots::Slots;
 use gq_leaf::Leaf;
+use gq_prepared::{Opening, Services};
+use gq_resolve::NodeTable;
+use gq_slots::Slots;
 
 /// What the steps of a leaf need beside its code: where its `open` statements lead, and which sections its program has.
 #[derive(Drop)]

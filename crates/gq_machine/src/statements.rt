@@ -9,9 +9,9 @@ ghost use Rattle.gq_machine.specs.internal.Holds.{ActsOn, CanStep, Goes, Holds, 
 ghost use Rattle.gq_model.specs.declared.program.Instruction.TheVariants as instruction;
 
 use crate::state::{Fixed, State};
+use gq_bytecode::Operation;
 use gq_model::fault::Wrong;
 use gq_model::program::Place;
-use gq_bytecode::Operation;
 use gq_slots::Slots;
 
 // What holds of slots between two calls. It does nothing.

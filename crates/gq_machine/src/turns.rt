@@ -7,17 +7,17 @@ ghost use Rattle.gq_machine.specs.Countable.{AreCountable, IsCountable};
 ghost use Rattle.gq_machine.specs.Events.{event_of};
 ghost use Rattle.gq_machine.specs.declared.event.Event.TheVariants as event;
 
+use crate::bursts::take_turns;
+use crate::event::Event;
 use crate::machine::Machine;
+use crate::others::LINE;
+use crate::statements::lawful;
+use crate::steps::turn;
+use crate::telling::tell_turns;
 use arrayvec::ArrayVec;
 use gq_init::lines::Lines;
 use gq_model::fault::Wrong;
 use gq_scenario::scenario::LeafNo;
-use crate::statements::lawful;
-use crate::event::Event;
-use crate::others::LINE;
-use crate::bursts::take_turns;
-use crate::telling::tell_turns;
-use crate::steps::turn;
 
 impl Machine {
     /// One turn of a leaf, tested: where the leaf can run it is one step. After it the line has the text that was given, without label and line feed, and

@@ -4,12 +4,10 @@ ghost use Rattle.gq_memory_rows.specs.Serves.{IsMarket, Serves};
 
 use crate::trade_rows::{live, plan};
 use crate::used::used;
-use gq_slots::Addresses;
-use gq_trade::Spot;
-use gq_slots::sessions;
-use gq_slots::Slots;
-use gq_tariff::Amount;
 use gq_contents::Thing;
+use gq_slots::{Addresses, Slots, sessions};
+use gq_tariff::Amount;
+use gq_trade::Spot;
 use std::alloc::{AllocError, Global};
 
 // A server without a quantum, and a client with three pages. A session's object has no bytes.

@@ -5,9 +5,9 @@ ghost use Rattle.gq_trade.specs.Stores.{store_of};
 ghost use Rattle.gq_trade.specs.Rest.{SameRest};
 
 use crate::ram_rows::{added, moved, moved_caps};
-use gq_trade::Memory;
 use gq_ram::{AccountFault, AccountNo, Accounts};
 use gq_store::{ByteStore, ChunkNo, GrowFault};
+use gq_trade::Memory;
 use std::alloc::{AllocError, Global};
 
 // A page whose last byte is `value`.

@@ -1,9 +1,8 @@
 // Two pools, a block and a slice in one store.
 use crate::used::used;
 use gq_heap::Heap;
-use gq_list_store::ListStore;
+use gq_list_store::{ListStore, share};
 use gq_store::{ByteStore, GrowFault};
-use gq_list_store::share;
 
 // What each reads in a heap of its own.
 fn shared<S: ByteStore>(store: &mut S) -> Result<(u8, u8, u8), GrowFault> {

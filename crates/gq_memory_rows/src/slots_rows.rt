@@ -7,8 +7,8 @@ ghost use Rattle.gq_memory_rows.specs.Stays.{Stays};
 
 use crate::trade_rows::{live, plan};
 use crate::used::used;
-use gq_trade::Spot;
 use gq_slots::Slots;
+use gq_trade::Spot;
 use std::alloc::{AllocError, Global};
 
 // Two leaves with four pages each.

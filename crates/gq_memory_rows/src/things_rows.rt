@@ -4,10 +4,10 @@ ghost use Rattle.gq_contents.specs.declared.thing.Thing.TheVariants as thing;
 ghost use Rattle.gq_contents.specs.Kept.{Keeps};
 
 use crate::used::used;
+use gq_contents::Thing;
 use gq_heap::Heap;
 use gq_list_store::ListStore;
 use gq_store::{ByteStore, GrowFault};
-use gq_contents::Thing;
 
 // What a slice and an entry of a pool read, each after a byte of it was written. Then both are freed.
 fn use_slice_and_pool<S: ByteStore>(

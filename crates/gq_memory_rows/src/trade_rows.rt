@@ -7,10 +7,9 @@ ghost use Rattle.gq_trade.specs.Trades.{IsLive};
 use crate::used::used;
 use gq_heap::Heap;
 use gq_ram::{AccountFault, AccountNo};
-use gq_trade::Spot;
 use gq_store::GrowFault;
 use gq_tariff::Amount;
-use gq_trade::{Node, Plan, Stage, Trades};
+use gq_trade::{Node, Plan, Spot, Stage, Trades};
 use std::alloc::{AllocError, Global};
 
 // The leaves of a market.

@@ -4,9 +4,9 @@ ghost use Rattle.gq_model.specs.machine.Amounts.{amount};
 ghost use Rattle.gq_prepared.specs.Prepared.{AreServices, caps_at};
 ghost use Rattle.gq_prepared.specs.internal.Upgraded.{AreUpgrades, IsUpgrades};
 
-use gq_slots::Addresses;
-use gq_resolve::NodeTable;
 use gq_program::interface::{Interface, Interfaces, Upgrade};
+use gq_resolve::NodeTable;
+use gq_slots::Addresses;
 use std::alloc::{AllocError, Global};
 use std::marker::Model;
 

@@ -6,9 +6,9 @@ ghost use Rattle.gq_program.specs.Spelling.{number_word, number_opcode, number_w
 ghost use Rattle.gq_program.specs.Spelling.{slot_opcode, bytes_instruction, bytes_word, bytes_opcode, amount_instruction, amount_word, amount_opcode};
 ghost use Rattle.gq_program.specs.Spelling.{amount_low, amount_high, shape_of, word_of, opcode_of, spellings_of};
 
+pub use crate::spelling::same_text;
 use gq_model::limits::{GREATEST_DEPTH, GREATEST_SIZE, LOCALS};
 use gq_model::program::{Form, Instruction, Operator, Place, Width};
-pub use crate::spelling::same_text;
 
 /// A statement without operands.
 #[derive(Clone, Copy)]

@@ -5,8 +5,8 @@ ghost use Rattle.gq_ram.specs.Ledgers.{with_accounts};
 ghost use Rattle.gq_ram.specs.Trees.{account_of, number, AreNodes};
 ghost use Rattle.gq_ram.specs.Handing.{spent};
 
-use crate::tree::AccountTree;
 use crate::accounts::Accounts;
+use crate::tree::AccountTree;
 use gq_tariff::Amount;
 
 impl AccountTree {

@@ -4,8 +4,8 @@ ghost use Rattle.gq_ram.specs.Entries.{IsOpen};
 ghost use Rattle.gq_ram.specs.Ledgers.{with_accounts};
 ghost use Rattle.gq_ram.specs.Opening.{IsOpened};
 
-use crate::tree::AccountTree;
 use crate::accounts::Accounts;
+use crate::tree::AccountTree;
 use std::alloc::{AllocError, Global};
 
 impl AccountTree {

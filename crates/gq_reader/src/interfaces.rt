@@ -12,11 +12,11 @@ ghost use Rattle.gq_scenario.specs.Document.{or_zero, number_at, upgrades_of, in
 ghost use Rattle.gq_reader.specs.Rules.{entries_or_none};
 ghost use Rattle.gq_scenario.specs.Trees.{version_number};
 
+use crate::value::{list_at, number_at, number_of, quantity, quantity_at};
 use gq_model::program::Name;
 use gq_program::interface::{Interface, Interfaces, Upgrade};
 use gq_scenario::key::Key;
 use gq_scenario::scenario::Version;
-use crate::value::{list_at, number_at, number_of, quantity, quantity_at};
 use std::alloc::{AllocError, Global};
 use toml::{Table, Value};
 

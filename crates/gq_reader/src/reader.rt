@@ -10,6 +10,8 @@ ghost use Rattle.gq_scenario.specs.Words.{Tells, IsRead};
 use crate::document::read_document;
 use crate::interfaces::read_interfaces;
 use crate::tables::{read_nodes, read_quantum, read_routes_at, take_list};
+use crate::value::table_at;
+use crate::walk::{version_of, walk_fault};
 use gq_model::limits::GREATEST_NODE_DEPTH;
 use gq_scenario::fault::{ScenarioError, ScenarioFault};
 use gq_scenario::key::Key;
@@ -17,8 +19,6 @@ use gq_scenario::scenario::{Nodes, Parts, Route, Scenario, told};
 use gq_scenario::tree::{
     GREATEST_COUNT, count_inits, count_leaves, has_long_routes, is_long, name_twice, push_names,
 };
-use crate::value::table_at;
-use crate::walk::{version_of, walk_fault};
 use std::alloc::{AllocError, Global};
 use toml::Table;
 

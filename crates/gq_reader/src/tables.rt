@@ -16,13 +16,13 @@ ghost use Rattle.gq_scenario.specs.Targets.{target_of};
 ghost use Rattle.gq_scenario.specs.Trees.{version_number, IsBefore};
 ghost use Rattle.gq_scenario.specs.Words.{key_text};
 
+use crate::hexadecimal::unhex;
+use crate::value::{has, number_at, number_of, quantity, quantity_at, text_at, values_at};
 use gq_model::program::Name;
 use gq_program::interface::{Interface, Upgrade};
 use gq_scenario::key::Key;
 use gq_scenario::scenario::{Init, Leaf, Node, Nodes, Quantum, Route, Target, Version};
 use gq_scenario::source::Source;
-use crate::hexadecimal::unhex;
-use crate::value::{has, number_at, number_of, quantity, quantity_at, text_at, values_at};
 use std::alloc::{AllocError, Global};
 use toml::{Table, Value};
 

@@ -6,10 +6,10 @@ ghost use Rattle.gq_model.specs.rules.Resolve.{leaf_child, sibling, unfit, unfit
 ghost use Rattle.gq_resolve.specs.internal.Afters.{named_by, is_named};
 ghost use Rattle.gq_resolve.specs.Resolved.{refused};
 
-use crate::fault::ResolveFault;
-use gq_model::program::Name;
 use crate::component::Component;
+use crate::fault::ResolveFault;
 use crate::routing::Level;
+use gq_model::program::Name;
 use gq_scenario::lines::same_bytes;
 use gq_scenario::scenario::{Leaf, Node, Nodes};
 use gq_scenario::tree::copied;

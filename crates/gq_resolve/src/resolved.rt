@@ -8,14 +8,14 @@ ghost use Rattle.gq_resolve.specs.Resolved.{Finds};
 ghost use Rattle.gq_resolve.specs.Served.{leaf_routes, routes_of, AreServers};
 
 use crate::after::check_after;
+use crate::component::{Component, components};
 use crate::cycle::first_on_cycle;
 use crate::fault::{ResolveError, ResolveFault};
 use crate::quanta::check_quanta;
+use crate::routes::Routes;
 use crate::unrouted::{all_opened, all_routes};
 use gq_model::program::Name;
 use gq_program::program::Program;
-use crate::component::{Component, components};
-use crate::routes::Routes;
 use gq_scenario::scenario::Scenario;
 use gq_scenario::tree::copied;
 use std::alloc::Global;

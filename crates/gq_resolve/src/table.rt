@@ -8,13 +8,13 @@ ghost use Rattle.gq_resolve.specs.Served.{server_at, AreServers};
 ghost use Rattle.gq_scenario.specs.Sizes.{node_count, leaf_places, depth};
 ghost use Rattle.gq_resolve.specs.NodeTables.{IsNodeOf, all_rows, interface_number, leaf_row, leaf_rows, node_rows, rows_of};
 
+use crate::component::Component;
+use crate::routes::{Routes, numbered};
 use arrayvec::ArrayVec;
 use gq_model::limits::GREATEST_LABEL;
 use gq_model::program::Name;
 use gq_program::interface::Interfaces;
 use gq_program::program::Program;
-use crate::component::Component;
-use crate::routes::{Routes, numbered};
 use gq_scenario::lines::same_bytes;
 use gq_scenario::node::NodeNo;
 use gq_scenario::scenario::{LeafNo, Node, Nodes, Quantum, Scenario};

@@ -8,15 +8,15 @@ ghost use Rattle.gq_resolve.specs.Resolved.{Finds, fault_of, refused};
 ghost use Rattle.gq_resolve.specs.Routing.{routed_not};
 ghost use Rattle.gq_resolve.specs.Served.{entry, server_among, leaf_routes};
 
-use crate::fault::{ResolveError, ResolveFault};
-use gq_model::program::Name;
-use gq_program::program::Program;
 use crate::component::Component;
+use crate::fault::{ResolveError, ResolveFault};
 use crate::leaf_names::LeafNames;
 use crate::router::Router;
 use crate::routes::{LeafRoutes, Routes};
 use crate::routing::RouteFault;
 use crate::services::{once, opened};
+use gq_model::program::Name;
+use gq_program::program::Program;
 use gq_scenario::tree::copied;
 use std::alloc::{AllocError, Global};
 

@@ -11,12 +11,12 @@ ghost use Rattle.gq_rules.specs.internal.Reached.{PeaksWith};
 ghost use Rattle.gq_rules.specs.Peaks.{Peaks};
 ghost use Rattle.gq_program.specs.Notes.{is_still};
 
-use gq_caps::Totals;
-use gq_program::notes::keeps_slots;
-use gq_program::{Body, Instruction, Statement};
 use crate::broken::{Broken, at};
 use crate::context::Context;
 use crate::state::State;
+use gq_caps::Totals;
+use gq_program::notes::keeps_slots;
+use gq_program::{Body, Instruction, Statement};
 
 /// Walks through a list of statements, from what is known before it to what is known after it. Statements are counted on from
 /// `place`. A join is judged after what is inside of the arms or the loop. What is measured of the own slots, at the greatest, is kept in

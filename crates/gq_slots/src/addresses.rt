@@ -18,9 +18,9 @@ ghost use Rattle.gq_slots.specs.Addresses.{AreBuffers, AreFound, IsLinked, buffe
 ghost use Rattle.gq_slots.specs.Addresses.{IsNumbered, base_for, own_base, place_in, place_of, place_seen, put_under, slot_for, slot_under};
 ghost use Rattle.gq_slots.specs.internal.Paying.{paying};
 
-use gq_trade::{Session, Spot};
 use crate::slots::Slots;
 use gq_contents::Thing;
+use gq_trade::{Session, Spot};
 use std::marker::Model;
 
 // The addresses of a slot, as many as the most bytes that one can have.

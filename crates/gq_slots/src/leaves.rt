@@ -5,9 +5,9 @@ ghost use Rattle.gq_trade.specs.Ends.{HasNoSessions};
 ghost use Rattle.gq_trade.specs.Trades.{IsLive};
 ghost use Rattle.gq_slots.specs.Session_calls.{EndsLeaf};
 
-use gq_heap::Heap;
 use crate::slots::Slots;
 use gq_contents::Thing;
+use gq_heap::Heap;
 
 /// Ends a leaf from which and to which there is no session: its slots are empty, its account is closed with all that it has in memory, and its quota of
 /// both kinds goes to its init. A node that starts after it has its quantum from now on. The root's account pays.

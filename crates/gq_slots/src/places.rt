@@ -5,9 +5,8 @@ ghost use Rattle.gq_trade.specs.Trades.{with_trading};
 ghost use Rattle.gq_slots.specs.Slots.{IsSlot, IsSpot, thing_at};
 ghost use Rattle.gq_slots.specs.internal.Put.{put_own, put_trading};
 
-use gq_trade::Spot;
 use gq_contents::Thing;
-use gq_trade::Trades;
+use gq_trade::{Spot, Trades};
 
 // Puts something into an empty slot.
 pub(crate) fn fill(trades: &mut Trades, own: &mut Vec<[Thing; 64]>, spot: Spot, contents: Thing)

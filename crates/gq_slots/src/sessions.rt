@@ -17,12 +17,11 @@ ghost use Rattle.gq_trade.specs.Trades.{IsLive};
 ghost use Rattle.gq_slots.specs.Slots.{Frame, thing_at, world_seen};
 ghost use Rattle.gq_slots.specs.Session_calls.{EndsSession, TakesOldest, asking, opening, upgrading, with_trades};
 
-use gq_ram::AccountFault;
-use gq_trade::Request;
-use gq_trade::Spot;
 use crate::slots::Slots;
+use gq_ram::AccountFault;
 use gq_store::GrowFault;
 use gq_tariff::Amount;
+use gq_trade::{Request, Spot};
 
 /// Asks for a session: it takes the lowest free number, the donation goes from its client to its server, through every init on the way, and its
 /// request to open is the last. The client's slot is not touched.

@@ -22,11 +22,10 @@ ghost use Rattle.gq_slots.specs.Slots.{IsSlot, IsSpot, holder, memory_of, slot_o
 ghost use Rattle.gq_slots.specs.Calls.{Puts, Settles};
 
 use crate::places::{clear, fill, replace};
-use gq_heap::Heap;
-use gq_trade::Spot;
-use gq_store::GrowFault;
 use gq_contents::Thing;
-use gq_trade::{Plan, Trades};
+use gq_heap::Heap;
+use gq_store::GrowFault;
+use gq_trade::{Plan, Spot, Trades};
 use std::alloc::{AllocError, Global};
 use std::marker::Model;
 

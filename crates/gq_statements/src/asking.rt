@@ -16,14 +16,13 @@ ghost use Rattle.gq_statements.specs.Systems.{AreLawful, IsOf};
 ghost use Rattle.gq_statements.specs.Requests.{Blocks, IsNextLevel, OwnsLinks, Stays, session_named};
 ghost use Rattle.gq_statements.specs.internal.Leads.{IsLink, IsLinkedAt, IsRoomAt, IsVacant, link_of};
 
+use crate::actor::Actor;
+use gq_contents::Thing;
 use gq_model::fault::Wrong;
 use gq_model::program::Place;
-use gq_trade::Spot;
-use gq_slots::sessions;
-use gq_slots::Slots;
-use crate::actor::Actor;
+use gq_slots::{Slots, sessions};
 use gq_tariff::Amount;
-use gq_contents::Thing;
+use gq_trade::Spot;
 
 // What holds of slots between two calls. It does nothing.
 fn lawful(slots: &Slots)

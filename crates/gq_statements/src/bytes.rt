@@ -16,12 +16,11 @@ ghost use Rattle.gq_contents.specs.Things.{bytes_in, put_in};
 ghost use Rattle.gq_statements.specs.internal.Found.{IsFound, byte_count};
 
 use crate::actor::Actor;
-use gq_slots::Addresses;
+use gq_contents::Thing;
 use gq_model::fault::Wrong;
 use gq_model::program::{Place, Width};
+use gq_slots::{Addresses, Slots};
 use gq_trade::Spot;
-use gq_slots::Slots;
-use gq_contents::Thing;
 
 // How many bytes a thing has, if it is one of bytes.
 fn byte_count(thing: Thing) -> Option<u64>

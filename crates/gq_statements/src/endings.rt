@@ -8,11 +8,10 @@ ghost use Rattle.gq_slots.specs.Session_calls.{EndsLeaf};
 ghost use Rattle.gq_statements.specs.Serving.{IsAloneWithoutLinks, IsReleased, finished, own_slots};
 ghost use Rattle.gq_statements.specs.internal.Tests.{has_no_link, is_link};
 
-use gq_model::fault::Wrong;
-use gq_trade::Spot;
-use gq_slots::leaves;
-use gq_slots::Slots;
 use gq_contents::Thing;
+use gq_model::fault::Wrong;
+use gq_slots::{Slots, leaves};
+use gq_trade::Spot;
 
 /// The end of `main` of a leaf that provides no service: it holds nothing from now on, its account is closed, and who starts after it has its quantum.
 ///

@@ -18,8 +18,8 @@ ghost use Rattle.gq_statements.specs.internal.Found.{IsPool, entries_in};
 use crate::actor::Actor;
 use gq_model::fault::Wrong;
 use gq_model::program::Place;
-use gq_trade::Spot;
 use gq_slots::Slots;
+use gq_trade::Spot;
 
 impl Actor {
     // The pool that a statement names: where it stands, the bytes of an entry, and how many entries there are. `None` where it names none.

@@ -15,12 +15,10 @@ ghost use Rattle.gq_statements.specs.Systems.{IsOf};
 ghost use Rattle.gq_statements.specs.Serving.{Closes, GoesOn, IsAwaited};
 ghost use Rattle.gq_statements.specs.internal.Tests.{are_empty, fits, is_empty, is_space_of};
 
-use gq_slots::Addresses;
-use gq_model::fault::Wrong;
-use gq_trade::{Session, Spot};
-use gq_slots::sessions;
-use gq_slots::Slots;
 use gq_contents::Thing;
+use gq_model::fault::Wrong;
+use gq_slots::{Addresses, Slots, sessions};
+use gq_trade::{Session, Spot};
 
 /// The reply to a request to upgrade a session or to call at it: the client's slot, which waited, is the link to the session, and the client goes on. A
 /// call's result is one operand more of the client's.

@@ -15,13 +15,11 @@ ghost use Rattle.gq_statements.specs.internal.Beginning.{can_pay, has_some, sect
 ghost use Rattle.gq_trade.specs.Stores.{store_of};
 ghost use Rattle.gq_model.specs.declared.fault.Wrong.TheVariants as wrong;
 
-use gq_trade::Memory;
 use gq_model::fault::Wrong;
 use gq_model::program::Section;
-use gq_trade::{Ask, Request};
-use gq_slots::sessions;
-use gq_slots::Slots;
+use gq_slots::{Slots, sessions};
 use gq_tariff::round_up;
+use gq_trade::{Ask, Memory, Request};
 
 /// What a leaf that serves knows of its program and its service: which sections it has, each at its place in `Section::ALL`; how many bytes the object
 /// of a session has; and whether capabilities are counted.

@@ -5,8 +5,7 @@ ghost use Rattle.gq_ram.specs.Trees.{AreNodes, account_of, donated, number};
 ghost use Rattle.gq_trade.specs.Rest.{IsClosed};
 
 use gq_dataspace::DsId;
-use gq_ram::AccountTree;
-use gq_ram::{AccountFault, AccountNo, Accounts};
+use gq_ram::{AccountFault, AccountNo, AccountTree, Accounts};
 use gq_store::{ByteStore, ChunkNo, GrowFault};
 use gq_tariff::Amount;
 use gq_tariff::price::PAGE;

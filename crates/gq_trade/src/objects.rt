@@ -14,9 +14,9 @@ ghost use Rattle.gq_contents.specs.Paid.{Pays};
 ghost use Rattle.gq_trade.specs.Trading.{SameOthers};
 
 use crate::memory::Memory;
+use gq_contents::Thing;
 use gq_ram::AccountNo;
 use gq_store::GrowFault;
-use gq_contents::Thing;
 
 // A new slice of `size` bytes, which read 0, that this account pays for. The account at hand stays.
 pub(crate) fn make_slice_for(

@@ -1,6 +1,6 @@
 // What a session is.
-use gq_tariff::Amount;
 use gq_contents::Thing;
+use gq_tariff::Amount;
 
 /// Where a slot stands.
 #[derive(Clone, Copy, Debug, PartialEq, Eq)]

@@ -16,17 +16,16 @@ ghost use Rattle.gq_trade.specs.Trading.{client_of, entered, fresh};
 ghost use Rattle.gq_trade.specs.Trading.{given, its_account, opened, raised, server_of, session_at, store_of, upgraded, with_ask, with_memory, with_more};
 ghost use Rattle.gq_trade.specs.Trading.{handed_on, node_of, root_no, with_requests, with_session, with_sessions, with_slot};
 
-use crate::objects::{free_slice_of, make_slice_for};
-use crate::session::{Session, Spot};
-use gq_ram::AccountTree;
 use crate::memory::Memory;
-use gq_model::limits::GREATEST_LEAVES;
 use crate::numbered::Numbered;
-use gq_ram::{AccountFault, AccountNo};
+use crate::objects::{free_slice_of, make_slice_for};
 use crate::requests::{Ask, Request, Requests};
+use crate::session::{Session, Spot};
+use gq_contents::Thing;
+use gq_model::limits::GREATEST_LEAVES;
+use gq_ram::{AccountFault, AccountNo, AccountTree};
 use gq_store::{ByteStore, ChunkNo, GrowFault};
 use gq_tariff::{Amount, price_slice};
-use gq_contents::Thing;
 use std::alloc::{AllocError, Global};
 use std::marker::Model;
 

@@ -19,16 +19,15 @@ ghost use Rattle.gq_trade.specs.Balances.{node_at, quota, use_of};
 ghost use Rattle.gq_trade.specs.Waiting.{IsIdle};
 ghost use Rattle.gq_trade.specs.Trades.{HasAccount, IsLive, IsTrades, with_trading};
 
-use crate::node::{Node, Stage, follower, handed_to};
-use gq_ram::AccountTree;
 use crate::memory::Memory;
-use gq_ram::{AccountFault, AccountNo, Accounts};
+use crate::node::{Node, Stage, follower, handed_to};
 use crate::requests::Request;
 use crate::session::{Session, Spot};
 use crate::sessions::Sessions;
+use gq_contents::Thing;
+use gq_ram::{AccountFault, AccountNo, AccountTree, Accounts};
 use gq_store::{ByteStore, ChunkNo, GrowFault};
 use gq_tariff::Amount;
-use gq_contents::Thing;
 use std::alloc::{AllocError, Global};
 use std::marker::Model;
 

@@ -8,8 +8,8 @@ ghost use Rattle.gq_world.specs.internal.Going.{AreBelow};
 ghost use Rattle.gq_unverified.specs.internal.Taking.{HasCome, HasRoom, IsCut, IsNear, turns_in};
 
 use arrayvec::ArrayVec;
-use gq_laws::turns::turn_laws;
 use gq_init::counted::{Counted, WriteFault};
+use gq_laws::turns::turn_laws;
 use gq_machine::event::Event;
 use gq_machine::machine::Machine;
 use gq_model::fault::Wrong;

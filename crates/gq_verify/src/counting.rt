@@ -20,9 +20,9 @@ use crate::asked::Requests;
 use crate::asking::{ByLevel, section_by};
 use crate::service::Service;
 use gq_caps::Totals;
-use gq_rules::flow::flow;
 use gq_program::notes::keeps_slots;
 use gq_program::{Body, Instruction, Place, Section, Statement};
+use gq_rules::flow::flow;
 use gq_rules::{Context, State};
 use std::alloc::{AllocError, Global};
 

@@ -7,8 +7,8 @@ ghost use Rattle.gq_rules.specs.Flowing.{few_loops};
 ghost use Rattle.gq_rules.specs.internal.Steps.{next_state};
 
 use gq_caps::Totals;
-use gq_rules::flow::flow;
 use gq_program::Statement;
+use gq_rules::flow::flow;
 use gq_rules::{Context, State};
 
 /// What is known before the next statement of a list that breaks no rule.

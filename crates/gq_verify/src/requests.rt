@@ -8,10 +8,10 @@ ghost use Rattle.gq_verify.specs.Counting.{saturated};
 ghost use Rattle.gq_verify.specs.Requested.{requests_for};
 ghost use Rattle.gq_verify.specs.internal.Starting.{IsStarts};
 
-use crate::starts::Starts;
-use crate::asking::{Asked, requests};
 use crate::asked::Requests;
+use crate::asking::{Asked, requests};
 use crate::counting::all_requests;
+use crate::starts::Starts;
 use gq_program::Section;
 use gq_rules::{Context, Subject};
 use std::alloc::{AllocError, Global};

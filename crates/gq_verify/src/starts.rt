@@ -13,9 +13,9 @@ ghost use Rattle.gq_verify.specs.internal.Starting.{IsStarts};
 
 use crate::ends::main_section_end;
 use gq_caps::{Bank, Totals};
-use gq_rules::flow::flow;
 use gq_model::limits::{OWN_SLOTS, SESSION_SLOTS};
 use gq_program::Section;
+use gq_rules::flow::flow;
 use gq_rules::{Broken, Context, State, Subject, at};
 
 /// Walks through the statements of a section, and answers how many there are.

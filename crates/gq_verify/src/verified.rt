@@ -10,13 +10,13 @@ ghost use Rattle.gq_verify.specs.Requested.{requests_for};
 ghost use Rattle.gq_verify.specs.Faults.{known_fault};
 ghost use Rattle.gq_verify.specs.Subjects.{subject_of, cost_in};
 
+use crate::asked::Requests;
+use crate::asking::Asked;
 use crate::fault::Fault;
 use crate::own::own;
 use crate::requests::{section_counts, section_requests};
 use crate::sections::program_fault;
 use crate::starts::Starts;
-use crate::asking::Asked;
-use crate::asked::Requests;
 use crate::steps::section_cost;
 use gq_program::{Interfaces, Name, Program, Section};
 use gq_rules::Subject;

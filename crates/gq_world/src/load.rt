@@ -11,9 +11,9 @@ use crate::fault::RunFault;
 use crate::world::World;
 use gq_laws::accepted::accepted_laws;
 use gq_load::accepted::Accepted;
-use gq_machine::machine::Machine;
 use gq_load::loaded::loaded_laws;
 use gq_load::read::read_laws;
+use gq_machine::machine::Machine;
 use std::alloc::Global;
 
 impl World {

@@ -14,9 +14,9 @@ ghost use Rattle.gq_world.specs.Outcomes.{IsBefore, IsCutShort, IsFaultOf, IsWho
 use crate::fault::RunFault;
 use crate::world::World;
 use gq_init::TurnItem;
-use gq_init::turns::{TurnsError, read_items};
 use gq_init::counted::{Counted, WriteFault};
 use gq_init::lines::Lines;
+use gq_init::turns::{TurnsError, read_items};
 use gq_scenario::scenario::LeafNo;
 use std::alloc::Global;
 use std::io::Write;

@@ -1,8 +1,8 @@
 //! The program `unverified SCENARIO TURNS`, for tests: runs a scenario that is read and resolved, but not judged, up to its first wrong step.
 #![tactic(auto)]
 
-use gq_command::status::Status;
 use gq_command::input::{InputError, read_input};
+use gq_command::status::Status;
 use gq_unverified::run::run_unverified;
 use gq_world::Counted;
 use gq_world::fault::RunFault;
