@@ -95,8 +95,8 @@ class Reading(unittest.TestCase):
         self.assertEqual(set(said.refused), {"shapes::Box::half", "methods::even"})
         self.assertTrue(why_refused(half, said) and why_refused(even, said) and has_read(said, [half, even]))
         self.assertEqual(why_refused(start, said), "")
-        self.assertFalse(breaks_others(Crates(), "gq_numbered", [half, even], said))
-        self.assertTrue(breaks_others(Crates(), "gq_numbered", [half], said))
+        self.assertFalse(breaks_others(Crates(), "gq_trade", [half, even], said))
+        self.assertTrue(breaks_others(Crates(), "gq_trade", [half], said))
 
     def test_what_says_nothing_of_a_contract(self):
         half = self.edit(("self.size / 2", "self.size"))

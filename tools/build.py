@@ -5,33 +5,28 @@ It tells on standard error which crate of how many was proved, and how long that
 where the program was built; what the toolchain said of a crate is in crates/NAME/out/build.log.
 """
 import concurrent.futures
-import hashlib
 import os
-import re
 import sys
 import time
 
-from crates import PARTS, TOP, Crates
+from crates import Crates
+from made_from import MADE, is_made_from, origins, put_down
 
-MADE = "made-from"
 # Of so many crates that are left, each gets one job more.
 LAST = 10
 LINES_A_SECOND = 10
 
 
-def seconds(name):
-    """About how many processor seconds the proof of a crate takes: by the table of docs/GATE.md, or by its lines where that has none."""
-    row = re.search(rf"^\| `{name}` \|(?: [^|]* \|){{5}} ([\d,]+) \|", (TOP / "docs" / "GATE.md").read_text(encoding="utf-8"), re.MULTILINE)
-    if row:
-        return int(row[1].replace(",", ""))
-    return sum(path.read_bytes().count(b"\n") for path in (TOP / "crates" / name / "src").rglob("*.rt")) / LINES_A_SECOND
+def seconds(name, crates):
+    """About how many processor seconds the proof of a crate takes, by the lines of its code: enough to know what is to be built first."""
+    return sum(path.read_bytes().count(b"\n") for path in (crates.folder(name) / "src").rglob("*.rt")) / LINES_A_SECOND
 
 
 def heights(names, crates):
     """For each crate, how many seconds the longest way from it up to the program takes: what is to be built first."""
     found = {}
     for name in reversed(names):
-        found[name] = seconds(name) + max((found[above] for above in found if name in crates.own(above)), default=0)
+        found[name] = seconds(name, crates) + max((found[above] for above in found if name in crates.own(above)), default=0)
     return found
 
 
@@ -45,35 +40,22 @@ def jobs_of(is_first, beside, left, processors):
     return min(max(processors // beside, fewest), processors)
 
 
-def origins(names, crates):
-    """For each crate, a sum of all that its library or program is made from: its sources, the libraries that it lists, and the toolchain."""
-    kit, found = (crates.kit / "KIT-ID").read_bytes(), {}
-    for name in names:
-        told = hashlib.sha256(kit + repr(crates.uses[name]).encode())
-        for path in sorted(path for part in PARTS for path in (TOP / "crates" / name / part).rglob("*") if path.is_file()):
-            told.update(repr((str(path.relative_to(TOP)), path.read_bytes())).encode())
-        told.update("".join(found[used] for used in crates.own(name)).encode())
-        found[name] = told.hexdigest()
-    return found
-
-
-def build(name, crates, origin, jobs):
-    """Builds a crate where it is not built from these sources yet. Gives the seconds that it took, or None where it failed."""
+def build(name, crates, origin, when, jobs):
+    """Builds a crate where it is not built from these sources yet, as they were at a time. Gives the seconds that it took, or None where it failed."""
     start, out = time.monotonic(), crates.folder(name) / "out"
-    made = out / MADE
-    if made.is_file() and made.read_text(encoding="utf-8") == origin and crates.product(name).exists():
+    if is_made_from(name, crates, origin):
         return 0.0
     out.mkdir(exist_ok=True)
-    made.unlink(missing_ok=True)
+    (out / MADE).unlink(missing_ok=True)
     with open(out / "build.log", "wb") as log:
         if not crates.build(name, jobs, log):
             return None
-    made.write_text(origin, encoding="utf-8")
+    put_down(name, crates, origin, when)
     return time.monotonic() - start
 
 
 def main():
-    program, crates = sys.argv[1], Crates()
+    program, crates, when = sys.argv[1], Crates(), time.time()
     names = [*crates.below(program), program]
     height, origin = heights(names, crates), origins(names, crates)
     left, running, done, begun = sorted(names, key=lambda name: -height[name]), {}, [], {}
@@ -88,7 +70,7 @@ def main():
                 jobs = jobs_of(ahead[name] == max(ahead.values()), len(beside), len(left), processors)
                 left.remove(name)
                 begun[name] = now
-                running[pool.submit(build, name, crates, origin[name], jobs)] = name
+                running[pool.submit(build, name, crates, origin[name], when, jobs)] = name
             finished, _ = concurrent.futures.wait(running, return_when=concurrent.futures.FIRST_COMPLETED)
             for future in finished:
                 name = running.pop(future)

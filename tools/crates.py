@@ -13,10 +13,10 @@ PARTS = ("src", "specs", "proofs")
 TARGET = "x86_64-unknown-linux-gnu"
 
 
-def listed():
-    """For each crate, in the order of crates.txt, the libraries that it lists."""
+def listed(at):
+    """For each crate, in the order of the crates.txt of a folder, the libraries that it lists."""
     found = {}
-    for line in (TOP / "crates.txt").read_text(encoding="utf-8").split("\n"):
+    for line in (at / "crates.txt").read_text(encoding="utf-8").split("\n"):
         name, _, uses = line.partition("#")[0].partition(":")
         if name.strip():
             found[name.strip()] = uses.split()
@@ -28,7 +28,8 @@ class Crates:
 
     def __init__(self, at=TOP):
         page = subprocess.run(["rt", "doc"], capture_output=True, text=True, check=True).stdout.strip()
-        self.kit, self.at, self.uses, self.found = pathlib.Path(page).parent, pathlib.Path(at).resolve(), listed(), {}
+        self.kit, self.at, self.found = pathlib.Path(page).parent, pathlib.Path(at).resolve(), {}
+        self.uses = listed(self.at)
 
     def own(self, name):
         """The crates of the repository that a crate lists."""
@@ -53,7 +54,7 @@ class Crates:
 
     def is_program(self, name):
         """Whether a crate is a program, and no library."""
-        return (TOP / "crates" / name / "src" / "main.rt").is_file()
+        return (self.folder(name) / "src" / "main.rt").is_file()
 
     def product(self, name):
         """What is built of a crate, its program or its library."""

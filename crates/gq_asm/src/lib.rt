@@ -1,21 +1,10 @@
-//! The assembler of program text.
+//! The assembler of program text: from its lines and words to a program, or to the first line at fault.
 //!
 //! ```rust
 //! use gq_asm::assemble;
 //!
 //! let program = assemble(rt.alloc(), b"main\nsay \"hello\"\nend\n")?;
 //! assert_eq!(rt; program.sections().len(), 1);
-//! ```
-//!
-//! What stands at the front of program text: its first line, the words of a line, what one word says (a number, a slot, or which statement), and usual
-//! lines at once.
-//!
-//! ```rust
-//! use gq_asm::{next_word, number_in, shape_with};
-//!
-//! assert_eq!(rt; next_word(b" push 1"), Some((b"push".as_slice(), b" 1".as_slice())));
-//! assert_eq!(rt; number_in(b"4096", 10, 1, 65535), Some(4096));
-//! assert!(rt; shape_with(b"push").is_some());
 //! ```
 #![tactic(auto)]
 

@@ -3,7 +3,6 @@ pub mod Sums
 pub mod Lists
 pub mod Asked
 pub mod Kept
-pub mod Agreeing
 pub mod Ends
 pub mod Orders
 mod Leads

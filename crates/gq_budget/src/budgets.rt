@@ -7,8 +7,7 @@ ghost use Rattle.gq_budget.specs.Counts.{AreCountsOf, AgreeWhereAsked};
 ghost use Rattle.gq_budget.specs.internal.Rounds.{rounds, budgets_by};
 
 use crate::asks::{LeafAsks, all_asks};
-use crate::counted::{CountedLeaf, counted};
-use crate::leaf::Leaf;
+use crate::counted::CountedLeaf;
 use crate::levels::in_order;
 use crate::numbers::Numbers;
 use crate::rounds::rounds;
@@ -52,20 +51,5 @@ pub fn counted_budgets(
     let asks = all_asks(alloc, leaves, leads)?;
     let often = times(alloc, &asks, leaves.len())?;
     let steps = budgets(alloc, leaves, &often)?;
-    Ok(steps)
-}
-
-/// The greatest number of steps of each of the leaves of a system; 2^64 - 1 where there are more. `leads` tells for each leaf which leaves'
-/// routes for the service that it provides lead to it.
-pub fn step_budgets(
-    alloc: Global,
-    leaves: &[Leaf<'_>],
-    leads: &[Vec<bool>],
-) -> Result<Vec<u64>, AllocError>
-    ensures { (system : System) → leaves.now ≡ leaves_of system → map (λ v. v.items) leads.now ≡ leads_of system →
-        IfOk result (λ steps. steps.items ≡ budgets_of system) }
-{
-    let counted = counted(alloc, leaves)?;
-    let steps = counted_budgets(alloc, &counted, leads)?;
     Ok(steps)
 }

@@ -1,6 +1,6 @@
 // Leaves whose sections are counted.
 ghost use Rattle.std.specs.Prelude.{◌≡◌, ◌++◌, IfOk, OnOk, option_copied};
-ghost use Rattle.gq_budget.specs.Counts.{IsCountOf, AreCountsOf, asks};
+ghost use Rattle.gq_budget.specs.Counts.{IsCountOf, asks};
 ghost use Rattle.gq_budget.specs.internal.Rounds.{askers_in};
 
 use crate::leaf::Leaf;
@@ -101,15 +101,4 @@ impl CountedLeaf {
         }
         Ok(())
     }
-}
-
-// These leaves, each gone through once.
-pub(crate) fn counted(alloc: Global, leaves: &[Leaf<'_>]) -> Result<Vec<CountedLeaf>, AllocError>
-    ensures { IfOk result (λ counted. AreCountsOf counted.items leaves.now) }
-{
-    let mut counted = Vec::new(alloc);
-    for leaf in leaves {
-        counted.push(CountedLeaf::new(alloc, leaf)?)?;
-    }
-    Ok(counted)
 }

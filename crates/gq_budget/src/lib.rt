@@ -1,14 +1,5 @@
-//! How often each section of each leaf runs along use, and the steps that each leaf may take.
-//!
-//! ```rust
-//! use gq_budget::{Leaf, step_budgets};
-//!
-//! // Two leaves whose programs are judged; a route of the second leads to the first.
-//! let leaves = [Leaf::new(&server, &judged_server, Some(&echo)), Leaf::new(&client, &judged_client, None)];
-//! let steps = step_budgets(alloc, &leaves, &leads)?;
-//! ```
-//!
-//! How many steps each leaf of a scenario may take, from what was counted of its program and who may ask it, by the scenario's routes.
+//! How many steps each leaf of a scenario may take: how often each section of it runs, from what was counted of its program and who may ask it, by the
+//! scenario's routes.
 //!
 //! ```rust
 //! use gq_budget::steps_of;
@@ -27,7 +18,6 @@ mod numbers;
 mod rounds;
 mod steps;
 
-pub use budgets::step_budgets;
 pub use counted::CountedLeaf;
 pub use leaf::Leaf;
 pub use steps::steps_of;

@@ -17,13 +17,20 @@ const ABOUT: &str = "Runs components that trade memory and capabilities under qu
 const USAGE: &str =
     "trade check <SCENARIO>\n       trade run <SCENARIO> <TURNS>\n       trade asm <SCENARIO> <LEAF>\n       trade < STORED";
 
+const CHECK_USAGE: &str = "trade check <SCENARIO>";
+
 const CHECK_ABOUT: &str =
     "Print what each leaf of the scenario in the file SCENARIO uses at most, whatever the turns";
 
-const RUN_ABOUT: &str = "Run the scenario in the file SCENARIO over the turns in the file TURNS";
+const RUN_TEXTS: Texts<'static> = Texts {
+    about: "Run the scenario in the file SCENARIO over the turns in the file TURNS",
+    usage: "trade run <SCENARIO> <TURNS>",
+};
 
-const ASM_ABOUT: &str =
-    "Print the code of the leaf LEAF of the scenario in the file SCENARIO, in hexadecimal";
+const ASM_TEXTS: Texts<'static> = Texts {
+    about: "Print the code of the leaf LEAF of the scenario in the file SCENARIO, in hexadecimal",
+    usage: "trade asm <SCENARIO> <LEAF>",
+};
 
 const AFTER: &str = "\
 A check prints a line for each leaf: the bytes of its own quantum and the steps that it uses at most.
@@ -65,7 +72,7 @@ fn command_line<'a>(alloc: Global) -> Result<clap::Command<'a>, AllocError>
     ensures { IfOk result (λ line. app_of line ≡ trade) }
 {
     let line = with_run(alloc)?;
-    match scenario_command(alloc, "asm", ASM_ABOUT, "LEAF", "The name of the leaf") {
+    match scenario_command(alloc, "asm", ASM_TEXTS, "LEAF", "The name of the leaf") {
         Ok(asm) => line.subcommand(asm),
         Err(refused) => Err(refused),
     }
@@ -76,7 +83,7 @@ fn with_run<'a>(alloc: Global) -> Result<clap::Command<'a>, AllocError>
     ensures { IfOk result (λ line. app_of line ≡ trade_without_asm) }
 {
     let line = with_check(alloc)?;
-    match scenario_command(alloc, "run", RUN_ABOUT, "TURNS", "The file of the turns") {
+    match scenario_command(alloc, "run", RUN_TEXTS, "TURNS", "The file of the turns") {
         Ok(run) => line.subcommand(run),
         Err(refused) => Err(refused),
     }
@@ -104,14 +111,22 @@ fn check_command<'a>(alloc: Global) -> Result<clap::Command<'a>, AllocError>
     let scenario = word_argument(alloc, "SCENARIO", "The file of the scenario");
     clap::Command::new(alloc, "check")
         .about(CHECK_ABOUT)
+        .override_usage(CHECK_USAGE)
         .arg(scenario)
+}
+
+// What help says of a command: what it does, and its words.
+#[derive(Clone, Copy)]
+struct Texts<'a> {
+    about: &'a str,
+    usage: &'a str,
 }
 
 // A command on the file of a scenario, with a second word.
 fn scenario_command<'a>(
     alloc: Global,
     name: &'a str,
-    about: &'a str,
+    texts: Texts<'a>,
     second: &'a str,
     help: &'a str,
 ) -> Result<clap::Command<'a>, AllocError>
@@ -121,7 +136,8 @@ fn scenario_command<'a>(
     let scenario = word_argument(alloc, "SCENARIO", "The file of the scenario");
     let second = word_argument(alloc, second, help);
     clap::Command::new(alloc, name)
-        .about(about)
+        .about(texts.about)
+        .override_usage(texts.usage)
         .arg(scenario)?
         .arg(second)
 }

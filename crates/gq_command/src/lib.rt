@@ -1,19 +1,14 @@
-//! The command line of `trade`, apart from what its commands do: which command its words name, and the status it ends with.
+//! The command line of `trade`, apart from what its commands do: which command its words name, what is read of its inputs, and the status it ends with.
 //!
 //! ```rust
 //! use gq_command::command::Command;
 //! use gq_command::command_line::command;
-//!
-//! let command = command(rt.alloc(), &["check", "hello.toml"])?;
-//! assert!(rt; matches!(command, Command::Check(_)));
-//! ```
-//!
-//! What the commands of `trade` read: an input whole, up to a limit, and the stored form of a run in its two parts.
-//!
-//! ```rust
 //! use gq_command::input::read_input;
 //! use gq_command::stored::parted;
 //!
+//! let command = command(rt.alloc(), &["check", "hello.toml"])?;
+//! assert!(rt; matches!(command, Command::Check(_)));
+//! // An input is read whole, up to a limit; the stored form of a run has two parts.
 //! let input = read_input(rt.alloc(), &mut rt.stdin())?;
 //! let (scenario, turns) = parted(input.as_slice());
 //! ```

@@ -1,11 +1,6 @@
 -- The line of a leaf that says something.
 use Rattle.std.specs.Prelude.{ℕ, ◌++◌, ◌∷◌, [], List, codes}
 
--- the label of the leaf, and the bytes of its line
-pub record LeafLine : Type 0 where
-  pub label : List ℕ
-  pub bytes : List ℕ
-
 -- what stands in front of what a leaf with this label says
 abbrev pub front_of : List ℕ → List ℕ
 front_of label = codes "[" ++ label ++ codes "] "

@@ -1,4 +1,4 @@
-//! Turns: by the table of the nodes of a scenario, which is read and resolved, the turns of a text are read.
+//! What a run starts with and how it tells: the turns of a text, and the lines that go to a writer which counts its failures.
 //!
 //! ```rust
 //! use gq_init::{NodeTable, read_turns};
@@ -8,17 +8,15 @@
 //! let turns = read_turns(alloc, b"hello 2\n", &table)?;
 //! ```
 //!
-//! Lines of text and the writer that they go to: a writer that counts its failures, the line of a leaf that says something, and that of an account.
+//! `leaf_line` and `lines` are what leaves say, `account_line` is the line of an account.
 //!
 //! ```rust
 //! use gq_init::counted::{Counted, put};
-//! use gq_init::leaf_line::LeafLine;
+//! use gq_init::leaf_line::text_line;
 //!
 //! let mut out = Counted::new(writer);
-//! let mut line = LeafLine::new();
-//! line.begin(b"init -> hello");
-//! line.say(b"hello");
-//! put(&mut out, line.as_bytes())?;
+//! let line = text_line(b"init -> hello", b"hello");
+//! put(&mut out, line.as_slice())?;
 //! ```
 #![tactic(auto)]
 

@@ -1,28 +1,15 @@
 //! Laws of the account machine: theorems over its definitions alone, each the contract of a call that does nothing.
 //!
+//! - `accepted`, `reached`, `ready`, `room`, `statements`, `turns`: what holds of every world of a sound scenario, and of its runs;
+//! - `progress`: no deadlock, and all work ends;
+//! - `separation`: what joins no service with the rest is not touched by the rest's turns;
+//! - `alone`: such a group runs as if it were alone.
+//!
 //! ```rust
 //! use gq_laws::accepted::accepted_laws;
 //!
 //! // From here on the proof of this function knows of every run of a sound scenario.
 //! accepted_laws();
-//! ```
-//!
-//! Components that share no service are apart: theorems over the definitions of the account machine alone.
-//!
-//! ```rust
-//! use gq_laws::separation::separation_laws;
-//!
-//! // From here on the proof of this function knows of a group that is apart.
-//! separation_laws();
-//! ```
-//!
-//! A group of components that is apart runs as if it were alone: theorems over the definitions of the account machine.
-//!
-//! ```rust
-//! use gq_laws::alone::apart_laws;
-//!
-//! // From here on the proof of this function knows of the lines and the accounts of a group that is apart.
-//! apart_laws();
 //! ```
 #![tactic(auto)]
 

@@ -36,7 +36,7 @@ impl Leaf {
         let _fetched = fetched;
     }
 
-    /// Asks for the end of the session of a link, and waits for the reply. Wrong as `gq_asking::close` says; then nothing changes.
+    /// Asks for the end of the session of a link, and waits for the reply. Wrong as `gq_statements::close` says; then nothing changes.
     pub fn close(&mut self, place: Place, number: usize, slots: &mut Slots) -> Result<(), Wrong>
         requires next { operation_of self.old ≡ Some (operation.Close place) }
         requires countable { self.old.state.steps + 1 < 2 ^ 64 }
@@ -66,7 +66,7 @@ impl Leaf {
     }
 
     /// Calls the service of a link with the top operand, and waits for the reply. `MissingOperand` where there is none; else wrong as
-    /// `gq_asking::call` says. Then nothing changes.
+    /// `gq_statements::call` says. Then nothing changes.
     pub fn call(&mut self, place: Place, number: usize, slots: &mut Slots) -> Result<(), Wrong>
         requires next { operation_of self.old ≡ Some (operation.Call place) }
         requires countable { self.old.state.steps + 1 < 2 ^ 64 }
@@ -100,7 +100,7 @@ impl Leaf {
     }
 
     /// Asks for the next level of the session of a link, gives its server what that needs, and waits for the reply. Wrong as
-    /// `gq_asking::upgrade` says; then nothing changes.
+    /// `gq_statements::upgrade` says; then nothing changes.
     pub fn upgrade(
         &mut self,
         place: Place,
@@ -138,7 +138,7 @@ impl Leaf {
         }
     }
 
-    /// Asks a server for a session of a service, gives it what the service needs, and waits for the reply. Wrong as `gq_asking::open` says; then
+    /// Asks a server for a session of a service, gives it what the service needs, and waits for the reply. Wrong as `gq_statements::open` says; then
     /// nothing changes.
     pub fn open(
         &mut self,

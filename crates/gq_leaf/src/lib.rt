@@ -1,7 +1,7 @@
-//! Steps of a leaf, each as the account machine has it: what the leaf does alone, and statements on memory, text and sessions.
+//! A leaf with the bytecode of its program, and each of its steps as the account machine has it.
 //!
-//! A [`Leaf`] has the code of its program and stands at a place in it. [`Leaf::run`] takes the steps in which the leaf alone has a part, and
-//! [`Leaf::run_over`] most of those on its memory, too; who runs the leaf then does the operation that it came to, over the slots of the machine.
+//! A [`Leaf`] stands at a place in its code. [`Leaf::run`] takes the steps in which the leaf alone has a part, and [`Leaf::run_over`] most of those on its
+//! memory, too; who runs the leaf then does the operation that it came to, over the slots of the machine.
 //!
 //! ```rust
 //! use gq_leaf::Leaf;
@@ -11,14 +11,14 @@
 //! let (reached, left) = leaf.run(1000);
 //! ```
 //!
-//! What statements do to a leaf's operands and to slots, each as the account machine has it.
+//! `operations`, `on_memory` and `asking` have what the operations do to a leaf's operands and to slots.
 //!
 //! ```rust
 //! use gq_leaf::on_memory::{load, store};
 //!
 //! // `store4 o0` and `load4 o0`, with their operands on those of the leaf.
 //! store(&mut registers, actor, &addresses, &mut slots, Width::Word, Place::Own(0))?;
-//! load(&mut registers, actor, &addresses, &slots, Width::Word, Place::Own(0))?;
+//! load(&mut registers, actor, &addresses, &mut slots, Width::Word, Place::Own(0))?;
 //! ```
 #![tactic(auto)]
 

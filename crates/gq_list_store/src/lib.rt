@@ -11,12 +11,12 @@
 //! store.shrink(chunk);
 //! ```
 //!
-//! An example: two pools of one class, a block and a slice side by side in one store, and what each keeps under the calls of the others.
+//! [`share`] is an example of allocators that share a store: two pools of one class, a block and a slice, each of which keeps what it has while the others are
+//! used.
 //!
 //! ```rust
 //! use gq_list_store::share;
 //!
-//! // Two pools, a block and a slice lie in one store; each keeps what it has while the others are used.
 //! assert_eq!(rt; share(&mut heap, &mut store)?, (7, 9, 5));
 //! ```
 #![tactic(auto)]

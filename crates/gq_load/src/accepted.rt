@@ -3,7 +3,7 @@ ghost use Rattle.std.specs.Prelude.{◌≡◌, None, Ok, length, map, IfOk, IfEr
 ghost use Rattle.gq_model.specs.machine.Scenario as model;
 ghost use Rattle.gq_model.specs.machine.Scenario.{system};
 ghost use Rattle.gq_model.specs.rules.Accept as accept;
-ghost use Rattle.gq_model.specs.rules.Accept.{IsAccepted, refusal, budget_lines};
+ghost use Rattle.gq_model.specs.rules.Accept.{IsAccepted, refusal};
 ghost use Rattle.gq_resolve.specs.NodeTables.{all_rows};
 ghost use Rattle.gq_resolve.specs.Served.{AreServers};
 ghost use Rattle.gq_load.specs.internal.Accepted.{AreOfAccepted};
@@ -15,7 +15,6 @@ ghost use Rattle.gq_load.specs.Load.{loaded, scenario_fault, refused};
 
 use crate::budget::{Budget, budgets_of};
 use crate::fault::{LoadError, LoadFault};
-use crate::line;
 use crate::over::{check_caps, check_ram, check_steps};
 use crate::programs::read_programs;
 use crate::surveys::{Surveys, survey_programs};
@@ -207,12 +206,5 @@ impl Accepted {
         ensures budgets { result.1.items ≡ accept.budgets self }
     {
         (self.table, self.budgets)
-    }
-
-    /// A line for each leaf's budget, in preorder. Refused only for want of host memory.
-    pub fn budget_lines(&self, alloc: Global) -> Result<Vec<u8>, AllocError>
-        ensures { IfOk result (λ text. text.items ≡ budget_lines self.now) }
-    {
-        line::budget_lines(alloc, &self.table, self.budgets.as_slice())
     }
 }

@@ -2,13 +2,15 @@
 //!
 //! ```rust
 //! use gq_load::accepted::Accepted;
+//! use gq_load::checked::checked_lines;
 //!
 //! let accepted = Accepted::read(alloc, text)?;
-//! let lines = accepted.budget_lines(alloc)?;
 //! let (table, budgets) = accepted.into_parts();
+//! // The lines of the budgets alone, for which no program has to stay.
+//! let lines = checked_lines(alloc, text)?;
 //! ```
 //!
-//! A scenario that is loaded is sound: the laws of accepted scenarios hold of every run of it. And what holds of each that is read, accepted or not.
+//! A scenario that is loaded is sound, so that the laws of sound scenarios hold of every run of it (`loaded`); `read` says what holds of each that is read.
 //!
 //! ```rust
 //! use gq_load::loaded::loaded_laws;

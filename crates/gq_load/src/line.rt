@@ -2,14 +2,12 @@
 ghost use Rattle.std.specs.Prelude.{◌≡◌, ◌++◌, length, OnOk, IfOk};
 ghost use Rattle.gq_model.specs.machine.Accounts.{entry};
 ghost use Rattle.gq_model.specs.machine.Scenario as model;
-ghost use Rattle.gq_model.specs.machine.Scenario.{components};
 ghost use Rattle.gq_model.specs.rules.Accept.{budget_line, budget_lines_of};
 ghost use Rattle.gq_scenario.specs.Trees.{version_number};
 
 use crate::budget::Budget;
-use gq_resolve::NodeTable;
 use gq_resolve::component::Component;
-use gq_scenario::scenario::{LeafNo, Version};
+use gq_scenario::scenario::Version;
 use itoa::Buffer;
 use std::alloc::{AllocError, Global};
 
@@ -57,25 +55,6 @@ pub(crate) fn component_lines(
     let mut text = Vec::new(alloc);
     for (place, component) in components.iter().enumerate() {
         push_line(&mut text, version, component.label(), &budgets[place])?;
-    }
-    Ok(text)
-}
-
-// The lines of the budgets of a scenario's leaves.
-pub(crate) fn budget_lines(
-    alloc: Global,
-    table: &NodeTable,
-    budgets: &[Budget],
-) -> Result<Vec<u8>, AllocError>
-    requires { length budgets.now ≡ length (components table.now) }
-    ensures { IfOk result (λ text. text.items ≡ budget_lines_of table.now.version (components table.now) budgets.now) }
-{
-    let _leaves = table.leaf_count();
-    let version = table.scenario().version();
-    let mut text = Vec::new(alloc);
-    for (place, budget) in budgets.iter().enumerate() {
-        let node = table.node(LeafNo::new(place as u32));
-        push_line(&mut text, version, table.label(node), budget)?;
     }
     Ok(text)
 }

@@ -12,11 +12,11 @@ ghost use Rattle.gq_machine.specs.internal.Holds.{CanStep, Goes, Holds, IsLong, 
 ghost use Rattle.gq_machine.specs.internal.Gifts.{IsGift, LeadsBy, Opens, OpensAt};
 
 use crate::state::{Fixed, State};
-use crate::statements::lawful;
 use gq_bytecode::Operation;
 use gq_model::fault::Wrong;
 use gq_model::program::Place;
 use gq_prepared::Opening;
+use gq_statements::laws::lawful;
 use gq_statements::{Actor, link};
 use gq_tariff::Amount;
 

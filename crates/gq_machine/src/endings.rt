@@ -7,12 +7,12 @@ ghost use Rattle.gq_machine.specs.internal.Endings.{AreGone, AreReleased, follow
 ghost use Rattle.gq_machine.specs.internal.Holds.{CanStep, EndsMain, Goes, Holds, IsNext, OfLeaf};
 
 use crate::state::{Fixed, State};
-use crate::statements::lawful;
 use gq_leaf::Leaf;
 use gq_model::fault::Wrong;
 use gq_model::phase::Phase;
 use gq_resolve::NodeTable;
 use gq_scenario::scenario::LeafNo;
+use gq_statements::laws::lawful;
 
 // At the end of `main` of a leaf that provides nothing it exits, if it has closed its sessions, and who starts after it runs.
 pub fn exit(fixed: &Fixed, state: &mut State, number: usize) -> Result<(), Wrong>

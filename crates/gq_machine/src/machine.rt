@@ -17,7 +17,6 @@ ghost use Rattle.gq_machine.specs.internal.Held.{held_before};
 ghost use Rattle.gq_machine.specs.internal.Starts.{AreFirst, ArePrepared, IsFirstOf, AreFirstSlots};
 
 use crate::state::{Fixed, Prepared, State};
-use crate::statements::lawful;
 use gq_bytecode::Code;
 use gq_leaf::Leaf;
 use gq_model::phase::Phase;
@@ -29,6 +28,7 @@ use gq_resolve::NodeTable;
 use gq_scenario::node::NodeNo;
 use gq_scenario::scenario::{LeafNo, Version};
 use gq_slots::Slots;
+use gq_statements::laws::lawful;
 use gq_tariff::price::PAGE;
 use gq_trade::Stage;
 use std::alloc::{AllocError, Global};

@@ -13,11 +13,11 @@ ghost use Rattle.gq_machine.specs.internal.Holds.{CanStep, Goes, Holds, IsNext, 
 ghost use Rattle.gq_machine.specs.internal.Replies.{IsEnd, replied};
 
 use crate::state::{Fixed, State};
-use crate::statements::lawful;
 use gq_leaf::Leaf;
 use gq_model::fault::Wrong;
 use gq_model::program::Section;
 use gq_statements::Hand;
+use gq_statements::laws::lawful;
 use gq_statements::replies::{reply_close, reply_open};
 
 // The client of the session at hand, which waits for the reply.

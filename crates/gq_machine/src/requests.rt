@@ -15,12 +15,12 @@ ghost use Rattle.gq_machine.specs.internal.Holds.{CanStep, Goes, Holds, OfLeaf};
 ghost use Rattle.gq_machine.specs.internal.Requests.{begun_for, takes};
 
 use crate::state::{Fixed, State};
-use crate::statements::lawful;
 use gq_leaf::Leaf;
 use gq_model::fault::Wrong;
 use gq_model::program::Section;
 use gq_scenario::scenario::Version;
 use gq_statements::Hand;
+use gq_statements::laws::lawful;
 use gq_statements::serving_requests::Provider;
 use gq_trade::{Ask, Request};
 

@@ -12,16 +12,7 @@ use crate::state::{Fixed, State};
 use gq_bytecode::Operation;
 use gq_model::fault::Wrong;
 use gq_model::program::Place;
-use gq_slots::Slots;
-
-// What holds of slots between two calls. It does nothing.
-pub fn lawful(slots: &Slots)
-    ensures { AreLawful slots.now }
-{
-    slots.laws();
-    slots.trades().laws();
-    slots.trades().memory().accounts().laws();
-}
+use gq_statements::laws::lawful;
 
 // Does a statement on memory.
 #[inline(always)]

@@ -2,22 +2,21 @@
 ghost use Rattle.std.specs.Prelude.{◌≡◌, ◌-◌, ◌<◌, ◌≤◌, [], IfErr, IfOk, IsOk, OnErr, Err, Ok, length};
 ghost use Rattle.gq_model.specs.machine.Scenario.{components, system};
 ghost use Rattle.gq_model.specs.machine.Step.{next};
-ghost use Rattle.gq_machine.specs.Bursts.{Takes, Tells};
+ghost use Rattle.gq_machine.specs.Bursts.{Tells};
 ghost use Rattle.gq_machine.specs.Countable.{AreCountable, IsCountable};
 ghost use Rattle.gq_machine.specs.Events.{event_of};
 ghost use Rattle.gq_machine.specs.declared.event.Event.TheVariants as event;
 
-use crate::bursts::take_turns;
 use crate::event::Event;
 use crate::machine::Machine;
 use crate::others::LINE;
-use crate::statements::lawful;
 use crate::steps::turn;
 use crate::telling::tell_turns;
 use arrayvec::ArrayVec;
 use gq_init::lines::Lines;
 use gq_model::fault::Wrong;
 use gq_scenario::scenario::LeafNo;
+use gq_statements::laws::lawful;
 
 impl Machine {
     /// One turn of a leaf, tested: where the leaf can run it is one step. After it the line has the text that was given, without label and line feed, and
@@ -37,29 +36,6 @@ impl Machine {
     {
         lawful(&self.state.slots);
         turn(&self.fixed, &mut self.state, leaf.index(), line)
-    }
-
-    /// Turns of a leaf, tested, at most so many: up to the first that gives a line or is wrong. It tells `Line` where the last of them gave one, what is wrong
-    /// with it where it is wrong, and else any other event, which says no more than that none of them gave a line; and how many turns are left: none, where the
-    /// last one gave no line and is not wrong. After it the line has the text that was given, without label and line feed, and is empty where none was. Where a
-    /// step is wrong, it changes nothing. Turns of a leaf that can't run are passed over at once, whatever their number. It takes no host memory.
-    pub fn turns_tested(
-        &mut self,
-        leaf: LeafNo,
-        count: u32,
-        line: &mut ArrayVec<u8, LINE>,
-    ) -> (Result<Event, Wrong>, u32)
-        requires leaf { leaf < length (components self.old.scenario) }
-        requires countable { AreCountable self.old.world leaf count }
-        ensures scenario { self.new.scenario ≡ self.old.scenario }
-        ensures left { result.1 ≤ count }
-        ensures less { 0 < count → result.1 < count }
-        ensures took { Takes self.old.scenario leaf (count - result.1) self.old.world self.new.world result.0 line.new.items }
-        ensures over { IfOk result.0 (λ e. (e ≡ event.Line → ⊥) → result.1 ≡ 0) }
-        ensures no_line { IfOk result.0 (λ e. (e ≡ event.Line → ⊥) → line.new.items ≡ []) }
-    {
-        lawful(&self.state.slots);
-        take_turns(&self.fixed, &mut self.state, leaf.index(), count, line)
     }
 
     /// Turns of a leaf, tested, at most so many: up to the first that gives a line or is wrong, and after a line those that follow and show numbers, as long as

@@ -1,6 +1,6 @@
 // Frames as a map from numbers to bytes. Those that were given back are chained through their own first words, and
 // those that were never handed out are counted, so that making the frames touches none of them.
-ghost use Rattle.std.specs.Prelude.{◌≡◌, ◌+◌, ◌<◌, ◌≤◌, length, Some, None, slice_index, slice_set, IfOk, OnOk, OnErr, IsOk};
+ghost use Rattle.std.specs.Prelude.{◌≡◌, ℕ, ◌+◌, ◌<◌, ◌≤◌, length, Some, None, slice_index, slice_set, IfOk, OnOk, OnErr, IsOk};
 ghost use Rattle.std.specs.Int.{w32, to_le_bytes};
 ghost use Rattle.gq_pages.specs.Bytes.{word_at, with_bytes, zeroed};
 ghost use Rattle.gq_pages.specs.Frames.{all_free, zero_frame, IsFree, IsTaken, bytes_of, count_free};
@@ -82,6 +82,13 @@ impl Pages {
         ensures within { result ≤ length self.now }
     {
         self.chained + (self.frames - self.touched)
+    }
+
+    /// What holds of all frames: one that is taken has 4096 bytes. It does nothing.
+    pub fn laws(&self)
+        ensures { (k : ℕ) → IsTaken self.now k → length (bytes_of self.now k) ≡ 4096 }
+    {
+        let _frames = self.frames;
     }
 
     /// Takes a frame that was free, and clears it. `NoFrame` just where no frame is free; then all stays as it was.

@@ -1,25 +1,19 @@
-//! What a leaf's steps need beside its code, and is fixed once a scenario is loaded: where its open statements lead, which sections its program has,
-//! and what all services give their clients.
+//! What is fixed once a scenario is loaded: the plan of its accounts, where the `open` statements of its leaves lead, which sections its programs have, and
+//! what all services give their clients.
 //!
 //! ```rust
 //! use gq_prepared::Services;
-//! use gq_prepared::openings::openings;
+//! use gq_prepared::plan_of;
+//! use gq_trade::Trades;
 //!
-//! // Once a scenario is loaded: what its services give, and where the `open` statements of each leaf lead.
+//! // From the table of a scenario of version 1: the accounts of its nodes, with room for 64 sessions, and what its services give.
+//! let plan = plan_of(alloc, &table)?;
+//! let trades = Trades::new(alloc, table.scenario().total().ram(), None, plan, 64)?;
 //! let services = Services::new(alloc, &table)?;
 //! let object = services.object(0);
 //! ```
 //!
-//! Plans of accounts from scenarios: the nodes of a scenario as the accounts that trade want them, and laws of the nodes that they have at first.
-//!
-//! ```rust
-//! use gq_prepared::plan_of;
-//! use gq_trade::Trades;
-//!
-//! // The accounts of a scenario in version 1, from its table, with room for 64 sessions.
-//! let plan = plan_of(alloc, &table)?;
-//! let trades = Trades::new(alloc, table.scenario().total().ram(), None, plan, 64)?;
-//! ```
+//! `quotas` and `endings` are laws of the nodes: that stored balances are the accounts of the definition, and how the nodes go on where a leaf has ended.
 #![tactic(auto)]
 
 pub mod endings;

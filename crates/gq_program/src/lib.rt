@@ -1,4 +1,4 @@
-//! Programs as trees: statements, and the interfaces that programs are written for.
+//! Programs as trees: statements, the table of how each is spelled, and the interfaces that programs are written for.
 //!
 //! ```rust
 //! use gq_program::{Body, Instruction, Program, Section, Statement};
@@ -12,7 +12,7 @@
 //! let program = Program::new(sections, [u32::MAX; 8]);
 //! ```
 //!
-//! The table of statements: for each the word that it has in program text, its number in code, and the operands that it takes.
+//! `shapes` is the table of statements: for each the word that it has in program text, its number in code, and the operands that it takes.
 //!
 //! ```rust
 //! use gq_model::program::Place;

@@ -12,8 +12,8 @@
 //! accounts.close(account)?;
 //! ```
 //!
-//! The accounts of a scenario's nodes, and quota that moves between them: down the tree at the start, and then from one node to another, hop by hop
-//! through every init on the way.
+//! [`AccountTree`] has the accounts of a scenario's nodes: it hands quota down at the start, and moves it from one node to another hop by hop, through every
+//! init on the way.
 //!
 //! ```rust
 //! use gq_ram::AccountTree;

@@ -1,18 +1,9 @@
-//! Scenarios, read from texts in TOML.
+//! Scenarios, read from texts in TOML: the tables of a document with their rules, and the first fault of them.
 //!
 //! ```rust
 //! use gq_reader::read_scenario;
 //!
 //! let scenario = read_scenario(alloc, text)?;
-//! ```
-//!
-//! The tables of a scenario's document: their values, their rules, and their first fault.
-//!
-//! ```rust
-//! use gq_reader::walk::walk_fault;
-//!
-//! // The top table of a document whose `ram` is missing.
-//! assert_eq!(rt; walk_fault(&top), Some(ScenarioFault::MissingKey(Key::Ram)));
 //! ```
 #![tactic(auto)]
 

@@ -1,30 +1,14 @@
-//! Scenarios resolved: quanta that fit, leaves that start after others, and which leaf serves each service.
-//!
-//! ```rust
-//! use gq_resolve::resolve;
-//!
-//! // A scenario from `gq_reader`, and the program of each leaf, in preorder.
-//! let routes = resolve(alloc, &scenario, programs.as_slice())?;
-//! ```
-//!
-//! The leaves of a scenario, and which of them serves each service that one opens.
+//! Scenarios resolved: quanta that fit, leaves that start after others, which leaf serves each service, and one table of the nodes.
 //!
 //! ```rust
 //! use gq_resolve::component::components;
-//! use gq_resolve::routes::server_of;
-//!
-//! // A scenario from `gq_reader`, and the name of a service: the server of the first leaf's sessions of it.
-//! let components = components(alloc, &scenario)?;
-//! let server = server_of(components.as_slice(), &components[0], &service);
-//! ```
-//!
-//! The nodes of a scenario: one table of them by numbers, made once, of which what runs and tells a scenario asks without looking for a name.
-//!
-//! ```rust
-//! use gq_resolve::NodeTable;
 //! use gq_resolve::table::Entries;
+//! use gq_resolve::{NodeTable, resolve};
 //!
-//! // A scenario that is read, its leaves, who serves whom, and the programs of the leaves, in preorder.
+//! // A scenario from `gq_reader`, and the program of each leaf, in preorder.
+//! let routes = resolve(alloc, &scenario, programs.as_slice())?;
+//! let components = components(alloc, &scenario)?;
+//! // One table of the nodes by numbers, of which what runs and tells a scenario asks without looking for a name.
 //! let entries = Entries::of(alloc, &scenario, components.as_slice(), &routes)?;
 //! let table = NodeTable::new(scenario, programs, entries);
 //! let hello = table.leaf_named(b"hello");

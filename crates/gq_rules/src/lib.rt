@@ -1,22 +1,16 @@
-//! The rules for programs: what is known before and after a statement of each kind, and the first rule that it breaks.
+//! The rules for programs: what is known before and after each statement and list of statements, and the first rule that one of them breaks.
 //!
 //! ```rust
+//! use gq_rules::flow::flow;
 //! use gq_rules::{Context, State, Subject};
 //!
 //! // What a `push` makes of what is known, in `main` of the program that is judged.
 //! let context = Context::new(&subject, Section::Main);
 //! context.judged(&mut state, &Instruction::Push(7))?;
 //! assert_eq!(rt; state.pop(), Ok(7));
-//! ```
-//!
-//! What is known before and after each list of statements, arms and bodies of loops included, and the first rule that one of them breaks.
-//!
-//! ```rust
-//! use gq_rules::flow::flow;
-//!
 //! // A section is walked through from what is known at its start; its statements are counted from 0 on.
 //! flow(&context, &mut state, &mut 0, &mut peaks, body)?;
-//! // What `peaks` has now is the most that its slots hold at any time.
+//! // What `peaks` has then is the most that its slots hold at any time.
 //! ```
 #![tactic(auto)]
 

@@ -1,4 +1,5 @@
-// Which bytes lie at an address of a leaf.
+// Which bytes lie at an address of a leaf. The program itself asks only for `bytes_spot` and `buffer`: a statement names a slot and an index, so the machine
+// goes to the slot at once (`Actor::load` of gq_statements) and works out no address. Reading and writing by address is for whoever builds on the library.
 ghost use Rattle.std.specs.Prelude.{◌≡◌, ℕ, ◌+◌, ◌*◌, ◌/◌, ◌%◌, ◌<◌, ◌≤◌, ◌↔◌, nat_le, [], ◌∷◌, get_or, length, is_some, slice_get, IfNone, IfSome};
 ghost use Rattle.std.specs.Prelude.{List, Some, slice_index, slice_range};
 ghost use Rattle.std.specs.Prelude.{IsTrue};
@@ -125,22 +126,8 @@ impl Addresses {
         u32::from(slot) * WINDOW
     }
 
-    /// Which byte lies at an address of a leaf: the slot in which it stands, and its index there. `None` where no byte lies there: the bytes of the
-    /// slot stand nowhere, or are too few.
-    pub fn resolve(&self, slots: &Slots, leaf: usize, address: u32) -> Option<(Spot, u32)>
-        requires leaf { leaf < length slots.now.own }
-        requires linked { IsLinked slots.now (slot_under leaf address) }
-        ensures is { result ≡ bytes_at self.now slots.now leaf address 1 }
-        ensures there { IfSome result (λ f. IsSpot slots.now f.0) }
-        ensures inside { IfSome result (λ f. f.1 < size_of (thing_at slots.now f.0)) }
-        ensures live { IsLive slots.now.trades leaf → IfSome result (λ f. IsLive slots.now.trades (holder slots.now f.0)) }
-        ensures world { (f : Frame) (system : System) → AreBuffers system f slots.now self.now
-            → AreFound system (world_seen f slots.now) slots.now (slot_under leaf address) (offset address) 1 result }
-    {
-        self.find(slots, leaf, address, 1)
-    }
-
-    // Where so many bytes from an address on stand.
+    // Where so many bytes from an address of a leaf on stand: the slot, and the index of the first. `None` where the bytes of the slot stand nowhere, or are
+    // too few.
     fn find(&self, slots: &Slots, leaf: usize, address: u32, count: u32) -> Option<(Spot, u32)>
         requires leaf { leaf < length slots.now.own }
         requires linked { IsLinked slots.now (slot_under leaf address) }

@@ -14,8 +14,7 @@
 //! slots.free(spot);
 //! ```
 //!
-//! What the sessions of a scenario and the ends of its leaves do to all slots: the requests of clients, what their servers take of them, sessions that are
-//! closed, and leaves that are no more.
+//! `sessions` and `leaves` have what requests, their servers and the ends of leaves do to all slots.
 //!
 //! ```rust
 //! use gq_trade::Spot;
@@ -30,13 +29,13 @@
 //! leaves::end(&mut slots, 1);
 //! ```
 //!
-//! Which bytes lie at an address of a leaf: its 64 slots lie in windows of 64 MiB, one behind the other.
+//! [`Addresses`] says which bytes lie at an address of a leaf: its 64 slots lie in windows of 64 MiB, one behind the other.
 //!
 //! ```rust
 //! use gq_slots::Addresses;
 //! use gq_trade::Spot;
 //!
-//! // No service shares a buffer. `slots` are those of `gq_slots`.
+//! // No service shares a buffer.
 //! let addresses = Addresses::new(Vec::new(rt.alloc()));
 //! slots.pay_by(0);
 //! slots.make_slice(Spot::InLeaf(0, 3), 100)?;

@@ -32,16 +32,15 @@ use std::marker::Model;
 /// All slots of a scenario: the 64 of each leaf, the 8 of each session, and the sessions' objects. What is in a leaf's slot, and in those of the sessions
 /// to it, lies in memory that the leaf pays for. No call but `new` takes host memory.
 ///
-/// The fields are public for the calls on sessions and the end of a leaf, which are functions of `gq_slot_sessions`: whoever changes a field has to prove that
-/// what holds of all `Slots` still does.
+/// The modules of this crate on sessions and on the ends of leaves change the fields, too: each has to prove that what holds of all `Slots` still does.
 #[derive(Drop)]
 pub struct Slots {
     /// The sessions with the accounts.
-    pub trades: Trades,
+    pub(crate) trades: Trades,
     /// The own slots of each leaf.
-    pub own: Vec<[Thing; 64]>,
+    pub(crate) own: Vec<[Thing; 64]>,
     /// The heap of each leaf.
-    pub heaps: Vec<Heap>,
+    pub(crate) heaps: Vec<Heap>,
 }
 
 impl Model for Slots {

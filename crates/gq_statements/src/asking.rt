@@ -17,21 +17,13 @@ ghost use Rattle.gq_statements.specs.Requests.{Blocks, IsNextLevel, OwnsLinks, S
 ghost use Rattle.gq_statements.specs.internal.Leads.{IsLink, IsLinkedAt, IsRoomAt, IsVacant, link_of};
 
 use crate::actor::Actor;
+use crate::laws::lawful;
 use gq_contents::Thing;
 use gq_model::fault::Wrong;
 use gq_model::program::Place;
 use gq_slots::{Slots, sessions};
 use gq_tariff::Amount;
 use gq_trade::Spot;
-
-// What holds of slots between two calls. It does nothing.
-fn lawful(slots: &Slots)
-    ensures { AreLawful slots.now }
-{
-    slots.laws();
-    slots.trades().laws();
-    slots.trades().memory().accounts().laws();
-}
 
 // The session to which a thing leads, if it is a link.
 fn link_of(thing: Thing) -> Option<u32>

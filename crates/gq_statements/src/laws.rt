@@ -12,22 +12,33 @@ ghost use Rattle.gq_contents.specs.Things.{added, entry_count, entry_in, entry_s
 ghost use Rattle.gq_trade.specs.declared.session.Spot.{Spot};
 ghost use Rattle.gq_trade.specs.Seen.{spot_seen};
 ghost use Rattle.gq_trade.specs.Trading.{its_account};
-ghost use Rattle.gq_slots.specs.Slots.{Frame, IsHeapOf, IsSlot, IsSpot, Slots, holder, settled_in, slot_of, thing_at, world_seen};
+ghost use Rattle.gq_slots.specs.Slots.{Frame, IsHeapOf, IsSlot, IsSpot, Slots as Seen, holder, settled_in, slot_of, thing_at, world_seen};
 ghost use Rattle.gq_statements.specs.Among.{IsAmong};
 ghost use Rattle.gq_statements.specs.Systems.{AreLawful, IsOf, Lacks};
+
+use gq_slots::Slots;
+
+/// What holds of slots between two calls. It does nothing.
+pub fn lawful(slots: &Slots)
+    ensures { AreLawful slots.now }
+{
+    slots.laws();
+    slots.trades().laws();
+    slots.trades().memory().accounts().laws();
+}
 
 /// In the machine's world of lawful slots every leaf is paid for. What a leaf was handed and has received there is the quota of its account and what it has
 /// lent, of bytes and of capabilities.
 pub fn lawful_is_paid()
-    ensures ram { (system : System) (f : Frame) (s : Slots) (x : ℕ) (c : Component) → AreLawful s → x < length s.own
+    ensures ram { (system : System) (f : Frame) (s : Seen) (x : ℕ) (c : Component) → AreLawful s → x < length s.own
         → slice_get system.components x ≡ Some c → IsOf system f s
         → handed (f.leaf x).phase c.node.quantum.ram + received Ram (world_seen f s) x
         ≡ (its_account s.trades.trading x).quota.ram + lent Ram (world_seen f s) x }
-    ensures caps { (system : System) (f : Frame) (s : Slots) (x : ℕ) (c : Component) → AreLawful s → x < length s.own
+    ensures caps { (system : System) (f : Frame) (s : Seen) (x : ℕ) (c : Component) → AreLawful s → x < length s.own
         → slice_get system.components x ≡ Some c → IsOf system f s
         → handed (f.leaf x).phase c.node.quantum.caps + received Caps (world_seen f s) x
         ≡ (its_account s.trades.trading x).quota.caps + lent Caps (world_seen f s) x }
-    ensures paid { (system : System) (f : Frame) (s : Slots) → AreLawful s → IsOf system f s → paid system (world_seen f s) ≡ true }
+    ensures paid { (system : System) (f : Frame) (s : Seen) → AreLawful s → IsOf system f s → paid system (world_seen f s) ≡ true }
 {}
 
 /// What is not paid for: a world in which a leaf holds and has lent more of a resource that is counted than it was handed and has received; and so the
@@ -37,13 +48,13 @@ pub fn lacking_is_unpaid()
     ensures world { (system : System) (w : world.World) (x : ℕ) (c : Component) (leaf : world.Leaf) (r : Resource) → slice_get system.components x ≡ Some c
         → slice_get w.leaves x ≡ Some leaf → IsAmong r system.counted
         → handed leaf.phase (part r c.node.quantum) + received r w x < held r w x leaf + lent r w x → paid system w ≡ false }
-    ensures made { (system : System) (f : Frame) (s : Slots) (p : Spot) (slot : world.Slot) → AreLawful s → IsOf system f s → IsSpot s p → IsSlot p
+    ensures made { (system : System) (f : Frame) (s : Seen) (p : Spot) (slot : world.Slot) → AreLawful s → IsOf system f s → IsSpot s p → IsSlot p
         → thing_at s p ≡ thing.Empty → holder s p < length s.own → (r : Resource) → Lacks r s (holder s p) (slot_price r slot)
         → paid system (settled_in (holder s p) (world.with_slot (world_seen f s) (spot_seen p) slot)) ≡ false }
-    ensures block { (system : System) (f : Frame) (s : Slots) (p : Spot) (h : Heap) (n : ℕ) → AreLawful s → IsOf system f s → IsSpot s p → IsSlot p
+    ensures block { (system : System) (f : Frame) (s : Seen) (p : Spot) (h : Heap) (n : ℕ) → AreLawful s → IsOf system f s → IsSpot s p → IsSlot p
         → thing_at s p ≡ thing.Empty → holder s p < length s.own → IsHeapOf s (holder s p) h → (r : Resource) → Lacks r s (holder s p) (rise h n)
         → paid system (settled_in (holder s p) (world.with_slot (world_seen f s) (spot_seen p) (world.Bytes form.Block n (replicate n 0)))) ≡ false }
-    ensures entry { (system : System) (f : Frame) (s : Slots) (p : Spot) (h : Heap) (i : ℕ) → AreLawful s → IsOf system f s → IsSpot s p → IsSlot p
+    ensures entry { (system : System) (f : Frame) (s : Seen) (p : Spot) (h : Heap) (i : ℕ) → AreLawful s → IsOf system f s → IsSpot s p → IsSlot p
         → i < entry_count (thing_at s p) → entry_in i (slot_of s p) ≡ None → holder s p < length s.own → IsHeapOf s (holder s p) h
         → (r : Resource) → Lacks r s (holder s p) (rise h (entry_size (thing_at s p)))
         → paid system (settled_in (holder s p) (world.with_slot (world_seen f s) (spot_seen p) (with_entry i added (slot_of s p)))) ≡ false }

@@ -1,4 +1,4 @@
-//! What statements do to slots, each as the account machine has it.
+//! What statements, requests and replies do to slots, each as the account machine has it.
 //!
 //! ```rust
 //! use gq_statements::Actor;
@@ -7,23 +7,13 @@
 //! let actor = Actor { leaf: 0, hand: None };
 //! actor.make(&mut slots, Form::Space, Place::Own(0), 4096)?;
 //! actor.store(&addresses, &mut slots, Width::Word, Place::Own(0), 8, 77)?;
-//! assert_eq!(rt; actor.load(&addresses, &slots, Width::Word, Place::Own(0), 8), Ok(77));
+//! assert_eq!(rt; actor.load(&addresses, &mut slots, Width::Word, Place::Own(0), 8), Ok(77));
 //! ```
 //!
-//! Laws of slots and quota: in the machine's world of lawful slots every leaf is paid for, and with what is refused there for want of quota it would not be.
-//! Each is the contract of a call that does nothing.
+//! `open`, `upgrade`, `call` and `close` are what a leaf asks other leaves for.
 //!
 //! ```rust
-//! use gq_statements::laws::lawful_is_paid;
-//!
-//! // From here on the proof of this function knows of the world of these slots.
-//! lawful_is_paid();
-//! ```
-//!
-//! What a leaf asks other leaves for: to open, to upgrade, to call and to close a session, each as the account machine has it.
-//!
-//! ```rust
-//! use gq_statements::{call, close, link};
+//! use gq_statements::{call, link};
 //!
 //! // The leaf of `actor` calls the session in its slot o0 with 21; its slot waits until the server has replied.
 //! if link(actor, &slots, Place::Own(0)).is_some() {
@@ -31,7 +21,7 @@
 //! }
 //! ```
 //!
-//! What a leaf does with the requests of its clients, and how a leaf ends, each as the account machine has it.
+//! `serving_requests` and `replies` are what a server does with the requests of its clients, and `endings` is how a leaf ends.
 //!
 //! ```rust
 //! use gq_statements::replies::reply;
@@ -42,6 +32,9 @@
 //!     reply(&mut slots, request.session);
 //! }
 //! ```
+//!
+//! `laws`, `linked` and `requests` say who is paid for: in the machine's world of lawful slots every leaf is, and with what is refused there for want of quota
+//! it would not be. Each is the contract of a call that does nothing.
 #![tactic(auto)]
 
 pub mod actor;

@@ -1,5 +1,9 @@
 //! Accounts that trade: sessions between the leaves of a scenario, whose donations move quota along the tree, and leaves that start and end.
 //!
+//! [`Trades`] is what the crates above use. It stands on `sessions` (the sessions between leaves, the quota that goes with them and what waits for a server),
+//! on [`Numbered`] (values by their numbers, where a new one takes the lowest that is free), on `requests` (what waits, the oldest first), and on
+//! [`Memory`] (the memory of many accounts as a store of chunks: a chunk is a dataspace of the account that pays, and has its number).
+//!
 //! ```rust
 //! use gq_trade::Spot;
 //! use gq_tariff::Amount;
@@ -24,61 +28,11 @@
 //! assert_eq!(rt; trades.used(1), 4096);
 //! ```
 //!
-//! The memory of many accounts as a store of chunks: a chunk is a dataspace of the account that pays, and has its number.
-//!
-//! ```rust
-//! use gq_trade::Memory;
-//! use gq_ram::Accounts;
-//! use gq_store::ByteStore;
-//!
-//! let mut accounts = Accounts::new(rt.alloc(), 65536, None)?;
-//! let root = accounts.root();
-//! let member = accounts.add(accounts.root())?;
-//! accounts.transfer(root, member, 8192)?;
-//! let mut memory = Memory::new(accounts, root);
-//! let chunk = memory.grow(1)?;
-//! memory.store(chunk, 7, 1);
-//! memory.pay_by(member);
-//! memory.grow(2)?;
-//! memory.pay_by(root);
-//! assert_eq!(rt; memory.load(chunk, 7), 1);
-//! ```
-//!
-//! Values by their numbers, where a new one takes the lowest number that is free, as sessions do.
-//!
-//! ```rust
-//! use gq_trade::Numbered;
-//!
-//! let mut sessions = Numbered::new(rt.alloc(), 2)?;
-//! let first = sessions.add(7);
-//! let second = sessions.add(9);
-//! sessions.remove(first);
-//! assert_eq!(rt; sessions.get(second), 9);
-//! assert_eq!(rt; sessions.add(8), first);
-//! ```
-//!
-//! Requests that wait for their servers, the oldest first.
-//!
-//! ```rust
-//! use gq_trade::{Ask, Request, Requests};
-//!
-//! let mut requests = Requests::new();
-//! requests.push(Request { session: 0, server: 2, ask: Ask::Open });
-//! requests.push(Request { session: 1, server: 3, ask: Ask::Call(21) });
-//! let oldest = requests.take_oldest(3);
-//! ```
-//!
-//! Sessions between the leaves of a scenario: the quota that goes with them, and the requests that wait for their servers.
-//!
-//! ```rust
-//! use gq_tariff::Amount;
-//! use gq_trade::{Sessions, Spot};
-//!
-//! // The memory of all accounts, the tree of nodes with their accounts, and the node of each leaf.
-//! let mut sessions = Sessions::new(rt.alloc(), memory, tree, leaves, objects, 24)?;
-//! let session = sessions.ask(client, Spot::InLeaf(client, 0), server, service, Amount { ram: 8192, caps: 1 })?;
-//! assert!(rt; sessions.waiting(server).is_some());
-//! ```
+//! Of what trade is, three things have their homes above, beside the slots that they change: the slots of leaves and sessions (`put`, `clear`, `kind`,
+//! `handle`; `Slots` of `gq_slots`), the end of a leaf with all that it holds (`end`; `gq_slots::leaves`), and memory by address (`load`, `store`, `load4`,
+//! `store4`, and where a client finds a buffer after a reply; `Addresses` of `gq_slots`). Room for sessions and requests is made in `Trades::new`, as much
+//! as its caller says, and who asks shows that there is room: that as many sessions as pages and one for each leaf are enough is an invariant of the
+//! machine, which knows that an accepted session costs a page.
 #![tactic(auto)]
 
 mod memory;

@@ -1,26 +1,17 @@
-//! What is known of a program before it runs: whether it breaks a rule, and what it uses at most.
+//! What is known of a program before it runs: whether it breaks a rule, what it holds at most, and how many steps and requests its sections make at most.
 //!
 //! ```rust
 //! use gq_verify::verify;
 //!
-//! // A program from `gq_asm` or `gq_code`, the service that it provides, if any, and the interfaces of its scenario.
+//! // A program from `gq_asm` or `gq_code` whose `main` has the statement `space o0 8192`, and the interfaces of its scenario. It provides no service.
 //! let verified = verify(&program, None, &interfaces)?;
 //! assert_eq!(rt; verified.own(), 8192);
-//! ```
-//!
-//! What the statements of a program that breaks no rule take and ask for at most: steps, and requests by the section of a service.
-//!
-//! ```rust
-//! use gq_verify::section_cost;
-//! use gq_program::Section;
-//!
-//! // A section of `main` with the statements `push 1` and `drop`.
-//! assert_eq!(rt; section_cost(Section::Main, &body), 3);
+//! assert_eq!(rt; verified.cost(Section::Main), Some(2));
 //! ```
 #![tactic(auto)]
 
 mod asked;
-pub mod asking;
+mod asking;
 mod counting;
 mod ends;
 mod fault;

@@ -9,35 +9,11 @@ ghost use Rattle.gq_verify.specs.Requested.{requests_for};
 ghost use Rattle.gq_verify.specs.internal.Starting.{IsStarts};
 
 use crate::asked::Requests;
-use crate::asking::{Asked, requests};
 use crate::counting::all_requests;
 use crate::starts::Starts;
 use gq_program::Section;
 use gq_rules::{Context, Subject};
 use std::alloc::{AllocError, Global};
-
-/// The greatest number of requests of a section for a section of a service; 2^64 - 1 where there are more.
-pub(crate) fn section_requests(
-    subject: &Subject<'_>,
-    starts: &Starts,
-    from: Section,
-    asked: &Asked<'_>,
-) -> u64
-    requires starts { IsStarts subject.now starts.now }
-    requires section { IsTrue (is_section from) }
-    requires right { program_fault subject.now ≡ None }
-    ensures { result ≡ saturated (section_requests subject.now from asked.now.service.now asked.now.section) }
-{
-    match subject.body(from) {
-        Some(body) => requests(
-            &Context::new(subject, from),
-            &starts.start_of(subject, from),
-            asked,
-            body,
-        ),
-        None => 0,
-    }
-}
 
 /// The requests of a section, for all sections of all services at once.
 pub(crate) fn section_counts(

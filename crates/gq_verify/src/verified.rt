@@ -11,10 +11,9 @@ ghost use Rattle.gq_verify.specs.Faults.{known_fault};
 ghost use Rattle.gq_verify.specs.Subjects.{subject_of, cost_in};
 
 use crate::asked::Requests;
-use crate::asking::Asked;
 use crate::fault::Fault;
 use crate::own::own;
-use crate::requests::{section_counts, section_requests};
+use crate::requests::section_counts;
 use crate::sections::program_fault;
 use crate::starts::Starts;
 use crate::steps::section_cost;
@@ -80,18 +79,6 @@ impl<'a> Verified<'a> {
             Some(body) => Some(section_cost(section, body)),
             None => None,
         }
-    }
-
-    /// The greatest number of requests of a section for a section of a service; 2^64 - 1 where there are more. It goes over the statements
-    /// a few times.
-    pub fn requests(&self, from: Section, service: &[u8], section: Section) -> u64
-        requires { IsTrue (is_section from) }
-        ensures { result ≡ saturated (section_requests self.now from service.now section) }
-    {
-        self.laws();
-        let subject = &self.subject;
-        let starts = &self.starts;
-        section_requests(subject, starts, from, &Asked { service, section })
     }
 
     /// The greatest numbers of requests of a section, for all sections of all services at once. It goes over the statements once, and not

@@ -9,7 +9,7 @@ ghost use Rattle.gq_world.specs.Worlds.{line_told};
 
 use gq_init::NodeTable;
 use gq_init::counted::{Counted, WriteFault, put};
-use gq_init::leaf_line::LeafLine;
+use gq_init::leaf_line::text_line;
 use gq_scenario::scenario::LeafNo;
 use std::io::Write;
 
@@ -27,8 +27,6 @@ pub fn write_line<W: Write>(
     ensures front { OnErr result (IsFront (written_to W.contents out.old) (written_to W.contents out.new) (line_told table.now leaf (doing.Line text.now))) }
     ensures raised { OnErr result (IsRaised (failures_of out.old) (failures_of out.new)) }
 {
-    let mut line = LeafLine::new();
-    line.begin(table.label(table.node(leaf)));
-    line.say(text);
-    put(out, line.as_bytes())
+    let line = text_line(table.label(table.node(leaf)), text);
+    put(out, line.as_slice())
 }

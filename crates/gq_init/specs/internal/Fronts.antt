@@ -2,13 +2,6 @@
 use Rattle.std.specs.Prelude.{ℕ, ◌≡◌, ◌≤◌, ◌+◌, List, length, take}
 use Rattle.gq_init.specs.LeafLines.{front_of}
 
--- the bytes begin with the front of this label, which has so many
-pub record IsFronted (label bytes : List ℕ) (front : ℕ) : Type 0 where
-  pub is : take front bytes ≡ front_of label
-  pub long : front ≡ length label + 3
-  pub inside : front ≤ length bytes
-  pub short : front ≤ 99
-
 -- the front is that of this label, and so many bytes are in use
 pub record AreGathered (label front : List ℕ) (front_length : ℕ) (bytes : List ℕ) (used : ℕ) : Type 0 where
   pub is : take front_length front ≡ front_of label
