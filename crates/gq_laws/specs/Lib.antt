@@ -22,12 +22,13 @@ pub mod Stands
 pub mod Ready
 -- room for replies
 pub mod Room
+-- in which phases leaves can be
+pub mod Phases
 -- how work goes on, and ends
 pub mod Progress
--- what only proofs and invariants speak of
-pub mod internal
+-- groups that are apart: no turn of the rest changes anything of them
 pub mod Separation
 -- what is seen of a group, and its turns alone
 pub mod Alone
-
--- what only proofs speak of
+-- what only proofs and invariants speak of
+pub mod internal

@@ -16,7 +16,7 @@ use Rattle.gq_model.proofs.Small.{get_within, text_is}
 use Rattle.gq_laws.proofs.verified.Use_chains.{Chain, Uses, chain_short, resolved_acyclic}
 use Rattle.gq_statements.proofs.linked.Session_count.{few}
 use Rattle.gq_trade.specs.Numbers.{free_number}
-use Rattle.gq_laws.proofs.progress.Phases.{Suits}
+use Rattle.gq_laws.specs.Phases.{Suits}
 use Rattle.gq_laws.specs.Ready.{IsReady}
 use Rattle.gq_laws.proofs.ready.Servers.{found, provided}
 use Rattle.gq_trade.specs.Trades.{IsLive}

@@ -13,7 +13,8 @@ use Rattle.gq_laws.proofs.linking.Linked_worlds.{start_linked}
 use Rattle.gq_laws.proofs.paying.Places.{starts_after}
 use Rattle.gq_laws.specs.Room.{IsRoomy}
 use Rattle.gq_laws.proofs.room.Worlds.{start_roomy}
-use Rattle.gq_laws.proofs.progress.Phases.{AreReady, start_ready}
+use Rattle.gq_laws.specs.Phases.{AreReady}
+use Rattle.gq_laws.proofs.progress.Phases.{start_ready}
 use Rattle.gq_resolve.proofs.Rows.{places-count}
 use Rattle.gq_laws.specs.Ready.{IsReady}
 use Rattle.gq_prepared.proofs.Firsts.{afters_fit}

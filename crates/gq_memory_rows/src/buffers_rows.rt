@@ -77,6 +77,34 @@ fn write(slots: &mut Slots, addresses: &Addresses, session: usize, value: u8) ->
     }
 }
 
+// The client writes a number to the four bytes from its address 8 on, and says whether they lie there.
+fn write_number(slots: &mut Slots, addresses: &Addresses, session: usize, value: u32) -> bool
+    requires { Serves slots.old session }
+    ensures { IsTrue result → Serves slots.new session }
+{
+    slots.pay_by(1);
+    match slots.thing(Spot::InLeaf(1, 0)) {
+        Thing::Link(other) if other as usize == session => { addresses.store4(slots, 1, 8, value) }
+        _ => false,
+    }
+}
+
+// What the client reads at its addresses: the byte at 3, the number in the four bytes from 8 on, and the byte behind the buffer.
+fn read_back(slots: &mut Slots, addresses: &Addresses, session: usize) -> [Option<u32>; 3]
+    requires { Serves slots.old session }
+{
+    slots.pay_by(1);
+    match slots.thing(Spot::InLeaf(1, 0)) {
+        Thing::Link(other) if other as usize == session => {
+            let byte = addresses.load(slots, 1, 3);
+            let number = addresses.load4(slots, 1, 8);
+            let behind = addresses.load(slots, 1, 16);
+            [byte.map(u32::from), number, behind.map(u32::from)]
+        }
+        _ => [None, None, None],
+    }
+}
+
 // What the server reads in the byte 3 of its buffer.
 fn read(slots: &mut Slots, session: usize) -> Option<u8>
     requires { Serves slots.old session }
@@ -90,8 +118,9 @@ fn read(slots: &mut Slots, session: usize) -> Option<u8>
     }
 }
 
-// What the server reads in its buffer once the client has written 77 there, and how many pages are free then. Nothing where a step fails.
-fn share(slots: &mut Slots, addresses: &Addresses) -> Option<(Option<u8>, u32)>
+// What the client and the server read in the buffer once the client has written 77 and 1000 there, and how many pages are free then. Nothing where a step
+// fails.
+fn share(slots: &mut Slots, addresses: &Addresses) -> Option<([Option<u32>; 3], Option<u8>, u32)>
     requires { IsMarket slots.old }
 {
     let session = opened(slots)?;
@@ -102,6 +131,9 @@ fn share(slots: &mut Slots, addresses: &Addresses) -> Option<(Option<u8>, u32)>
         return None;
     }
     if !write(slots, addresses, session, 77) {
+        return None;
+    }
+    if !write_number(slots, addresses, session, 1000) {
         return None;
     }
     let value = read(slots, session);

@@ -1,9 +1,12 @@
-// A scenario that is accepted, and its table of nodes.
+// A scenario that is accepted, its table of nodes, its budgets, and who serves whom.
+use gq_init::resolve;
 use gq_init::table::NodeTable;
 use gq_load::accepted::Accepted;
+use gq_load::checked::checked_lines;
+use gq_model::program::Name;
 use gq_scenario::node::NodeNo;
 use gq_scenario::scenario::LeafNo;
-use std::alloc::{AllocError, Global};
+use std::alloc::Global;
 use std::test::Fail;
 
 const ECHO: &[u8] = b"version = 2\nram = \"64K\"\ncaps = 10\n\
@@ -34,12 +37,26 @@ fn is_whole(table: &NodeTable) -> bool {
         && table.service(client).is_none()
 }
 
-/// Whether these are the budgets of the scenario.
-fn tells_budgets(alloc: Global, accepted: &Accepted) -> Result<bool, AllocError> {
-    let lines = accepted.budget_lines(alloc)?;
+/// Whether these are the lines of the budgets of the scenario.
+fn tells_budgets(alloc: Global) -> bool {
     let told =
         b"budget init -> srv own 0 caps 0 steps 9\nbudget init -> cli own 8192 caps 1 steps 6\n".as_slice();
-    Ok(lines.as_slice() == told)
+    match checked_lines(alloc, ECHO) {
+        Ok(lines) => lines.as_slice() == told,
+        Err(_) => false,
+    }
+}
+
+/// Which leaf serves the sessions of `echo` of each leaf of the scenario.
+fn servers(alloc: Global, table: &NodeTable) -> Option<[Option<LeafNo>; 2]> {
+    let echo = Name::new(b"echo")?;
+    match resolve(alloc, table.scenario(), table.programs()) {
+        Ok(routes) => Some([
+            routes.server(LeafNo::new(0), &echo),
+            routes.server(LeafNo::new(1), &echo),
+        ]),
+        Err(_) => None,
+    }
 }
 
 #[test]
@@ -47,9 +64,12 @@ fn accepts_a_client_and_its_server(rt: HostRuntime) -> Result<(), Fail> {
     let Ok(accepted) = Accepted::read(rt.alloc(), ECHO) else {
         return Err(Fail::from("an accepted scenario"));
     };
-    let budgets = tells_budgets(rt.alloc(), &accepted);
     let is_whole = is_whole(accepted.table());
+    let servers = servers(rt.alloc(), accepted.table());
     drop(accepted);
-    assert_eq!(rt; (budgets, is_whole), (Ok(true), true));
+    assert_eq!(rt;
+        (tells_budgets(rt.alloc()), is_whole, servers),
+        (true, true, Some([None, Some(LeafNo::new(0))]))
+    );
     Ok(())
 }

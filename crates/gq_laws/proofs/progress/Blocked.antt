@@ -22,7 +22,7 @@ use Rattle.gq_laws.proofs.paying.Prices.{session_stands}
 use Rattle.gq_laws.proofs.linking.Sections.{session_of_outline}
 use Rattle.gq_laws.proofs.verified.Sound_systems.{is_resolved}
 use Rattle.gq_laws.proofs.verified.Use_chains.{Uses, Chain, chain_short, resolved_acyclic}
-use Rattle.gq_laws.proofs.progress.Phases.{Suits}
+use Rattle.gq_laws.specs.Phases.{Suits}
 use Rattle.gq_laws.proofs.progress.Lasting.{Lasts, server_some}
 use Rattle.std.proofs.lemmas.Bool.{true≢false, false≢true, or_left, or_right, or_cases}
 use Rattle.std.proofs.lemmas.Option.{slice_get_within}

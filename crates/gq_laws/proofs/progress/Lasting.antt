@@ -20,7 +20,8 @@ use Rattle.gq_laws.proofs.verified.Sound_systems.{is_resolved, good_of}
 use Rattle.gq_laws.proofs.gathering.Reaching.{in_reached}
 use Rattle.gq_laws.proofs.gathering.Standing.{stands_first, stands_next}
 use Rattle.gq_laws.proofs.progress.Opened.{OpensOwn, opens_programs, AllOpened, kept_opened, start_opened}
-use Rattle.gq_laws.proofs.progress.Phases.{AreReady, HandsProvide, kept_ready, start_ready}
+use Rattle.gq_laws.specs.Phases.{AreReady}
+use Rattle.gq_laws.proofs.progress.Phases.{HandsProvide, kept_ready, start_ready}
 use Rattle.gq_model.proofs.Small.{or_first_none}
 
 pub record Lasts (s : Scenario) (w : World) : Type 0 where

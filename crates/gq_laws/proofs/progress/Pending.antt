@@ -18,7 +18,7 @@ use Rattle.gq_laws.proofs.turning.Whole_worlds.{each_get}
 use Rattle.gq_laws.proofs.paying.Places.{starts_after, never_back}
 use Rattle.gq_laws.proofs.paying.Servers.{Among, Holds, holds_at, IsKnown, all_known}
 use Rattle.gq_laws.proofs.verified.Chains.{Chain, chain_short}
-use Rattle.gq_laws.proofs.progress.Phases.{Suits}
+use Rattle.gq_laws.specs.Phases.{Suits}
 use Rattle.gq_laws.proofs.progress.Lasting.{Lasts, afters_fit}
 use Rattle.gq_laws.proofs.progress.Blocked.{stays, placed, never_blocked}
 use Rattle.std.proofs.lemmas.Bool.{true≢false, false≢true, or_left, or_right, or_cases}

@@ -17,34 +17,13 @@ use Rattle.gq_model.specs.machine.Step.{instruct, oldest, no_link, accept, servi
 use Rattle.gq_model.specs.machine.Step.{active_again, unblocked, is_named, released, all_released, exited, exit_of, main_ended}
 use Rattle.gq_model.specs.machine.Step.{section_ended, body_ended, perform, accept_oldest, step_in, step_of, next}
 use Rattle.gq_model.proofs.Small.{some_same, none_some, text_self}
+use Rattle.gq_laws.specs.Phases.{AreReady, NotExited, Suits}
 use Rattle.gq_laws.specs.Statements.{Takes}
 use Rattle.gq_laws.proofs.turning.Endings.{Ends, gives, need_ends, need_found, when_ends, pop_ends}
 use Rattle.gq_laws.proofs.remaining.Worlds.{set_get}
 use Rattle.gq_laws.proofs.turning.Outcomes.{begun}
 use Rattle.gq_laws.proofs.typing.Start.{start_at}
 use Rattle.gq_laws.proofs.turning.Instructs.{plain_instruct_by, reply_by, accept_by, slot_by}
-
--- WORLDS
-
--- a phase for a leaf that provides this, or nothing
-abbrev pub Suits : Option (List ℕ) → Phase → Type 0
-Suits provides Pending = provides ≡ None
-Suits provides Running = Unit {0}
-Suits provides Blocked = Unit {0}
-Suits provides Serving = is_some provides ≡ true
-Suits provides Handling = Unit {0}
-Suits provides Exited = provides ≡ None
-
--- no leaf of this name has exited
-abbrev pub NotExited : System → World → List ℕ → Type 0
-NotExited system w name = (y : ℕ) (d : Component) (other : Leaf) → slice_get system.components y ≡ Some d → d.node.name ≡ name
-    → slice_get w.leaves y ≡ Some other → other.phase ≢ Exited
-
-pub record AreReady (system : System) (w : World) : Type 0 where
-  pub suits : (x : ℕ) (c : Component) (leaf : Leaf) → slice_get system.components x ≡ Some c → slice_get w.leaves x ≡ Some leaf
-      → Suits c.node.provides leaf.phase
-  pub waits : (x : ℕ) (c : Component) (leaf : Leaf) → slice_get system.components x ≡ Some c → slice_get w.leaves x ≡ Some leaf → leaf.phase ≡ Pending
-      → (name : List ℕ) × (c.node.after ≡ Some name) × NotExited system w name
 
 -- A CHANGE THAT LETS NO LEAF EXIT
 

@@ -10,7 +10,7 @@ use Rattle.gq_bytecode.specs.Programs.{IsCodeOfProgram}
 use Rattle.gq_bytecode.specs.declared.operation.Operation.{Operation}
 use Rattle.gq_laws.specs.Links.{IsLinkedWorld}
 use Rattle.gq_laws.specs.Room.{IsRoomy}
-use Rattle.gq_laws.proofs.progress.Phases.{AreReady}
+use Rattle.gq_laws.specs.Phases.{AreReady}
 use Rattle.gq_slots.specs.Slots.{IsPaidBy}
 use Rattle.gq_statements.specs.Systems.{IsOf}
 use Rattle.gq_statements.specs.Serving.{AreSections}
