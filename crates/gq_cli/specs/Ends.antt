@@ -1,6 +1,9 @@
 -- How a command ends before anything is told of it.
-use Rattle.std.specs.Prelude.{ℕ, List, Option, Result, Ok, Err, string_bytes}
-use Rattle.gq_world.specs.Outcomes.{IsCutShort, IsWhole}
+use Rattle.std.specs.Prelude.{◌≡◌, ◌≢◌, ℕ, List, Option, Result, Ok, Err, string_bytes}
+use Rattle.gq_world.specs.Outcomes.{IsCutShort, IsWhole, run_fault_text}
+use Rattle.gq_world.specs.Whole.{refused_with}
+use Rattle.gq_world.specs.declared.fault.RunFault.{RunFault}
+use Rattle.gq_world.specs.declared.fault.RunFault.TheVariants as faults
 use Rattle.gq_cli.specs.Executed.{Asked, IsRefusedBy, written_of}
 use Rattle.gq_cli.specs.declared.execute.Fault.{Fault}
 use Rattle.gq_cli.specs.declared.execute.Fault.TheVariants.{Refused, Memory, Read, Write}
@@ -20,6 +23,13 @@ Ended (Err (Refused line)) before after asked = IsRefusedBy asked (string_bytes 
 Ended (Err Memory) before after asked = ⊥
 Ended (Err Read) before after asked = ⊥
 Ended (Err Write) before after asked = IsCutShort (written_of asked) before after
+
+-- why a command was not done is why what it calls was not: with the line of a refusal, or host memory for that line was refused
+abbrev pub IsToldAs : RunFault → Fault → Type 0
+IsToldAs f (Refused line) = (f ≢ faults.Memory) × (f ≢ faults.Write) × (string_bytes line ≡ refused_with (run_fault_text f))
+IsToldAs f Memory = f ≢ faults.Write
+IsToldAs f Read = ⊥
+IsToldAs f Write = f ≡ faults.Write
 
 -- no write failed
 abbrev pub IsSilent : Fault → Type 0

@@ -6,7 +6,7 @@ ghost use Rattle.gq_world.specs.Outcomes.{GivesOf, IsCutShort, IsWhole};
 ghost use Rattle.gq_world.specs.Whole.{run_written};
 ghost use Rattle.gq_world.specs.Headline.{WritesPromised};
 ghost use Rattle.gq_command.specs.Input.{GivesAtMost};
-ghost use Rattle.gq_cli.specs.Ends.{Ended, IsKnown, IsSilent};
+ghost use Rattle.gq_cli.specs.Ends.{Ended, IsKnown, IsSilent, IsToldAs};
 ghost use Rattle.gq_cli.specs.internal.Running.{RefusesAs};
 ghost use Rattle.gq_cli.specs.Executed.{Executes, IsRefusal, IsTold, IsUpheldBy, ReadsScenario, ReadsText, RunsFiles, RunsStored};
 ghost use Rattle.gq_cli.specs.Executed.{Asm_of, Check_of, Run_of, Text_of};
@@ -246,9 +246,16 @@ fn refusal<T: Read>(alloc: Global, scenario: &[u8], fault: RunFault, turns: &mut
         Err(InputError::Memory(_)) => return Fault::Memory,
         Err(InputError::Fault) => return Fault::Read,
     }
+    told(alloc, fault)
+}
+
+// Why a command was not done, by why what it calls was not: the line of a refusal is made.
+pub(crate) fn told(alloc: Global, fault: RunFault<'_>) -> Fault
+    ensures { IsToldAs fault result }
+{
     match fault {
         RunFault::Memory => Fault::Memory,
-        RunFault::Write => unreachable!(),
+        RunFault::Write => Fault::Write,
         refused => match format!(in alloc; "trade: {refused}\n") {
             Ok(line) => Fault::Refused(line),
             Err(_) => Fault::Memory,
@@ -276,7 +283,7 @@ fn run_stored<R: Read, W: Write>(
     run_texts(alloc, scenario, turns, out)
 }
 
-// Runs a scenario over turns. Where they are refused, the line that says why is made.
+// Runs a scenario over turns.
 fn run_texts<W: Write>(
     alloc: Global,
     scenario: &[u8],
@@ -291,9 +298,7 @@ fn run_texts<W: Write>(
 {
     match run(alloc, scenario, turns, out) {
         Ok(()) => Ok(()),
-        Err(RunFault::Memory) => Err(Fault::Memory),
-        Err(RunFault::Write) => Err(Fault::Write),
-        Err(refused) => Err(Fault::Refused(format!(in alloc; "trade: {refused}\n")?)),
+        Err(fault) => Err(told(alloc, fault)),
     }
 }
 
@@ -315,7 +320,7 @@ fn write_code<R: Read, W: Write>(
     write_code_of(alloc, input.as_slice(), leaf, out)
 }
 
-// Writes the code of a leaf. Where it is refused, the line that says why is made.
+// Writes the code of a leaf.
 fn write_code_of<W: Write>(
     alloc: Global,
     scenario: &[u8],
@@ -329,9 +334,7 @@ fn write_code_of<W: Write>(
 {
     match asm(alloc, scenario, leaf, out) {
         Ok(()) => Ok(()),
-        Err(RunFault::Memory) => Err(Fault::Memory),
-        Err(RunFault::Write) => Err(Fault::Write),
-        Err(fault) => Err(Fault::Refused(format!(in alloc; "trade: {fault}\n")?)),
+        Err(fault) => Err(told(alloc, fault)),
     }
 }
 
@@ -352,7 +355,7 @@ fn write_budgets<R: Read, W: Write>(
     write_budgets_of(alloc, input.as_slice(), out)
 }
 
-// Writes the budgets of a scenario. Where it is refused, the line that says why is made.
+// Writes the budgets of a scenario.
 fn write_budgets_of<W: Write>(
     alloc: Global,
     scenario: &[u8],
@@ -365,9 +368,7 @@ fn write_budgets_of<W: Write>(
 {
     match check(alloc, scenario, out) {
         Ok(()) => Ok(()),
-        Err(RunFault::Memory) => Err(Fault::Memory),
-        Err(RunFault::Write) => Err(Fault::Write),
-        Err(fault) => Err(Fault::Refused(format!(in alloc; "trade: {fault}\n")?)),
+        Err(fault) => Err(told(alloc, fault)),
     }
 }
 

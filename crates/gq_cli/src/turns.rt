@@ -12,7 +12,7 @@ ghost use Rattle.gq_cli.specs.Ends.{IsKnown, IsSilent, IsUnread};
 ghost use Rattle.gq_cli.specs.declared.execute.Fault.TheVariants as fault;
 ghost use Rattle.gq_cli.specs.internal.Running.{EndsAs, HasCome, ReadsTurns};
 
-use crate::execute::Fault;
+use crate::execute::{Fault, told};
 use gq_command::input::{CHUNK, read_once};
 use gq_init::counted::Counted;
 use gq_init::turns::TurnsError;
@@ -66,7 +66,7 @@ fn read_turns<R: Read>(
         Err(TurnsError::Memory(_)) => Err(Fault::Memory),
         Err(TurnsError::Fault { fault, line }) => {
             let refused = RunFault::Turns { fault, line };
-            Err(Fault::Refused(format!(in alloc; "trade: {refused}\n")?))
+            Err(told(alloc, refused))
         }
     }
 }

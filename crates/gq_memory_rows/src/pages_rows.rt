@@ -1,6 +1,17 @@
 // Frames on their happy paths, and what no contract can say: that the host gives memory where it has some.
+ghost use Rattle.std.specs.Prelude.{◌≡◌, length};
+ghost use Rattle.gq_pages.specs.Frames.{IsTaken, bytes_of};
+
 use crate::used::used;
-use gq_pages::{NoFrame, Pages};
+use gq_pages::{FrameNo, NoFrame, Pages};
+
+// What a caller knows of each frame that is taken: it has 4096 bytes.
+fn is_whole(pages: &Pages, frame: FrameNo)
+    requires { IsTaken pages.now frame.0 }
+    ensures { length (bytes_of pages.now frame.0) ≡ 4096 }
+{
+    pages.laws();
+}
 
 // How many frames are free, whether two that are taken are one, how many are free then, and what a third one is answered.
 fn taken(pages: &mut Pages) -> Result<(u32, bool, u32, Option<NoFrame>), NoFrame> {
@@ -37,6 +48,7 @@ fn taken_again(pages: &mut Pages) -> Result<(u8, u32, [u8; 3]), NoFrame> {
 // The ends of a word once it is written, the word before it, and the word once the frame is cleared.
 fn written(pages: &mut Pages) -> Result<([u8; 2], u32, u32), NoFrame> {
     let frame = pages.take()?;
+    is_whole(pages, frame);
     pages.set_word(frame, 4092, 0x04030201);
     let bytes = [pages.byte(frame, 4092), pages.byte(frame, 4095)];
     let before = pages.word(frame, 4091);

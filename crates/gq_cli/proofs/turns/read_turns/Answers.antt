@@ -1,10 +1,11 @@
 -- The turns of all that the reader had.
-use Rattle.std.proofs.Common.{◌∙◌, [], Err, sym, subst, rules}
+use Rattle.std.proofs.Common.{◌∙◌, [], Err, sym, subst}
 use Rattle.gq_model.specs.machine.Scenario.{components}
 use Rattle.gq_init.specs.TurnLines.{IsTurned}
 use Rattle.gq_init.specs.TurnReading.{answer}
 use Rattle.gq_init.specs.declared.turns.TurnsError.TheVariants.{Fault}
-use Rattle.gq_cli.proofs.Runs.{read_to_end, reads_by, turns_refused}
+use Rattle.gq_cli.proofs.Runs.{read_to_end, reads_by}
+use Rattle.gq_cli.proofs.Told.{told_turns, turns_silent}
 use Rattle.gq_cli.proofs.turns.read_turns.Goals as goal
 
 pub returns-in-Ok-clause-turns : goal.returns-in-Ok-clause-turns
@@ -12,12 +13,16 @@ returns-in-Ok-clause-turns g c =
     reads_by _ _ (λ text e. sym e ∙ c.in-Ok.ensures)
     (read_to_end (components c.args.table.now) _ _ c.in_ok-turns.turns c.read_pieces.new.turns c.in_default.ensures.text c.in_ok-turns.ensures.answer)
 
-pub returns-in_ok-format-in-Err-Fault-clause-turns :
-    goal.returns-in_ok-format-in-Err-Fault-clause-turns
-returns-in_ok-format-in-Err-Fault-clause-turns g c =
+pub returns-in-Err-Fault-clause-turns : goal.returns-in-Err-Fault-clause-turns
+returns-in-Err-Fault-clause-turns g c =
     let cs = components c.args.table.now in
     let last = c.read_pieces.new.turns in
     let told : IsTurned (Err (Fault c.in-Err-Fault.fault c.in-Err-Fault.line)) (answer cs last []) =
     subst (λ e. IsTurned (Err e) (answer cs last [])) c.in-Err-Fault.field-0-is c.in-Err-Fault.ensures in
-    reads_by _ _ (λ text e. turns_refused c.args.table.now text _ c.in-Err-Fault.fault c.in-Err-Fault.line (sym e ∙ told) (search rules))
+    told_turns c.args.table.now _ _ c.in-Err-Fault.fault c.in-Err-Fault.line c.told.result c.told.ensures (
+    reads_by _ _ (λ text e. sym e ∙ told)
     (read_to_end cs _ _ c.in_ok-turns.turns c.read_pieces.new.turns c.in_default.ensures.text c.in_ok-turns.ensures.answer)
+    )
+
+pub returns-in-Err-Fault-clause-silent : goal.returns-in-Err-Fault-clause-silent
+returns-in-Err-Fault-clause-silent g c = turns_silent c.in-Err-Fault.fault c.in-Err-Fault.line c.told.result c.told.ensures

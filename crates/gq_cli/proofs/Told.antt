@@ -1,0 +1,84 @@
+-- Why a command was not done, by why what it calls was not.
+use Rattle.std.proofs.Common.{◌≡◌, ◌≢◌, ◌∙◌, List, ℕ, Option, Ok, Err, refl, ap, sym, subst}
+use Rattle.std.specs.Prelude.{string_bytes}
+use Rattle.gq_model.specs.declared.fault.TurnFault.{TurnFault}
+use Rattle.gq_model.specs.machine.Scenario.{Scenario, components}
+use Rattle.gq_model.specs.texts.Turns.{turned}
+use Rattle.gq_world.specs.Outcomes.{GivesOf, IsBefore, IsCutShort, IsFaultOf, run_fault_text}
+use Rattle.gq_world.specs.Whole.{Written, refused_with, run_written}
+use Rattle.gq_world.specs.declared.fault.RunFault.{RunFault}
+use Rattle.gq_world.specs.declared.fault.RunFault.TheVariants as faults
+use Rattle.gq_cli.specs.Ends.{Ended, IsKnown, IsSilent, IsToldAs}
+use Rattle.gq_cli.specs.Executed.{Asked, ReadsText, Asm_of, Check_of, IsRefusedBy, Run_of, Text_of, written_of}
+use Rattle.gq_cli.specs.declared.execute.Fault.{Fault}
+use Rattle.gq_cli.specs.declared.execute.Fault.TheVariants.{Refused, Memory, Read, Write}
+use Rattle.gq_cli.specs.internal.Running.{ReadsTurns, RefusesAs}
+use Rattle.gq_cli.proofs.Runs.{reads_by, refused_by, turns_refused}
+
+refused_line : (w : Written) (f : RunFault) (line : List ℕ) → IsFaultOf f w → f ≢ faults.Memory → f ≢ faults.Write → line ≡ refused_with (run_fault_text f)
+    → w ≡ Err line
+refused_line w (faults.Load f) line h m u e = h ∙ ap Err (sym e)
+refused_line w (faults.NoComponent name) line h m u e = h ∙ ap Err (sym e)
+refused_line w (faults.Turns f k) line h m u e = h ∙ ap Err (sym e)
+refused_line w faults.Memory line h m u e = absurd (m refl)
+refused_line w faults.Write line h m u e = absurd (u refl)
+
+refused_as : (asked : Asked) (line : List ℕ) → written_of asked ≡ Err line → IsRefusedBy asked line
+refused_as (Check_of scenario) line e = e
+refused_as (Run_of scenario turns) line e = e
+refused_as (Asm_of scenario leaf) line e = e
+refused_as (Text_of text) line e = cc e
+
+pub told_ends : (asked : Asked) (before after : Option (List ℕ)) (f : RunFault) (r : Fault) → IsToldAs f r → IsFaultOf f (written_of asked)
+    → (f ≡ faults.Write → IsCutShort (written_of asked) before after) → IsKnown {A = Unit {0}} (Err r) → Ended {A = Unit {0}} (Err r) before after asked
+told_ends asked before after f (Refused line) told h cut known =
+    refused_as asked (string_bytes line) (refused_line (written_of asked) f (string_bytes line) h told.0 told.1 told.2)
+told_ends asked before after f Memory told h cut known = absurd known
+told_ends asked before after f Read told h cut known = absurd known
+told_ends asked before after f Write told h cut known = cut told
+
+before : (f : RunFault) → f ≢ faults.Write → IsBefore f
+before (faults.Load f) u = tt {0}
+before (faults.NoComponent name) u = tt {0}
+before (faults.Turns f k) u = tt {0}
+before faults.Memory u = tt {0}
+before faults.Write u = absurd (u refl)
+
+pub told_silent : (f : RunFault) (r : Fault) → IsToldAs f r → IsSilent r → IsBefore f
+told_silent f (Refused line) told silent = before f told.1
+told_silent f Memory told silent = before f told
+told_silent f Read told silent = absurd told
+told_silent f Write told silent = absurd silent
+
+pub told_written : (f : RunFault) (r : Fault) → IsToldAs f r → r ≡ Write → f ≡ faults.Write
+told_written f r told e = subst (IsToldAs f) e told
+
+-- a scenario that is refused, and turns that are
+
+gives_before : (f : RunFault) (scenario : List ℕ) → GivesOf f scenario → f ≢ faults.Write
+gives_before f scenario gives e = subst (λ x. GivesOf x scenario) e gives
+
+pub told_refuses : (f : RunFault) (scenario text : List ℕ) (r : Fault) → GivesOf f scenario → IsToldAs f r → RefusesAs (run_written scenario text) r
+told_refuses f scenario text (Refused line) gives told = refused_by f scenario text (string_bytes line) gives told.0 told.2
+told_refuses f scenario text Memory gives told = tt {0}
+told_refuses f scenario text Read gives told = tt {0}
+told_refuses f scenario text Write gives told = gives_before f scenario gives told
+
+pub refusal_silent : (f : RunFault) (scenario : List ℕ) (r : Fault) → GivesOf f scenario → IsToldAs f r → IsSilent r
+refusal_silent f scenario (Refused line) gives told = tt {0}
+refusal_silent f scenario Memory gives told = tt {0}
+refusal_silent f scenario Read gives told = tt {0}
+refusal_silent f scenario Write gives told = gives_before f scenario gives told
+
+pub told_turns : (s : Scenario) (old new : Option (List ℕ)) (fault : TurnFault) (k : ℕ) (r : Fault) → IsToldAs (faults.Turns fault k) r
+    → ReadsText old new (λ text. turned (components s) text ≡ Err (fault, k)) → ReadsTurns s old new (Err r)
+told_turns s old new fault k (Refused line) told h = reads_by old new (λ text e. turns_refused s text (string_bytes line) fault k e told.2) h
+told_turns s old new fault k Memory told h = tt {0}
+told_turns s old new fault k Read told h = tt {0}
+told_turns s old new fault k Write told h = tt {0}
+
+pub turns_silent : (fault : TurnFault) (k : ℕ) (r : Fault) → IsToldAs (faults.Turns fault k) r → IsSilent r
+turns_silent fault k (Refused line) told = tt {0}
+turns_silent fault k Memory told = tt {0}
+turns_silent fault k Read told = tt {0}
+turns_silent fault k Write told = cc told
