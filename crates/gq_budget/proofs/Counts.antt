@@ -8,8 +8,6 @@ use Rattle.gq_model.specs.rules.Kinds.{Subject}
 use Rattle.gq_model.specs.rules.Budgets.{section_requests}
 use Rattle.gq_verify.specs.Counting.{saturated}
 use Rattle.gq_verify.specs.Requested.{Requested, requests_for}
-use Rattle.gq_budget.specs.Leaves.{Leaf}
-use Rattle.gq_budget.specs.Counts.{Counted, IsCountOf, AreCountsOf}
 use Rattle.gq_budget.specs.internal.Counted.{AreRequests}
 
 -- with those of the sections that are left they are those of all
@@ -33,22 +31,3 @@ leads_end v items i made past h =
     let none = drop_of_length-le items past in
     let all = h [] (subst (λ (l : List (Section × Statements)). AreRequests v l []) (sym none) tt) in
     subst (λ (l : List (List Requested)). AreRequests v items l) (append-nil made) all
-
--- what is kept of some leaves, with what is kept of those that are left, is that of all
-abbrev pub Completes : List Leaf → List Leaf → List Counted → Type 0
-Completes all left made = (more : List Counted) → AreCountsOf more left → AreCountsOf (made ++ more) all
-
--- with one more
-pub completes_on : (all : List Leaf) (i : ℕ) (leaf : Leaf) (made made' : List Counted) (n : Counted) → i < length all → leaf ≡ get_or all i leaf →
-    made' ≡ made ++ n ∷ [] → IsCountOf n leaf → Completes all (drop i all) made → Completes all (drop (i + 1) all) made'
-completes_on all i leaf made made' n less at is here before more h =
-    let left : drop i all ≡ leaf ∷ drop (i + 1) all = drop_more all i leaf less ∙ ap (λ (l : Leaf). l ∷ drop (i + 1) all) (sym at) in
-    let whole = before (n ∷ more) (subst (λ (l : List Leaf). AreCountsOf (n ∷ more) l) (sym left) (here, h)) in
-    let same = ap (λ (l : List Counted). l ++ more) is ∙ append_assoc made (n ∷ []) more in
-    subst (λ (l : List Counted). AreCountsOf l all) (sym same) whole
-
-pub completes_end : (all : List Leaf) (i : ℕ) (made : List Counted) → length all ≤ i → Completes all (drop i all) made → AreCountsOf made all
-completes_end all i made past h =
-    let none = drop_of_length-le all past in
-    let whole = h [] (subst (λ (l : List Leaf). AreCountsOf [] l) (sym none) tt) in
-    subst (λ (l : List Counted). AreCountsOf l all) (append-nil made) whole

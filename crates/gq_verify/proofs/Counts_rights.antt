@@ -42,17 +42,7 @@ requests_first v r c s (Plain i) rest = refl
 requests_first v r c s (statement.If arm other) rest = refl
 requests_first v r c s (statement.Loop count body) rest = refl
 
--- what has been counted, with one statement more
-pub summed_on : (v : List ℕ) (r : Section) (c : Context) (s u : State) (items : List Statement) (i : ℕ) (st : Statement) (sum here next all : ℕ) →
-    i < length items → st ≡ get_or items i st → u ≡ next_state c s st → here ≡ saturated (requests_in v r c s st) → next ≡ min (sum + here) (2 ^ 64 - 1) →
-    saturated (sum + requests v r c s (tree_of (drop i items))) ≡ all → saturated (next + requests v r c u (tree_of (drop (i + 1) items))) ≡ all
-summed_on v r c s u items i st sum here next all less e at h p q =
-    let a = ap (λ l. requests v r c s (tree_of l)) (here_is items i st less e) in
-    let b = requests_first v r c s st (drop (i + 1) items) in
-    let d = ap (λ (u : State). requests v r c u (tree_of (drop (i + 1) items))) at in
-    omega (arith, a, b, d, h, p, q)
-
--- the same of numbers that are kept as far as they go
+-- what has been counted, with one statement more, of numbers that are kept as far as they go
 pub counted_on : (v : List ℕ) (r : Section) (c : Context) (s u : State) (items : List Statement) (i : ℕ) (st : Statement) (now next all : ℕ) →
     i < length items → st ≡ get_or items i st → u ≡ next_state c s st → saturated next ≡ saturated (now + requests_in v r c s st) →
     saturated (now + requests v r c s (tree_of (drop i items))) ≡ all → saturated (next + requests v r c u (tree_of (drop (i + 1) items))) ≡ all
