@@ -89,16 +89,17 @@ fn write_number(slots: &mut Slots, addresses: &Addresses, session: usize, value:
     }
 }
 
-// What the client reads at its addresses: the byte at 3, the number in the four bytes from 8 on, and the byte behind the buffer.
+// What the client reads at its addresses: the byte at 3, the number in the four bytes from 8 on, and the byte behind the page of the buffer.
 fn read_back(slots: &mut Slots, addresses: &Addresses, session: usize) -> [Option<u32>; 3]
     requires { Serves slots.old session }
+    ensures { Serves slots.new session }
 {
     slots.pay_by(1);
     match slots.thing(Spot::InLeaf(1, 0)) {
         Thing::Link(other) if other as usize == session => {
             let byte = addresses.load(slots, 1, 3);
             let number = addresses.load4(slots, 1, 8);
-            let behind = addresses.load(slots, 1, 16);
+            let behind = addresses.load(slots, 1, 4096);
             [byte.map(u32::from), number, behind.map(u32::from)]
         }
         _ => [None, None, None],
@@ -136,12 +137,13 @@ fn share(slots: &mut Slots, addresses: &Addresses) -> Option<([Option<u32>; 3], 
     if !write_number(slots, addresses, session, 1000) {
         return None;
     }
+    let seen = read_back(slots, addresses, session);
     let value = read(slots, session);
-    Some((value, slots.trades().free_pages()))
+    Some((seen, value, slots.trades().free_pages()))
 }
 
 // The same by addresses of its own, over one service with a buffer of 16 bytes.
-fn shared(alloc: Global) -> Result<Option<(Option<u8>, u32)>, AllocError> {
+fn shared(alloc: Global) -> Result<Option<([Option<u32>; 3], Option<u8>, u32)>, AllocError> {
     let addresses = Addresses::new(vec![in alloc; 16]?);
     let seen = used(market(alloc), |slots| share(slots, &addresses));
     drop(addresses);
@@ -150,5 +152,6 @@ fn shared(alloc: Global) -> Result<Option<(Option<u8>, u32)>, AllocError> {
 
 #[test]
 fn shares_a_buffer(rt: HostRuntime) {
-    assert_eq!(rt; shared(rt.alloc()), Ok(Some((Some(77), 14))));
+    let seen = [Some(77), Some(1000), None];
+    assert_eq!(rt; shared(rt.alloc()), Ok(Some((seen, Some(77), 14))));
 }

@@ -1,12 +1,12 @@
 -- All leaves together hold no more than there is.
-use Rattle.std.proofs.Common.{◌≡◌, ◌<◌, ◌≤◌, ◌+◌, ℕ, zero, suc, Bool, true, false, cond, List, [], ◌∷◌, ◌++◌, length, Option, Some, None, refl, sym, ap}
+use Rattle.std.proofs.Common.{◌≡◌, ◌≤◌, ◌+◌, ℕ, zero, suc, Bool, true, false, cond, List, [], ◌∷◌, ◌++◌, length, Option, Some, None, refl, sym, ap}
 use Rattle.std.proofs.Common.{◌∙◌, arith}
 use Rattle.std.specs.Prelude.{slice_get, slice_index, sum_by, ◌==◌}
 use Rattle.std.proofs.Math.Logic.{∥∥₁_elim}
 use Rattle.std.specs.Coded.{le_prop}
 use Rattle.std.proofs.lemmas.List.Sums.{sum_by-cons, sum_by-append}
 use Rattle.gq_model.specs.machine.Accounts.{Account, LeafAccount, account_at, accounts, init_account, leaf_account, leaf_count, node_accounts}
-use Rattle.gq_model.specs.machine.Amounts.{Caps, Ram, Resource, counted_in, part}
+use Rattle.gq_model.specs.machine.Amounts.{Caps, Ram, Resource, part}
 use Rattle.gq_model.specs.machine.Scenario.{Component, End, Init_node, Leaf_node, Nodes, Scenario, below, components, system}
 use Rattle.gq_model.specs.machine.Sums.{held}
 use Rattle.gq_model.specs.machine.World.{Leaf, World}

@@ -1,7 +1,5 @@
 // The budgets of a scenario's leaves, as text.
-ghost use Rattle.std.specs.Prelude.{◌≡◌, Ok, Err, IfOk, IfErr, OnOk};
-ghost use Rattle.gq_load.specs.Faults.{Refuses};
-ghost use Rattle.gq_load.specs.Load.{loaded};
+ghost use Rattle.std.specs.Prelude.{◌≡◌, Err, IfErr, OnOk};
 ghost use Rattle.gq_init.specs.Counts.{written_to, failures_of};
 ghost use Rattle.gq_world.specs.Outcomes.{IsBefore, IsCutShort, IsFaultOf, IsWhole};
 ghost use Rattle.gq_world.specs.Whole.{check_written};
@@ -10,18 +8,8 @@ ghost use Rattle.gq_init.specs.Writes.{IsRaised};
 use crate::fault::RunFault;
 use gq_init::counted::{Counted, put};
 use gq_load::checked::checked_lines;
-use gq_load::fault::LoadError;
 use std::alloc::Global;
 use std::io::Write;
-
-// The lines of the budgets of a scenario's leaves.
-fn budget_lines(alloc: Global, scenario: &[u8]) -> Result<Vec<u8>, LoadError>
-    ensures lines { IfOk result (λ lines. check_written scenario.now ≡ Ok lines.items) }
-    ensures refused { IfErr result (λ e. Refuses e (loaded scenario.now)) }
-{
-    let lines = checked_lines(alloc, scenario)?;
-    Ok(lines)
-}
 
 /// Writes the verified budget of each leaf in preorder, a line each: the most bytes, and in version 2 capabilities, of its own account
 /// that it holds or lends, and the most steps that it takes, whatever the turns. Nothing is written where the scenario is refused, or
@@ -43,7 +31,7 @@ pub fn check<W: Write>(
     ensures cut { result ≡ Err RunFault.Write → IsCutShort (check_written scenario.now) (written_to W.contents out.old) (written_to W.contents out.new) }
     ensures raised { result ≡ Err RunFault.Write → IsRaised (failures_of out.old) (failures_of out.new) }
 {
-    let lines = budget_lines(alloc, scenario)?;
+    let lines = checked_lines(alloc, scenario)?;
     match put(out, lines.as_slice()) {
         Ok(()) => Ok(()),
         Err(_) => Err(RunFault::Write),

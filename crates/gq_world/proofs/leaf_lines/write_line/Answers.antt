@@ -20,8 +20,8 @@ returns-clause-front g c =
     let told : IfSome (slice_get (components t) x) (λ d. c.label.result.now ≡ d.label) =
     subst (λ (o : Option Component). IfSome o (λ d. c.label.result.now ≡ d.label)) (sym leaf.there) label in
     let same = label_told (components t) x c.label.result.now c.requires.leaf told in
-    let line : c.say.new.self.bytes ≡ line_told t x (doing.Line text) =
-    ap (λ l. l.bytes) c.say.ensures ∙ ap (λ l. line_of l (doing.Line text)) (c.begin.ensures.label ∙ same) in
+    let line : c.text_line-line.result.items ≡ line_told t x (doing.Line text) =
+    c.text_line-line.ensures ∙ ap (λ l. line_of l (doing.Line text)) same in
     let a = g.W.Write.contents c.args.out.now.writer in
     let b = g.W.Write.contents c.put.new.out.writer in
-    subst (λ (l : List ℕ). OnErr c.put.result (IsFront a b l)) (c.as_bytes.ensures ∙ line) c.put.ensures.front
+    subst (λ (l : List ℕ). OnErr c.put.result (IsFront a b l)) (c.as_slice.ensures.value ∙ line) c.put.ensures.front
