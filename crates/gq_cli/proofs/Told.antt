@@ -1,5 +1,5 @@
 -- Why a command was not done, by why what it calls was not.
-use Rattle.std.proofs.Common.{◌≡◌, ◌≢◌, ◌∙◌, List, ℕ, Option, Ok, Err, refl, ap, sym, subst}
+use Rattle.std.proofs.Common.{◌≡◌, ◌≢◌, ◌∙◌, List, ℕ, Option, Err, refl, ap, sym, subst}
 use Rattle.std.specs.Prelude.{string_bytes}
 use Rattle.gq_model.specs.declared.fault.TurnFault.{TurnFault}
 use Rattle.gq_model.specs.machine.Scenario.{Scenario, components}

@@ -251,7 +251,7 @@ fn refusal<T: Read>(alloc: Global, scenario: &[u8], fault: RunFault, turns: &mut
 
 // Why a command was not done, by why what it calls was not: the line of a refusal is made.
 pub(crate) fn told(alloc: Global, fault: RunFault<'_>) -> Fault
-    ensures { IsToldAs fault result }
+    ensures { IsToldAs fault.entry result }
 {
     match fault {
         RunFault::Memory => Fault::Memory,

@@ -1,5 +1,5 @@
 -- One piece more.
-use Rattle.std.proofs.Common.{◌≤◌, ◌<◌, ◌+◌, length, rules}
+use Rattle.std.proofs.Common.{rules}
 use Rattle.std.proofs.lemmas.List.{places}
 use Rattle.gq_model.specs.machine.Scenario.{components}
 use Rattle.gq_cli.proofs.Runs.{at_most_both, come_all, come_at_most, come_both}

@@ -1,10 +1,7 @@
 -- The turns are those of the world's own scenario.
-use Rattle.std.proofs.Common.{◌≡◌, ap, subst, sym, length, ℕ, List, Ok, ◌∙◌}
-use Rattle.std.specs.Io.KnownBytes.{Appends}
-use Rattle.gq_model.specs.machine.Scenario.{Scenario, components}
-use Rattle.gq_model.specs.texts.Turns.{turned}
+use Rattle.std.proofs.Common.{subst, sym, length, ℕ, List}
+use Rattle.gq_model.specs.machine.Scenario.{components}
 use Rattle.gq_world.specs.Worlds.{AreBelow}
-use Rattle.gq_world.specs.Whole.{whole_of}
 use Rattle.gq_world.proofs.Whole.{below_of}
 use Rattle.gq_cli.proofs.turns.run_loaded.Goals as goal
 
