@@ -1,9 +1,10 @@
 #!/usr/bin/env python3
-"""tests/run_schema.py: holds the examples and the scenarios of all cases against docs/scenario.schema.json, by which editors help with scenarios.
+"""tests/run_schema.py: tries docs/scenario.schema.json, by which editors help with scenarios.
 
-What the program reads has to be valid. What it refuses for a key, a value or a depth (S2, S3, S4, S7) must not be, but for EXCEPTIONS, which a schema can't
-see. Of S1 and S6 a schema need not know. Then the schema is looked at by itself: it is one of its draft, each key of the format is described in a
-sentence, quantities have the bounds of the format, texts at the limits are valid, and typical mistakes are reported where they stand.
+The examples and the scenarios of all cases are held against it: what the program reads has to be valid; what it refuses for a key, a value or a depth
+(S2, S3, S4, S7) must not be, but for EXCEPTIONS, which a schema can't see. Of S1 and S6 a schema need not know. Then the format's tables are tried key by
+key, and its values at their bounds; typical mistakes have to be reported where they stand, and nowhere else; and the schema is one of its draft, with a
+sentence on each key.
 
 It wants the Python package jsonschema (python3-jsonschema in Debian), and no program; without the package it says so and ends with 0. The last line is
 'N passed, M failed', and the exit status is 1 where one failed.
@@ -35,20 +36,25 @@ EXCEPTIONS = {"check-bad-provides": UNDECLARED, "node 3": UNDECLARED}
 WRONG = re.compile(rb"trade: (S[2347] |S5 NameTwice init$)", re.MULTILINE)
 RIGHT = re.compile(rb"trade: (S[589]|S1\d|U\d|[\w-]+: [MCVB]\d+) |trade: no component |wrong ")
 
-# Where the tables and the lists of the format stand in the schema, and the keys of each table in both versions.
+# Where the tables of the format stand in the schema, and the keys of both versions.
 INTERFACE = "properties", "interface", "additionalProperties"
 NODE = "properties", "start", "items"
 ROUTE = "properties", "default-route", "items"
+NODE_KEYS, ROUTE_KEYS = "name quantum caps route start default-route provides after program code", "service any-service child any-child parent"
 TABLES = [
     ((), "version ram caps default-route interface start"),
     (INTERFACE, "arg reply need need-caps object upgrades upgrade-caps buffer"),
-    (NODE, "name quantum caps route start default-route provides after program code"),
-    ((*NODE, "properties", "start", "items"), "name quantum caps route start default-route provides after program code"),
-    (ROUTE, "service any-service child any-child parent"),
-    ((*NODE, "properties", "route", "items"), "service any-service child any-child parent"),
+    (NODE, NODE_KEYS),
+    ((*NODE, "properties", "start", "items"), NODE_KEYS),
+    (ROUTE, ROUTE_KEYS),
+    ((*NODE, "properties", "route", "items"), ROUTE_KEYS),
+    ((*NODE, "properties", "default-route", "items"), ROUTE_KEYS),
 ]
+KEYS = {key for _, keys in TABLES for key in keys.split()}
+OPTIONAL = {"default-route", "interface", "object", "upgrades", "upgrade-caps", "buffer", "route", "provides", "after"}
+OF_VERSION_2 = {"caps", "need-caps", "upgrade-caps"}
 
-# Quantities: where each stands in the schema, its least value, its greatest one, and of what it is a multiple.
+# Quantities: the place, the least value, the greatest one, and of what it is a multiple.
 QUANTITIES = [
     (("properties", "ram"), 4096, 67108864, 4096),
     ((*INTERFACE, "properties", "need"), 0, 4294967295, 1),
@@ -58,60 +64,87 @@ QUANTITIES = [
     ((*NODE, "properties", "quantum"), 0, 2**40, 1),
 ]
 UNITS = {"": 1, "K": 2**10, "M": 2**20, "G": 2**30}
-NO_QUANTITIES = ["", "K", "4k", "4 K", " 4K", "4K ", "K4", "4KK", "4KM", "-4", "+4", "4.0", "4.0K", "0x10", "1_000", "４", "1e3", -1, -4096, True, [], {}]
+NO_QUANTITIES = ["", "K", "4k", "4 K", " 4K", "4K ", "K4", "4KK", "4KM", "-4", "+4", "4.0", "4.0K", "0x10", "1_000", "４", "1e3", -1, 1.5, True, [], {}]
 
-# Texts at the limits of the format.
-ROOT, ROOT_2 = 'version = 1\nram = "64K"\n', 'version = 2\nram = "64K"\ncaps = 4\n'
-ECHO = "[interface.echo]\narg = 1\nreply = 1\nneed = 0\n"
-LIMITS = [
-    ("nothing below the root", 'version = 2\nram = "64M"\ncaps = 65536\nstart = []'),
-    ("an init at depth 4", ROOT + "start = [" + '{ name = "a", quantum = 0, start = [' * 4 + "] }" * 4 + "]"),
-    ("a long name", ROOT + 'start = [{ name = "-_azAZ09-_azAZ09", quantum = "1024G", code = "" }]'),
-    ("64 routes", ROOT + "start = []\ndefault-route = [" + "{ any-service = true, parent = true }," * 64 + "]"),
-    ("64 interfaces", ROOT + "start = []\n" + "".join(ECHO.replace("echo", f"e{place}") for place in range(64))),
-    ("three upgrades", ROOT_2 + "start = []\n" + ECHO + 'need-caps = 65536\nupgrades = [0, "3G", 4294967295]\nupgrade-caps = [0, 1, 65536]'),
-    ("an upgrade without capabilities", ROOT_2 + "start = []\n" + ECHO + "need-caps = 0\nupgrades = [1]"),
-    ("no upgrades", ROOT_2 + "start = []\n" + ECHO + "need-caps = 0\nupgrade-caps = []"),
-    ("values of 32 bits", ROOT + "start = []\n" + ECHO.replace("1", "4294967295") + 'object = "64K"\nbuffer = "1M"'),
+# Numbers: the place, the least value and the greatest one.
+NUMBERS = [
+    (("properties", "version"), 1, 2),
+    (("properties", "caps"), 1, 65536),
+    ((*INTERFACE, "properties", "arg"), 0, 4294967295),
+    ((*INTERFACE, "properties", "reply"), 0, 4294967295),
+    ((*INTERFACE, "properties", "need-caps"), 0, 65536),
+    ((*INTERFACE, "properties", "upgrade-caps", "items"), 0, 65536),
+    ((*NODE, "properties", "caps"), 0, 65536),
 ]
 
-# Typical mistakes, and what has to be reported: where, and words of the message.
-ROUTES, INTERFACES, DEEP = ROOT + "start = []\ndefault-route = [{}]", ROOT_2 + "start = []\n" + ECHO + "need-caps = 0\n", "start" + ".0.start" * 4
+# Other values: the place, values that fit and values that don't.
+NAMES = ["a", "-_azAZ09-_azAZ09"], ["", "a b", "a" * 17, "é", "a.b", 1, True, [], {}]
+TRUE = [True], [False, 1, "true", []]
+PARENT, ECHO, LEAF = {"any-service": True, "parent": True}, {"arg": 0, "reply": 0, "need": 0}, {"name": "a", "quantum": 0, "code": ""}
+ROUTES = [[], [PARENT] * 64], [[1], [[PARENT]], PARENT, True, [PARENT] * 65]
+VALUES = [
+    ((), [], [[], 1, ""]),
+    (("properties", "default-route"), *ROUTES),
+    (("properties", "interface"), [{}, {f"e{n}": ECHO for n in range(64)}], [[], [ECHO], 1, {"a b": ECHO}, {"e": 1}, {f"e{n}": ECHO for n in range(65)}]),
+    (INTERFACE, [ECHO], [[], 1, ""]),
+    ((*INTERFACE, "properties", "upgrades"), [[], [0, "4K", 0]], [0, {}, ["4k"], [0, 0, 0, 0]]),
+    ((*INTERFACE, "properties", "upgrade-caps"), [[], [0, 1, 65536]], [0, {}, ["1"]]),
+    (NODE[:2], [[], [LEAF] * 64], [[1], [[]], LEAF, [LEAF] * 129]),
+    (NODE, [LEAF], [[], 1, ""]),
+    ((*NODE, "properties", "name"), NAMES[0], [*NAMES[1], "init"]),
+    ((*NODE, "properties", "route"), *ROUTES),
+    ((*NODE, "properties", "default-route"), *ROUTES),
+    ((*NODE, "properties", "provides"), *NAMES),
+    ((*NODE, "properties", "after"), *NAMES),
+    ((*NODE, "properties", "program"), ["", "main\nend\n"], [1, True, []]),
+    ((*NODE, "properties", "code"), ["", "00", "09afAF"], ["0", "000", "0g", " 00", 10, []]),
+    (ROUTE, [PARENT], [[], 1, ""]),
+    ((*ROUTE, "properties", "service"), *NAMES),
+    ((*ROUTE, "properties", "any-service"), *TRUE),
+    ((*ROUTE, "properties", "child"), *NAMES),
+    ((*ROUTE, "properties", "any-child"), *TRUE),
+    ((*ROUTE, "properties", "parent"), *TRUE),
+]
+
+# Typical mistakes: the text, and what has to be reported, where and with which words.
+ONE, TWO = 'version = 1\nram = "64K"\n', 'version = 2\nram = "64K"\ncaps = 4\n'
+NODE_1, ROUTE_1 = ONE + 'start = [{{ name = "a", quantum = 0, {} }}]', ONE + "start = []\ndefault-route = [{{ {} }}]"
+LOG, DEEP = "start = []\n[interface.log]\narg = 1\nreply = 1\nneed = 0\n", '{ name = "a", quantum = 0, caps = 0, start = [' * 5 + "] }" * 5
 MISTAKES = [
-    ("RAM", 'version = 1\nRAM = "64K"\nstart = []', [("", "'RAM'"), ("", "'ram'")]),
-    ("cap", ROOT_2 + 'start = [{ name = "a", quantum = 0, caps = 0, cap = 4, program = "" }]', [("start.0", "'cap'")]),
-    ("cap, not caps", ROOT_2 + 'start = [{ name = "a", quantum = 0, cap = 4, code = "" }]', [("start.0", "'cap'"), ("start.0", "'caps'")]),
-    ("default_route", ROOT + "default_route = []\nstart = []", [("", "'default_route'")]),
-    ("need_caps", INTERFACES + "need_caps = 1", [("interface.echo", "'need_caps'")]),
-    ("interfaces", ROOT + "start = []\n" + ECHO.replace("interface.echo", "interfaces.log"), [("", "'interfaces'")]),
-    ("version 3 with caps", 'version = 3\nram = "64K"\ncaps = 4\nstart = []', [("version", "3"), ("caps", "in version 1")]),
-    ("no version", 'ram = "64K"\ncaps = 4\nstart = []', [("", "'version'"), ("caps", "in version 1")]),
-    ("caps of a node", ROOT + 'start = [{ name = "a", quantum = 0, caps = 1, start = [] }]', [("start.0.caps", "in version 1")]),
-    ("caps of a session", INTERFACES.replace(ROOT_2, ROOT), [("interface.echo.need-caps", "in version 1")]),
-    ("no caps", ROOT_2.replace("caps = 4", "") + "start = []\n" + ECHO, [("", "'caps'"), ("interface.echo", "'need-caps'")]),
-    ("two services", ROUTES.format('{ service = "e", any-service = true, parent = true }'), [("default-route.0.any-service", "beside service")]),
-    ("two targets", ROUTES.format('{ service = "e", child = "a", any-child = true }'), [("default-route.0.any-child", "beside child")]),
-    ("two more", ROUTES.format("{ any-service = true, any-child = true, parent = true }"), [("default-route.0.parent", "beside any-child")]),
-    ("no target", ROUTES.format('{ service = "e" }'), [("default-route.0", "'child'")]),
-    ("no service", ROUTES.format("{ parent = true }"), [("default-route.0", "'service'")]),
-    ("a false parent", ROUTES.format('{ service = "e", parent = false }'), [("default-route.0.parent", "")]),
-    ("65 routes", ROUTES.format("{ any-service = true, parent = true }," * 65), [("default-route", "")]),
-    ("program and code", ROOT + 'start = [{ name = "a", quantum = 0, program = "", code = "00" }]', [("start.0.code", "beside program")]),
-    ("no program", ROOT + 'start = [{ name = "a", quantum = 0 }]', [("start.0", "'program'")]),
-    ("half a byte", ROOT + 'start = [{ name = "a", quantum = 0, code = "0" }]', [("start.0.code", "'0'")]),
-    ("a name with a blank", ROOT + 'start = [{ name = "a b", quantum = 0, program = "" }]', [("start.0.name", "'a b'")]),
-    ("the root's name", ROOT + 'start = [{ name = "init", quantum = 0, program = "" }]', [("start.0.name", "'init'")]),
-    ("a service with a blank", ROOT + "start = []\n" + ECHO.replace("echo", '"a b"'), [("interface", "'a b'")]),
-    ("a small letter", ROOT.replace("K", "k") + "start = []", [("ram", "'64k'")]),
-    ("no whole page", ROOT.replace("64K", "65K") + "start = []", [("ram", "'65K'")]),
-    ("too much", ROOT.replace("64K", "65M") + "start = []", [("ram", "'65M'")]),
-    ("an init that waits", ROOT + 'start = [{ name = "a", quantum = 0, after = "b", start = [] }]', [("start.0.after", "on an init")]),
-    ("an init with a program", ROOT + 'start = [{ name = "a", quantum = 0, program = "", start = [] }]', [("start.0.program", "on an init")]),
-    ("children of a leaf", ROOT + 'start = [{ name = "a", quantum = 0, default-route = [], code = "" }]', [("start.0.default-route", "on a leaf")]),
-    ("four upgrades", ROOT + "start = []\n" + ECHO + "upgrades = [0, 0, 0, 0]", [("interface.echo.upgrades", "")]),
-    ("caps of no upgrade", INTERFACES + "upgrade-caps = [1]", [("interface.echo.upgrade-caps", "")]),
-    ("caps of one upgrade", INTERFACES + "upgrades = [1, 2]\nupgrade-caps = [1]", [("interface.echo.upgrade-caps", "")]),
-    ("depth 5", ROOT + "start = [" + '{ name = "a", quantum = 0, start = [' * 4 + '{ name = "b", quantum = 0, code = "" }' + "] }" * 4 + "]", [(DEEP, "")]),
+    ('version = 1\nRAM = "64K"\nstart = []', [("", "'RAM'"), ("", "'ram'")]),
+    (ONE.replace("K", "k") + "start = []", [("ram", "'64k'")]),
+    (ONE.replace("64K", "65K") + "start = []", [("ram", "'65K'")]),
+    (ONE.replace("64K", "65M") + "start = []", [("ram", "'65M'")]),
+    ("version = 3\nram = 4096\ncaps = 4\nstart = []", [("version", "3"), ("caps", "in version 1")]),
+    ("ram = 4096\ncaps = 4\nstart = []", [("", "'version'"), ("caps", "in version 1")]),
+    (TWO.replace("caps = 4", "") + "start = []", [("", "'caps'")]),
+    (ONE + "default_route = []\nstart = []", [("", "'default_route'")]),
+    (ONE + LOG.replace("interface", "interfaces"), [("", "'interfaces'")]),
+    (ONE + LOG.replace("log", '"a b"'), [("interface", "'a b'")]),
+    (ONE + LOG + "upgrades = [0, 0, 0, 0]", [("interface.log.upgrades", "")]),
+    (ONE + LOG + "need-caps = 1", [("interface.log.need-caps", "in version 1")]),
+    (TWO + LOG, [("interface.log", "'need-caps'")]),
+    (TWO + LOG + "need_caps = 1", [("interface.log", "'need_caps'"), ("interface.log", "'need-caps'")]),
+    (TWO + LOG + "need-caps = 1\nupgrade-caps = [1]", [("interface.log.upgrade-caps", "")]),
+    (TWO + 'start = [{ name = "a", quantum = 0, cap = 4, start = [] }]', [("start.0", "'cap'"), ("start.0", "'caps'")]),
+    (TWO + f"start = [{DEEP}]", [("start" + ".0.start" * 4, "")]),
+    (ONE + f"start = [{DEEP.replace('caps = 0, ', '')}]", [("start" + ".0.start" * 4, "")]),
+    (NODE_1.format("start = [{ name = 1, quantum = 0, code = '' }]"), [("start.0.start.0.name", "1")]),
+    (NODE_1.format("code = ''").replace('"a"', '"a b"'), [("start.0.name", "'a b'")]),
+    (NODE_1.format("code = ''").replace('"a"', '"init"'), [("start.0.name", "'init'")]),
+    (NODE_1.format("caps = 1, start = []"), [("start.0.caps", "in version 1")]),
+    (NODE_1.format("after = 'b', start = []"), [("start.0.after", "on an init")]),
+    (NODE_1.format("default-route = [], program = ''"), [("start.0.default-route", "on a leaf")]),
+    (NODE_1.format("provides = 'log'"), [("start.0", "'program'")]),
+    (NODE_1.format("program = '', code = '00'"), [("start.0.code", "beside program")]),
+    (NODE_1.format("code = '0'"), [("start.0.code", "'0'")]),
+    (ROUTE_1.format("service = 'log', any-service = true, parent = true"), [("default-route.0.any-service", "beside service")]),
+    (ROUTE_1.format("service = 'log', child = 'a', any-child = true"), [("default-route.0.any-child", "beside child")]),
+    (ROUTE_1.format("service = 'log', child = 'a', parent = true"), [("default-route.0.parent", "beside child")]),
+    (ROUTE_1.format("service = 'log', any-child = true, parent = true"), [("default-route.0.parent", "beside any-child")]),
+    (ROUTE_1.format("service = 'log', parent = false"), [("default-route.0.parent", "")]),
+    (ROUTE_1.format("service = 'log'"), [("default-route.0", "'child'")]),
+    (ROUTE_1.format("parent = true"), [("default-route.0", "'service'")]),
 ]
 
 
@@ -123,6 +156,15 @@ def part(schema, steps):
         if "$ref" in found:
             found = schema["definitions"][found["$ref"].removeprefix("#/definitions/")]
     return found
+
+
+def part_validator(schema, steps):
+    """What judges values by this part of the schema."""
+    return validators.validator_for(schema)({**part(schema, steps), "definitions": schema["definitions"]})
+
+
+def told(values):
+    return ", ".join(map(str, values))[:400]
 
 
 def document(text):
@@ -160,13 +202,13 @@ def problem_of(validator, name, tables, right):
     if name in EXCEPTIONS:
         return "this is no exception" if right or found else ""
     if right:
-        return str(found)[:400] if found else ""
+        return told(found)
     return "" if found else "the program refuses what is valid"
 
 
-def of_cases(validator):
+def of_cases(schema):
     """The examples and cases whose scenario is right or wrong."""
-    left = set(EXCEPTIONS)
+    validator, left = part_validator(schema, ()), set(EXCEPTIONS)
     for name, command, scenario, _, (_, stderr, status) in cases():
         word = command.split(" ")[0] if isinstance(command, str) else ""
         right = is_right(stderr, status)
@@ -189,12 +231,74 @@ def of_itself(schema):
 
 
 def of_descriptions(schema):
-    """The keys of each table, and their descriptions."""
+    """The keys of each table, each described in a sentence."""
     for steps, keys in TABLES:
         found = part(schema, steps)["properties"]
         bad = set(keys.split()) ^ set(found)
         bad |= {key for key in found if not re.fullmatch(r"[A-Z][^.\n]+\.", part(schema, (*steps, "properties", key)).get("description", ""))}
-        yield f"the keys {keys}", ", ".join(sorted(bad))
+        yield f"the descriptions of {keys}", told(sorted(bad))
+
+
+def nodes(depth):
+    """Two nodes at this depth, which have all keys of a node."""
+    node = {"name": f"a{depth}", "quantum": 0, "caps": 0, "route": []}
+    init = {**node, "start": nodes(depth + 1) if depth < 4 else [], "default-route": []}
+    return [{**node, "provides": "e", "after": "a", "program": ""}, init]
+
+
+def without(value, keys):
+    """A copy of a document that lacks these keys."""
+    if isinstance(value, dict):
+        return {key: without(it, keys) for key, it in value.items() if key not in keys}
+    return [without(it, keys) for it in value] if isinstance(value, list) else value
+
+
+def whole(version):
+    """A document whose tables have all keys that they may have in this version."""
+    interface = {**ECHO, "need-caps": 0, "object": 0, "upgrades": [], "upgrade-caps": [], "buffer": 0}
+    routes = [{"service": "e", "child": "a"}]
+    tables = {"version": version, "ram": 4096, "caps": 1, "default-route": routes, "interface": {"e": interface}, "start": nodes(1)}
+    return without(tables, OF_VERSION_2 if version == 1 else ())
+
+
+def tables_in(value):
+    """The tables of a document, from this one down; the table of all interfaces has names for its keys."""
+    for key, it in value.items():
+        for below in it.values() if key == "interface" else it if isinstance(it, list) else ():
+            yield from tables_in(below)
+    yield value
+
+
+def of_keys(schema):
+    """Tables that have all their keys are valid, without one that is required they are not, and not with one more."""
+    validator = part_validator(schema, ())
+    for version in (1, 2):
+        tables = whole(version)
+        yield f"all keys of version {version}", told(reports(validator, tables))
+        for table in tables_in(tables):
+            bad = []
+            for key in sorted(table):
+                value = table.pop(key)
+                bad += [f"without {key}"] if validator.is_valid(tables) != (key in OPTIONAL) else []
+                table[key] = value
+            for key in sorted({*KEYS, "colour"} - set(table)):
+                table[key] = []
+                bad += [f"with {key}"] if validator.is_valid(tables) else []
+                del table[key]
+            yield f"the keys {' '.join(table)}", told(bad)
+
+
+def of_upgrades(schema):
+    """An interface has capabilities for none of its upgrades, or for each."""
+    validator = part_validator(schema, ())
+    for upgrades in (None, 0, 1, 2, 3):
+        bad = []
+        for caps in (None, 0, 1, 2, 3, 4):
+            given = {"upgrades": upgrades, "upgrade-caps": caps}
+            tables = whole(2)
+            tables["interface"] = {"e": {**ECHO, "need-caps": 0, **{key: [1] * count for key, count in given.items() if count is not None}}}
+            bad += [f"{caps} capabilities"] if validator.is_valid(tables) != (caps in (None, upgrades or 0)) else []
+        yield f"{upgrades} upgrades", told(bad)
 
 
 def bytes_of(value):
@@ -217,36 +321,37 @@ def numbers(bound):
 def quantities(least, greatest):
     """Values around the bounds, and values that are no quantities."""
     texts = {number + suffix for bound in (least, greatest) for suffix, unit in UNITS.items() for number in numbers(bound // unit)}
-    whole = {near for bound in (least, greatest) for near in range(bound - 1, bound + 2)}
-    return [*NO_QUANTITIES, *sorted(whole), *sorted(texts)]
+    near = {bound + step for bound in (least, greatest) for step in (-1, 0, 1)}
+    return [*NO_QUANTITIES, *sorted(near), *sorted(texts)]
 
 
 def of_quantities(schema):
-    """The quantities, each by itself. Of a `ram` in bare digits a schema can't see that it is a multiple of 4096."""
+    """The quantities, each by itself. Of a `ram` in bare digits a schema can't see whether it is a multiple of 4096."""
     for steps, least, greatest, multiple in QUANTITIES:
-        validator = validators.validator_for(schema)({**part(schema, steps), "definitions": schema["definitions"]})
-        bad = []
+        validator, bad = part_validator(schema, steps), []
         for value in quantities(least, greatest):
-            told = bytes_of(value)
-            fits = told is not None and least <= told <= greatest
-            unseen = fits and told % multiple != 0 and isinstance(value, str) and value.isdigit()
-            if validator.is_valid(value) != (fits and told % multiple == 0) and not unseen:
-                bad.append(value)
-        yield f"the quantity {'.'.join(steps)}", str(bad[:10]) if bad else ""
+            found = bytes_of(value)
+            fits = found is not None and least <= found <= greatest
+            unseen = fits and found % multiple != 0 and isinstance(value, str) and value.isdigit()
+            bad += [value] if validator.is_valid(value) != (fits and found % multiple == 0) and not unseen else []
+        yield f"the quantity {'.'.join(steps)}", told(bad)
 
 
-def of_limits(validator):
-    """Texts at the limits, which are valid."""
-    for name, text in LIMITS:
-        yield name, problem_of(validator, name, document(text), True)
+def of_values(schema):
+    """Numbers and other values, each by itself."""
+    of_numbers = [(steps, [least, greatest], [least - 1, greatest + 1, str(least), 1.5, True, []]) for steps, least, greatest in NUMBERS]
+    for steps, good, wrong in (*of_numbers, *VALUES):
+        validator = part_validator(schema, steps)
+        yield f"the value {'.'.join(steps)}", told([it for it in good if not validator.is_valid(it)] + [it for it in wrong if validator.is_valid(it)])
 
 
-def of_mistakes(validator):
+def of_mistakes(schema):
     """Mistakes, each reported where it stands and nowhere else."""
-    for name, text, wanted in MISTAKES:
+    validator = part_validator(schema, ())
+    for text, wanted in MISTAKES:
         found = reports(validator, document(text))
-        told = len(found) == len(wanted) and all(any(place == at and word in message for at, message in found) for place, word in wanted)
-        yield name, "" if told else f"reported {found}"[:600]
+        passes = len(found) == len(wanted) and all(any(place == at and words in message for at, message in found) for place, words in wanted)
+        yield text, "" if passes else told(found) or "nothing is reported"
 
 
 def main():
@@ -254,10 +359,9 @@ def main():
         print("tests/run_schema.py: the Python package jsonschema is not installed, so nothing is checked")
         return 0
     schema = json.loads(SCHEMA.read_text(encoding="utf-8"))
-    validator = validators.validator_for(schema)(schema)
     passed = failed = 0
-    for checks in (of_itself(schema), of_descriptions(schema), of_quantities(schema), of_limits(validator), of_mistakes(validator), of_cases(validator)):
-        for name, problem in checks:
+    for checks in (of_itself, of_descriptions, of_keys, of_upgrades, of_quantities, of_values, of_mistakes, of_cases):
+        for name, problem in checks(schema):
             if problem:
                 failed += 1
                 print(f"FAILED {name}: {problem}")
