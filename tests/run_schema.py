@@ -50,7 +50,6 @@ TABLES = [
     ((*NODE, "properties", "route", "items"), ROUTE_KEYS),
     ((*NODE, "properties", "default-route", "items"), ROUTE_KEYS),
 ]
-KEYS = {key for _, keys in TABLES for key in keys.split()}
 OPTIONAL = {"default-route", "interface", "object", "upgrades", "upgrade-caps", "buffer", "route", "provides", "after"}
 OF_VERSION_2 = {"caps", "need-caps", "upgrade-caps"}
 
@@ -270,8 +269,9 @@ def tables_in(value):
 
 
 def of_keys(schema):
-    """Tables that have all their keys are valid, without one that is required they are not, and not with one more."""
+    """Tables that have all their keys are valid, without one that is required they are not, and not with one more, whose value fits elsewhere."""
     validator = part_validator(schema, ())
+    values = {**LEAF, **PARENT, "any-child": True, "colour": 0} | {key: value for table in tables_in(whole(2)) for key, value in table.items()}
     for version in (1, 2):
         tables = whole(version)
         yield f"all keys of version {version}", told(reports(validator, tables))
@@ -281,8 +281,8 @@ def of_keys(schema):
                 value = table.pop(key)
                 bad += [f"without {key}"] if validator.is_valid(tables) != (key in OPTIONAL) else []
                 table[key] = value
-            for key in sorted({*KEYS, "colour"} - set(table)):
-                table[key] = []
+            for key in sorted(set(values) - set(table)):
+                table[key] = values[key]
                 bad += [f"with {key}"] if validator.is_valid(tables) else []
                 del table[key]
             yield f"the keys {' '.join(table)}", told(bad)
@@ -321,7 +321,7 @@ def numbers(bound):
 def quantities(least, greatest):
     """Values around the bounds, and values that are no quantities."""
     texts = {number + suffix for bound in (least, greatest) for suffix, unit in UNITS.items() for number in numbers(bound // unit)}
-    near = {bound + step for bound in (least, greatest) for step in (-1, 0, 1)}
+    near = {bound + step for bound in (least, greatest) for step in (-4096, -1, 0, 1, 4096)}
     return [*NO_QUANTITIES, *sorted(near), *sorted(texts)]
 
 
@@ -342,7 +342,7 @@ def of_values(schema):
     of_numbers = [(steps, [least, greatest], [least - 1, greatest + 1, str(least), 1.5, True, []]) for steps, least, greatest in NUMBERS]
     for steps, good, wrong in (*of_numbers, *VALUES):
         validator = part_validator(schema, steps)
-        yield f"the value {'.'.join(steps)}", told([it for it in good if not validator.is_valid(it)] + [it for it in wrong if validator.is_valid(it)])
+        yield f"the values of {'.'.join(steps) or 'a text'}", told([it for it in good if not validator.is_valid(it)] + [it for it in wrong if validator.is_valid(it)])
 
 
 def of_mistakes(schema):
@@ -351,7 +351,7 @@ def of_mistakes(schema):
     for text, wanted in MISTAKES:
         found = reports(validator, document(text))
         passes = len(found) == len(wanted) and all(any(place == at and words in message for at, message in found) for place, words in wanted)
-        yield text, "" if passes else told(found) or "nothing is reported"
+        yield repr(text), "" if passes else told(found) or "nothing is reported"
 
 
 def main():

@@ -28,8 +28,8 @@ class BoxView {
 
   makeInit(node, box) {
     const group = this.group(box, {}), { width, height } = this.unscaled(box);
-    const title = makeSvg("title"), left = makeSvg("text", { class: "soft", x: width - 9, y: 16, "text-anchor": "end" }), name = fit(node.name, width - 20, NAME_FONT);
-    const head = this.group(box, { class: "head" });
+    const title = makeSvg("title"), head = this.group(box, { class: "head" }), name = fit(node.name, width - 20, NAME_FONT);
+    const left = makeSvg("text", { class: "soft", x: width - 9, y: 16, "text-anchor": "end" });
     group.append(title, makeSvg("rect", { class: "frame", width, height, rx: 8 }));
     head.append(makeSvg("text", { class: "name", x: 9, y: 16 }, name), left);
     return { node, group, head, title, left, room: width - 30 - widthOf(name, NAME_FONT) };
@@ -37,9 +37,10 @@ class BoxView {
   makeLeaf(node, box) {
     const { parts } = this, { width, height } = this.unscaled(box), group = this.group(box, {});
     const part = { node, group, width, title: makeSvg("title"), mark: makeSvg("path", { class: "glyph" }) };
-    const name = fit(node.name, width - (parts.pill ? 18 : 30), NAME_FONT), nameAt = parts.pill ? 10 : 24, service = fit(node.provides ?? "", width - 30 - widthOf(name, NAME_FONT));
+    const name = fit(node.name, width - (parts.pill ? 18 : 30), NAME_FONT), nameAt = parts.pill ? 10 : 24;
+    const service = fit(node.provides ?? "", width - 30 - widthOf(name, NAME_FONT)), colour = `fill:var(${serverColour(this.run, node.number)})`;
     group.append(part.title, makeSvg("rect", { class: "box", width, height, rx: 6 }));
-    if (node.provides !== undefined) group.append(makeSvg("rect", { y: 5, width: 4, height: height - 10, style: `fill:var(${serverColour(this.run, node.number)})` }));
+    if (node.provides !== undefined) group.append(makeSvg("rect", { y: 5, width: 4, height: height - 10, style: colour }));
     group.append(makeSvg("text", { class: "name", x: nameAt, y: parts.name }, name));
     if (parts.pill) {
       part.pill = makeSvg("rect", { class: "pill", x: 9, y: parts.pill, height: 16, rx: 8 });
@@ -92,7 +93,8 @@ class BoxView {
     }
     this.svg.classList.toggle("choosing", chosen !== undefined && this.run.nodes[chosen].leaf);
     const turn = this.run.events.turn[state.event];
-    setAttributes(this.svg, { "aria-label": `${counted(this.run.nodes.length, "component")} and ${counted(state.sessions.length, "open session")} at turn ${grouped(turn)}` });
+    const told = `${counted(this.run.nodes.length, "component")} and ${counted(state.sessions.length, "open session")} at turn ${grouped(turn)}`;
+    setAttributes(this.svg, { "aria-label": told });
   }
   updateInit({ node, title, left, room }, account) {
     const { two } = this.run, free = bytes(account.quota), some = two ? `, ${caps(account.caps)}` : "";
@@ -102,7 +104,8 @@ class BoxView {
     setText(title, `${node.label}: ${counted(account.quota, "byte")} of ${counted(node.quantum, "byte")}${capsTitle} not handed to children`);
   }
   updateLeaf(part, account, acts, chosen) {
-    const { node, width } = part, most = this.run.greatest[node.number].quota, live = account.phase !== "pending" && account.phase !== "exited", room = width - 18;
+    const { node, width } = part, most = this.run.greatest[node.number].quota, room = width - 18;
+    const live = account.phase !== "pending" && account.phase !== "exited";
     setAttributes(part.group, { class: `leaf ${account.phase} ${acts ? "acts" : ""} ${chosen ? "chosen" : ""}` });
     setGlyph(part.mark, account.phase);
     setAttributes(part.quota, { width: room * account.quota / most });
@@ -112,14 +115,18 @@ class BoxView {
       const pillWidth = widthOf(account.phase, BOLD_FONT) + 26;
       setAttributes(part.pill, { width: pillWidth, style: `fill:var(--${account.phase})` });
       setText(part.phase, account.phase);
-      setText(part.caps, this.run.two && live ? firstFit([capsUse, `${account.taken}/${caps(account.caps)}`, `${account.taken}/${account.caps}`], width - pillWidth - 23) : "");
+      const texts = this.run.two && live ? [capsUse, `${account.taken}/${caps(account.caps)}`, `${account.taken}/${account.caps}`] : [""];
+      setText(part.caps, firstFit(texts, width - pillWidth - 23));
     }
     if (part.use) {
       const texts = live ? [use, use.replace(" used", "")] : [account.phase === "exited" ? "all given back" : `starts after ${node.after}`];
       setText(part.use, firstFit(texts, width - 16));
     }
-    setText(part.title, `${node.label}, ${account.phase}${node.provides ? `, provides ${node.provides}` : ""}: ${grouped(account.used)} of ${counted(account.quota, "byte")} used${
-      this.run.two ? `, ${capsUse} taken` : ""}, ${grouped(account.steps)} of ${counted(node.steps, "step")}. The bar's length is the greatest quota of this run: ${counted(most, "byte")}`);
+    const facts = [`${node.label}, ${account.phase}`, `${grouped(account.used)} of ${counted(account.quota, "byte")} used`];
+    if (node.provides !== undefined) facts[0] += `, provides ${node.provides}`;
+    if (this.run.two) facts.push(`${capsUse} taken`);
+    facts.push(`${grouped(account.steps)} of ${counted(node.steps, "step")}`, `the bar has room for the greatest quota of this run: ${counted(most, "byte")}`);
+    setText(part.title, facts.join("\n"));
   }
   updateWay(part, sessions, mine) {
     const told = sessions.find(s => s.stage === AT_HAND) ?? sessions.find(s => s.stage === WAITS) ?? sessions[0];

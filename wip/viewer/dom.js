@@ -58,8 +58,12 @@ function fit(text, width, font = TEXT_FONT) {
 
 // A shape for each phase, in a square of 10, so that no phase is told by its colour alone.
 const GLYPHS = {
-  pending: "M1 9V1H9V9Z M3 5H7", running: "M2 .5L9.5 5L2 9.5Z", blocked: "M1.5 1H4V9H1.5Z M6 1H8.5V9H6Z", serving: "M5 .7A4.3 4.3 0 1 0 5 9.3A4.3 4.3 0 1 0 5 .7Z",
-  handling: "M5 0L10 5L5 10L0 5Z", exited: "M1.5 0L5 3.5L8.5 0L10 1.5L6.5 5L10 8.5L8.5 10L5 6.5L1.5 10L0 8.5L3.5 5L0 1.5Z",
+  pending: "M1 9V1H9V9Z M3 5H7",
+  running: "M2 .5L9.5 5L2 9.5Z",
+  blocked: "M1.5 1H4V9H1.5Z M6 1H8.5V9H6Z",
+  serving: "M5 .7A4.3 4.3 0 1 0 5 9.3A4.3 4.3 0 1 0 5 .7Z",
+  handling: "M5 0L10 5L5 10L0 5Z",
+  exited: "M1.5 0L5 3.5L8.5 0L10 1.5L6.5 5L10 8.5L8.5 10L5 6.5L1.5 10L0 8.5L3.5 5L0 1.5Z",
 };
 const setGlyph = (path, phase) => setAttributes(path, { d: GLYPHS[phase], style: `fill:var(--${phase})` });
 function glyph(phase) {

@@ -6,9 +6,9 @@
 // that they pass; without, they run below the boxes.
 
 const DETAILS = [
-  { name: "labels", width: 160, height: 66, gap: 10, between: 30, port: 30, thin: 10, strip: 118 },
-  { name: "labels", width: 160, height: 66, gap: 10, between: 30, port: 30, thin: 10, strip: 92 },
-  { name: "full", width: 160, height: 66, gap: 10, between: 44, port: 9, thin: 0, strip: 0 },
+  { name: "labels", width: 168, height: 66, gap: 10, between: 30, port: 30, thin: 10, strip: 118 },
+  { name: "labels", width: 168, height: 66, gap: 10, between: 30, port: 30, thin: 10, strip: 92 },
+  { name: "full", width: 168, height: 66, gap: 10, between: 44, port: 9, thin: 0, strip: 0 },
   { name: "short", width: 124, height: 40, gap: 8, between: 36, port: 5, thin: 0, strip: 0 },
   { name: "least", width: 104, height: 24, gap: 5, between: 26, port: 2, thin: 0, strip: 0 },
 ];
@@ -18,7 +18,10 @@ const LARGEST = 1.45, SMALLEST = 0.92;
 
 const mean = list => list.reduce((sum, value) => sum + value, 0) / list.length;
 
-/** Gives items, in their order, middles as near to their wishes as they can be without overlap: neighbours that would overlap share the mean of their wishes. */
+/**
+ * Gives items, in their order, middles as near to their wishes as they can be without overlap: neighbours that would overlap share the mean of their
+ * wishes.
+ */
 function settle(items) {
   const groups = [];
   let before = 0;
@@ -63,12 +66,15 @@ function levelsOf(count, edges) {
   return Array.from({ length: count }, (_, i) => find(i));
 }
 
+/** The height that an item takes in its column; frames of inits stand further apart than boxes, so that two don't look like one. */
+const roomOf = (item, detail) => item.height + (item.node.leaf ? detail.gap : Math.max(12, detail.gap));
+
 /** Items by column, those of the highest level first; a level that is higher than the limit becomes several columns. */
-function columnsOf(items, levels, gap, limit) {
+function columnsOf(items, levels, detail, limit) {
   const columns = [];
   for (let level = Math.max(0, ...levels); level >= 0; level--) {
-    const members = items.filter((_, i) => levels[i] === level), total = members.reduce((sum, m) => sum + m.height + gap, 0);
-    const parts = Math.max(1, Math.ceil(total / Math.max(limit, ...members.map(m => m.height + gap))));
+    const members = items.filter((_, i) => levels[i] === level), total = members.reduce((sum, m) => sum + roomOf(m, detail), 0);
+    const parts = Math.max(1, Math.ceil(total / Math.max(limit, ...members.map(m => roomOf(m, detail)))));
     let column = [], filled = 0;
     for (const item of members) {
       if (column.length && filled + item.height / 2 > total / parts) {
@@ -76,7 +82,7 @@ function columnsOf(items, levels, gap, limit) {
         [column, filled] = [[], 0];
       }
       column.push(item);
-      filled += item.height + gap;
+      filled += roomOf(item, detail);
     }
     columns.push(column);
   }
@@ -101,9 +107,10 @@ function lead(edges, items, columns, detail) {
 
 /** Places of the items of an init within it, and its own size. */
 function arrange(init, items, ways, detail, limit) {
-  const edges = ways.map(way => ({ way, from: childWith(init, way.clientNode), to: childWith(init, way.serverNode) })).filter(e => e.from >= 0 && e.from !== e.to);
-  const columns = columnsOf(items, levelsOf(items.length, edges), detail.gap, limit - HEAD - PAD);
-  columns.forEach((column, c) => column.forEach((item, k) => Object.assign(item, { column: c, room: item.height + detail.gap, middle: k * detail.height })));
+  const ends = ways.map(way => ({ way, from: childWith(init, way.clientNode), to: childWith(init, way.serverNode) }));
+  const edges = ends.filter(e => e.from >= 0 && e.from !== e.to);
+  const columns = columnsOf(items, levelsOf(items.length, edges), detail, limit - HEAD - PAD);
+  columns.forEach((column, c) => column.forEach((item, k) => Object.assign(item, { column: c, room: roomOf(item, detail), middle: k * detail.height })));
   lead(edges, items, columns, detail);
   for (const column of columns) column.forEach((item, k) => { item.middle ??= k * detail.height; });
   for (let round = 0; round < 12; round++) {

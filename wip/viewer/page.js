@@ -2,7 +2,7 @@
 // The page: one cursor over the events of a run, moved by keys, buttons, slider and clicks; whatever it moves to is shown by all parts.
 
 const FAR = 20;
-const page = { run: undefined, cursor: 0, axis: "event", kind: "bytes", view: [0, 1], chosen: undefined, asked: 0 };
+const page = { run: undefined, cursor: 0, axis: "event", kind: "bytes", view: [0, 1], chosen: undefined, asked: 0, noted: 0 };
 
 function drawEvent(changes, moved) {
   const { run, cursor } = page;
@@ -26,7 +26,8 @@ function draw() {
   if (chosen !== undefined) page.plot.show(chosen);
   else if (acts !== NOBODY) page.plot.show(acts);
   page.plot.moveCursor(cursor);
-  history.replaceState(null, "", `#event=${cursor}`);
+  clearTimeout(page.noted);
+  page.noted = setTimeout(() => history.replaceState(null, "", `#event=${cursor}`), 400);   // a browser refuses too many of these
 }
 const drawPlot = () => page.plot.draw(page.axis, page.view, page.kind, page.cursor);
 
@@ -75,9 +76,22 @@ function toggleHelp() {
 }
 
 const ACTIONS = {
-  first: () => go(0), back: () => go(page.cursor - 1), on: () => go(page.cursor + 1), last: () => go(page.run.last), farBack: () => go(page.cursor - FAR), farOn: () => go(page.cursor + FAR),
-  closer: () => zoom(0.5), wider: () => zoom(2), whole: () => zoom(Infinity), up: () => chooseBeside(-1), down: () => chooseBeside(1), none: () => choose(page.chosen),
-  previous: () => goOfChosen(-1), next: () => goOfChosen(1), theme: () => setTheme(!document.documentElement.classList.contains("dark")), help: toggleHelp,
+  first: () => go(0),
+  back: () => go(page.cursor - 1),
+  on: () => go(page.cursor + 1),
+  last: () => go(page.run.last),
+  farBack: () => go(page.cursor - FAR),
+  farOn: () => go(page.cursor + FAR),
+  closer: () => zoom(0.5),
+  wider: () => zoom(2),
+  whole: () => zoom(Infinity),
+  up: () => chooseBeside(-1),
+  down: () => chooseBeside(1),
+  none: () => choose(page.chosen),
+  previous: () => goOfChosen(-1),
+  next: () => goOfChosen(1),
+  theme: () => setTheme(!document.documentElement.classList.contains("dark")),
+  help: toggleHelp,
 };
 const KEYS = {
   Home: "first", ArrowLeft: "back", ArrowRight: "on", End: "last", PageUp: "farBack", PageDown: "farOn", "+": "closer", "=": "closer", "-": "wider", 0: "whole",
@@ -118,8 +132,8 @@ function resize() {
 }
 
 function fromHash() {
-  const words = new URLSearchParams(location.hash.slice(1)), event = words.get("event") === "middle" ? page.run.last >> 1 : Number(words.get("event") ?? page.run.last);
-  page.cursor = Math.max(0, Math.min(page.run.last, event || 0));
+  const event = new URLSearchParams(location.hash.slice(1)).get("event") ?? page.run.last;
+  page.cursor = Math.max(0, Math.min(page.run.last, Math.floor(Number(event)) || 0));
 }
 
 function start(title, tree, trace) {

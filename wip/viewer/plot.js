@@ -7,7 +7,9 @@ const BAND = 13;
 
 class Plot {
   constructor(run, panel, table) {
-    Object.assign(this, { run, panel, table, rows: rowPlaces(run, ROW), frame: byId("plot"), canvas: byId("plot").querySelector("canvas"), line: byId("cursor") });
+    Object.assign(this, { run, panel, table, rows: rowPlaces(run, ROW), canvas: byId("plot").querySelector("canvas"), line: byId("cursor") });
+    Object.assign(this.canvas, { width: 0, height: 0 });      // of a size that it had, it could need a scroll bar
+    Object.assign(this.canvas.style, { width: "0", height: "0" });
     this.height = this.rows.at(-1).y + this.rows.at(-1).height + 2;
   }
   get width() { return Math.max(200, this.panel.clientWidth - this.table.width - 2); }
@@ -24,7 +26,8 @@ class Plot {
     this.drawMarks();
     for (const row of this.rows) if (row.y + row.height > this.scrolled + ROW.top && row.y < this.scrolled + seen) this.drawRow(row);
     this.drawAxis();
-    canvas.setAttribute("aria-label", `${kind === "caps" ? "capabilities" : "bytes"} of ${counted(run.nodes.length, "account")}, and their sessions, over ${counted(run.turns, "turn")}`);
+    const what = kind === "caps" ? "capabilities" : "bytes";
+    setAttributes(canvas, { "aria-label": `${what} of ${counted(run.nodes.length, "account")}, and their sessions, over ${counted(run.turns, "turn")}` });
     this.moveCursor(cursor);
   }
   colour(name) {
@@ -88,8 +91,8 @@ class Plot {
     const row = this.rows.findLast(r => r.y <= y + this.scrolled && y >= ROW.top), event = this.eventUnder(x);
     if (!row) return "";
     const node = this.run.nodes[row.node], account = accountAt(this.run, row.node, event), hidden = node.mostSessions - node.lanes.length;
-    const use = node.leaf ? `${bytes(account.used)} of ${bytes(account.quota)} used${this.run.two ? `, ${account.taken} of ${caps(account.caps)} taken` : ""}, ${account.phase}`
-      : `${bytes(account.quota)}${this.run.two ? `, ${caps(account.caps)}` : ""} left`;
+    const { two } = this.run, taken = two ? `, ${account.taken} of ${caps(account.caps)} taken` : "", left = two ? `, ${caps(account.caps)}` : "";
+    const use = node.leaf ? `${bytes(account.used)} of ${bytes(account.quota)} used${taken}, ${account.phase}` : `${bytes(account.quota)}${left} left`;
     return `${node.name}, turn ${grouped(this.run.events.turn[event])}: ${use}${hidden > 0 ? `; ${hidden} of its sessions have no bar` : ""}`;
   }
   show(node) {

@@ -137,7 +137,10 @@ class Scanner {
   label(labels) {
     const { bytes, end } = this;
     let to = this.at, hash = 0;
-    for (let byte; to < end && (byte = bytes[to]) !== CLOSE && (byte !== SPACE || bytes[to + 1] === DASH || bytes[to - 1] === ABOVE); to++) hash = hashWith(hash, byte);
+    for (let byte; to < end && (byte = bytes[to]) !== CLOSE; to++) {
+      if (byte === SPACE && bytes[to + 1] !== DASH && bytes[to - 1] !== ABOVE) break;
+      hash = hashWith(hash, byte);
+    }
     return this.choice(labels, to, hash);
   }
   rest() { return decoder.decode(this.bytes.subarray(this.at, this.end)); }
@@ -193,7 +196,7 @@ function addFirstAccount(accounts, node) {
   accounts.node[row] = node.number;
   accounts.quota[row] = node.leaf ? waits ? 0 : node.quantum : node.left;
   accounts.caps[row] = (node.leaf ? waits ? 0 : node.caps : node.capsLeft) ?? 0;
-  accounts.phase[row] = PHASES.indexOf(waits ? "pending" : "running");
+  accounts.phase[row] = PHASES.indexOf(node.leaf && !waits ? "running" : "pending");
 }
 function addEvent({ events }, turn, leaf, section, place, statement) {
   const row = events.add();

@@ -44,9 +44,9 @@ function stateAt(run, event) {
 
 /** The account as `trade` writes it. */
 function accountLine(run, node, account) {
-  const { leaf, label, steps } = run.nodes[node];
-  const caps = run.two ? ` caps ${account.caps}${leaf ? ` taken ${account.taken}` : ""}` : "";
-  return `account ${label} quota ${account.quota}${leaf ? ` used ${account.used}` : ""}${caps}${leaf ? ` steps ${account.steps}/${steps} ${account.phase}` : ""}`;
+  const { leaf, label, steps } = run.nodes[node], { quota, used, taken, phase } = account, capsOf = run.two ? ` caps ${account.caps}` : "";
+  if (!leaf) return `account ${label} quota ${quota}${capsOf}`;
+  return `account ${label} quota ${quota} used ${used}${capsOf}${run.two ? ` taken ${taken}` : ""} steps ${account.steps}/${steps} ${phase}`;
 }
 
 /** The number of lines that were written up to and with an event. */
@@ -56,13 +56,14 @@ const lineText = (run, line) => decoder.decode(run.bytes.subarray(run.lines.from
 /** The rows of a table that an event told. */
 const rowsAt = (table, event) => Array.from({ length: table.at[event + 1] - table.at[event] }, (_, i) => table.at[event] + i);
 
-const FIELDS = ["phase", "quota", "used", "caps", "taken"];
+const INIT_FIELDS = ["quota", "caps"], LEAF_FIELDS = ["phase", "quota", "used", "caps", "taken"];
 /** What an event changes in accounts: { node, field, before, after } each. Steps are left out: a trace tells them only beside another change. */
 function accountChanges(run, event) {
   if (event === 0) return [];
   return rowsAt(run.accounts, event).flatMap(row => {
     const node = run.accounts.node[row], before = accountAt(run, node, event - 1), after = accountOf(run, row);
-    return FIELDS.filter(f => before[f] !== after[f] && (f !== "phase" || run.nodes[node].leaf)).map(field => ({ node, field, before: before[field], after: after[field] }));
+    const changed = (run.nodes[node].leaf ? LEAF_FIELDS : INIT_FIELDS).filter(field => before[field] !== after[field]);
+    return changed.map(field => ({ node, field, before: before[field], after: after[field] }));
   });
 }
 /** What an event changes in sessions: { number, before, after } each, null where there is none. */
@@ -111,7 +112,7 @@ function sentence(run, event) {
   if (code) {
     const asks = change?.after?.stage === WAITS && session.client === t.leaf[event], wrote = run.lines.at[event + 1] > run.lines.at[event];
     const asked = asks ? `: ${ASKS[session.request.split(" ")[0]]} ${which} and waits for ${name(session.server)}` : "";
-    return [`${who} in ${section} at ${t.place[event]}: `, { code }, `${asked}${wrote ? ": writes a line" : ""}`];
+    return [`${who} in ${section} at ${t.place[event]}: `, { code }, `${asked}${wrote ? ": writes a line" : ""}`].filter(part => part);
   }
   if (section !== "main") {
     const gone = change && !change.after ? `: the session has ended, and ${lent(run, session)} go back` : "";

@@ -13,16 +13,18 @@ class AccountTable {
     this.run = run;
     const names = Math.min(230, Math.max(90, ...run.nodes.map(n => 9 * n.depth + 20 + widthOf(n.name, "500 12px system-ui, sans-serif"))));
     this.columns = COLUMNS.filter(([field]) => field !== "caps" || run.two).map(([field, width, title]) => ({ field, width: width || names, title }));
-    const head = make("tr", { style: `height:${ROW.top}px` }, ...this.columns.map(c => make("th", { scope: "col", title: c.title, style: `width:${c.width}px` }, c.field)));
+    const heads = this.columns.map(c => make("th", { scope: "col", title: c.title, style: `width:${c.width}px` }, c.field));
+    const head = make("tr", { style: `height:${ROW.top}px` }, ...heads);
     this.rows = rows.map(row => this.makeRow(row, choose));
     this.width = this.columns.reduce((sum, c) => sum + c.width, 0);
-    this.element = make("table", { id: "accounts", style: `width:${this.width}px` }, make("caption", { hidden: "" }, "accounts"), make("thead", {}, head),
+    this.element = make("table", { id: "accounts", "aria-label": "accounts", style: `width:${this.width}px` }, make("thead", {}, head),
       make("tbody", {}, ...this.rows.map(r => r.element)));
   }
   makeRow({ node, height }, choose) {
-    const { name, label, depth, provides } = this.run.nodes[node], colour = provides === undefined ? "" : `border-left-color:var(${serverColour(this.run, node)});`;
-    const cells = this.columns.slice(1).map(() => make("td"));
-    const head = make("th", { scope: "row", title: label, style: `${colour}padding-left:${4 + 9 * depth}px` }, name), element = make("tr", { style: `height:${height}px` }, head, ...cells);
+    const { name, label, depth, provides } = this.run.nodes[node], cells = this.columns.slice(1).map(() => make("td"));
+    const colour = provides === undefined ? "" : `border-left-color:var(${serverColour(this.run, node)});`;
+    const head = make("th", { scope: "row", title: label, style: `${colour}padding-left:${4 + 9 * depth}px` }, name);
+    const element = make("tr", { style: `height:${height}px` }, head, ...cells);
     element.addEventListener("click", () => choose(node));
     return { node, element, cells };
   }
@@ -33,7 +35,8 @@ class AccountTable {
       const { node, element, cells } = row;
       setAttributes(element, { class: `${node === acts ? "acts" : ""} ${node === chosen ? "chosen" : ""}` });
       if (!isNew(row, `${state.accounts[node].row} ${marked.has(node)}`)) continue;
-      this.columns.slice(1).forEach(({ field }, i) => this.setCell(cells[i], this.run.nodes[node], field, state.accounts[node], changed.get(`${node} ${field}`)));
+      const account = state.accounts[node];
+      this.columns.slice(1).forEach(({ field }, i) => this.setCell(cells[i], this.run.nodes[node], field, account, changed.get(`${node} ${field}`)));
     }
   }
   setCell(cell, node, field, account, change) {
@@ -50,7 +53,8 @@ class AccountTable {
 function cellOf(node, field, account) {
   if (field === "phase") return node.leaf ? [account.phase, account.phase] : ["", ""];
   if (field === "quota" || field === "used") return field === "used" && !node.leaf ? ["", ""] : [bytes(account[field]), counted(account[field], "byte")];
-  if (field === "caps") return node.leaf ? [`${account.taken}/${account.caps}`, `${account.taken} of ${caps(account.caps)}`] : [grouped(account.caps), caps(account.caps)];
+  if (field === "caps" && node.leaf) return [`${account.taken}/${account.caps}`, `${account.taken} of ${caps(account.caps)}`];
+  if (field === "caps") return [grouped(account.caps), caps(account.caps)];
   return node.leaf ? [grouped(account.steps), `${grouped(account.steps)} of ${counted(node.steps, "step")}`] : ["", ""];
 }
 
@@ -74,13 +78,14 @@ function showSessions(run, state, changes, chosen) {
   const of = chosen === undefined ? "" : ` of ${run.nodes[chosen].name}`, more = all.length > shown.length ? `, ${shown.length} shown` : "";
   setText(byId("sessionshead"), `${counted(all.length, "open session")}${of}${more}`);
   setChildren(byId("sessions"), shown, s => `${s.row} ${changed.has(s.number)}`, s => sessionCard(run, s, changed.has(s.number)));
-  const list = byId("sessions"), first = list.querySelector(".now");
-  if (first && (first.offsetTop < list.scrollTop || first.offsetTop + first.offsetHeight > list.scrollTop + list.clientHeight)) list.scrollTop = first.offsetTop - 20;
+  byId("sessions").querySelector(".now")?.scrollIntoView({ block: "nearest" });
 }
 function sessionCard(run, session, changed) {
   const { client, server, service, level, number } = session, name = node => run.nodes[node].name;
-  const head = make("div", {}, make("b", {}, `${number} ${service}`), ` level ${level}`, session.request ? make("b", {}, ` · ${session.request} ${STAGES[session.stage]}`) : "");
+  const request = session.request ? make("b", {}, ` · ${session.request} ${STAGES[session.stage]}`) : "";
+  const head = make("div", {}, make("b", {}, `${number} ${service}`), ` level ${level}`, request);
   const ends = make("div", {}, `${name(client)} → ${name(server)} `, make("span", { class: "soft" }, `lends ${lent(run, session)}`));
-  return make("div", { class: `card ${changed ? "now" : ""}`, style: `border-left-color:var(${serverColour(run, server)})`, title: `${run.nodes[client].label} for ${run.nodes[server].label}\n${sessionTold(run, session)}` },
-    head, ends);
+  const title = `${run.nodes[client].label}\nwith ${run.nodes[server].label}\n${sessionTold(run, session)}`;
+  const colour = `border-left-color:var(${serverColour(run, server)})`;
+  return make("div", { class: `card ${changed ? "now" : ""}`, style: colour, title }, head, ends);
 }

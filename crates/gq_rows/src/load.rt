@@ -47,14 +47,15 @@ fn tells_budgets(alloc: Global) -> bool {
     }
 }
 
-/// Which leaf serves the sessions of `echo` of each leaf of the scenario.
-fn servers(alloc: Global, table: &NodeTable) -> Option<[Option<LeafNo>; 2]> {
+/// The number of the leaf that serves the sessions of `echo`, of each leaf of the scenario.
+fn servers(alloc: Global, table: &NodeTable) -> Option<[Option<u32>; 2]> {
     let echo = Name::new(b"echo")?;
     match resolve(alloc, table.scenario(), table.programs()) {
-        Ok(routes) => Some([
-            routes.server(LeafNo::new(0), &echo),
-            routes.server(LeafNo::new(1), &echo),
-        ]),
+        Ok(routes) => {
+            let server = routes.server(LeafNo::new(0), &echo);
+            let client = routes.server(LeafNo::new(1), &echo);
+            Some([server.map(LeafNo::number), client.map(LeafNo::number)])
+        }
         Err(_) => None,
     }
 }
@@ -69,7 +70,7 @@ fn accepts_a_client_and_its_server(rt: HostRuntime) -> Result<(), Fail> {
     drop(accepted);
     assert_eq!(rt;
         (tells_budgets(rt.alloc()), is_whole, servers),
-        (true, true, Some([None, Some(LeafNo::new(0))]))
+        (true, true, Some([None, Some(0)]))
     );
     Ok(())
 }

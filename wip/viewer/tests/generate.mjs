@@ -1,10 +1,12 @@
-// A tree text and a trace text of the form of `trade tree` and `trade trace`, from a simple simulated run: servers that stand on one another, clients in nested
-// inits that open sessions, call, raise and close them again and again. It is no `trade`: it knows no programs, only what statements do to accounts and sessions.
+// A tree text and a trace text of the form of `trade tree` and `trade trace`, from a simple simulated run: servers that stand on one another, clients in
+// nested inits that open sessions, call, raise and close them again and again. It is no `trade`: it knows what statements do to accounts and sessions alone.
 //
 //   node tests/generate.mjs LEAVES TURNS FOLDER [all]      writes FOLDER/tree and FOLDER/trace
 import { mkdirSync, writeFileSync } from "node:fs";
 import { join } from "node:path";
+import { fileURLToPath } from "node:url";
 
+const SERVICES = ["timer", "log", "net", "file", "disk", "gui", "audio", "names"];
 const PAGE = 4096, DONATION = 4 * PAGE, STEPS = 10 ** 9;
 
 /** Numbers from 0 up to, and without, n that are the same in each run. */
@@ -24,7 +26,8 @@ function serverProgram(below) {
   const main = [op("space", "space o1 4096"), ...(below ? [op("open", `open o0 ${below.provides} ${DONATION}`, { server: below })] : [])];
   const call = [quiet("push 2"), quiet("mul"), ...(below ? [op("call", "call o0")] : [])];
   const close = [op("release", "free s0")];
-  return { main, open: [op("hold", "space s0 4096")], "up 1": [op("hold", "slice s1 64")], "call 0": call, "call 1": call, "close 0": close, "close 1": [...close, op("release", "free s1")] };
+  const open = [op("hold", "space s0 4096")], up = [op("hold", "slice s1 64")];
+  return { main, open, "up 1": up, "call 0": call, "call 1": call, "close 0": close, "close 1": [...close, op("release", "free s1")] };
 }
 /** The statements of a client, a round that is done again and again. */
 function clientProgram(servers) {
@@ -38,8 +41,8 @@ function clientProgram(servers) {
 }
 
 function leaf(name, quantum, more) {
-  return { name, quantum, caps: quantum / PAGE, leaf: true, quota: quantum, capQuota: quantum / PAGE, used: 0, taken: 0, steps: 0, phase: "running", section: "main", place: 0,
-    slots: [], queue: [], ...more };
+  const caps = quantum / PAGE, account = { quota: quantum, capQuota: caps, used: 0, taken: 0, steps: 0, phase: "running" };
+  return { name, quantum, caps, leaf: true, ...account, section: "main", place: 0, slots: [], queue: [], ...more };
 }
 function init(name, children) {
   return { name, children, leaf: false };
@@ -47,12 +50,13 @@ function init(name, children) {
 
 /** Servers, inits with `each` clients, and one leaf that starts after the first client. */
 function system(leaves, rounds, chance) {
-  const servers = [], count = Math.max(1, Math.min(8, Math.floor(leaves / 4)));
+  const servers = [], count = Math.max(1, Math.min(SERVICES.length, Math.floor(leaves / 4)));
   for (let i = 0; i < count; i++) {
     const below = i >= 2 ? servers[i % 2] : undefined;
-    servers.push(leaf(["timer", "log", "net", "file", "disk", "gui", "audio", "names"][i] + "_srv", 16 * PAGE, { provides: ["timer", "log", "net", "file", "disk", "gui", "audio", "names"][i], below }));
+    servers.push(leaf(`${SERVICES[i]}_srv`, 16 * PAGE, { provides: SERVICES[i], below }));
   }
-  const clients = Array.from({ length: leaves - count }, (_, i) => leaf(`client${i + 1}`, (12 + chance(8)) * PAGE, { pick: [servers[chance(count)], servers[chance(count)]] }));
+  const pick = () => [servers[chance(count)], servers[chance(count)]];
+  const clients = Array.from({ length: leaves - count }, (_, i) => leaf(`client${i + 1}`, (12 + chance(8)) * PAGE, { pick: pick() }));
   for (const s of servers) s.program = serverProgram(s.below);
   clients.forEach((c, i) => { Object.assign(c, { program: clientProgram([...new Set(c.pick)]), rounds: i < 2 ? 2 : rounds }); });
   if (clients.length > 2) {
@@ -85,7 +89,8 @@ function treeText(nodes) {
   for (const n of nodes) {
     const indent = "  ".repeat(n.depth), head = `${indent}${n.name} quantum ${n.quantum}`;
     if (!n.leaf) { lines.push(`${head} left ${n.quota} caps ${n.caps} left ${n.capQuota}`); continue; }
-    lines.push(`${head} caps ${n.caps}${n.provides ? ` provides ${n.provides}` : ""}${n.after ? ` after ${n.after}` : ""} own ${n.quantum / 2} caps 1 steps ${STEPS}`);
+    const provides = n.provides ? ` provides ${n.provides}` : "", after = n.after ? ` after ${n.after}` : "";
+    lines.push(`${head} caps ${n.caps}${provides}${after} own ${n.quantum / 2} caps 1 steps ${STEPS}`);
     const opened = new Map(n.program.main.filter(o => o.does === "open").map(o => [o.server.provides, o.server]));
     for (const [service, server] of opened) lines.push(`${indent}  opens ${service} of ${server.label}`);
   }
@@ -102,7 +107,8 @@ class Simulation {
   }
   session(s) {
     if (s.gone) return `session ${s.number} ends`;
-    return `session ${s.number} ${s.server.provides} of ${s.server.label} for ${s.client.label} at level ${s.level} lends ${s.lends} caps ${s.caps}${s.request ? `, ${s.request} ${s.stage}` : ""}`;
+    const ends = `${s.server.provides} of ${s.server.label} for ${s.client.label}`, request = s.request ? `, ${s.request} ${s.stage}` : "";
+    return `session ${s.number} ${ends} at level ${s.level} lends ${s.lends} caps ${s.caps}${request}`;
   }
   move(from, to, amount, caps) { from.quota -= amount; to.quota += amount; from.capQuota -= caps; to.capQuota += caps; }
   ask(session, request, touched) {
@@ -207,7 +213,7 @@ export function generate({ leaves = 64, turns = 10000, seed = 7, rounds = 100000
   return { tree, trace: simulation.end() };
 }
 
-if (process.argv[1] === import.meta.filename) {
+if (process.argv[1] === fileURLToPath(import.meta.url)) {
   const [leaves, turns, folder, all] = process.argv.slice(2), texts = generate({ leaves: Number(leaves), turns: Number(turns), all: all === "all" });
   mkdirSync(folder, { recursive: true });
   for (const name of ["tree", "trace"]) writeFileSync(join(folder, name), texts[name]);
