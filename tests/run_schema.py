@@ -163,7 +163,8 @@ def part_validator(schema, steps):
 
 
 def told(values):
-    return ", ".join(map(str, values))[:400]
+    """Some values for a line that says what failed; nothing where there are none."""
+    return ", ".join(map(repr, values))[:400]
 
 
 def document(text):
@@ -341,8 +342,8 @@ def of_values(schema):
     """Numbers and other values, each by itself."""
     of_numbers = [(steps, [least, greatest], [least - 1, greatest + 1, str(least), 1.5, True, []]) for steps, least, greatest in NUMBERS]
     for steps, good, wrong in (*of_numbers, *VALUES):
-        validator = part_validator(schema, steps)
-        yield f"the values of {'.'.join(steps) or 'a text'}", told([it for it in good if not validator.is_valid(it)] + [it for it in wrong if validator.is_valid(it)])
+        fits = part_validator(schema, steps).is_valid
+        yield f"the values of {'.'.join(steps) or 'a text'}", told([it for it in good if not fits(it)] + [it for it in wrong if fits(it)])
 
 
 def of_mistakes(schema):
