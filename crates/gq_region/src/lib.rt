@@ -1,5 +1,8 @@
 //! Region maps: which dataspace is attached at an address, and where in it the address lies.
 //!
+//! The program itself has no map: a statement names a slot, and where a leaf's slots lie is fixed (`Slots` of `gq_slots`). This is for whoever builds on the
+//! library.
+//!
 //! ```rust
 //! use gq_region::{Base, RegionMap};
 //!

@@ -1,4 +1,5 @@
-// Scenarios that are resolved.
+// Scenarios that are resolved. The program itself asks for `resolve_opened`: it has found the services that programs open when it surveyed them one by one
+// (`gq_load`), so no program has to stay. `resolve` is for whoever has them all.
 ghost use Rattle.std.specs.Prelude.{◌≡◌, IfOk, map};
 ghost use Rattle.gq_model.specs.machine.Scenario as model;
 ghost use Rattle.gq_model.specs.machine.Scenario.{System, components};
