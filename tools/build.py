@@ -74,12 +74,12 @@ def main():
             finished, _ = concurrent.futures.wait(running, return_when=concurrent.futures.FIRST_COMPLETED)
             for future in finished:
                 name = running.pop(future)
-                seconds = future.result()
-                if seconds is None:
+                took = future.result()
+                if took is None:
                     print(f"{name} could not be built: see crates/{name}/out/build.log", file=sys.stderr)
                     return 1
                 done.append(name)
-                print(f"{len(done)} of {len(names)}: {name}, {seconds:.0f} s", file=sys.stderr, flush=True)
+                print(f"{len(done)} of {len(names)}: {name}, {took:.0f} s", file=sys.stderr, flush=True)
     return 0
 
 

@@ -27,8 +27,9 @@ rests w x Exited = true
 abbrev pub AllRest : World → Type 0
 AllRest w = (x : ℕ) (leaf : Leaf) → slice_get w.leaves x ≡ Some leaf → rests w x leaf.phase ≡ true
 
--- a turn of the x-th leaf is a step: it is not wrong, and this leaf, and no other, has taken one step more
+-- a turn of the x-th leaf is a step: there is this leaf and it can run, the turn is not wrong, and this leaf, and no other, has taken one step more
 pub record IsStep (system : System) (w : World) (x : ℕ) : Type 0 where
+  pub can : can_run system w x ≡ true
   pub new : World
   pub event : Event
   pub goes : next system w x ≡ Ok (new, event)

@@ -64,7 +64,7 @@ module _ (s : Scenario) (w : World) (h : Lasts s w) where
   pub is_step : (x : ℕ) → can_run (system s) w x ≡ true → IsStep (system s) w x
   is_step x can =
       let p = (stands_upheld s w h.stands).goes_on x in
-      record { new = p.0.0; event = p.0.1; goes = p.1; counted = counts_steps (system s) w x p.0.0 p.0.1 can p.1 }
+      record { can = can; new = p.0.0; event = p.0.1; goes = p.1; counted = counts_steps (system s) w x p.0.0 p.0.1 can p.1 }
 
   pub goes_on : GoesOn (system s) w
   goes_on = elim (rest_or_run) [ inl rest ↦ inl rest | inr run ↦ inr (run.0, is_step run.0 run.1) ]

@@ -1,6 +1,7 @@
 -- What is taken for granted is needed: scenarios that are refused, and worlds of theirs in which nothing goes on and not all is at rest. And
 -- worked runs in which budgets, and the rounds that they allow, are met exactly. By computation.
-use Rattle.std.proofs.Common.{◌≡◌, ℕ, suc, Bool, true, false, List, [], ◌∷◌, replicate, codes, Some, refl}
+use Rattle.std.proofs.Common.{◌≡◌, ℕ, zero, suc, Bool, true, false, List, [], ◌∷◌, replicate, codes, Some, inl, inr, refl, sym}
+use Rattle.std.proofs.lemmas.Bool.{true≢false}
 use Rattle.gq_model.specs.declared.phase.Phase.{Phase}
 use Rattle.gq_model.specs.declared.phase.Phase.TheVariants.{Pending, Running, Blocked, Serving, Exited}
 use Rattle.gq_model.specs.declared.program.Instruction.TheVariants.{Out}
@@ -12,7 +13,7 @@ use Rattle.gq_model.specs.rules.Accept.{Not_resolved, refusal}
 use Rattle.gq_model.specs.rules.Resolve.{Bad_after}
 use Rattle.gq_model.proofs.Samples.{all_do, server, leaves, served, one, hello, echo, echo_of, asking, row_of_leaves}
 use Rattle.gq_laws.specs.Turns.{can_run}
-use Rattle.gq_laws.specs.Progress.{after_turns, steps_in, taken, budgeted, after_rounds}
+use Rattle.gq_laws.specs.Progress.{GoesOn, after_turns, steps_in, taken, budgeted, after_rounds}
 
 abbrev phases_of : List Leaf → List Phase
 phases_of [] = []
@@ -38,6 +39,14 @@ own_client =
 
 blocked_by_itself : seen own_client (after_turns (system own_client) (start (system own_client)) (0 ∷ [])) ≡ (Blocked ∷ [], false ∷ [])
 blocked_by_itself = refl
+
+-- it does not go on from there
+never_goes_on : GoesOn (system own_client) (after_turns (system own_client) (start (system own_client)) (0 ∷ [])) → ⊥
+never_goes_on h = elim h [ inl rest ↦ true≢false (sym (rest zero _ refl)) | inr step ↦ no_leaf step.0 step.1.can ]
+  where
+    no_leaf : (x : ℕ) → can_run (system own_client) (after_turns (system own_client) (start (system own_client)) (0 ∷ [])) x ≡ true → ⊥
+    no_leaf zero can = true≢false (sym can)
+    no_leaf (suc x) can = true≢false (sym can)
 
 -- three leaves that start after one another
 none_starts : seen (row_of_leaves 8192 (Some (codes "three"))) (start (system (row_of_leaves 8192 (Some (codes "three")))))
