@@ -10,9 +10,9 @@ use Rattle.gq_trade.specs.declared.requests.Ask.{Ask}
 use Rattle.gq_trade.specs.declared.requests.Ask.TheVariants.{Open, Upgrade}
 use Rattle.gq_trade.specs.declared.requests.Request.{Request}
 use Rattle.gq_trade.specs.Queues.{kept_before, oldest_to}
-use Rattle.gq_contents.specs.declared.thing.Thing.{Thing}
-use Rattle.gq_contents.specs.declared.thing.Thing.TheVariants.{Empty}
-use Rattle.gq_contents.specs.Things.{seen}
+use Rattle.gq_contents.specs.declared.content.Content.{Content}
+use Rattle.gq_contents.specs.declared.content.Content.TheVariants.{Empty}
+use Rattle.gq_contents.specs.Contents.{seen}
 use Rattle.gq_trade.specs.declared.session.Session.{Session}
 use Rattle.gq_trade.specs.declared.session.Spot.TheVariants.{InLeaf}
 use Rattle.gq_trade.specs.Trading as trading
@@ -113,7 +113,7 @@ calm_then s n c e f g r q = record {
 
 -- A SESSION IS OPENED
 
-not_slice : (st : Store) (t : Thing) (n : ℕ) (bs : List ℕ) → seen st t ≡ world.Bytes form.Slice n bs → t ≡ Empty → ⊥
+not_slice : (st : Store) (t : Content) (n : ℕ) (bs : List ℕ) → seen st t ≡ world.Bytes form.Slice n bs → t ≡ Empty → ⊥
 not_slice st t n bs e f = let g : world.Empty ≡ world.Bytes form.Slice n bs = ap (seen st) (sym f) ∙ e in cc
 
 -- what the table of sessions, and what else a request bears on, is like once the session k was opened

@@ -1,7 +1,7 @@
 -- Sessions of the leaf 1 to the leaf 0.
 use Rattle.std.specs.Prelude.{◌≡◌, ℕ, suc, ◌<◌, ◌≤◌, List, [], length, get_or, Option, None, slice_set}
 use Rattle.gq_trade.specs.Numbers.{IsTaken, free_number}
-use Rattle.gq_contents.specs.declared.thing.Thing.TheVariants.{Empty}
+use Rattle.gq_contents.specs.declared.content.Content.TheVariants.{Empty}
 use Rattle.gq_trade.specs.declared.session.Session.{Session}
 use Rattle.gq_trade.specs.Trading.{session_in}
 use Rattle.gq_trade.specs.declared.node.Node.{Node}

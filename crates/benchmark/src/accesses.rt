@@ -2,16 +2,16 @@
 ghost use Rattle.std.specs.Prelude.{◌≡◌, ◌≤◌, length};
 ghost use Rattle.gq_dataspace.specs.Dataspaces.{content_of};
 ghost use Rattle.gq_trade.specs.declared.session.Spot.TheVariants.{InLeaf};
-ghost use Rattle.gq_contents.specs.Things.{size_of};
+ghost use Rattle.gq_contents.specs.Contents.{size_of};
 ghost use Rattle.gq_trade.specs.Trades.{IsLive};
-ghost use Rattle.gq_slots.specs.Slots.{IsPaidBy, IsSpot, thing_at};
+ghost use Rattle.gq_slots.specs.Slots.{IsPaidBy, IsSpot, content_at};
 ghost use Rattle.benchmark.specs.Accesses.{IsNoLink};
 ghost use Rattle.benchmark.specs.Rounds.{HasRoom};
 
 use crate::fault::Fault;
 use crate::sessions::market;
 use crate::timing::tell;
-use gq_contents::Thing;
+use gq_contents::Content;
 use gq_dataspace::DsId;
 use gq_ram::Accounts;
 use gq_slots::{Addresses, Slots};
@@ -86,7 +86,7 @@ fn in_slots(
     slots.laws();
     slots.pay_by(1);
     let slot = Spot::InLeaf(1, 0);
-    if !slots.thing(slot).is_empty() {
+    if !slots.content(slot).is_empty() {
         return Err(Fault::Account);
     }
     slots.make_space(slot, SIZE)?;
@@ -103,8 +103,8 @@ fn both(
     requires there { IsSpot slots.old (InLeaf 1 0) }
     requires paid { IsPaidBy slots.old 1 }
 {
-    match slots.thing(Spot::InLeaf(1, 0)) {
-        Thing::Space(_, size) => {
+    match slots.content(Spot::InLeaf(1, 0)) {
+        Content::Space(_, size) => {
             if size < SIZE {
                 return Err(Fault::Account);
             }
@@ -127,7 +127,7 @@ fn both(
 fn by_slot(slots: &Slots, times: u32) -> u8
     requires there { IsSpot slots.now (InLeaf 1 0) }
     requires paid { IsPaidBy slots.now 1 }
-    requires size { 16384 ≤ size_of (thing_at slots.now (InLeaf 1 0)) }
+    requires size { 16384 ≤ size_of (content_at slots.now (InLeaf 1 0)) }
 {
     let mut sum = 0;
     for index in 0..times {
@@ -140,7 +140,7 @@ fn by_slot(slots: &Slots, times: u32) -> u8
 fn by_address(slots: &mut Slots, addresses: &Addresses, times: u32) -> Option<u8>
     requires live { IsLive slots.old.trades 1 }
     requires paid { IsPaidBy slots.old 1 }
-    requires plain { IsNoLink (thing_at slots.old (InLeaf 1 0)) }
+    requires plain { IsNoLink (content_at slots.old (InLeaf 1 0)) }
 {
     let mut sum = 0;
     for index in 0..times {

@@ -7,7 +7,7 @@ ghost use Rattle.benchmark.specs.Rounds.{Calls, CanClose, Closes, HasRoom, IsCal
 
 use crate::fault::Fault;
 use crate::timing::tell;
-use gq_contents::Thing;
+use gq_contents::Content;
 use gq_slots::{Slots, sessions};
 use gq_tariff::Amount;
 use gq_trade::{Node, Plan, Spot, Stage};
@@ -163,7 +163,7 @@ fn replies(slots: &mut Slots, times: u32) -> bool
 {
     slots.laws();
     for _ in 0..times {
-        if !(reply(slots, Thing::Link(0)) && reply(slots, Thing::Empty)) {
+        if !(reply(slots, Content::Link(0)) && reply(slots, Content::Empty)) {
             return false;
         }
     }
@@ -171,14 +171,14 @@ fn replies(slots: &mut Slots, times: u32) -> bool
 }
 
 // Sets the client's slot, unless it holds memory, and says whether it did.
-fn reply(slots: &mut Slots, contents: Thing) -> bool
+fn reply(slots: &mut Slots, contents: Content) -> bool
     requires there { IsSpot slots.old (InLeaf 1 0) }
     requires mark { IsMark contents }
     ensures { IsSpot slots.new (InLeaf 1 0) }
 {
     let spot = Spot::InLeaf(1, 0);
-    match slots.thing(spot) {
-        Thing::Empty | Thing::Link(_) | Thing::Waiting(_) => {
+    match slots.content(spot) {
+        Content::Empty | Content::Link(_) | Content::Waiting(_) => {
             slots.mark(spot, contents);
             true
         }

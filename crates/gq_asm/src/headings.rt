@@ -3,7 +3,7 @@ ghost use Rattle.std.specs.Prelude.{◌≡◌, is_some};
 ghost use Rattle.gq_model.specs.machine.Program.{same_section, section_in};
 ghost use Rattle.gq_model.specs.texts.Letters.{words};
 ghost use Rattle.gq_model.specs.texts.Text.{numbered, limit_of, heading, local, outside};
-ghost use Rattle.gq_asm.specs.internal.State.{Gives, reading_of};
+ghost use Rattle.gq_asm.specs.internal.State.{AnswersBy, reading_of};
 
 use crate::faults::LineError;
 use crate::operands::{at_end, next_number};
@@ -54,7 +54,7 @@ fn is_given(sections: &[(Section, Body)], section: Section) -> bool
 impl Reading {
     /// `local`: the greatest value of a local.
     fn local(&mut self, after: &[u8]) -> Result<(), LineError>
-        ensures { Gives (λ _. reading_of self.new) result (local (reading_of self.old) (words after.now)) }
+        ensures { AnswersBy (λ _. reading_of self.new) result (local (reading_of self.old) (words after.now)) }
     {
         let (local, rest) = next_number(after, 0, 7)?;
         if limit_of(&self.limits, local as u8).is_some() {
@@ -74,7 +74,7 @@ impl Reading {
         section: Section,
         after: &[u8],
     ) -> Result<(), LineError>
-        ensures { Gives (λ _. reading_of self.new) result (heading (reading_of self.old) line section (words after.now)) }
+        ensures { AnswersBy (λ _. reading_of self.new) result (heading (reading_of self.old) line section (words after.now)) }
     {
         if is_given(&self.sections, section) {
             return Err(LineError::Fault(TextFault::SectionTwice));
@@ -85,7 +85,7 @@ impl Reading {
 
     /// `up`.
     fn upgrading(&mut self, alloc: Global, line: u64, after: &[u8]) -> Result<(), LineError>
-        ensures { Gives (λ _. reading_of self.new) result
+        ensures { AnswersBy (λ _. reading_of self.new) result
             (numbered 1 3 (words after.now) (λ l more. heading (reading_of self.old) line (Section.Upgrading l) more)) }
     {
         let (level, rest) = next_number(after, 1, 3)?;
@@ -94,7 +94,7 @@ impl Reading {
 
     /// `call`.
     fn calling(&mut self, alloc: Global, line: u64, after: &[u8]) -> Result<(), LineError>
-        ensures { Gives (λ _. reading_of self.new) result
+        ensures { AnswersBy (λ _. reading_of self.new) result
             (numbered 0 3 (words after.now) (λ l more. heading (reading_of self.old) line (Section.Calling l) more)) }
     {
         let (level, rest) = next_number(after, 0, 3)?;
@@ -103,7 +103,7 @@ impl Reading {
 
     /// `close`.
     fn closing(&mut self, alloc: Global, line: u64, after: &[u8]) -> Result<(), LineError>
-        ensures { Gives (λ _. reading_of self.new) result
+        ensures { AnswersBy (λ _. reading_of self.new) result
             (numbered 0 3 (words after.now) (λ l more. heading (reading_of self.old) line (Section.Closing l) more)) }
     {
         let (level, rest) = next_number(after, 0, 3)?;
@@ -118,7 +118,7 @@ impl Reading {
         word: &[u8],
         after: &[u8],
     ) -> Result<(), LineError>
-        ensures { Gives (λ _. reading_of self.new) result (outside (reading_of self.old) line word.now (words after.now)) }
+        ensures { AnswersBy (λ _. reading_of self.new) result (outside (reading_of self.old) line word.now (words after.now)) }
     {
         if same_text(word, b"local") {
             return self.local(after);

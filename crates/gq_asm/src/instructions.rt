@@ -4,7 +4,7 @@ ghost use Rattle.std.specs.Prelude.{◌≡◌};
 ghost use Rattle.gq_model.specs.texts.Letters.{words};
 ghost use Rattle.gq_model.specs.texts.Spelling.{instruction_in};
 ghost use Rattle.gq_program.specs.Spelling.{shape_of};
-ghost use Rattle.gq_asm.specs.internal.State.{Gives};
+ghost use Rattle.gq_asm.specs.internal.State.{AnswersBy};
 
 use crate::faults::LineError;
 use crate::operands::{at_end, next_name, next_number, next_slot, next_slot_or_object};
@@ -88,7 +88,7 @@ pub fn open(after: &[u8]) -> Result<Instruction, TextFault>
 
 /// `say`: a text between quotation marks, which takes host memory.
 pub fn say(alloc: Global, after: &[u8]) -> Result<Instruction, LineError>
-    ensures { Gives (λ i. i) result (instruction_in after.now (shape_of Shape.Say) (words after.now)) }
+    ensures { AnswersBy (λ i. i) result (instruction_in after.now (shape_of Shape.Say) (words after.now)) }
 {
     match said_in(alloc, after)? {
         Some(text) => Ok(Instruction::Say(text)),

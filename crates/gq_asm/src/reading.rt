@@ -4,7 +4,7 @@ ghost use Rattle.gq_model.specs.texts.Letters.{words};
 ghost use Rattle.gq_model.specs.texts.Text.{opening, close_block, ended, other_arm};
 ghost use Rattle.gq_program.specs.Trees.{tree_of};
 ghost use Rattle.gq_asm.specs.internal.Operands.{Answers};
-ghost use Rattle.gq_asm.specs.internal.State.{Gives, kind_of, blocks_of, reading_of, counted_at, nested_in, with_added};
+ghost use Rattle.gq_asm.specs.internal.State.{AnswersBy, kind_of, blocks_of, reading_of, counted_at, nested_in, with_added};
 
 use crate::faults::LineError;
 use crate::operands::at_end;
@@ -93,7 +93,7 @@ impl Reading {
     /// Puts a statement at the end of the innermost block.
     #[inline(always)]
     pub fn add(&mut self, statement: Statement) -> Result<(), LineError>
-        ensures { Gives (λ _. reading_of self.new) result (Ok (with_added (tree_of (statement ∷ [])) (reading_of self.old))) }
+        ensures { AnswersBy (λ _. reading_of self.new) result (Ok (with_added (tree_of (statement ∷ [])) (reading_of self.old))) }
     {
         if let Some(block) = self.blocks.front_mut() {
             block.before.push_with(&mut self.spare, statement)?;
@@ -103,7 +103,7 @@ impl Reading {
 
     /// Opens a block.
     pub fn open(&mut self, alloc: Global, kind: BlockKind, line: u64) -> Result<(), LineError>
-        ensures { Gives (λ _. reading_of self.new) result (Ok (opening (reading_of self.old) (kind_of kind) line)) }
+        ensures { AnswersBy (λ _. reading_of self.new) result (Ok (opening (reading_of self.old) (kind_of kind) line)) }
     {
         let before = Body::new(alloc);
         self.blocks.push_front(OpenBlock { kind, line, before })?;
@@ -112,7 +112,7 @@ impl Reading {
 
     /// Makes a closed block a part of what is around it.
     fn close(&mut self, alloc: Global, block: OpenBlock) -> Result<(), LineError>
-        ensures { Gives (λ _. reading_of self.new) result
+        ensures { AnswersBy (λ _. reading_of self.new) result
             (Ok (close_block (reading_of self.old) (kind_of block.kind) block.before (blocks_of self.old.blocks.items))) }
     {
         let OpenBlock {
@@ -133,7 +133,7 @@ impl Reading {
 
     /// `end`: closes the innermost block.
     pub fn end(&mut self, alloc: Global, after: &[u8]) -> Result<(), LineError>
-        ensures { Gives (λ _. reading_of self.new) result (ended (reading_of self.old) (blocks_of self.old.blocks.items) (words after.now)) }
+        ensures { AnswersBy (λ _. reading_of self.new) result (ended (reading_of self.old) (blocks_of self.old.blocks.items) (words after.now)) }
     {
         let Some(block) = self.blocks.pop_front() else {
             return Err(LineError::Fault(TextFault::StrayEnd));
@@ -144,7 +144,7 @@ impl Reading {
 
     /// `else`: the second arm of the innermost block.
     pub fn other_arm(&mut self, alloc: Global, after: &[u8]) -> Result<(), LineError>
-        ensures { Gives (λ _. reading_of self.new) result (other_arm (reading_of self.old) (blocks_of self.old.blocks.items) (words after.now)) }
+        ensures { AnswersBy (λ _. reading_of self.new) result (other_arm (reading_of self.old) (blocks_of self.old.blocks.items) (words after.now)) }
     {
         let Some(block) = self.blocks.front_mut() else {
             return Err(LineError::Fault(TextFault::StrayEnd));

@@ -5,7 +5,7 @@ ghost use Rattle.gq_model.specs.texts.Spelling.{spellings, shape_of_word, found,
 ghost use Rattle.gq_model.specs.declared.fault.TextFault.TheVariants.{UnknownWord};
 ghost use Rattle.gq_model.specs.texts.Text.{First_arm, Loop_body, at_end, numbered, opening, counted, nested, put, statement};
 ghost use Rattle.gq_program.specs.Spelling.{shape_of};
-ghost use Rattle.gq_asm.specs.internal.State.{Gives, reading_of};
+ghost use Rattle.gq_asm.specs.internal.State.{AnswersBy, reading_of};
 
 use crate::faults::LineError;
 use crate::instructions::{
@@ -23,7 +23,7 @@ use std::alloc::Global;
 impl Reading {
     /// `if`: opens its first arm.
     fn open_if(&mut self, alloc: Global, line: u64, after: &[u8]) -> Result<(), LineError>
-        ensures { Gives (λ _. reading_of self.new) result (nested (reading_of self.old) (λ s. at_end (words after.now) (Ok (opening s First_arm line)))) }
+        ensures { AnswersBy (λ _. reading_of self.new) result (nested (reading_of self.old) (λ s. at_end (words after.now) (Ok (opening s First_arm line)))) }
     {
         self.count_statement()?;
         self.find_room()?;
@@ -33,7 +33,7 @@ impl Reading {
 
     /// `loop`: opens its body.
     fn open_loop(&mut self, alloc: Global, line: u64, after: &[u8]) -> Result<(), LineError>
-        ensures { Gives (λ _. reading_of self.new) result
+        ensures { AnswersBy (λ _. reading_of self.new) result
             (nested (reading_of self.old) (λ s. numbered 1 65535 (words after.now) (λ n more. at_end more (Ok (opening s (Loop_body n) line))))) }
     {
         self.count_statement()?;
@@ -46,7 +46,7 @@ impl Reading {
     /// Puts the statement that was read at the end of the innermost block.
     #[inline(always)]
     fn put(&mut self, read: Result<Instruction, TextFault>) -> Result<(), LineError>
-        ensures { Gives (λ _. reading_of self.new) result (put (reading_of self.old) read) }
+        ensures { AnswersBy (λ _. reading_of self.new) result (put (reading_of self.old) read) }
     {
         let instruction = read?;
         self.add(Statement::Plain(instruction))
@@ -56,7 +56,7 @@ impl Reading {
     /// have a text, a name or three operands.
     #[inline(never)]
     fn put_said(&mut self, alloc: Global, after: &[u8]) -> Result<(), LineError>
-        ensures { Gives (λ _. reading_of self.new) result (put (reading_of self.old) (instruction_in after.now (shape_of Shape.Say) (words after.now))) }
+        ensures { AnswersBy (λ _. reading_of self.new) result (put (reading_of self.old) (instruction_in after.now (shape_of Shape.Say) (words after.now))) }
     {
         let instruction = say(alloc, after)?;
         self.add(Statement::Plain(instruction))
@@ -65,7 +65,7 @@ impl Reading {
     /// Reads the operands of `pool`, and puts the statement at the end of the innermost block.
     #[inline(never)]
     fn put_pool(&mut self, after: &[u8]) -> Result<(), LineError>
-        ensures { Gives (λ _. reading_of self.new) result (put (reading_of self.old) (instruction_in after.now (shape_of Shape.Pool) (words after.now))) }
+        ensures { AnswersBy (λ _. reading_of self.new) result (put (reading_of self.old) (instruction_in after.now (shape_of Shape.Pool) (words after.now))) }
     {
         self.put(pool(after))
     }
@@ -73,14 +73,14 @@ impl Reading {
     /// Reads the operands of `open`, and puts the statement at the end of the innermost block.
     #[inline(never)]
     fn put_open(&mut self, after: &[u8]) -> Result<(), LineError>
-        ensures { Gives (λ _. reading_of self.new) result (put (reading_of self.old) (instruction_in after.now (shape_of Shape.Open) (words after.now))) }
+        ensures { AnswersBy (λ _. reading_of self.new) result (put (reading_of self.old) (instruction_in after.now (shape_of Shape.Open) (words after.now))) }
     {
         self.put(open(after))
     }
 
     /// Reads the operands of a statement, in a way of its own for each shape, and puts it at the end of the innermost block.
     fn put_shape(&mut self, alloc: Global, shape: Shape, after: &[u8]) -> Result<(), LineError>
-        ensures { Gives (λ _. reading_of self.new) result (put (reading_of self.old) (instruction_in after.now (shape_of shape) (words after.now))) }
+        ensures { AnswersBy (λ _. reading_of self.new) result (put (reading_of self.old) (instruction_in after.now (shape_of shape) (words after.now))) }
     {
         match shape {
             Shape::Plain(statement) => self.put(plain(statement, after)),
@@ -96,7 +96,7 @@ impl Reading {
 
     /// A statement of the table.
     fn tabled(&mut self, alloc: Global, word: &[u8], after: &[u8]) -> Result<(), LineError>
-        ensures { Gives (λ _. reading_of self.new) result
+        ensures { AnswersBy (λ _. reading_of self.new) result
             (found (shape_of_word word.now spellings) UnknownWord
             (λ shape. counted (reading_of self.old) (λ s. put s (instruction_in after.now shape (words after.now))))) }
     {
@@ -115,7 +115,7 @@ impl Reading {
         word: &[u8],
         after: &[u8],
     ) -> Result<(), LineError>
-        ensures { Gives (λ _. reading_of self.new) result (statement (reading_of self.old) line word.now (words after.now) after.now) }
+        ensures { AnswersBy (λ _. reading_of self.new) result (statement (reading_of self.old) line word.now (words after.now) after.now) }
     {
         if same_text(word, b"end") {
             return self.end(alloc, after);

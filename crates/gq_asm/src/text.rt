@@ -5,7 +5,7 @@ ghost use Rattle.gq_model.specs.machine.Program.{section_in};
 ghost use Rattle.gq_model.specs.texts.Code.{IsProgram};
 ghost use Rattle.gq_model.specs.texts.Letters.{words};
 ghost use Rattle.gq_model.specs.texts.Text.{limit_of, limit_or_greatest, limits_from, in_order, finished, line_read, is_comment, assembled};
-ghost use Rattle.gq_asm.specs.internal.State.{Gives, reading_of};
+ghost use Rattle.gq_asm.specs.internal.State.{AnswersBy, reading_of};
 ghost use Rattle.gq_asm.specs.Faults.{Assembles};
 ghost use Rattle.gq_asm.specs.declared.faults.LineError.TheVariants.{Memory};
 ghost use Rattle.gq_asm.specs.internal.Lines.{IsTaking, ReadsUsual};
@@ -105,7 +105,7 @@ fn in_order(
 impl Reading {
     /// Reads a line by its words. One without words and a comment say nothing.
     pub fn read_line(&mut self, alloc: Global, number: u64, line: &[u8]) -> Result<(), LineError>
-        ensures { Gives (λ _. reading_of self.new) result (line_read (reading_of self.old) number line.now (words line.now)) }
+        ensures { AnswersBy (λ _. reading_of self.new) result (line_read (reading_of self.old) number line.now (words line.now)) }
     {
         let Some((word, after)) = next_word(line) else {
             return Ok(());
@@ -153,7 +153,7 @@ impl Reading {
         number: u64,
         text: &'a [u8],
     ) -> Result<Option<&'a [u8]>, LineError>
-        ensures read { Gives (λ _. reading_of self.new) result (line_read (reading_of self.old) number (line_at text.now) (words (line_at text.now))) }
+        ensures read { AnswersBy (λ _. reading_of self.new) result (line_read (reading_of self.old) number (line_at text.now) (words (line_at text.now))) }
         ensures rest { IfOk result (λ rest. option_copied rest ≡ past_feed text.now) }
     {
         if let Some(rest) = self.read_usual(text)? {

@@ -1,25 +1,26 @@
--- A call on one thing: what it has to show, for the others to stay.
+-- A call on one content: what it has to show, for the others to stay.
 use Rattle.std.proofs.Common.{◌≡◌, ℕ, ◌+◌, ◌<◌, ◌≤◌, ◌⊎◌, inl, inr, List, ◌∷◌, ◌++◌, sym, subst, ◌∙◌, arith}
 use Rattle.std.proofs.lemmas.Bool.{cases_lt}
 use Rattle.gq_store.specs.Store.{Store, SameChunk, Spares}
 use Rattle.gq_heap.specs.declared.heap.Heap.{Heap}
 use Rattle.gq_heap.specs.Counts.{times}
 use Rattle.gq_heap.specs.Heap.{Owns}
-use Rattle.gq_contents.specs.declared.thing.Thing.{Thing}
-use Rattle.gq_contents.specs.Things.{chunks, places, IsThing}
-use Rattle.gq_contents.specs.Kept.{all_chunks, all_places, AreThings, Blocks, Keeps, KeepsBeside}
+use Rattle.gq_contents.specs.declared.content.Content.{Content}
+use Rattle.gq_contents.specs.Contents.{chunks, places, IsContent}
+use Rattle.gq_contents.specs.Kept.{all_chunks, all_places, AreContents, Blocks, KeepsContents, KeepsBeside}
 use Rattle.gq_contents.proofs.Lists.{places_append, times_among, each_front, each_among}
-use Rattle.gq_contents.proofs.Frames.{SamePlaces, AllSame, same_things, things_there}
+use Rattle.gq_contents.proofs.Frames.{SamePlaces, AllSame, same_contents, contents_there}
 
--- what is kept, around one thing
-pub record Opened (heap : Heap) (st : Store) (front : List Thing) (t : Thing) (back : List Thing) : Type 0 where
-  pub front_are : AreThings st front
-  pub is : IsThing st t
-  pub back_are : AreThings st back
+-- what is kept, around one content
+pub record Opened (heap : Heap) (st : Store) (front : List Content) (t : Content) (back : List Content) : Type 0 where
+  pub front_are : AreContents st front
+  pub is : IsContent st t
+  pub back_are : AreContents st back
   pub blocks : Blocks heap st (all_places st front ++ (places st t ++ all_places st back)) (all_chunks (front ++ t ∷ back))
   pub once : (x : ℕ) → times x (all_chunks (front ++ t ∷ back)) ≤ 1
 
-pub opened : (heap : Heap) (st : Store) (front : List Thing) (t : Thing) (back : List Thing) → Keeps heap st (front ++ t ∷ back) → Opened heap st front t back
+pub opened : (heap : Heap) (st : Store) (front : List Content) (t : Content) (back : List Content) → KeepsContents heap st (front ++ t ∷ back)
+    → Opened heap st front t back
 opened heap st front t back k =
     let are = each_front st front t back k.each in
     record {
@@ -31,29 +32,29 @@ opened heap st front t back k =
     }
 
 -- the chunks of the others are there, and neither the thing's nor the heap's
-pub record Others (st : Store) (t : Thing) (owned : ℕ → Type 0) (x : ℕ) : Type 0 where
+pub record Others (st : Store) (t : Content) (owned : ℕ → Type 0) (x : ℕ) : Type 0 where
   pub there : 0 < st.size x
   pub not_its : times x (chunks t) ≡ 0
   pub not_heap : owned x → ⊥
 
-module _ (before : Heap) (old : Store) (front back : List Thing) (t : Thing) (k : Opened before old front t back) where
+module _ (before : Heap) (old : Store) (front back : List Content) (t : Content) (k : Opened before old front t back) where
   pub other_chunk : (x : ℕ) → 0 < times x (all_chunks front) + times x (all_chunks back)
       → Others old t (Owns before old (all_places old front ++ (places old t ++ all_places old back)) k.blocks.keeps) x
   other_chunk x h =
       let e = times_among x front t back in
       record {
         there = elim (cases_lt 0 (times x (all_chunks front))) [
-          | inl l ↦ things_there old front x k.front_are l
-          | inr g ↦ things_there old back x k.back_are (omega (arith, h, g))
+          | inl l ↦ contents_there old front x k.front_are l
+          | inr g ↦ contents_there old back x k.back_are (omega (arith, h, g))
         ];
         not_its = omega (arith, e, k.once x, h);
         not_heap = k.blocks.apart x (omega (arith, e, h));
       }
 
-  module _ (after : Heap) (new : Store) (u : Thing) (owned : ℕ → Type 0) (spares : Spares owned old new)
+  module _ (after : Heap) (new : Store) (u : Content) (owned : ℕ → Type 0) (spares : Spares owned old new)
       (mine : (x : ℕ) → owned x
       → Owns before old (all_places old front ++ (places old t ++ all_places old back)) k.blocks.keeps x ⊎ ((0 < times x (chunks t)) ⊎ (old.size x ≡ 0)))
-      (same_front : SamePlaces old new (all_places old front)) (same_back : SamePlaces old new (all_places old back)) (is : IsThing new u)
+      (same_front : SamePlaces old new (all_places old front)) (same_back : SamePlaces old new (all_places old back)) (is : IsContent new u)
       (b : Blocks after new (all_places old front ++ (places new u ++ all_places old back)) (chunks u))
       (owns : (x : ℕ) → Owns after new (all_places old front ++ (places new u ++ all_places old back)) b.keeps x
       → Owns before old (all_places old front ++ (places old t ++ all_places old back)) k.blocks.keeps x ⊎ (old.size x ≡ 0))
@@ -68,10 +69,10 @@ module _ (before : Heap) (old : Store) (front back : List Thing) (t : Thing) (k 
         ])
 
     stays_front : AllSame old new front
-    stays_front = same_things old new front k.front_are same_front (λ x h. same_chunk x (omega (arith, h)))
+    stays_front = same_contents old new front k.front_are same_front (λ x h. same_chunk x (omega (arith, h)))
 
     stays_back : AllSame old new back
-    stays_back = same_things old new back k.back_are same_back (λ x h. same_chunk x (omega (arith, h)))
+    stays_back = same_contents old new back k.back_are same_back (λ x h. same_chunk x (omega (arith, h)))
 
     other : (x : ℕ) → 0 < times x (all_chunks front) + times x (all_chunks back) → times x (chunks u) ≡ 0
     other x h =

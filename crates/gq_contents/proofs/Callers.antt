@@ -1,4 +1,4 @@
--- What is known of one thing among others.
+-- What is known of one content among others.
 use Rattle.std.proofs.Common.{◌≡◌, ℕ, ◌+◌, ◌<◌, ◌≤◌, ◌∷◌, ◌++◌, refl, ap, arith, zero, suc, replicate, subst, sym, []}
 use Rattle.std.proofs.lemmas.Bool.Decides.{nat_tests}
 use Rattle.gq_tariff.specs.Prices.{up, size_for}
@@ -12,17 +12,17 @@ use Rattle.gq_heap.proofs.ClassLaws.{size_is}
 use Rattle.gq_sliced.specs.Slices.{HasByte, HasWord, HasSize, IsInUse as IsSlice}
 use Rattle.gq_pool.specs.declared.pool.Pool as pool
 use Rattle.gq_pool.specs.Pools.{IsPool, held_of}
-use Rattle.gq_contents.specs.declared.thing.Thing.TheVariants.{Empty, Block, Slice, Space, Pool}
-use Rattle.gq_contents.specs.Things.{IsSpace, IsThing}
+use Rattle.gq_contents.specs.declared.content.Content.TheVariants.{Empty, Block, Slice, Space, Pool}
+use Rattle.gq_contents.specs.Contents.{IsSpace, IsContent}
 use Rattle.gq_heap.specs.Counts.{times}
-use Rattle.gq_heap.specs.Heap.{Keeps as KeepsPlaces}
-use Rattle.gq_contents.specs.Kept.{all_chunks, all_places, AreThings, Blocks, Keeps, IsAmong}
-use Rattle.gq_contents.specs.declared.thing.Thing.{Thing}
+use Rattle.gq_heap.specs.Heap.{KeepsPlaces}
+use Rattle.gq_contents.specs.Kept.{all_chunks, all_places, AreContents, Blocks, KeepsContents, IsAmong}
+use Rattle.gq_contents.specs.declared.content.Content.{Content}
 use Rattle.gq_contents.proofs.Beside.{opened}
 use Rattle.gq_contents.proofs.PoolCalls.{pool_kept}
 
-pub is_thing : (heap : Heap) (st : Store) (t : Thing) → IsAmong heap st t → IsThing st t
-is_thing heap st t a = (opened heap st a.front t a.back a.keeps).is
+pub is_content : (heap : Heap) (st : Store) (t : Content) → IsAmong heap st t → IsContent st t
+is_content heap st t a = (opened heap st a.front t a.back a.keeps).is
 
 pub block_in_use : (heap : Heap) (st : Store) (p : Place) (n : ℕ) → IsAmong heap st (Block p n) → IsInUse heap st p
 block_in_use heap st p n a =
@@ -35,7 +35,7 @@ block_in_use heap st p n a =
     }
 
 pub block_room : (heap : Heap) (st : Store) (p : Place) (n : ℕ) → IsAmong heap st (Block p n) → n ≤ room_of p
-block_room heap st p n a = (is_thing heap st (Block p n) a).1
+block_room heap st p n a = (is_content heap st (Block p n) a).1
 
 pub block_byte_inside : (heap : Heap) (st : Store) (p : Place) (n i : ℕ) → IsAmong heap st (Block p n) → i < n → i < room_of p
 block_byte_inside heap st p n i a lt = omega (arith, block_room heap st p n a)
@@ -44,19 +44,19 @@ pub block_word_inside : (heap : Heap) (st : Store) (p : Place) (n i : ℕ) → I
 block_word_inside heap st p n i a lt = omega (arith, block_room heap st p n a)
 
 pub slice_has_size : (heap : Heap) (st : Store) (k n : ℕ) → IsAmong heap st (Slice k n) → HasSize st k n
-slice_has_size heap st k n a = is_thing heap st (Slice k n) a
+slice_has_size heap st k n a = is_content heap st (Slice k n) a
 
 pub slice_has_byte : (heap : Heap) (st : Store) (k n i : ℕ) → IsAmong heap st (Slice k n) → i < n → HasByte st k i
-slice_has_byte heap st k n i a lt = record { size = n; has = is_thing heap st (Slice k n) a; inside = lt }
+slice_has_byte heap st k n i a lt = record { size = n; has = is_content heap st (Slice k n) a; inside = lt }
 
 pub slice_has_word : (heap : Heap) (st : Store) (k n i : ℕ) → IsAmong heap st (Slice k n) → i + 4 ≤ n → HasWord st k i
-slice_has_word heap st k n i a lt = record { size = n; has = is_thing heap st (Slice k n) a; inside = lt }
+slice_has_word heap st k n i a lt = record { size = n; has = is_content heap st (Slice k n) a; inside = lt }
 
 pub slice_there : (heap : Heap) (st : Store) (k n : ℕ) → IsAmong heap st (Slice k n) → IsSlice st k
-slice_there heap st k n a = record { size = n; has = is_thing heap st (Slice k n) a }
+slice_there heap st k n a = record { size = n; has = is_content heap st (Slice k n) a }
 
 pub is_space : (heap : Heap) (st : Store) (k n : ℕ) → IsAmong heap st (Space k n) → IsSpace st k n
-is_space heap st k n a = is_thing heap st (Space k n) a
+is_space heap st k n a = is_content heap st (Space k n) a
 
 pub space_has_byte : (heap : Heap) (st : Store) (k n i : ℕ) → IsAmong heap st (Space k n) → i < up n → i < st.size k
 space_has_byte heap st k n i a lt = omega (arith, (is_space heap st k n a).pages)
@@ -89,11 +89,11 @@ none_chunks : (n : ℕ) → all_chunks (replicate n Empty) ≡ []
 none_chunks zero = refl
 none_chunks (suc n) = none_chunks n
 
-are_empty : (st : Store) (n : ℕ) → AreThings st (replicate n Empty)
+are_empty : (st : Store) (n : ℕ) → AreContents st (replicate n Empty)
 are_empty st zero = tt
 are_empty st (suc n) = (tt, are_empty st n)
 
-pub empty_kept : (heap : Heap) (st : Store) (n : ℕ) → KeepsPlaces heap st [] → Keeps heap st (replicate n Empty)
+pub empty_kept : (heap : Heap) (st : Store) (n : ℕ) → KeepsPlaces heap st [] → KeepsContents heap st (replicate n Empty)
 empty_kept heap st n k = record {
   each = are_empty st n;
   blocks = subst (λ cs. Blocks heap st (all_places st (replicate n Empty)) cs) (sym (none_chunks n))

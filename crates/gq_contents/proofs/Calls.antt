@@ -1,4 +1,4 @@
--- The calls on things of each kind.
+-- The calls on contents of each kind.
 use Rattle.std.proofs.Common.{◌≡◌, ℕ, ◌<◌, ◌≤◌, ◌⊎◌, inl, inr, List, [], ◌∷◌, ◌++◌, length, ◌+◌, replicate, refl, sym, ap, subst, ◌∙◌, arith}
 use Rattle.std.proofs.lemmas.Bool.{cases_eq}
 use Rattle.std.proofs.lemmas.Bool.Decides.{nat_tests}
@@ -9,15 +9,15 @@ use Rattle.gq_model.specs.machine.World as world
 use Rattle.gq_heap.specs.declared.heap.Heap.{Heap}
 use Rattle.gq_heap.specs.declared.heap.Place.{Place}
 use Rattle.gq_heap.specs.Counts.{times}
-use Rattle.gq_heap.specs.Heap.{Inserts, Owns, KeepsStill, Puts, Allocates, Frees, room_of}
+use Rattle.gq_heap.specs.Heap.{Inserts, Owns, KeepsStill, PutsInBlock, Allocates, Frees, room_of}
 use Rattle.gq_heap.proofs.Chains.{times_same}
 use Rattle.gq_heap.proofs.Lists.{times_other}
 use Rattle.gq_heap.proofs.Callers.{heap_there, heap_stays}
 use Rattle.gq_sliced.specs.Slices as slices
 use Rattle.gq_sliced.specs.Slices.{HasSize}
-use Rattle.gq_contents.specs.declared.thing.Thing.{Thing}
-use Rattle.gq_contents.specs.declared.thing.Thing.TheVariants.{Empty, Block, Slice, Space, Link, Waiting}
-use Rattle.gq_contents.specs.Things.{seen, chunks, places, IsThing, put_in}
+use Rattle.gq_contents.specs.declared.content.Content.{Content}
+use Rattle.gq_contents.specs.declared.content.Content.TheVariants.{Empty, Block, Slice, Space, Link, Waiting}
+use Rattle.gq_contents.specs.Contents.{seen, chunks, places, IsContent, put_in}
 use Rattle.gq_contents.specs.Kept.{all_chunks, all_places, SameSeen, Blocks, KeepsBeside, Changes}
 use Rattle.gq_contents.proofs.Lists.{times_among, each_front, each_among}
 use Rattle.gq_store.proofs.Lists.{listed_put, listed_zero}
@@ -36,9 +36,9 @@ times_once x c = elim (cases_eq x c) [ inl e ↦ grind (arith, nat_tests) | inr 
 pub times_here : (c : ℕ) → 0 < times c (c ∷ [])
 times_here c = omega (arith, times_same c [])
 
--- ---- a call on the chunk of a thing without places: slices, spaces, the tables of pools
-module _ (heap : Heap) (old new : Store) (front back : List Thing) (t u : Thing) (c : ℕ) (k : Opened heap old front t back) (none : places old t ≡ [])
-    (no : places new u ≡ []) (spares : Spares (λ x. x ≡ c) old new) (place : (0 < times c (chunks t)) ⊎ (old.size c ≡ 0)) (is : IsThing new u)
+-- ---- a call on the chunk of a content without places: slices, spaces, the tables of pools
+module _ (heap : Heap) (old new : Store) (front back : List Content) (t u : Content) (c : ℕ) (k : Opened heap old front t back) (none : places old t ≡ [])
+    (no : places new u ≡ []) (spares : Spares (λ x. x ≡ c) old new) (place : (0 < times c (chunks t)) ⊎ (old.size c ≡ 0)) (is : IsContent new u)
     (its : (x : ℕ) → 0 < times x (chunks u) → x ≡ c) (u_once : (x : ℕ) → times x (chunks u) ≤ 1) where
   abbrev owned : ℕ → Type 0
   owned = Owns heap old (all_places old front ++ (places old t ++ all_places old back)) k.blocks.keeps
@@ -71,14 +71,14 @@ module _ (heap : Heap) (old new : Store) (front back : List Thing) (t u : Thing)
       ]) u_once
 
 -- ---- slices
-pub slice_puts : (heap : Heap) (old new : Store) (k n i : ℕ) (bytes : List ℕ) → slices.Puts old new k i bytes
+pub slice_puts : (heap : Heap) (old new : Store) (k n i : ℕ) (bytes : List ℕ) → slices.PutsInSlice old new k i bytes
     → Changes heap heap old new (Slice k n) (Slice k n)
 slice_puts heap old new k n i bytes s front back h =
     let o = opened heap old front (Slice k n) back h in
     by_chunk heap old new front back (Slice k n) (Slice k n) k o refl refl s.spares (inl (times_here k)) (s.keeps n o.is) (λ x l. times_one x k l)
     (λ x. times_once x k)
 
-pub slice_puts_seen : (old new : Store) (k n i : ℕ) (bytes : List ℕ) → i + length bytes ≤ n → slices.Puts old new k i bytes
+pub slice_puts_seen : (old new : Store) (k n i : ℕ) (bytes : List ℕ) → i + length bytes ≤ n → slices.PutsInSlice old new k i bytes
     → seen new (Slice k n) ≡ put_in i bytes (seen old (Slice k n))
 slice_puts_seen old new k n i bytes inside s = ap (world.Bytes form.Slice n) (slice_put old new k n i bytes inside s)
 
@@ -125,7 +125,7 @@ space_frees heap old new k n s front back h =
     (inl (times_here k)) tt (λ x l. absurd (omega (arith, l))) (λ x. omega arith)
 
 -- ---- blocks
-module _ (old : Store) (front back : List Thing) (p : Place) where
+module _ (old : Store) (front back : List Content) (p : Place) where
   abbrev without : List Place
   without = all_places old front ++ all_places old back
 
@@ -135,7 +135,7 @@ module _ (old : Store) (front back : List Thing) (p : Place) where
   abbrev inserts : Inserts p without with_it
   inserts = (all_places old front, all_places old back, refl, refl)
 
-pub block_puts : (heap : Heap) (old new : Store) (p : Place) (n i : ℕ) (bytes : List ℕ) → Puts heap old new p i bytes
+pub block_puts : (heap : Heap) (old new : Store) (p : Place) (n i : ℕ) (bytes : List ℕ) → PutsInBlock heap old new p i bytes
     → Changes heap heap old new (Block p n) (Block p n)
 block_puts heap old new p n i bytes s front back h =
     let o = opened heap old front (Block p n) back h in
@@ -146,7 +146,7 @@ block_puts heap old new p n i bytes s front back h =
     (places_left old new (all_places old front) (all_places old back) same) (places_right old new (all_places old front) (all_places old back) same) o.is
     (record { keeps = now.keeps; apart = λ x l w. absurd (omega (arith, l)) }) (λ x w. inl (now.owns x w)) (λ x l. absurd (omega (arith, l))) (λ x. omega arith)
 
-pub block_puts_seen : (heap : Heap) (old new : Store) (p : Place) (n i : ℕ) (bytes : List ℕ) → i + length bytes ≤ n → Puts heap old new p i bytes
+pub block_puts_seen : (heap : Heap) (old new : Store) (p : Place) (n i : ℕ) (bytes : List ℕ) → i + length bytes ≤ n → PutsInBlock heap old new p i bytes
     → seen new (Block p n) ≡ put_in i bytes (seen old (Block p n))
 block_puts_seen heap old new p n i bytes inside s = ap (world.Bytes form.Block n) (block_put heap old new p n i bytes inside s)
 
@@ -176,26 +176,27 @@ pub block_makes_seen : (before after : Heap) (old new : Store) (p : Place) (n : 
 block_makes_seen before after old new p n fits a = ap (world.Bytes form.Block n) (block_made before after old new n n p fits a)
 
 -- ---- what holds no memory
-pub record HoldsNone (t : Thing) : Type 0 where
+pub record HoldsNone (t : Content) : Type 0 where
   pub no_chunks : chunks t ≡ []
   pub no_places : (st : Store) → places st t ≡ []
-  pub is : (st : Store) → IsThing st t
+  pub is : (st : Store) → IsContent st t
 
-same_chunks : (front : List Thing) (t u : Thing) (back : List Thing) → chunks t ≡ chunks u → all_chunks (front ++ t ∷ back) ≡ all_chunks (front ++ u ∷ back)
+same_chunks : (front : List Content) (t u : Content) (back : List Content) → chunks t ≡ chunks u
+    → all_chunks (front ++ t ∷ back) ≡ all_chunks (front ++ u ∷ back)
 same_chunks [] t u back e = ap (λ cs. cs ++ all_chunks back) e
 same_chunks (x ∷ front) t u back e = ap (λ cs. chunks x ++ cs) (same_chunks front t u back e)
 
-same_places : (st : Store) (front : List Thing) (t u : Thing) (back : List Thing) → places st t ≡ places st u
+same_places : (st : Store) (front : List Content) (t u : Content) (back : List Content) → places st t ≡ places st u
     → all_places st (front ++ t ∷ back) ≡ all_places st (front ++ u ∷ back)
 same_places st [] t u back e = ap (λ ps. ps ++ all_places st back) e
 same_places st (x ∷ front) t u back e = ap (λ ps. places st x ++ ps) (same_places st front t u back e)
 
-pub same_seen : (st : Store) (ts : List Thing) → SameSeen st st ts
+pub same_seen : (st : Store) (ts : List Content) → SameSeen st st ts
 same_seen st [] = tt
 same_seen st (t ∷ ts) = (refl, same_seen st ts)
 
 -- one that holds no memory stands in the place of another
-pub none_holds : (heap : Heap) (st : Store) (t u : Thing) → HoldsNone t → HoldsNone u → Changes heap heap st st t u
+pub none_holds : (heap : Heap) (st : Store) (t u : Content) → HoldsNone t → HoldsNone u → Changes heap heap st st t u
 none_holds heap st t u a b front back h =
     let ps = same_places st front t u back (a.no_places st ∙ sym (b.no_places st)) in
     let cs = same_chunks front t u back (a.no_chunks ∙ sym b.no_chunks) in
@@ -212,7 +213,7 @@ none_holds heap st t u a b front back h =
     }
 
 -- nothing happens
-pub unchanged : (heap : Heap) (st : Store) (t : Thing) → Changes heap heap st st t t
+pub unchanged : (heap : Heap) (st : Store) (t : Content) → Changes heap heap st st t t
 unchanged heap st t front back k = record { keeps = k; front_seen = same_seen st front; back_seen = same_seen st back }
 
 pub empty_holds : HoldsNone Empty

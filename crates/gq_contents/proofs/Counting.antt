@@ -1,4 +1,4 @@
--- How many places of a class a thing has in use, by the definition and in the heap.
+-- How many places of a class a content has in use, by the definition and in the heap.
 use Rattle.std.proofs.Common.{◌≡◌, ℕ, suc, ◌<◌, ◌≤◌, inl, inr, Bool, true, false, cond, eqb, List, [], ◌∷◌, length, map, Option, Some, None, refl, sym, ap}
 use Rattle.std.proofs.Common.{◌∙◌, arith}
 use Rattle.std.specs.Prelude.{is_some}
@@ -19,9 +19,9 @@ use Rattle.gq_heap.proofs.ClassLaws.{size_is, number_is}
 use Rattle.gq_heap.proofs.Lists.{eqb_other}
 use Rattle.gq_pool.specs.declared.pool.Pool as pool
 use Rattle.gq_pool.specs.Pools.{places_of, held_of, entry_bytes}
-use Rattle.gq_contents.specs.declared.thing.Thing.{Thing}
-use Rattle.gq_contents.specs.declared.thing.Thing.TheVariants.{Empty, Block, Slice, Space, Pool, Link, Waiting}
-use Rattle.gq_contents.specs.Things.{seen, places, IsThing}
+use Rattle.gq_contents.specs.declared.content.Content.{Content}
+use Rattle.gq_contents.specs.declared.content.Content.TheVariants.{Empty, Block, Slice, Space, Pool, Link, Waiting}
+use Rattle.gq_contents.specs.Contents.{seen, places, IsContent}
 
 -- a class is that of its size
 size_back : (c : Class) → class_size c ≡ size_for (class_size c)
@@ -102,7 +102,7 @@ one_if : (b : Bool) (q : ℕ) → length (cond b (q ∷ []) []) ≡ cond b 1 0
 one_if true q = refl
 one_if false q = refl
 
-pub count_is : (st : Store) (t : Thing) (c : Class) → IsThing st t → length (numbers (index_of c) (places st t)) ≡ slot_places (class_size c) (seen st t)
+pub count_is : (st : Store) (t : Content) (c : Class) → IsContent st t → length (numbers (index_of c) (places st t)) ≡ slot_places (class_size c) (seen st t)
 count_is st Empty c is = refl
 count_is st (Block (Small a q) n) c is =
     one_if (eqb (index_of a) (index_of c)) q ∙ ap (λ b. cond b 1 0) (same_class a c ∙ ap (λ m. eqb m (class_size c)) is.0.1)

@@ -22,10 +22,10 @@ use Rattle.gq_pool.specs.declared.pool.Pool as pool
 use Rattle.gq_pool.specs.Pools as pools
 use Rattle.gq_pool.specs.Pools.{IsAbsent, places_of, held_of, entry_of, entry_bytes, entries_of}
 use Rattle.gq_pool.proofs.Contents.{held_is, entries_added, entries_removed, entries_set}
-use Rattle.gq_contents.specs.declared.thing.Thing.{Thing}
-use Rattle.gq_contents.specs.declared.thing.Thing.TheVariants.{Pool}
-use Rattle.gq_contents.specs.Things.{seen, entry_in, with_entry, added, removed}
-use Rattle.gq_contents.specs.Kept.{all_places, Keeps, IsAmong, Changes}
+use Rattle.gq_contents.specs.declared.content.Content.{Content}
+use Rattle.gq_contents.specs.declared.content.Content.TheVariants.{Pool}
+use Rattle.gq_contents.specs.Contents.{seen, entry_in, with_entry, added, removed}
+use Rattle.gq_contents.specs.Kept.{all_places, KeepsContents, IsAmong, Changes}
 use Rattle.gq_contents.specs.Paid.{Pays, Raises, places_used, raised_by}
 use Rattle.gq_contents.proofs.Beside.{opened}
 use Rattle.gq_contents.proofs.Calls.{unchanged}
@@ -70,7 +70,7 @@ same_entry : (p : pool.Pool) (st : Store) (i : ℕ) (entry : Option (List ℕ)) 
 same_entry p st i entry e = ap (λ x. world.Pool p.size (set (entries_of p st) i x)) e ∙ ap (world.Pool p.size) (set-get_or (entries_of p st) i None)
 
 -- ---- take
-module _ (p : pool.Pool) (before after : Heap) (old new : Store) (i : ℕ) (b : Bool) (l : i < p.count) (t : pools.Takes p before after old new i b) where
+module _ (p : pool.Pool) (before after : Heap) (old new : Store) (i : ℕ) (b : Bool) (l : i < p.count) (t : pools.AddsEntry p before after old new i b) where
   pub takes_changes : Changes before after old new (Pool p) (Pool p)
   takes_changes = elim (cases_eq (word (old.byte p.table) (4 * i)) 0) [
     | inl a ↦ pool_adds p before after old new i (t.absent a).1
@@ -93,7 +93,7 @@ module _ (p : pool.Pool) (before after : Heap) (old new : Store) (i : ℕ) (b : 
     abbrev others : List Place
     others = all_places old k.front ++ all_places old k.back
 
-    kept : pools.Keeps p before old (held_of p old) others
+    kept : pools.KeepsPool p before old (held_of p old) others
     kept = pool_kept p before after old new k.front k.back (opened before old k.front (Pool p) k.back k.keeps)
 
     pub takes_seen : seen new (Pool p) ≡ with_entry i added (seen old (Pool p))
@@ -116,15 +116,15 @@ module _ (p : pool.Pool) (before after : Heap) (old new : Store) (i : ℕ) (b : 
     ]
 
 -- an entry that is added raises the peaks to what is in use with it
-module _ (p : pool.Pool) (before after : Heap) (old new : Store) (i : ℕ) (a : pools.Adds p before after old new i) (front back : List Thing)
-    (h : Keeps before old (front ++ Pool p ∷ back)) where
+module _ (p : pool.Pool) (before after : Heap) (old new : Store) (i : ℕ) (a : pools.Adds p before after old new i) (front back : List Content)
+    (h : KeepsContents before old (front ++ Pool p ∷ back)) where
   abbrev ps : List Place
   ps = all_places old front
 
   abbrev qs : List Place
   qs = all_places old back
 
-  with_it : pools.Keeps p before old (held_of p old) (ps ++ qs)
+  with_it : pools.KeepsPool p before old (held_of p old) (ps ++ qs)
   with_it = pool_kept p before after old new front back (opened before old front (Pool p) back h)
 
   in_use : (c : Class)
@@ -157,13 +157,13 @@ module _ (p : pool.Pool) (before after : Heap) (old new : Store) (i : ℕ) (a : 
   adds_raises = raised_is before after (places_used new (front ++ Pool p ∷ back)) a.eight.0 a.eight.1
       (λ c. a.peaks (held_of p old) (ps ++ qs) with_it c ∙ ap (max (peak_of before c)) (in_use c))
 
-pub takes_raises : (p : pool.Pool) (before after : Heap) (old new : Store) (i : ℕ) (b : Bool) → i < p.count → pools.Takes p before after old new i b
+pub takes_raises : (p : pool.Pool) (before after : Heap) (old new : Store) (i : ℕ) (b : Bool) → i < p.count → pools.AddsEntry p before after old new i b
     → entry_in i (seen old (Pool p)) ≡ None → Raises before after old new (Pool p) (Pool p)
 takes_raises p before after old new i b l t e front back h =
     adds_raises p before after old new i (t.absent (none_absent p old i l e)).1 front back h
 
 -- ---- give
-module _ (p : pool.Pool) (before after : Heap) (old new : Store) (i : ℕ) (b : Bool) (l : i < p.count) (t : pools.Gives p before after old new i b) where
+module _ (p : pool.Pool) (before after : Heap) (old new : Store) (i : ℕ) (b : Bool) (l : i < p.count) (t : pools.RemovesEntry p before after old new i b) where
   pub gives_changes : Changes before after old new (Pool p) (Pool p)
   gives_changes = elim (cases_eq (word (old.byte p.table) (4 * i)) 0) [
     | inl a ↦
@@ -222,7 +222,7 @@ held_some zero h = absurd (h refl)
 held_some (suc q) h = (q, refl)
 
 pub puts_seen : (p : pool.Pool) (heap : Heap) (old new : Store) (i k b : ℕ) → i < p.count → k < p.size → b < 256 → IsAmong heap old (Pool p)
-    → pools.Puts p heap old new i k (b ∷ []) → seen new (Pool p) ≡ with_entry i (λ n. entry_with k b) (seen old (Pool p))
+    → pools.PutsInEntry p heap old new i k (b ∷ []) → seen new (Pool p) ≡ with_entry i (λ n. entry_with k b) (seen old (Pool p))
 puts_seen p heap old new i k b l m fits among s = elim (cases_eq (word (old.byte p.table) (4 * i)) 0) [
   | inl a ↦
       let none = absent_none p old i l a in

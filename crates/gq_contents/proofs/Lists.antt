@@ -1,32 +1,32 @@
--- Lists of things.
+-- Lists of contents.
 use Rattle.std.proofs.Common.{◌≡◌, ℕ, ◌+◌, List, [], ◌∷◌, ◌++◌, append_assoc, refl, sym, ap, ◌∙◌, arith}
 use Rattle.gq_store.specs.Store.{Store}
 use Rattle.gq_heap.specs.Counts.{times}
 use Rattle.gq_heap.proofs.Lists.{times-append}
-use Rattle.gq_contents.specs.declared.thing.Thing.{Thing}
-use Rattle.gq_contents.specs.Things.{chunks, places, IsThing}
-use Rattle.gq_contents.specs.Kept.{all_chunks, all_places, AreThings}
+use Rattle.gq_contents.specs.declared.content.Content.{Content}
+use Rattle.gq_contents.specs.Contents.{chunks, places, IsContent}
+use Rattle.gq_contents.specs.Kept.{all_chunks, all_places, AreContents}
 
-pub chunks_append : (ts us : List Thing) → all_chunks (ts ++ us) ≡ all_chunks ts ++ all_chunks us
+pub chunks_append : (ts us : List Content) → all_chunks (ts ++ us) ≡ all_chunks ts ++ all_chunks us
 chunks_append [] us = refl
 chunks_append (t ∷ ts) us = ap (λ xs. chunks t ++ xs) (chunks_append ts us) ∙ sym (append_assoc (chunks t) (all_chunks ts) (all_chunks us))
 
-pub places_append : (st : Store) (ts us : List Thing) → all_places st (ts ++ us) ≡ all_places st ts ++ all_places st us
+pub places_append : (st : Store) (ts us : List Content) → all_places st (ts ++ us) ≡ all_places st ts ++ all_places st us
 places_append st [] us = refl
 places_append st (t ∷ ts) us = ap (λ ps. places st t ++ ps) (places_append st ts us) ∙ sym (append_assoc (places st t) (all_places st ts) (all_places st us))
 
-pub times_among : (x : ℕ) (front : List Thing) (t : Thing) (back : List Thing)
+pub times_among : (x : ℕ) (front : List Content) (t : Content) (back : List Content)
     → times x (all_chunks (front ++ t ∷ back)) ≡ times x (all_chunks front) + times x (chunks t) + times x (all_chunks back)
 times_among x front t back =
     let e = ap (times x) (chunks_append front (t ∷ back)) in
     omega (arith, e, times-append x (all_chunks front) (chunks t ++ all_chunks back), times-append x (chunks t) (all_chunks back))
 
-pub each_front : (st : Store) (front : List Thing) (t : Thing) (back : List Thing) → AreThings st (front ++ t ∷ back)
-    → AreThings st front × IsThing st t × AreThings st back
+pub each_front : (st : Store) (front : List Content) (t : Content) (back : List Content) → AreContents st (front ++ t ∷ back)
+    → AreContents st front × IsContent st t × AreContents st back
 each_front st [] t back h = (tt, h.0, h.1)
 each_front st (u ∷ front) t back h = let r = each_front st front t back h.1 in ((h.0, r.0), r.1, r.2)
 
-pub each_among : (st : Store) (front : List Thing) (t : Thing) (back : List Thing) → AreThings st front → IsThing st t → AreThings st back
-    → AreThings st (front ++ t ∷ back)
+pub each_among : (st : Store) (front : List Content) (t : Content) (back : List Content) → AreContents st front → IsContent st t → AreContents st back
+    → AreContents st (front ++ t ∷ back)
 each_among st [] t back f h b = (h, b)
 each_among st (u ∷ front) t back f h b = (f.0, each_among st front t back f.1 h b)

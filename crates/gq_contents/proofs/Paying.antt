@@ -1,4 +1,4 @@
--- What the calls on things of each kind pay, of both kinds.
+-- What the calls on contents of each kind pay, of both kinds.
 use Rattle.std.proofs.Common.{◌≡◌, ℕ, ◌+◌, ◌*◌, cond, List, [], ◌∷◌, ◌++◌, length, length-append, set, Option, Some, None, refl, sym, ap, ◌∙◌, arith}
 use Rattle.gq_tariff.specs.Prices.{up}
 use Rattle.gq_model.specs.declared.program.Form.TheVariants as form
@@ -10,7 +10,7 @@ use Rattle.gq_store.specs.Store.{Store, Grows, Shrinks, plus_caps, word}
 use Rattle.gq_store.proofs.Lists.{length-listed}
 use Rattle.std.proofs.lemmas.List.{length-map}
 use Rattle.gq_pool.specs.declared.pool.Pool as pool
-use Rattle.gq_pool.specs.Pools.{entries_of, held_of, entry_bytes, entry_of, places_of, Keeps as KeepsPool, Makes, Adds, Ends}
+use Rattle.gq_pool.specs.Pools.{entries_of, held_of, entry_bytes, entry_of, places_of, KeepsPool, Makes, Adds, Ends}
 use Rattle.gq_tariff.specs.declared.class.Class.{Class}
 use Rattle.gq_heap.specs.declared.heap.Heap.{Heap}
 use Rattle.gq_heap.specs.declared.heap.Place.{Place}
@@ -19,10 +19,10 @@ use Rattle.gq_heap.specs.Heap.{IsFor, Allocates, Frees, block_bytes, large_chunk
 use Rattle.gq_heap.proofs.Lists.{large_chunks-append, large_price-append}
 use Rattle.gq_heap.proofs.Rises.{is_small, is_large, plus_one}
 use Rattle.gq_sliced.specs.Slices as slices
-use Rattle.gq_contents.specs.declared.thing.Thing.{Thing}
-use Rattle.gq_contents.specs.declared.thing.Thing.TheVariants.{Empty, Block, Slice, Space, Pool}
-use Rattle.gq_contents.specs.Things.{IsSpace}
-use Rattle.gq_contents.specs.Kept.{all_places, Keeps}
+use Rattle.gq_contents.specs.declared.content.Content.{Content}
+use Rattle.gq_contents.specs.declared.content.Content.TheVariants.{Empty, Block, Slice, Space, Pool}
+use Rattle.gq_contents.specs.Contents.{IsSpace}
+use Rattle.gq_contents.specs.Kept.{all_places, KeepsContents}
 use Rattle.gq_contents.specs.Paid.{Pays}
 use Rattle.gq_contents.proofs.Beside.{opened}
 
@@ -103,7 +103,7 @@ block_frees_pays before after old new p n is f =
           (0 + class_prices Caps (peaks after)) (caps_of p) new.caps old.caps f.caps (omega (arith, caps, caps_same)));
     }
 
-module _ (before after : Heap) (old new : Store) (p : Place) (n : ℕ) (front back : List Thing) (h : Keeps before old (front ++ Empty ∷ back))
+module _ (before after : Heap) (old new : Store) (p : Place) (n : ℕ) (front back : List Content) (h : KeepsContents before old (front ++ Empty ∷ back))
     (a : Allocates before after old new n p) where
   abbrev ps : List Place
   ps = all_places old front

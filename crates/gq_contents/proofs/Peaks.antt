@@ -11,16 +11,16 @@ use Rattle.gq_heap.specs.declared.heap.Place.{Place}
 use Rattle.gq_heap.specs.Classes.{index_of}
 use Rattle.gq_heap.specs.Heap.{numbers, peaks, peaks_of, peak_of, no_bin, Allocates}
 use Rattle.gq_heap.proofs.Lists.{numbers-append}
-use Rattle.gq_contents.specs.declared.thing.Thing.{Thing}
-use Rattle.gq_contents.specs.declared.thing.Thing.TheVariants.{Empty, Block}
-use Rattle.gq_contents.specs.Things.{places}
-use Rattle.gq_contents.specs.Kept.{all_places, AreThings, SameSeen, Keeps, KeepsBeside}
+use Rattle.gq_contents.specs.declared.content.Content.{Content}
+use Rattle.gq_contents.specs.declared.content.Content.TheVariants.{Empty, Block}
+use Rattle.gq_contents.specs.Contents.{places}
+use Rattle.gq_contents.specs.Kept.{all_places, AreContents, SameSeen, KeepsContents, KeepsBeside}
 use Rattle.gq_contents.specs.Paid.{places_used, raised_by}
 use Rattle.gq_contents.proofs.Counting.{count_is}
 use Rattle.gq_contents.proofs.Lists.{each_front}
 use Rattle.gq_contents.proofs.Beside.{opened}
 
-pub counts_are : (st : Store) (ts : List Thing) (c : Class) → AreThings st ts
+pub counts_are : (st : Store) (ts : List Content) (c : Class) → AreContents st ts
     → length (numbers (index_of c) (all_places st ts)) ≡ places_used st ts (class_size c)
 counts_are st [] c are = refl
 counts_are st (t ∷ ts) c are =
@@ -32,11 +32,11 @@ counts_are st (t ∷ ts) c are =
       counts_are st ts c are.1,
     )
 
-pub counts_append : (c : ℕ) (st : Store) (ts us : List Thing) → places_used st (ts ++ us) c ≡ places_used st ts c + places_used st us c
+pub counts_append : (c : ℕ) (st : Store) (ts us : List Content) → places_used st (ts ++ us) c ≡ places_used st ts c + places_used st us c
 counts_append c st [] us = omega arith
 counts_append c st (t ∷ ts) us = omega (arith, counts_append c st ts us)
 
-pub counts_same : (c : ℕ) (old new : Store) (ts : List Thing) → SameSeen old new ts → places_used new ts c ≡ places_used old ts c
+pub counts_same : (c : ℕ) (old new : Store) (ts : List Content) → SameSeen old new ts → places_used new ts c ≡ places_used old ts c
 counts_same c old new [] h = refl
 counts_same c old new (t ∷ ts) h = omega (arith, ap (slot_places c) h.0, counts_same c old new ts h.1)
 
@@ -58,7 +58,7 @@ raised_is before after f b a e =
     ∙ ap (raised_by f classes) (sym (eight_peaks before.bins (sym (as_many before.bins) ∙ b)))
 
 -- a block that is made raises the peaks to what is in use with it
-module _ (before after : Heap) (old new : Store) (p : Place) (n : ℕ) (front back : List Thing) (h : Keeps before old (front ++ Empty ∷ back))
+module _ (before after : Heap) (old new : Store) (p : Place) (n : ℕ) (front back : List Content) (h : KeepsContents before old (front ++ Empty ∷ back))
     (kb : KeepsBeside after old new front (Block p n) back) where
   in_use : (c : Class)
       → length (numbers (index_of c) (all_places old front ++ p ∷ all_places old back)) ≡ places_used new (front ++ Block p n ∷ back) (class_size c)

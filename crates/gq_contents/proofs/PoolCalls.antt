@@ -9,8 +9,8 @@ use Rattle.gq_heap.proofs.Callers.{heap_there}
 use Rattle.gq_pool.specs.declared.pool.Pool as pool
 use Rattle.gq_pool.specs.Pools as pools
 use Rattle.gq_pool.specs.Pools.{IsTable, OwnsBoth, places_of, held_of, entry_bytes, entries_of, Adds, Removes}
-use Rattle.gq_contents.specs.declared.thing.Thing.{Thing}
-use Rattle.gq_contents.specs.declared.thing.Thing.TheVariants.{Empty, Pool}
+use Rattle.gq_contents.specs.declared.content.Content.{Content}
+use Rattle.gq_contents.specs.declared.content.Content.TheVariants.{Empty, Pool}
 use Rattle.gq_contents.specs.Kept.{all_places, KeepsBeside, Changes}
 use Rattle.gq_contents.proofs.Lists.{times_among}
 use Rattle.gq_pool.proofs.Contents.{held_is}
@@ -20,7 +20,7 @@ use Rattle.gq_contents.proofs.Calls.{times_one, times_once, times_here, by_chunk
 use Rattle.gq_heap.proofs.Moved.{IsMoved, moved, keeps_moved, owns_moved}
 use Rattle.gq_contents.proofs.Beside.{Opened, opened, beside}
 
-module _ (p : pool.Pool) (before after : Heap) (old new : Store) (front back : List Thing) (o : Opened before old front (Pool p) back) where
+module _ (p : pool.Pool) (before after : Heap) (old new : Store) (front back : List Content) (o : Opened before old front (Pool p) back) where
   abbrev held : List (Option ℕ)
   held = held_of p old
 
@@ -30,7 +30,7 @@ module _ (p : pool.Pool) (before after : Heap) (old new : Store) (front back : L
   abbrev swap : IsMoved (all_places old front ++ (places_of p.class held ++ all_places old back)) (places_of p.class held ++ others)
   swap = moved (all_places old front) (places_of p.class held) (all_places old back)
 
-  pub pool_kept : pools.Keeps p before old held others
+  pub pool_kept : pools.KeepsPool p before old held others
   pool_kept = record {
     table = o.is;
     blocks = keeps_moved before old (all_places old front ++ (places_of p.class held ++ all_places old back))
@@ -108,7 +108,7 @@ pool_removes p before after old new i a front back h =
     (a.bytes (held_of p old) (all_places old front ++ all_places old back) k)))
 
 -- bytes of an entry are set
-pub pool_puts : (p : pool.Pool) (heap : Heap) (old new : Store) (i k : ℕ) (bytes : List ℕ) → pools.Puts p heap old new i k bytes
+pub pool_puts : (p : pool.Pool) (heap : Heap) (old new : Store) (i k : ℕ) (bytes : List ℕ) → pools.PutsInEntry p heap old new i k bytes
     → Changes heap heap old new (Pool p) (Pool p)
 pool_puts p heap old new i k bytes a front back h =
     let o = opened heap old front (Pool p) back h in

@@ -1,3 +1,3 @@
-pub mod Things
+pub mod Contents
 pub mod Kept
 pub mod Paid

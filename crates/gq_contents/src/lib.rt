@@ -3,12 +3,12 @@
 //! ```rust
 //! use gq_heap::Heap;
 //! use gq_list_store::ListStore;
-//! use gq_contents::Thing;
+//! use gq_contents::Content;
 //!
 //! let mut store = ListStore::new(rt.alloc(), 4, None)?;
 //! let mut heap = Heap::new();
-//! let slice = Thing::make_slice(&mut store, 16)?;
-//! let pool = Thing::make_pool(&mut store, 16, 4)?;
+//! let slice = Content::make_slice(&mut store, 16)?;
+//! let pool = Content::make_pool(&mut store, 16, 4)?;
 //! slice.store(&mut store, &heap, 3, 7);
 //! assert!(rt; pool.take(&mut store, &mut heap, 2)?);
 //! pool.poke(&mut store, &heap, 2, 5, 9);
@@ -19,6 +19,6 @@
 //! ```
 #![tactic(auto)]
 
-mod thing;
+mod content;
 
-pub use thing::Thing;
+pub use content::Content;

@@ -10,7 +10,7 @@ use Rattle.gq_store.specs.Store.{Store, Writes, one_more, plus_caps}
 use Rattle.gq_heap.specs.declared.bin.Bin.{Bin}
 use Rattle.gq_heap.specs.internal.Chain.{IsSize, place_byte, link, IsChain, descending, Places}
 use Rattle.gq_heap.specs.Counts.{times}
-use Rattle.gq_heap.specs.internal.Bin.{KeepsBin, IsBin, Takes, Gives, HasPlace, Chains}
+use Rattle.gq_heap.specs.internal.Bin.{KeepsBin, IsBin, TakesPlace, FreesPlace, HasPlace, Chains}
 use Rattle.gq_heap.specs.Bins.{bin_price, next_peak}
 use Rattle.gq_heap.proofs.Sizes.{places_pos, places_few, full, up_between, up_next}
 use Rattle.gq_heap.proofs.Chains.{times_same, chain_head, chain_end, few, popped, pushed, grown}
@@ -81,7 +81,7 @@ module _ (z p : ℕ) (s : IsSize z p) where
 
   pub takes_old : (before after : Bin) (old new : Store) (q : ℕ) → IsBin z p before old → 0 < before.head → q ≡ before.head - 1
       → after.head ≡ link old z p q → after.count ≡ before.count + 1 → after.peak ≡ next_peak before
-      → ((i : ℕ) → i < z → place_byte new z p q i ≡ 0) → Writes old new (q / p) (q % p * z) z → Takes z p before after old new q
+      → ((i : ℕ) → i < z → place_byte new z p q i ≡ 0) → Writes old new (q / p) (q % p * z) z → TakesPlace z p before after old new q
   takes_old before after old new q is pos e head count peak zeros w =
       let price : up (z * after.peak) ≡ up (z * before.peak) = ap (λ n. up (z * n)) peak ∙ price_room before old is.used is.mine is.kept pos in
       record {
@@ -108,7 +108,7 @@ module _ (z p : ℕ) (s : IsSize z p) where
 
   pub takes_new : (before after : Bin) (old mid new : Store) (first q : ℕ) → IsBin z p before old → before.head ≡ 0 → Chains z p first old mid → q ≡ first - 1
       → after.head ≡ link mid z p q → after.count ≡ before.count + 1 → after.peak ≡ next_peak before
-      → ((i : ℕ) → i < z → place_byte new z p q i ≡ 0) → Writes mid new (q / p) (q % p * z) z → Takes z p before after old new q
+      → ((i : ℕ) → i < z → place_byte new z p q i ≡ 0) → Writes mid new (q / p) (q % p * z) z → TakesPlace z p before after old new q
   takes_new before after old mid new first q is empty ch e head count peak zeros w =
       let price : up (z * after.peak) ≡ up (z * before.peak) + 4096 = ap (λ n. up (z * n)) peak ∙ price_full before old is.used is.mine is.kept empty in
       let g = ch.grows in let v = ch.writes in
@@ -153,7 +153,7 @@ module _ (z p : ℕ) (s : IsSize z p) where
       }
 
   pub gives : (before after : Bin) (old new : Store) (q : ℕ) → after.head ≡ q + 1 → after.count ≡ before.count - 1 → after.peak ≡ before.peak
-      → link new z p q ≡ before.head → Writes old new (q / p) (q % p * z) 4 → Gives z p before after old new q
+      → link new z p q ≡ before.head → Writes old new (q / p) (q % p * z) 4 → FreesPlace z p before after old new q
   gives before after old new q head count peak stored w = record {
     kept = λ used mine rest k a. record {
       free = q ∷ k.free;
@@ -199,7 +199,7 @@ module _ (z p : ℕ) (s : IsSize z p) where
       → (before.head ≡ 0 → Chains z p first old mid)
       → after.head ≡ link mid z p (first - 1) → after.count ≡ before.count + 1 → after.peak ≡ next_peak before
       → ((i : ℕ) → i < z → place_byte new z p (first - 1) i ≡ 0) → Writes mid new ((first - 1) / p) ((first - 1) % p * z) z
-      → Takes z p before after old new (first - 1)
+      → TakesPlace z p before after old new (first - 1)
   taken before after old mid new first is same made head count peak zeros w = elim (cases_eq before.head 0) [
     | inl e ↦ takes_new before after old mid new first (first - 1) is e (made e) refl head count peak zeros w
     | inr ne ↦

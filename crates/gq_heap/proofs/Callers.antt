@@ -5,7 +5,7 @@ use Rattle.gq_store.specs.Store.{Store, SameChunk, AreThere}
 use Rattle.gq_store.specs.declared.GrowFault.{GrowFault}
 use Rattle.gq_heap.specs.declared.heap.Heap.{Heap}
 use Rattle.gq_heap.specs.declared.heap.Place.{Place}
-use Rattle.gq_heap.specs.Heap.{Keeps, Owns, Inserts, IsHeap, IsInUse, AreInUse, KeepsStill, Allocates, Frees, Puts, chunk_of, offset_of, room_of}
+use Rattle.gq_heap.specs.Heap.{KeepsPlaces, Owns, Inserts, IsHeap, IsInUse, AreInUse, KeepsStill, Allocates, Frees, PutsInBlock, chunk_of, offset_of, room_of}
 use Rattle.gq_heap.specs.declared.heap.Place.TheVariants.{Small, Large}
 use Rattle.gq_heap.specs.Classes.{index_of}
 use Rattle.gq_heap.proofs.ClassLaws.{sizes, index_below}
@@ -39,7 +39,7 @@ used_now (Err f) before after old new n h a = a
 pub heap_after : (before after : Heap) (old new : Store) (p : Place) → IsInUse before old p → Frees before after old new p → IsHeap after new
 heap_after before after old new p u f = record { places = u.rest; keeps = (f.keeps u.places u.rest u.keeps u.has).keeps }
 
-pub in_use_still : (heap : Heap) (old new : Store) (p : Place) (i : ℕ) (bytes : List ℕ) → IsInUse heap old p → Puts heap old new p i bytes
+pub in_use_still : (heap : Heap) (old new : Store) (p : Place) (i : ℕ) (bytes : List ℕ) → IsInUse heap old p → PutsInBlock heap old new p i bytes
     → IsInUse heap new p
 in_use_still heap old new p i bytes u s = record { places = u.places; rest = u.rest; keeps = (s.keeps u.places u.rest u.keeps u.has).keeps; has = u.has }
 
@@ -80,7 +80,7 @@ fewer_in_use before after old new p rest places u ins f =
 
 pub same_in_use : (heap : Heap) (old new : Store) (p : Place) (i : ℕ) (bytes : List ℕ) (rest places : List Place) → AreInUse heap old places
     → Inserts p rest places
-    → Puts heap old new p i bytes → AreInUse heap new places
+    → PutsInBlock heap old new p i bytes → AreInUse heap new places
 same_in_use heap old new p i bytes rest places u ins s =
     record { others = u.others; keeps = (s.keeps (places ++ u.others) (rest ++ u.others) u.keeps (inserts_among p rest places u.others ins)).keeps }
 
@@ -94,14 +94,15 @@ still_in_use (Err f) before after old new n places u a e =
 
 -- ---- another's calls
 -- the chunks of a heap are there
-pub heap_there : (heap : Heap) (st : Store) (places : List Place) (k : Keeps heap st places) → AreThere (Owns heap st places k) st
+pub heap_there : (heap : Heap) (st : Store) (places : List Place) (k : KeepsPlaces heap st places) → AreThere (Owns heap st places k) st
 heap_there heap st places k x o = elim o [
   | inl h ↦ omega (arith, ((k.bin h.0 h.1).places.chunk x h.2).0)
   | inr h ↦ large_exists st places x k.large h
 ]
 
 -- where no chunk of a heap changed, it keeps what it kept
-pub heap_stays : (heap : Heap) (old new : Store) (places : List Place) (k : Keeps heap old places) → ((x : ℕ) → Owns heap old places k x → SameChunk old new x)
+pub heap_stays : (heap : Heap) (old new : Store) (places : List Place) (k : KeepsPlaces heap old places)
+    → ((x : ℕ) → Owns heap old places k x → SameChunk old new x)
     → KeepsStill heap old new places (Owns heap old places k)
 heap_stays heap old new places k same =
     let still = frame_heap heap old new places k (λ x o. ((same x o).size, (same x o).bytes)) in

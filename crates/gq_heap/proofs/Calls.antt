@@ -6,8 +6,9 @@ use Rattle.gq_heap.specs.declared.heap.Place.{Place}
 use Rattle.gq_heap.specs.declared.heap.Place.TheVariants.{Small, Large}
 use Rattle.gq_heap.specs.Classes.{index_of}
 use Rattle.gq_heap.specs.declared.bin.Bin.{Bin}
-use Rattle.gq_heap.specs.Heap.{peaks_of, large_chunks, Inserts, chunk_of, offset_of, room_of, Keeps, Owns, KeepsNow, KeepsWithin, SameBytes, Allocates, Frees}
-use Rattle.gq_heap.specs.Heap.{Puts}
+use Rattle.gq_heap.specs.Heap.{peaks_of, large_chunks, Inserts, chunk_of, offset_of, room_of, KeepsPlaces, Owns, KeepsNow, KeepsWithin, SameBytes, Allocates}
+use Rattle.gq_heap.specs.Heap.{Frees}
+use Rattle.gq_heap.specs.Heap.{PutsInBlock}
 use Rattle.gq_heap.proofs.Chains.{times_same}
 use Rattle.gq_heap.proofs.Lists.{large_adds}
 use Rattle.gq_heap.proofs.ClassLaws.{index_below}
@@ -17,7 +18,7 @@ use Rattle.gq_heap.proofs.Heaps.{small_chunk, block_inside}
 use Rattle.gq_heap.proofs.Laws.{blocks_apart}
 
 -- the chunk of a block in use is the heap's
-pub block_owned : (heap : Heap) (st : Store) (places rest : List Place) (p : Place) (k : Keeps heap st places) → Inserts p rest places
+pub block_owned : (heap : Heap) (st : Store) (places rest : List Place) (p : Place) (k : KeepsPlaces heap st places) → Inserts p rest places
     → Owns heap st places k (chunk_of p)
 block_owned heap st places rest (Small c q) k ins = inl (index_of c, index_below c, (small_chunk heap st places rest c q k ins).1)
 block_owned heap st places rest (Large x n) k ins = inr (omega (arith, (large_adds x n rest places ins).each x, times_same x (large_chunks rest)))
@@ -27,7 +28,7 @@ as_many [] = refl
 as_many (b ∷ bs) = ap suc (as_many bs)
 
 module _ (before after : Heap) (old new : Store) (n : ℕ) (p : Place) (m : Made before after old new n p) where
-  made_now : (places more : List Place) (k : Keeps before old places) → Inserts p places more → KeepsNow after old new more (Owns before old places k)
+  made_now : (places more : List Place) (k : KeepsPlaces before old places) → Inserts p places more → KeepsNow after old new more (Owns before old places k)
   made_now places more k ins =
       let also = m.keeps places more k ins in
       record {
@@ -41,7 +42,7 @@ module _ (before after : Heap) (old new : Store) (n : ℕ) (p : Place) (m : Made
             record { size = m.alone.sizes x there; bytes = λ i. m.alone.bytes x i there (λ e a b. apart e) };
       }
 
-  made_others : (places : List Place) → Keeps before old places → SameBytes old new places
+  made_others : (places : List Place) → KeepsPlaces before old places → SameBytes old new places
   made_others places k q others ins j below =
       let more = (m.keeps places (p ∷ places) k ([], places, refl, refl)).keeps in
       let inside = block_inside before old q (record { places = places; rest = others; keeps = k; has = ins }) in
@@ -64,7 +65,7 @@ module _ (before after : Heap) (old new : Store) (n : ℕ) (p : Place) (m : Made
   }
 
 module _ (before after : Heap) (old new : Store) (p : Place) (f : Freed before after old new p) where
-  freed_now : (places rest : List Place) (k : Keeps before old places) → Inserts p rest places → KeepsWithin after old new rest (Owns before old places k)
+  freed_now : (places rest : List Place) (k : KeepsPlaces before old places) → Inserts p rest places → KeepsWithin after old new rest (Owns before old places k)
   freed_now places rest k ins =
       let kept = f.keeps places rest k ins in
       record {
@@ -76,7 +77,7 @@ module _ (before after : Heap) (old new : Store) (p : Place) (f : Freed before a
             record { size = same; bytes = λ i. f.bytes x i (omega arith) (λ e a b. apart e) };
       }
 
-  freed_others : (places rest : List Place) → Keeps before old places → Inserts p rest places → SameBytes old new rest
+  freed_others : (places rest : List Place) → KeepsPlaces before old places → Inserts p rest places → SameBytes old new rest
   freed_others places rest k ins q others ins' j below =
       let kept = (f.keeps places rest k ins).keeps in
       let inside = block_inside after new q (record { places = rest; rest = others; keeps = kept; has = ins' }) in
@@ -95,7 +96,7 @@ module _ (before after : Heap) (old new : Store) (p : Place) (f : Freed before a
   }
 
 module _ (heap : Heap) (old new : Store) (p : Place) (i : ℕ) (bytes : List ℕ) (inside : i + length bytes ≤ room_of p) (w : Written heap old new p i bytes) where
-  written_now : (places rest : List Place) (k : Keeps heap old places) → Inserts p rest places → KeepsWithin heap old new places (Owns heap old places k)
+  written_now : (places rest : List Place) (k : KeepsPlaces heap old places) → Inserts p rest places → KeepsWithin heap old new places (Owns heap old places k)
   written_now places rest k ins =
       let kept = w.keeps places rest k ins in
       record {
@@ -106,7 +107,7 @@ module _ (heap : Heap) (old new : Store) (p : Place) (i : ℕ) (bytes : List ℕ
             record { size = w.alone.size x; bytes = λ j. w.alone.elsewhere x j (λ e a b. apart e) };
       }
 
-  pub puts : Puts heap old new p i bytes
+  pub puts : PutsInBlock heap old new p i bytes
   puts = record {
     keeps = written_now;
     put = record {

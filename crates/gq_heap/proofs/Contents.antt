@@ -6,7 +6,7 @@ use Rattle.gq_store.specs.Store.{Store, word}
 use Rattle.gq_store.proofs.Lists.{get_or-listed, listed_same, listed_zero, listed_one, listed_put, listed_word}
 use Rattle.gq_heap.specs.declared.heap.Heap.{Heap}
 use Rattle.gq_heap.specs.declared.heap.Place.{Place}
-use Rattle.gq_heap.specs.Heap.{Inserts, Allocates, Puts, SameBytes, room_of, byte_of, block_bytes}
+use Rattle.gq_heap.specs.Heap.{Inserts, Allocates, PutsInBlock, SameBytes, room_of, byte_of, block_bytes}
 
 -- what is read
 pub block_byte : (st : Store) (p : Place) (n i : ℕ) → i < n → get_or (block_bytes st p n) i 0 ≡ byte_of st p i
@@ -21,11 +21,11 @@ pub block_made : (before after : Heap) (old new : Store) (m n : ℕ) (p : Place)
 block_made before after old new m n p l a = listed_zero n (byte_of new p) (λ i below. a.zero i (omega arith))
 
 -- what some bytes, or one, that are put there change
-pub block_put : (heap : Heap) (old new : Store) (p : Place) (n i : ℕ) (bytes : List ℕ) → i + length bytes ≤ n → Puts heap old new p i bytes
+pub block_put : (heap : Heap) (old new : Store) (p : Place) (n i : ℕ) (bytes : List ℕ) → i + length bytes ≤ n → PutsInBlock heap old new p i bytes
     → block_bytes new p n ≡ take i (block_bytes old p n) ++ bytes ++ drop (i + length bytes) (block_bytes old p n)
 block_put heap old new p n i bytes l w = listed_put n (byte_of old p) (byte_of new p) i bytes l w.put
 
-pub block_set : (heap : Heap) (old new : Store) (p : Place) (n i b : ℕ) → i < n → Puts heap old new p i (b ∷ [])
+pub block_set : (heap : Heap) (old new : Store) (p : Place) (n i b : ℕ) → i < n → PutsInBlock heap old new p i (b ∷ [])
     → block_bytes new p n ≡ set (block_bytes old p n) i b
 block_set heap old new p n i b l w = listed_one n (byte_of old p) (byte_of new p) i b l w.put
 

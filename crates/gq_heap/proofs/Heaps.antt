@@ -12,9 +12,10 @@ use Rattle.gq_heap.specs.declared.heap.Place.{Place}
 use Rattle.gq_heap.specs.declared.heap.Place.TheVariants.{Small, Large}
 use Rattle.gq_heap.specs.Counts.{times}
 use Rattle.gq_heap.specs.Classes.{index_of, size_at, places_at, class_for}
-use Rattle.gq_heap.specs.internal.Bin.{KeepsBin, KeepsMore, Takes, Gives, HasPlace}
+use Rattle.gq_heap.specs.internal.Bin.{KeepsBin, KeepsMore, TakesPlace, FreesPlace, HasPlace}
 use Rattle.gq_heap.specs.Bins.{bin_price, next_peak}
-use Rattle.gq_heap.specs.Heap.{no_bin, bin_at, numbers, large_chunks, Inserts, chunk_of, offset_of, room_of, Keeps, Owns, IsInUse, rise, rise_caps, peaks_of}
+use Rattle.gq_heap.specs.Heap.{no_bin, bin_at, numbers, large_chunks, Inserts, chunk_of, offset_of, room_of, KeepsPlaces, Owns, IsInUse, rise, rise_caps}
+use Rattle.gq_heap.specs.Heap.{peaks_of}
 use Rattle.gq_heap.specs.Heap.{peak_of, count_of}
 use Rattle.gq_heap.proofs.Parts.{KeepsAlso, KeepsRest, Made, Freed, Written}
 use Rattle.gq_heap.proofs.Charges.{peaks_stay}
@@ -35,8 +36,8 @@ module _ (before after : Heap) (old new : Store) (c : Class) (s : Bin) (q : ℕ)
   bin_other : (j : ℕ) → (j ≡ index_of c → ⊥) → bin_at after j ≡ bin_at before j
   bin_other j ne = ap (λ ss. get_or ss j no_bin) bins ∙ get_or-set_other before.bins (index_of c) j s no_bin ne
 
-  module _ (t : Takes (size_at (index_of c)) (places_at (index_of c)) (bin_at before (index_of c)) s old new q)
-      (places more : List Place) (k : Keeps before old places) (ins : Inserts (Small c q) places more) where
+  module _ (t : TakesPlace (size_at (index_of c)) (places_at (index_of c)) (bin_at before (index_of c)) s old new q)
+      (places more : List Place) (k : KeepsPlaces before old places) (ins : Inserts (Small c q) places more) where
     abbrev the : ℕ
     the = index_of c
 
@@ -139,7 +140,7 @@ module _ (before after : Heap) (old new : Store) (c : Class) (s : Bin) (q : ℕ)
 -- each peak is raised to what is in use, where a place of a class comes
 raised_small : (before after : Heap) (old new : Store) (c : Class) (s : Bin) (q : ℕ) → length before.bins ≡ 8 → after.bins ≡ set before.bins (index_of c) s
     → after.large ≡ before.large → after.large_count ≡ before.large_count → s.peak ≡ next_peak (bin_at before (index_of c))
-    → (places more : List Place) → Keeps before old places → Inserts (Small c q) places more → (d : Class)
+    → (places more : List Place) → KeepsPlaces before old places → Inserts (Small c q) places more → (d : Class)
     → peak_of after d ≡ max (peak_of before d) (count_of d more)
 raised_small before after old new c s q eight bins large count peak places more k ins d = elim (cases_eq (index_of d) (index_of c)) [
   | inl e ↦
@@ -157,7 +158,7 @@ raised_small before after old new c s q eight bins large count peak places more 
 pub allocates_small : (before after : Heap) (old new : Store) (c : Class) (s : Bin) (n q : ℕ) → n ≤ 2048 → class_size c ≡ size_for n
     → index_of c ≡ class_for n → length before.bins ≡ 8
     → after.bins ≡ set before.bins (index_of c) s → after.large ≡ before.large → after.large_count ≡ before.large_count
-    → Takes (size_at (index_of c)) (places_at (index_of c)) (bin_at before (index_of c)) s old new q
+    → TakesPlace (size_at (index_of c)) (places_at (index_of c)) (bin_at before (index_of c)) s old new q
     → Made before after old new n (Small c q)
 allocates_small before after old new c s n q small fits class eight bins large count t =
     let lt : index_of c < 8 = index_below c in
@@ -182,7 +183,7 @@ allocates_small before after old new c s n q small fits class eight bins large c
     }
 
 -- ---- where a block lies
-pub small_chunk : (heap : Heap) (st : Store) (places rest : List Place) (c : Class) (q : ℕ) (k : Keeps heap st places) → Inserts (Small c q) rest places
+pub small_chunk : (heap : Heap) (st : Store) (places rest : List Place) (c : Class) (q : ℕ) (k : KeepsPlaces heap st places) → Inserts (Small c q) rest places
     → (0 < times q (numbers (index_of c) places)) × (0 < times (q / places_at (index_of c)) (k.mine (index_of c))) ×
     (st.size (q / places_at (index_of c)) ≡ 4096)
 small_chunk heap st places rest c q k ins =
@@ -205,7 +206,7 @@ pub offset_small : (c : Class) (q : ℕ) → q % places_at (index_of c) * size_a
 offset_small c q = place_inside (size_at (index_of c)) (places_at (index_of c)) (sizes (index_of c) (index_below c)) q
 
 -- ---- other chunks, or bytes of a block in use, changed
-module _ (heap : Heap) (old new : Store) (places : List Place) (k : Keeps heap old places) where
+module _ (heap : Heap) (old new : Store) (places : List Place) (k : KeepsPlaces heap old places) where
   -- the chunks of the heap are as they were
   pub frame_heap : ((x : ℕ) → Owns heap old places k x → (new.size x ≡ old.size x) × ((i : ℕ) → new.byte x i ≡ old.byte x i))
       → KeepsRest heap new places (Owns heap old places k)
@@ -313,8 +314,8 @@ has_small heap st c q z p i e f d h =
 
 module _ (before after : Heap) (old new : Store) (c : Class) (s : Bin) (q : ℕ) (eight : length before.bins ≡ 8)
     (bins : after.bins ≡ set before.bins (index_of c) s) (large : after.large ≡ before.large) (count : after.large_count ≡ before.large_count)
-    (t : Gives (size_at (index_of c)) (places_at (index_of c)) (bin_at before (index_of c)) s old new q) where
-  pub give_small : (places rest : List Place) (k : Keeps before old places) → Inserts (Small c q) rest places
+    (t : FreesPlace (size_at (index_of c)) (places_at (index_of c)) (bin_at before (index_of c)) s old new q) where
+  pub give_small : (places rest : List Place) (k : KeepsPlaces before old places) → Inserts (Small c q) rest places
       → KeepsRest after new rest (Owns before old places k)
   give_small places rest k ins =
       let the = index_of c in

@@ -9,7 +9,7 @@ use Rattle.gq_heap.specs.declared.heap.Place.TheVariants.{Large}
 use Rattle.gq_heap.specs.Counts.{times}
 use Rattle.gq_heap.specs.Classes.{index_of, size_at, places_at}
 use Rattle.gq_heap.specs.internal.Bin.{KeepsBin}
-use Rattle.gq_heap.specs.Heap.{no_bin, bin_at, numbers, large_chunks, Inserts, Keeps, Owns, IsInUse, class_rise, rise, peaks_of}
+use Rattle.gq_heap.specs.Heap.{no_bin, bin_at, numbers, large_chunks, Inserts, KeepsPlaces, Owns, IsInUse, class_rise, rise, peaks_of}
 use Rattle.gq_heap.proofs.Rises.{is_large, plus_one, caps_large}
 use Rattle.gq_heap.proofs.Parts.{price_from, KeepsAlso, KeepsRest, Made, Freed}
 use Rattle.gq_heap.proofs.ClassLaws.{index_below}
@@ -24,7 +24,7 @@ rise_large heap n h =
     ap (λ b. cond b (up n) (class_rise heap n)) (is_large n h)
 
 -- there is room for one large block more, since each has a chunk of its own
-pub large_room : (heap : Heap) (old new : Store) (places : List Place) → Keeps heap old places → (x n : ℕ) → Grows old new x n
+pub large_room : (heap : Heap) (old new : Store) (places : List Place) → KeepsPlaces heap old places → (x n : ℕ) → Grows old new x n
     → (heap.large_count < 1048576) × (heap.large + 67108864 ≤ 67108864 * 1048576)
 large_room heap old new places k x n g =
     let none : times x (large_chunks places) ≡ 0 = elim (cases_lt 0 (times x (large_chunks places))) [
@@ -51,7 +51,7 @@ large_room heap old new places k x n g =
 
 module _ (before after : Heap) (old new : Store) (x n : ℕ) (big : (2048 < n) × (n ≤ 67108864)) (g : Grows old new x (up n))
     (bins : after.bins ≡ before.bins) (large : after.large ≡ before.large + up n) (count : after.large_count ≡ before.large_count + 1) where
-  pub grow_large : (places more : List Place) (k : Keeps before old places) → Inserts (Large x n) places more
+  pub grow_large : (places more : List Place) (k : KeepsPlaces before old places) → Inserts (Large x n) places more
       → KeepsAlso after old new (Large x n) more (Owns before old places k)
   grow_large places more k ins =
       let a = large_adds x n places more ins in
@@ -120,7 +120,7 @@ module _ (before after : Heap) (old new : Store) (x n : ℕ) (big : (2048 < n) �
 
 module _ (before after : Heap) (old new : Store) (x n : ℕ) (g : Shrinks old new x)
     (bins : after.bins ≡ before.bins) (large : after.large ≡ before.large - up n) (count : after.large_count ≡ before.large_count - 1) where
-  pub shrink_large : (places rest : List Place) (k : Keeps before old places) → Inserts (Large x n) rest places
+  pub shrink_large : (places rest : List Place) (k : KeepsPlaces before old places) → Inserts (Large x n) rest places
       → KeepsRest after new rest (Owns before old places k)
   shrink_large places rest k ins =
       let a = large_adds x n rest places ins in

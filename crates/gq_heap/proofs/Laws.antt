@@ -11,7 +11,7 @@ use Rattle.gq_heap.specs.internal.Chain.{Adds}
 use Rattle.gq_heap.specs.Classes.{index_of, size_at, places_at}
 use Rattle.gq_tariff.specs.Prices.{up}
 use Rattle.gq_heap.specs.internal.Bin.{KeepsBin}
-use Rattle.gq_heap.specs.Heap.{no_bin, numbers, large_chunks, Inserts, chunk_of, offset_of, room_of, Keeps}
+use Rattle.gq_heap.specs.Heap.{no_bin, numbers, large_chunks, Inserts, chunk_of, offset_of, room_of, KeepsPlaces}
 use Rattle.gq_heap.proofs.Sizes.{places_apart}
 use Rattle.gq_heap.proofs.Chains.{times_same}
 use Rattle.gq_heap.proofs.Lists.{small_same, small_other, small_large, large_adds, large_numbers}
@@ -44,7 +44,7 @@ empty_bin z p st = record {
   charge = up_none z ∙ omega arith;
 }
 
-pub new_keeps : (heap : Heap) → heap.bins ≡ eight → heap.large ≡ 0 → heap.large_count ≡ 0 → (st : Store) → Keeps heap st []
+pub new_keeps : (heap : Heap) → heap.bins ≡ eight → heap.large ≡ 0 → heap.large_count ≡ 0 → (st : Store) → KeepsPlaces heap st []
 new_keeps heap bins large count st = record {
   mine = λ i. [];
   bin = λ i l. rw (ap (λ ss. get_or ss i no_bin) bins ∙ get_eight i) (empty_bin (size_at i) (places_at i) st);
@@ -57,7 +57,8 @@ new_keeps heap bins large count st = record {
 }
 
 -- two blocks in use have no byte in common
-pub blocks_apart : (heap : Heap) (st : Store) (places rest : List Place) (p q : Place) (others : List Place) → Keeps heap st places → Inserts p rest places
+pub blocks_apart : (heap : Heap) (st : Store) (places rest : List Place) (p q : Place) (others : List Place) → KeepsPlaces heap st places
+    → Inserts p rest places
     → Inserts q others rest
     → (i j : ℕ) → i < room_of p → j < room_of q → chunk_of p ≡ chunk_of q → offset_of p + i ≡ offset_of q + j → ⊥
 blocks_apart heap st places rest (Small c a) (Small d b) others k ins ins' i j below below' chunk offset =

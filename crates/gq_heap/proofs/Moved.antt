@@ -8,7 +8,7 @@ use Rattle.gq_heap.specs.declared.heap.Place.TheVariants.{Small, Large}
 use Rattle.gq_heap.specs.Counts.{times}
 use Rattle.gq_heap.specs.Classes.{size_at, places_at}
 use Rattle.gq_heap.specs.internal.Bin.{KeepsBin}
-use Rattle.gq_heap.specs.Heap.{bin_at, numbers, large_chunks, large_price, AreLarge, Keeps, Owns}
+use Rattle.gq_heap.specs.Heap.{bin_at, numbers, large_chunks, large_price, AreLarge, KeepsPlaces, Owns}
 use Rattle.gq_heap.proofs.Lists.{times-append, numbers-append, large_chunks-append, large_price-append}
 
 are_left : (st : Store) (ps qs : List Place) → AreLarge st (ps ++ qs) → AreLarge st ps
@@ -141,7 +141,7 @@ bin_moved z p bin st used used' mine same long k =
       charge = k.charge;
     }
 
-unfoldable pub keeps_moved : (heap : Heap) (st : Store) (ps qs : List Place) → IsMoved ps qs → Keeps heap st ps → Keeps heap st qs
+unfoldable pub keeps_moved : (heap : Heap) (st : Store) (ps qs : List Place) → IsMoved ps qs → KeepsPlaces heap st ps → KeepsPlaces heap st qs
 keeps_moved heap st ps qs m k = record {
   mine = k.mine;
   bin = λ i lt. bin_moved (size_at i) (places_at i) (bin_at heap i) st (numbers i ps) (numbers i qs) (k.mine i) (m.numbers_same i)
@@ -155,12 +155,12 @@ keeps_moved heap st ps qs m k = record {
 }
 
 -- the chunks of the heap are the same
-pub owns_moved : (heap : Heap) (st : Store) (ps qs : List Place) (m : IsMoved ps qs) (k : Keeps heap st ps) (x : ℕ)
+pub owns_moved : (heap : Heap) (st : Store) (ps qs : List Place) (m : IsMoved ps qs) (k : KeepsPlaces heap st ps) (x : ℕ)
     → Owns heap st qs (keeps_moved heap st ps qs m k) x → Owns heap st ps k x
 unfolding keeps_moved
 owns_moved heap st ps qs m k x o = elim o [ inl h ↦ inl h | inr h ↦ inr (omega (arith, h, m.chunks_same x)) ]
 
-pub owned_moved : (heap : Heap) (st : Store) (ps qs : List Place) (m : IsMoved ps qs) (k : Keeps heap st ps) (x : ℕ) → Owns heap st ps k x
+pub owned_moved : (heap : Heap) (st : Store) (ps qs : List Place) (m : IsMoved ps qs) (k : KeepsPlaces heap st ps) (x : ℕ) → Owns heap st ps k x
     → Owns heap st qs (keeps_moved heap st ps qs m k) x
 unfolding keeps_moved
 owned_moved heap st ps qs m k x o = elim o [ inl h ↦ inl h | inr h ↦ inr (omega (arith, h, m.chunks_same x)) ]

@@ -81,7 +81,7 @@ IsFor n (Large k m) = (2048 < n) × (m ≡ n)
 -- THE RELATION
 
 -- Heap and store keep these places in use. What their bytes are, `byte_of` says.
-pub record Keeps (heap : Heap) (st : Store) (places : List Place) : Type 0 where
+pub record KeepsPlaces (heap : Heap) (st : Store) (places : List Place) : Type 0 where
   -- the chunks of each class
   pub mine : ℕ → List ℕ
   pub bin : (i : ℕ) → i < 8 → KeepsBin (size_at i) (places_at i) (bin_at heap i) st (numbers i places) (mine i)
@@ -93,25 +93,25 @@ pub record Keeps (heap : Heap) (st : Store) (places : List Place) : Type 0 where
   pub large_count : heap.large_count ≡ length (large_chunks places)
 
 -- the chunk k is the heap's
-abbrev pub Owns : (heap : Heap) (st : Store) (places : List Place) → Keeps heap st places → ℕ → Type 0
+abbrev pub Owns : (heap : Heap) (st : Store) (places : List Place) → KeepsPlaces heap st places → ℕ → Type 0
 Owns heap st places keeps k = ((i : ℕ) × (i < 8) × (0 < times k (keeps.mine i))) ⊎ (0 < times k (large_chunks places))
 
 -- They keep some places.
 pub record IsHeap (heap : Heap) (st : Store) : Type 0 where
   pub places : List Place
-  pub keeps : Keeps heap st places
+  pub keeps : KeepsPlaces heap st places
 
 -- They keep some places, of which p is one.
 pub record IsInUse (heap : Heap) (st : Store) (p : Place) : Type 0 where
   pub places : List Place
   pub rest : List Place
-  pub keeps : Keeps heap st places
+  pub keeps : KeepsPlaces heap st places
   pub has : Inserts p rest places
 
 -- They keep these places, and perhaps others.
 pub record AreInUse (heap : Heap) (st : Store) (places : List Place) : Type 0 where
   pub others : List Place
-  pub keeps : Keeps heap st (places ++ others)
+  pub keeps : KeepsPlaces heap st (places ++ others)
 
 -- PRICES
 
@@ -163,13 +163,13 @@ count_of c places = length (numbers (index_of c) places)
 
 -- The heap keeps these places now. A chunk that it owns was its own or was not there, and it spares the chunks that it did not own.
 pub record KeepsNow (after : Heap) (old new : Store) (places : List Place) (owned : ℕ → Type 0) : Type 0 where
-  pub keeps : Keeps after new places
+  pub keeps : KeepsPlaces after new places
   pub owns : TakesNew owned (Owns after new places keeps) old
   pub spares : Spares owned old new
 
 -- The heap keeps these places now, in chunks that it owned, and spares the chunks that it did not own.
 pub record KeepsWithin (after : Heap) (old new : Store) (places : List Place) (owned : ℕ → Type 0) : Type 0 where
-  pub keeps : Keeps after new places
+  pub keeps : KeepsPlaces after new places
   pub owns : (k : ℕ) → Owns after new places keeps k → owned k
   pub spares : Spares owned old new
 
@@ -179,31 +179,31 @@ SameBytes old new places = (p : Place) (rest : List Place) → Inserts p rest pl
 
 -- The heap keeps its places and their bytes, in chunks that it owned.
 pub record KeepsStill (heap : Heap) (old new : Store) (places : List Place) (owned : ℕ → Type 0) : Type 0 where
-  pub keeps : Keeps heap new places
+  pub keeps : KeepsPlaces heap new places
   pub owns : (k : ℕ) → Owns heap new places keeps k → owned k
   pub bytes : SameBytes old new places
 
 -- A block of n bytes was made at p.
 pub record Allocates (before after : Heap) (old new : Store) (n : ℕ) (p : Place) : Type 0 where
   -- whatever places were in use, p wasn't one of them and is in use beside them now
-  pub keeps : (places more : List Place) (k : Keeps before old places) → Inserts p places more → KeepsNow after old new more (Owns before old places k)
+  pub keeps : (places more : List Place) (k : KeepsPlaces before old places) → Inserts p places more → KeepsNow after old new more (Owns before old places k)
   pub kind : IsFor n p
   pub zero : (i : ℕ) → i < room_of p → byte_of new p i ≡ 0
-  pub others : (places : List Place) → Keeps before old places → SameBytes old new places
+  pub others : (places : List Place) → KeepsPlaces before old places → SameBytes old new places
   pub paid : new.left + rise before n ≡ old.left
   pub caps : old.caps ≡ plus_caps (rise_caps before n) new.caps
   -- there is a peak for each class
   pub eight : (length (peaks before) ≡ 8) × (length (peaks after) ≡ 8)
   -- each peak is raised to what is in use now
-  pub peaks : (places more : List Place) → Keeps before old places → Inserts p places more → (c : Class)
+  pub peaks : (places more : List Place) → KeepsPlaces before old places → Inserts p places more → (c : Class)
       → peak_of after c ≡ max (peak_of before c) (count_of c more)
   pub charge : charge after ≡ charge before + rise before n
   pub charge_caps : charge_caps after ≡ charge_caps before + rise_caps before n
 
 -- The block p is free.
 pub record Frees (before after : Heap) (old new : Store) (p : Place) : Type 0 where
-  pub keeps : (places rest : List Place) (k : Keeps before old places) → Inserts p rest places → KeepsWithin after old new rest (Owns before old places k)
-  pub others : (places rest : List Place) → Keeps before old places → Inserts p rest places → SameBytes old new rest
+  pub keeps : (places rest : List Place) (k : KeepsPlaces before old places) → Inserts p rest places → KeepsWithin after old new rest (Owns before old places k)
+  pub others : (places rest : List Place) → KeepsPlaces before old places → Inserts p rest places → SameBytes old new rest
   pub paid : new.left ≡ old.left + price_of p
   pub caps : new.caps ≡ plus_caps (caps_of p) old.caps
   pub charge : charge after + price_of p ≡ charge before
@@ -211,9 +211,9 @@ pub record Frees (before after : Heap) (old new : Store) (p : Place) : Type 0 wh
   pub peaks : peaks after ≡ peaks before
 
 -- These bytes stand in the block p from i on now, and no other byte of a block changed.
-pub record Puts (heap : Heap) (old new : Store) (p : Place) (i : ℕ) (bytes : List ℕ) : Type 0 where
-  pub keeps : (places rest : List Place) (k : Keeps heap old places) → Inserts p rest places → KeepsWithin heap old new places (Owns heap old places k)
+pub record PutsInBlock (heap : Heap) (old new : Store) (p : Place) (i : ℕ) (bytes : List ℕ) : Type 0 where
+  pub keeps : (places rest : List Place) (k : KeepsPlaces heap old places) → Inserts p rest places → KeepsWithin heap old new places (Owns heap old places k)
   pub put : PutsBytes (byte_of old p) (byte_of new p) i bytes
-  pub others : (places rest : List Place) → Keeps heap old places → Inserts p rest places → SameBytes old new rest
+  pub others : (places rest : List Place) → KeepsPlaces heap old places → Inserts p rest places → SameBytes old new rest
   pub left : new.left ≡ old.left
   pub caps : new.caps ≡ old.caps

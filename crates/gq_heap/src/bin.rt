@@ -2,7 +2,7 @@
 ghost use Rattle.std.specs.Prelude.{◌≡◌, ℕ, ◌+◌, ◌-◌, ◌*◌, ◌/◌, ◌%◌, ◌^◌, ◌<◌, ◌≤◌, ◌↔◌, Ok, Some, IfOk, OnErr, IsErrOf};
 ghost use Rattle.gq_store.specs.Store.{Store};
 ghost use Rattle.gq_heap.specs.internal.Chain.{IsSize};
-ghost use Rattle.gq_heap.specs.internal.Bin.{IsBin, HasPlace, Takes, Gives, Chains};
+ghost use Rattle.gq_heap.specs.internal.Bin.{IsBin, HasPlace, TakesPlace, FreesPlace, Chains};
 ghost use Rattle.gq_heap.specs.Bins.{bin_price, next_peak};
 
 use crate::chain::{chain_all, pop, push};
@@ -38,7 +38,7 @@ fn first_free<S: ByteStore>(
     Ok(chain_all(store, chunk, size, places))
 }
 
-/// Takes a free place, which reads 0.
+/// TakesPlace a free place, which reads 0.
 pub fn take<S: ByteStore>(
     store: &mut S,
     bin: &mut Bin,
@@ -49,7 +49,7 @@ pub fn take<S: ByteStore>(
     requires size { IsSize size places }
     requires bits { (bits ≤ 8) × (places ≡ 2 ^ bits) }
     requires kept { IsBin size places bin.old (S.state store.old) }
-    ensures ok { IfOk result (λ q. Takes size places bin.old bin.new (S.state store.old) (S.state store.new) q) }
+    ensures ok { IfOk result (λ q. TakesPlace size places bin.old bin.new (S.state store.old) (S.state store.new) q) }
     ensures exceeded { IsErrOf result GrowFault.Exceeded ↔ ((S.state store.old).left + bin_price size bin.old.peak < bin_price size (next_peak bin.old)) }
     ensures caps { IsErrOf result GrowFault.CapsExceeded ↔ ((bin_price size bin.old.peak < bin_price size (next_peak bin.old))
         × (bin_price size (next_peak bin.old) ≤ (S.state store.old).left + bin_price size bin.old.peak)
@@ -77,7 +77,7 @@ pub fn give<S: ByteStore>(
     requires size { IsSize size places }
     requires bits { (bits ≤ 8) × (places ≡ 2 ^ bits) }
     requires kept { HasPlace size places bin.old (S.state store.old) place }
-    ensures gives { Gives size places bin.old bin.new (S.state store.old) (S.state store.new) place }
+    ensures gives { FreesPlace size places bin.old bin.new (S.state store.old) (S.state store.new) place }
     ensures rest { S.same_rest store.old store.new }
 {
     bin.head = push(store, size, places, bits, bin.head, place);

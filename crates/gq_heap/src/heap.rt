@@ -73,11 +73,12 @@ impl Heap {
     ghost use Rattle.gq_tariff.specs.declared.class.Class.{Class};
     ghost use Rattle.gq_model.specs.machine.Program.{spelled};
     ghost use Rattle.gq_store.specs.Store.{Store, word};
-    ghost use Rattle.gq_heap.specs.Heap.{Keeps, IsHeap, IsInUse, Allocates, Frees, Puts, peaks, peak_of, rise, charge, charge_caps, room_of, byte_of};
+    ghost use Rattle.gq_heap.specs.Heap.{KeepsPlaces, IsHeap, IsInUse, Allocates, Frees, PutsInBlock, peaks, peak_of, rise, charge, charge_caps, room_of};
+    ghost use Rattle.gq_heap.specs.Heap.{byte_of};
 
     /// A heap without a block, over any store.
     pub fn new() -> Heap
-        ensures keeps { (st : Store) → Keeps result st [] }
+        ensures keeps { (st : Store) → KeepsPlaces result st [] }
         ensures kept { (st : Store) → IsHeap result st }
         ensures charge { charge result ≡ 0 }
         ensures charge_caps { charge_caps result ≡ 0 }
@@ -246,7 +247,7 @@ impl Heap {
     pub fn store<S: ByteStore>(&self, store: &mut S, place: Place, index: u32, value: u8)
         requires kept { IsInUse self.now (S.state store.old) place }
         requires inside { index < room_of place }
-        ensures puts { Puts self.now (S.state store.old) (S.state store.new) place index (value ∷ []) }
+        ensures puts { PutsInBlock self.now (S.state store.old) (S.state store.new) place index (value ∷ []) }
         ensures in_use { IsInUse self.now (S.state store.new) place }
         ensures rest { S.same_rest store.old store.new }
     {
@@ -266,7 +267,7 @@ impl Heap {
     pub fn store4<S: ByteStore>(&self, store: &mut S, place: Place, index: u32, value: u32)
         requires kept { IsInUse self.now (S.state store.old) place }
         requires inside { index + 4 ≤ room_of place }
-        ensures puts { Puts self.now (S.state store.old) (S.state store.new) place index (spelled 4 value) }
+        ensures puts { PutsInBlock self.now (S.state store.old) (S.state store.new) place index (spelled 4 value) }
         ensures in_use { IsInUse self.now (S.state store.new) place }
         ensures rest { S.same_rest store.old store.new }
     {

@@ -17,7 +17,7 @@ use Rattle.gq_model.specs.declared.fault.Wrong.TheVariants.{MissingOperand, Wron
 use Rattle.gq_model.specs.machine.Program.{combined, bytes_of, little, spelled}
 use Rattle.gq_model.specs.machine.Scenario.{System, open_caps, upgrade_caps, interface_in}
 use Rattle.gq_model.specs.machine.World.{Slot, Empty, Bytes, Pool, Link, Waiting, Spot, In_leaf, In_session, In_object, Session, Ask, Ask_open, Ask_upgrade}
-use Rattle.gq_model.specs.machine.World.{Ask_close, Ask_call, Hand, Leaf, World, session_at, slot_at, with_leaf, with_session, with_slot, spot_of}
+use Rattle.gq_model.specs.machine.World.{Ask_close, Ask_call, Current, Leaf, World, session_at, slot_at, with_leaf, with_session, with_slot, spot_of}
 use Rattle.gq_model.specs.machine.Sums.{paid, with_peaks}
 use Rattle.gq_model.specs.machine.Doing.{Doing, Quiet, Line, Stepped, when, pop, push, on_stack, need, fill, standing, with_operands, settled, if_paid}
 use Rattle.gq_model.specs.machine.Memory.{behind, bytes_spot, bytes_in, bytes_at, pool_in, pool_at, make, free, is_memory, is_later}
@@ -29,13 +29,13 @@ use Rattle.gq_model.specs.machine.Step.{round_of, instruct}
 use Rattle.gq_model.proofs.Small.{some_same, none_some}
 use Rattle.gq_laws.specs.Shapes.{Each}
 use Rattle.gq_laws.specs.Links.{Leads, naming_in, outline, outline_in, stance, links, Belongs, AreLinked}
-use Rattle.gq_laws.specs.Statements.{Takes}
+use Rattle.gq_laws.specs.Statements.{TakesLeaf}
 use Rattle.gq_laws.proofs.linking.Quiet.{stood}
 use Rattle.gq_laws.proofs.linking.Worlds.{slot_requests}
 use Rattle.gq_laws.proofs.linking.Accepted.{stand_slots}
 use Rattle.gq_laws.specs.Separation.{own_session, IsApart}
 use Rattle.gq_laws.proofs.Stepping.{outlined}
-use Rattle.gq_laws.specs.internal.Renamed.{renamed_slot, renamed_spot, renamed_hand, renamed_leaf, renamed_session, own_at, IsSame}
+use Rattle.gq_laws.specs.internal.Renamed.{renamed_slot, renamed_spot, renamed_current, renamed_leaf, renamed_session, own_at, IsSame}
 use Rattle.gq_laws.proofs.Renaming.{own_there}
 use Rattle.gq_laws.proofs.Both.{Both, one_fails, both_give, same_need, both_when, both_pop, both_push, both_absent, both_fill}
 use Rattle.gq_laws.proofs.Both.{both_bytes_in, both_pool_in, both_link_in}
@@ -51,7 +51,7 @@ renamed_doing f v d = record { system = d.system; world = v; x = d.x; component 
 abbrev open_at : Doing → ℕ → Place → List ℕ → ℕ → Stepped
 open_at d k place service n =
     let donation = amount n (open_caps (interface_in service d.system.interfaces)) in
-    need (spot_of d.x d.leaf.hand place) WrongKind (λ spot. fill d.world spot (slot_at d.world spot) (Waiting k) (λ w.
+    need (spot_of d.x d.leaf.current place) WrongKind (λ spot. fill d.world spot (slot_at d.world spot) (Waiting k) (λ w.
     need (server_of d.system d.component service) WrongKind (λ server.
     asked d (record w { sessions = add_session (new_session d.x spot server service donation) w.sessions }) spot k Ask_open)))
 
@@ -81,7 +81,7 @@ abbrev poking : ℕ → ℕ → ℕ → ℕ → Entries → (Entries → World) 
 poking b k i n entries put = need (slice_get entries i) UnmappedByte (λ entry. when (nat_lt k n) UnmappedByte
     (Ok (put (slice_set entries i (entry_with k b entry)), Quiet)))
 
-module _ (group : ℕ → Bool) (f : ℕ → ℕ) (d : Doing) (v : World) (t : Takes d) (linked : AreLinked d.system (links d.world))
+module _ (group : ℕ → Bool) (f : ℕ → ℕ) (d : Doing) (v : World) (t : TakesLeaf d) (linked : AreLinked d.system (links d.world))
     (linked_v : AreLinked d.system (links v)) (apart : IsApart d.system group) (inside : group d.x ≡ true)
     (pays : (z : World) → paid d.system z ≡ true) (h : IsSame group f d.world v) where
   abbrev e : Doing
@@ -116,8 +116,8 @@ module _ (group : ℕ → Bool) (f : ℕ → ℕ) (d : Doing) (v : World) (t : T
       by false true e g = e
       by false false e g = absurd (none_some g)
 
-  pub hand_own : (g : Hand) → d.leaf.hand ≡ Some g → Owns group d.world.sessions g.session
-  hand_own g at =
+  pub current_own : (g : Current) → d.leaf.current ≡ Some g → Owns group d.world.sessions g.session
+  current_own g at =
       let m = linked.handles d.x d.leaf.phase g (stood d t ∙ ap (λ o. Some (stance d.leaf.phase o)) at) in
       let s = outlined (session_at d.world g.session) m.0 m.1 in
       (s.0, own_server g.session s.0 s.1 (ap group (ap (λ (s : Session). s.server) s.2 ∙ m.2) ∙ inside))
@@ -152,18 +152,18 @@ module _ (group : ℕ → Bool) (f : ℕ → ℕ) (d : Doing) (v : World) (t : T
   spot_need None wrong go on g = one_fails K wrong _
   spot_need (Some q) wrong go on g = g q refl
 
-  place_by : (hand : Option Hand) (place : Place) (wrong : Wrong) (go on : Spot → Stepped) → d.leaf.hand ≡ hand
+  place_by : (current : Option Current) (place : Place) (wrong : Wrong) (go on : Spot → Stepped) → d.leaf.current ≡ current
       → ((q : Spot) → Near q → Both K (go q) (on (renamed_spot f q)))
-      → Both K (need (spot_of d.x hand place) wrong go) (need (spot_of d.x (option_map (renamed_hand f) hand) place) wrong on)
-  place_by hand (Own i) wrong go on at g = g (In_leaf d.x i) inside
+      → Both K (need (spot_of d.x current place) wrong go) (need (spot_of d.x (option_map (renamed_current f) current) place) wrong on)
+  place_by current (Own i) wrong go on at g = g (In_leaf d.x i) inside
   place_by None (Shared i) wrong go on at g = one_fails K wrong _
-  place_by (Some hand) (Shared i) wrong go on at g = g (In_session hand.session i) (hand_own hand at)
+  place_by (Some current) (Shared i) wrong go on at g = g (In_session current.session i) (current_own current at)
   place_by None Object wrong go on at g = one_fails K wrong _
-  place_by (Some hand) Object wrong go on at g = g (In_object hand.session) (hand_own hand at)
+  place_by (Some current) Object wrong go on at g = g (In_object current.session) (current_own current at)
 
   both_place : (place : Place) (wrong : Wrong) (go on : Spot → Stepped) → ((q : Spot) → Near q → Both K (go q) (on (renamed_spot f q)))
-      → Both K (need (spot_of d.x d.leaf.hand place) wrong go) (need (spot_of d.x (option_map (renamed_hand f) d.leaf.hand) place) wrong on)
-  both_place place wrong go on g = place_by d.leaf.hand place wrong go on refl g
+      → Both K (need (spot_of d.x d.leaf.current place) wrong go) (need (spot_of d.x (option_map (renamed_current f) d.leaf.current) place) wrong on)
+  both_place place wrong go on g = place_by d.leaf.current place wrong go on refl g
 
   -- all is paid for
   both_paid : (w z : World) → K w z → Both K (if_paid d.system w Quiet) (if_paid d.system z Quiet)
@@ -283,12 +283,13 @@ module _ (group : ℕ → Bool) (f : ℕ → ℕ) (d : Doing) (v : World) (t : T
   memory_same (Some (Link k)) = refl
   memory_same (Some (Waiting k)) = refl
 
-  kept_same : (hand : Option Hand) → d.leaf.hand ≡ hand → (place : Place) → is_kept e (option_map (renamed_hand f) hand) place ≡ is_kept d hand place
+  kept_same : (current : Option Current) → d.leaf.current ≡ current → (place : Place)
+      → is_kept e (option_map (renamed_current f) current) place ≡ is_kept d current place
   kept_same None at place = refl
   kept_same (Some g) at (Own i) = refl
   kept_same (Some g) at Object = refl
   kept_same (Some g) at (Shared i) =
-      let o = hand_own g at in
+      let o = current_own g at in
       ap (λ b. i == 0 && is_later g.section && b)
       (ap (shares_buffer d.system) (own_there group (session_at v (f g.session)) (renamed_session f o.0) (h.sessions.there g.session o.0 o.1))
       ∙ ap (shares_buffer d.system) (sym (own_there group (session_at d.world g.session) o.0 o.1)))
@@ -299,9 +300,9 @@ module _ (group : ℕ → Bool) (f : ℕ → ℕ) (d : Doing) (v : World) (t : T
       let z = with_slot (standing e e.leaf) (renamed_spot f q) Empty in
       let memory : is_memory (slot_at (standing e e.leaf) (renamed_spot f q)) ≡ is_memory (slot_at (standing d d.leaf) q)
       = ap is_memory (same_slot_at group f (standing d d.leaf) (standing e e.leaf) q near (stands d.leaf)) ∙ memory_same (slot_at (standing d d.leaf) q) in
-      both_when K (is_memory (slot_at (standing d d.leaf) q) && not (is_kept d d.leaf.hand place))
-      (is_memory (slot_at (standing e e.leaf) (renamed_spot f q)) && not (is_kept e e.leaf.hand place)) WrongKind WrongKind (if_paid d.system w Quiet)
-      (if_paid d.system z Quiet) (λ i. (λ t. memory t && not (kept_same d.leaf.hand refl place t)) ∙ i)
+      both_when K (is_memory (slot_at (standing d d.leaf) q) && not (is_kept d d.leaf.current place))
+      (is_memory (slot_at (standing e e.leaf) (renamed_spot f q)) && not (is_kept e e.leaf.current place)) WrongKind WrongKind (if_paid d.system w Quiet)
+      (if_paid d.system z Quiet) (λ i. (λ t. memory t && not (kept_same d.leaf.current refl place t)) ∙ i)
       (both_paid w z (same_slot group f (standing d d.leaf) (standing e e.leaf) q Empty near (stands d.leaf))))
 
   -- REQUESTS

@@ -3,13 +3,13 @@ use Rattle.std.proofs.Common.{◌≡◌, ◌≢◌, ℕ, zero, suc, ◌+◌, ◌
 use Rattle.std.proofs.Common.{arith}
 use Rattle.std.specs.Prelude.{slice_get, slice_set}
 use Rattle.std.proofs.lemmas.Bool.Decides.{eqb_tells}
-use Rattle.gq_model.specs.machine.World.{Slot, Spot, In_leaf, In_session, In_object, Session, Request, Hand, Leaf, World, joined, session_at, with_slot}
+use Rattle.gq_model.specs.machine.World.{Slot, Spot, In_leaf, In_session, In_object, Session, Request, Current, Leaf, World, joined, session_at, with_slot}
 use Rattle.gq_model.specs.machine.World.{put_leaf_slot, put_session_slot, put_object}
 use Rattle.gq_model.specs.machine.Scenario.{System}
 use Rattle.gq_model.specs.machine.Requests.{add_session, free_place}
 use Rattle.gq_model.proofs.Small.{none_some, equal_self}
 use Rattle.gq_laws.specs.Shapes.{Each}
-use Rattle.gq_laws.specs.Links.{outline_in, stance, stance_in, one_if, requests_of, at_hand, Stands, IsAsked, AreLinked, links}
+use Rattle.gq_laws.specs.Links.{outline_in, stance, stance_in, one_if, requests_of, at_current, Stands, IsAsked, AreLinked, links}
 use Rattle.gq_laws.proofs.linking.Worlds.{set_else}
 use Rattle.gq_laws.specs.Separation.{own_session}
 use Rattle.gq_laws.proofs.Stepping.{free_none}
@@ -116,20 +116,21 @@ module _ (system : System) (w : World) (h : AreLinked system (links w)) where
           let one : one_if (r.session == k) ≡ 1 = ap one_if (ap (λ n. n == k) q ∙ equal_self k) in
           absurd (omega (arith, e, one))
 
-  -- a session at hand has no request that waits
-  pub none_at_hand : (x : ℕ) (leaf : Leaf) (g : Hand) → slice_get w.leaves x ≡ Some leaf → leaf.hand ≡ Some g → Each (λ r. r.session ≢ g.session) w.requests
-  none_at_hand x leaf g there hand = no_requests g.session w.requests (waiting (h.stands g.session m.0 m.1))
+  -- a current session has no request that waits
+  pub none_current : (x : ℕ) (leaf : Leaf) (g : Current) → slice_get w.leaves x ≡ Some leaf → leaf.current ≡ Some g
+      → Each (λ r. r.session ≢ g.session) w.requests
+  none_current x leaf g there current = no_requests g.session w.requests (waiting (h.stands g.session m.0 m.1))
     where
       stands_so : (links w).stances x ≡ Some (stance leaf.phase (Some g))
-      stands_so = ap stance_in there ∙ ap (λ o. Some (stance leaf.phase o)) hand
+      stands_so = ap stance_in there ∙ ap (λ o. Some (stance leaf.phase o)) current
 
       m : (s : Session) × ((links w).sessions g.session ≡ Some s) × (s.server ≡ x) × (s.accepted ≡ true)
       m = let m = h.handles x leaf.phase g stands_so in (m.0, m.1, m.2, m.3)
 
-      at_hand_now : at_hand g.session ((links w).stances m.0.server) ≡ 1
-      at_hand_now =
-          ap (λ y. at_hand g.session ((links w).stances y)) m.2 ∙ (ap (at_hand g.session) stands_so ∙ ap one_if (equal_self g.session))
+      current_now : at_current g.session ((links w).stances m.0.server) ≡ 1
+      current_now =
+          ap (λ y. at_current g.session ((links w).stances y)) m.2 ∙ (ap (at_current g.session) stands_so ∙ ap one_if (equal_self g.session))
 
       waiting : Stands (links w) g.session m.0 → requests_of g.session w.requests ≡ 0
-      waiting (inl a) = let n = a.2 in let one = at_hand_now in absurd (omega (arith, n, one))
-      waiting (inr a) = let n = a.1 in let one = at_hand_now in omega (arith, n, one)
+      waiting (inl a) = let n = a.2 in let one = current_now in absurd (omega (arith, n, one))
+      waiting (inr a) = let n = a.1 in let one = current_now in omega (arith, n, one)

@@ -3,12 +3,12 @@ use Rattle.std.proofs.Common.{◌≡◌, ◌≢◌, ℕ, zero, suc, ◌==◌, �
 use Rattle.std.specs.Prelude.{is_some, option_map, slice_get}
 use Rattle.std.proofs.lemmas.Bool.Decides.{eqb_tells}
 use Rattle.gq_model.specs.machine.Scenario.{System}
-use Rattle.gq_model.specs.machine.World.{Slot, Empty, Bytes, Pool, Link, Waiting, Spot, In_leaf, In_session, In_object, Session, Request, Hand, Leaf, World}
+use Rattle.gq_model.specs.machine.World.{Slot, Empty, Bytes, Pool, Link, Waiting, Spot, In_leaf, In_session, In_object, Session, Request, Current, Leaf, World}
 use Rattle.gq_model.specs.machine.World.{session_at, slot_at, leaf_slot, session_slot, session_object}
 use Rattle.gq_model.proofs.Small.{none_some, equal_self}
 use Rattle.gq_laws.specs.Links.{Naming, Leads, Waits, named, naming, naming_in, outline, outline_in, stance, stance_in, Belongs, AreLinked, links}
 use Rattle.gq_laws.specs.Separation.{own_session, own_requests}
-use Rattle.gq_laws.specs.internal.Renamed.{renamed_slot, renamed_spot, renamed_hand, renamed_leaf, renamed_session, renamed_request, own_at, Correspond}
+use Rattle.gq_laws.specs.internal.Renamed.{renamed_slot, renamed_spot, renamed_current, renamed_leaf, renamed_session, renamed_request, own_at, Correspond}
 use Rattle.gq_laws.specs.internal.Renamed.{IsSame}
 
 -- ONE PLACE CHANGES
@@ -94,19 +94,19 @@ module _ (system : System) (group : ℕ → Bool) (f : ℕ → ℕ) (w v : World
   at_spot : (q : Spot) (n : Naming) → naming_in (slot_at w q) ≡ Some n → named n ≢ k
   at_spot q n e = let s = linked.named q n e in taken (named n) s.0 s.1
 
-  hand_name : (y : ℕ) (leaf : Leaf) (hand : Option Hand) → stance_in (slice_get w.leaves y) ≡ Some (stance leaf.phase hand)
-      → option_map (renamed_hand g) hand ≡ option_map (renamed_hand f) hand
-  hand_name y leaf None e = refl
-  hand_name y leaf (Some hand) e =
-      let s = linked.handles y leaf.phase hand e in
-      ap (λ n. Some (record { session = n; section = hand.section })) (same_name hand.session (taken hand.session s.0 s.1))
+  current_name : (y : ℕ) (leaf : Leaf) (current : Option Current) → stance_in (slice_get w.leaves y) ≡ Some (stance leaf.phase current)
+      → option_map (renamed_current g) current ≡ option_map (renamed_current f) current
+  current_name y leaf None e = refl
+  current_name y leaf (Some current) e =
+      let s = linked.handles y leaf.phase current e in
+      ap (λ n. Some (record { session = n; section = current.section })) (same_name current.session (taken current.session s.0 s.1))
 
   leaf_name : (y : ℕ) (o : Option Leaf) → slice_get w.leaves y ≡ o → option_map (renamed_leaf g) o ≡ option_map (renamed_leaf f) o
   leaf_name y None e = refl
-  leaf_name y (Some leaf) e = λ t. Some (record leaf { hand = hand t; slots = slots t })
+  leaf_name y (Some leaf) e = λ t. Some (record leaf { current = current t; slots = slots t })
     where
-      hand : option_map (renamed_hand g) leaf.hand ≡ option_map (renamed_hand f) leaf.hand
-      hand = hand_name y leaf leaf.hand (ap stance_in e)
+      current : option_map (renamed_current g) leaf.current ≡ option_map (renamed_current f) leaf.current
+      current = current_name y leaf leaf.current (ap stance_in e)
 
       slots : map (renamed_slot g) leaf.slots ≡ map (renamed_slot f) leaf.slots
       slots = slot_names leaf.slots (λ i n there. at_spot (In_leaf y i) n (ap (λ o. naming_in (leaf_slot o i)) e ∙ there))

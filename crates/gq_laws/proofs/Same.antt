@@ -6,7 +6,7 @@ use Rattle.std.proofs.lemmas.Bool.Decides.{eqb_tells}
 use Rattle.std.proofs.lemmas.Option.{slice_get-map}
 use Rattle.std.proofs.lemmas.List.{map-append}
 use Rattle.gq_model.specs.machine.Scenario.{Component}
-use Rattle.gq_model.specs.machine.World.{Slot, Spot, In_leaf, In_session, In_object, Session, Request, Hand, Leaf, World, joined, session_at, with_leaf}
+use Rattle.gq_model.specs.machine.World.{Slot, Spot, In_leaf, In_session, In_object, Session, Request, Current, Leaf, World, joined, session_at, with_leaf}
 use Rattle.gq_model.specs.machine.World.{with_session}
 use Rattle.gq_model.specs.machine.World.{leaf_slot, session_slot, session_object, slot_at, put_leaf_slot, put_session_slot, put_object, with_slot}
 use Rattle.gq_model.specs.machine.Requests.{add_session, free_place}
@@ -16,7 +16,7 @@ use Rattle.gq_laws.specs.Shapes.{Each}
 use Rattle.gq_laws.proofs.linking.Worlds.{set_else}
 use Rattle.gq_laws.specs.Separation.{own_session, own_requests}
 use Rattle.gq_laws.proofs.Stepping.{free_none}
-use Rattle.gq_laws.specs.internal.Renamed.{renamed_slot, renamed_spot, renamed_hand, renamed_leaf, renamed_session, renamed_request, own_at, Correspond}
+use Rattle.gq_laws.specs.internal.Renamed.{renamed_slot, renamed_spot, renamed_current, renamed_leaf, renamed_session, renamed_request, own_at, Correspond}
 use Rattle.gq_laws.specs.internal.Renamed.{IsSame}
 use Rattle.gq_laws.proofs.Renaming.{changed, own_there}
 
@@ -159,15 +159,15 @@ module _ (group : ℕ → Bool) where
     same_active w v x g inside h =
         subst (λ o. Alike (unblocked w x g) (active_again v x g o)) (sym (h.leaves x inside)) (by (slice_get w.leaves x))
       where
-        resumes : (hand : Option Hand) → resumed (option_map (renamed_hand f) hand) ≡ resumed hand
+        resumes : (current : Option Current) → resumed (option_map (renamed_current f) current) ≡ resumed current
         resumes None = refl
-        resumes (Some hand) = refl
+        resumes (Some current) = refl
 
         by : (o : Option Leaf) → Alike (active_again w x g o) (active_again v x g (option_map (renamed_leaf f) o))
         by None = h
         by (Some leaf) =
             subst (λ phase. Alike (active_again w x g (Some leaf)) (with_leaf v x (record (renamed_leaf f leaf) { phase = phase; operands = g leaf.operands })))
-            (sym (resumes leaf.hand)) (same_leaf w v x (record leaf { phase = resumed leaf.hand; operands = g leaf.operands }) h)
+            (sym (resumes leaf.current)) (same_leaf w v x (record leaf { phase = resumed leaf.current; operands = g leaf.operands }) h)
 
     pub same_released : (w v : World) (name : List ℕ) (cs : List Component) → Alike w v
         → Alike (record w { leaves = all_released name cs w.leaves }) (record v { leaves = all_released name cs v.leaves })

@@ -12,7 +12,7 @@ use Rattle.gq_model.specs.declared.fault.Wrong.TheVariants.{WrongKind, ExceededQ
 use Rattle.gq_model.specs.machine.Program.{Statements, Done, Do, If, Loop, section_in, body_of, ◌then◌}
 use Rattle.gq_model.specs.machine.Scenario.{System, Component}
 use Rattle.gq_model.specs.machine.World.{Slot, Empty, Bytes, Pool, Waiting, Link, Session, Ask, Ask_open, Ask_upgrade, Ask_close, Ask_call, Request}
-use Rattle.gq_model.specs.machine.World.{Hand, Round, Leaf, World}
+use Rattle.gq_model.specs.machine.World.{Current, Round, Leaf, World}
 use Rattle.gq_model.specs.machine.World.{session_at, with_session, with_slot}
 use Rattle.gq_model.specs.machine.Sums.{paid}
 use Rattle.gq_model.specs.machine.Doing.{Doing, Quiet, Finished, Idle, Stepped, need, when, standing}
@@ -23,18 +23,18 @@ use Rattle.gq_model.specs.machine.Step.{replied, reply, no_link, exited, exit_of
 use Rattle.gq_model.specs.machine.Step.{accept_oldest, step_in, step_of, next}
 use Rattle.gq_laws.specs.Links.{outline, outline_in, AreLinked, IsLinkedWorld, links}
 use Rattle.gq_laws.specs.Shapes.{Each}
-use Rattle.gq_laws.specs.Statements.{Takes}
+use Rattle.gq_laws.specs.Statements.{TakesLeaf}
 use Rattle.gq_laws.proofs.turning.Outcomes.{closed}
 use Rattle.gq_laws.proofs.linking.Worlds.{slot_requests}
 use Rattle.gq_laws.proofs.linking.Accepted.{oldest_found}
 use Rattle.gq_laws.specs.Separation.{own_session, own_requests, IsApart}
-use Rattle.gq_laws.specs.internal.Renamed.{renamed_slot, renamed_spot, renamed_hand, renamed_leaf, renamed_session, renamed_request, own_at, IsSame}
+use Rattle.gq_laws.specs.internal.Renamed.{renamed_slot, renamed_spot, renamed_current, renamed_leaf, renamed_session, renamed_request, own_at, IsSame}
 use Rattle.gq_laws.proofs.Renaming.{own_there}
 use Rattle.gq_laws.proofs.Both.{Both, one_fails, both_give, same_need, both_when, both_pop}
 use Rattle.gq_laws.proofs.Same.{own_like, is_own, IsNear, same_active, same_released, same_session, same_closed, same_requests, same_slot}
-use Rattle.gq_laws.proofs.Near.{Owns, slot_owns, none_at_hand}
+use Rattle.gq_laws.proofs.Near.{Owns, slot_owns, none_current}
 use Rattle.gq_laws.proofs.Oldest.{Found, to_own, Match, matched}
-use Rattle.gq_laws.proofs.Inside.{renamed_doing, stands, client_in, hand_own, owner_near, both_instruct}
+use Rattle.gq_laws.proofs.Inside.{renamed_doing, stands, client_in, current_own, owner_near, both_instruct}
 
 -- a request is taken up, and its session is this from then on
 abbrev taken_up : Doing → Request → List Request → Session → Stepped
@@ -65,7 +65,7 @@ accepted_server system Ask_upgrade s = refl
 accepted_server system Ask_close s = refl
 accepted_server system (Ask_call value) s = refl
 
-module _ (group : ℕ → Bool) (f : ℕ → ℕ) (d : Doing) (v : World) (t : Takes d) (linked : AreLinked d.system (links d.world))
+module _ (group : ℕ → Bool) (f : ℕ → ℕ) (d : Doing) (v : World) (t : TakesLeaf d) (linked : AreLinked d.system (links d.world))
     (linked_v : AreLinked d.system (links v)) (apart : IsApart d.system group) (inside : group d.x ≡ true)
     (pays : (z : World) → paid d.system z ≡ true) (h : IsSame group f d.world v) where
   abbrev e : Doing
@@ -157,7 +157,7 @@ module _ (group : ℕ → Bool) (f : ℕ → ℕ) (d : Doing) (v : World) (t : T
 
   -- REPLIES
 
-  module _ (g : Hand) (at : d.leaf.hand ≡ Some g) (s : Session) (own : own_at group d.world.sessions g.session ≡ Some s) where
+  module _ (g : Current) (at : d.leaf.current ≡ Some g) (s : Session) (own : own_at group d.world.sessions g.session ≡ Some s) where
     there : session_at d.world g.session ≡ Some s
     there = own_there group (session_at d.world g.session) s own
 
@@ -183,12 +183,12 @@ module _ (group : ℕ → Bool) (f : ℕ → ℕ) (d : Doing) (v : World) (t : T
       where
         none : Each (λ r. r.session ≢ g.session) (with_slot (standing d (serving d.leaf)) s.spot Empty).requests
         none = subst (λ rs. Each (λ r. r.session ≢ g.session) rs) (sym (slot_requests (standing d (serving d.leaf)) s.spot Empty))
-            (none_at_hand d.system d.world linked d.x t.old g t.there (sym t.hand ∙ at))
+            (none_current d.system d.world linked d.x t.old g t.there (sym t.current ∙ at))
 
         none_v : Each (λ r. r.session ≢ f g.session) (with_slot (standing e (serving e.leaf)) (renamed_spot f s.spot) Empty).requests
         none_v = subst (λ rs. Each (λ r. r.session ≢ f g.session) rs) (sym (slot_requests (standing e (serving e.leaf)) (renamed_spot f s.spot) Empty))
-            (none_at_hand d.system v linked_v d.x (renamed_leaf f t.old) (renamed_hand f g)
-            (h.leaves d.x inside ∙ ap (option_map (renamed_leaf f)) t.there) (ap (option_map (renamed_hand f)) (sym t.hand ∙ at)))
+            (none_current d.system v linked_v d.x (renamed_leaf f t.old) (renamed_current f g)
+            (h.leaves d.x inside ∙ ap (option_map (renamed_leaf f)) t.there) (ap (option_map (renamed_current f)) (sym t.current ∙ at)))
 
     both_reply : (section : Section) → Both K (reply d g.session section s) (reply e (f g.session) section (renamed_session f s))
     both_reply Main = one_fails K WrongKind _
@@ -213,18 +213,19 @@ module _ (group : ℕ → Bool) (f : ℕ → ℕ) (d : Doing) (v : World) (t : T
       (λ i. links_same d.leaf.slots ∙ i) (both_give K (exit_of d) (exit_of e) Finished
       (same_released group f (standing d (exited d.leaf)) (standing e (exited e.leaf)) d.component.node.name d.system.components (stand (exited d.leaf))))
 
-  both_section : (hand : Option Hand) → d.leaf.hand ≡ hand → Both K (section_ended d hand) (section_ended e (option_map (renamed_hand f) hand))
+  both_section : (current : Option Current) → d.leaf.current ≡ current
+      → Both K (section_ended d current) (section_ended e (option_map (renamed_current f) current))
   both_section None at = both_main d.component.node.provides
   both_section (Some g) at =
-      let o = hand_own group f d v t linked linked_v apart inside pays h g at in
-      subst (λ p. Both K (need p WrongKind (reply d g.session g.section)) (section_ended e (Some (renamed_hand f g))))
+      let o = current_own group f d v t linked linked_v apart inside pays h g at in
+      subst (λ p. Both K (need p WrongKind (reply d g.session g.section)) (section_ended e (Some (renamed_current f g))))
       (sym (own_there group (session_at d.world g.session) o.0 o.1))
       (subst (λ p. Both K (reply d g.session g.section o.0) (need p WrongKind (reply e (f g.session) g.section)))
       (sym (own_there group (session_at v (f g.session)) (renamed_session f o.0) (h.sessions.there g.session o.0 o.1)))
       (both_reply g at o.0 o.1 g.section))
 
   both_body : (loops : List Round) → Both K (body_ended d loops) (body_ended e loops)
-  both_body [] = both_section d.leaf.hand refl
+  both_body [] = both_section d.leaf.current refl
   both_body (r ∷ loops) = by (nat_lt (suc r.round) r.count)
     where
       by : (b : Bool)
@@ -247,7 +248,7 @@ module _ (group : ℕ → Bool) (f : ℕ → ℕ) (d : Doing) (v : World) (t : T
     both_perform : (todo : Statements) → Both K (perform d todo) (perform e todo)
     both_perform Done = both_body d.leaf.loops
     both_perform (Do i rest) = both_instruct group f (record d { leaf = record d.leaf { todo = rest } }) v
-        (record { old = t.old; there = t.there; slots = t.slots; phase = t.phase; hand = t.hand }) linked linked_v apart inside pays h fresh i
+        (record { old = t.old; there = t.there; slots = t.slots; phase = t.phase; current = t.current }) linked linked_v apart inside pays h fresh i
     both_perform (If arm other rest) =
         both_pop K d.leaf.operands (λ a below. Ok (standing d (record d.leaf { operands = below; todo = chosen a arm other then rest }), Quiet))
         (λ a below. Ok (standing e (record e.leaf { operands = below; todo = chosen a arm other then rest }), Quiet))
@@ -271,7 +272,7 @@ module _ (system : System) (group : ℕ → Bool) (f : ℕ → ℕ) (w v : World
       → Both (IsSame group f) (step_of system w x c leaf) (step_of system v x c (option_map (renamed_leaf f) leaf))
   next_by (Some c) (Some leaf) at =
       both_step group f (record { system = system; world = w; x = x; component = c; leaf = record leaf { steps = suc leaf.steps } }) v
-      (record { old = leaf; there = at; slots = refl; phase = refl; hand = refl }) linked linked_v apart inside pays h fresh leaf.phase
+      (record { old = leaf; there = at; slots = refl; phase = refl; current = refl }) linked linked_v apart inside pays h fresh leaf.phase
   next_by (Some c) None at = both_give (IsSame group f) w v Idle h
   next_by None leaf at = both_give (IsSame group f) w v Idle h
 

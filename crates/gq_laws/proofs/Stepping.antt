@@ -17,7 +17,7 @@ use Rattle.gq_model.specs.declared.phase.Phase.TheVariants.{Pending, Running, Bl
 use Rattle.gq_model.specs.declared.fault.Wrong.TheVariants.{WrongKind, ExceededQuota}
 use Rattle.gq_model.specs.machine.Scenario.{System, Component}
 use Rattle.gq_model.specs.machine.World.{Slot, Empty, Bytes, Pool, Link, Waiting, Spot, In_leaf, In_session, In_object, Session, Ask, Ask_open, Ask_upgrade}
-use Rattle.gq_model.specs.machine.World.{Ask_close, Ask_call, Request, Hand, Round, Leaf, World, joined, session_at, slot_at, with_leaf, with_slot, spot_of}
+use Rattle.gq_model.specs.machine.World.{Ask_close, Ask_call, Request, Current, Round, Leaf, World, joined, session_at, slot_at, with_leaf, with_slot, spot_of}
 use Rattle.gq_model.specs.machine.Sums.{paid}
 use Rattle.gq_model.specs.machine.Doing.{Doing, Event, Quiet, Stepped, fill, standing, with_operands, settled, if_paid}
 use Rattle.gq_model.specs.machine.Memory.{behind, bytes_spot, bytes_in, bytes_at, pool_in, pool_at, make, free, is_memory, is_kept}
@@ -27,7 +27,7 @@ use Rattle.gq_model.specs.machine.Step.{released}
 use Rattle.gq_model.specs.machine.Step.{all_released, exited, exit_of, main_ended, section_ended, body_ended, perform, accept_oldest, step_in, step_of, next}
 use Rattle.gq_model.proofs.Small.{some_same, none_some}
 use Rattle.gq_laws.specs.Links.{Leads, naming_in, outline, outline_in, stance, Links, links, Belongs, AreLinked, IsLinkedWorld}
-use Rattle.gq_laws.specs.Statements.{Takes}
+use Rattle.gq_laws.specs.Statements.{TakesLeaf}
 use Rattle.gq_laws.proofs.turning.Endings.{Ends, gives, fails, need_ends, need_found, when_ends, pop_ends, push_ends, absent_ends}
 use Rattle.gq_laws.proofs.turning.Instructs.{accept_by}
 use Rattle.gq_laws.proofs.turning.Outcomes.{closed}
@@ -90,7 +90,7 @@ module _ (group : ℕ → Bool) where
   accepted_like system Ask_close s e = e
   accepted_like system (Ask_call value) s e = e
 
-  module _ (d : Doing) (t : Takes d) (h : AreLinked d.system (links d.world)) (apart : IsApart d.system group) (out : group d.x ≡ false)
+  module _ (d : Doing) (t : TakesLeaf d) (h : AreLinked d.system (links d.world)) (apart : IsApart d.system group) (out : group d.x ≡ false)
       (component : slice_get d.system.components d.x ≡ Some d.component) where
     abbrev L : Links
     L = links d.world
@@ -121,18 +121,18 @@ module _ (group : ℕ → Bool) where
     far_server : (k : ℕ) (s : Session) → session_at d.world k ≡ Some s → group s.server ≡ false → Foreign k
     far_server k s there e = ap (own_session group) there ∙ foreign group s (sides k s there ∙ e) e
 
-    hand_far : (g : Hand) → d.leaf.hand ≡ Some g → Foreign g.session
-    hand_far g e =
+    current_far : (g : Current) → d.leaf.current ≡ Some g → Foreign g.session
+    current_far g e =
         let m = h.handles d.x d.leaf.phase g (stood d t ∙ ap (λ o. Some (stance d.leaf.phase o)) e) in
         let f = outlined (session_at d.world g.session) m.0 m.1 in
         far_server g.session f.0 f.1 (ap group (ap (λ (s : Session). s.server) f.2 ∙ m.2) ∙ out)
 
-    named_far : (place : Place) (hand : Option Hand) (q : Spot) → d.leaf.hand ≡ hand → spot_of d.x hand place ≡ Some q → Far q
-    named_far (Own i) hand q at e = subst Far (some_same e) out
+    named_far : (place : Place) (current : Option Current) (q : Spot) → d.leaf.current ≡ current → spot_of d.x current place ≡ Some q → Far q
+    named_far (Own i) current q at e = subst Far (some_same e) out
     named_far (Shared i) None q at e = absurd (none_some e)
     named_far Object None q at e = absurd (none_some e)
-    named_far (Shared i) (Some g) q at e = subst Far (some_same e) (hand_far g at)
-    named_far Object (Some g) q at e = subst Far (some_same e) (hand_far g at)
+    named_far (Shared i) (Some g) q at e = subst Far (some_same e) (current_far g at)
+    named_far Object (Some g) q at e = subst Far (some_same e) (current_far g at)
 
     far_owner : (q : Spot) (client : ℕ) → Far q → Belongs L q client → group client ≡ false
     far_owner (In_leaf x i) client far b = ap group (sym b) ∙ far
@@ -200,29 +200,29 @@ module _ (group : ℕ → Bool) where
     bytes_at_ends : (w : World) (place : Place) (go : List ℕ → (List ℕ → World) → Stepped) → ((q : Spot) → slot_at w q ≡ slot_at d.world q) → K w
         → ((bytes : List ℕ) (put : List ℕ → World) → ((new : List ℕ) → K (put new)) → Ends K (go bytes put)) → Ends K (bytes_at d w place go)
     bytes_at_ends w place go slots k f =
-        need_found K (spot_of d.x d.leaf.hand place) _ _ (λ named e.
+        need_found K (spot_of d.x d.leaf.current place) _ _ (λ named e.
         need_found K (bytes_spot d.system w (slot_at w named) named) _ _ (λ q g.
-        let far = named_far place d.leaf.hand named refl e in
+        let far = named_far place d.leaf.current named refl e in
         bytes_in_ends w q (slot_at w q) go
         (λ slot. writes w q slot (bytes_far w (slot_at w named) named q far (λ j i. link_far named j far (sym (slots named) ∙ i)) g) k) f))
 
     pool_at_ends : (w : World) (place : Place) (go : ℕ → List (Option (List ℕ)) → (List (Option (List ℕ)) → World) → Stepped) → K w
         → ((m : ℕ) (entries : List (Option (List ℕ))) (put : List (Option (List ℕ)) → World) → ((new : List (Option (List ℕ))) → K (put new))
         → Ends K (go m entries put)) → Ends K (pool_at d w place go)
-    pool_at_ends w place go k f = need_found K (spot_of d.x d.leaf.hand place) _ _
-        (λ q e. pool_in_ends w q (slot_at w q) go (λ slot. writes w q slot (named_far place d.leaf.hand q refl e) k) f)
+    pool_at_ends w place go k f = need_found K (spot_of d.x d.leaf.current place) _ _
+        (λ q e. pool_in_ends w q (slot_at w q) go (λ slot. writes w q slot (named_far place d.leaf.current q refl e) k) f)
 
     make_ends : (place : Place) (slot : Slot) → Ends K (make d place slot)
-    make_ends place slot = need_found K (spot_of d.x d.leaf.hand place) _ _ (λ q e.
+    make_ends place slot = need_found K (spot_of d.x d.leaf.current place) _ _ (λ q e.
         fill_ends (standing d d.leaf) q (slot_at (standing d d.leaf) q) slot (settled d.system d.x)
-        (writes _ q slot (named_far place d.leaf.hand q refl e) (stands d.leaf)) settles)
+        (writes _ q slot (named_far place d.leaf.current q refl e) (stands d.leaf)) settles)
 
     free_ends : (place : Place) → Ends K (free d place)
-    free_ends place = need_found K (spot_of d.x d.leaf.hand place) _ _ (λ q e.
+    free_ends place = need_found K (spot_of d.x d.leaf.current place) _ _ (λ q e.
         let w = with_slot (standing d d.leaf) q Empty in
-        when_ends K (is_memory (slot_at (standing d d.leaf) q) && not (is_kept d d.leaf.hand place)) WrongKind (if_paid d.system w Quiet)
+        when_ends K (is_memory (slot_at (standing d d.leaf) q) && not (is_kept d d.leaf.current place)) WrongKind (if_paid d.system w Quiet)
         (when_ends K (paid d.system w) ExceededQuota (Ok (w, Quiet))
-        (gives w Quiet (writes (standing d d.leaf) q Empty (named_far place d.leaf.hand q refl e) (stands d.leaf)))))
+        (gives w Quiet (writes (standing d d.leaf) q Empty (named_far place d.leaf.current q refl e) (stands d.leaf)))))
 
     -- REQUESTS
 
@@ -243,8 +243,8 @@ module _ (group : ℕ → Bool) where
 
     link_at_ends : (place : Place) (go : Spot → ℕ → Session → Stepped)
         → ((q : Spot) (k : ℕ) (s : Session) → Far q → session_at d.world k ≡ Some s → Foreign k → Ends K (go q k s)) → Ends K (link_at d place go)
-    link_at_ends place go f = need_found K (spot_of d.x d.leaf.hand place) _ _ (λ q e.
-        let far = named_far place d.leaf.hand q refl e in link_ends q (slot_at d.world q) (go q) refl far (λ k s there foreign. f q k s far there foreign))
+    link_at_ends place go f = need_found K (spot_of d.x d.leaf.current place) _ _ (λ q e.
+        let far = named_far place d.leaf.current q refl e in link_ends q (slot_at d.world q) (go q) refl far (λ k s there foreign. f q k s far there foreign))
 
     upgrade_ends : (place : Place) (n : ℕ) → Ends K (upgrade d place n)
     upgrade_ends place n = link_at_ends place _ (λ q k s far there foreign.
@@ -259,8 +259,8 @@ module _ (group : ℕ → Bool) where
     close_ends place = link_at_ends place _ (λ q k s far there foreign. asked_ends d.leaf d.world q k Ask_close far foreign same)
 
     open_ends : (place : Place) (service : List ℕ) (n : ℕ) → Ends K (open_session d place service n)
-    open_ends place service n = need_found K (spot_of d.x d.leaf.hand place) _ _ (λ q e.
-        let far = named_far place d.leaf.hand q refl e in
+    open_ends place service n = need_found K (spot_of d.x d.leaf.current place) _ _ (λ q e.
+        let far = named_far place d.leaf.current q refl e in
         fill_ends d.world q (slot_at d.world q) _ _ (writes d.world q _ far same) (λ w k.
         need_found K _ _ _ (λ server routed.
         asked_ends d.leaf _ q _ Ask_open far (ap (own_session group) (free_none d.world.sessions))
@@ -336,9 +336,9 @@ module _ (group : ℕ → Bool) where
         server : (old : Session) → session_at d.world p.0.session ≡ Some old → old.server ≡ d.x
         server old there = told old (ap (is_to d.x) (sym there) ∙ (oldest_found (λ r. Unit {0}) d.world d.x d.world.requests p e).to)
 
-    module _ (g : Hand) (at : d.leaf.hand ≡ Some g) (s : Session) (there : session_at d.world g.session ≡ Some s) where
+    module _ (g : Current) (at : d.leaf.current ≡ Some g) (s : Session) (there : session_at d.world g.session ≡ Some s) where
       away : own_session group (Some s) ≡ None
-      away = ap (own_session group) (sym there) ∙ hand_far g at
+      away = ap (own_session group) (sym there) ∙ current_far g at
 
       spot_far : Far s.spot
       spot_far = owner_far s.spot s.client (client_out s away) (h.belongs g.session (outline s) (ap outline_in there))
@@ -353,7 +353,7 @@ module _ (group : ℕ → Bool) where
           let v : World = record w { sessions = slice_set w.sessions g.session None } in
           when_ends K (all_empty s.slots) WrongKind _ (when_ends K (paid d.system (closed d g.session s)) ExceededQuota _
           (gives (closed d g.session s) Quiet (kept_active group d.world v s.client (λ operands. operands) (client_out s away)
-          (kept_place group d.world w g.session None (hand_far g at) refl
+          (kept_place group d.world w g.session None (current_far g at) refl
           (writes (standing d (serving d.leaf)) s.spot Empty spot_far (stands (serving d.leaf)))))))
 
       reply_ends : (section : Section) → Ends K (reply d g.session section s)
@@ -387,15 +387,15 @@ module _ (group : ℕ → Bool) where
     main_ends (Some service) = gives _ _ (stands _)
     main_ends None = when_ends K _ _ _ (gives _ _ exit_kept)
 
-    section_ends : (hand : Option Hand) → d.leaf.hand ≡ hand → Ends K (section_ended d hand)
+    section_ends : (current : Option Current) → d.leaf.current ≡ current → Ends K (section_ended d current)
     section_ends None e = main_ends d.component.node.provides
     section_ends (Some g) e = need_found K (session_at d.world g.session) _ _ (λ s there. reply_ends g e s there g.section)
 
     body_ends : (loops : List Round) → Ends K (body_ended d loops)
-    body_ends [] = section_ends d.leaf.hand refl
+    body_ends [] = section_ends d.leaf.current refl
     body_ends (r ∷ loops) = gives _ _ (stands _)
 
-  module _ (d : Doing) (t : Takes d) (h : AreLinked d.system (links d.world)) (apart : IsApart d.system group) (out : group d.x ≡ false)
+  module _ (d : Doing) (t : TakesLeaf d) (h : AreLinked d.system (links d.world)) (apart : IsApart d.system group) (out : group d.x ≡ false)
       (component : slice_get d.system.components d.x ≡ Some d.component) where
     abbrev Kept : World → Type 0
     Kept w = IsKept group d.world w
@@ -403,7 +403,7 @@ module _ (group : ℕ → Bool) where
     perform_ends : (todo : Statements) → Ends Kept (perform d todo)
     perform_ends Done = body_ends d t h apart out component d.leaf.loops
     perform_ends (Do i rest) = instruct_ends (record d { leaf = record d.leaf { todo = rest } })
-        (record { old = t.old; there = t.there; slots = t.slots; phase = t.phase; hand = t.hand }) h apart out component i
+        (record { old = t.old; there = t.there; slots = t.slots; phase = t.phase; current = t.current }) h apart out component i
     perform_ends (If arm other rest) = pop_ends Kept _ _ (λ a below. gives _ _ (stands d t h apart out component _))
     perform_ends (Loop count body rest) = gives _ _ (stands d t h apart out component _)
 
@@ -423,7 +423,7 @@ module _ (group : ℕ → Bool) where
       → group x ≡ false → slice_get system.components x ≡ c → slice_get w.leaves x ≡ leaf → Ends (IsKept group w) (step_of system w x c leaf)
   next_by system w x (Some c) (Some leaf) h apart out component there =
       step_ends (record { system = system; world = w; x = x; component = c; leaf = record leaf { steps = suc leaf.steps } })
-      (record { old = leaf; there = there; slots = refl; phase = refl; hand = refl }) h apart out component leaf.phase
+      (record { old = leaf; there = there; slots = refl; phase = refl; current = refl }) h apart out component leaf.phase
   next_by system w x (Some c) None h apart out component there = gives _ _ (kept_self group w)
   next_by system w x None leaf h apart out component there = gives _ _ (kept_self group w)
 

@@ -1,5 +1,5 @@
 -- No leaf takes more steps than its budget.
--- From how often each section has been asked for so far, and the steps and requests that are left of those at hand.
+-- From how often each section has been asked for so far, and the steps and requests that are left of the current ones.
 -- Each step is one of those left; each request pays for its section.
 pub mod Sums
 pub mod Worlds

@@ -1,4 +1,4 @@
--- what a step does to operands, hands and clients
+-- what a step does to operands, current requests and clients
 pub mod Held
 pub mod Goes
 -- who waits, and keeps its room

@@ -59,7 +59,7 @@ pub record Awaits (promised : ℕ → Option Kind) (c : Context) (state : State)
   pub meets : Meets (promised_anew promised k kind) c (while_waiting i state) w leaf
   pub todo : leaf.todo ≡ d.leaf.todo
   pub loops : leaf.loops ≡ d.leaf.loops
-  pub hand : leaf.hand ≡ d.leaf.hand
+  pub current : leaf.current ≡ d.leaf.current
   pub phase : leaf.phase ≡ Blocked
   -- the request is the last
   pub ask : Ask

@@ -1,11 +1,11 @@
--- What the proofs say of sections at hand, of the statements that are left, and of the steps that they cost.
+-- What the proofs say of current sections, of the statements that are left, and of the steps that they cost.
 use Rattle.std.specs.Prelude.{◌≡◌, ℕ, suc, ◌<◌, ◌≤◌, ◌==◌, if◌then◌else◌, List, [], ◌∷◌, Option, Some, None, Ok, slice_get}
 use Rattle.gq_model.specs.declared.program.Section.{Section}
 use Rattle.gq_model.specs.declared.program.Section.TheVariants.{Main, Opening, Upgrading, Calling, Closing}
 use Rattle.gq_model.specs.machine.Program.{Statements}
 use Rattle.gq_model.specs.machine.Lists.{or_first}
 use Rattle.gq_model.specs.machine.Scenario.{System, Component}
-use Rattle.gq_model.specs.machine.World.{Session, Ask, Ask_open, Ask_upgrade, Ask_close, Ask_call, Request, Hand, Round, Leaf, World}
+use Rattle.gq_model.specs.machine.World.{Session, Ask, Ask_open, Ask_upgrade, Ask_close, Ask_call, Request, Current, Round, Leaf, World}
 use Rattle.gq_model.specs.machine.Step.{section_for}
 use Rattle.gq_model.specs.rules.Kinds.{Kind, Empty_kind, Link_kind, State, Context, no_kinds}
 use Rattle.gq_model.specs.rules.Flow.{flow, bank_at}
@@ -13,7 +13,7 @@ use Rattle.gq_model.specs.rules.Use.{subject}
 
 -- KINDS OF SLOTS
 
--- the level that a session has once its request is at hand
+-- the level that a session has once its request is current
 abbrev pub level_then : Ask → ℕ → ℕ
 level_then Ask_upgrade level = suc level
 level_then Ask_open level = level
@@ -25,18 +25,18 @@ abbrev pub section_waiting : ℕ → Session → List Request → Option Section
 section_waiting k s [] = None
 section_waiting k s (r ∷ rest) = if r.session == k then Some (section_for r.ask (level_then r.ask s.level)) else section_waiting k s rest
 
-abbrev pub section_if : ℕ → Option Hand → Option Section
+abbrev pub section_if : ℕ → Option Current → Option Section
 section_if k None = None
-section_if k (Some hand) = if hand.session == k then Some hand.section else None
+section_if k (Some current) = if current.session == k then Some current.section else None
 
--- the section at a leaf's hand, if it is for this session
-abbrev pub section_at_hand : ℕ → Option Leaf → Option Section
-section_at_hand k None = None
-section_at_hand k (Some leaf) = section_if k leaf.hand
+-- the section current at a leaf, if it is for this session
+abbrev pub current_section : ℕ → Option Leaf → Option Section
+current_section k None = None
+current_section k (Some leaf) = section_if k leaf.current
 
 -- the section that a session waits for
 abbrev pub section_asked : World → ℕ → Session → Option Section
-section_asked w k s = or_first (section_waiting k s w.requests) (section_at_hand k (slice_get w.leaves s.server))
+section_asked w k s = or_first (section_waiting k s w.requests) (current_section k (slice_get w.leaves s.server))
 
 -- what the reply makes of the client's slot
 abbrev pub kind_replied : Section → Session → Kind

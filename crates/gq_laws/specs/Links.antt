@@ -1,11 +1,11 @@
--- How sessions, the slots that name them, requests and the leaves' hands agree.
+-- How sessions, the slots that name them, requests and the leaves' current requests agree.
 use Rattle.std.specs.Prelude.{◌≡◌, ℕ, ◌+◌, ◌==◌, ◌⊎◌, Bool, true, false, not, List, [], ◌∷◌, Option, Some, None, slice_get}
 use Rattle.gq_model.specs.declared.program.Section.{Section}
 use Rattle.gq_model.specs.declared.program.Section.TheVariants.{Main, Opening, Upgrading, Calling, Closing}
 use Rattle.gq_model.specs.machine.Scenario.{System, Component}
 use Rattle.gq_model.specs.machine.Routes.{server_of}
 use Rattle.gq_model.specs.machine.World.{Slot, Empty, Waiting, Bytes, Pool, Link, Spot, In_leaf, In_session, In_object, Session, Ask, Ask_open, Ask_upgrade}
-use Rattle.gq_model.specs.machine.World.{Ask_close, Ask_call, Request, Hand, Leaf, World, session_at, slot_at}
+use Rattle.gq_model.specs.machine.World.{Ask_close, Ask_call, Request, Current, Leaf, World, session_at, slot_at}
 use Rattle.gq_model.specs.declared.phase.Phase.{Phase}
 use Rattle.gq_model.specs.declared.phase.Phase.TheVariants.{Pending, Running, Blocked, Serving, Handling, Exited}
 use Rattle.gq_laws.specs.Shapes.{Each}
@@ -46,17 +46,17 @@ abbrev pub outline_in : Option Session → Option Session
 outline_in None = None
 outline_in (Some s) = Some (outline s)
 
--- a leaf's phase, and what is at its hand
+-- a leaf's phase, and what is current at it
 pub record Stance : Type 0 where
   pub phase : Phase
-  pub hand : Option Hand
+  pub current : Option Current
 
-abbrev pub stance : Phase → Option Hand → Stance
-stance phase hand = record { phase = phase; hand = hand }
+abbrev pub stance : Phase → Option Current → Stance
+stance phase current = record { phase = phase; current = current }
 
 abbrev pub stance_in : Option Leaf → Option Stance
 stance_in None = None
-stance_in (Some leaf) = Some (stance leaf.phase leaf.hand)
+stance_in (Some leaf) = Some (stance leaf.phase leaf.current)
 
 -- all of a world that bears on who is linked to whom
 pub record Links : Type 0 where
@@ -85,18 +85,18 @@ abbrev pub requests_of : ℕ → List Request → ℕ
 requests_of k [] = 0
 requests_of k (r ∷ rest) = one_if (r.session == k) + requests_of k rest
 
--- 1 where session k is at this hand
-abbrev pub by_hand : ℕ → Option Hand → ℕ
-by_hand k None = 0
-by_hand k (Some hand) = one_if (hand.session == k)
+-- 1 where session k is this current one
+abbrev pub by_current : ℕ → Option Current → ℕ
+by_current k None = 0
+by_current k (Some current) = one_if (current.session == k)
 
-abbrev pub at_hand : ℕ → Option Stance → ℕ
-at_hand k None = 0
-at_hand k (Some t) = by_hand k t.hand
+abbrev pub at_current : ℕ → Option Stance → ℕ
+at_current k None = 0
+at_current k (Some t) = by_current k t.current
 
--- the requests of session k that wait, and the one at its server's hand
+-- the requests of session k that wait, and the one current at its server
 abbrev pub pending_of : Links → ℕ → Session → ℕ
-pending_of l k s = requests_of k l.requests + at_hand k (l.stances s.server)
+pending_of l k s = requests_of k l.requests + at_current k (l.stances s.server)
 
 abbrev pub is_open : Ask → Bool
 is_open Ask_open = true
@@ -133,23 +133,23 @@ IsAt (Upgrading l) level = l ≡ level
 IsAt (Calling l) level = l ≡ level
 IsAt (Closing l) level = l ≡ level
 
--- what is at a leaf's hand is an accepted session to it, in a section of its level
-abbrev pub Handles : Links → ℕ → Hand → Type 0
-Handles l x hand = (s : Session) × (l.sessions hand.session ≡ Some s) × (s.server ≡ x) × (s.accepted ≡ true) × IsAt hand.section s.level
+-- what is current at a leaf is an accepted session to it, in a section of its level
+abbrev pub Handles : Links → ℕ → Current → Type 0
+Handles l x current = (s : Session) × (l.sessions current.session ≡ Some s) × (s.server ≡ x) × (s.accepted ≡ true) × IsAt current.section s.level
 
--- a leaf has a request at hand where it handles it, or waits in its midst for a reply
-abbrev pub Fits : Phase → Option Hand → Type 0
+-- a leaf has a current request where it handles it, or waits in its midst for a reply
+abbrev pub Fits : Phase → Option Current → Type 0
 Fits Pending None = Unit {0}
 Fits Running None = Unit {0}
-Fits Blocked hand = Unit {0}
+Fits Blocked current = Unit {0}
 Fits Serving None = Unit {0}
-Fits Handling (Some hand) = Unit {0}
+Fits Handling (Some current) = Unit {0}
 Fits Exited None = Unit {0}
-Fits Pending (Some hand) = ⊥
-Fits Running (Some hand) = ⊥
-Fits Serving (Some hand) = ⊥
+Fits Pending (Some current) = ⊥
+Fits Running (Some current) = ⊥
+Fits Serving (Some current) = ⊥
 Fits Handling None = ⊥
-Fits Exited (Some hand) = ⊥
+Fits Exited (Some current) = ⊥
 
 pub record AreLinked (system : System) (l : Links) : Type 0 where
   -- each session stands in one slot of its client, and each slot that names a session is that session's
@@ -162,16 +162,16 @@ pub record AreLinked (system : System) (l : Links) : Type 0 where
   -- an accepted session has its object
   pub objects : (k : ℕ) (s : Session) → l.sessions k ≡ Some s → s.accepted ≡ true → IsBytes s.object
   pub asked : Each (IsAsked l) l.requests
-  pub handles : (x : ℕ) (phase : Phase) (hand : Hand) → l.stances x ≡ Some (stance phase (Some hand)) → Handles l x hand
-  pub fits : (x : ℕ) (t : Stance) → l.stances x ≡ Some t → Fits t.phase t.hand
+  pub handles : (x : ℕ) (phase : Phase) (current : Current) → l.stances x ≡ Some (stance phase (Some current)) → Handles l x current
+  pub fits : (x : ℕ) (t : Stance) → l.stances x ≡ Some t → Fits t.phase t.current
   -- a leaf is blocked just where a slot of its waits, and then one alone
   pub waits : (k : ℕ) (s : Session) → l.sessions k ≡ Some s → l.slots s.spot ≡ Some (Waits k)
-      → (hand : Option Hand) × (l.stances s.client ≡ Some (stance Blocked hand))
+      → (current : Option Current) × (l.stances s.client ≡ Some (stance Blocked current))
   pub alone : (k m : ℕ) (s t : Session) → l.sessions k ≡ Some s → l.sessions m ≡ Some t → l.slots s.spot ≡ Some (Waits k) → l.slots t.spot ≡ Some (Waits m)
       → s.client ≡ t.client → k ≡ m
-  pub blocked : (x : ℕ) (hand : Option Hand) → l.stances x ≡ Some (stance Blocked hand)
+  pub blocked : (x : ℕ) (current : Option Current) → l.stances x ≡ Some (stance Blocked current)
       → (k : ℕ) × (s : Session) × (l.sessions k ≡ Some s) × (s.client ≡ x) × (l.slots s.spot ≡ Some (Waits k))
 
--- in this world sessions, slots, requests and hands agree
+-- in this world sessions, slots, requests and current requests agree
 abbrev pub IsLinkedWorld : System → World → Type 0
 IsLinkedWorld system w = AreLinked system (links w)

@@ -4,7 +4,7 @@ use Rattle.gq_model.specs.declared.program.Section.{Section}
 use Rattle.gq_model.specs.declared.program.Section.TheVariants.{Main, Opening, Upgrading, Calling, Closing}
 use Rattle.gq_model.specs.declared.phase.Phase.TheVariants.{Blocked}
 use Rattle.gq_model.specs.machine.Scenario.{number_of}
-use Rattle.gq_model.specs.machine.World.{Slot, Empty, Waiting, Link, Spot, In_leaf, In_session, In_object, Session, Hand, Leaf, World, session_at, slot_at}
+use Rattle.gq_model.specs.machine.World.{Slot, Empty, Waiting, Link, Spot, In_leaf, In_session, In_object, Session, Current, Leaf, World, session_at, slot_at}
 use Rattle.gq_model.specs.machine.Doing.{Doing, Event}
 use Rattle.gq_model.specs.machine.Step.{serving, resumed, section_ended}
 use Rattle.gq_model.specs.rules.Kinds.{Kind, State, Context}
@@ -13,15 +13,15 @@ use Rattle.gq_laws.specs.Kept.{kind_replied}
 use Rattle.gq_laws.specs.Typed.{AreKinds, BankMeets, Meets}
 use Rattle.gq_laws.specs.Statements.{bare, StandElse}
 
--- the section at hand, for session s, may end by the rules where the leaf stands, and its end leads to this world
-pub record HasEnded (promised : ℕ → Option Kind) (c : Context) (state : State) (d : Doing) (hand : Hand) (s : Session) (w : World) : Type 0 where
+-- the current section, for session s, may end by the rules where the leaf stands, and its end leads to this world
+pub record HasEnded (promised : ℕ → Option Kind) (c : Context) (state : State) (d : Doing) (current : Current) (s : Session) (w : World) : Type 0 where
   pub meets : Meets promised c state d.world d.leaf
   pub last : State
   pub ends : section_end c.subject c.section state ≡ Ok last
-  pub at_hand : d.leaf.hand ≡ Some hand
-  pub there : session_at d.world hand.session ≡ Some s
+  pub at_current : d.leaf.current ≡ Some current
+  pub there : session_at d.world current.session ≡ Some s
   pub event : Event
-  pub ended : section_ended d d.leaf.hand ≡ Ok (w, event)
+  pub ended : section_ended d d.leaf.current ≡ Ok (w, event)
 
 -- WHAT THE WORLD IS
 
@@ -67,13 +67,13 @@ session_then (In_object k) slot j s = s
 
 -- a leaf that goes on, with these operands and slots
 abbrev pub resuming : Leaf → List ℕ → List Slot → Leaf
-resuming leaf operands slots = record leaf { phase = resumed leaf.hand; operands = operands; slots = slots }
+resuming leaf operands slots = record leaf { phase = resumed leaf.current; operands = operands; slots = slots }
 
 -- the server waits for a request, the client has the reply, and all others are as they were
-pub record Replies (promised : ℕ → Option Kind) (c : Context) (state : State) (d : Doing) (hand : Hand) (s : Session) (w : World) : Type 0 where
+pub record Replies (promised : ℕ → Option Kind) (c : Context) (state : State) (d : Doing) (current : Current) (s : Session) (w : World) : Type 0 where
   pub server : slice_get w.leaves d.x ≡ Some (serving d.leaf)
   -- the session, with its slots as the section left them
-  pub session : session_at w hand.session ≡ session_replied hand.section s
+  pub session : session_at w current.session ≡ session_replied current.section s
   pub bank : BankMeets promised c state.bank s
   -- the client is another leaf, which waited and goes on
   pub other : s.client ≢ d.x
@@ -81,19 +81,19 @@ pub record Replies (promised : ℕ → Option Kind) (c : Context) (state : State
   pub was : slice_get d.world.leaves s.client ≡ Some client
   pub blocked : client.phase ≡ Blocked
   pub operands : List ℕ
-  pub replied : AreReplied (number_of c.subject.provided (λ i. i.reply)) hand.section client.operands operands
-  pub goes_on : slice_get w.leaves s.client ≡ Some (resuming client operands (own_then s.spot (slot_replied hand.section hand.session) client.slots))
+  pub replied : AreReplied (number_of c.subject.provided (λ i. i.reply)) current.section client.operands operands
+  pub goes_on : slice_get w.leaves s.client ≡ Some (resuming client operands (own_then s.spot (slot_replied current.section current.session) client.slots))
   -- its slot
-  pub waited : slot_at d.world s.spot ≡ Some (Waiting hand.session)
+  pub waited : slot_at d.world s.spot ≡ Some (Waiting current.session)
   -- all else
   pub leaves : (y : ℕ) → y ≢ d.x → y ≢ s.client → slice_get w.leaves y ≡ slice_get d.world.leaves y
-  pub sessions : (j : ℕ) → j ≢ hand.session → session_at w j ≡ session_then s.spot (slot_replied hand.section hand.session) j (session_at d.world j)
+  pub sessions : (j : ℕ) → j ≢ current.session → session_at w j ≡ session_then s.spot (slot_replied current.section current.session) j (session_at d.world j)
   pub requests : w.requests ≡ d.world.requests
 
 -- where a section may end by the rules and does, the world is this
 abbrev pub RepliesAsRuled : (ℕ → Option Kind) → Context → Doing → Type 0
 RepliesAsRuled promised c d =
-    (state : State) (hand : Hand) (s : Session) (w : World) → HasEnded promised c state d hand s w → Replies promised c state d hand s w
+    (state : State) (current : Current) (s : Session) (w : World) → HasEnded promised c state d current s w → Replies promised c state d current s w
 
 -- WHERE LEAVES STAND
 
@@ -112,15 +112,15 @@ KeepsBank promised k old new =
     → (t : Session) × (session_at new j ≡ Some t) × (bare t ≡ bare s) × (t.object ≡ s.object) × AreKinds promised t.slots kinds
 
 -- the client stands where it stood, with the reply to a call, and so do all others
-pub record Resumes (promised : ℕ → Option Kind) (c : Context) (d : Doing) (hand : Hand) (s : Session) (w : World) : Type 0 where
+pub record Resumes (promised : ℕ → Option Kind) (c : Context) (d : Doing) (current : Current) (s : Session) (w : World) : Type 0 where
   pub client : (e : Context) (state : State) (old : Leaf) → slice_get d.world.leaves s.client ≡ Some old → Meets promised e state d.world old
       → (leaf : Leaf) × (slice_get w.leaves s.client ≡ Some leaf)
-      × Meets promised e (once_replied (number_of c.subject.provided (λ i. i.reply)) hand.section state) w leaf
+      × Meets promised e (once_replied (number_of c.subject.provided (λ i. i.reply)) current.section state) w leaf
   pub others : StandElse promised d w
-  pub sessions : KeepsBank promised hand.session d.world w
+  pub sessions : KeepsBank promised current.session d.world w
 
 -- where what is promised of the session is what the reply makes of its slot
 abbrev pub ResumesAsRuled : (ℕ → Option Kind) → Context → Doing → Type 0
 ResumesAsRuled promised c d =
-    (state : State) (hand : Hand) (s : Session) (w : World) → HasEnded promised c state d hand s w
-    → promised hand.session ≡ Some (kind_replied hand.section s) → Resumes promised c d hand s w
+    (state : State) (current : Current) (s : Session) (w : World) → HasEnded promised c state d current s w
+    → promised current.session ≡ Some (kind_replied current.section s) → Resumes promised c d current s w

@@ -1,7 +1,7 @@
 -- Worlds in which a client that waits for the reply to a call has room for it on its operands.
 use Rattle.std.specs.Prelude.{◌≡◌, ℕ, ◌≤◌, length, Some, slice_get}
 use Rattle.gq_model.specs.declared.program.Section.TheVariants.{Calling}
-use Rattle.gq_model.specs.machine.World.{Session, Ask, Ask_open, Ask_upgrade, Ask_close, Ask_call, Request, Hand, Leaf, World, session_at}
+use Rattle.gq_model.specs.machine.World.{Session, Ask, Ask_open, Ask_upgrade, Ask_close, Ask_call, Request, Current, Leaf, World, session_at}
 use Rattle.gq_laws.specs.Shapes.{Each}
 
 -- the client of session k has at most 15 operands
@@ -18,8 +18,8 @@ HasRoomIfCalled w k (Ask_call value) = HasRoomFor w k
 abbrev pub HasRoomAsked : World → Request → Type 0
 HasRoomAsked w r = HasRoomIfCalled w r.session r.ask
 
--- a call of session k at hand, at this level of the session
-abbrev pub calling : ℕ → ℕ → Hand
+-- a call of session k current, at this level of the session
+abbrev pub calling : ℕ → ℕ → Current
 calling k level = record { session = k; section = Calling level }
 
 pub record IsRoomy (w : World) : Type 0 where
@@ -27,5 +27,5 @@ pub record IsRoomy (w : World) : Type 0 where
   pub small : (x : ℕ) (leaf : Leaf) → slice_get w.leaves x ≡ Some leaf → length leaf.operands ≤ 16
   -- who waits for a call to be taken up has room for the reply
   pub asked : Each (HasRoomAsked w) w.requests
-  -- and so has who waits for the end of a call at hand
-  pub handled : (x : ℕ) (leaf : Leaf) (k level : ℕ) → slice_get w.leaves x ≡ Some leaf → leaf.hand ≡ Some (calling k level) → HasRoomFor w k
+  -- and so has who waits for the end of a current call
+  pub handled : (x : ℕ) (leaf : Leaf) (k level : ℕ) → slice_get w.leaves x ≡ Some leaf → leaf.current ≡ Some (calling k level) → HasRoomFor w k

@@ -24,7 +24,7 @@ use Rattle.gq_laws.specs.Asking.{IsWithin}
 abbrev pub EndsAsRuled : (ℕ → Option Kind) → Context → Doing → Type 0
 EndsAsRuled promised c d =
     (state last : State) (wrong : Wrong) → Meets promised c state d.world d.leaf → section_end c.subject c.section state ≡ Ok last
-    → section_ended d d.leaf.hand ≡ Err wrong → wrong ≡ ExceededQuota
+    → section_ended d d.leaf.current ≡ Err wrong → wrong ≡ ExceededQuota
 
 -- STARTS
 
@@ -50,7 +50,7 @@ pub record Begins (promised : ℕ → Option Kind) (v : Subject) (section : Sect
   pub meets : Meets promised (context v section) (start_of v section) w leaf
   pub todo : leaf.todo ≡ body v section
   pub loops : leaf.loops ≡ []
-  pub hand : leaf.hand ≡ Some (record { session = r.session; section = section })
+  pub current : leaf.current ≡ Some (record { session = r.session; section = section })
   pub phase : leaf.phase ≡ Handling
 
 -- a request that is taken up is not wrong, but for want of quota, and the leaf stands at the start of the section that it asks for

@@ -19,7 +19,7 @@ pub record Stands (s : Scenario) (w : World) : Type 0 where
   pub sound : IsSound s
   -- there is a leaf for each component, with all its slots
   pub whole : IsWholeWorld (system s) w
-  -- sessions, the slots that name them, requests and hands agree
+  -- sessions, the slots that name them, requests and current requests agree
   pub linked : IsLinkedWorld (system s) w
   -- what is left to each leaf are statements of its program
   pub left : AreLeft (IsGood (system s)) (system s) w

@@ -10,7 +10,7 @@ use Rattle.gq_model.specs.declared.fault.Wrong.TheVariants.{ExceededQuota}
 use Rattle.gq_model.specs.machine.Program.{Statements, Done, Do, If, Loop}
 use Rattle.gq_model.specs.texts.Operands.{operands, in_range}
 use Rattle.gq_model.specs.machine.Scenario.{Component, interface_in}
-use Rattle.gq_model.specs.machine.World.{Empty, Waiting, Spot, Session, Hand, Round, Leaf, World, session_at, slot_at, spot_of, start_leaf}
+use Rattle.gq_model.specs.machine.World.{Empty, Waiting, Spot, Session, Current, Round, Leaf, World, session_at, slot_at, spot_of, start_leaf}
 use Rattle.gq_model.specs.machine.Doing.{Doing, Event, Stepped}
 use Rattle.gq_model.specs.machine.Step.{instruct, perform}
 use Rattle.gq_model.specs.rules.Kinds.{Kind, State, Context, Subject}
@@ -34,35 +34,35 @@ IsOfOwn (Close place) = ⊥
 IsOfOwn _ = Unit {0}
 
 -- the leaf of the step is the one that the world has, but for its statements and the like
-pub record Takes (d : Doing) : Type 0 where
+pub record TakesLeaf (d : Doing) : Type 0 where
   pub old : Leaf
   pub there : slice_get d.world.leaves d.x ≡ Some old
   pub slots : d.leaf.slots ≡ old.slots
   pub phase : d.leaf.phase ≡ old.phase
-  pub hand : d.leaf.hand ≡ old.hand
+  pub current : d.leaf.current ≡ old.current
 
 -- no slot that the leaf can name waits for a reply
 abbrev pub IsAwake : Doing → Type 0
-IsAwake d = (place : Place) (q : Spot) (k : ℕ) → spot_of d.x d.leaf.hand place ≡ Some q → slot_at d.world q ≢ Some (Waiting k)
+IsAwake d = (place : Place) (q : Spot) (k : ℕ) → spot_of d.x d.leaf.current place ≡ Some q → slot_at d.world q ≢ Some (Waiting k)
 
--- what the rules take for granted of the system, of links and of the session at hand
+-- what the rules take for granted of the system, of links and of the current session
 pub record Grants (promised : ℕ → Option Kind) (c : Context) (d : Doing) : Type 0 where
   pub interfaces : c.subject.interfaces ≡ d.system.interfaces
-  -- the session at hand is one of the service that the leaf provides
-  pub provided : (hand : Hand) (s : Session) → d.leaf.hand ≡ Some hand → session_at d.world hand.session ≡ Some s
+  -- the current session is one of the service that the leaf provides
+  pub provided : (current : Current) (s : Session) → d.leaf.current ≡ Some current → session_at d.world current.session ≡ Some s
       → interface_in s.service d.system.interfaces ≡ c.subject.provided
   pub links : PromisesLinks promised d.world
   pub buffers : SharesBuffers d.system promised d.world
   pub awake : IsAwake d
 
--- the leaf of the step stands at the state in this world, with the same statements left and the same session at hand
+-- the leaf of the step stands at the state in this world, with the same statements left and the same current session
 pub record StandsAt (promised : ℕ → Option Kind) (c : Context) (state : State) (d : Doing) (w : World) : Type 0 where
   pub leaf : Leaf
   pub there : slice_get w.leaves d.x ≡ Some leaf
   pub meets : Meets promised c state w leaf
   pub todo : leaf.todo ≡ d.leaf.todo
   pub loops : leaf.loops ≡ d.leaf.loops
-  pub hand : leaf.hand ≡ d.leaf.hand
+  pub current : leaf.current ≡ d.leaf.current
   pub phase : leaf.phase ≡ d.leaf.phase
 
 -- a leaf at the start of `main` stands where the rules start, if its program has 8 locals
@@ -85,7 +85,7 @@ pub record LeadsOn (promised : ℕ → Option Kind) (c : Context) (old end : Sta
   pub meets : Meets promised (within c leaf.loops) state w leaf
   pub moves : Moves c old d.leaf.todo d.leaf.loops state leaf.todo leaf.loops
   pub goes_on : Continues c state leaf.todo leaf.loops end
-  pub hand : leaf.hand ≡ d.leaf.hand
+  pub current : leaf.current ≡ d.leaf.current
   pub phase : leaf.phase ≡ d.leaf.phase
 
 -- what comes next is a statement in range that asks nothing of a session, a choice, a loop that has a round, or the end of a body
@@ -108,30 +108,30 @@ LeadsAsRuled promised c d =
 abbrev pub bare : Session → Session
 bare s = record s { object = Empty; slots = [] }
 
-abbrev pub IsElse : ℕ → Option Hand → Type 0
+abbrev pub IsElse : ℕ → Option Current → Type 0
 IsElse k None = Unit {0}
-IsElse k (Some hand) = hand.session ≢ k
+IsElse k (Some current) = current.session ≢ k
 
--- a session keeps its parts, the kind of its object and, where it is not at hand, the kinds of its slots
-pub record KeepsSession (hand : Option Hand) (k : ℕ) (old new : Session) : Type 0 where
+-- a session keeps its parts, the kind of its object and, where it is not current, the kinds of its slots
+pub record KeepsSession (current : Option Current) (k : ℕ) (old new : Session) : Type 0 where
   pub rest : bare new ≡ bare old
   pub object : StaysOfKind old.object new.object
-  pub slots : IsElse k hand → StayOfKind old.slots new.slots
+  pub slots : IsElse k current → StayOfKind old.slots new.slots
 
-abbrev pub KeepsSessionIn : Option Hand → ℕ → Option Session → Option Session → Type 0
-KeepsSessionIn hand k None new = new ≡ None
-KeepsSessionIn hand k (Some old) new = (s : Session) × (new ≡ Some s) × KeepsSession hand k old s
+abbrev pub KeepsSessionIn : Option Current → ℕ → Option Session → Option Session → Type 0
+KeepsSessionIn current k None new = new ≡ None
+KeepsSessionIn current k (Some old) new = (s : Session) × (new ≡ Some s) × KeepsSession current k old s
 
--- the step keeps the other leaves, the requests and, but for what is in slots at hand and in bytes, the sessions
+-- the step keeps the other leaves, the requests and, but for what is in slots of the current session and in bytes, the sessions
 pub record LeavesOthers (d : Doing) (w : World) : Type 0 where
   pub leaves : (y : ℕ) → y ≢ d.x → slice_get w.leaves y ≡ slice_get d.world.leaves y
   pub requests : w.requests ≡ d.world.requests
-  pub sessions : (k : ℕ) → KeepsSessionIn d.leaf.hand k (session_at d.world k) (session_at w k)
+  pub sessions : (k : ℕ) → KeepsSessionIn d.leaf.current k (session_at d.world k) (session_at w k)
 
--- a leaf that has another session at hand, or none, stands in this world where it stood
+-- a leaf that has another current session, or none, stands in this world where it stood
 abbrev pub StandElse : (ℕ → Option Kind) → Doing → World → Type 0
 StandElse promised d w =
-    (c : Context) (state : State) (leaf : Leaf) → ((hand : Hand) → leaf.hand ≡ Some hand → IsElse hand.session d.leaf.hand)
+    (c : Context) (state : State) (leaf : Leaf) → ((current : Current) → leaf.current ≡ Some current → IsElse current.session d.leaf.current)
     → Meets promised c state d.world leaf → Meets promised c state w leaf
 
 -- so far as no session is asked, each step inside a section leaves others as they are, whatever the rules say of it

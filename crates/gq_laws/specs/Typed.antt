@@ -4,7 +4,7 @@ use Rattle.gq_model.specs.declared.program.Form.TheVariants.{Slice, Space}
 use Rattle.gq_model.specs.declared.program.Section.{Section}
 use Rattle.gq_model.specs.machine.Amounts.{Amount}
 use Rattle.gq_model.specs.machine.Scenario.{System, number_of}
-use Rattle.gq_model.specs.machine.World.{Slot, Empty, Waiting, Bytes, Pool, Link, Spot, Session, Hand, Round, Leaf, World, session_at, slot_at}
+use Rattle.gq_model.specs.machine.World.{Slot, Empty, Waiting, Bytes, Pool, Link, Spot, Session, Current, Round, Leaf, World, session_at, slot_at}
 use Rattle.gq_model.specs.machine.Memory.{room, buffer_of}
 use Rattle.gq_model.specs.rules.Kinds.{Kind, Empty_kind, Memory, Pool_kind, Link_kind, State, Context, in_main}
 use Rattle.gq_laws.specs.Kept.{Under}
@@ -59,26 +59,26 @@ AreCounts (r ∷ loops) [] = ⊥
 
 -- SECTIONS
 
--- `main` has nothing at hand, and every other section a session of which it is a section
-abbrev pub IsAtHand : Section → Option Hand → Type 0
-IsAtHand section None = in_main section ≡ true
-IsAtHand section (Some hand) = (hand.section ≡ section) × (in_main section ≡ false)
+-- `main` has no current request, and every other section a session of which it is a section
+abbrev pub IsCurrent : Section → Option Current → Type 0
+IsCurrent section None = in_main section ≡ true
+IsCurrent section (Some current) = (current.section ≡ section) × (in_main section ≡ false)
 
 -- the session's slots are of these kinds, and its object is a slice of so many bytes
 pub record BankMeets (promised : ℕ → Option Kind) (c : Context) (kinds : List Kind) (s : Session) : Type 0 where
   pub slots : AreKinds promised s.slots kinds
   pub object : IsKind promised s.object (Memory Slice (number_of c.subject.provided (λ i. i.object)))
 
--- the session at hand, if there is one
-abbrev pub HandMeets : (ℕ → Option Kind) → Context → List Kind → World → Option Hand → Type 0
-HandMeets promised c kinds w None = Unit {0}
-HandMeets promised c kinds w (Some hand) = (s : Session) × (session_at w hand.session ≡ Some s) × BankMeets promised c kinds s
+-- the current session, if there is one
+abbrev pub CurrentMeets : (ℕ → Option Kind) → Context → List Kind → World → Option Current → Type 0
+CurrentMeets promised c kinds w None = Unit {0}
+CurrentMeets promised c kinds w (Some current) = (s : Session) × (session_at w current.session ≡ Some s) × BankMeets promised c kinds s
 
 -- the leaf stands at the state
 pub record Meets (promised : ℕ → Option Kind) (c : Context) (state : State) (w : World) (leaf : Leaf) : Type 0 where
   pub own : AreKinds promised leaf.slots state.own
-  pub hand : IsAtHand c.section leaf.hand
-  pub bank : HandMeets promised c state.bank w leaf.hand
+  pub current : IsCurrent c.section leaf.current
+  pub bank : CurrentMeets promised c state.bank w leaf.current
   pub operands : Under leaf.operands state.bounds
   pub locals : Under leaf.locals c.subject.program.locals
   pub loops : AreCounts leaf.loops c.counts

@@ -7,11 +7,11 @@ use Rattle.gq_model.specs.declared.phase.Phase.{Phase}
 use Rattle.gq_model.specs.declared.phase.Phase.TheVariants.{Pending, Running, Blocked, Serving, Handling, Exited}
 use Rattle.gq_model.specs.machine.Program.{Statements, section_in}
 use Rattle.gq_model.specs.machine.Scenario.{Interface, System, Component, interface_in, number_of}
-use Rattle.gq_model.specs.machine.World.{Empty, Session, Request, Hand, Round, Leaf, World, session_at}
+use Rattle.gq_model.specs.machine.World.{Empty, Session, Request, Current, Round, Leaf, World, session_at}
 use Rattle.gq_model.specs.machine.Step.{section_for}
 use Rattle.gq_model.specs.rules.Kinds.{Kind, Memory, Link_kind, State}
 use Rattle.gq_model.specs.rules.Flow.{flow, context, body, start_of, own_after}
-use Rattle.gq_laws.specs.Kept.{level_then, section_at_hand, section_asked, kind_replied, within, Continues, bank_kinds}
+use Rattle.gq_laws.specs.Kept.{level_then, current_section, section_asked, kind_replied, within, Continues, bank_kinds}
 use Rattle.gq_model.specs.rules.Verdict.{is_wanted}
 use Rattle.gq_model.specs.rules.Use.{subject}
 use Rattle.gq_laws.specs.Shapes.{Each}
@@ -27,15 +27,15 @@ kind_then s None = Link_kind s.service s.level s.donation
 kind_then s (Some section) = kind_replied section s
 
 -- this is promised of each session
-abbrev pub Tells : (ℕ → Option Kind) → World → Type 0
-Tells promised w = (k : ℕ) (s : Session) → session_at w k ≡ Some s → promised k ≡ Some (kind_then s (section_asked w k s))
+abbrev pub PromisesSessions : (ℕ → Option Kind) → World → Type 0
+PromisesSessions promised w = (k : ℕ) (s : Session) → session_at w k ≡ Some s → promised k ≡ Some (kind_then s (section_asked w k s))
 
 -- LEAVES
 
 -- the section that a leaf is in
-abbrev pub section_of : Option Hand → Section
+abbrev pub section_of : Option Current → Section
 section_of None = Main
-section_of (Some hand) = hand.section
+section_of (Some current) = current.section
 
 -- the leaf waits for the reply to a request of a session of its; with that reply it will stand at the second state
 pub record IsAwaited (system : System) (w : World) (x : ℕ) (state next : State) : Type 0 where
@@ -79,11 +79,11 @@ pub record IsInSection (promised : ℕ → Option Kind) (extra : Extra) (system 
 
 -- so a leaf stands by its phase; one that waits for a request has its slots as `main` left them, and one that has ended has none in use
 abbrev pub StandsBy : (ℕ → Option Kind) → Extra → System → World → ℕ → Component → Leaf → Phase → Type 0
-StandsBy promised extra system w x c leaf Pending = IsInSection promised extra system w x c leaf Pending (section_of leaf.hand)
-StandsBy promised extra system w x c leaf Running = IsInSection promised extra system w x c leaf Running (section_of leaf.hand)
-StandsBy promised extra system w x c leaf Blocked = IsInSection promised extra system w x c leaf Blocked (section_of leaf.hand)
+StandsBy promised extra system w x c leaf Pending = IsInSection promised extra system w x c leaf Pending (section_of leaf.current)
+StandsBy promised extra system w x c leaf Running = IsInSection promised extra system w x c leaf Running (section_of leaf.current)
+StandsBy promised extra system w x c leaf Blocked = IsInSection promised extra system w x c leaf Blocked (section_of leaf.current)
 StandsBy promised extra system w x c leaf Serving = AreKinds promised leaf.slots (own_after (subject system c))
-StandsBy promised extra system w x c leaf Handling = IsInSection promised extra system w x c leaf Handling (section_of leaf.hand)
+StandsBy promised extra system w x c leaf Handling = IsInSection promised extra system w x c leaf Handling (section_of leaf.current)
 StandsBy promised extra system w x c leaf Exited = leaf.slots ≡ replicate 64 Empty
 
 abbrev pub StandAll : (ℕ → Option Kind) → Extra → System → World → Type 0
@@ -98,12 +98,12 @@ pub record RestsAt (promised : ℕ → Option Kind) (system : System) (server : 
   pub bank : AreKinds promised s.slots (bank_kinds system server s)
   pub object : s.accepted ≡ true → IsKind promised s.object (Memory Slice (number_of (subject system server).provided (λ i. i.object)))
 
--- a session is of a service that has an interface with its level, and stands so where it is not at its server's hand
+-- a session is of a service that has an interface with its level, and stands so where it is not current at its server
 pub record FitsService (promised : ℕ → Option Kind) (system : System) (w : World) (k : ℕ) (s : Session) : Type 0 where
   pub interface : Interface
   pub known : interface_in s.service system.interfaces ≡ Some interface
   pub level : s.level ≤ length interface.upgrades
-  pub rests : (server : Component) → slice_get system.components s.server ≡ Some server → section_at_hand k (slice_get w.leaves s.server) ≡ None
+  pub rests : (server : Component) → slice_get system.components s.server ≡ Some server → current_section k (slice_get w.leaves s.server) ≡ None
       → RestsAt promised system server s
 
 -- a request is for a section that its service has, with an argument in the interface's bound
@@ -116,7 +116,7 @@ FitsRequest system w r =
 
 -- with what is promised of sessions, all of this holds
 pub record IsTypedBy (promised : ℕ → Option Kind) (extra : Extra) (system : System) (w : World) : Type 0 where
-  pub tells : Tells promised w
+  pub tells : PromisesSessions promised w
   pub leaves : StandAll promised extra system w
   pub sessions : (k : ℕ) (s : Session) → session_at w k ≡ Some s → FitsService promised system w k s
   pub requests : Each (FitsRequest system w) w.requests

@@ -20,7 +20,7 @@ ghost use Rattle.gq_laws.specs.Typing.{IsTyped};
 ///
 /// `typed`: in each world that a run comes to, each leaf stands at a state of the verifier's rules from which what is left of its section
 /// leads to the section's end by the rules; a leaf that waits for a request has its slots as its `main` left them. Each session is of a
-/// service that has an interface with the session's level, and where it is not at its server's hand, its slots are as its last section left
+/// service that has an interface with the session's level, and where it is not current at its server, its slots are as its last section left
 /// them. Each request is for a section that its service has, with an argument in the interface's bound.
 ///
 /// `upheld`: in each such world every leaf can take its turn, so no step is wrong. All is paid for. Each leaf has taken at most the steps of

@@ -1,4 +1,4 @@
-//! Laws of the account machine: theorems over its definitions alone, each the contract of a call that does nothing.
+//! Laws of the abstract machine: theorems over its definitions alone, each the contract of a call that does nothing.
 //!
 //! - `accepted`, `reached`, `ready`, `room`, `statements`, `turns`: what holds of every world of a sound scenario, and of its runs;
 //! - `progress`: no deadlock, and all work ends;

@@ -16,7 +16,7 @@ ghost use Rattle.gq_laws.specs.Resolved.{IsResolved};
 /// among the leaves.
 ///
 /// `linked`: each session stands in just one slot of its client, as a link where it is accepted and has no request, and waiting
-/// where just one request of its waits or is at hand; its server is where the client's route leads. A leaf is blocked just where
+/// where just one request of its waits or is current; its server is where the client's route leads. A leaf is blocked just where
 /// one slot of its waits, and then one alone.
 ///
 /// `paid`: where no two leaves have the same name, each leaf is paid for: what it holds and has lent is no more than it was handed

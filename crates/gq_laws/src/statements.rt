@@ -9,7 +9,7 @@ ghost use Rattle.gq_model.specs.rules.Use.{subject};
 ghost use Rattle.gq_laws.specs.Sections.{BeginsAsRuled, EndsAsRuled};
 ghost use Rattle.gq_laws.specs.Replies.{RepliesAsRuled, ResumesAsRuled};
 ghost use Rattle.gq_laws.specs.Asking.{TellsLinks, AsksAsRuled};
-ghost use Rattle.gq_laws.specs.Statements.{Takes, Grants, StartsAsRuled, GoesAsRuled, LeadsAsRuled, LeavesOthers, KeepsToItself, StandElse, KeepsPromises};
+ghost use Rattle.gq_laws.specs.Statements.{TakesLeaf, Grants, StartsAsRuled, GoesAsRuled, LeadsAsRuled, LeavesOthers, KeepsToItself, StandElse, KeepsPromises};
 ghost use Rattle.gq_laws.specs.Statements.{IsAwake};
 
 /// What statements do where the verifier's rules allow them. But for `asks` of one that asks nothing of a session: on operands, locals or
@@ -18,15 +18,15 @@ ghost use Rattle.gq_laws.specs.Statements.{IsAwake};
 /// `starts`: a leaf at the start of `main` stands where the rules start, if its program has 8 locals.
 ///
 /// `own`: where a leaf stands at a state of the rules, a statement that the rules allow there is not wrong, but for want of quota,
-/// and leaves the leaf at the state that the rules tell, with the same statements left and the same session at hand.
+/// and leaves the leaf at the state that the rules tell, with the same statements left and the same current session.
 ///
 /// `leads`: inside a section such a statement, a choice, a loop that is entered and the end of a loop's body are not wrong either, but
 /// for want of quota, and from where the leaf stands then what is left of the section leads by the rules to the same end of it.
 ///
 /// `others`: whatever the rules say, such a step keeps every other leaf and the requests. Each session keeps its parts and the kind
-/// of its object, and one that is not at hand the kinds of its slots: of those, bytes alone may change, behind a link.
+/// of its object, and one that is not current the kinds of its slots: of those, bytes alone may change, behind a link.
 ///
-/// `stand`: so another leaf stands where it stood, if no session is at the hand of both.
+/// `stand`: so another leaf stands where it stood, if no session is current at both.
 ///
 /// `kept`: in a linked world such a step keeps what is promised of links and of the buffers behind them.
 ///
@@ -39,29 +39,29 @@ ghost use Rattle.gq_laws.specs.Statements.{IsAwake};
 ///
 /// `ends`: where a leaf stands at a state in which its section may end by the rules, the end is not wrong, but for want of quota.
 ///
-/// `replies`: in a linked world, where a section at hand may end by the rules and does, its server waits for a request with the same slots,
+/// `replies`: in a linked world, where a current section may end by the rules and does, its server waits for a request with the same slots,
 /// and the session stays with its slots as they are, but a close ends it. Its client, another leaf, goes on: the slot that waited holds the
 /// link, or nothing after a close, and the reply to a call, in the interface's bound, is on top. All other leaves, slots and requests stay.
 ///
 /// `resumes`: then the client stands where it stood, with the reply to a call in the interface's bound, if of its slot was promised what the
-/// reply makes of it. Another leaf with another session at hand stands where it stood, and no slot of another session is of another kind.
+/// reply makes of it. Another leaf with another current session stands where it stood, and no slot of another session is of another kind.
 ///
 /// `awake`: in a linked world no slot that a leaf can name waits, unless the leaf is blocked. `own`, `leads` and `asks` take this for granted.
 pub fn statement_laws()
     ensures starts { (promised : ℕ → Option Kind) (v : Subject) → StartsAsRuled promised v }
-    ensures own { (promised : ℕ → Option Kind) (c : Context) (d : Doing) → Takes d → Grants promised c d → GoesAsRuled promised c d }
-    ensures leads { (promised : ℕ → Option Kind) (c : Context) (d : Doing) → Takes d → Grants promised c d → LeadsAsRuled promised c d }
+    ensures own { (promised : ℕ → Option Kind) (c : Context) (d : Doing) → TakesLeaf d → Grants promised c d → GoesAsRuled promised c d }
+    ensures leads { (promised : ℕ → Option Kind) (c : Context) (d : Doing) → TakesLeaf d → Grants promised c d → LeadsAsRuled promised c d }
     ensures others { (d : Doing) → KeepsToItself d }
     ensures stand { (promised : ℕ → Option Kind) (d : Doing) (w : World) → LeavesOthers d w → StandElse promised d w }
-    ensures kept { (promised : ℕ → Option Kind) (d : Doing) → Takes d → IsLinkedWorld d.system d.world → KeepsPromises promised d }
-    ensures asks { (promised : ℕ → Option Kind) (c : Context) (d : Doing) → Takes d → IsLinkedWorld d.system d.world → TellsLinks promised d.world
+    ensures kept { (promised : ℕ → Option Kind) (d : Doing) → TakesLeaf d → IsLinkedWorld d.system d.world → KeepsPromises promised d }
+    ensures asks { (promised : ℕ → Option Kind) (c : Context) (d : Doing) → TakesLeaf d → IsLinkedWorld d.system d.world → TellsLinks promised d.world
         → Grants promised c d → AsksAsRuled promised c d }
-    ensures begins { (promised : ℕ → Option Kind) (d : Doing) → Takes d → BeginsAsRuled promised d }
-    ensures ends { (promised : ℕ → Option Kind) (c : Context) (d : Doing) → Takes d → Grants promised c d → c.subject ≡ subject d.system d.component
+    ensures begins { (promised : ℕ → Option Kind) (d : Doing) → TakesLeaf d → BeginsAsRuled promised d }
+    ensures ends { (promised : ℕ → Option Kind) (c : Context) (d : Doing) → TakesLeaf d → Grants promised c d → c.subject ≡ subject d.system d.component
         → EndsAsRuled promised c d }
-    ensures replies { (promised : ℕ → Option Kind) (c : Context) (d : Doing) → Takes d → IsLinkedWorld d.system d.world → d.leaf.phase ≡ Handling
+    ensures replies { (promised : ℕ → Option Kind) (c : Context) (d : Doing) → TakesLeaf d → IsLinkedWorld d.system d.world → d.leaf.phase ≡ Handling
         → RepliesAsRuled promised c d }
-    ensures resumes { (promised : ℕ → Option Kind) (c : Context) (d : Doing) → Takes d → IsLinkedWorld d.system d.world → d.leaf.phase ≡ Handling
+    ensures resumes { (promised : ℕ → Option Kind) (c : Context) (d : Doing) → TakesLeaf d → IsLinkedWorld d.system d.world → d.leaf.phase ≡ Handling
         → ResumesAsRuled promised c d }
-    ensures awake { (d : Doing) → Takes d → IsLinkedWorld d.system d.world → d.leaf.phase ≢ Blocked → IsAwake d }
+    ensures awake { (d : Doing) → TakesLeaf d → IsLinkedWorld d.system d.world → d.leaf.phase ≢ Blocked → IsAwake d }
 {}

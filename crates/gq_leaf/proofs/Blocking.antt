@@ -29,7 +29,7 @@ use Rattle.gq_leaf.specs.Leaves.{LeafState, StandsAs, body_at, leaf_of, stepped}
 use Rattle.gq_leaf.specs.Coded.{Coded, operation_of}
 use Rattle.gq_leaf.specs.Steps.{LeadsTo}
 use Rattle.gq_leaf.specs.internal.Holds.{IsSoundCode}
-use Rattle.gq_leaf.proofs.Instructing.{blocks, doing, hand_is, next_do, operands_are}
+use Rattle.gq_leaf.proofs.Instructing.{blocks, doing, current_is, next_do, operands_are}
 use Rattle.gq_leaf.proofs.Leading.{section, stated_next}
 use Rattle.gq_leaf.proofs.Standing.{set_elsewhere, set_here, setting}
 
@@ -67,12 +67,12 @@ module _ (system : System) (f : Frame) (s : Slots) (x : ℕ) (c : Component) (ol
   waiting ops = record (stepped old ops) { phase = phase.Blocked }
 
   pub asks : (g : Frame) (ops : List ℕ) → IsElsewhere f g x → g.leaf x ≡ leaf_of c.node.program (waiting ops)
-      → IsAsking (doing system f s x c old bs l st active i size stated) (record { leaf = x; hand = old.hand }) f g s ops
+      → IsAsking (doing system f s x c old bs l st active i size stated) (record { leaf = x; current = old.current }) f g s ops
   asks g ops e now =
       let same : stage_in (g.leaf x).phase ≡ stage_in (f.leaf x).phase =
       ap (λ (y : world.Leaf). stage_in y.phase) now ∙ active_stage old.phase active ∙ sym (ap (λ (y : world.Leaf). stage_in y.phase) st.leaf) in
       record {
-        by = record { leaf = refl; hand = hand_is system f s x c old bs l st active i size stated };
+        by = record { leaf = refl; current = current_is system f s x c old bs l st active i size stated };
         of = still_of system f g s x st.of e same;
         blocks = record { world_before = refl; world_after = blocks system f s x c old bs l st active i size stated g ops e now };
       }
@@ -95,7 +95,7 @@ Asks a i had ops s t result = (f g : Frame) (d : Doing) → IsBy d a → IsOf d.
 module _ (l : Coded) (sound : IsSoundCode l.code) (does : Operation) (next_is : operation_of l ≡ Some does) (more : does ≡ operation.End → ⊥) (x : ℕ)
     (bs : List ℕ) (s t : Slots) (i : Instruction) (stands : instruction_in l.code.longs does ≡ Some i) where
   abbrev actor : Actor
-  actor = record { leaf = x; hand = l.state.hand }
+  actor = record { leaf = x; current = l.state.current }
 
   pub asked_leads : (new : Coded) (ops : List ℕ) (result : Result (Unit {0}) Wrong) → new.state ≡ record (stepped l.state ops) { phase = phase.Blocked }
       → Asks actor i l.state.registers.operands ops s t result → LeadsTo x bs l new s t (done result)

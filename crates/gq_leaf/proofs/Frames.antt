@@ -5,8 +5,8 @@ use Rattle.gq_model.specs.machine.World as world
 use Rattle.gq_store.specs.Store.{Store}
 use Rattle.gq_heap.specs.declared.heap.Heap.{Heap}
 use Rattle.gq_heap.specs.Heap.{peaks}
-use Rattle.gq_contents.specs.Things.{seen}
-use Rattle.gq_contents.specs.declared.thing.Thing.{Thing}
+use Rattle.gq_contents.specs.Contents.{seen}
+use Rattle.gq_contents.specs.declared.content.Content.{Content}
 use Rattle.gq_slots.specs.Slots.{Frame, Slots, leaf_seen, leaves_seen, memory_of, world_seen}
 use Rattle.gq_trade.specs.Seen.{sessions_seen}
 use Rattle.gq_leaf.specs.Frames.{IsElsewhere}
@@ -14,11 +14,11 @@ use Rattle.gq_leaf.specs.Frames.{IsElsewhere}
 abbrev Leaves : Type 0
 Leaves = ℕ → world.Leaf
 
-leaves_same : (l m : Leaves) (st : ℕ → Store) (own : List (List Thing)) (hs : List Heap) → ((y : ℕ) → m y ≡ l y)
+leaves_same : (l m : Leaves) (st : ℕ → Store) (own : List (List Content)) (hs : List Heap) → ((y : ℕ) → m y ≡ l y)
     → leaves_seen m st own hs ≡ leaves_seen l st own hs
 leaves_same l m st own hs e k = leaves_seen (λ y. e y k) st own hs
 
-leaves_changed : (l m : Leaves) (st : ℕ → Store) (own : List (List Thing)) (hs : List Heap) (x : ℕ) (h : Heap) → x < length own → x < length hs
+leaves_changed : (l m : Leaves) (st : ℕ → Store) (own : List (List Content)) (hs : List Heap) (x : ℕ) (h : Heap) → x < length own → x < length hs
     → ((y : ℕ) → (y ≡ x → ⊥) → m y ≡ l y)
     → leaves_seen m st own hs ≡ slice_set (leaves_seen l st own hs) x (leaf_seen (m x) (st x) (get_or own x []) (get_or hs x h))
 leaves_changed l m st [] hs x h lo lh e = absurd (omega (arith, lo))
@@ -33,7 +33,7 @@ leaves_changed l m st (ts ∷ own) (g ∷ hs) (suc x) h lo lh e =
     λ k. leaf_seen (first k) (st 0) ts g ∷ rest k
 
 -- where the world has a leaf, there are slots and a heap for it
-found_both : (l : Leaves) (st : ℕ → Store) (own : List (List Thing)) (hs : List Heap) (x : ℕ) (leaf : world.Leaf)
+found_both : (l : Leaves) (st : ℕ → Store) (own : List (List Content)) (hs : List Heap) (x : ℕ) (leaf : world.Leaf)
     → slice_get (leaves_seen l st own hs) x ≡ Some leaf → (x < length own) × (x < length hs)
 found_both l st [] hs x leaf e = cc
 found_both l st (ts ∷ own) [] x leaf e = cc
@@ -44,7 +44,7 @@ found_both l st (ts ∷ own) (g ∷ hs) (suc x) leaf e =
     let b = r.1 in
     (omega (arith, a), omega (arith, b))
 
-found_leaf : (l : Leaves) (st : ℕ → Store) (own : List (List Thing)) (hs : List Heap) (x : ℕ) (leaf : world.Leaf) (h : Heap)
+found_leaf : (l : Leaves) (st : ℕ → Store) (own : List (List Content)) (hs : List Heap) (x : ℕ) (leaf : world.Leaf) (h : Heap)
     → slice_get (leaves_seen l st own hs) x ≡ Some leaf → leaf ≡ leaf_seen (l x) (st x) (get_or own x []) (get_or hs x h)
 found_leaf l st [] hs x leaf h e = cc
 found_leaf l st (ts ∷ own) [] x leaf h e = cc

@@ -25,7 +25,7 @@ use Rattle.gq_leaf.specs.Coded.{Coded, operation_of}
 use Rattle.gq_leaf.specs.Steps.{OpensNowhere, OpensTo, UpgradesTo}
 use Rattle.gq_leaf.specs.internal.Holds.{IsSoundCode}
 use Rattle.gq_leaf.proofs.Blocking.{as_it_is, asks}
-use Rattle.gq_leaf.proofs.Instructing.{doing, hand_is, next_do, operands_are}
+use Rattle.gq_leaf.proofs.Instructing.{doing, current_is, next_do, operands_are}
 use Rattle.gq_leaf.proofs.Leading.{section, stated_next}
 use Rattle.gq_leaf.proofs.Standing.{set_elsewhere, set_here, setting}
 
@@ -46,7 +46,7 @@ module _ (l : Coded) (sound : IsSoundCode l.code) (place : Place) (n : ℕ) (nex
 
   pub upgrade_leads : (new : Coded) (result : Result (Unit {0}) Wrong)
       → new.state ≡ record (stepped l.state l.state.registers.operands) { phase = phase.Blocked }
-      → Upgraded (record { leaf = x; hand = l.state.hand }) place n donation s t result → UpgradesTo x bs place n donation l new s t (done result)
+      → Upgraded (record { leaf = x; current = l.state.current }) place n donation s t result → UpgradesTo x bs place n donation l new s t (done result)
   upgrade_leads new result to made system f g c lawful st active e now given =
       let i = instruction.Upgrade place n in
       let size = length (section l does sound next_is no_end).ops in
@@ -57,11 +57,11 @@ module _ (l : Coded) (sound : IsSoundCode l.code) (place : Place) (n : ℕ) (nex
       let named : (k : ℕ) (q : world.Session) → session_named d place ≡ Some k → world.session_at d.world k ≡ Some q
       → donation ≡ amount n (upgrade_caps (interface_in q.service d.system.interfaces) q.level) =
       λ k q at there. given k q (ap (λ h. leads_from (world_seen f s) (world.spot_of x h place))
-      (sym (hand_is system f s x c l.state bs lawful st.stands active i size stated)) ∙ at) there in
+      (sym (current_is system f s x c l.state bs lawful st.stands active i size stated)) ∙ at) there in
       next_do system f s x c l.state bs lawful st.stands active i size stated
       ∙ made f g d n a.by a.of (as_it_is d f g s ops (operands_are system f s x c l.state bs lawful st.stands active i size stated) a.blocks) named
 
-  pub upgrade_fails : (new : Coded) (wrong : Wrong) → Upgraded (record { leaf = x; hand = l.state.hand }) place n donation s t (Err wrong)
+  pub upgrade_fails : (new : Coded) (wrong : Wrong) → Upgraded (record { leaf = x; current = l.state.current }) place n donation s t (Err wrong)
       → UpgradesTo x bs place n donation l new s t (done (Err wrong))
   upgrade_fails new wrong made system f g c lawful st active e now given =
       let i = instruction.Upgrade place n in
@@ -74,7 +74,7 @@ module _ (l : Coded) (sound : IsSoundCode l.code) (place : Place) (n : ℕ) (nex
       let named : (k : ℕ) (q : world.Session) → session_named d place ≡ Some k → world.session_at d.world k ≡ Some q
       → donation ≡ amount n (upgrade_caps (interface_in q.service d.system.interfaces) q.level) =
       λ k q at there. given k q (ap (λ h. leads_from (world_seen f s) (world.spot_of x h place))
-      (sym (hand_is system f s x c l.state bs lawful st.stands active i size stated)) ∙ at) there in
+      (sym (current_is system f s x c l.state bs lawful st.stands active i size stated)) ∙ at) there in
       next_do system f s x c l.state bs lawful st.stands active i size stated
       ∙ made f (setting f x leaf) d n a.by a.of
       (as_it_is d f (setting f x leaf) s ops (operands_are system f s x c l.state bs lawful st.stands active i size stated) a.blocks) named
@@ -116,7 +116,7 @@ module _ (name : List ℕ) (n : ℕ) (place : Place) (d : Doing) (none : server_
   by (Some spot) = filled spot (world.slot_at d.world spot)
 
   nowhere : requests.open_session d place name n ≡ Err WrongKind
-  nowhere = by (world.spot_of d.x d.leaf.hand place)
+  nowhere = by (world.spot_of d.x d.leaf.current place)
 
 module _ (l : Coded) (sound : IsSoundCode l.code) (statement : ℕ) (place : Place) (name : List ℕ) (n : ℕ)
     (next_is : operation_of l ≡ Some (operation.Long statement)) (stands : slice_get l.code.longs statement ≡ Some (instruction.Open place name n))
@@ -138,7 +138,7 @@ module _ (l : Coded) (sound : IsSoundCode l.code) (statement : ℕ) (place : Pla
   module _ (t : Slots) (server service : ℕ) (donation : Amount) where
     pub open_leads : (new : Coded) (result : Result (Unit {0}) Wrong)
         → new.state ≡ record (stepped l.state l.state.registers.operands) { phase = phase.Blocked }
-        → Opened (record { leaf = x; hand = l.state.hand }) place name n server service donation s t result
+        → Opened (record { leaf = x; current = l.state.current }) place name n server service donation s t result
         → OpensTo x bs name n server service donation l new s t (done result)
     open_leads new result to made system f g c lawful st active e now named routed given =
         let i = instruction.Open place name n in
@@ -151,7 +151,8 @@ module _ (l : Coded) (sound : IsSoundCode l.code) (statement : ℕ) (place : Pla
         ∙ made f g d a.by a.of (as_it_is d f g s ops (operands_are system f s x c l.state bs lawful st.stands active i size stated) a.blocks)
         (named ∙ ap (λ ns. get_or ns service []) (sym e.names)) routed given
 
-    pub open_fails : (new : Coded) (wrong : Wrong) → Opened (record { leaf = x; hand = l.state.hand }) place name n server service donation s t (Err wrong)
+    pub open_fails : (new : Coded) (wrong : Wrong)
+        → Opened (record { leaf = x; current = l.state.current }) place name n server service donation s t (Err wrong)
         → OpensTo x bs name n server service donation l new s t (done (Err wrong))
     open_fails new wrong made system f g c lawful st active e now named routed given =
         let i = instruction.Open place name n in

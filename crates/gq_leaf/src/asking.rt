@@ -10,7 +10,7 @@ ghost use Rattle.gq_bytecode.specs.declared.operation.Operation.TheVariants as o
 ghost use Rattle.gq_trade.specs.Numbers.{free_number};
 ghost use Rattle.gq_trade.specs.Trades.{IsLive};
 ghost use Rattle.gq_trade.specs.Waiting.{IsIdle};
-ghost use Rattle.gq_statements.specs.Statements.{IsAtHand, done};
+ghost use Rattle.gq_statements.specs.Statements.{IsCurrent, done};
 ghost use Rattle.gq_statements.specs.Requests.{OwnsLinks, Stays};
 ghost use Rattle.gq_leaf.specs.Coded.{operation_of};
 ghost use Rattle.gq_leaf.specs.Steps.{LeadsTo, OpensTo, UpgradesTo, blocked_on};
@@ -41,7 +41,7 @@ impl Leaf {
         requires next { operation_of self.old ≡ Some (operation.Close place) }
         requires countable { self.old.state.steps + 1 < 2 ^ 64 }
         requires live { IsLive slots.old.trades number }
-        requires hand { IsAtHand slots.old number self.old.state.hand }
+        requires current { IsCurrent slots.old number self.old.state.current }
         requires idle { IsIdle slots.old.trades.trading number }
         requires linked { OwnsLinks slots.old number }
         ensures step { (bs : List ℕ) → LeadsTo number bs self.old self.new slots.old slots.new (done result) }
@@ -52,7 +52,7 @@ impl Leaf {
     {
         let actor = Actor {
             leaf: number,
-            hand: self.hand,
+            current: self.current,
         };
         match close(actor, slots, place) {
             Err(wrong) => Err(wrong),
@@ -71,7 +71,7 @@ impl Leaf {
         requires next { operation_of self.old ≡ Some (operation.Call place) }
         requires countable { self.old.state.steps + 1 < 2 ^ 64 }
         requires live { IsLive slots.old.trades number }
-        requires hand { IsAtHand slots.old number self.old.state.hand }
+        requires current { IsCurrent slots.old number self.old.state.current }
         requires idle { IsIdle slots.old.trades.trading number }
         requires linked { OwnsLinks slots.old number }
         ensures step { (bs : List ℕ) → LeadsTo number bs self.old self.new slots.old slots.new (done result) }
@@ -85,7 +85,7 @@ impl Leaf {
         };
         let actor = Actor {
             leaf: number,
-            hand: self.hand,
+            current: self.current,
         };
         match call(actor, slots, place, value) {
             Err(wrong) => Err(wrong),
@@ -112,7 +112,7 @@ impl Leaf {
         requires next { operation_of self.old ≡ Some (operation.Upgrade place bytes) }
         requires countable { self.old.state.steps + 1 < 2 ^ 64 }
         requires live { IsLive slots.old.trades number }
-        requires hand { IsAtHand slots.old number self.old.state.hand }
+        requires current { IsCurrent slots.old number self.old.state.current }
         requires idle { IsIdle slots.old.trades.trading number }
         requires linked { OwnsLinks slots.old number }
         requires counted { slots.old.trades.trading.memory.ledger.price ≡ 0 → donation.caps ≡ 0 }
@@ -125,7 +125,7 @@ impl Leaf {
         let _bytes = bytes;
         let actor = Actor {
             leaf: number,
-            hand: self.hand,
+            current: self.current,
         };
         match upgrade(actor, slots, place, donation) {
             Err(wrong) => Err(wrong),
@@ -154,7 +154,7 @@ impl Leaf {
         requires place { IsTrue (is_slot place) }
         requires countable { self.old.state.steps + 1 < 2 ^ 64 }
         requires live { IsLive slots.old.trades number }
-        requires hand { IsAtHand slots.old number self.old.state.hand }
+        requires current { IsCurrent slots.old number self.old.state.current }
         requires server { IsLive slots.old.trades server × (number ≡ server → ⊥) }
         requires service { service < length slots.old.trades.trading.objects }
         requires counted { slots.old.trades.trading.memory.ledger.price ≡ 0 → donation.caps ≡ 0 }
@@ -171,7 +171,7 @@ impl Leaf {
         let _statement = statement;
         let actor = Actor {
             leaf: number,
-            hand: self.hand,
+            current: self.current,
         };
         match open(actor, slots, place, Some(server), service, donation) {
             Err(wrong) => Err(wrong),

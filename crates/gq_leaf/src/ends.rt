@@ -6,7 +6,7 @@ ghost use Rattle.gq_leaf.specs.Ends.{begun, exited, resumed, served};
 use crate::leaf::Leaf;
 use gq_model::phase::Phase;
 use gq_model::program::Section;
-use gq_statements::Hand;
+use gq_statements::Current;
 
 impl Leaf {
     /// It waits for a request from now on, a step further.
@@ -15,7 +15,7 @@ impl Leaf {
         ensures { self.new ≡ record self.old { state = served self.old.state } }
     {
         self.phase = Phase::Serving;
-        self.hand = None;
+        self.current = None;
         self.place = self.code.place(Section::Main);
         self.registers.clear();
         self.steps += 1;
@@ -25,7 +25,7 @@ impl Leaf {
     pub fn resume(&mut self)
         ensures { self.new ≡ record self.old { state = resumed self.old.state self.old.state.registers.operands } }
     {
-        self.phase = match self.hand {
+        self.phase = match self.current {
             None => Phase::Running,
             Some(_) => Phase::Handling,
         };
@@ -40,26 +40,26 @@ impl Leaf {
         self.resume();
     }
 
-    /// It is at the start of the section at hand, a step further.
-    pub fn begin(&mut self, hand: Hand)
+    /// It is at the start of the current section, a step further.
+    pub fn begin(&mut self, current: Current)
         requires { self.old.state.steps + 1 < 2 ^ 64 }
-        ensures { self.new ≡ record self.old { state = begun self.old.state hand [] } }
+        ensures { self.new ≡ record self.old { state = begun self.old.state current [] } }
     {
         self.phase = Phase::Handling;
-        self.hand = Some(hand);
-        self.place = self.code.place(hand.section);
+        self.current = Some(current);
+        self.place = self.code.place(current.section);
         self.registers.begin();
         self.steps += 1;
     }
 
-    /// It is at the start of the section at hand, a step further, with the argument of a call on top.
-    pub fn begin_with(&mut self, hand: Hand, argument: u32)
+    /// It is at the start of the current section, a step further, with the argument of a call on top.
+    pub fn begin_with(&mut self, current: Current, argument: u32)
         requires { self.old.state.steps + 1 < 2 ^ 64 }
-        ensures { self.new ≡ record self.old { state = begun self.old.state hand (argument ∷ []) } }
+        ensures { self.new ≡ record self.old { state = begun self.old.state current (argument ∷ []) } }
     {
         self.phase = Phase::Handling;
-        self.hand = Some(hand);
-        self.place = self.code.place(hand.section);
+        self.current = Some(current);
+        self.place = self.code.place(current.section);
         self.registers.begin_with(argument);
         self.steps += 1;
     }

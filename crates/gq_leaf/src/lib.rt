@@ -1,4 +1,4 @@
-//! A leaf with the bytecode of its program, and each of its steps as the account machine has it.
+//! A leaf with the bytecode of its program, and each of its steps as the abstract machine has it.
 //!
 //! A [`Leaf`] stands at a place in its code. [`Leaf::run`] takes the steps in which the leaf alone has a part, and [`Leaf::run_over`] most of those on its
 //! memory, too; who runs the leaf then does the operation that it came to, over the slots of the machine.

@@ -20,7 +20,7 @@ pub fn changed_frame()
         → world_seen g s ≡ world.with_leaf (world_seen f s) x (record (g.leaf x) { slots = leaf.slots; peaks = leaf.peaks }) }
 {}
 
-/// A leaf that takes steps and has an instruction before it does it: this is the step of the account machine. It does nothing.
+/// A leaf that takes steps and has an instruction before it does it: this is the step of the abstract machine. It does nothing.
 pub fn instructed()
     ensures { (system : System) (w : world.World) (x : ℕ) (c : Component) (leaf : world.Leaf) (i : Instruction) (rest : Statements)
         → slice_get system.components x ≡ Some c → slice_get w.leaves x ≡ Some leaf → Active leaf.phase → leaf.todo ≡ Do i rest
@@ -30,8 +30,8 @@ pub fn instructed()
 /// What a statement does to a leaf's registers and to slots is the leaf's step: in every world in which the leaf stands before it, the next step leads to the
 /// one in which it stands as after it, with the new operands, at the next place, one step further; or it is wrong with the same fault. It does nothing.
 pub fn stepped()
-    ensures done { (x : ℕ) (bs : List ℕ) (i : Instruction) (old new : LeafState) (core : Core) (s t : Slots) (a : Actor) → a.leaf ≡ x → a.hand ≡ old.hand
+    ensures done { (x : ℕ) (bs : List ℕ) (i : Instruction) (old new : LeafState) (core : Core) (s t : Slots) (a : Actor) → a.leaf ≡ x → a.current ≡ old.current
         → Does a bs i old.registers core s t (Ok tt) → new ≡ stepped old core.operands → Steps x bs i old new s t (Ok tt) }
     ensures wrong { (x : ℕ) (bs : List ℕ) (i : Instruction) (old new : LeafState) (core : Core) (s t : Slots) (a : Actor) (wrong : Wrong) → a.leaf ≡ x
-        → a.hand ≡ old.hand → Does a bs i old.registers core s t (Err wrong) → Steps x bs i old new s t (Err wrong) }
+        → a.current ≡ old.current → Does a bs i old.registers core s t (Err wrong) → Steps x bs i old new s t (Err wrong) }
 {}

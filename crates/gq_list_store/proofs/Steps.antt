@@ -6,12 +6,14 @@ use Rattle.gq_store.proofs.Lists.{put_here}
 use Rattle.gq_heap.specs.declared.heap.Heap.{Heap}
 use Rattle.gq_heap.specs.declared.heap.Place.{Place}
 use Rattle.gq_heap.specs.declared.heap.Place.TheVariants.{Small}
-use Rattle.gq_heap.specs.Heap.{IsHeap, IsInUse, Inserts, SameBytes, Allocates, byte_of, room_of, Keeps as KeepsHeap, Owns as OwnsHeap, Puts as PutsBlock}
+use Rattle.gq_heap.specs.Heap.{IsHeap, IsInUse, Inserts, SameBytes, Allocates, byte_of, room_of, KeepsPlaces as KeepsHeap, Owns as OwnsHeap}
+use Rattle.gq_heap.specs.Heap.{PutsInBlock as PutsBlock}
 use Rattle.gq_heap.proofs.Callers.{room_there, heap_there, heap_stays}
-use Rattle.gq_sliced.specs.Slices.{HasSize, slice_byte, Makes as MakesSlice, Puts as PutsSlice}
+use Rattle.gq_sliced.specs.Slices.{HasSize, slice_byte, Makes as MakesSlice, PutsInSlice as PutsSlice}
 use Rattle.gq_sliced.proofs.Callers.{size_stays}
 use Rattle.gq_pool.specs.declared.pool.Pool.{Pool}
-use Rattle.gq_pool.specs.Pools.{places_of, entry_byte, IsTable, IsPool, Keeps, KeepsTwoNow, OwnsBoth, OwnsTwo, KeepsNow, Makes, Takes, Gives, Reads, Puts, Ends}
+use Rattle.gq_pool.specs.Pools.{places_of, entry_byte, IsTable, IsPool, KeepsPool, KeepsTwoNow, OwnsBoth, OwnsTwo, KeepsNow, Makes, AddsEntry, RemovesEntry}
+use Rattle.gq_pool.specs.Pools.{Reads, PutsInEntry, Ends}
 use Rattle.gq_pool.proofs.Held.{goes, among_others}
 use Rattle.gq_pool.proofs.Entries.{entry_room}
 use Rattle.gq_pool.proofs.Callers.{pool_beside, taken, given}
@@ -28,7 +30,7 @@ block_in ps qs others block = (
 )
 
 block_room : (heap : Heap) (st : Store) (pool : Pool) (held : List (Option ℕ)) (qs others : List Place) (block : Place)
-    → Keeps pool heap st held (qs ++ (block ∷ others)) → 0 < room_of block
+    → KeepsPool pool heap st held (qs ++ (block ∷ others)) → 0 < room_of block
 block_room heap st pool held qs others block k = room_there heap st block (record {
   places = places_of pool.class held ++ (qs ++ (block ∷ others));
   rest = places_of pool.class held ++ (qs ++ others);
@@ -108,7 +110,7 @@ module _ (a b : Pool) (before after : Heap) (old new : Store) (block : Place) (s
 
 -- ---- the calls of `trade`
 pub first_takes : (a b : Pool) (before after : Heap) (old new : Store) (block : Place) (slice : ℕ) (added : Bool) → IsLaid a b before old block slice
-    → Takes a before after old new 0 added → (v : ℕ) × IsFilled a b after new block slice v
+    → AddsEntry a before after old new 0 added → (v : ℕ) × IsFilled a b after new block slice v
 first_takes a b before after old new block slice added s t =
     let others = places_of b.class s.more ++ (block ∷ s.others) in
     let r = taken a before after old new 0 added s.held others s.laid.pools.keeps (omega (arith, s.four.0)) t in (
@@ -126,7 +128,7 @@ first_takes a b before after old new block slice added s t =
     )
 
 pub first_puts : (a b : Pool) (heap : Heap) (old new : Store) (block : Place) (slice v w : ℕ) → IsFilled a b heap old block slice v
-    → Puts a heap old new 0 2 (w ∷ []) → IsFilled a b heap new block slice w
+    → PutsInEntry a heap old new 0 2 (w ∷ []) → IsFilled a b heap new block slice w
 first_puts a b heap old new block slice v w s p =
     let others = places_of b.class s.more ++ (block ∷ s.others) in
     let n = now_within a heap old new s.held others (OwnsBoth a heap old s.held others s.laid.pools.keeps) (p.keeps s.held others s.laid.pools.keeps) in
@@ -144,14 +146,14 @@ first_puts a b heap old new block slice v w s p =
     }
 
 pub second_takes : (a b : Pool) (before after : Heap) (old new : Store) (block : Place) (slice v : ℕ) (added : Bool)
-    → IsFilled a b before old block slice v → Takes b before after old new 1 added → IsFilled a b after new block slice v
+    → IsFilled a b before old block slice v → AddsEntry b before after old new 1 added → IsFilled a b after new block slice v
 second_takes a b before after old new block slice v added s t =
     let u = turned a b before old block slice s.held s.more s.others s.laid in
     let r = taken b before after old new 1 added s.more (places_of a.class s.held ++ (block ∷ s.others)) u.pools.keeps (omega (arith, s.four.2)) t in
     second_called a b before after old new block slice v s r.then s.more r.now r.bytes
 
 pub second_gives : (a b : Pool) (before after : Heap) (old new : Store) (block : Place) (slice v : ℕ) (removed : Bool)
-    → IsFilled a b before old block slice v → Gives b before after old new 1 removed → IsFilled a b after new block slice v
+    → IsFilled a b before old block slice v → RemovesEntry b before after old new 1 removed → IsFilled a b after new block slice v
 second_gives a b before after old new block slice v removed s g =
     let u = turned a b before old block slice s.held s.more s.others s.laid in
     let others = places_of a.class s.held ++ (block ∷ s.others) in
@@ -254,7 +256,7 @@ slice_laid heap old mid new block others slice s m p =
 
 -- the first pool is made beside them
 pub record HasFirst (a : Pool) (heap : Heap) (st : Store) (block : Place) (others : List Place) (slice : ℕ) : Type 0 where
-  pub keeps : Keeps a heap st (replicate 4 None) (block ∷ others)
+  pub keeps : KeepsPool a heap st (replicate 4 None) (block ∷ others)
   pub in_block : byte_of st block 0 ≡ 9
   pub has : HasSize st slice 16
   pub apart : OwnsBoth a heap st (replicate 4 None) (block ∷ others) keeps slice → ⊥

@@ -6,7 +6,7 @@ use Rattle.gq_heap.specs.declared.heap.Place.{Place}
 use Rattle.gq_heap.specs.Heap.{byte_of}
 use Rattle.gq_sliced.specs.Slices.{HasSize, slice_byte}
 use Rattle.gq_pool.specs.declared.pool.Pool.{Pool}
-use Rattle.gq_pool.specs.Pools.{entry_byte, Keeps, KeepsTwo, OwnsTwo}
+use Rattle.gq_pool.specs.Pools.{entry_byte, KeepsPool, KeepsTwo, OwnsTwo}
 
 -- The pools keep these entries, the heap beside them the block and these other places, and the slice is none of their chunks. The byte 3 of the slice
 -- is 7, the byte 0 of the block is 9.
@@ -41,7 +41,7 @@ pub record IsFilled (first second : Pool) (heap : Heap) (st : Store) (block : Pl
 pub record IsLeft (first : Pool) (heap : Heap) (st : Store) (block : Place) (slice v : ℕ) : Type 0 where
   pub held : List (Option ℕ)
   pub others : List Place
-  pub keeps : Keeps first heap st held (block ∷ others)
+  pub keeps : KeepsPool first heap st held (block ∷ others)
   pub four : (first.count ≡ 4) × (first.size ≡ 16)
   pub entry : ℕ
   pub at : get_or held 0 None ≡ Some entry

@@ -9,7 +9,7 @@ use Rattle.gq_model.specs.rules.Accept.{Refusal}
 use Rattle.gq_model.specs.rules.Use.{services}
 use Rattle.gq_budget.specs.Counts.{Counted, IsCountOf, AreCountsOf}
 use Rattle.gq_load.specs.Load.{Fault, refused}
-use Rattle.gq_load.specs.Faults.{Gives}
+use Rattle.gq_load.specs.Faults.{PrintsFault}
 use Rattle.gq_load.specs.internal.Judged.{judged_by}
 use Rattle.gq_load.specs.internal.Leaves.{counted_leaves}
 use Rattle.gq_load.specs.internal.Surveys.{own_of, leaf_by, AreSurveys}
@@ -67,7 +67,8 @@ surveyed_end i all place owns counted opened past h =
 -- RULES
 
 -- an error for the texts and codes, or for one rule, is one for them or the first rule
-pub gives_either : (e : LoadError) (o : Option Fault) (a b : Option Refusal) → Gives e (or_first o (refused a)) → Gives e (or_first o (refused (or_first a b)))
+pub gives_either : (e : LoadError) (o : Option Fault) (a b : Option Refusal) → PrintsFault e (or_first o (refused a))
+    → PrintsFault e (or_first o (refused (or_first a b)))
 gives_either error.Memory o a b h = tt
 gives_either (error.Fault f) None None b h = absurd h
 gives_either (error.Fault f) None (Some why) b h = h

@@ -13,7 +13,7 @@ use Rattle.gq_load.specs.internal.Judged.{leaf_refusal, first_refusal}
 use Rattle.gq_load.specs.internal.Budgets.{kept_from, budget_refusal}
 use Rattle.gq_scenario.specs.Reading.{scenario_in}
 use Rattle.gq_load.specs.Load.{Fault, sources_fault, refused, scenario_fault, loaded_or, loaded_from, loaded}
-use Rattle.gq_load.specs.Faults.{Gives, Refuses, load_error_of}
+use Rattle.gq_load.specs.Faults.{PrintsFault, Refuses, load_error_of}
 use Rattle.gq_load.specs.declared.fault.LoadError.{LoadError}
 use Rattle.gq_load.specs.declared.fault.LoadError.TheVariants as error
 use Rattle.gq_load.proofs.Budgets.{own_kept, steps_kept, all_kept}
@@ -25,33 +25,33 @@ first_same system [] = refl
 first_same system (c ∷ rest) = ap (or_first (leaf_refusal system.interfaces c)) (first_same system rest)
 
 -- an error for one of several reasons is one for the first
-gives_here : (e : LoadError) (a b : Option Refusal) → Gives e (refused a) → Gives e (refused (or_first a b))
+gives_here : (e : LoadError) (a b : Option Refusal) → PrintsFault e (refused a) → PrintsFault e (refused (or_first a b))
 gives_here error.Memory a b h = tt
 gives_here (error.Fault f) None b h = absurd h
 gives_here (error.Fault f) (Some why) b h = h
 
-gives_next : (e : LoadError) (a b : Option Refusal) → a ≡ None → Gives e (refused b) → Gives e (refused (or_first a b))
-gives_next e a b none h = subst (λ a. Gives e (refused (or_first a b))) (sym none) h
+gives_next : (e : LoadError) (a b : Option Refusal) → a ≡ None → PrintsFault e (refused b) → PrintsFault e (refused (or_first a b))
+gives_next e a b none h = subst (λ a. PrintsFault e (refused (or_first a b))) (sym none) h
 
 none_both : (a b : Option Refusal) → a ≡ None → b ≡ None → or_first a b ≡ None
 none_both a b e f = ap (λ a. or_first a b) e ∙ f
 
 -- a program that is refused
-pub for_program : (s : Scenario) (e : LoadError) → Gives e (refused (first_refusal s.interfaces (components s))) → Gives e (refused (refusal s))
+pub for_program : (s : Scenario) (e : LoadError) → PrintsFault e (refused (first_refusal s.interfaces (components s))) → PrintsFault e (refused (refusal s))
 for_program s e h =
-    gives_here e (program_refusal (system s) (components s)) _ (subst (λ o. Gives e (refused o)) (first_same (system s) (components s)) h)
+    gives_here e (program_refusal (system s) (components s)) _ (subst (λ o. PrintsFault e (refused o)) (first_same (system s) (components s)) h)
 
 programs_none : (s : Scenario) → first_refusal s.interfaces (components s) ≡ None → program_refusal (system s) (components s) ≡ None
 programs_none s none = sym (first_same (system s) (components s)) ∙ none
 
 -- a scenario that is not resolved
 resolve_gives : (s : Scenario) (e : ResolveError) → Finds {A = Unit {0}} (Err e) (unresolved s)
-    → Gives (load_error_of e) (refused (not_resolved (unresolved s)))
+    → PrintsFault (load_error_of e) (refused (not_resolved (unresolved s)))
 resolve_gives s (resolve.Memory why) h = tt
 resolve_gives s (resolve.Fault why) h = rw h refl
 
 pub for_resolve : (s : Scenario) (e : ResolveError) → first_refusal s.interfaces (components s) ≡ None → Finds {A = Unit {0}} (Err e) (unresolved s)
-    → Gives (load_error_of e) (refused (refusal s))
+    → PrintsFault (load_error_of e) (refused (refusal s))
 for_resolve s e none h =
     gives_next (load_error_of e) (program_refusal (system s) (components s)) _ (programs_none s none)
     (gives_here (load_error_of e) (not_resolved (unresolved s)) _ (resolve_gives s e h))
@@ -66,10 +66,10 @@ budgets_same s =
     ∙ ap (λ o. or_first (own_refusal Ram cs (budgets s)) (or_first (steps_refusal cs (budgets s)) o)) (own_kept Caps s.version (system s) 0 cs cs))
 
 pub for_budgets : (s : Scenario) (e : LoadError) → first_refusal s.interfaces (components s) ≡ None → unresolved s ≡ None
-    → Gives e (refused (budget_refusal (components s) (kept_from s.version (system s) 0 (components s)))) → Gives e (refused (refusal s))
+    → PrintsFault e (refused (budget_refusal (components s) (kept_from s.version (system s) 0 (components s)))) → PrintsFault e (refused (refusal s))
 for_budgets s e none resolved h =
     gives_next e (program_refusal (system s) (components s)) _ (programs_none s none)
-    (gives_next e (not_resolved (unresolved s)) _ (ap not_resolved resolved) (subst (λ o. Gives e (refused o)) (budgets_same s) h))
+    (gives_next e (not_resolved (unresolved s)) _ (ap not_resolved resolved) (subst (λ o. PrintsFault e (refused o)) (budgets_same s) h))
 
 -- no reason at all
 pub accepted : (s : Scenario) → first_refusal s.interfaces (components s) ≡ None → unresolved s ≡ None
@@ -95,24 +95,24 @@ kept_are s fit =
 
 -- FAULTS OF A SCENARIO
 
-fault_here : (e : LoadError) (a b : Option Fault) → Gives e a → Gives e (or_first a b)
+fault_here : (e : LoadError) (a b : Option Fault) → PrintsFault e a → PrintsFault e (or_first a b)
 fault_here error.Memory a b h = tt
 fault_here (error.Fault f) None b h = absurd h
 fault_here (error.Fault f) (Some why) b h = h
 
-pub for_sources : (s : Scenario) (e : LoadError) → Gives e (sources_fault (components s)) → Gives e (scenario_fault s)
+pub for_sources : (s : Scenario) (e : LoadError) → PrintsFault e (sources_fault (components s)) → PrintsFault e (scenario_fault s)
 for_sources s e h = fault_here e (sources_fault (components s)) _ h
 
-pub for_refusal : (s : Scenario) (e : LoadError) → sources_fault (components s) ≡ None → Gives e (refused (refusal s)) → Gives e (scenario_fault s)
-for_refusal s e none h = subst (λ a. Gives e (or_first a (refused (refusal s)))) (sym none) h
+pub for_refusal : (s : Scenario) (e : LoadError) → sources_fault (components s) ≡ None → PrintsFault e (refused (refusal s)) → PrintsFault e (scenario_fault s)
+for_refusal s e none h = subst (λ a. PrintsFault e (or_first a (refused (refusal s)))) (sym none) h
 
 -- the first fault of the texts and codes, or the first rule that a program breaks
-pub for_survey : (s : Scenario) (e : LoadError) → Gives e (or_first (sources_fault (components s)) (refused (first_refusal s.interfaces (components s))))
-    → Gives e (scenario_fault s)
+pub for_survey : (s : Scenario) (e : LoadError) → PrintsFault e (or_first (sources_fault (components s)) (refused (first_refusal s.interfaces (components s))))
+    → PrintsFault e (scenario_fault s)
 for_survey s e h =
     let o = sources_fault (components s) in
     gives_either e o (program_refusal (system s) (components s)) _
-    (subst (λ (why : Option Refusal). Gives e (or_first o (refused why))) (first_same (system s) (components s)) h)
+    (subst (λ (why : Option Refusal). PrintsFault e (or_first o (refused why))) (first_same (system s) (components s)) h)
 
 pub faultless : (s : Scenario) → sources_fault (components s) ≡ None → refusal s ≡ None → scenario_fault s ≡ None
 faultless s none accepted = ap (λ a. or_first a (refused (refusal s))) none ∙ ap refused accepted
@@ -128,12 +128,13 @@ pub of_kept : (s : Scenario) (cs : List Component) (bs : List Budget) (P : List 
 of_kept s cs bs P e f h = subst (λ cs. P cs (kept_from s.version (system s) 0 cs)) e (subst (P cs) f h)
 
 -- a text whose scenario is refused is refused so
-gives_refuses : (s : Scenario) (o : Option Fault) (e : LoadError) → Gives e o → Refuses e (loaded_or s o)
+gives_refuses : (s : Scenario) (o : Option Fault) (e : LoadError) → PrintsFault e o → Refuses e (loaded_or s o)
 gives_refuses s o error.Memory h = tt
 gives_refuses s None (error.Fault f) h = h
 gives_refuses s (Some fault) (error.Fault f) h = h
 
-pub refuses_so : {A : Type 0} (text : List ℕ) (s : Scenario) (r : Result A LoadError) → scenario_in text ≡ Ok s → IfErr r (λ e. Gives e (scenario_fault s)) →
+pub refuses_so : {A : Type 0} (text : List ℕ) (s : Scenario) (r : Result A LoadError) → scenario_in text ≡ Ok s
+    → IfErr r (λ e. PrintsFault e (scenario_fault s)) →
     IfErr r (λ e. Refuses e (loaded text))
 refuses_so text s (Ok a) is h = tt
 refuses_so text s (Err e) is h = subst (λ (l : Result Scenario Fault). Refuses e l) (sym (ap loaded_from is)) (gives_refuses s (scenario_fault s) e h)

@@ -29,9 +29,9 @@ Prints f None = ⊥
 Prints f (Some fault) = load_fault_text f ≡ fault_text fault
 
 -- so it is, unless host memory was refused
-abbrev pub Gives : LoadError → Option Fault → Type 0
-Gives error.Memory fault = Unit {0}
-Gives (error.Fault f) fault = Prints f fault
+abbrev pub PrintsFault : LoadError → Option Fault → Type 0
+PrintsFault error.Memory fault = Unit {0}
+PrintsFault (error.Fault f) fault = Prints f fault
 
 -- a fault of routes, quanta and the like is one of the text
 abbrev pub load_error_of : ResolveError → LoadError

@@ -8,7 +8,7 @@ ghost use Rattle.gq_resolve.specs.NodeTables.{all_rows};
 ghost use Rattle.gq_resolve.specs.Served.{AreServers};
 ghost use Rattle.gq_load.specs.internal.Accepted.{AreOfAccepted};
 ghost use Rattle.gq_load.specs.internal.Budgets.{kept_from, budget_refusal};
-ghost use Rattle.gq_load.specs.Faults.{Gives, Prints, Refuses};
+ghost use Rattle.gq_load.specs.Faults.{PrintsFault, Prints, Refuses};
 ghost use Rattle.gq_load.specs.internal.Judged.{programs_of, first_refusal};
 ghost use Rattle.gq_load.specs.internal.Surveys.{AreSurveys};
 ghost use Rattle.gq_load.specs.Load.{loaded, scenario_fault, refused};
@@ -108,7 +108,7 @@ pub(crate) fn judge(
     ensures servers { IfOk result (λ found. AreServers scenario.now found.0) }
     ensures budgets { IfOk result (λ found. found.1.items ≡ accept.budgets scenario.now) }
     ensures accepted { IfOk result (λ found. refusal scenario.now ≡ None) }
-    ensures refused { IfErr result (λ e. Gives e (refused (refusal scenario.now))) }
+    ensures refused { IfErr result (λ e. PrintsFault e (refused (refusal scenario.now))) }
 {
     let routes = resolve_opened(alloc, scenario, components, surveys.opened.as_slice())?;
     let budgets = kept_budgets(alloc, scenario, components, &routes, surveys)?;
@@ -130,7 +130,7 @@ fn judge_scenario(alloc: Global, scenario: &Scenario) -> Result<Judged, LoadErro
     ensures entries { IfOk result (λ found. found.entries ≡ all_rows scenario.now) }
     ensures accepted { IfOk result (λ found. AreOfAccepted scenario.now found.budgets.items) }
     ensures faultless { IfOk result (λ found. scenario_fault scenario.now ≡ None) }
-    ensures refused { IfErr result (λ e. Gives e (scenario_fault scenario.now)) }
+    ensures refused { IfErr result (λ e. PrintsFault e (scenario_fault scenario.now)) }
 {
     let components = components(alloc, scenario)?;
     let programs = read_programs(alloc, components.as_slice())?;
@@ -153,7 +153,7 @@ fn judge_scenario(alloc: Global, scenario: &Scenario) -> Result<Judged, LoadErro
 fn accept(alloc: Global, scenario: Scenario) -> Result<Accepted, LoadError>
     ensures scenario { IfOk result (λ a. a ≡ scenario) }
     ensures faultless { IfOk result (λ a. scenario_fault scenario ≡ None) }
-    ensures refused { IfErr result (λ e. Gives e (scenario_fault scenario)) }
+    ensures refused { IfErr result (λ e. PrintsFault e (scenario_fault scenario)) }
 {
     let judged = judge_scenario(alloc, &scenario)?;
     Ok(Accepted {

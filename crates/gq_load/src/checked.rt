@@ -1,7 +1,7 @@
 // Scenarios that are checked alone, so that no program has to stay.
 ghost use Rattle.std.specs.Prelude.{◌≡◌, None, IfOk, IfErr, IsOkAnd};
 ghost use Rattle.gq_model.specs.rules.Accept.{budget_lines};
-ghost use Rattle.gq_load.specs.Faults.{Gives, Refuses};
+ghost use Rattle.gq_load.specs.Faults.{PrintsFault, Refuses};
 ghost use Rattle.gq_load.specs.Load.{loaded, scenario_fault};
 
 use crate::accepted::judge;
@@ -18,7 +18,7 @@ use std::alloc::Global;
 fn scenario_lines(alloc: Global, scenario: &Scenario) -> Result<Vec<u8>, LoadError>
     ensures lines { IfOk result (λ lines. lines.items ≡ budget_lines scenario.now) }
     ensures faultless { IfOk result (λ lines. scenario_fault scenario.now ≡ None) }
-    ensures refused { IfErr result (λ e. Gives e (scenario_fault scenario.now)) }
+    ensures refused { IfErr result (λ e. PrintsFault e (scenario_fault scenario.now)) }
 {
     let components = components(alloc, scenario)?;
     let surveys = survey_sources(alloc, components.as_slice(), scenario.interfaces())?;

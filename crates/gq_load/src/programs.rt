@@ -1,6 +1,6 @@
 // The programs of a scenario's leaves.
 ghost use Rattle.std.specs.Prelude.{◌≡◌, None, IfOk, IfErr, OnOk};
-ghost use Rattle.gq_load.specs.Faults.{Gives};
+ghost use Rattle.gq_load.specs.Faults.{PrintsFault};
 ghost use Rattle.gq_load.specs.internal.Judged.{programs_of};
 ghost use Rattle.gq_load.specs.Load.{source_fault, sources_fault};
 
@@ -20,7 +20,7 @@ use std::alloc::Global;
 pub fn read_program(alloc: Global, leaf: &Leaf) -> Result<Program, LoadError>
     ensures program { IfOk result (λ p. p ≡ leaf.now.program) }
     ensures faultless { IfOk result (λ p. source_fault leaf.now.name leaf.now.source ≡ None) }
-    ensures refused { IfErr result (λ e. Gives e (source_fault leaf.now.name leaf.now.source)) }
+    ensures refused { IfErr result (λ e. PrintsFault e (source_fault leaf.now.name leaf.now.source)) }
 {
     read_program_with(alloc, &mut Spare::new(alloc), leaf)
 }
@@ -33,7 +33,7 @@ pub(crate) fn read_program_with(
 ) -> Result<Program, LoadError>
     ensures program { IfOk result (λ p. p ≡ leaf.now.program) }
     ensures faultless { IfOk result (λ p. source_fault leaf.now.name leaf.now.source ≡ None) }
-    ensures refused { IfErr result (λ e. Gives e (source_fault leaf.now.name leaf.now.source)) }
+    ensures refused { IfErr result (λ e. PrintsFault e (source_fault leaf.now.name leaf.now.source)) }
 {
     match leaf.source() {
         Source::Text(text) => match assemble_with(alloc, spare, text.as_slice()) {
@@ -63,7 +63,7 @@ pub(crate) fn read_programs(
 ) -> Result<Vec<Program>, LoadError>
     ensures programs { IfOk result (λ v. v.items ≡ programs_of components.now) }
     ensures faultless { IfOk result (λ v. sources_fault components.now ≡ None) }
-    ensures refused { IfErr result (λ e. Gives e (sources_fault components.now)) }
+    ensures refused { IfErr result (λ e. PrintsFault e (sources_fault components.now)) }
 {
     let mut programs = Vec::new(alloc);
     for component in components {
@@ -75,7 +75,7 @@ pub(crate) fn read_programs(
 // Makes sure that the texts and codes of these leaves are programs; these are let go.
 pub(crate) fn check_programs(alloc: Global, components: &[Component<'_>]) -> Result<(), LoadError>
     ensures none { OnOk result (sources_fault components.now ≡ None) }
-    ensures refused { IfErr result (λ e. Gives e (sources_fault components.now)) }
+    ensures refused { IfErr result (λ e. PrintsFault e (sources_fault components.now)) }
 {
     for component in components {
         let _program = read_program(alloc, component.leaf())?;

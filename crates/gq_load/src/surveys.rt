@@ -4,7 +4,7 @@ ghost use Rattle.std.specs.Prelude.{◌≡◌, None, Option, IfOk, IfErr, OnOk, 
 ghost use Rattle.gq_model.specs.machine.Lists.{or_first};
 ghost use Rattle.gq_model.specs.rules.Use.{services};
 ghost use Rattle.gq_budget.specs.Counts.{IsCountOf};
-ghost use Rattle.gq_load.specs.Faults.{Gives};
+ghost use Rattle.gq_load.specs.Faults.{PrintsFault};
 ghost use Rattle.gq_load.specs.Load.{Fault, source_fault, sources_fault, refused};
 ghost use Rattle.gq_load.specs.internal.Judged.{programs_of, judged_by, leaf_refusal, first_refusal};
 ghost use Rattle.gq_load.specs.internal.Surveys.{own_of, leaf_by, AreSurveys};
@@ -108,7 +108,7 @@ fn surveyed(
     ensures counted { IfOk result (λ s. IsCountOf s.counted (leaf_by interfaces.now component.now)) }
     ensures opened { IfOk result (λ s. s.opened.items ≡ services component.now) }
     ensures faultless { IfOk result (λ s. leaf_refusal interfaces.now component.now ≡ None) }
-    ensures refused { IfErr result (λ e. Gives e (refused (leaf_refusal interfaces.now component.now))) }
+    ensures refused { IfErr result (λ e. PrintsFault e (refused (leaf_refusal interfaces.now component.now))) }
 {
     let verified = judge(component, program, interfaces)?;
     let kept = kept(alloc, component, program, &verified)?;
@@ -125,7 +125,7 @@ pub(crate) fn survey_programs(
     requires { programs.now ≡ programs_of components.now }
     ensures surveys { IfOk result (λ s. AreSurveys interfaces.now components.now s.owns.items s.counted.items (map (λ v. v.items) s.opened.items)) }
     ensures faultless { IfOk result (λ s. first_refusal interfaces.now components.now ≡ None) }
-    ensures refused { IfErr result (λ e. Gives e (refused (first_refusal interfaces.now components.now))) }
+    ensures refused { IfErr result (λ e. PrintsFault e (refused (first_refusal interfaces.now components.now))) }
 {
     let mut surveys = Surveys::new(alloc);
     for (place, component) in components.iter().enumerate() {
@@ -136,7 +136,7 @@ pub(crate) fn survey_programs(
 
 // The first error: that of the texts and codes of these leaves, or this one.
 fn first_error(alloc: Global, components: &[Component<'_>], error: LoadError) -> LoadError
-    ensures { (fault : Option Fault) → Gives error fault → Gives result (or_first (sources_fault components.now) fault) }
+    ensures { (fault : Option Fault) → PrintsFault error fault → PrintsFault result (or_first (sources_fault components.now) fault) }
 {
     match check_programs(alloc, components) {
         Ok(()) => error,
@@ -174,7 +174,7 @@ fn survey_source(
     ensures opened { IfOk result (λ s. s.opened.items ≡ services component.now) }
     ensures program { IfOk result (λ s. source_fault component.now.node.name component.now.node.source ≡ None) }
     ensures faultless { IfOk result (λ s. leaf_refusal interfaces.now component.now ≡ None) }
-    ensures refused { IfErr result (λ e. Gives e
+    ensures refused { IfErr result (λ e. PrintsFault e
         (or_first (sources_fault (component.now ∷ after.now)) (refused (leaf_refusal interfaces.now component.now)))) }
 {
     let program = read_program_with(alloc, spare, component.leaf())?;
@@ -196,7 +196,7 @@ pub(crate) fn survey_sources(
     ensures surveys { IfOk result (λ s. AreSurveys interfaces.now components.now s.owns.items s.counted.items (map (λ v. v.items) s.opened.items)) }
     ensures programs { IfOk result (λ s. sources_fault components.now ≡ None) }
     ensures faultless { IfOk result (λ s. first_refusal interfaces.now components.now ≡ None) }
-    ensures refused { IfErr result (λ e. Gives e (or_first (sources_fault components.now) (refused (first_refusal interfaces.now components.now)))) }
+    ensures refused { IfErr result (λ e. PrintsFault e (or_first (sources_fault components.now) (refused (first_refusal interfaces.now components.now)))) }
 {
     let mut surveys = Surveys::new(alloc);
     let mut spare = Spare::with_room(alloc, SPARE)?;

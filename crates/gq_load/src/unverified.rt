@@ -2,7 +2,7 @@
 ghost use Rattle.std.specs.Prelude.{◌≡◌, None, Ok, IfOk, IfErr};
 ghost use Rattle.gq_model.specs.machine.Scenario as model;
 ghost use Rattle.gq_resolve.specs.NodeTables.{all_rows};
-ghost use Rattle.gq_load.specs.Faults.{Gives, Refuses};
+ghost use Rattle.gq_load.specs.Faults.{PrintsFault, Refuses};
 ghost use Rattle.gq_load.specs.internal.Judged.{programs_of};
 ghost use Rattle.gq_load.specs.Unverified.{unverified, unverified_fault};
 
@@ -25,7 +25,7 @@ fn resolve_scenario(
     ensures programs { IfOk result (λ found. found.0.items ≡ programs_of (model.components scenario.now)) }
     ensures entries { IfOk result (λ found. found.1 ≡ all_rows scenario.now) }
     ensures faultless { IfOk result (λ found. unverified_fault scenario.now ≡ None) }
-    ensures refused { IfErr result (λ e. Gives e (unverified_fault scenario.now)) }
+    ensures refused { IfErr result (λ e. PrintsFault e (unverified_fault scenario.now)) }
 {
     let components = components(alloc, scenario)?;
     let programs = read_programs(alloc, components.as_slice())?;
@@ -38,7 +38,7 @@ fn resolve_scenario(
 fn resolved(alloc: Global, scenario: Scenario) -> Result<NodeTable, LoadError>
     ensures scenario { IfOk result (λ table. table ≡ scenario) }
     ensures faultless { IfOk result (λ table. unverified_fault scenario ≡ None) }
-    ensures refused { IfErr result (λ e. Gives e (unverified_fault scenario)) }
+    ensures refused { IfErr result (λ e. PrintsFault e (unverified_fault scenario)) }
 {
     let (programs, entries) = resolve_scenario(alloc, &scenario)?;
     Ok(NodeTable::new(scenario, programs, entries))

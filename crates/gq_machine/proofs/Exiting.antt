@@ -28,7 +28,7 @@ use Rattle.gq_trade.specs.Ends.{follower, is_number, staged}
 use Rattle.gq_trade.specs.Trades.{Trades}
 use Rattle.gq_slots.specs.Slots.{Frame, Slots}
 use Rattle.gq_slots.specs.Session_calls.{EndsLeaf}
-use Rattle.gq_statements.specs.Statements.{hand_seen}
+use Rattle.gq_statements.specs.Statements.{current_seen}
 use Rattle.gq_leaf.specs.Leaves.{LeafState, body_in, leaf_of, section_at}
 use Rattle.gq_leaf.specs.Coded.{Coded}
 use Rattle.gq_leaf.specs.Ends.{exited, released_by}
@@ -108,7 +108,7 @@ with_body l p body =
     let state = state_of body l.registers l.steps in
     record {
       phase = p;
-      hand = hand_seen l.hand;
+      current = current_seen l.current;
       todo = state.todo;
       loops = state.loops;
       operands = state.operands;
@@ -122,7 +122,7 @@ released_leaf : (program : Program) (l : LeafState) (name : List ℕ) (after : O
     → leaf_of program (released_by name after l) ≡ record (leaf_of program l) { phase = released name after l.phase }
 released_leaf program l name after =
     ap (with_body l (released name after l.phase)) (released_body name after l.phase
-    (body_of (section_in (section_at l.hand) program.sections)))
+    (body_of (section_in (section_at l.current) program.sections)))
 
 -- THE LEAVES
 
@@ -197,10 +197,10 @@ frame_gone system f x c l =
 
 -- WHAT IS KNOWN OF A LEAF THAT EXITS
 
-pub runs : (p : Phase) (o : Option world.Hand) → Active p → Fits p o → o ≡ None → p ≡ phase.Running
+pub runs : (p : Phase) (o : Option world.Current) → Active p → Fits p o → o ≡ None → p ≡ phase.Running
 runs phase.Running o active fits e = refl
 runs phase.Handling None active fits e = absurd fits
-runs phase.Handling (Some hand) active fits e = absurd (some_none e)
+runs phase.Handling (Some current) active fits e = absurd (some_none e)
 runs phase.Pending o active fits e = absurd active
 runs phase.Blocked o active fits e = absurd active
 runs phase.Serving o active fits e = absurd active

@@ -10,7 +10,7 @@ use Rattle.gq_bytecode.specs.Programs.{IsCodeOfProgram, ProgramCode}
 use Rattle.gq_laws.specs.Links.{IsLinkedWorld, stance, stance_in}
 use Rattle.gq_laws.proofs.linking.Linked_worlds.{kept_linked}
 use Rattle.gq_laws.proofs.linking.Worlds.{set_else, set_here}
-use Rattle.gq_laws.proofs.progress.Phases.{HandsProvide, kept_ready}
+use Rattle.gq_laws.proofs.progress.Phases.{CurrentProvides, kept_ready}
 use Rattle.gq_laws.specs.Ready.{IsReady}
 use Rattle.gq_laws.proofs.ready.Servers.{provided}
 use Rattle.gq_laws.proofs.room.Worlds.{kept_roomy}
@@ -59,9 +59,9 @@ prepared_with s c l m p e h =
       sections = h.sections;
     }
 
--- a leaf with a request at hand provides a service
-pub hands_provide : (s : Scenario) → IsReady s → (w : world.World) → IsLinkedWorld (system s) w → HandsProvide (system s) w
-hands_provide s ready w linked x c leaf g placed there mine =
+-- a leaf with a current request provides a service
+pub current_provides : (s : Scenario) → IsReady s → (w : world.World) → IsLinkedWorld (system s) w → CurrentProvides (system s) w
+current_provides s ready w linked x c leaf g placed there mine =
     let k = linked.handles x leaf.phase g (ap stance_in there ∙ ap (λ o. Some (stance leaf.phase o)) mine) in
     let r = linked.routed g.session k.0 k.1 in
     ap is_some (provided s k.0.client k.0.server r.0 c k.0.service ready r.1 r.2 (ap (slice_get (components s)) k.2 ∙ placed))
@@ -83,7 +83,7 @@ kept f m n x event h codes nodes roomy_is of goes =
       of = of;
       linked = kept_linked (system f.table) (world_of f.table m.leaves.items m.slots) x (world_of f.table n.leaves.items n.slots) event h.linked goes;
       phases = kept_ready (system f.table) (world_of f.table m.leaves.items m.slots) x (world_of f.table n.leaves.items n.slots) event h.phases
-          (hands_provide f.table h.ready (world_of f.table m.leaves.items m.slots) h.linked) goes;
+          (current_provides f.table h.ready (world_of f.table m.leaves.items m.slots) h.linked) goes;
       roomy = kept_roomy (system f.table) (world_of f.table m.leaves.items m.slots) x (world_of f.table n.leaves.items n.slots) event h.linked h.roomy goes;
     }
 

@@ -21,7 +21,7 @@ use Rattle.gq_ram.specs.declared.account.Account.{Account as Stored}
 use Rattle.gq_ram.specs.Entries.{Entries, account_at, no_account, sum_over}
 use Rattle.gq_store.specs.Store.{Store}
 use Rattle.gq_heap.specs.declared.heap.Heap.{Heap}
-use Rattle.gq_contents.specs.declared.thing.Thing.{Thing}
+use Rattle.gq_contents.specs.declared.content.Content.{Content}
 use Rattle.gq_ram.specs.Trees.{account_of}
 use Rattle.gq_trade.specs.declared.session.Session.{Session}
 use Rattle.gq_trade.specs.Trading.{account_of as account_no, its_account, node_of, session_in}
@@ -56,8 +56,8 @@ from_some None P a e h = absurd (none_some e)
 from_some (Some b) P a e h = subst P (some_same e) h
 
 -- what the slots and the heap of a leaf do not tell is as in the frame
-seen_at : {A : Type 0} (g : world.Leaf → A) → ((leaf : world.Leaf) (st : Store) (ts : List Thing) (h : Heap) → g (leaf_seen leaf st ts h) ≡ g leaf)
-    → (leaf : ℕ → world.Leaf) (st : ℕ → Store) (own : List (List Thing)) (hs : List Heap) (x : ℕ) (l : world.Leaf)
+seen_at : {A : Type 0} (g : world.Leaf → A) → ((leaf : world.Leaf) (st : Store) (ts : List Content) (h : Heap) → g (leaf_seen leaf st ts h) ≡ g leaf)
+    → (leaf : ℕ → world.Leaf) (st : ℕ → Store) (own : List (List Content)) (hs : List Heap) (x : ℕ) (l : world.Leaf)
     → slice_get (leaves_seen leaf st own hs) x ≡ Some l → g l ≡ g (leaf x)
 seen_at g same leaf st [] hs x l e = absurd (none_some e)
 seen_at g same leaf st (ts ∷ own) [] x l e = absurd (none_some e)
@@ -165,7 +165,7 @@ module _ (f : Fixed) (m : State) (h : Holds f m) (x : ℕ) (less : x < length (c
       item_there m.leaves.items x a.0 item a.1 (is ∙ ap (λ q. get_or m.leaves.items q item) at)
 
   -- what is told of it without its memory
-  pub reads : {A : Type 0} (g : world.Leaf → A) → ((leaf : world.Leaf) (st : Store) (ts : List Thing) (hp : Heap) → g (leaf_seen leaf st ts hp) ≡ g leaf)
+  pub reads : {A : Type 0} (g : world.Leaf → A) → ((leaf : world.Leaf) (st : Store) (ts : List Content) (hp : Heap) → g (leaf_seen leaf st ts hp) ≡ g leaf)
       → (p : ℕ) (item : Coded) → item ≡ get_or m.leaves.items p item → p ≡ x → (r : A) → ((c : Component) → r ≡ g (leaf_of c.node.program item.state))
       → IfSome (slice_get (world_of f.table m.leaves.items m.slots).leaves x) (λ l. r ≡ g l)
   reads g same p item is at r told =
@@ -231,7 +231,7 @@ held_all r w x (suc n) (l ∷ ls) few =
     let further = held_all r w (suc x) n ls (omega (arith, few)) in
     omega (arith, further)
 
-length_seen : (leaf : ℕ → world.Leaf) (st : ℕ → Store) (own : List (List Thing)) (hs : List Heap) → length (leaves_seen leaf st own hs) ≤ length own
+length_seen : (leaf : ℕ → world.Leaf) (st : ℕ → Store) (own : List (List Content)) (hs : List Heap) → length (leaves_seen leaf st own hs) ≤ length own
 length_seen leaf st [] hs = omega arith
 length_seen leaf st (ts ∷ own) [] = omega arith
 length_seen leaf st (ts ∷ own) (h ∷ hs) =
@@ -262,7 +262,7 @@ module _ (i : Inside) (w : Machine) (e : machine_seen i ≡ w) (h : Holds i.fixe
       let same = ap (λ (v : Machine). length (components v.scenario)) e in
       is ∙ held_all Ram w.world 0 n w.world.leaves (omega (arith, few, all, same))
 
-  pub read : {A : Type 0} (g : world.Leaf → A) → ((leaf : world.Leaf) (st : Store) (ts : List Thing) (hp : Heap) → g (leaf_seen leaf st ts hp) ≡ g leaf)
+  pub read : {A : Type 0} (g : world.Leaf → A) → ((leaf : world.Leaf) (st : Store) (ts : List Content) (hp : Heap) → g (leaf_seen leaf st ts hp) ≡ g leaf)
       → (x : ℕ) → x < length (components w.scenario) → (p : ℕ) (item : Coded) → item ≡ get_or i.state.leaves.items p item → p ≡ x → (r : A)
       → ((c : Component) → r ≡ g (leaf_of c.node.program item.state)) → IfSome (slice_get w.world.leaves x) (λ l. r ≡ g l)
   read g same x less p item is at r told =

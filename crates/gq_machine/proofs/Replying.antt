@@ -26,8 +26,8 @@ use Rattle.gq_slots.proofs.Worlds.{session_there}
 use Rattle.gq_slots.specs.Addresses.{AreBuffers}
 use Rattle.gq_statements.proofs.Made.{leaf_found}
 use Rattle.gq_statements.specs.Systems.{AreLawful, IsOf, stage_in}
-use Rattle.gq_statements.specs.declared.actor.Hand.{Hand}
-use Rattle.gq_statements.specs.Statements.{done, hand_seen}
+use Rattle.gq_statements.specs.declared.actor.Current.{Current}
+use Rattle.gq_statements.specs.Statements.{done, current_seen}
 use Rattle.gq_leaf.proofs.Frames.{seen_leaf}
 use Rattle.gq_statements.specs.Serving.{GoesOn}
 use Rattle.gq_statements.specs.Serving as serving
@@ -62,7 +62,7 @@ stages_set s ls x c old new ec el stage y = elim (eqb_tells y x) [
   | inr t ↦ ap (λ (l : world.Leaf). stage_in l.phase) (leaf_else s ls x y new t.1)
 ]
 
-resumed_live : (o : Option Hand) → stage_in (resumed_phase o) ≡ stage_in phase.Blocked
+resumed_live : (o : Option Current) → stage_in (resumed_phase o) ≡ stage_in phase.Blocked
 resumed_live None = refl
 resumed_live (Some h) = refl
 
@@ -96,7 +96,7 @@ both_set F ls x y l d was waked had rests apart el ed was_is waked_is had_is res
     let serves = rests_is ∙ ap (λ (z : Coded). record z { state = served z.state }) second in
     λ k. slice_set (slice_set ls y (wakes k)) x (serves k)
 
-module _ (f : Fixed) (m : State) (x y : ℕ) (hand : Hand) (e : IsEnd f m x y hand) where
+module _ (f : Fixed) (m : State) (x y : ℕ) (current : Current) (e : IsEnd f m x y current) where
   abbrev s : Scenario
   s = f.table
 
@@ -110,7 +110,7 @@ module _ (f : Fixed) (m : State) (x y : ℕ) (hand : Hand) (e : IsEnd f m x y ha
   before = frame_of s ls
 
   abbrev k : ℕ
-  k = hand.session
+  k = current.session
 
   abbrev holds : Holds f m
   holds = e.can.holds
@@ -132,14 +132,14 @@ module _ (f : Fixed) (m : State) (x y : ℕ) (hand : Hand) (e : IsEnd f m x y ha
   pub end : operation_of server ≡ Some operation.End
   end = of_leaf (λ l. operation_of l ≡ Some operation.End) (slice_get ls x) server server_is e.next.next
 
-  hand_is : server.state.hand ≡ Some hand
-  hand_is = of_leaf (λ l. l.state.hand ≡ Some hand) (slice_get ls x) server server_is e.at_hand
+  current_is : server.state.current ≡ Some current
+  current_is = of_leaf (λ l. l.state.current ≡ Some current) (slice_get ls x) server server_is e.at_current
 
-  abbrev at_hand : world.Hand
-  at_hand = record { session = hand.session; section = hand.section }
+  abbrev at_current : world.Current
+  at_current = record { session = current.session; section = current.section }
 
-  pub is_handled : linked.IsHandled before t x at_hand
-  is_handled = handles f m holds e.lawful x c server e.can.component_is server_is at_hand (ap hand_seen hand_is)
+  pub is_handled : linked.IsHandled before t x at_current
+  is_handled = handles f m holds e.lawful x c server e.can.component_is server_is at_current (ap current_seen current_is)
 
   pub there : IsTaken t.trades.trading.sessions k
   there = is_handled.awaited.there
@@ -237,7 +237,7 @@ module _ (f : Fixed) (m : State) (x y : ℕ) (hand : Hand) (e : IsEnd f m x y ha
     stages : (z : ℕ) → stage_in ((frame_of s after).leaf z).phase ≡ stage_in (before.leaf z).phase
     stages z =
         stages_set s between x c server rests e.can.component_is server_between (sym (active_live server.state.phase active)) z
-        ∙ stages_set s ls y d client waked its.1 client_is (resumed_live client.state.hand ∙ sym (ap stage_in blocked)) z
+        ∙ stages_set s ls y d client waked its.1 client_is (resumed_live client.state.current ∙ sym (ap stage_in blocked)) z
 
     -- the system goes with other slots in which nodes stand the same
     of_after : (u : Slots) → AreLawful u → SameScene t u → IsOf (system s) (frame_of s after) u
@@ -269,17 +269,17 @@ module _ (f : Fixed) (m : State) (x y : ℕ) (hand : Hand) (e : IsEnd f m x y ha
   pub operands_are : it.leaf.operands ≡ server.state.registers.operands
   operands_are = ap (λ (z : world.Leaf). z.operands) (shape (system s) before t x c server.state f.services.buffers e.lawful stands.stands)
 
-  pub next_is : (section : Section) → hand.section ≡ section → next (system s) (world_of s ls t) x ≡ reply it k section q
+  pub next_is : (section : Section) → current.section ≡ section → next (system s) (world_of s ls t) x ≡ reply it k section q
   next_is section is =
-      end_is (system s) before t x c server f.services.buffers e.lawful stands active end ∙ ap (λ o. section_ended it (hand_seen o)) hand_is
-      ∙ ap (λ o. need o WrongKind (reply it k hand.section)) q_is ∙ ap (λ z. reply it k z q) is
+      end_is (system s) before t x c server f.services.buffers e.lawful stands active end ∙ ap (λ o. section_ended it (current_seen o)) current_is
+      ∙ ap (λ o. need o WrongKind (reply it k current.section)) q_is ∙ ap (λ z. reply it k z q) is
 
   -- the same operands, or one more
   abbrev pub had : List ℕ
   had = client.state.registers.operands
 
   -- a call on slots that tells the reply to a request to open
-  pub opened_to : (r : Result (Unit {0}) Wrong) (bs : List ℕ) (u : Slots) → bs ≡ f.services.buffers → hand.section ≡ section.Opening
+  pub opened_to : (r : Result (Unit {0}) Wrong) (bs : List ℕ) (u : Slots) → bs ≡ f.services.buffers → current.section ≡ section.Opening
       → ((g : Frame) (j : Doing) (z : world.Session) → world.session_at j.world k ≡ Some z → AreBuffers j.system g t bs
       → GoesOn j z (λ operands. operands) g t → reply j k section.Opening z ≡ done r (world_seen g u))
       → next (system s) (world_of s ls t) x ≡ done r (world_of s (after had) u)
@@ -289,23 +289,23 @@ module _ (f : Fixed) (m : State) (x y : ℕ) (hand : Hand) (e : IsEnd f m x y ha
       (goes_on had (λ operands. operands) refl)
 
   -- one that tells any other reply, but to a request to close
-  pub replied_to : (section : Section) (ops : List ℕ) (F : List ℕ → List ℕ) (u : Slots) → hand.section ≡ section → F had ≡ ops
+  pub replied_to : (section : Section) (ops : List ℕ) (F : List ℕ → List ℕ) (u : Slots) → current.section ≡ section → F had ≡ ops
       → ((g : Frame) (j : Doing) (z : world.Session) → world.session_at j.world k ≡ Some z → j.leaf.operands ≡ server.state.registers.operands
       → GoesOn j z F g t → reply j k section z ≡ Ok (world_seen g u, Quiet))
       → next (system s) (world_of s ls t) x ≡ Ok (world_of s (after ops) u, Quiet)
   replied_to section ops F u is made led = next_is section is ∙ led (frame_of s (after ops)) it q q_is operands_are (goes_on ops F made)
 
-  pub closed_to : (level : ℕ) (r : Result (Unit {0}) Wrong) (u : Slots) → hand.section ≡ section.Closing level
+  pub closed_to : (level : ℕ) (r : Result (Unit {0}) Wrong) (u : Slots) → current.section ≡ section.Closing level
       → ((g : Frame) (j : Doing) (z : world.Session) (l : ℕ) → world.session_at j.world k ≡ Some z → IsOf j.system g t
       → GoesOn j z (λ operands. operands) g t → reply j k (section.Closing l) z ≡ done r (world_seen g u))
       → next (system s) (world_of s ls t) x ≡ done r (world_of s (after had) u)
   closed_to level r u is led =
       next_is (section.Closing level) is ∙ led (frame_of s (after had)) it q level q_is (of_before had) (goes_on had (λ operands. operands) refl)
 
-  pub main_wrong : hand.section ≡ section.Main → next (system s) (world_of s ls t) x ≡ Err WrongKind
+  pub main_wrong : current.section ≡ section.Main → next (system s) (world_of s ls t) x ≡ Err WrongKind
   main_wrong is = next_is section.Main is
 
-  pub none_to : (level : ℕ) → hand.section ≡ section.Calling level → server.state.registers.operands ≡ []
+  pub none_to : (level : ℕ) → current.section ≡ section.Calling level → server.state.registers.operands ≡ []
       → next (system s) (world_of s ls t) x ≡ Err MissingOperand
   none_to level is none =
       next_is (section.Calling level) is ∙ ap (λ os. pop os (λ a rest. step.replied it k q (λ operands. a ∷ operands))) (operands_are ∙ none)
@@ -317,21 +317,21 @@ module _ (f : Fixed) (m : State) (x y : ℕ) (hand : Hand) (e : IsEnd f m x y ha
 
   -- ROOM FOR A RESULT
 
-  pub has_room : (level : ℕ) → hand.section ≡ section.Calling level → length had ≤ 15
+  pub has_room : (level : ℕ) → current.section ≡ section.Calling level → length had ≤ 15
   has_room level is =
       let mine = leaf_found before t e.lawful x stands.stands.below in
       let theirs = leaf_found before t e.lawful y below in
-      let calls : mine.0.hand ≡ Some (calling k level) =
-      ap (λ (z : world.Leaf). z.hand) (seen_leaf before t x mine.0 mine.1)
-      ∙ ap (λ (z : world.Leaf). z.hand) (leaf_at s ls x c server e.can.component_is server_is) ∙ ap hand_seen hand_is
-      ∙ ap (λ z. Some (record at_hand { section = z })) is in
+      let calls : mine.0.current ≡ Some (calling k level) =
+      ap (λ (z : world.Leaf). z.current) (seen_leaf before t x mine.0 mine.1)
+      ∙ ap (λ (z : world.Leaf). z.current) (leaf_at s ls x c server e.can.component_is server_is) ∙ ap current_seen current_is
+      ∙ ap (λ z. Some (record at_current { section = z })) is in
       let few = holds.roomy.handled x mine.0 k level mine.1 calls q theirs.0 q_is (ap (slice_get (world_of s ls t).leaves) (sym e.client) ∙ theirs.1) in
       let same : theirs.0.operands ≡ had =
       ap (λ (z : world.Leaf). z.operands) (seen_leaf before t y theirs.0 theirs.1)
       ∙ ap (λ (z : world.Leaf). z.operands) (leaf_at s ls y d client its.1 client_is) in
       subst (λ os. length os ≤ 15) same few
 
-  pub rooms : (level : ℕ) → hand.section ≡ section.Calling level → OfLeaf (λ l. length l.state.registers.operands < 16) (slice_get ls y)
+  pub rooms : (level : ℕ) → current.section ≡ section.Calling level → OfLeaf (λ l. length l.state.registers.operands < 16) (slice_get ls y)
   rooms level is =
       let few = has_room level is in
       subst (OfLeaf (λ l. length l.state.registers.operands < 16)) (sym client_is) (omega (arith, few))

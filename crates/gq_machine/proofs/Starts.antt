@@ -31,8 +31,8 @@ use Rattle.gq_store.specs.Store.{Store}
 use Rattle.gq_heap.specs.declared.heap.Heap.{Heap}
 use Rattle.gq_heap.specs.Heap.{peaks}
 use Rattle.gq_trade.specs.Seen_requests.{request_seen}
-use Rattle.gq_contents.specs.declared.thing.Thing.TheVariants.{Empty}
-use Rattle.gq_contents.specs.Things.{seen}
+use Rattle.gq_contents.specs.declared.content.Content.TheVariants.{Empty}
+use Rattle.gq_contents.specs.Contents.{seen}
 use Rattle.gq_slots.specs.Slots.{Slots, leaf_seen, leaves_seen, memory_of}
 use Rattle.gq_statements.specs.Systems.{counted_at, stage_in}
 use Rattle.gq_prepared.specs.Prepared.{AreServices}
@@ -91,7 +91,7 @@ one_first c l st h none first =
     ap (λ s. leaf_seen (leaf_of p s) st (replicate 64 Empty) h) first.state
     ∙ (λ j. record {
       phase = world.first_phase after;
-      hand = None;
+      current = None;
       todo = todo j;
       loops = loops j;
       operands = [];

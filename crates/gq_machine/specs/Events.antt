@@ -4,7 +4,7 @@ use Rattle.gq_model.specs.machine.Doing as model
 use Rattle.gq_machine.specs.declared.event.Event.{Event}
 use Rattle.gq_machine.specs.declared.event.Event.TheVariants.{Idle, Quiet, Line, Finished}
 
--- the event of the account machine: a line carries its text
+-- the event of the abstract machine: a line carries its text
 abbrev pub event_of : Event → List ℕ → model.Event
 event_of Idle text = model.Idle
 event_of Quiet text = model.Quiet

@@ -33,7 +33,7 @@ fn gift(fixed: &Fixed, state: &State, number: usize, place: Place, bytes: u32) -
     leaf.names_slot(Operation::Upgrade(place, bytes));
     let actor = Actor {
         leaf: number,
-        hand: leaf.hand(),
+        current: leaf.current(),
     };
     let caps = match link(actor, &state.slots, place) {
         None => 0,

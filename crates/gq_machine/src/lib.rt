@@ -11,7 +11,7 @@
 //! ```
 //!
 //! `state` is what is fixed at load and what changes; `statements`, `asking`, `requests`, `replies` and `endings` are what each kind of step makes of it, each
-//! a step of the account machine that keeps what holds between two steps. `steps` has one turn of a leaf, `bursts` many of them in one go, and `telling` the
+//! a step of the abstract machine that keeps what holds between two steps. `steps` has one turn of a leaf, `bursts` many of them in one go, and `output` the
 //! lines that they give.
 #![tactic(auto)]
 
@@ -21,10 +21,10 @@ pub mod endings;
 pub mod event;
 pub mod machine;
 mod others;
+mod output;
 pub mod replies;
 pub mod requests;
 pub mod state;
 pub mod statements;
 mod steps;
-mod telling;
 mod turns;

@@ -8,7 +8,7 @@ ghost use Rattle.gq_statements.specs.Statements.{done};
 ghost use Rattle.gq_machine.specs.declared.event.Event.TheVariants as event;
 ghost use Rattle.gq_machine.specs.internal.Holds.{CanStep, Goes, Holds, IsNext};
 ghost use Rattle.gq_machine.specs.internal.Kinds.{is_quiet};
-ghost use Rattle.gq_machine.specs.Shows.{Gives};
+ghost use Rattle.gq_machine.specs.Shows.{StepShows};
 
 use crate::asking::{open, upgrade};
 use crate::endings::exit;
@@ -66,7 +66,7 @@ pub(crate) fn out(
     requires can { CanStep fixed.now state.old number }
     requires next { IsNext state.old number operation.Out }
     requires empty { line.old.items ≡ [] }
-    ensures step { Gives fixed.now number state.old state.new line.new.items result }
+    ensures step { StepShows fixed.now number state.old state.new line.new.items result }
     ensures no_line { IfOk result (λ e. (e ≡ event.Line → ⊥) → line.new.items ≡ []) }
     ensures holds { OnOk result (Holds fixed.now state.new) }
     ensures leaves { OnErr result (state.new.leaves.items ≡ state.old.leaves.items) }
@@ -92,7 +92,7 @@ fn long(
     requires can { CanStep fixed.now state.old number }
     requires next { IsNext state.old number (operation.Long statement) }
     requires empty { line.old.items ≡ [] }
-    ensures step { Gives fixed.now number state.old state.new line.new.items result }
+    ensures step { StepShows fixed.now number state.old state.new line.new.items result }
     ensures no_line { IfOk result (λ e. (e ≡ event.Line → ⊥) → line.new.items ≡ []) }
     ensures holds { OnOk result (Holds fixed.now state.new) }
     ensures leaves { OnErr result (state.new.leaves.items ≡ state.old.leaves.items) }
@@ -131,16 +131,16 @@ fn provides(fixed: &Fixed, leaf: usize) -> bool
 fn end(fixed: &Fixed, state: &mut State, number: usize) -> Result<Event, Wrong>
     requires can { CanStep fixed.now state.old number }
     requires next { IsNext state.old number operation.End }
-    ensures step { (text : List ℕ) → Gives fixed.now number state.old state.new text result }
+    ensures step { (text : List ℕ) → StepShows fixed.now number state.old state.new text result }
     ensures no_line { IfOk result (λ e. e ≡ event.Line → ⊥) }
     ensures holds { OnOk result (Holds fixed.now state.new) }
     ensures leaves { OnErr result (state.new.leaves.items ≡ state.old.leaves.items) }
     ensures slots { OnErr result (state.new.slots ≡ state.old.slots) }
 {
     let _table = &fixed.table;
-    let hand = state.leaves[number].hand();
-    match hand {
-        Some(hand) => match reply(fixed, state, number, hand) {
+    let current = state.leaves[number].current();
+    match current {
+        Some(current) => match reply(fixed, state, number, current) {
             Err(wrong) => Err(wrong),
             Ok(()) => Ok(Event::Quiet),
         },
@@ -170,7 +170,7 @@ pub(crate) fn shared(
     requires next { IsNext state.old number operation }
     requires shared { IsTrue (is_shared operation) }
     requires empty { line.old.items ≡ [] }
-    ensures step { Gives fixed.now number state.old state.new line.new.items result }
+    ensures step { StepShows fixed.now number state.old state.new line.new.items result }
     ensures no_line { IfOk result (λ e. (e ≡ event.Line → ⊥) → line.new.items ≡ []) }
     ensures holds { OnOk result (Holds fixed.now state.new) }
     ensures leaves { OnErr result (state.new.leaves.items ≡ state.old.leaves.items) }

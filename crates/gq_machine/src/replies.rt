@@ -2,10 +2,10 @@
 ghost use Rattle.std.specs.Prelude.{◌≡◌, ℕ, ◌+◌, ◌<◌, ◌^◌, ◌∷◌, OnErr, OnOk, Some, length, slice_get};
 ghost use Rattle.gq_model.specs.declared.program.Section.TheVariants as section;
 ghost use Rattle.gq_bytecode.specs.declared.operation.Operation.TheVariants as operation;
-ghost use Rattle.gq_contents.specs.declared.thing.Thing.TheVariants as thing;
+ghost use Rattle.gq_contents.specs.declared.content.Content.TheVariants as content;
 ghost use Rattle.gq_trade.specs.declared.session.Spot.TheVariants.{InObject};
 ghost use Rattle.gq_trade.specs.Trading.{AreOfOthers};
-ghost use Rattle.gq_slots.specs.Slots.{thing_at};
+ghost use Rattle.gq_slots.specs.Slots.{content_at};
 ghost use Rattle.gq_statements.specs.Serving.{IsAwaited};
 ghost use Rattle.gq_statements.specs.Statements.{done};
 ghost use Rattle.gq_leaf.specs.Coded.{Coded};
@@ -16,31 +16,31 @@ use crate::state::{Fixed, State};
 use gq_leaf::Leaf;
 use gq_model::fault::Wrong;
 use gq_model::program::Section;
-use gq_statements::Hand;
+use gq_statements::Current;
 use gq_statements::laws::lawful;
 use gq_statements::replies::{reply_close, reply_open};
 
-// The client of the session at hand, which waits for the reply.
-fn client_at(fixed: &Fixed, state: &State, number: usize, hand: Hand) -> usize
+// The client of the current session, which waits for the reply.
+fn client_at(fixed: &Fixed, state: &State, number: usize, current: Current) -> usize
     requires can { CanStep fixed.now state.now number }
     requires next { IsNext state.now number operation.End }
-    requires hand { OfLeaf (λ l. l.state.hand ≡ Some hand) (slice_get state.now.leaves.items number) }
-    ensures end { IsEnd fixed.now state.now number result hand }
+    requires current { OfLeaf (λ l. l.state.current ≡ Some current) (slice_get state.now.leaves.items number) }
+    ensures end { IsEnd fixed.now state.now number result current }
     ensures there { result < length state.now.leaves.items }
     ensures apart { result ≡ number → ⊥ }
     ensures countable { OfLeaf (λ l. l.state.steps + 1 < 2 ^ 64) (slice_get state.now.leaves.items number) }
-    ensures room { (level : ℕ) → hand.section ≡ section.Calling level
+    ensures room { (level : ℕ) → current.section ≡ section.Calling level
         → OfLeaf (λ l. length l.state.registers.operands < 16) (slice_get state.now.leaves.items result) }
-    ensures awaited { IsAwaited state.now.slots hand.session }
-    ensures small { hand.session < 4294967296 }
-    ensures object { thing_at state.now.slots (InObject hand.session) ≡ thing.Empty → ⊥ }
-    ensures none_waits { AreOfOthers hand.session state.now.slots.trades.trading.requests }
+    ensures awaited { IsAwaited state.now.slots current.session }
+    ensures small { current.session < 4294967296 }
+    ensures object { content_at state.now.slots (InObject current.session) ≡ content.Empty → ⊥ }
+    ensures none_waits { AreOfOthers current.session state.now.slots.trades.trading.requests }
 {
     let _table = &fixed.table;
     let _number = number;
     lawful(&state.slots);
     state.slots.laws();
-    state.slots.trades().session(hand.session).client
+    state.slots.trades().session(current.session).client
 }
 
 // The server waits for requests, and the client goes on.
@@ -72,18 +72,22 @@ fn go_on_with(leaves: &mut Vec<Leaf>, server: usize, client: usize, value: u32)
 }
 
 // The reply to a request to open the session.
-fn opened(fixed: &Fixed, state: &mut State, number: usize, hand: Hand) -> Result<(), Wrong>
+fn opened(fixed: &Fixed, state: &mut State, number: usize, current: Current) -> Result<(), Wrong>
     requires can { CanStep fixed.now state.old number }
     requires next { IsNext state.old number operation.End }
-    requires hand { OfLeaf (λ l. l.state.hand ≡ Some hand) (slice_get state.old.leaves.items number) }
-    requires section { hand.section ≡ section.Opening }
+    requires current { OfLeaf (λ l. l.state.current ≡ Some current) (slice_get state.old.leaves.items number) }
+    requires section { current.section ≡ section.Opening }
     ensures step { Goes fixed.now number state.old state.new (done result) }
     ensures holds { OnOk result (Holds fixed.now state.new) }
     ensures leaves { OnErr result (state.new.leaves.items ≡ state.old.leaves.items) }
     ensures slots { OnErr result (state.new.slots ≡ state.old.slots) }
 {
-    let client = client_at(fixed, state, number, hand);
-    match reply_open(fixed.services.addresses(), &mut state.slots, hand.session) {
+    let client = client_at(fixed, state, number, current);
+    match reply_open(
+        fixed.services.addresses(),
+        &mut state.slots,
+        current.session,
+    ) {
         Err(wrong) => Err(wrong),
         Ok(()) => {
             lawful(&state.slots);
@@ -94,40 +98,40 @@ fn opened(fixed: &Fixed, state: &mut State, number: usize, hand: Hand) -> Result
 }
 
 // The reply to a request for the next level of the session.
-fn upgraded(fixed: &Fixed, state: &mut State, number: usize, hand: Hand) -> Result<(), Wrong>
+fn upgraded(fixed: &Fixed, state: &mut State, number: usize, current: Current) -> Result<(), Wrong>
     requires can { CanStep fixed.now state.old number }
     requires next { IsNext state.old number operation.End }
-    requires hand { OfLeaf (λ l. l.state.hand ≡ Some hand) (slice_get state.old.leaves.items number) }
-    requires section { (level : ℕ) × (hand.section ≡ section.Upgrading level) }
+    requires current { OfLeaf (λ l. l.state.current ≡ Some current) (slice_get state.old.leaves.items number) }
+    requires section { (level : ℕ) × (current.section ≡ section.Upgrading level) }
     ensures step { Goes fixed.now number state.old state.new (done result) }
     ensures holds { OnOk result (Holds fixed.now state.new) }
     ensures leaves { OnErr result (state.new.leaves.items ≡ state.old.leaves.items) }
     ensures slots { OnErr result (state.new.slots ≡ state.old.slots) }
 {
-    let client = client_at(fixed, state, number, hand);
-    gq_statements::replies::reply(&mut state.slots, hand.session);
+    let client = client_at(fixed, state, number, current);
+    gq_statements::replies::reply(&mut state.slots, current.session);
     lawful(&state.slots);
     go_on(&mut state.leaves, number, client);
     Ok(())
 }
 
 // The reply to a call: the top operand is its result. `MissingOperand` where there is none.
-fn called(fixed: &Fixed, state: &mut State, number: usize, hand: Hand) -> Result<(), Wrong>
+fn called(fixed: &Fixed, state: &mut State, number: usize, current: Current) -> Result<(), Wrong>
     requires can { CanStep fixed.now state.old number }
     requires next { IsNext state.old number operation.End }
-    requires hand { OfLeaf (λ l. l.state.hand ≡ Some hand) (slice_get state.old.leaves.items number) }
-    requires section { (level : ℕ) × (hand.section ≡ section.Calling level) }
+    requires current { OfLeaf (λ l. l.state.current ≡ Some current) (slice_get state.old.leaves.items number) }
+    requires section { (level : ℕ) × (current.section ≡ section.Calling level) }
     ensures step { Goes fixed.now number state.old state.new (done result) }
     ensures holds { OnOk result (Holds fixed.now state.new) }
     ensures leaves { OnErr result (state.new.leaves.items ≡ state.old.leaves.items) }
     ensures slots { OnErr result (state.new.slots ≡ state.old.slots) }
 {
-    let client = client_at(fixed, state, number, hand);
+    let client = client_at(fixed, state, number, current);
     let leaf = &state.leaves[number];
     match leaf.top() {
         None => Err(Wrong::MissingOperand),
         Some(value) => {
-            gq_statements::replies::reply(&mut state.slots, hand.session);
+            gq_statements::replies::reply(&mut state.slots, current.session);
             lawful(&state.slots);
             go_on_with(&mut state.leaves, number, client, value);
             Ok(())
@@ -136,18 +140,18 @@ fn called(fixed: &Fixed, state: &mut State, number: usize, hand: Hand) -> Result
 }
 
 // The reply to a request to close the session.
-fn closed(fixed: &Fixed, state: &mut State, number: usize, hand: Hand) -> Result<(), Wrong>
+fn closed(fixed: &Fixed, state: &mut State, number: usize, current: Current) -> Result<(), Wrong>
     requires can { CanStep fixed.now state.old number }
     requires next { IsNext state.old number operation.End }
-    requires hand { OfLeaf (λ l. l.state.hand ≡ Some hand) (slice_get state.old.leaves.items number) }
-    requires section { (level : ℕ) × (hand.section ≡ section.Closing level) }
+    requires current { OfLeaf (λ l. l.state.current ≡ Some current) (slice_get state.old.leaves.items number) }
+    requires section { (level : ℕ) × (current.section ≡ section.Closing level) }
     ensures step { Goes fixed.now number state.old state.new (done result) }
     ensures holds { OnOk result (Holds fixed.now state.new) }
     ensures leaves { OnErr result (state.new.leaves.items ≡ state.old.leaves.items) }
     ensures slots { OnErr result (state.new.slots ≡ state.old.slots) }
 {
-    let client = client_at(fixed, state, number, hand);
-    match reply_close(&mut state.slots, hand.session) {
+    let client = client_at(fixed, state, number, current);
+    match reply_close(&mut state.slots, current.session) {
         Err(wrong) => Err(wrong),
         Ok(()) => {
             lawful(&state.slots);
@@ -158,23 +162,23 @@ fn closed(fixed: &Fixed, state: &mut State, number: usize, hand: Hand) -> Result
 }
 
 // At the end of a section for a session its server replies: it waits for requests, and the session's client goes on.
-pub fn reply(fixed: &Fixed, state: &mut State, number: usize, hand: Hand) -> Result<(), Wrong>
+pub fn reply(fixed: &Fixed, state: &mut State, number: usize, current: Current) -> Result<(), Wrong>
     requires can { CanStep fixed.now state.old number }
     requires next { IsNext state.old number operation.End }
-    requires hand { OfLeaf (λ l. l.state.hand ≡ Some hand) (slice_get state.old.leaves.items number) }
+    requires current { OfLeaf (λ l. l.state.current ≡ Some current) (slice_get state.old.leaves.items number) }
     ensures step { Goes fixed.now number state.old state.new (done result) }
     ensures holds { OnOk result (Holds fixed.now state.new) }
     ensures leaves { OnErr result (state.new.leaves.items ≡ state.old.leaves.items) }
     ensures slots { OnErr result (state.new.slots ≡ state.old.slots) }
 {
-    match hand.section {
+    match current.section {
         Section::Main => {
-            let _client = client_at(fixed, state, number, hand);
+            let _client = client_at(fixed, state, number, current);
             Err(Wrong::WrongKind)
         }
-        Section::Opening => opened(fixed, state, number, hand),
-        Section::Upgrading(_) => upgraded(fixed, state, number, hand),
-        Section::Calling(_) => called(fixed, state, number, hand),
-        Section::Closing(_) => closed(fixed, state, number, hand),
+        Section::Opening => opened(fixed, state, number, current),
+        Section::Upgrading(_) => upgraded(fixed, state, number, current),
+        Section::Calling(_) => called(fixed, state, number, current),
+        Section::Closing(_) => closed(fixed, state, number, current),
     }
 }

@@ -19,7 +19,7 @@ use gq_leaf::Leaf;
 use gq_model::fault::Wrong;
 use gq_model::program::Section;
 use gq_scenario::scenario::Version;
-use gq_statements::Hand;
+use gq_statements::Current;
 use gq_statements::laws::lawful;
 use gq_statements::serving_requests::Provider;
 use gq_trade::{Ask, Request};
@@ -72,20 +72,20 @@ fn begin(leaf: &mut Leaf, request: Request, level: u8)
 {
     let session = request.session;
     match request.ask {
-        Ask::Open => leaf.begin(Hand {
+        Ask::Open => leaf.begin(Current {
             session,
             section: Section::Opening,
         }),
-        Ask::Upgrade => leaf.begin(Hand {
+        Ask::Upgrade => leaf.begin(Current {
             session,
             section: Section::Upgrading(level + 1),
         }),
-        Ask::Close => leaf.begin(Hand {
+        Ask::Close => leaf.begin(Current {
             session,
             section: Section::Closing(level),
         }),
         Ask::Call(value) => leaf.begin_with(
-            Hand {
+            Current {
                 session,
                 section: Section::Calling(level),
             },

@@ -2,7 +2,7 @@
 ghost use Rattle.std.specs.Prelude.{◌≡◌, ◌-◌, ◌<◌, ◌≤◌, [], IfErr, IfOk, IsOk, OnErr, Err, Ok, length};
 ghost use Rattle.gq_model.specs.machine.Scenario.{components, system};
 ghost use Rattle.gq_model.specs.machine.Step.{next};
-ghost use Rattle.gq_machine.specs.Bursts.{Tells};
+ghost use Rattle.gq_machine.specs.Bursts.{OutputsLines};
 ghost use Rattle.gq_machine.specs.Countable.{AreCountable, IsCountable};
 ghost use Rattle.gq_machine.specs.Events.{event_of};
 ghost use Rattle.gq_machine.specs.declared.event.Event.TheVariants as event;
@@ -10,8 +10,8 @@ ghost use Rattle.gq_machine.specs.declared.event.Event.TheVariants as event;
 use crate::event::Event;
 use crate::machine::Machine;
 use crate::others::LINE;
+use crate::output::output_turns;
 use crate::steps::turn;
-use crate::telling::tell_turns;
 use arrayvec::ArrayVec;
 use gq_init::lines::Lines;
 use gq_model::fault::Wrong;
@@ -54,12 +54,12 @@ impl Machine {
         ensures scenario { self.new.scenario ≡ self.old.scenario }
         ensures left { result.1 ≤ count }
         ensures less { 0 < count → result.1 < count }
-        ensures told { Tells self.old.scenario leaf (count - result.1) self.old.world self.new.world result.0 lines.new.bytes }
+        ensures told { OutputsLines self.old.scenario leaf (count - result.1) self.old.world self.new.world result.0 lines.new.bytes }
         ensures some { IfOk result.0 (λ e. e ≡ event.Line → lines.new.bytes ≡ [] → ⊥) }
         ensures over { IfOk result.0 (λ e. (e ≡ event.Line → ⊥) → result.1 ≡ 0) }
     {
         lawful(&self.state.slots);
-        tell_turns(&self.fixed, &mut self.state, leaf.index(), count, lines)
+        output_turns(&self.fixed, &mut self.state, leaf.index(), count, lines)
     }
 
     /// One turn of a leaf whose step is not wrong. After it the line has the text that was given, without label and line feed, and is empty where none was.

@@ -3,14 +3,14 @@ use Rattle.std.proofs.Common.{◌≡◌, ℕ, List, [], ◌∷◌, ◌++◌, rep
 use Rattle.std.specs.Prelude.{slice_set}
 use Rattle.gq_tariff.specs.declared.amount.Amount.{Amount}
 use Rattle.gq_heap.specs.declared.heap.Heap.{Heap}
-use Rattle.gq_heap.specs.Heap.{Keeps as KeepsPlaces}
+use Rattle.gq_heap.specs.Heap.{KeepsPlaces}
 use Rattle.gq_store.specs.Store.{Store}
 use Rattle.gq_trade.specs.Numbers.{added, free_number}
 use Rattle.gq_trade.specs.declared.requests.Request.{Request}
 use Rattle.gq_trade.specs.Queues.{oldest_to}
-use Rattle.gq_contents.specs.declared.thing.Thing.{Thing}
-use Rattle.gq_contents.specs.declared.thing.Thing.TheVariants.{Empty, Block, Slice, Space, Pool, Link, Waiting}
-use Rattle.gq_contents.specs.Things.{IsSlice, IsThing, seen}
+use Rattle.gq_contents.specs.declared.content.Content.{Content}
+use Rattle.gq_contents.specs.declared.content.Content.TheVariants.{Empty, Block, Slice, Space, Pool, Link, Waiting}
+use Rattle.gq_contents.specs.Contents.{IsSlice, IsContent, seen}
 use Rattle.gq_contents.proofs.Callers.{empty_kept}
 use Rattle.gq_model.specs.declared.program.Form.TheVariants as form
 use Rattle.gq_model.specs.machine.World as world
@@ -26,7 +26,7 @@ no_request : {A : Type 0} (a : A) → Some a ≡ None → ⊥
 no_request a e = cc
 
 -- what reads as a slice is one
-slice_seen : (st : Store) (t : Thing) (n : ℕ) (bs : List ℕ) → seen st t ≡ world.Bytes form.Slice n bs → IsThing st t → IsSlice st t
+slice_seen : (st : Store) (t : Content) (n : ℕ) (bs : List ℕ) → seen st t ≡ world.Bytes form.Slice n bs → IsContent st t → IsSlice st t
 slice_seen st Empty n bs e h = cc
 slice_seen st (Block p m) n bs e h = cc
 slice_seen st (Slice k m) n bs e h = h
@@ -36,7 +36,7 @@ slice_seen st (Link k) n bs e h = cc
 slice_seen st (Waiting k) n bs e h = cc
 
 -- what a request makes is its server's
-made_slice : (w v : Trading) (n : ℕ) (t : Thing) (heap : Heap) → ((st : Store) → KeepsPlaces heap st []) → Makes w v 0 n t → IsSlice (store_of v 0) t
+made_slice : (w v : Trading) (n : ℕ) (t : Content) (heap : Heap) → ((st : Store) → KeepsPlaces heap st []) → Makes w v 0 n t → IsSlice (store_of v 0) t
 made_slice w v n t heap none m =
     slice_seen (store_of v 0) t n (replicate n 0) m.seen
     (m.changes heap [] [] (empty_kept heap (store_of w 0) 1 (none (store_of w 0)))).keeps.each.0

@@ -12,7 +12,7 @@ use Rattle.gq_trade.specs.Trading.{asked, fresh, session_in, with_memory}
 use Rattle.gq_trade.specs.Balances.{node_at}
 use Rattle.gq_trade.specs.Trades.{IsLive, Trades, with_trading}
 use Rattle.gq_slots.specs.Slots.{Slots, IsSpot, holder}
-use Rattle.gq_slots.specs.Calls.{Puts, SameBeside}
+use Rattle.gq_slots.specs.Calls.{PutsSlot, SameBeside}
 use Rattle.gq_slots.specs.Session_calls.{TakesOldest, with_trades}
 use Rattle.gq_memory_rows.specs.Serves.{IsMarket, Serves}
 
@@ -55,7 +55,7 @@ not_true : IsTrue false → ⊥
 not_true t = cc
 
 pub serves_stored : (s n : Slots) (k : ℕ) (o : Option (Spot × ℕ)) (g : Spot × ℕ → world.Slot) (b : Bool) → b ≡ is_some o
-    → IfSome o (λ f. Puts s n f.0 (g f)) → Serves s k → IsTrue b → Serves n k
+    → IfSome o (λ f. PutsSlot s n f.0 (g f)) → Serves s k → IsTrue b → Serves n k
 serves_stored s n k None g b e p v t = absurd (not_true (subst IsTrue e t))
 serves_stored s n k (Some f) g b e p v t = serves_beside s n k p.rest v
 

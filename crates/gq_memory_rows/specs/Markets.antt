@@ -5,8 +5,8 @@ use Rattle.gq_ram.specs.declared.account.AccountNo.{AccountNo}
 use Rattle.gq_ram.specs.Trees.{Tree, number}
 use Rattle.gq_trade.specs.declared.requests.Ask.TheVariants.{Open}
 use Rattle.gq_trade.specs.declared.requests.Request.{Request}
-use Rattle.gq_contents.specs.declared.thing.Thing.{Thing}
-use Rattle.gq_contents.specs.Things.{IsSlice}
+use Rattle.gq_contents.specs.declared.content.Content.{Content}
+use Rattle.gq_contents.specs.Contents.{IsSlice}
 use Rattle.gq_trade.specs.declared.session.Session.{Session}
 use Rattle.gq_trade.specs.declared.session.Spot.TheVariants.{InLeaf}
 use Rattle.gq_trade.specs.Trading.{Trading, fresh, opened, store_of}
@@ -77,7 +77,7 @@ pub record HasAsked (w : Trades) : Type 0 where
 -- it has a session, and the server has paid for the session's object
 pub record HasOne (w : Trades) : Type 0 where
   pub donation : Amount
-  pub object : Thing
+  pub object : Content
   pub sessions : w.trading.sessions ≡ Some (opened (session_of donation) object) ∷ []
   pub requests : w.trading.requests ≡ []
   pub slice : IsSlice (store_of w.trading 0) object

@@ -4,7 +4,7 @@ ghost use Rattle.gq_memory_rows.specs.Serves.{IsMarket, Serves};
 
 use crate::trade_rows::{live, plan};
 use crate::used::used;
-use gq_contents::Thing;
+use gq_contents::Content;
 use gq_slots::{Addresses, Slots, sessions};
 use gq_tariff::Amount;
 use gq_trade::Spot;
@@ -41,7 +41,7 @@ fn make_buffer(slots: &mut Slots, session: usize) -> bool
 {
     let buffer = Spot::InSession(session, 0);
     slots.pay_by(0);
-    if !slots.thing(buffer).is_empty() {
+    if !slots.content(buffer).is_empty() {
         return false;
     }
     match slots.make_space(buffer, 16) {
@@ -56,9 +56,9 @@ fn link(slots: &mut Slots, session: usize) -> bool
     ensures { IsTrue result → Serves slots.new session }
 {
     let slot = Spot::InLeaf(1, 0);
-    match slots.thing(slot) {
-        Thing::Empty | Thing::Link(_) | Thing::Waiting(_) => {
-            slots.mark(slot, Thing::Link(session as u32));
+    match slots.content(slot) {
+        Content::Empty | Content::Link(_) | Content::Waiting(_) => {
+            slots.mark(slot, Content::Link(session as u32));
             true
         }
         _ => false,
@@ -71,8 +71,8 @@ fn write(slots: &mut Slots, addresses: &Addresses, session: usize, value: u8) ->
     ensures { IsTrue result → Serves slots.new session }
 {
     slots.pay_by(1);
-    match slots.thing(Spot::InLeaf(1, 0)) {
-        Thing::Link(other) if other as usize == session => { addresses.store(slots, 1, 3, value) }
+    match slots.content(Spot::InLeaf(1, 0)) {
+        Content::Link(other) if other as usize == session => { addresses.store(slots, 1, 3, value) }
         _ => false,
     }
 }
@@ -83,8 +83,10 @@ fn write_number(slots: &mut Slots, addresses: &Addresses, session: usize, value:
     ensures { IsTrue result → Serves slots.new session }
 {
     slots.pay_by(1);
-    match slots.thing(Spot::InLeaf(1, 0)) {
-        Thing::Link(other) if other as usize == session => { addresses.store4(slots, 1, 8, value) }
+    match slots.content(Spot::InLeaf(1, 0)) {
+        Content::Link(other) if other as usize == session => {
+            addresses.store4(slots, 1, 8, value)
+        }
         _ => false,
     }
 }
@@ -95,8 +97,8 @@ fn read_back(slots: &mut Slots, addresses: &Addresses, session: usize) -> [Optio
     ensures { Serves slots.new session }
 {
     slots.pay_by(1);
-    match slots.thing(Spot::InLeaf(1, 0)) {
-        Thing::Link(other) if other as usize == session => {
+    match slots.content(Spot::InLeaf(1, 0)) {
+        Content::Link(other) if other as usize == session => {
             let byte = addresses.load(slots, 1, 3);
             let number = addresses.load4(slots, 1, 8);
             let behind = addresses.load(slots, 1, 4096);
@@ -112,7 +114,7 @@ fn read(slots: &mut Slots, session: usize) -> Option<u8>
 {
     let buffer = Spot::InSession(session, 0);
     slots.pay_by(0);
-    if slots.thing(buffer).size() > 3 {
+    if slots.content(buffer).size() > 3 {
         Some(slots.load(buffer, 3))
     } else {
         None

@@ -4,6 +4,8 @@
 #[cfg(test)]
 mod buffers_rows;
 #[cfg(test)]
+mod contents_rows;
+#[cfg(test)]
 mod dataspace_rows;
 #[cfg(test)]
 mod heap_rows;
@@ -27,8 +29,6 @@ mod sliced_rows;
 mod slots_rows;
 #[cfg(test)]
 mod tariff_rows;
-#[cfg(test)]
-mod things_rows;
 #[cfg(test)]
 mod trade_rows;
 #[cfg(test)]

@@ -29,7 +29,7 @@ fn make(slots: &mut Slots, spot: Spot, size: u32) -> bool
     requires size { size ≤ 67108864 }
     ensures { Stays slots.old slots.new }
 {
-    if slots.thing(spot).is_empty() {
+    if slots.content(spot).is_empty() {
         return slots.make_slice(spot, size).is_ok();
     }
     false
@@ -41,11 +41,11 @@ fn stored(slots: &mut Slots, spot: Spot, index: u32, value: u8) -> Option<u8>
     requires paid { IsPaidBy slots.old (holder slots.old spot) }
     ensures { Stays slots.old slots.new }
 {
-    if slots.thing(spot).size() <= u64::from(index) {
+    if slots.content(spot).size() <= u64::from(index) {
         return None;
     }
     slots.store(spot, index, value);
-    if slots.thing(spot).size() <= u64::from(index) {
+    if slots.content(spot).size() <= u64::from(index) {
         return None;
     }
     Some(slots.load(spot, index))

@@ -1,4 +1,4 @@
--- the account machine
+-- the abstract machine
 pub mod machine
 -- what is known of scenarios before they run, and which are accepted
 pub mod rules

@@ -94,7 +94,7 @@ pub record RepliesToClose (w : World) (x k : ℕ) : Type 0 where
   pub there : slice_get w.leaves x ≡ Some leaf
   pub phase : leaf.phase ≡ Handling
   pub level : ℕ
-  pub hand : leaf.hand ≡ Some (record { session = k; section = Closing level })
+  pub current : leaf.current ≡ Some (record { session = k; section = Closing level })
   pub todo : leaf.todo ≡ Done
   pub loops : leaf.loops ≡ []
 
@@ -111,13 +111,13 @@ pub record KeepsAccount (quota : Amount) (a : LeafAccount) : Type 0 where
   pub caps : a.used.caps ≤ quota.caps
   pub steps : a.steps ≤ a.budget
 
-abbrev pub Keeps : Amount → Option LeafAccount → Type 0
-Keeps quota None = Unit {0}
-Keeps quota (Some a) = KeepsAccount quota a
+abbrev pub KeepsQuota : Amount → Option LeafAccount → Type 0
+KeepsQuota quota None = Unit {0}
+KeepsQuota quota (Some a) = KeepsAccount quota a
 
 abbrev pub AllKeep : List Account → Type 0
 AllKeep [] = Unit {0}
-AllKeep (a ∷ rest) = Keeps a.quota a.leaf × AllKeep rest
+AllKeep (a ∷ rest) = KeepsQuota a.quota a.leaf × AllKeep rest
 
 -- so it is in each account that is told of a world
 abbrev pub KeepsAccounts : Scenario → World → Type 0

@@ -1,4 +1,4 @@
--- The account machine: programs and the tree of components, what stands between two steps, and what a step does (`next`).
+-- The abstract machine: programs and the tree of components, what stands between two steps, and what a step does (`next`).
 -- From these: what is held, lent and received of each resource, runs (`run`), and the accounts and the text of a run (`whole`).
 -- It speaks of lists, numbers and trees alone; no page, frame, code byte or stored balance.
 pub mod Lists

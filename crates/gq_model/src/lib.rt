@@ -1,4 +1,4 @@
-//! The specification: the definitions of the account machine, its verifier, its code and its texts, in `specs/`, to be
+//! The specification: the definitions of the abstract machine, its verifier, its code and its texts, in `specs/`, to be
 //! read in the order of `specs/Lib.antt`. The plain types that code and definitions share are declared here, once.
 //!
 //! ```rust

@@ -13,7 +13,7 @@ pub enum Phase {
     /// It waits for a reply.
     #[error("blocked")]
     Blocked,
-    /// It provides a service, and has no request at hand.
+    /// It provides a service, and has no current request.
     #[error("serving")]
     Serving,
     /// It is in another section than `main`.

@@ -8,7 +8,7 @@ use std::alloc::{AllocError, Global};
 use std::fmt::{self, Display, Formatter, Write};
 use std::marker::Model;
 
-/// A slot of the component's own, one of the session at hand, or that session's object.
+/// A slot of the component's own, one of the current session, or that session's object.
 #[derive(Clone, Copy, Debug, PartialEq, Eq)]
 pub enum Place {
     /// `o0` to `o63`.

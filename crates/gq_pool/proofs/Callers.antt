@@ -6,10 +6,10 @@ use Rattle.gq_tariff.specs.declared.class.Class.{Class}
 use Rattle.gq_store.specs.Store.{Store, word, TakesNew}
 use Rattle.gq_heap.specs.declared.heap.Heap.{Heap}
 use Rattle.gq_heap.specs.declared.heap.Place.{Place}
-use Rattle.gq_heap.specs.Heap.{IsHeap, Owns, SameBytes, Keeps as KeepsHeap}
+use Rattle.gq_heap.specs.Heap.{IsHeap, Owns, SameBytes, KeepsPlaces as KeepsHeap}
 use Rattle.gq_heap.proofs.Callers.{heap_stays, heap_there}
 use Rattle.gq_pool.specs.declared.pool.Pool.{Pool}
-use Rattle.gq_pool.specs.Pools.{places_of, Keeps, IsPool, OwnsBoth, KeepsNow, KeepsWithin, Makes, Takes, Gives, Adds, Removes, Puts}
+use Rattle.gq_pool.specs.Pools.{places_of, KeepsPool, IsPool, OwnsBoth, KeepsNow, KeepsWithin, Makes, AddsEntry, RemovesEntry, Adds, Removes, PutsInEntry}
 use Rattle.gq_pool.proofs.Entries.{there_at}
 
 -- the entries of a new pool have no places
@@ -20,7 +20,7 @@ no_places c (suc n) = no_places c n
 -- a new pool, beside the places that a heap has: of the chunks of both only the table is new
 pub pool_beside : (pool : Pool) (heap : Heap) (old new : Store) (size count : ℕ) (others : List Place) (k : KeepsHeap heap old others)
     → Makes old new size count pool
-    → (h : Keeps pool heap new (replicate count None) others)
+    → (h : KeepsPool pool heap new (replicate count None) others)
     × TakesNew (Owns heap old others k) (OwnsBoth pool heap new (replicate count None) others h) old
 pool_beside pool heap old new size count others k m =
     let none : places_of pool.class (replicate count None) ≡ [] = no_places pool.class count in
@@ -50,7 +50,7 @@ pub after_removes : (pool : Pool) (before after : Heap) (old new : Store) (i : �
     → IsPool pool after new
 after_removes pool before after old new i p r = record { held = set p.held i None; others = p.others; keeps = (r.keeps p.held p.others p.keeps).keeps }
 
-pub after_puts : (pool : Pool) (heap : Heap) (old new : Store) (i k : ℕ) (bytes : List ℕ) → IsPool pool heap old → Puts pool heap old new i k bytes
+pub after_puts : (pool : Pool) (heap : Heap) (old new : Store) (i k : ℕ) (bytes : List ℕ) → IsPool pool heap old → PutsInEntry pool heap old new i k bytes
     → IsPool pool heap new
 after_puts pool heap old new i k bytes p s = record { held = p.held; others = p.others; keeps = (s.keeps p.held p.others p.keeps).keeps }
 
@@ -64,7 +64,7 @@ pub record IsTaken (pool : Pool) (after : Heap) (old new : Store) (i : ℕ) (hel
   pub bytes : SameBytes old new (places_of pool.class held ++ others)
 
 pub taken : (pool : Pool) (before after : Heap) (old new : Store) (i : ℕ) (added : Bool) (held : List (Option ℕ)) (others : List Place)
-    (k : Keeps pool before old held others) → i < pool.count → Takes pool before after old new i added
+    (k : KeepsPool pool before old held others) → i < pool.count → AddsEntry pool before after old new i added
     → IsTaken pool after old new i held others (OwnsBoth pool before old held others k)
 taken pool before after old new i added held others k l t = elim (cases_eq (word (old.byte pool.table) (4 * i)) 0) [
   | inl e ↦
@@ -98,7 +98,7 @@ pub record IsGiven (pool : Pool) (after : Heap) (old new : Store) (i : ℕ) (hel
   pub bytes : SameBytes old new (places_of pool.class then ++ others)
 
 pub given : (pool : Pool) (before after : Heap) (old new : Store) (i : ℕ) (removed : Bool) (held : List (Option ℕ)) (others : List Place)
-    (k : Keeps pool before old held others) → Gives pool before after old new i removed
+    (k : KeepsPool pool before old held others) → RemovesEntry pool before after old new i removed
     → IsGiven pool after old new i held others (OwnsBoth pool before old held others k)
 given pool before after old new i removed held others k g = elim (cases_eq (word (old.byte pool.table) (4 * i)) 0) [
   | inl e ↦

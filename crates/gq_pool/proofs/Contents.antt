@@ -11,7 +11,7 @@ use Rattle.gq_heap.specs.declared.heap.Place.{Place}
 use Rattle.gq_heap.specs.declared.heap.Place.TheVariants.{Small}
 use Rattle.gq_heap.specs.Heap.{SameBytes, byte_of}
 use Rattle.gq_pool.specs.declared.pool.Pool.{Pool}
-use Rattle.gq_pool.specs.Pools.{word_of, places_of, IsTable, Keeps, Makes, Adds, Removes, Puts, entry_of, held_of, entry_bytes, entries_of}
+use Rattle.gq_pool.specs.Pools.{word_of, places_of, IsTable, KeepsPool, Makes, Adds, Removes, PutsInEntry, entry_of, held_of, entry_bytes, entries_of}
 use Rattle.gq_pool.proofs.Held.{goes}
 use Rattle.gq_pool.proofs.Entries.{entry_room}
 
@@ -64,7 +64,7 @@ pub entries_made : (pool : Pool) (old new : Store) (size count : ℕ) → Makes 
 entries_made pool old new size count m = entries_are pool new (replicate count None) m.table ∙ map_none pool new count
 
 pub entries_added : (pool : Pool) (before after : Heap) (old new : Store) (i : ℕ) (held : List (Option ℕ)) (others : List Place)
-    → Keeps pool before old held others → Adds pool before after old new i
+    → KeepsPool pool before old held others → Adds pool before after old new i
     → entries_of pool new ≡ set (entries_of pool old) i (Some (replicate pool.size 0))
 entries_added pool before after old new i held others k a =
     let now = (a.keeps held others k).keeps in
@@ -77,7 +77,7 @@ entries_added pool before after old new i held others k a =
     ∙ ap (set (entries_of pool old) i) zeros
 
 pub entries_removed : (pool : Pool) (before after : Heap) (old new : Store) (i : ℕ) (held : List (Option ℕ)) (others : List Place)
-    → Keeps pool before old held others → Removes pool before after old new i → entries_of pool new ≡ set (entries_of pool old) i None
+    → KeepsPool pool before old held others → Removes pool before after old new i → entries_of pool new ≡ set (entries_of pool old) i None
 entries_removed pool before after old new i held others k r =
     let now = (r.keeps held others k).keeps in
     entries_are pool new (set held i None) now.table
@@ -87,7 +87,8 @@ entries_removed pool before after old new i held others k r =
 
 -- bytes that are put into an entry that is there
 module _ (pool : Pool) (heap : Heap) (old new : Store) (i j : ℕ) (bytes : List ℕ) (held : List (Option ℕ)) (others : List Place)
-    (k : Keeps pool heap old held others) (l : i < pool.count) (q : ℕ) (at : get_or held i None ≡ Some q) (p : Puts pool heap old new i j bytes) where
+    (k : KeepsPool pool heap old held others) (l : i < pool.count) (q : ℕ) (at : get_or held i None ≡ Some q)
+    (p : PutsInEntry pool heap old new i j bytes) where
   entry_then : entries_of pool new ≡ set (entries_of pool old) i (entry_bytes pool new (Some q))
   entry_then =
       let now = (p.keeps held others k).keeps in
@@ -110,7 +111,7 @@ module _ (pool : Pool) (heap : Heap) (old new : Store) (i j : ℕ) (bytes : List
 
 -- one byte of it
 pub entries_set : (pool : Pool) (heap : Heap) (old new : Store) (i j b : ℕ) (held : List (Option ℕ)) (others : List Place)
-    → Keeps pool heap old held others → i < pool.count → (q : ℕ) → get_or held i None ≡ Some q → Puts pool heap old new i j (b ∷ []) → j < pool.size
+    → KeepsPool pool heap old held others → i < pool.count → (q : ℕ) → get_or held i None ≡ Some q → PutsInEntry pool heap old new i j (b ∷ []) → j < pool.size
     → entries_of pool new ≡ set (entries_of pool old) i (Some (set (listed pool.size (byte_of old (Small pool.class q))) j b))
 entries_set pool heap old new i j b held others k l q at p inside =
     entry_then pool heap old new i j (b ∷ []) held others k l q at p

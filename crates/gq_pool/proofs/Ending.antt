@@ -4,10 +4,10 @@ use Rattle.std.proofs.lemmas.Bool.{cases_eq}
 use Rattle.gq_store.specs.Store.{Store, word, one_more, Shrinks, SameChunk}
 use Rattle.gq_heap.specs.declared.heap.Heap.{Heap}
 use Rattle.gq_heap.specs.declared.heap.Place.{Place}
-use Rattle.gq_heap.specs.Heap.{Owns, SameBytes, peaks, charge, charge_caps, KeepsStill, KeepsWithin as KeepsPlaces}
+use Rattle.gq_heap.specs.Heap.{Owns, SameBytes, peaks, charge, charge_caps, KeepsStill, KeepsWithin as HeapWithin}
 use Rattle.gq_heap.proofs.Callers.{heap_stays}
 use Rattle.gq_pool.specs.declared.pool.Pool.{Pool}
-use Rattle.gq_pool.specs.Pools.{places_of, IsAbsent, Keeps, IsPool, OwnsBoth, KeepsWithin, Gives, Ends}
+use Rattle.gq_pool.specs.Pools.{places_of, IsAbsent, KeepsPool, IsPool, OwnsBoth, KeepsWithin, RemovesEntry, Ends}
 use Rattle.gq_pool.proofs.Held.{cleared, places_cleared, set_none, among_others}
 use Rattle.gq_pool.proofs.Entries.{absent_at}
 
@@ -25,9 +25,9 @@ composed pool middle after old mid new first second others owned a b = record {
 
 -- what stands after the first n entries are removed
 pub record Cleared (pool : Pool) (before now : Heap) (old new : Store) (n : ℕ) : Type 0 where
-  pub keeps : (held : List (Option ℕ)) (others : List Place) (k : Keeps pool before old held others)
+  pub keeps : (held : List (Option ℕ)) (others : List Place) (k : KeepsPool pool before old held others)
       → KeepsWithin pool now old new (cleared n held) others (OwnsBoth pool before old held others k)
-  pub bytes : (held : List (Option ℕ)) (others : List Place) → Keeps pool before old held others → SameBytes old new others
+  pub bytes : (held : List (Option ℕ)) (others : List Place) → KeepsPool pool before old held others → SameBytes old new others
   pub left : new.left ≡ old.left
   pub caps : new.caps ≡ old.caps
   pub peaks : peaks now ≡ peaks before
@@ -64,7 +64,7 @@ cleared_absent pool before now old new n l a c = record {
 }
 
 next_cleared : (pool : Pool) (before middle after : Heap) (old mid new : Store) (n : ℕ) (removed : Bool) → n < pool.count → Cleared pool before middle old mid n
-    → Gives pool middle after mid new n removed → Cleared pool before after old new (suc n)
+    → RemovesEntry pool middle after mid new n removed → Cleared pool before after old new (suc n)
 next_cleared pool before middle after old mid new n removed l c g = elim (cases_eq (word (mid.byte pool.table) (4 * n)) 0) [
   | inl a ↦
       let same = g.absent a in
@@ -92,13 +92,13 @@ next_cleared pool before middle after old mid new n removed l c g = elim (cases_
 
 pub one_more_cleared : (pool : Pool) (before middle after : Heap) (old mid new : Store) (n : ℕ) (removed : Bool) → n < pool.count
     → Cleared pool before middle old mid n
-    → Gives pool middle after mid new n removed → Cleared pool before after old new (n + 1)
+    → RemovesEntry pool middle after mid new n removed → Cleared pool before after old new (n + 1)
 one_more_cleared pool before middle after old mid new n removed l c g =
     subst (Cleared pool before after old new) (sym (add-one n)) (next_cleared pool before middle after old mid new n removed l c g)
 
 module _ (pool : Pool) (before after : Heap) (old mid new : Store) (n : ℕ) (all : n ≡ pool.count) (c : Cleared pool before after old mid n)
     (s : Shrinks mid new pool.table) where
-  module _ (held : List (Option ℕ)) (others : List Place) (k : Keeps pool before old held others) where
+  module _ (held : List (Option ℕ)) (others : List Place) (k : KeepsPool pool before old held others) where
     kept : KeepsWithin pool after old mid (cleared n held) others (OwnsBoth pool before old held others k)
     kept = c.keeps held others k
 
@@ -124,7 +124,7 @@ module _ (pool : Pool) (before after : Heap) (old mid new : Store) (n : ℕ) (al
         let first = kept.spares x there other in
         record { size = s.sizes x ne ∙ first.size; bytes = λ j. s.bytes x j ne ∙ first.bytes j }
 
-    end_keeps : KeepsPlaces after old new others (OwnsBoth pool before old held others k)
+    end_keeps : HeapWithin after old new others (OwnsBoth pool before old held others k)
     end_keeps = record { keeps = still_others.keeps; owns = λ x o. kept.owns x (inr (still_others.owns x o)); spares = end_spares }
 
   pub ends : IsPool pool before old → Ends pool before after old new

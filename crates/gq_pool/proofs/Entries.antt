@@ -11,7 +11,7 @@ use Rattle.gq_heap.specs.declared.heap.Heap.{Heap}
 use Rattle.gq_heap.specs.declared.heap.Place.{Place}
 use Rattle.gq_heap.specs.declared.heap.Place.TheVariants.{Small}
 use Rattle.gq_heap.specs.Classes.{index_of, size_at, places_at}
-use Rattle.gq_heap.specs.Heap.{Owns, Inserts, IsInUse, rise_caps, SameBytes, Keeps as KeepsHeap, Allocates, Frees as FreesBlock, Puts as PutsBlock}
+use Rattle.gq_heap.specs.Heap.{Owns, Inserts, IsInUse, rise_caps, SameBytes, KeepsPlaces as KeepsHeap, Allocates, Frees as FreesBlock, PutsInBlock as PutsBlock}
 use Rattle.gq_heap.specs.Heap.{KeepsNow as HeapNow, KeepsWithin as HeapWithin}
 use Rattle.std.proofs.Math.Nat.{mod-lt, div-add-mod}
 use Rattle.std.proofs.lemmas.Nat.{mul-le}
@@ -21,7 +21,7 @@ use Rattle.gq_heap.proofs.ClassLaws.{sizes, index_below, size_is, number_is}
 use Rattle.gq_heap.proofs.Heaps.{small_chunk}
 use Rattle.gq_heap.proofs.Rises.{plus_none}
 use Rattle.gq_pool.specs.declared.pool.Pool.{Pool}
-use Rattle.gq_pool.specs.Pools.{places_of, entry_byte, IsAbsent, IsTable, Keeps, IsPool, OwnsBoth, KeepsNow, KeepsWithin, Adds, Removes, Puts}
+use Rattle.gq_pool.specs.Pools.{places_of, entry_byte, IsAbsent, IsTable, KeepsPool, IsPool, OwnsBoth, KeepsNow, KeepsWithin, Adds, Removes, PutsInEntry}
 use Rattle.gq_pool.proofs.Held.{comes, goes, none_at, some_at, table_stays}
 use Rattle.gq_pool.proofs.Steps.{table_there, word_inside, stepped, stepped_owns, spared, old_same, new_same}
 
@@ -63,12 +63,12 @@ pub entry_room : (pool : Pool) (st : Store) (held : List (Option ℕ)) → IsTab
 entry_room pool st held t = omega (arith, fits pool.size t.entry.1, t.class, size_is pool.class)
 
 -- ---- what a word says
-pub absent_at : (pool : Pool) (heap : Heap) (st : Store) (held : List (Option ℕ)) (others : List Place) (i : ℕ) → Keeps pool heap st held others
+pub absent_at : (pool : Pool) (heap : Heap) (st : Store) (held : List (Option ℕ)) (others : List Place) (i : ℕ) → KeepsPool pool heap st held others
     → i < pool.count
     → IsAbsent pool st i → get_or held i None ≡ None
 absent_at pool heap st held others i k l a = none_at (get_or held i None) (word (st.byte pool.table) (4 * i)) (k.table.words i (omega (arith, k.table.count))) a
 
-pub there_at : (pool : Pool) (heap : Heap) (st : Store) (held : List (Option ℕ)) (others : List Place) (i n : ℕ) → Keeps pool heap st held others
+pub there_at : (pool : Pool) (heap : Heap) (st : Store) (held : List (Option ℕ)) (others : List Place) (i n : ℕ) → KeepsPool pool heap st held others
     → i < pool.count
     → n ≡ word (st.byte pool.table) (4 * i) → 0 < n → get_or held i None ≡ Some (n - 1)
 there_at pool heap st held others i n k l e pos = some_at (get_or held i None) n (e ∙ k.table.words i (omega (arith, k.table.count))) pos
@@ -128,7 +128,7 @@ module _ (pool : Pool) (before after : Heap) (old mid new : Store) (i q : ℕ) (
   b : Allocates before after old mid pool.size (Small pool.class q)
   b = subst (λ d. Allocates before after old mid pool.size (Small d q)) class_is a
 
-  module _ (held : List (Option ℕ)) (others : List Place) (k : Keeps pool before old held others) where
+  module _ (held : List (Option ℕ)) (others : List Place) (k : KeepsPool pool before old held others) where
     here : i < length held
     here = omega (arith, l, k.table.count)
 
@@ -186,7 +186,7 @@ module _ (pool : Pool) (before after : Heap) (old mid new : Store) (i q : ℕ) (
 module _ (pool : Pool) (before after : Heap) (old mid new : Store) (i n : ℕ) (l : i < pool.count) (is : n ≡ word (old.byte pool.table) (4 * i)) (pos : 0 < n)
     (f : FreesBlock before after old mid (Small pool.class (n - 1))) (w : Writes mid new pool.table (4 * i) 4)
     (stored : word (new.byte pool.table) (4 * i) ≡ 0) where
-  module _ (held : List (Option ℕ)) (others : List Place) (k : Keeps pool before old held others) where
+  module _ (held : List (Option ℕ)) (others : List Place) (k : KeepsPool pool before old held others) where
     inside : i < length held
     inside = omega (arith, l, k.table.count)
 
@@ -230,7 +230,7 @@ module _ (pool : Pool) (before after : Heap) (old mid new : Store) (i n : ℕ) (
 module _ (pool : Pool) (heap : Heap) (old new : Store) (i n k : ℕ) (bytes : List ℕ) (l : i < pool.count) (is : n ≡ word (old.byte pool.table) (4 * i))
     (pos : 0 < n)
     (s : PutsBlock heap old new (Small pool.class (n - 1)) k bytes) where
-  module _ (held : List (Option ℕ)) (others : List Place) (kept : Keeps pool heap old held others) where
+  module _ (held : List (Option ℕ)) (others : List Place) (kept : KeepsPool pool heap old held others) where
     at : get_or held i None ≡ Some (n - 1)
     at = there_at pool heap old held others i n kept l is pos
 
@@ -259,7 +259,7 @@ module _ (pool : Pool) (heap : Heap) (old new : Store) (i n k : ℕ) (bytes : Li
     put_others : SameBytes old new (places_of pool.class (set held i None) ++ others)
     put_others = s.others (places_of pool.class held ++ others) (places_of pool.class (set held i None) ++ others) kept.blocks has
 
-  pub puts_there : Puts pool heap old new i k bytes
+  pub puts_there : PutsInEntry pool heap old new i k bytes
   puts_there = record {
     absent = λ a. absurd (omega (arith, is, pos, a));
     keeps = put_keeps;
@@ -270,7 +270,7 @@ module _ (pool : Pool) (heap : Heap) (old new : Store) (i n k : ℕ) (bytes : Li
   }
 
 pub puts_absent : (pool : Pool) (heap : Heap) (old : Store) (i k : ℕ) (bytes : List ℕ) → i < pool.count → IsAbsent pool old i
-    → Puts pool heap old old i k bytes
+    → PutsInEntry pool heap old old i k bytes
 puts_absent pool heap old i k bytes l a = record {
   absent = λ _. refl;
   keeps = λ held others kept. record { keeps = kept; owns = λ x own. own; spares = λ x present other. record { size = refl; bytes = λ j. refl } };

@@ -3,11 +3,11 @@ use Rattle.std.proofs.Common.{◌≡◌, ℕ, ◌+◌, ◌*◌, ◌<◌, ◌≤�
 use Rattle.gq_store.specs.Store.{Store, word, Writes, Spares}
 use Rattle.gq_heap.specs.declared.heap.Heap.{Heap}
 use Rattle.gq_heap.specs.declared.heap.Place.{Place}
-use Rattle.gq_heap.specs.Heap.{Owns, Inserts, chunk_of, offset_of, byte_of, KeepsStill, Keeps as KeepsHeap}
+use Rattle.gq_heap.specs.Heap.{Owns, Inserts, chunk_of, offset_of, byte_of, KeepsStill, KeepsPlaces as KeepsHeap}
 use Rattle.gq_heap.proofs.Calls.{block_owned}
 use Rattle.gq_heap.proofs.Callers.{heap_stays}
 use Rattle.gq_pool.specs.declared.pool.Pool.{Pool}
-use Rattle.gq_pool.specs.Pools.{word_of, places_of, IsTable, Keeps, OwnsBoth}
+use Rattle.gq_pool.specs.Pools.{word_of, places_of, IsTable, KeepsPool, OwnsBoth}
 use Rattle.gq_pool.proofs.Held.{table_stays, table_set}
 
 -- the table has room for its words
@@ -20,7 +20,7 @@ table_there pool st held t l = omega (arith, t.pages)
 
 -- the heap's chunks change first, the heap being `after` then, and then the word of the entry i
 module _ (pool : Pool) (before after : Heap) (old mid new : Store) (held : List (Option ℕ)) (others : List Place) (i : ℕ) (o : Option ℕ)
-    (k : Keeps pool before old held others) (l : i < length held)
+    (k : KeepsPool pool before old held others) (l : i < length held)
     (now : KeepsHeap after mid (places_of pool.class (set held i o) ++ others))
     (spares : Spares (Owns before old (places_of pool.class held ++ others) k.blocks) old mid)
     (apart : Owns after mid (places_of pool.class (set held i o) ++ others) now pool.table → ⊥)
@@ -37,7 +37,7 @@ module _ (pool : Pool) (before after : Heap) (old mid new : Store) (held : List 
     bytes = λ j. w.elsewhere x j (λ e a b. apart (subst (Owns after mid more now) e own));
   })
 
-  pub stepped : Keeps pool after new (set held i o) others
+  pub stepped : KeepsPool pool after new (set held i o) others
   stepped = record {
     table = table_set pool mid new held i o l (table_stays pool old mid held (spares pool.table there k.apart) k.table) w stored;
     blocks = still.keeps;

@@ -3,11 +3,11 @@ use Rattle.std.proofs.Common.{◌≡◌, ℕ, ◌<◌, inl, inr, List, [], ◌++
 use Rattle.gq_store.specs.Store.{Store, Spares}
 use Rattle.gq_heap.specs.declared.heap.Heap.{Heap}
 use Rattle.gq_heap.specs.declared.heap.Place.{Place}
-use Rattle.gq_heap.specs.Heap.{Owns, SameBytes, Keeps as KeepsHeap, KeepsNow as HeapNow, KeepsWithin as HeapWithin}
+use Rattle.gq_heap.specs.Heap.{Owns, SameBytes, KeepsPlaces as KeepsHeap, KeepsNow as HeapNow, KeepsWithin as HeapWithin}
 use Rattle.gq_heap.proofs.Callers.{heap_stays, heap_there}
 use Rattle.gq_heap.proofs.Moved.{IsMoved, moved, keeps_moved, owns_moved}
 use Rattle.gq_pool.specs.declared.pool.Pool.{Pool}
-use Rattle.gq_pool.specs.Pools.{places_of, IsTable, Keeps, OwnsBoth, KeepsNow, KeepsWithin, KeepsTwo, KeepsTwoNow, OwnsTwo, Makes, Ends}
+use Rattle.gq_pool.specs.Pools.{places_of, IsTable, KeepsPool, OwnsBoth, KeepsNow, KeepsWithin, KeepsTwo, KeepsTwoNow, OwnsTwo, Makes, Ends}
 use Rattle.gq_pool.proofs.Held.{table_stays}
 use Rattle.gq_pool.proofs.Callers.{no_places}
 
@@ -27,9 +27,9 @@ heap_within after old new places owned k = record { keeps = k.keeps; owns = λ x
 -- ---- one pool
 -- a call of the heap on other places
 pub beside_heap : (pool : Pool) (before after : Heap) (old new : Store) (held : List (Option ℕ)) (others more : List Place)
-    (k : Keeps pool before old held others)
+    (k : KeepsPool pool before old held others)
     → HeapNow after old new (places_of pool.class held ++ more) (Owns before old (places_of pool.class held ++ others) k.blocks)
-    → Keeps pool after new held more
+    → KeepsPool pool after new held more
 beside_heap pool before after old new held others more k n = record {
   table = table_stays pool old new held (n.spares pool.table (table_is pool old held k.table) k.apart) k.table;
   blocks = n.keeps;
@@ -38,13 +38,13 @@ beside_heap pool before after old new held others more k n = record {
 
 -- what is kept while other chunks change
 pub record Still (pool : Pool) (heap : Heap) (old new : Store) (held : List (Option ℕ)) (others : List Place) (owned : ℕ → Type 0) : Type 0 where
-  pub keeps : Keeps pool heap new held others
+  pub keeps : KeepsPool pool heap new held others
   pub owns : (x : ℕ) → OwnsBoth pool heap new held others keeps x → owned x
   pub bytes : SameBytes old new (places_of pool.class held ++ others)
 
 -- a call that spares all chunks of pool and heap
 pub beside_chunk : (pool : Pool) (heap : Heap) (old new : Store) (held : List (Option ℕ)) (others : List Place) (mine : ℕ → Type 0)
-    (k : Keeps pool heap old held others) → Spares mine old new → ((x : ℕ) → OwnsBoth pool heap old held others k x → mine x → ⊥)
+    (k : KeepsPool pool heap old held others) → Spares mine old new → ((x : ℕ) → OwnsBoth pool heap old held others k x → mine x → ⊥)
     → Still pool heap old new held others (OwnsBoth pool heap old held others k)
 beside_chunk pool heap old new held others mine k spares other =
     let there = heap_there heap old (places_of pool.class held ++ others) k.blocks in
@@ -171,7 +171,7 @@ two_beside_chunk a b heap old new held more others mine t spares other =
 -- the first ends, the second stays
 pub first_ends : (a b : Pool) (before after : Heap) (old new : Store) (held more : List (Option ℕ)) (others : List Place)
     (t : KeepsTwo a b before old held more others) → Ends a before after old new
-    → (k : Keeps b after new more others) × ((x : ℕ) → OwnsBoth b after new more others k x → OwnsTwo a b before old held more others t x)
+    → (k : KeepsPool b after new more others) × ((x : ℕ) → OwnsBoth b after new more others k x → OwnsTwo a b before old held more others t x)
 first_ends a b before after old new held more others t e =
     let n = e.keeps held (places_of b.class more ++ others) t.keeps in (
       record {
@@ -185,12 +185,12 @@ first_ends a b before after old new held more others t e =
 -- a second pool is made beside one
 none_more : (a : Pool) (heap : Heap) (old new : Store) (held : List (Option ℕ)) (others ps : List Place) (owned : ℕ → Type 0) → ps ≡ []
     → Still a heap old new held others owned
-    → (k : Keeps a heap new held (ps ++ others)) × ((x : ℕ) → OwnsBoth a heap new held (ps ++ others) k x → owned x)
+    → (k : KeepsPool a heap new held (ps ++ others)) × ((x : ℕ) → OwnsBoth a heap new held (ps ++ others) k x → owned x)
 none_more a heap old new held others ps owned e s =
-    subst (λ qs. (k : Keeps a heap new held (qs ++ others)) × ((x : ℕ) → OwnsBoth a heap new held (qs ++ others) k x → owned x)) (sym e) (s.keeps, s.owns)
+    subst (λ qs. (k : KeepsPool a heap new held (qs ++ others)) × ((x : ℕ) → OwnsBoth a heap new held (qs ++ others) k x → owned x)) (sym e) (s.keeps, s.owns)
 
 pub made_second : (a b : Pool) (heap : Heap) (old new : Store) (held : List (Option ℕ)) (others : List Place) (size count : ℕ)
-    (k : Keeps a heap old held others) → Makes old new size count b
+    (k : KeepsPool a heap old held others) → Makes old new size count b
     → KeepsTwoNow a b heap old new held (replicate count None) others (OwnsBoth a heap old held others k)
 made_second a b heap old new held others size count k m =
     let owned : ℕ → Type 0 = OwnsBoth a heap old held others k in

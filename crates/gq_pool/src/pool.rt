@@ -30,7 +30,7 @@ pub struct Pool {
 impl Pool {
     ghost use Rattle.std.specs.Prelude.{◌≡◌, ℕ, ◌+◌, ◌*◌, ◌<◌, ◌≤◌, ◌↔◌, [], ◌∷◌, Some, IfOk, OnErr, IsErrOf, IsTrue};
     ghost use Rattle.gq_model.specs.machine.Program.{spelled};
-    ghost use Rattle.gq_pool.specs.Pools.{IsPool, IsAbsent, size_of, count_of, Makes, Takes, Gives, Reads, ReadsWord, Puts, Ends};
+    ghost use Rattle.gq_pool.specs.Pools.{IsPool, IsAbsent, size_of, count_of, Makes, AddsEntry, RemovesEntry, Reads, ReadsWord, PutsInEntry, Ends};
 
     /// A pool of `count` entries of `size` bytes, each absent. It takes whole pages for its table, and one capability.
     ///
@@ -79,7 +79,7 @@ impl Pool {
     ) -> Result<bool, GrowFault>
         requires kept { IsPool self.now heap.old (S.state store.old) }
         requires inside { index < count_of self.now }
-        ensures ok { IfOk result (λ added. Takes self.now heap.old heap.new (S.state store.old) (S.state store.new) index added) }
+        ensures ok { IfOk result (λ added. AddsEntry self.now heap.old heap.new (S.state store.old) (S.state store.new) index added) }
         ensures exceeded { IsErrOf result GrowFault.Exceeded
             ↔ (IsAbsent self.now (S.state store.old) index × ((S.state store.old).left < rise heap.old (size_of self.now))) }
         ensures caps { IsErrOf result GrowFault.CapsExceeded ↔ (IsAbsent self.now (S.state store.old) index × (0 < rise heap.old (size_of self.now))
@@ -105,7 +105,7 @@ impl Pool {
     pub fn give<S: ByteStore>(&self, store: &mut S, heap: &mut Heap, index: u32) -> bool
         requires kept { IsPool self.now heap.old (S.state store.old) }
         requires inside { index < count_of self.now }
-        ensures gives { Gives self.now heap.old heap.new (S.state store.old) (S.state store.new) index result }
+        ensures gives { RemovesEntry self.now heap.old heap.new (S.state store.old) (S.state store.new) index result }
         ensures kept { IsPool self.now heap.new (S.state store.new) }
         ensures rest { S.same_rest store.old store.new }
     {
@@ -144,7 +144,7 @@ impl Pool {
     )
         requires kept { IsPool self.now heap.now (S.state store.old) }
         requires inside { (index < count_of self.now) × (offset < size_of self.now) }
-        ensures puts { Puts self.now heap.now (S.state store.old) (S.state store.new) index offset (value ∷ []) }
+        ensures puts { PutsInEntry self.now heap.now (S.state store.old) (S.state store.new) index offset (value ∷ []) }
         ensures kept { IsPool self.now heap.now (S.state store.new) }
         ensures rest { S.same_rest store.old store.new }
     {
@@ -178,7 +178,7 @@ impl Pool {
     )
         requires kept { IsPool self.now heap.now (S.state store.old) }
         requires inside { (index < count_of self.now) × (offset + 4 ≤ size_of self.now) }
-        ensures puts { Puts self.now heap.now (S.state store.old) (S.state store.new) index offset (spelled 4 value) }
+        ensures puts { PutsInEntry self.now heap.now (S.state store.old) (S.state store.new) index offset (spelled 4 value) }
         ensures kept { IsPool self.now heap.now (S.state store.new) }
         ensures rest { S.same_rest store.old store.new }
     {
@@ -188,7 +188,7 @@ impl Pool {
         }
     }
 
-    /// Gives all entries and the table back.
+    /// RemovesEntry all entries and the table back.
     pub fn end<S: ByteStore>(self, store: &mut S, heap: &mut Heap)
         requires { IsPool self heap.old (S.state store.old) }
         ensures ends { Ends self heap.old heap.new (S.state store.old) (S.state store.new) }

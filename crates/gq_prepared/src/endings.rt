@@ -10,7 +10,7 @@ ghost use Rattle.gq_slots.specs.Slots.{Frame, Slots};
 ghost use Rattle.gq_statements.specs.Systems.{AreLawful, IsOf};
 ghost use Rattle.gq_prepared.specs.Nodes.{AreNodesOf};
 
-/// Where a leaf of a scenario has ended, and each other leaf is in the phase that the account machine gives it then, the system goes with the slots as
+/// Where a leaf of a scenario has ended, and each other leaf is in the phase that the abstract machine gives it then, the system goes with the slots as
 /// before, and these have the scenario's nodes. It does nothing.
 pub fn ended()
     ensures of { (s : Scenario) (f g : Frame) (t u : Slots) (x : ℕ) (c : Component) → IsReady s → AreLawful t → AreLawful u → AreNodesOf s t.trades

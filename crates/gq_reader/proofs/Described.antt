@@ -3,7 +3,7 @@ use Rattle.std.proofs.Common.{◌≡◌, Bool, true, false, cond, List, ℕ, Opt
 use Rattle.toml.specs.Data.{Members}
 use Rattle.gq_scenario.specs.Keys.{DocumentFault}
 use Rattle.gq_scenario.specs.Reading.{described_or, document_text}
-use Rattle.gq_scenario.specs.Words.{scenario_fault_text, Tells, IsRead}
+use Rattle.gq_scenario.specs.Words.{scenario_fault_text, SameFault, IsRead}
 use Rattle.gq_scenario.specs.declared.fault.ScenarioFault.{ScenarioFault}
 use Rattle.gq_scenario.specs.declared.fault.ScenarioError.TheVariants as errors
 
@@ -17,6 +17,6 @@ pub name_kept : (o : Option (List ℕ)) (b : Bool) (name kept : List ℕ) → o 
 name_kept o true name kept e f = cc
 name_kept o false name kept e f = absurd cc
 
-pub fault_read : (top : Members) (f : ScenarioFault) (o : Option DocumentFault) → Tells (Some f) o → IsRead (Err (errors.Fault f)) (described_or top o)
+pub fault_read : (top : Members) (f : ScenarioFault) (o : Option DocumentFault) → SameFault (Some f) o → IsRead (Err (errors.Fault f)) (described_or top o)
 fault_read top f None h = absurd cc
 fault_read top f (Some d) h = some_is (scenario_fault_text f) (document_text d) h

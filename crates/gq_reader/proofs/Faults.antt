@@ -8,18 +8,18 @@ use Rattle.gq_model.specs.machine.Lists.{or_first}
 use Rattle.gq_scenario.specs.declared.fault.ScenarioFault.{ScenarioFault}
 use Rattle.gq_scenario.specs.Keys.{DocumentFault, listed, members_of}
 use Rattle.gq_scenario.specs.Document.{first_of}
-use Rattle.gq_scenario.specs.Words.{Tells}
+use Rattle.gq_scenario.specs.Words.{SameFault}
 use Rattle.gq_model.proofs.Small.{or_first_none}
 
-pub tells_first : (f : ScenarioFault) (a b : Option DocumentFault) → Tells (Some f) a → Tells (Some f) (or_first a b)
+pub tells_first : (f : ScenarioFault) (a b : Option DocumentFault) → SameFault (Some f) a → SameFault (Some f) (or_first a b)
 tells_first f None b h = absurd cc
 tells_first f (Some d) b h = h
 
-pub tells_second : (found : Option ScenarioFault) (a b : Option DocumentFault) → Tells None a → Tells found b → Tells found (or_first a b)
+pub tells_second : (found : Option ScenarioFault) (a b : Option DocumentFault) → SameFault None a → SameFault found b → SameFault found (or_first a b)
 tells_second found None b h k = k
 tells_second found (Some d) b h k = absurd cc
 
-pub tells_none : (a : Option DocumentFault) → Tells None a → a ≡ None
+pub tells_none : (a : Option DocumentFault) → SameFault None a → a ≡ None
 tells_none None h = refl
 tells_none (Some d) h = absurd cc
 
@@ -47,13 +47,14 @@ module _ (fault : Members → Option DocumentFault) where
 
   -- the first of the rest has a fault
   pub leaf_first : (f : ScenarioFault) (vs : List Value) (i : ℕ) (v : Value) (t : Members) → i < length vs → v ≡ get_or vs i v → as_table (view v) ≡ Some t
-      → Tells (Some f) (fault t)
-      → Tells (Some f) (first_of fault (listed (items_view (drop i vs))))
+      → SameFault (Some f) (fault t)
+      → SameFault (Some f) (first_of fault (listed (items_view (drop i vs))))
   leaf_first f vs i v t h e is told =
       rw (first_of-drop vs i v h e, members_at_table (view v) t is) (tells_first f (fault t) (first_of fault (listed (items_view (drop (i + 1) vs)))) told)
 
   -- the first of the rest has none
-  pub leaf_next : (vs : List Value) (i : ℕ) (v : Value) (t : Members) → i < length vs → v ≡ get_or vs i v → as_table (view v) ≡ Some t → Tells None (fault t)
+  pub leaf_next : (vs : List Value) (i : ℕ) (v : Value) (t : Members) → i < length vs → v ≡ get_or vs i v → as_table (view v) ≡ Some t
+      → SameFault None (fault t)
       → first_of fault (listed (items_view (drop (i + 1) vs))) ≡ first_of fault (listed (items_view (drop i vs)))
   leaf_next vs i v t h e is told =
       sym (first_of-drop vs i v h e ∙ rw (members_at_table (view v) t is, tells_none (fault t) told) refl)

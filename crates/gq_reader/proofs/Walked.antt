@@ -6,19 +6,20 @@ use Rattle.gq_scenario.specs.Keys.{DocumentFault, MissingKey, members_of, table_
 use Rattle.gq_scenario.specs.Tables.{version_of, top_keys, interface_keys}
 use Rattle.gq_scenario.specs.Document.{first_of, list_at, table_of, keys_of, routes_fault, interfaces_fault, node_fault, walk_fault}
 use Rattle.gq_reader.specs.internal.Walk.{own_fault, keys_fault}
-use Rattle.gq_scenario.specs.Words.{Tells}
+use Rattle.gq_scenario.specs.Words.{SameFault}
 use Rattle.gq_scenario.specs.declared.fault.ScenarioFault.{ScenarioFault}
 use Rattle.gq_reader.proofs.Faults.{tells_first, tells_none, members_at_table}
 
 -- INTERFACES
 
 pub interface_first : (version : ℕ) (f : ScenarioFault) (key : List ℕ) (d : Data) (rest t : Members) → as_table d ≡ Some t
-    → Tells (Some f) (table_fault (interface_keys version t) t)
-    → Tells (Some f) (interfaces_fault version (member key d rest))
+    → SameFault (Some f) (table_fault (interface_keys version t) t)
+    → SameFault (Some f) (interfaces_fault version (member key d rest))
 interface_first version f key d rest t is told = rw (members_at_table d t is)
     (tells_first f (table_fault (interface_keys version t) t) (interfaces_fault version rest) told)
 
-pub interface_next : (version : ℕ) (key : List ℕ) (d : Data) (rest t : Members) → as_table d ≡ Some t → Tells None (table_fault (interface_keys version t) t)
+pub interface_next : (version : ℕ) (key : List ℕ) (d : Data) (rest t : Members) → as_table d ≡ Some t
+    → SameFault None (table_fault (interface_keys version t) t)
     → interfaces_fault version (member key d rest) ≡ interfaces_fault version rest
 interface_next version key d rest t is told = rw (members_at_table d t is, tells_none (table_fault (interface_keys version t) t) told) refl
 
@@ -58,11 +59,11 @@ module _ (levels version : ℕ) (services : List (List ℕ)) (some : 0 < levels)
   pub nameless : (d : Data) → as_table d ≡ None → node_fault levels version services (members_of d) ≡ Some (MissingKey (codes "name"))
   nameless d e = rw (no_table d e) (node_step no_members ∙ refl)
 
-  pub node_first : (f : ScenarioFault) (d : Data) (t : Members) → as_table d ≡ Some t → Tells (Some f) (own_fault version services t)
-      → Tells (Some f) (node_fault levels version services (members_of d))
+  pub node_first : (f : ScenarioFault) (d : Data) (t : Members) → as_table d ≡ Some t → SameFault (Some f) (own_fault version services t)
+      → SameFault (Some f) (node_fault levels version services (members_of d))
   node_first f d t is told = rw (members_at_table d t is, node_step t) (tells_first f (own_fault version services t) _ told)
 
-  pub node_below : (d : Data) (t : Members) → as_table d ≡ Some t → Tells None (own_fault version services t)
+  pub node_below : (d : Data) (t : Members) → as_table d ≡ Some t → SameFault None (own_fault version services t)
       → node_fault levels version services (members_of d) ≡ first_of (node_fault (levels - 1) version services) (list_at (codes "start") t)
   node_below d t is told = rw (members_at_table d t is) (node_step t ∙ rw (tells_none (own_fault version services t) told) refl)
 

@@ -5,7 +5,7 @@ ghost use Rattle.gq_scenario.specs.Document.{keys_of, names_of, name_twice, walk
 ghost use Rattle.gq_reader.specs.internal.Parts.{interfaces_at, are_too_many, parts_fault};
 ghost use Rattle.gq_scenario.specs.Made.{scenario_made};
 ghost use Rattle.gq_scenario.specs.Reading.{described_or, scenario_in};
-ghost use Rattle.gq_scenario.specs.Words.{Tells, IsRead};
+ghost use Rattle.gq_scenario.specs.Words.{SameFault, IsRead};
 
 use crate::document::read_document;
 use crate::interfaces::read_interfaces;
@@ -44,7 +44,7 @@ fn are_too_many(default_routes: Option<&[Route]>, nodes: &Nodes) -> bool
 
 // The first name of a tree that was seen before.
 fn repeated_name(alloc: Global, nodes: &Nodes) -> Result<Option<ScenarioFault>, AllocError>
-    ensures { IfOk result (λ fault. Tells fault (name_twice (codes "init" ∷ []) (names_of nodes.now))) }
+    ensures { IfOk result (λ fault. SameFault fault (name_twice (codes "init" ∷ []) (names_of nodes.now))) }
 {
     let mut names = Vec::new(alloc);
     push_names(&mut names, nodes)?;
@@ -57,7 +57,7 @@ fn parts_fault(
     default_routes: Option<&[Route]>,
     nodes: &Nodes,
 ) -> Result<Option<ScenarioFault>, AllocError>
-    ensures { IfOk result (λ fault. Tells fault (parts_fault (option_map (λ r. r.now) default_routes.entry) nodes.now)) }
+    ensures { IfOk result (λ fault. SameFault fault (parts_fault (option_map (λ r. r.now) default_routes.entry) nodes.now)) }
 {
     if are_too_many(default_routes, nodes) {
         return Ok(Some(ScenarioFault::TooMany));

@@ -9,7 +9,7 @@ ghost use Rattle.gq_scenario.specs.Keys.{is_bad, unknown_key, missing_key, bad_v
 ghost use Rattle.gq_scenario.specs.Tables.{is_total, is_upgrades, are_named_tables, greatest_caps};
 ghost use Rattle.gq_model.specs.texts.Operands.{greatest_number};
 ghost use Rattle.gq_scenario.specs.Document.{keys_of};
-ghost use Rattle.gq_scenario.specs.Words.{key_text, Tells};
+ghost use Rattle.gq_scenario.specs.Words.{key_text, SameFault};
 ghost use Rattle.gq_reader.specs.Rules.{entries_or_none, are_counts, fits_of, rule_of};
 
 use crate::hexadecimal::is_hex;
@@ -306,7 +306,7 @@ fn is_ruled(rules: &[KeyRule], text: &str) -> bool
 
 // The least key for which there is no rule.
 fn unknown_key(rules: &[KeyRule], table: &Table) -> Option<ScenarioFault>
-    ensures { Tells result (unknown_key (map rule_of rules.now) (table_view table.now)) }
+    ensures { SameFault result (unknown_key (map rule_of rules.now) (table_view table.now)) }
 {
     for (key, _) in table.iter() {
         let text = key.as_str();
@@ -326,7 +326,7 @@ fn is_missing(rule: &KeyRule, table: &Table) -> bool
 
 // The first required key that is missing.
 fn missing_key(rules: &[KeyRule], table: &Table) -> Option<ScenarioFault>
-    ensures { Tells result (missing_key (map rule_of rules.now) (table_view table.now)) }
+    ensures { SameFault result (missing_key (map rule_of rules.now) (table_view table.now)) }
 {
     for rule in rules {
         if is_missing(rule, table) {
@@ -348,7 +348,7 @@ fn is_bad(rule: &KeyRule, table: &Table) -> bool
 
 // The first key with a bad value.
 fn bad_value(rules: &[KeyRule], table: &Table) -> Option<ScenarioFault>
-    ensures { Tells result (bad_value (map rule_of rules.now) (table_view table.now)) }
+    ensures { SameFault result (bad_value (map rule_of rules.now) (table_view table.now)) }
 {
     for rule in rules {
         if is_bad(rule, table) {
@@ -360,7 +360,7 @@ fn bad_value(rules: &[KeyRule], table: &Table) -> Option<ScenarioFault>
 
 /// The first fault of a table: an unknown key, a missing one, or one with a bad value.
 pub fn table_fault(rules: &[KeyRule], table: &Table) -> Option<ScenarioFault>
-    ensures { Tells result (table_fault (map rule_of rules.now) (table_view table.now)) }
+    ensures { SameFault result (table_fault (map rule_of rules.now) (table_view table.now)) }
 {
     if let Some(fault) = unknown_key(rules, table) {
         return Some(fault);

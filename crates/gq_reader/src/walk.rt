@@ -9,7 +9,7 @@ ghost use Rattle.gq_scenario.specs.Trees.{version_number};
 ghost use Rattle.gq_reader.specs.internal.Walk.{keys_fault, own_fault};
 ghost use Rattle.gq_scenario.specs.Keys.{TooDeep};
 ghost use Rattle.gq_scenario.specs.Reading.{document_text};
-ghost use Rattle.gq_scenario.specs.Words.{key_text, scenario_fault_text, Tells};
+ghost use Rattle.gq_scenario.specs.Words.{key_text, scenario_fault_text, SameFault};
 
 use crate::rules::{GREATEST_NUMBER, ValueRule, either, optional, other, required, table_fault};
 use crate::value::{count_at, has, list_at, number_of, table_at, text_at, value_at};
@@ -35,7 +35,7 @@ pub fn version_of(top: &Table) -> Version
 
 // The first fault of the top table.
 fn top_fault(version: Version, top: &Table) -> Option<ScenarioFault>
-    ensures { Tells result (table_fault (top_keys (version_number version)) (table_view top.now)) }
+    ensures { SameFault result (table_fault (top_keys (version_number version)) (table_view top.now)) }
 {
     let number = required(Key::Version, ValueRule::Number(1, 2));
     let ram = required(Key::Ram, ValueRule::Total);
@@ -51,7 +51,7 @@ fn top_fault(version: Version, top: &Table) -> Option<ScenarioFault>
 
 // The first fault of an interface's table.
 fn interface_fault(version: Version, table: &Table) -> Option<ScenarioFault>
-    ensures { Tells result (table_fault (interface_keys (version_number version) (table_view table.now)) (table_view table.now)) }
+    ensures { SameFault result (table_fault (interface_keys (version_number version) (table_view table.now)) (table_view table.now)) }
 {
     let arg = required(Key::Arg, ValueRule::Number(0, GREATEST_NUMBER));
     let reply = required(Key::Reply, ValueRule::Number(0, GREATEST_NUMBER));
@@ -82,7 +82,7 @@ fn interface_fault(version: Version, table: &Table) -> Option<ScenarioFault>
 
 // The first fault of the interfaces' tables, in the order of their names.
 fn interfaces_fault(version: Version, interfaces: &Table) -> Option<ScenarioFault>
-    ensures { Tells result (interfaces_fault (version_number version) (table_view interfaces.now)) }
+    ensures { SameFault result (interfaces_fault (version_number version) (table_view interfaces.now)) }
 {
     for (_, value) in interfaces.iter() {
         let Some(table) = value.as_table() else {
@@ -97,7 +97,7 @@ fn interfaces_fault(version: Version, interfaces: &Table) -> Option<ScenarioFaul
 
 // The same, where there may be no interfaces.
 fn declared_fault(version: Version, interfaces: Option<&Table>) -> Option<ScenarioFault>
-    ensures { Tells result (interfaces_fault (version_number version) (entries_or_none (option_map (λ t. table_view t.now) interfaces.entry))) }
+    ensures { SameFault result (interfaces_fault (version_number version) (entries_or_none (option_map (λ t. table_view t.now) interfaces.entry))) }
 {
     match interfaces {
         Some(table) => interfaces_fault(version, table),
@@ -107,7 +107,7 @@ fn declared_fault(version: Version, interfaces: Option<&Table>) -> Option<Scenar
 
 // The first fault of a route's table.
 fn route_fault(table: &Table) -> Option<ScenarioFault>
-    ensures { Tells result (table_fault route_keys (table_view table.now)) }
+    ensures { SameFault result (table_fault route_keys (table_view table.now)) }
 {
     let rules = [
         either(Key::Service, &[Key::AnyService], ValueRule::NameText),
@@ -125,7 +125,7 @@ fn route_fault(table: &Table) -> Option<ScenarioFault>
 
 // The first fault of the routes at a key.
 fn routes_fault(key: Key, table: &Table) -> Option<ScenarioFault>
-    ensures { Tells result (routes_fault (key_text key) (table_view table.now)) }
+    ensures { SameFault result (routes_fault (key_text key) (table_view table.now)) }
 {
     for value in list_at(table, key) {
         let Some(route) = value.as_table() else {
@@ -140,7 +140,7 @@ fn routes_fault(key: Key, table: &Table) -> Option<ScenarioFault>
 
 // The first fault of an init's table.
 fn init_fault(version: Version, table: &Table) -> Option<ScenarioFault>
-    ensures { Tells result (table_fault (init_keys (version_number version)) (table_view table.now)) }
+    ensures { SameFault result (table_fault (init_keys (version_number version)) (table_view table.now)) }
 {
     let name = required(Key::Name, ValueRule::NameText);
     let quantum = required(Key::Quantum, ValueRule::Quantity(0, 1 << 40));
@@ -156,7 +156,8 @@ fn init_fault(version: Version, table: &Table) -> Option<ScenarioFault>
 
 // The first fault of a leaf's table, among these interfaces.
 fn leaf_fault(version: Version, interfaces: Option<&Table>, table: &Table) -> Option<ScenarioFault>
-    ensures { Tells result (table_fault (leaf_keys (version_number version) (keys_of (entries_or_none (option_map (λ t. table_view t.now) interfaces.entry))))
+    ensures { SameFault result
+        (table_fault (leaf_keys (version_number version) (keys_of (entries_or_none (option_map (λ t. table_view t.now) interfaces.entry))))
         (table_view table.now)) }
 {
     let name = required(Key::Name, ValueRule::NameText);
@@ -181,7 +182,7 @@ fn leaf_fault(version: Version, interfaces: Option<&Table>, table: &Table) -> Op
 
 // The first fault of a node's own table: one with `start` is an init.
 fn keys_fault(version: Version, interfaces: Option<&Table>, table: &Table) -> Option<ScenarioFault>
-    ensures { Tells result (keys_fault (version_number version) (keys_of (entries_or_none (option_map (λ t. table_view t.now) interfaces.entry)))
+    ensures { SameFault result (keys_fault (version_number version) (keys_of (entries_or_none (option_map (λ t. table_view t.now) interfaces.entry)))
         (table_view table.now)) }
 {
     if has(table, Key::Start) {
@@ -193,7 +194,7 @@ fn keys_fault(version: Version, interfaces: Option<&Table>, table: &Table) -> Op
 
 // The first fault of a node's own table, and of its routes.
 fn own_fault(version: Version, interfaces: Option<&Table>, table: &Table) -> Option<ScenarioFault>
-    ensures { Tells result (own_fault (version_number version) (keys_of (entries_or_none (option_map (λ t. table_view t.now) interfaces.entry)))
+    ensures { SameFault result (own_fault (version_number version) (keys_of (entries_or_none (option_map (λ t. table_view t.now) interfaces.entry)))
         (table_view table.now)) }
 {
     if let Some(fault) = keys_fault(version, interfaces, table) {
@@ -226,7 +227,7 @@ fn node_fault(
     interfaces: Option<&Table>,
     value: &Value,
 ) -> Option<ScenarioFault>
-    ensures { Tells result (node_fault levels (version_number version) (keys_of (entries_or_none (option_map (λ t. table_view t.now) interfaces.entry)))
+    ensures { SameFault result (node_fault levels (version_number version) (keys_of (entries_or_none (option_map (λ t. table_view t.now) interfaces.entry)))
         (members_of (view value.now))) }
 {
     if levels == 0 {
@@ -249,7 +250,7 @@ fn nodes_fault(
     interfaces: Option<&Table>,
     values: &[Value],
 ) -> Option<ScenarioFault>
-    ensures { Tells result (first_of (node_fault levels (version_number version)
+    ensures { SameFault result (first_of (node_fault levels (version_number version)
         (keys_of (entries_or_none (option_map (λ t. table_view t.now) interfaces.entry)))) (listed (items_view values.now))) }
 {
     for value in values {
@@ -262,7 +263,7 @@ fn nodes_fault(
 
 /// The first fault of a document's tables: the top table, the interfaces, the root's routes, the nodes.
 pub fn walk_fault(top: &Table) -> Option<ScenarioFault>
-    ensures { Tells result (walk_fault (table_view top.now)) }
+    ensures { SameFault result (walk_fault (table_view top.now)) }
 {
     let version = version_of(top);
     if let Some(fault) = top_fault(version, top) {

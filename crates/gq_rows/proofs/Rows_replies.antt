@@ -7,7 +7,7 @@ use Rattle.gq_model.specs.declared.program.Form.TheVariants.{Space}
 use Rattle.gq_model.specs.declared.program.Section.TheVariants.{Main, Opening}
 use Rattle.gq_model.specs.machine.Program.{Done}
 use Rattle.gq_model.specs.machine.Scenario.{System, system}
-use Rattle.gq_model.specs.machine.World.{Empty, In_object, Session, Hand, Leaf, World, session_at}
+use Rattle.gq_model.specs.machine.World.{Empty, In_object, Session, Current, Leaf, World, session_at}
 use Rattle.gq_model.specs.machine.Doing.{Doing, Quiet}
 use Rattle.gq_model.specs.machine.Run.{run}
 use Rattle.gq_model.specs.rules.Use.{subject}
@@ -16,7 +16,7 @@ use Rattle.gq_model.specs.rules.Flow.{context}
 use Rattle.gq_model.proofs.Samples.{good_log, log_client}
 use Rattle.gq_laws.specs.Links.{IsLinkedWorld}
 use Rattle.gq_laws.specs.Typed.{AreKinds, Meets}
-use Rattle.gq_laws.specs.Statements.{Takes}
+use Rattle.gq_laws.specs.Statements.{TakesLeaf}
 use Rattle.gq_laws.specs.Replies.{HasEnded, Replies, Resumes}
 use Rattle.gq_laws.proofs.gathering.Reaching.{in_reached}
 use Rattle.gq_laws.proofs.linking.Linked_worlds.{kept_linked, start_linked}
@@ -43,7 +43,7 @@ the a None = a
 the a (Some b) = b
 
 abbrev none : Leaf
-none = record { phase = Running; hand = None; todo = Done; loops = []; operands = []; locals = []; slots = []; peaks = []; steps = 0 }
+none = record { phase = Running; current = None; todo = Done; loops = []; operands = []; locals = []; slots = []; peaks = []; steps = 0 }
 
 -- the leaf at the fourth step, which is counted
 abbrev server : Leaf
@@ -58,7 +58,7 @@ d = record {
   leaf = server;
 }
 
-abbrev g : Hand
+abbrev g : Current
 g = record { session = 0; section = Opening }
 
 abbrev s : Session
@@ -74,8 +74,8 @@ c = context (subject log d.component) Opening
 abbrev state : State
 state = record { own = replicate 64 Empty_kind; bank = Memory Space 16 ∷ replicate 7 Empty_kind; bounds = [] }
 
-takes : Takes d
-takes = record { old = the none (slice_get v.leaves 0); there = refl; slots = refl; phase = refl; hand = refl }
+takes : TakesLeaf d
+takes = record { old = the none (slice_get v.leaves 0); there = refl; slots = refl; phase = refl; current = refl }
 
 empties : (n : ℕ) → AreKinds promised (replicate n Empty) (replicate n Empty_kind)
 empties zero = tt
@@ -87,7 +87,7 @@ ended =
       meets =
           record {
             own = empties 64;
-            hand = (refl, refl);
+            current = (refl, refl);
             bank = (s, refl, record { slots = ((refl, refl, zeros_bytes 4096), empties 7); object = (refl, refl, zeros_bytes 0) });
             operands = tt;
             locals = zeros 8 c.subject.program.locals refl;
@@ -95,7 +95,7 @@ ended =
           };
       last = state;
       ends = refl;
-      at_hand = refl;
+      at_current = refl;
       there = refl;
       event = Quiet;
       ended = refl;
@@ -119,7 +119,7 @@ abbrev linked_state : State
 linked_state = record { own = Link_kind (codes "log") 0 (amount 8192 0) ∷ replicate 63 Empty_kind; bank = no_kinds; bounds = [] }
 
 waited : Meets promised e linked_state v client
-waited = record { own = (refl, empties 63); hand = refl; bank = tt; operands = tt; locals = zeros 8 e.subject.program.locals refl; loops = tt }
+waited = record { own = (refl, empties 63); current = refl; bank = tt; operands = tt; locals = zeros 8 e.subject.program.locals refl; loops = tt }
 
 stands : (leaf : Leaf) × (slice_get w.leaves 1 ≡ Some leaf) × Meets promised e linked_state w leaf
 stands = resumes.client e linked_state client refl waited

@@ -64,7 +64,7 @@ impl<'a> Context<'a> {
         }
     }
 
-    /// What is known after an instruction, by the rules for it and for what the session at hand costs after it.
+    /// What is known after an instruction, by the rules for it and for what the current session costs after it.
     #[inline(always)]
     pub fn judged(&self, state: &mut State, instruction: &Instruction) -> Result<(), Rule>
         ensures { after result state.new ≡ judged self.now state.old instruction.now }

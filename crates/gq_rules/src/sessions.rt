@@ -101,7 +101,7 @@ impl<'a> Context<'a> {
         Ok(())
     }
 
-    /// Whether the session at hand costs no more than was given for it.
+    /// Whether the current session costs no more than was given for it.
     #[inline(always)]
     pub fn within_need(&self, state: &State) -> Result<(), Rule>
         ensures { after result state.now ≡ within_need self.now.section self.now.subject.provided state.now }
@@ -116,7 +116,7 @@ impl<'a> Context<'a> {
     }
 }
 
-/// The level of the session at hand.
+/// The level of the current session.
 pub(crate) fn level_of(section: Section) -> u8
     ensures { result ≡ level_of section }
 {

@@ -67,8 +67,8 @@ scenario_fault_text TooMany = codes "S6 TooMany"
 scenario_fault_text (TooDeep name) = codes "S7 TooDeep " ++ printed name
 
 -- the same line as the definition's fault, or neither
-abbrev pub Tells : Option ScenarioFault → Option DocumentFault → Type 0
-Tells found fault = option_map scenario_fault_text found ≡ option_map document_text fault
+abbrev pub SameFault : Option ScenarioFault → Option DocumentFault → Type 0
+SameFault found fault = option_map scenario_fault_text found ≡ option_map document_text fault
 
 -- the top table, or a fault of the same line, unless memory ran out
 abbrev pub IsDocument : Result (BTreeMap (String Global) Value) ScenarioError → Result Members ReadFault → Type 0

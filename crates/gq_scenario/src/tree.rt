@@ -5,7 +5,7 @@ ghost use Rattle.gq_model.specs.machine.Lists.{any_of};
 ghost use Rattle.gq_model.specs.machine.Program.{text_eq};
 ghost use Rattle.gq_scenario.specs.Document.{init_count, is_long, has_long_routes, names_of, name_twice};
 ghost use Rattle.gq_scenario.specs.Sizes.{leaves_in, counted};
-ghost use Rattle.gq_scenario.specs.Words.{Tells};
+ghost use Rattle.gq_scenario.specs.Words.{SameFault};
 
 use crate::fault::ScenarioFault;
 use crate::lines::same_bytes;
@@ -146,7 +146,7 @@ fn is_taken(names: &[Name], name: &[u8]) -> bool
 
 /// The first of these names that was seen before, of which `init` is the root's.
 pub fn name_twice(names: &[Name]) -> Option<ScenarioFault>
-    ensures { Tells result (name_twice (codes "init" ∷ []) names.now) }
+    ensures { SameFault result (name_twice (codes "init" ∷ []) names.now) }
 {
     for (place, name) in names.iter().enumerate() {
         if is_taken(&names[..place], name.as_bytes()) {

@@ -4,7 +4,7 @@ use Rattle.std.specs.Prelude.{slice_range}
 use Rattle.gq_model.specs.machine.Program.{little}
 use Rattle.gq_store.specs.Store.{Store, word, SameChunk}
 use Rattle.gq_store.proofs.Lists.{get_or-listed, listed_same, listed_zero, listed_one, listed_put, listed_word}
-use Rattle.gq_sliced.specs.Slices.{slice_byte, slice_bytes, Makes, Puts}
+use Rattle.gq_sliced.specs.Slices.{slice_byte, slice_bytes, Makes, PutsInSlice}
 
 -- what is read
 pub slice_byte_of : (st : Store) (k n i : ℕ) → i < n → get_or (slice_bytes st k n) i 0 ≡ slice_byte st k i
@@ -18,11 +18,11 @@ pub slice_made : (old new : Store) (n k : ℕ) → Makes old new n k → slice_b
 slice_made old new n k m = listed_zero n (slice_byte new k) m.zero
 
 -- what some bytes, or one, that are put there change
-pub slice_put : (old new : Store) (k n i : ℕ) (bytes : List ℕ) → i + length bytes ≤ n → Puts old new k i bytes
+pub slice_put : (old new : Store) (k n i : ℕ) (bytes : List ℕ) → i + length bytes ≤ n → PutsInSlice old new k i bytes
     → slice_bytes new k n ≡ take i (slice_bytes old k n) ++ bytes ++ drop (i + length bytes) (slice_bytes old k n)
 slice_put old new k n i bytes l w = listed_put n (slice_byte old k) (slice_byte new k) i bytes l w.put
 
-pub slice_set : (old new : Store) (k n i b : ℕ) → i < n → Puts old new k i (b ∷ []) → slice_bytes new k n ≡ set (slice_bytes old k n) i b
+pub slice_set : (old new : Store) (k n i b : ℕ) → i < n → PutsInSlice old new k i (b ∷ []) → slice_bytes new k n ≡ set (slice_bytes old k n) i b
 slice_set old new k n i b l w = listed_one n (slice_byte old k) (slice_byte new k) i b l w.put
 
 -- a slice reads as before where its chunk is as it was

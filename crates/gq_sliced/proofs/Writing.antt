@@ -2,10 +2,10 @@
 use Rattle.std.proofs.Common.{ℕ, ◌+◌, List, length, ap, ◌∙◌, arith}
 use Rattle.gq_store.specs.Store.{Store, Writes}
 use Rattle.gq_store.specs.Bytes.{HasBytes}
-use Rattle.gq_sliced.specs.Slices.{Puts}
+use Rattle.gq_sliced.specs.Slices.{PutsInSlice}
 
 pub puts : (old new : Store) (k i : ℕ) (bytes : List ℕ) → HasBytes (new.byte k) (32 + i) bytes → Writes old new k (32 + i) (length bytes)
-    → Puts old new k i bytes
+    → PutsInSlice old new k i bytes
 puts old new k i bytes here w = record {
   keeps = λ n h. record {
     pages = w.size k ∙ h.pages;

@@ -62,7 +62,7 @@ pub record Frees (old new : Store) (k : ℕ) : Type 0 where
   pub caps : new.caps ≡ one_more old.caps
 
 -- These bytes stand in the slice k from i on now, and no other byte changed.
-pub record Puts (old new : Store) (k i : ℕ) (bytes : List ℕ) : Type 0 where
+pub record PutsInSlice (old new : Store) (k i : ℕ) (bytes : List ℕ) : Type 0 where
   pub keeps : (n : ℕ) → HasSize old k n → HasSize new k n
   pub put : PutsBytes (slice_byte old k) (slice_byte new k) i bytes
   pub spares : Spares (Owns k) old new

@@ -17,7 +17,7 @@ ghost use Rattle.std.specs.Prelude.{◌≡◌, ◌+◌, ◌-◌, ◌*◌, ◌^�
 ghost use Rattle.gq_tariff.specs.Prices.{up, price_bytes};
 ghost use Rattle.gq_model.specs.machine.Program.{spelled};
 ghost use Rattle.gq_store.specs.Store.{word};
-ghost use Rattle.gq_sliced.specs.Slices.{slice_byte, IsInUse, HasSize, HasByte, HasWord, Makes, Frees, Puts};
+ghost use Rattle.gq_sliced.specs.Slices.{slice_byte, IsInUse, HasSize, HasByte, HasWord, Makes, Frees, PutsInSlice};
 
 use gq_store::{ByteStore, ChunkNo, GrowFault};
 use gq_tariff::price::{PAGE, SLICE_HEADER};
@@ -120,7 +120,7 @@ impl Sliced {
     /// Sets the byte of a slice at an index.
     pub fn store<S: ByteStore>(&self, store: &mut S, slice: SliceNo, index: u32, value: u8)
         requires { HasByte (S.state store.old) slice index }
-        ensures puts { Puts (S.state store.old) (S.state store.new) slice index (value ∷ []) }
+        ensures puts { PutsInSlice (S.state store.old) (S.state store.new) slice index (value ∷ []) }
         ensures rest { S.same_rest store.old store.new }
     {
         store.store(slice.chunk(), FRONT + index, value);
@@ -137,7 +137,7 @@ impl Sliced {
     /// Writes a number to the four bytes of a slice from an index on, the lowest first.
     pub fn store4<S: ByteStore>(&self, store: &mut S, slice: SliceNo, index: u32, value: u32)
         requires { HasWord (S.state store.old) slice index }
-        ensures puts { Puts (S.state store.old) (S.state store.new) slice index (spelled 4 value) }
+        ensures puts { PutsInSlice (S.state store.old) (S.state store.new) slice index (spelled 4 value) }
         ensures rest { S.same_rest store.old store.new }
     {
         store.store4(slice.chunk(), FRONT + index, value);

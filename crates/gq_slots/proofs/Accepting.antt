@@ -19,9 +19,9 @@ use Rattle.gq_trade.specs.Queues.{kept_before, oldest_to}
 use Rattle.gq_trade.specs.Seen_requests.{request_seen, taken_seen, AreServed}
 use Rattle.gq_trade.proofs.Oldest.{oldest_is}
 use Rattle.gq_trade.specs.Trades.{Trades, IsTrades}
-use Rattle.gq_contents.specs.declared.thing.Thing.{Thing}
-use Rattle.gq_contents.specs.declared.thing.Thing.TheVariants.{Empty, Block, Slice, Space, Pool, Link, Waiting}
-use Rattle.gq_contents.specs.Things.{seen}
+use Rattle.gq_contents.specs.declared.content.Content.{Content}
+use Rattle.gq_contents.specs.declared.content.Content.TheVariants.{Empty, Block, Slice, Space, Pool, Link, Waiting}
+use Rattle.gq_contents.specs.Contents.{seen}
 use Rattle.gq_trade.specs.declared.session.Session.{Session}
 use Rattle.gq_trade.specs.declared.session.Spot.{Spot}
 use Rattle.gq_trade.specs.declared.session.Spot.TheVariants.{InLeaf, InSession, InObject}
@@ -30,7 +30,7 @@ use Rattle.gq_trade.specs.Trading.{Trading, AreOf, IsTrading, found, raised, ses
 use Rattle.gq_trade.specs.Trading.{object_size, opened, server_of, with_requests, with_session}
 use Rattle.gq_trade.specs.Waiting.{AreApart, AreOther, clients_in}
 use Rattle.gq_slots.specs.Slots.{Slots, Frame, IsSpot, holder, memory_of, world_seen}
-use Rattle.gq_slots.specs.Calls.{Puts}
+use Rattle.gq_slots.specs.Calls.{PutsSlot}
 use Rattle.gq_slots.specs.Session_calls.{TakesOldest, accepting, begun, begun_at, with_trades}
 use Rattle.gq_slots.specs.internal.Holds.{AreUnmade, IsObject, IsSlots, IsUnmade}
 use Rattle.gq_slots.specs.internal.Put.{put, with_object, with_store}
@@ -220,7 +220,7 @@ module _ (s : Slots) (k m : ℕ) (rest : List Request) (i : IsSlots s) (there : 
 
 -- AN OBJECT IS MADE
 
-slice_object : (st : Store) (t : Thing) (n : ℕ) (bs : List ℕ) → seen st t ≡ world.Bytes form.Slice n bs → IsObject t
+slice_object : (st : Store) (t : Content) (n : ℕ) (bs : List ℕ) → seen st t ≡ world.Bytes form.Slice n bs → IsObject t
 slice_object st Empty n bs e = tt
 slice_object st (Block p k) n bs e = cc
 slice_object st (Slice k m) n bs e = tt
@@ -286,7 +286,7 @@ module _ (s : Slots) (v : Trading) (k : ℕ) (rest : List Request) (i : IsSlots 
   call_here : IsCall fewer v.memory (InObject k) h h Empty o.object
   call_here = record {
     spot = there;
-    thing = empty;
+    content = empty;
     heap = heap_here.is;
     others = others_stay fewer v.memory (InObject k) fewer_slots fewer_trading below (λ b ne. o.makes.others.stores b ne);
     quotas = record {
@@ -314,9 +314,9 @@ module _ (s : Slots) (v : Trading) (k : ℕ) (rest : List Request) (i : IsSlots 
       }) (stays_raised fewer v.memory (InObject k) h h Empty o.object fewer_slots fewer_trading below call_here (λ c. omega (arith, no_places c)))
       (λ e. e)
 
-  made_puts : Puts fewer made (InObject k) (world.Bytes form.Slice m (replicate m 0))
+  made_puts : PutsSlot fewer made (InObject k) (world.Bytes form.Slice m (replicate m 0))
   made_puts =
-      subst (Puts fewer made (InObject k)) o.makes.seen
+      subst (PutsSlot fewer made (InObject k)) o.makes.seen
       (puts_then fewer v.memory (InObject k) h h Empty o.object fewer_slots fewer_trading below call_here refl)
 
   made_there : IsTaken made.trades.trading.sessions k

@@ -5,15 +5,15 @@ use Rattle.gq_model.specs.machine.Memory.{behind, bytes_spot}
 use Rattle.gq_model.specs.machine.World as world
 use Rattle.gq_store.specs.Store.{Store}
 use Rattle.gq_trade.specs.Numbers.{IsTaken}
-use Rattle.gq_contents.specs.declared.thing.Thing.{Thing}
-use Rattle.gq_contents.specs.declared.thing.Thing.TheVariants.{Empty, Block, Slice, Space, Pool, Link, Waiting}
-use Rattle.gq_contents.specs.Things.{seen}
+use Rattle.gq_contents.specs.declared.content.Content.{Content}
+use Rattle.gq_contents.specs.declared.content.Content.TheVariants.{Empty, Block, Slice, Space, Pool, Link, Waiting}
+use Rattle.gq_contents.specs.Contents.{seen}
 use Rattle.gq_trade.specs.declared.session.Spot.{Spot}
 use Rattle.gq_trade.specs.declared.session.Spot.TheVariants.{InSession}
 use Rattle.gq_trade.specs.Seen.{session_seen, spot_seen}
 use Rattle.gq_trade.specs.Trading.{IsTrading, session_at}
 use Rattle.gq_trade.proofs.Sessions_kept.{between_at}
-use Rattle.gq_slots.specs.Slots.{Frame, Slots, memory_of, thing_at, world_seen}
+use Rattle.gq_slots.specs.Slots.{Frame, Slots, memory_of, content_at, world_seen}
 use Rattle.gq_slots.proofs.Worlds.{session_there}
 use Rattle.gq_slots.specs.Addresses.{AreBuffers, IsLinked, buffer_spot, place_in, place_seen}
 
@@ -33,7 +33,7 @@ buffer_there f system bs s k w t a =
     ∙ sym (ap (λ o. behind system (world.joined o) k) (session_there (λ z. session_seen f.names (memory_of s z.server) z) ss k t))
 
 -- the place of a slot's bytes is the world's
-pub place_there : (f : Frame) (system : System) (bs : List ℕ) (s : Slots) (st : Store) (t : Thing) (p : Spot) → IsTrading s.trades.trading
+pub place_there : (f : Frame) (system : System) (bs : List ℕ) (s : Slots) (st : Store) (t : Content) (p : Spot) → IsTrading s.trades.trading
     → ((k : ℕ) → t ≡ Link k → IsTaken s.trades.trading.sessions k) → AreBuffers system f s bs
     → place_seen (place_in bs s t p) ≡ bytes_spot system (world_seen f s) (Some (seen st t)) (spot_seen p)
 place_there f system bs s st Empty p w l a = refl
@@ -45,8 +45,8 @@ place_there f system bs s st (Link k) p w l a = buffer_there f system bs s k w (
 place_there f system bs s st (Waiting k) p w l a = refl
 
 -- read as the machine's world has it
-pub place_read : (f : Frame) (system : System) (bs : List ℕ) (s : Slots) (st : Store) (t : Thing) (p : Spot) (o : Option Spot) → IsTrading s.trades.trading
-    → o ≡ place_in bs s t p → t ≡ thing_at s p → world.slot_at (world_seen f s) (spot_seen p) ≡ Some (seen st t) → IsLinked s p
+pub place_read : (f : Frame) (system : System) (bs : List ℕ) (s : Slots) (st : Store) (t : Content) (p : Spot) (o : Option Spot) → IsTrading s.trades.trading
+    → o ≡ place_in bs s t p → t ≡ content_at s p → world.slot_at (world_seen f s) (spot_seen p) ≡ Some (seen st t) → IsLinked s p
     → AreBuffers system f s bs
     → place_seen o ≡ bytes_spot system (world_seen f s) (world.slot_at (world_seen f s) (spot_seen p)) (spot_seen p)
 place_read f system bs s st t p o w is e r l a =

@@ -1,13 +1,13 @@
 -- Something in a slot that was made empty.
 use Rattle.std.proofs.Common.{◌≡◌, ℕ, zero, suc, List, [], ◌∷◌, set, get_or, get_or-set_same, Option, Some, refl, ap, ◌∙◌}
 use Rattle.gq_trade.specs.Numbers.{IsTaken}
-use Rattle.gq_contents.specs.declared.thing.Thing.{Thing}
-use Rattle.gq_contents.specs.declared.thing.Thing.TheVariants.{Empty}
+use Rattle.gq_contents.specs.declared.content.Content.{Content}
+use Rattle.gq_contents.specs.declared.content.Content.TheVariants.{Empty}
 use Rattle.gq_trade.specs.declared.session.Session.{Session}
 use Rattle.gq_trade.specs.declared.session.Spot.{Spot}
 use Rattle.gq_trade.specs.declared.session.Spot.TheVariants.{InLeaf, InSession, InObject}
 use Rattle.gq_trade.specs.Trading.{session_in, with_slot}
-use Rattle.gq_slots.specs.Slots.{Slots, IsSlot, IsSpot, thing_at}
+use Rattle.gq_slots.specs.Slots.{Slots, IsSlot, IsSpot, content_at}
 use Rattle.gq_trade.specs.Trades.{Trades, with_trading}
 use Rattle.gq_slots.specs.internal.Put.{put, put_own, put_trading}
 use Rattle.gq_slots.proofs.Answering.{of_parts}
@@ -27,7 +27,7 @@ session_put [] k v t = cc
 session_put (o ∷ ss) zero v t = refl
 session_put (o ∷ ss) (suc k) v t = session_put ss k v t
 
-pub cleared : (s : Slots) (p : Spot) → IsSlot p → IsSpot s p → thing_at (put s p Empty) p ≡ Empty
+pub cleared : (s : Slots) (p : Spot) → IsSlot p → IsSpot s p → content_at (put s p Empty) p ≡ Empty
 cleared s (InLeaf x i) l there =
     let a = get_or s.own x [] in
     ap (λ ts. get_or ts i Empty) (get_or-set_same s.own x (set a i Empty) [] there.0) ∙ set_there a i Empty
@@ -37,7 +37,7 @@ cleared s (InSession k i) l there =
     ap (λ (z : Session). get_or z.slots i Empty) (session_put ss k (with_slot q i Empty) there.0) ∙ set_there q.slots i Empty
 cleared s (InObject k) l there = absurd l
 
-pub put_again : (s : Slots) (p : Spot) (u : Thing) → IsSlot p → IsSpot s p → put (put s p Empty) p u ≡ put s p u
+pub put_again : (s : Slots) (p : Spot) (u : Content) → IsSlot p → IsSpot s p → put (put s p Empty) p u ≡ put s p u
 put_again s (InLeaf x i) u l there =
     let a = get_or s.own x [] in
     let e : set (set s.own x (set a i Empty)) x (set (get_or (set s.own x (set a i Empty)) x []) i u) ≡ set s.own x (set a i u) =
@@ -56,6 +56,6 @@ put_again s (InSession k i) u l there =
     λ z. record s { trades = record s.trades { trading = record s.trades.trading { sessions = e z } } }
 put_again s (InObject k) u l there = absurd l
 
-pub emptied : (t v : Trades) (own then_ : List (List Thing)) (p : Spot) → v ≡ with_trading t (put_trading t.trading p Empty) → then_ ≡ put_own own p Empty
+pub emptied : (t v : Trades) (own then_ : List (List Content)) (p : Spot) → v ≡ with_trading t (put_trading t.trading p Empty) → then_ ≡ put_own own p Empty
     → of_parts v then_ [] ≡ put (of_parts t own []) p Empty
 emptied t v own then_ p e f = λ k. record { trades = e k; own = f k; heaps = [] }

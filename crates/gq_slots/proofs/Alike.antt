@@ -11,28 +11,28 @@ use Rattle.gq_heap.specs.Heap.{peaks}
 use Rattle.gq_heap.proofs.Callers.{heap_stays}
 use Rattle.gq_ram.specs.Entries.{account_at}
 use Rattle.gq_ram.specs.Ledgers.{IsBalanced, Ledger}
-use Rattle.gq_contents.specs.declared.thing.Thing.{Thing}
-use Rattle.gq_contents.specs.declared.thing.Thing.TheVariants.{Empty}
-use Rattle.gq_contents.specs.Things.{chunks, places}
-use Rattle.gq_contents.specs.Kept.{AreThings, Blocks, Keeps, SameSeen, all_chunks, all_places}
+use Rattle.gq_contents.specs.declared.content.Content.{Content}
+use Rattle.gq_contents.specs.declared.content.Content.TheVariants.{Empty}
+use Rattle.gq_contents.specs.Contents.{chunks, places}
+use Rattle.gq_contents.specs.Kept.{AreContents, Blocks, KeepsContents, SameSeen, all_chunks, all_places}
 use Rattle.gq_contents.specs.Paid.{cost, places_used, raised_by}
-use Rattle.gq_contents.proofs.Frames.{by_bytes, same_things}
+use Rattle.gq_contents.proofs.Frames.{by_bytes, same_contents}
 use Rattle.gq_contents.proofs.Peaks.{counts_same}
 use Rattle.gq_trade.specs.Trading.{account_of, its_account}
 use Rattle.gq_slots.specs.Slots.{Slots, memory_of}
-use Rattle.gq_slots.specs.internal.Holds.{IsHolder, counted, held_by, things}
+use Rattle.gq_slots.specs.internal.Holds.{IsHolder, counted, held_by, contents}
 use Rattle.gq_slots.proofs.Sums.{cost_same}
 
 -- LISTS THAT HOLD THE SAME
 
-pub record Alike (ts us : List Thing) : Type 0 where
+pub record Alike (ts us : List Content) : Type 0 where
   pub chunks_same : all_chunks us ≡ all_chunks ts
   pub places_same : (st : Store) → all_places st us ≡ all_places st ts
-  pub are : (st : Store) → AreThings st ts → AreThings st us
+  pub are : (st : Store) → AreContents st ts → AreContents st us
   pub cost_is : (r : Resource) (st : Store) → cost r st us ≡ cost r st ts
   pub used_is : (st : Store) (c : ℕ) → places_used st us c ≡ places_used st ts c
 
-pub alike : (ts : List Thing) → Alike ts ts
+pub alike : (ts : List Content) → Alike ts ts
 alike ts = record {
   chunks_same = refl;
   places_same = λ st. refl;
@@ -41,10 +41,10 @@ alike ts = record {
   used_is = λ st c. refl;
 }
 
-pub alike_is : (ts us : List Thing) → us ≡ ts → Alike ts us
+pub alike_is : (ts us : List Content) → us ≡ ts → Alike ts us
 alike_is ts us e = subst (λ ys. Alike ts ys) (sym e) (alike ts)
 
-pub alike_then : (ts us vs : List Thing) → Alike ts us → Alike us vs → Alike ts vs
+pub alike_then : (ts us vs : List Content) → Alike ts us → Alike us vs → Alike ts vs
 alike_then ts us vs a b = record {
   chunks_same = b.chunks_same ∙ a.chunks_same;
   places_same = λ st. b.places_same st ∙ a.places_same st;
@@ -53,7 +53,7 @@ alike_then ts us vs a b = record {
   used_is = λ st c. b.used_is st c ∙ a.used_is st c;
 }
 
-pub alike_behind : (fs ts us : List Thing) → Alike ts us → Alike (fs ++ ts) (fs ++ us)
+pub alike_behind : (fs ts us : List Content) → Alike ts us → Alike (fs ++ ts) (fs ++ us)
 alike_behind [] ts us a = a
 alike_behind (f ∷ fs) ts us a =
     let b = alike_behind fs ts us a in
@@ -65,7 +65,7 @@ alike_behind (f ∷ fs) ts us a =
       used_is = λ st c. omega (arith, b.used_is st c);
     }
 
-alike_one : (ts : List Thing) → Alike ts (Empty ∷ ts)
+alike_one : (ts : List Content) → Alike ts (Empty ∷ ts)
 alike_one ts = record {
   chunks_same = refl;
   places_same = λ st. refl;
@@ -74,7 +74,7 @@ alike_one ts = record {
   used_is = λ st c. omega arith;
 }
 
-alike_less : (ts : List Thing) → Alike (Empty ∷ ts) ts
+alike_less : (ts : List Content) → Alike (Empty ∷ ts) ts
 alike_less ts = record {
   chunks_same = refl;
   places_same = λ st. refl;
@@ -84,13 +84,13 @@ alike_less ts = record {
 }
 
 -- more slots, which are empty
-pub alike_more : (n : ℕ) (ts : List Thing) → Alike ts (replicate n Empty ++ ts)
+pub alike_more : (n : ℕ) (ts : List Content) → Alike ts (replicate n Empty ++ ts)
 alike_more zero ts = alike ts
 alike_more (suc n) ts =
     alike_then ts (replicate n Empty ++ ts) (Empty ∷ (replicate n Empty ++ ts)) (alike_more n ts) (alike_one (replicate n Empty ++ ts))
 
 -- fewer of them
-pub alike_fewer : (n : ℕ) (ts : List Thing) → Alike (replicate n Empty ++ ts) ts
+pub alike_fewer : (n : ℕ) (ts : List Content) → Alike (replicate n Empty ++ ts) ts
 alike_fewer zero ts = alike ts
 alike_fewer (suc n) ts =
     alike_then (Empty ∷ (replicate n Empty ++ ts)) (replicate n Empty ++ ts) ts (alike_less (replicate n Empty ++ ts)) (alike_fewer n ts)
@@ -98,14 +98,14 @@ alike_fewer (suc n) ts =
 -- WHAT IS KEPT
 
 -- what is kept where the bytes are the same
-record KeepsOn (h : Heap) (old new : Store) (ts : List Thing) : Type 0 where
-  keeps : Keeps h new ts
+record KeepsOn (h : Heap) (old new : Store) (ts : List Content) : Type 0 where
+  keeps : KeepsContents h new ts
   seen : SameSeen old new ts
 
-keeps_on : (h : Heap) (old new : Store) (ts : List Thing) → ((k : ℕ) → SameChunk old new k) → Keeps h old ts → KeepsOn h old new ts
+keeps_on : (h : Heap) (old new : Store) (ts : List Content) → ((k : ℕ) → SameChunk old new k) → KeepsContents h old ts → KeepsOn h old new ts
 keeps_on h old new ts same k =
     let still = heap_stays h old new (all_places old ts) k.blocks.keeps (λ x o. same x) in
-    let all = same_things old new ts k.each (by_bytes old new (all_places old ts) still.bytes) (λ x lt. same x) in
+    let all = same_contents old new ts k.each (by_bytes old new (all_places old ts) still.bytes) (λ x lt. same x) in
     record {
       keeps = record {
         each = all.are;
@@ -116,7 +116,7 @@ keeps_on h old new ts same k =
       seen = all.seen_same;
     }
 
-keeps_alike : (h : Heap) (st : Store) (ts us : List Thing) → Alike ts us → Keeps h st ts → Keeps h st us
+keeps_alike : (h : Heap) (st : Store) (ts us : List Content) → Alike ts us → KeepsContents h st ts → KeepsContents h st us
 keeps_alike h st ts us a k = record {
   each = a.are st k.each;
   blocks = subst (λ ps. Blocks h st ps (all_chunks us)) (sym (a.places_same st)) (subst (Blocks h st (all_places st ts)) (sym a.chunks_same) k.blocks);
@@ -144,22 +144,22 @@ caps_then false used old new held a c e =
     let g : new - used + held ≡ new = omega (arith, f, a refl, c refl) in
     ap Some g
 
-module _ (s n : Slots) (x : ℕ) (h : Heap) (same : (k : ℕ) → SameChunk (memory_of s x) (memory_of n x) k) (a : Alike (things s x) (things n x))
+module _ (s n : Slots) (x : ℕ) (h : Heap) (same : (k : ℕ) → SameChunk (memory_of s x) (memory_of n x) k) (a : Alike (contents s x) (contents n x))
     (used : (its_account n.trades.trading x).used ≡ (its_account s.trades.trading x).used)
     (price : n.trades.trading.memory.ledger.price ≡ s.trades.trading.memory.ledger.price)
     (b : IsWithin s.trades.trading.memory.ledger (account_of s.trades.trading x))
     (d : IsWithin n.trades.trading.memory.ledger (account_of n.trades.trading x)) (i : IsHolder s x h) where
-  on : KeepsOn h (memory_of s x) (memory_of n x) (things s x)
-  on = keeps_on h (memory_of s x) (memory_of n x) (things s x) same i.keeps
+  on : KeepsOn h (memory_of s x) (memory_of n x) (contents s x)
+  on = keeps_on h (memory_of s x) (memory_of n x) (contents s x) same i.keeps
 
   held_same : (r : Resource) → held_by r n x h ≡ held_by r s x h
   held_same r =
       let e = a.cost_is r (memory_of n x) in
-      let f = cost_same r (memory_of s x) (memory_of n x) (things s x) on.seen in
+      let f = cost_same r (memory_of s x) (memory_of n x) (contents s x) on.seen in
       omega (arith, e, f)
 
-  used_same : (c : ℕ) → places_used (memory_of n x) (things n x) c ≡ places_used (memory_of s x) (things s x) c
-  used_same c = a.used_is (memory_of n x) c ∙ counts_same c (memory_of s x) (memory_of n x) (things s x) on.seen
+  used_same : (c : ℕ) → places_used (memory_of n x) (contents n x) c ≡ places_used (memory_of s x) (contents s x) c
+  used_same c = a.used_is (memory_of n x) c ∙ counts_same c (memory_of s x) (memory_of n x) (contents s x) on.seen
 
   caps_same : plus_caps (held_by Caps n x h) (memory_of n x).caps ≡ counted n.trades.trading.memory.ledger.price (its_account n.trades.trading x).quota.caps
   caps_same =
@@ -174,7 +174,7 @@ module _ (s n : Slots) (x : ℕ) (h : Heap) (same : (k : ℕ) → SameChunk (mem
 
   pub holder_alike : IsHolder n x h
   holder_alike = record {
-    keeps = keeps_alike h (memory_of n x) (things s x) (things n x) a on.keeps;
+    keeps = keeps_alike h (memory_of n x) (contents s x) (contents n x) a on.keeps;
     ram =
         let v = ap (λ y. y.ram) used in
         omega (arith, v, held_same Ram, i.ram, b.ram, d.ram);

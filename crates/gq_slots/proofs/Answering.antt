@@ -1,4 +1,4 @@
--- What the functions of slots do, as a change of one thing.
+-- What the functions of slots do, as a change of one content.
 use Rattle.std.proofs.Common.{◌≡◌, ℕ, zero, suc, ◌<◌, ◌≤◌, ◌⊎◌, inl, inr, Bool, true, false, List, [], ◌∷◌, ◌++◌, length, set, get_or, Option, Some, None}
 use Rattle.std.proofs.Common.{Result, Ok, Err, refl, sym, ap, subst, ◌∙◌, arith}
 use Rattle.std.specs.Prelude.{◌↔◌, IfOk, IsTrue, OnErr, OnOk}
@@ -13,18 +13,18 @@ use Rattle.gq_heap.specs.Heap.{peaks}
 use Rattle.gq_trade.specs.Stores.{Memory, store_at, store_of as store_of_memory}
 use Rattle.gq_trade.specs.Rest.{SameRest}
 use Rattle.gq_trade.specs.declared.requests.Request.{Request}
-use Rattle.gq_contents.specs.declared.thing.Thing.{Thing}
-use Rattle.gq_contents.specs.declared.thing.Thing.TheVariants.{Empty}
-use Rattle.gq_contents.specs.Things.{added, entry_in, seen, with_entry}
-use Rattle.gq_contents.specs.Kept.{Changes, IsAmong, Keeps}
+use Rattle.gq_contents.specs.declared.content.Content.{Content}
+use Rattle.gq_contents.specs.declared.content.Content.TheVariants.{Empty}
+use Rattle.gq_contents.specs.Contents.{added, entry_in, seen, with_entry}
+use Rattle.gq_contents.specs.Kept.{Changes, IsAmong, KeepsContents}
 use Rattle.gq_contents.specs.Paid.{Pays, Raises, places_used, raised_by}
 use Rattle.gq_trade.specs.declared.session.Session.{Session}
 use Rattle.gq_trade.specs.declared.session.Spot.{Spot}
 use Rattle.gq_trade.specs.declared.session.Spot.TheVariants.{InLeaf, InSession, InObject}
 use Rattle.gq_trade.specs.Trading.{IsTrading, Trading, account_of, session_at, session_in, with_memory, with_session, with_slot}
 use Rattle.gq_trade.specs.Trades.{Trades, SameButMemory, with_trading}
-use Rattle.gq_slots.specs.Slots.{Slots, IsHeapOf, IsPaidBy, IsSlot, IsSpot, holder, memory_of, slot_of, thing_at}
-use Rattle.gq_slots.specs.Calls.{Puts, Settles}
+use Rattle.gq_slots.specs.Slots.{Slots, IsHeapOf, IsPaidBy, IsSlot, IsSpot, holder, memory_of, slot_of, content_at}
+use Rattle.gq_slots.specs.Calls.{PutsSlot, Settles}
 use Rattle.gq_slots.specs.internal.Holds.{AreObjects, AreSound, AreUnmade, IsObject, IsSlots, IsUnmade}
 use Rattle.gq_slots.specs.internal.Put.{put, with_object, put_own, put_trading, with_store}
 use Rattle.gq_slots.proofs.Spots.{back, front, put_same, split_now}
@@ -36,7 +36,7 @@ use Rattle.gq_slots.proofs.Sums.{raised_again, raised_long}
 abbrev pub paying : Trades → Store
 paying t = store_of_memory t.trading.memory
 
-abbrev pub of_parts : Trades → List (List Thing) → List Heap → Slots
+abbrev pub of_parts : Trades → List (List Content) → List Heap → Slots
 of_parts t own heaps = record { trades = t; own = own; heaps = heaps }
 
 -- trades with the memory of others
@@ -51,14 +51,14 @@ paying_then : (s : Slots) (v : Trades) (x : ℕ) → IsPaidBy s x → SameButMem
     → paying v ≡ store_at v.trading.memory.ledger (account_of s.trades.trading x)
 paying_then s v x e r = ap (λ a. store_at v.trading.memory.ledger a.0) (r.trading.memory.payer ∙ e)
 
--- what a thing is among
-pub among : (s : Slots) (p : Spot) (h : Heap) (t : Thing) → IsSlots s → IsSpot s p → holder s p < length s.own → IsPaidBy s (holder s p)
-    → IsHeapOf s (holder s p) h → t ≡ thing_at s p → IsAmong h (paying s.trades) t
+-- what a content is among
+pub among : (s : Slots) (p : Spot) (h : Heap) (t : Content) → IsSlots s → IsSpot s p → holder s p < length s.own → IsPaidBy s (holder s p)
+    → IsHeapOf s (holder s p) h → t ≡ content_at s p → IsAmong h (paying s.trades) t
 among s p h t i there lt paid heap is =
-    let own = subst (λ g. IsAmong g (memory_of s (holder s p)) (thing_at s p)) heap (record {
+    let own = subst (λ g. IsAmong g (memory_of s (holder s p)) (content_at s p)) heap (record {
       front = front s p;
       back = back s p;
-      keeps = subst (λ ts. Keeps (get_or s.heaps (holder s p) h) (memory_of s (holder s p)) ts) (split_now s p there i.long)
+      keeps = subst (λ ts. KeepsContents (get_or s.heaps (holder s p) h) (memory_of s (holder s p)) ts) (split_now s p there i.long)
           (i.holders (holder s p) h lt).keeps;
     }) in
     subst (λ st. IsAmong h st t) (sym (paying_is s (holder s p) paid)) (subst (IsAmong h (memory_of s (holder s p))) (sym is) own)
@@ -76,13 +76,13 @@ alone m n r = record {
 }
 
 -- one call, in the words of its contract
-pub call_of : (s : Slots) (v : Trades) (p : Spot) (h g : Heap) (t u : Thing) → IsSlots s → IsTrading s.trades.trading → holder s p < length s.own
-    → IsSpot s p → t ≡ thing_at s p → IsHeapOf s (holder s p) h → IsPaidBy s (holder s p) → SameButMemory s.trades v
+pub call_of : (s : Slots) (v : Trades) (p : Spot) (h g : Heap) (t u : Content) → IsSlots s → IsTrading s.trades.trading → holder s p < length s.own
+    → IsSpot s p → t ≡ content_at s p → IsHeapOf s (holder s p) h → IsPaidBy s (holder s p) → SameButMemory s.trades v
     → Changes h g (paying s.trades) (paying v) t u → Pays h g (paying s.trades) (paying v) t u
     → IsCall s v.trading.memory p h g t u
 call_of s v p h g t u i w lt there is heap paid r changes pays = record {
   spot = there;
-  thing = sym is;
+  content = sym is;
   heap = heap;
   others = others_stay s v.trading.memory p i w lt (λ b ne. r.trading.memory.stores b (λ e. ne (e ∙ ap (λ a. a.0) paid)));
   quotas = record {
@@ -97,26 +97,26 @@ call_of s v p h g t u i w lt there is heap paid r changes pays = record {
       (subst (λ st. Pays h g (paying s.trades) st t u) (paying_then s v (holder s p) paid r) pays);
 }
 
--- where the same thing stands in the slot
-thing_with : (s : Slots) (v : Trades) (g : Heap) (p : Spot) → thing_at (with_store s v.trading.memory (holder s p) g) p ≡ thing_at s p
-thing_with s v g (InLeaf x i) = refl
-thing_with s v g (InSession k i) = refl
-thing_with s v g (InObject k) = refl
+-- where the same content stands in the slot
+content_with : (s : Slots) (v : Trades) (g : Heap) (p : Spot) → content_at (with_store s v.trading.memory (holder s p) g) p ≡ content_at s p
+content_with s v g (InLeaf x i) = refl
+content_with s v g (InSession k i) = refl
+content_with s v g (InObject k) = refl
 
-pub in_place : (s : Slots) (v : Trades) (p : Spot) (g : Heap) (t : Thing) → IsSlots s → IsSpot s p → t ≡ thing_at s p → SameButMemory s.trades v
+pub in_place : (s : Slots) (v : Trades) (p : Spot) (g : Heap) (t : Content) → IsSlots s → IsSpot s p → t ≡ content_at s p → SameButMemory s.trades v
     → of_parts v s.own (set s.heaps (holder s p) g) ≡ put (with_store s v.trading.memory (holder s p) g) p t
 in_place s v p g t i there is r =
     (λ k. of_parts (same_trades s.trades v r k) s.own (set s.heaps (holder s p) g))
     ∙ sym (put_same (with_store s v.trading.memory (holder s p) g) p (spot_with s v.trading.memory (holder s p) g p there)
     (long_with s v.trading.memory (holder s p) g i.long))
-    ∙ ap (put (with_store s v.trading.memory (holder s p) g) p) (thing_with s v g p ∙ sym is)
+    ∙ ap (put (with_store s v.trading.memory (holder s p) g) p) (content_with s v g p ∙ sym is)
 
 -- the heap that was there
 pub same_heap : (s : Slots) (x : ℕ) (h : Heap) → IsHeapOf s x h → set s.heaps x h ≡ s.heaps
 same_heap s x h e = ap (set s.heaps x) (sym e) ∙ set-get_or s.heaps x h
 
 -- something else in the slot
-pub filled : (s : Slots) (v w : Trades) (own : List (List Thing)) (p : Spot) (g : Heap) (u : Thing) → SameButMemory s.trades v
+pub filled : (s : Slots) (v w : Trades) (own : List (List Content)) (p : Spot) (g : Heap) (u : Content) → SameButMemory s.trades v
     → w ≡ with_trading v (put_trading v.trading p u) → own ≡ put_own s.own p u
     → of_parts w own (set s.heaps (holder s p) g) ≡ put (with_store s v.trading.memory (holder s p) g) p u
 filled s v w own p g u r e f =
@@ -159,51 +159,51 @@ sound_set t k v e a = record {
   unmade = unmade_set t.sessions k v t.requests e a.unmade;
 }
 
-pub sound_put : (s : Slots) (p : Spot) (u : Thing) → IsSlot p → AreSound s.trades.trading → AreSound (put s p u).trades.trading
+pub sound_put : (s : Slots) (p : Spot) (u : Content) → IsSlot p → AreSound s.trades.trading → AreSound (put s p u).trades.trading
 sound_put s (InLeaf x i) u l a = a
 sound_put s (InSession k i) u l a = sound_set s.trades.trading k (with_slot (session_at s.trades.trading k) i u) refl a
 sound_put s (InObject k) u l a = absurd l
 
-pub sound_same : (s : Slots) (p : Spot) (t : Thing) → t ≡ thing_at s p → AreSound s.trades.trading → AreSound (put s p t).trades.trading
+pub sound_same : (s : Slots) (p : Spot) (t : Content) → t ≡ content_at s p → AreSound s.trades.trading → AreSound (put s p t).trades.trading
 sound_same s (InLeaf x i) t e a = a
 sound_same s (InSession k i) t e a = sound_set s.trades.trading k (with_slot (session_at s.trades.trading k) i t) refl a
 sound_same s (InObject k) t e a = sound_set s.trades.trading k (with_object (session_at s.trades.trading k) t) e a
 
 -- what is in the slot, in the memory of the account that pays
-pub slot_paying : (s : Slots) (p : Spot) (t : Thing) → IsPaidBy s (holder s p) → t ≡ thing_at s p → seen (paying s.trades) t ≡ slot_of s p
+pub slot_paying : (s : Slots) (p : Spot) (t : Content) → IsPaidBy s (holder s p) → t ≡ content_at s p → seen (paying s.trades) t ≡ slot_of s p
 slot_paying s p t paid is = ap (λ st. seen st t) (paying_is s (holder s p) paid) ∙ ap (seen (memory_of s (holder s p))) is
 
 -- a slot with what stands in it, whose leaf pays
-pub record IsAt (s : Slots) (p : Spot) (h : Heap) (t : Thing) : Type 0 where
+pub record IsAt (s : Slots) (p : Spot) (h : Heap) (t : Content) : Type 0 where
   pub kept : IsSlots s
   pub spot : IsSpot s p
   pub there : holder s p < length s.own
-  pub thing : t ≡ thing_at s p
+  pub content : t ≡ content_at s p
   pub heap : IsHeapOf s (holder s p) h
   pub paid : IsPaidBy s (holder s p)
 
-pub is_among : (s : Slots) (p : Spot) (h : Heap) (t : Thing) → IsAt s p h t → IsAmong h (paying s.trades) t
-is_among s p h t a = among s p h t a.kept a.spot a.there a.paid a.heap a.thing
+pub is_among : (s : Slots) (p : Spot) (h : Heap) (t : Content) → IsAt s p h t → IsAmong h (paying s.trades) t
+is_among s p h t a = among s p h t a.kept a.spot a.there a.paid a.heap a.content
 
 -- what is known of slots z is known of s, which they are
-pub at_inside : (z s : Slots) (p : Spot) (h : Heap) (t : Thing) (x : ℕ) → s ≡ z → IsSlots s → IsSpot z p → x ≡ holder z p → x < length z.own
-    → t ≡ thing_at z p → h ≡ get_or s.heaps x h → IsPaidBy z (holder z p) → IsAt s p h t
-at_inside z s p h t x e kept spot at there thing heap paid = record {
+pub at_inside : (z s : Slots) (p : Spot) (h : Heap) (t : Content) (x : ℕ) → s ≡ z → IsSlots s → IsSpot z p → x ≡ holder z p → x < length z.own
+    → t ≡ content_at z p → h ≡ get_or s.heaps x h → IsPaidBy z (holder z p) → IsAt s p h t
+at_inside z s p h t x e kept spot at there content heap paid = record {
   kept = kept;
   spot = subst (λ y. IsSpot y p) (sym e) spot;
   there = subst (λ y. holder y p < length y.own) (sym e) (subst (λ y. y < length z.own) at there);
-  thing = thing ∙ ap (λ y. thing_at y p) (sym e);
+  content = content ∙ ap (λ y. content_at y p) (sym e);
   heap = subst (λ y. IsHeapOf s y h) (at ∙ ap (λ y. holder y p) (sym e)) (sym heap);
   paid = subst (λ y. IsPaidBy y (holder y p)) (sym e) paid;
 }
 
 -- a call on what is in a slot, after which the slots are n
-module _ (s : Slots) (v : Trades) (p : Spot) (h g : Heap) (t u : Thing) (slot : world.Slot) (n : Slots) (a : IsAt s p h t) (w : IsTrading s.trades.trading)
+module _ (s : Slots) (v : Trades) (p : Spot) (h g : Heap) (t u : Content) (slot : world.Slot) (n : Slots) (a : IsAt s p h t) (w : IsTrading s.trades.trading)
     (r : SameButMemory s.trades v) (changes : Changes h g (paying s.trades) (paying v) t u) (pays : Pays h g (paying s.trades) (paying v) t u)
     (seen_so : seen (paying v) u ≡ slot) (is : n ≡ put (with_store s v.trading.memory (holder s p) g) p u)
     (sound : (f : Heap) → AreSound (put (with_store s v.trading.memory (holder s p) f) p u).trades.trading) where
   abbrev the_call : IsCall s v.trading.memory p h g t u
-  the_call = call_of s v p h g t u a.kept w a.there a.spot a.thing a.heap a.paid r changes pays
+  the_call = call_of s v p h g t u a.kept w a.there a.spot a.content a.heap a.paid r changes pays
 
   abbrev new : Store
   new = store_at v.trading.memory.ledger (account_of s.trades.trading (holder s p))
@@ -217,7 +217,7 @@ module _ (s : Slots) (v : Trades) (p : Spot) (h g : Heap) (t u : Thing) (slot : 
 
   less_then : ((k : ℕ) → slot_places k slot ≤ slot_places k (slot_of s p)) → (k : ℕ)
       → slot_places k (seen new u) ≤ slot_places k (seen (memory_of s (holder s p)) t)
-  less_then le k = omega (arith, le k, ap (slot_places k) seen_then, ap (λ z. slot_places k (seen (memory_of s (holder s p)) z)) a.thing)
+  less_then le k = omega (arith, le k, ap (slot_places k) seen_then, ap (λ z. slot_places k (seen (memory_of s (holder s p)) z)) a.content)
 
   pub stays_so : ((k : ℕ) → slot_places k slot ≤ slot_places k (slot_of s p)) → raised_by in_use classes (peaks h) ≡ peaks h
   stays_so le = stays_raised s v.trading.memory p h g t u a.kept w a.there the_call (less_then le)
@@ -225,7 +225,7 @@ module _ (s : Slots) (v : Trades) (p : Spot) (h g : Heap) (t u : Thing) (slot : 
   pub raises_so : Raises h g (paying s.trades) (paying v) t u → raised_by in_use classes (peaks h) ≡ peaks g
   raises_so q =
       let st = paying_then s v (holder s p) a.paid r in
-      let k = subst (λ z. Keeps h z (front s p ++ t ∷ back s p)) (sym (paying_is s (holder s p) a.paid))
+      let k = subst (λ z. KeepsContents h z (front s p ++ t ∷ back s p)) (sym (paying_is s (holder s p) a.paid))
       (around s v.trading.memory p h g t u a.kept w a.there the_call) in
       sym (q (front s p) (back s p) k ∙ ap (λ z. raised_by (places_used z (front s p ++ u ∷ back s p)) classes (peaks h)) st)
 
@@ -234,9 +234,9 @@ module _ (s : Slots) (v : Trades) (p : Spot) (h g : Heap) (t u : Thing) (slot : 
       subst IsSlots (sym is) (kept_then s v.trading.memory p h g t u a.kept w a.there the_call (sound g)
       (ap (raised_by in_use classes) same ∙ stays_so le ∙ sym same) (λ e. ap length same ∙ e))
 
-  pub puts_same : peaks g ≡ peaks h → Puts s n p slot
+  pub puts_same : peaks g ≡ peaks h → PutsSlot s n p slot
   puts_same same =
-      subst (λ y. Puts s y p slot) (sym is) (subst (λ y. Puts s (put (with_store s v.trading.memory (holder s p) g) p u) p y) seen_then
+      subst (λ y. PutsSlot s y p slot) (sym is) (subst (λ y. PutsSlot s (put (with_store s v.trading.memory (holder s p) g) p u) p y) seen_then
       (puts_then s v.trading.memory p h g t u a.kept w a.there the_call same))
 
   pub kept_raised : raised_by in_use classes (peaks h) ≡ peaks g → IsSlots n
@@ -255,60 +255,60 @@ module _ (s : Slots) (v : Trades) (p : Spot) (h g : Heap) (t u : Thing) (slot : 
 pub with_sound : (s : Slots) (m : Memory) (x : ℕ) (f : Heap) → AreSound s.trades.trading → AreSound (with_store s m x f).trades.trading
 with_sound s m x f a = record { objects = a.objects; unmade = a.unmade }
 
-sound_with : (s : Slots) (v : Trades) (p : Spot) (h : Heap) (t : Thing) → IsAt s p h t → (f : Heap)
+sound_with : (s : Slots) (v : Trades) (p : Spot) (h : Heap) (t : Content) → IsAt s p h t → (f : Heap)
     → AreSound (put (with_store s v.trading.memory (holder s p) f) p t).trades.trading
 sound_with s v p h t a f =
-    sound_same (with_store s v.trading.memory (holder s p) f) p t (a.thing ∙ sym (thing_with s v f p))
+    sound_same (with_store s v.trading.memory (holder s p) f) p t (a.content ∙ sym (content_with s v f p))
     (with_sound s v.trading.memory (holder s p) f a.kept.sound)
 
 -- what a call on a slot leaves: it holds, and the world has the slot
 abbrev pub Leaves : Slots → Slots → Spot → world.Slot → Type 0
-Leaves z n p slot = IsSlots n × Puts z n p slot
+Leaves z n p slot = IsSlots n × PutsSlot z n p slot
 
 abbrev pub LeavesSettled : Slots → Slots → Spot → world.Slot → Type 0
 LeavesSettled z n p slot = IsSlots n × Settles z n p slot
 
 -- other bytes in the slot, for which nothing is paid
-pub stays : (z s : Slots) (v : Trades) (p : Spot) (h : Heap) (t : Thing) (f : world.Slot → world.Slot) → s ≡ z → IsAt s p h t → IsTrading s.trades.trading
+pub stays : (z s : Slots) (v : Trades) (p : Spot) (h : Heap) (t : Content) (f : world.Slot → world.Slot) → s ≡ z → IsAt s p h t → IsTrading s.trades.trading
     → SameButMemory s.trades v → Changes h h (paying s.trades) (paying v) t t → seen (paying v) t ≡ f (seen (paying s.trades) t)
     → (paying v).left ≡ (paying s.trades).left → (paying v).caps ≡ (paying s.trades).caps
     → ((q : Resource) (y : world.Slot) → slot_price q (f y) ≡ slot_price q y)
     → ((k : ℕ) (y : world.Slot) → slot_places k (f y) ≤ slot_places k y) → Leaves z (of_parts v s.own s.heaps) p (f (slot_of z p))
 stays z s v p h t f e a w r changes seen_so left caps price le =
-    let is = ap (of_parts v s.own) (sym (same_heap s (holder s p) h a.heap)) ∙ in_place s v p h t a.kept a.spot a.thing r in
-    let at = slot_paying s p t a.paid a.thing in
+    let is = ap (of_parts v s.own) (sym (same_heap s (holder s p) h a.heap)) ∙ in_place s v p h t a.kept a.spot a.content r in
+    let at = slot_paying s p t a.paid a.content in
     let pays = pays_none h (paying s.trades) (paying v) t (λ q. ap (slot_price q) seen_so ∙ price q (seen (paying s.trades) t)) left caps in
     let n = of_parts v s.own s.heaps in (
       kept_same s v p h h t t (f (slot_of s p)) n a w r changes pays (seen_so ∙ ap f at) is (sound_with s v p h t a) refl (λ k. le k (slot_of s p)),
-      subst (λ y. Puts y n p (f (slot_of y p))) e
+      subst (λ y. PutsSlot y n p (f (slot_of y p))) e
           (puts_same s v p h h t t (f (slot_of s p)) n a w r changes pays (seen_so ∙ ap f at) is (sound_with s v p h t a) refl),
     )
 
 -- another entry, where a place of the heap is free again
-pub gives_place : (z s : Slots) (v : Trades) (p : Spot) (h g : Heap) (t : Thing) (f : world.Slot → world.Slot) (x : ℕ) → s ≡ z → IsAt s p h t
+pub gives_place : (z s : Slots) (v : Trades) (p : Spot) (h g : Heap) (t : Content) (f : world.Slot → world.Slot) (x : ℕ) → s ≡ z → IsAt s p h t
     → IsTrading s.trades.trading → x ≡ holder z p → SameButMemory s.trades v → Changes h g (paying s.trades) (paying v) t t
     → seen (paying v) t ≡ f (seen (paying s.trades) t) → Pays h g (paying s.trades) (paying v) t t → peaks g ≡ peaks h
     → ((k : ℕ) (y : world.Slot) → slot_places k (f y) ≤ slot_places k y) → Leaves z (of_parts v s.own (set s.heaps x g)) p (f (slot_of z p))
 gives_place z s v p h g t f x e a w at_x r changes seen_so pays same le =
     let y : x ≡ holder s p = at_x ∙ ap (λ y. holder y p) (sym e) in
-    let is = ap (λ i. of_parts v s.own (set s.heaps i g)) y ∙ in_place s v p g t a.kept a.spot a.thing r in
-    let at = slot_paying s p t a.paid a.thing in
+    let is = ap (λ i. of_parts v s.own (set s.heaps i g)) y ∙ in_place s v p g t a.kept a.spot a.content r in
+    let at = slot_paying s p t a.paid a.content in
     let n = of_parts v s.own (set s.heaps x g) in (
       kept_same s v p h g t t (f (slot_of s p)) n a w r changes pays (seen_so ∙ ap f at) is (sound_with s v p h t a) same (λ k. le k (slot_of s p)),
-      subst (λ y. Puts y n p (f (slot_of y p))) e
+      subst (λ y. PutsSlot y n p (f (slot_of y p))) e
           (puts_same s v p h g t t (f (slot_of s p)) n a w r changes pays (seen_so ∙ ap f at) is (sound_with s v p h t a) same),
     )
 
 -- another entry, where a place of the heap may be taken: then the peaks are raised, or there is nothing new
-pub takes_place : (z s : Slots) (v : Trades) (p : Spot) (h g : Heap) (t : Thing) (f : world.Slot → world.Slot) (x : ℕ) → s ≡ z → IsAt s p h t
+pub takes_place : (z s : Slots) (v : Trades) (p : Spot) (h g : Heap) (t : Content) (f : world.Slot → world.Slot) (x : ℕ) → s ≡ z → IsAt s p h t
     → IsTrading s.trades.trading → x ≡ holder z p → SameButMemory s.trades v → Changes h g (paying s.trades) (paying v) t t
     → seen (paying v) t ≡ f (seen (paying s.trades) t) → Pays h g (paying s.trades) (paying v) t t
     → Raises h g (paying s.trades) (paying v) t t ⊎ ((g ≡ h) × (paying v ≡ paying s.trades))
     → LeavesSettled z (of_parts v s.own (set s.heaps x g)) p (f (slot_of z p))
 takes_place z s v p h g t f x e a w at_x r changes seen_so pays (inl q) =
     let y : x ≡ holder s p = at_x ∙ ap (λ y. holder y p) (sym e) in
-    let is = ap (λ i. of_parts v s.own (set s.heaps i g)) y ∙ in_place s v p g t a.kept a.spot a.thing r in
-    let at = slot_paying s p t a.paid a.thing in
+    let is = ap (λ i. of_parts v s.own (set s.heaps i g)) y ∙ in_place s v p g t a.kept a.spot a.content r in
+    let at = slot_paying s p t a.paid a.content in
     let n = of_parts v s.own (set s.heaps x g) in
     let up = raises_so s v p h g t t (f (slot_of s p)) n a w r changes pays (seen_so ∙ ap f at) is (sound_with s v p h t a) q in (
       kept_raised s v p h g t t (f (slot_of s p)) n a w r changes pays (seen_so ∙ ap f at) is (sound_with s v p h t a) up,
@@ -317,8 +317,8 @@ takes_place z s v p h g t f x e a w at_x r changes seen_so pays (inl q) =
     )
 takes_place z s v p h g t f x e a w at_x r changes seen_so pays (inr q) =
     let y : x ≡ holder s p = at_x ∙ ap (λ y. holder y p) (sym e) in
-    let is = ap (λ i. of_parts v s.own (set s.heaps i g)) y ∙ in_place s v p g t a.kept a.spot a.thing r in
-    let at = slot_paying s p t a.paid a.thing in
+    let is = ap (λ i. of_parts v s.own (set s.heaps i g)) y ∙ in_place s v p g t a.kept a.spot a.content r in
+    let at = slot_paying s p t a.paid a.content in
     let n = of_parts v s.own (set s.heaps x g) in
     let same : f (slot_of s p) ≡ slot_of s p = ap f (sym at) ∙ sym seen_so ∙ ap (λ st. seen st t) q.1 ∙ at in
     let up = stays_so s v p h g t t (f (slot_of s p)) n a w r changes pays (seen_so ∙ ap f at) is (sound_with s v p h t a)
@@ -328,13 +328,13 @@ takes_place z s v p h g t f x e a w at_x r changes seen_so pays (inr q) =
           (settles_raised s v p h g t t (f (slot_of s p)) n a w r changes pays (seen_so ∙ ap f at) is (sound_with s v p h t a) up),
     )
 
-sound_filled : (s : Slots) (v : Trades) (p : Spot) (u : Thing) → IsSlot p → IsSlots s → (f : Heap)
+sound_filled : (s : Slots) (v : Trades) (p : Spot) (u : Content) → IsSlot p → IsSlots s → (f : Heap)
     → AreSound (put (with_store s v.trading.memory (holder s p) f) p u).trades.trading
 sound_filled s v p u l i f =
     sound_put (with_store s v.trading.memory (holder s p) f) p u l (with_sound s v.trading.memory (holder s p) f i.sound)
 
 -- memory that is made in the slot, beside the heap
-pub makes_beside : (z s : Slots) (v w : Trades) (own : List (List Thing)) (p : Spot) (h : Heap) (t u : Thing) (slot : world.Slot) → s ≡ z → IsAt s p h t
+pub makes_beside : (z s : Slots) (v w : Trades) (own : List (List Content)) (p : Spot) (h : Heap) (t u : Content) (slot : world.Slot) → s ≡ z → IsAt s p h t
     → IsTrading s.trades.trading → IsSlot p → SameButMemory s.trades v → Changes h h (paying s.trades) (paying v) t u → seen (paying v) u ≡ slot
     → Pays h h (paying s.trades) (paying v) t u → ((k : ℕ) → slot_places k slot ≡ 0) → w ≡ with_trading v (put_trading v.trading p u) → own ≡ put_own s.own p u
     → LeavesSettled z (of_parts w own s.heaps) p slot
@@ -347,7 +347,7 @@ makes_beside z s v w own p h t u slot e a tr l r changes seen_so pays none ws os
     )
 
 -- memory of the heap that is made in the slot
-pub makes_block : (z s : Slots) (v w : Trades) (own : List (List Thing)) (p : Spot) (h g : Heap) (t u : Thing) (slot : world.Slot) (x : ℕ) → s ≡ z
+pub makes_block : (z s : Slots) (v w : Trades) (own : List (List Content)) (p : Spot) (h g : Heap) (t u : Content) (slot : world.Slot) (x : ℕ) → s ≡ z
     → IsAt s p h t → IsTrading s.trades.trading → x ≡ holder z p → IsSlot p → SameButMemory s.trades v → Changes h g (paying s.trades) (paying v) t u
     → seen (paying v) u ≡ slot
     → Pays h g (paying s.trades) (paying v) t u → Raises h g (paying s.trades) (paying v) t u → w ≡ with_trading v (put_trading v.trading p u)
@@ -362,7 +362,7 @@ makes_block z s v w own p h g t u slot x e a tr at_x l r changes seen_so pays q 
     )
 
 -- what was in the slot is free
-pub frees : (z s : Slots) (v w : Trades) (own : List (List Thing)) (p : Spot) (h g : Heap) (t : Thing) (x : ℕ) → s ≡ z → IsAt s p h t
+pub frees : (z s : Slots) (v w : Trades) (own : List (List Content)) (p : Spot) (h g : Heap) (t : Content) (x : ℕ) → s ≡ z → IsAt s p h t
     → IsTrading s.trades.trading → x ≡ holder z p → IsSlot p → SameButMemory s.trades v → Changes h g (paying s.trades) (paying v) t Empty
     → Pays h g (paying s.trades) (paying v) t Empty → peaks g ≡ peaks h → w ≡ with_trading v (put_trading v.trading p Empty) → own ≡ put_own s.own p Empty
     → Leaves z (of_parts w own (set s.heaps x g)) p world.Empty
@@ -371,7 +371,8 @@ frees z s v w own p h g t x e a tr at_x l r changes pays same ws os =
     let is = ap (λ i. of_parts w own (set s.heaps i g)) y ∙ filled s v w own p g Empty r ws os in
     let n = of_parts w own (set s.heaps x g) in (
       kept_same s v p h g t Empty world.Empty n a tr r changes pays refl is (sound_filled s v p Empty l a.kept) same (λ k. omega arith),
-      subst (λ y. Puts y n p world.Empty) e (puts_same s v p h g t Empty world.Empty n a tr r changes pays refl is (sound_filled s v p Empty l a.kept) same),
+      subst (λ y. PutsSlot y n p world.Empty) e
+          (puts_same s v p h g t Empty world.Empty n a tr r changes pays refl is (sound_filled s v p Empty l a.kept) same),
     )
 
 -- where nothing was done
@@ -382,7 +383,7 @@ true_is : IsTrue true
 true_is = refl
 
 -- an entry that is added, or was there, or is refused
-pub takes : {E : Type 0} (z s : Slots) (v : Trades) (p : Spot) (h g : Heap) (t : Thing) (i x : ℕ) (res : Result Bool E) → s ≡ z → IsAt s p h t
+pub takes : {E : Type 0} (z s : Slots) (v : Trades) (p : Spot) (h g : Heap) (t : Content) (i x : ℕ) (res : Result Bool E) → s ≡ z → IsAt s p h t
     → IsTrading s.trades.trading → x ≡ holder z p → SameButMemory s.trades v → IfOk res (λ b. Changes h g (paying s.trades) (paying v) t t)
     → IfOk res (λ b. seen (paying v) t ≡ with_entry i added (seen (paying s.trades) t))
     → IfOk res (λ b. IsTrue b ↔ (entry_in i (seen (paying s.trades) t) ≡ None)) → IfOk res (λ b. Pays h g (paying s.trades) (paying v) t t)

@@ -17,9 +17,9 @@ use Rattle.gq_trade.specs.declared.requests.Ask.{Ask}
 use Rattle.gq_trade.specs.declared.requests.Ask.TheVariants.{Open, Upgrade}
 use Rattle.gq_trade.specs.declared.requests.Request.{Request}
 use Rattle.gq_trade.specs.Seen_requests.{ask_seen, request_seen}
-use Rattle.gq_contents.specs.declared.thing.Thing.{Thing}
-use Rattle.gq_contents.specs.declared.thing.Thing.TheVariants.{Empty, Block, Slice, Space, Pool, Link, Waiting}
-use Rattle.gq_contents.specs.Things.{seen}
+use Rattle.gq_contents.specs.declared.content.Content.{Content}
+use Rattle.gq_contents.specs.declared.content.Content.TheVariants.{Empty, Block, Slice, Space, Pool, Link, Waiting}
+use Rattle.gq_contents.specs.Contents.{seen}
 use Rattle.gq_trade.specs.declared.session.Session.{Session}
 use Rattle.gq_trade.specs.declared.session.Spot.{Spot}
 use Rattle.gq_trade.specs.Seen.{seen_in, session_seen, sessions_seen, spot_seen}
@@ -31,7 +31,7 @@ use Rattle.gq_trade.specs.declared.node.Stage.TheVariants.{Live, Ended}
 use Rattle.gq_trade.specs.Trades.{Trades, IsLive, IsTrades, with_trading}
 use Rattle.gq_slots.specs.Slots.{Slots, Frame, leaves_seen, memory_of, world_seen}
 use Rattle.gq_slots.specs.Session_calls.{asking, more_for, opening, upgrading, with_trades}
-use Rattle.gq_slots.specs.internal.Holds.{AreObjects, AreUnmade, IsSlots, IsUnmade, session_things, things_of}
+use Rattle.gq_slots.specs.internal.Holds.{AreObjects, AreUnmade, IsSlots, IsUnmade, session_contents, contents_of}
 use Rattle.gq_slots.proofs.Spots.{session_same, slots_long}
 use Rattle.gq_slots.proofs.Worlds.{session_there}
 use Rattle.gq_slots.proofs.Answering.{of_parts, sound_set}
@@ -53,7 +53,7 @@ asked_world f z s v k a e is =
     ∙ ap (λ y. asking (world_seen f y) k (ask_seen a)) e
 
 -- what is left to pay changes no slot
-donated_seen : (l : Ledger) (es : Entries) (a : ℕ) (t : Thing) → seen (store_at (with_accounts l es) a) t ≡ seen (store_at l a) t
+donated_seen : (l : Ledger) (es : Entries) (a : ℕ) (t : Content) → seen (store_at (with_accounts l es) a) t ≡ seen (store_at l a) t
 donated_seen l es a Empty = refl
 donated_seen l es a (Block p n) = refl
 donated_seen l es a (Slice k n) = refl
@@ -62,7 +62,8 @@ donated_seen l es a (Pool p) = refl
 donated_seen l es a (Link k) = refl
 donated_seen l es a (Waiting k) = refl
 
-leaves_same : (leaf : ℕ → world.Leaf) (old new : ℕ → Store) (own : List (List Thing)) (hs : List Heap) → ((y : ℕ) (t : Thing) → seen (new y) t ≡ seen (old y) t)
+leaves_same : (leaf : ℕ → world.Leaf) (old new : ℕ → Store) (own : List (List Content)) (hs : List Heap)
+    → ((y : ℕ) (t : Content) → seen (new y) t ≡ seen (old y) t)
     → leaves_seen leaf new own hs ≡ leaves_seen leaf old own hs
 leaves_same leaf old new [] hs e = refl
 leaves_same leaf old new (ts ∷ own) [] e = refl
@@ -139,16 +140,16 @@ pub live_open : (t : Trades) (x : ℕ) → IsTrades t → IsTrading t.trading �
 live_open t x i w live = i.settled.opened (node_of t.trading x) (w.leaves x live.there) (λ e. ended (sym live.live ∙ e))
 
 -- a session more, whose slots are empty
-things_fresh : (x c : ℕ) (p : Spot) (v e : ℕ) (n : Amount) (b : Bool) (ts : List Thing) → Alike ts (cond b (Empty ∷ replicate 8 Empty) [] ++ ts)
-things_fresh x c p v e n true ts = alike_more 9 ts
-things_fresh x c p v e n false ts = alike ts
+contents_fresh : (x c : ℕ) (p : Spot) (v e : ℕ) (n : Amount) (b : Bool) (ts : List Content) → Alike ts (cond b (Empty ∷ replicate 8 Empty) [] ++ ts)
+contents_fresh x c p v e n true ts = alike_more 9 ts
+contents_fresh x c p v e n false ts = alike ts
 
 alike_added : (x c : ℕ) (p : Spot) (v e : ℕ) (n : Amount) (ss : List (Option Session))
-    → Alike (session_things x ss) (session_things x (added (fresh c p v e n) ss))
-alike_added x c p v e n [] = things_fresh x c p v e n (eqb v x) []
-alike_added x c p v e n (None ∷ ss) = things_fresh x c p v e n (eqb v x) (session_things x ss)
+    → Alike (session_contents x ss) (session_contents x (added (fresh c p v e n) ss))
+alike_added x c p v e n [] = contents_fresh x c p v e n (eqb v x) []
+alike_added x c p v e n (None ∷ ss) = contents_fresh x c p v e n (eqb v x) (session_contents x ss)
 alike_added x c p v e n (Some q ∷ ss) =
-    alike_behind (things_of x q) (session_things x ss) (session_things x (added (fresh c p v e n) ss)) (alike_added x c p v e n ss)
+    alike_behind (contents_of x q) (session_contents x ss) (session_contents x (added (fresh c p v e n) ss)) (alike_added x c p v e n ss)
 
 added_long : (c : ℕ) (p : Spot) (v e : ℕ) (n : Amount) (ss : List (Option Session)) (j : ℕ) → IsTaken (added (fresh c p v e n) ss) j
     → ((i : ℕ) → IsTaken ss i → length (session_in ss i).slots ≡ 8) → length (session_in (added (fresh c p v e n) ss) j).slots ≡ 8
@@ -189,7 +190,7 @@ unmade_added q ss (r ∷ rs) o a =
     (subst (λ y. IsUnmade r.ask y.object) (sym (added_at q ss r.session o.0)) a.0, unmade_added q ss rs o.2 a.1)
 
 -- a request of a session that is there, and no request to open
-pub asked_kept : (s : Slots) (k : ℕ) (a : Ask) → ((t : Thing) → IsUnmade a t) → IsSlots s
+pub asked_kept : (s : Slots) (k : ℕ) (a : Ask) → ((t : Content) → IsUnmade a t) → IsSlots s
     → IsSlots (with_trades s (with_ask s.trades.trading k a))
 asked_kept s k a none i =
     let t = s.trades.trading in
@@ -224,7 +225,7 @@ opened_kept s c p v e n of i co vo b d =
             (unmade_added q t.sessions t.requests of i.sound.unmade) (ap (λ (y : Session). y.object) (added_here q t.sessions));
       };
       holders = λ x h lt. holder_alike s m x (get_or s.heaps x h) (λ k. record { size = refl; bytes = λ j. refl })
-          (alike_behind (get_or s.own x []) (session_things x t.sessions) (session_things x (added q t.sessions)) (alike_added x c p v e n t.sessions))
+          (alike_behind (get_or s.own x []) (session_contents x t.sessions) (session_contents x (added q t.sessions)) (alike_added x c p v e n t.sessions))
           (used_kept t.memory.ledger.accounts (account_of t c) (account_of t v) n (account_of t x) co vo) refl
           (within t.memory.ledger (account_of t x) b) (within m.trades.trading.memory.ledger (account_of t x) d) (i.holders x h lt);
     }
@@ -248,8 +249,8 @@ upgraded_kept s k n there i co vo b d =
             changed.unmade tt;
       };
       holders = λ x h lt. holder_alike s m x (get_or s.heaps x h) (λ j. record { size = refl; bytes = λ o. refl })
-          (alike_behind (get_or s.own x []) (session_things x t.sessions) (session_things x (set t.sessions k (Some (with_more q n))))
-          (alike_is (session_things x t.sessions) (session_things x (set t.sessions k (Some (with_more q n))))
+          (alike_behind (get_or s.own x []) (session_contents x t.sessions) (session_contents x (set t.sessions k (Some (with_more q n))))
+          (alike_is (session_contents x t.sessions) (session_contents x (set t.sessions k (Some (with_more q n))))
           (session_same x k t.sessions (with_more q n) there refl)))
           (used_kept t.memory.ledger.accounts (account_of t q.client) (account_of t q.server) n (account_of t x) co vo) refl
           (within t.memory.ledger (account_of t x) b) (within m.trades.trading.memory.ledger (account_of t x) d) (i.holders x h lt);

@@ -1,4 +1,4 @@
--- A call on one thing: what holds of all slots then, and which world they are.
+-- A call on one content: what holds of all slots then, and which world they are.
 use Rattle.std.proofs.Common.{◌≡◌, ℕ, ◌+◌, ◌<◌, ◌≤◌, true, false, Bool, eqb, [], ◌∷◌, ◌++◌, length, set, length-set, get_or, get_or-set_same}
 use Rattle.std.proofs.Common.{get_or-set_other, Option, Some, None, refl, sym, ap, subst, ◌∙◌, arith}
 use Rattle.std.specs.Prelude.{slice_get}
@@ -16,18 +16,18 @@ use Rattle.gq_heap.specs.declared.heap.Heap.{Heap}
 use Rattle.gq_heap.specs.Heap.{peaks}
 use Rattle.gq_trade.specs.Stores.{Memory, store_at}
 use Rattle.gq_trade.specs.Rest.{SameRest}
-use Rattle.gq_contents.specs.declared.thing.Thing.{Thing}
-use Rattle.gq_contents.specs.Things.{seen}
-use Rattle.gq_contents.specs.Kept.{Keeps, KeepsBeside, Changes}
+use Rattle.gq_contents.specs.declared.content.Content.{Content}
+use Rattle.gq_contents.specs.Contents.{seen}
+use Rattle.gq_contents.specs.Kept.{KeepsContents, KeepsBeside, Changes}
 use Rattle.gq_contents.specs.Paid.{cost, cost_with, Pays, places_used, raised_by}
 use Rattle.gq_trade.specs.declared.session.Spot.{Spot}
 use Rattle.gq_trade.specs.declared.session.Spot.TheVariants.{InLeaf, InSession, InObject}
 use Rattle.gq_trade.specs.Seen.{spot_seen}
 use Rattle.gq_trade.specs.Trading.{Trading, AreBetween, IsTrading, account_of, its_account}
-use Rattle.gq_slots.specs.Slots.{Slots, Frame, IsSpot, IsHeapOf, memory_of, holder, thing_at, world_seen, leaf_seen, settled_in}
+use Rattle.gq_slots.specs.Slots.{Slots, Frame, IsSpot, IsHeapOf, memory_of, holder, content_at, world_seen, leaf_seen, settled_in}
 use Rattle.gq_slots.specs.Slots.{raised_in}
-use Rattle.gq_slots.specs.Calls.{Puts, SameAccounts, SameBeside, Settles}
-use Rattle.gq_slots.specs.internal.Holds.{AreLong, AreObjects, AreSound, IsHolder, IsSlots, counted, held_by, things}
+use Rattle.gq_slots.specs.Calls.{PutsSlot, SameAccounts, SameBeside, Settles}
+use Rattle.gq_slots.specs.internal.Holds.{AreLong, AreObjects, AreSound, IsHolder, IsSlots, counted, held_by, contents}
 use Rattle.gq_slots.specs.internal.Put.{peaks_in, put, with_peaks_at, with_store}
 use Rattle.gq_slots.proofs.Spots.{back, front, holder_put, long_put, others, split, split_now, spot_put}
 use Rattle.gq_slots.proofs.Worlds.{leaf_at, same_peaks, world_after}
@@ -60,10 +60,10 @@ pub same_quotas : (l k : Ledger) (a p : AccountNo) → SameRest (record { ledger
     → SameQuotas (record { ledger = l; payer = p }) (record { ledger = k; payer = p })
 same_quotas l k a p r = record { payer = refl; price = r.whole.0; quota = λ b. same_quota l k a.0 b (eqb b a.0) refl r.accounts r.quota }
 
--- what one call leaves: a thing u in the place of t, in the memory that the leaf of the slot pays for
-pub record IsCall (s : Slots) (m : Memory) (p : Spot) (before after : Heap) (t u : Thing) : Type 0 where
+-- what one call leaves: a content u in the place of t, in the memory that the leaf of the slot pays for
+pub record IsCall (s : Slots) (m : Memory) (p : Spot) (before after : Heap) (t u : Content) : Type 0 where
   pub spot : IsSpot s p
-  pub thing : thing_at s p ≡ t
+  pub content : content_at s p ≡ t
   pub heap : IsHeapOf s (holder s p) before
   -- all other leaves have what they had
   pub others : (y : ℕ) → y < length s.own → (y ≡ holder s p → ⊥) → store_at m.ledger (account_of s.trades.trading y) ≡ memory_of s y
@@ -83,51 +83,51 @@ others_stay s m p i w there rest y lt ne =
     ne (w.apart y x yl xl (w.nodes.apart (get_or s.trades.trading.leaves y 0) (get_or s.trades.trading.leaves x 0) (w.leaves y yl) (w.leaves x xl) e)))
 
 -- a leaf that keeps what it had
-pub holder_same : (s v : Slots) (x : ℕ) (h : Heap) → memory_of v x ≡ memory_of s x → things v x ≡ things s x
+pub holder_same : (s v : Slots) (x : ℕ) (h : Heap) → memory_of v x ≡ memory_of s x → contents v x ≡ contents s x
     → (its_account v.trades.trading x).quota ≡ (its_account s.trades.trading x).quota
     → v.trades.trading.memory.ledger.price ≡ s.trades.trading.memory.ledger.price
     → IsHolder s x h → IsHolder v x h
 holder_same s v x h st ts q p i = record {
-  keeps = subst (λ a. Keeps h a (things v x)) (sym st) (subst (λ a. Keeps h (memory_of s x) a) (sym ts) i.keeps);
-  ram = ap (λ a. a.left + (cost Ram a (things v x) + class_prices Ram (peaks h))) st
+  keeps = subst (λ a. KeepsContents h a (contents v x)) (sym st) (subst (λ a. KeepsContents h (memory_of s x) a) (sym ts) i.keeps);
+  ram = ap (λ a. a.left + (cost Ram a (contents v x) + class_prices Ram (peaks h))) st
       ∙ ap (λ a. (memory_of s x).left + (cost Ram (memory_of s x) a + class_prices Ram (peaks h))) ts
       ∙ i.ram ∙ ap (λ a. a.ram) (sym q);
-  caps = ap (λ a. plus_caps (cost Caps a (things v x) + class_prices Caps (peaks h)) a.caps) st
+  caps = ap (λ a. plus_caps (cost Caps a (contents v x) + class_prices Caps (peaks h)) a.caps) st
       ∙ ap (λ a. plus_caps (cost Caps (memory_of s x) a + class_prices Caps (peaks h)) (memory_of s x).caps) ts
       ∙ i.caps ∙ ap (λ a. counted a (its_account s.trades.trading x).quota.caps) (sym p)
       ∙ ap (λ a. counted v.trades.trading.memory.ledger.price a.caps) (sym q);
-  peaked = ap (λ a. raised_by (places_used a (things v x)) classes (peaks h)) st ∙ ap (λ a. raised_by (places_used (memory_of s x) a) classes (peaks h)) ts
+  peaked = ap (λ a. raised_by (places_used a (contents v x)) classes (peaks h)) st ∙ ap (λ a. raised_by (places_used (memory_of s x) a) classes (peaks h)) ts
       ∙ i.peaked;
   eight = i.eight;
 }
 
 -- what stands in a slot bears on no account
-put_memory : (s : Slots) (p : Spot) (u : Thing) (y : ℕ) → memory_of (put s p u) y ≡ memory_of s y
+put_memory : (s : Slots) (p : Spot) (u : Content) (y : ℕ) → memory_of (put s p u) y ≡ memory_of s y
 put_memory s (InLeaf a i) u y = refl
 put_memory s (InSession k i) u y = refl
 put_memory s (InObject k) u y = refl
 
-put_account : (s : Slots) (p : Spot) (u : Thing) (y : ℕ) → its_account (put s p u).trades.trading y ≡ its_account s.trades.trading y
+put_account : (s : Slots) (p : Spot) (u : Content) (y : ℕ) → its_account (put s p u).trades.trading y ≡ its_account s.trades.trading y
 put_account s (InLeaf a i) u y = refl
 put_account s (InSession k i) u y = refl
 put_account s (InObject k) u y = refl
 
-put_price : (s : Slots) (p : Spot) (u : Thing) → (put s p u).trades.trading.memory.ledger.price ≡ s.trades.trading.memory.ledger.price
+put_price : (s : Slots) (p : Spot) (u : Content) → (put s p u).trades.trading.memory.ledger.price ≡ s.trades.trading.memory.ledger.price
 put_price s (InLeaf a i) u = refl
 put_price s (InSession k i) u = refl
 put_price s (InObject k) u = refl
 
-put_count : (s : Slots) (p : Spot) (u : Thing) → length (put s p u).own ≡ length s.own
+put_count : (s : Slots) (p : Spot) (u : Content) → length (put s p u).own ≡ length s.own
 put_count s (InLeaf a i) u = length-set s.own a (set (get_or s.own a []) i u)
 put_count s (InSession k i) u = refl
 put_count s (InObject k) u = refl
 
-put_leaves : (s : Slots) (p : Spot) (u : Thing) → length (put s p u).trades.trading.leaves ≡ length s.trades.trading.leaves
+put_leaves : (s : Slots) (p : Spot) (u : Content) → length (put s p u).trades.trading.leaves ≡ length s.trades.trading.leaves
 put_leaves s (InLeaf a i) u = refl
 put_leaves s (InSession k i) u = refl
 put_leaves s (InObject k) u = refl
 
-accounts_put : (s : Slots) (p : Spot) (u : Thing) (w : Trading) → SameAccounts w s.trades.trading → SameAccounts w (put s p u).trades.trading
+accounts_put : (s : Slots) (p : Spot) (u : Content) (w : Trading) → SameAccounts w s.trades.trading → SameAccounts w (put s p u).trades.trading
 accounts_put s (InLeaf a i) u w e = e
 accounts_put s (InSession k i) u w e =
     record { tree = e.tree; leaves = e.leaves; objects = e.objects; room = e.room; requests = e.requests; payer = e.payer; price = e.price; quota = e.quota }
@@ -157,7 +157,7 @@ back_with s m x h (InLeaf a i) = refl
 back_with s m x h (InSession k i) = refl
 back_with s m x h (InObject k) = refl
 
-module _ (s : Slots) (m : Memory) (p : Spot) (before after : Heap) (t u : Thing) (i : IsSlots s) (w : IsTrading s.trades.trading)
+module _ (s : Slots) (m : Memory) (p : Spot) (before after : Heap) (t u : Content) (i : IsSlots s) (w : IsTrading s.trades.trading)
     (there : holder s p < length s.own) (c : IsCall s m p before after t u) where
   abbrev x : ℕ
   x = holder s p
@@ -175,21 +175,21 @@ module _ (s : Slots) (m : Memory) (p : Spot) (before after : Heap) (t u : Thing)
   now : IsHolder s x before
   now = subst (λ h. IsHolder s x h) c.heap (i.holders x before there)
 
-  pub around : Keeps before old (front s p ++ t ∷ back s p)
-  around = subst (λ a. Keeps before old (front s p ++ a ∷ back s p)) c.thing
-      (subst (λ a. Keeps before old a) (split_now s p c.spot i.long) now.keeps)
+  pub around : KeepsContents before old (front s p ++ t ∷ back s p)
+  around = subst (λ a. KeepsContents before old (front s p ++ a ∷ back s p)) c.content
+      (subst (λ a. KeepsContents before old a) (split_now s p c.spot i.long) now.keeps)
 
   beside : KeepsBeside after old new (front s p) u (back s p)
   beside = c.changes (front s p) (back s p) around
 
-  things_then : things then_ x ≡ front s p ++ u ∷ back s p
-  things_then =
-      ap (λ y. things then_ y) (sym (holder_with s m x after p))
+  contents_then : contents then_ x ≡ front s p ++ u ∷ back s p
+  contents_then =
+      ap (λ y. contents then_ y) (sym (holder_with s m x after p))
       ∙ split (with_store s m x after) p u (spot_with s m x after p c.spot) (long_with s m x after i.long)
       ∙ (λ k. front_with s m x after p k ++ u ∷ back_with s m x after p k)
 
-  things_old : things s x ≡ front s p ++ t ∷ back s p
-  things_old = split_now s p c.spot i.long ∙ ap (λ a. front s p ++ a ∷ back s p) c.thing
+  contents_old : contents s x ≡ front s p ++ t ∷ back s p
+  contents_old = split_now s p c.spot i.long ∙ ap (λ a. front s p ++ a ∷ back s p) c.content
 
   quota_same : (a : ℕ) → (account_at m.ledger.accounts a).quota ≡ (account_at s.trades.trading.memory.ledger.accounts a).quota
   quota_same a = c.quotas.quota a
@@ -206,11 +206,11 @@ module _ (s : Slots) (m : Memory) (p : Spot) (before after : Heap) (t u : Thing)
   price_then : then_.trades.trading.memory.ledger.price ≡ s.trades.trading.memory.ledger.price
   price_then = put_price (with_store s m x after) p u ∙ price_same
 
-  cost_then : (r : Resource) → cost r (memory_of then_ x) (things then_ x) ≡ cost r new (front s p ++ u ∷ back s p)
-  cost_then r = ap (λ a. cost r a (things then_ x)) memory_then ∙ ap (cost r new) things_then
+  cost_then : (r : Resource) → cost r (memory_of then_ x) (contents then_ x) ≡ cost r new (front s p ++ u ∷ back s p)
+  cost_then r = ap (λ a. cost r a (contents then_ x)) memory_then ∙ ap (cost r new) contents_then
 
-  cost_old : (r : Resource) → cost r old (things s x) ≡ cost r old (front s p ++ t ∷ back s p)
-  cost_old r = ap (cost r old) things_old
+  cost_old : (r : Resource) → cost r old (contents s x) ≡ cost r old (front s p ++ t ∷ back s p)
+  cost_old r = ap (cost r old) contents_old
 
   ram_then : (memory_of then_ x).left + held_by Ram then_ x after ≡ (its_account then_.trades.trading x).quota.ram
   ram_then =
@@ -231,12 +231,12 @@ module _ (s : Slots) (m : Memory) (p : Spot) (before after : Heap) (t u : Thing)
   count_then : length then_.own ≡ length s.own
   count_then = put_count (with_store s m x after) p u
 
-  other_things : (y : ℕ) → (y ≡ x → ⊥) → things then_ y ≡ things s y
-  other_things y ne = others (with_store s m x after) p u y (spot_with s m x after p c.spot) (λ e. ne (e ∙ holder_with s m x after p))
+  other_contents : (y : ℕ) → (y ≡ x → ⊥) → contents then_ y ≡ contents s y
+  other_contents y ne = others (with_store s m x after) p u y (spot_with s m x after p c.spot) (λ e. ne (e ∙ holder_with s m x after p))
 
   other_holder : (y : ℕ) (h : Heap) → y < length s.own → (y ≡ x → ⊥) → IsHolder then_ y (get_or s.heaps y h)
   other_holder y h lt ne =
-      holder_same s then_ y (get_or s.heaps y h) (put_memory (with_store s m x after) p u y ∙ c.others y lt ne) (other_things y ne)
+      holder_same s then_ y (get_or s.heaps y h) (put_memory (with_store s m x after) p u y ∙ c.others y lt ne) (other_contents y ne)
       (ap (λ a. a.quota) (put_account (with_store s m x after) p u y) ∙ quota_same (account_of s.trades.trading y)) price_then (i.holders y h lt)
 
   module _ (sound : AreSound then_.trades.trading)
@@ -244,11 +244,11 @@ module _ (s : Slots) (m : Memory) (p : Spot) (before after : Heap) (t u : Thing)
       (eight : length (peaks before) ≡ 8 → length (peaks after) ≡ 8) where
     its_holder : IsHolder then_ x after
     its_holder = record {
-      keeps = subst (λ a. Keeps after a (things then_ x)) (sym memory_then) (subst (Keeps after new) (sym things_then) beside.keeps);
+      keeps = subst (λ a. KeepsContents after a (contents then_ x)) (sym memory_then) (subst (KeepsContents after new) (sym contents_then) beside.keeps);
       ram = ram_then;
       caps = caps_then;
-      peaked = ap (λ a. raised_by (places_used a (things then_ x)) classes (peaks after)) memory_then
-          ∙ ap (λ a. raised_by (places_used new a) classes (peaks after)) things_then ∙ peaked;
+      peaked = ap (λ a. raised_by (places_used a (contents then_ x)) classes (peaks after)) memory_then
+          ∙ ap (λ a. raised_by (places_used new a) classes (peaks after)) contents_then ∙ peaked;
       eight = eight now.eight;
     }
 
@@ -302,7 +302,7 @@ module _ (s : Slots) (m : Memory) (p : Spot) (before after : Heap) (t u : Thing)
     holders = λ q. holder_put (with_store s m x after) p u q ∙ holder_with s m x after q;
   }
 
-  pub puts_then : peaks after ≡ peaks before → Puts s then_ p (seen new u)
+  pub puts_then : peaks after ≡ peaks before → PutsSlot s then_ p (seen new u)
   puts_then e = record {
     seen_so = λ f. world_with after f ∙ ap (λ ps. with_peaks_at x ps (world.with_slot (world_seen f s) (spot_seen p) (seen new u))) e
         ∙ same_peaks f s p (seen new u) x before there own_heaps c.heap;
@@ -313,9 +313,9 @@ module _ (s : Slots) (m : Memory) (p : Spot) (before after : Heap) (t u : Thing)
   abbrev before_ : Slots
   before_ = put (with_store s m x before) p u
 
-  things_before : things before_ x ≡ front s p ++ u ∷ back s p
-  things_before =
-      ap (λ y. things before_ y) (sym (holder_with s m x before p))
+  contents_before : contents before_ x ≡ front s p ++ u ∷ back s p
+  contents_before =
+      ap (λ y. contents before_ y) (sym (holder_with s m x before p))
       ∙ split (with_store s m x before) p u (spot_with s m x before p c.spot) (long_with s m x before i.long)
       ∙ (λ k. front_with s m x before p k ++ u ∷ back_with s m x before p k)
 
@@ -334,8 +334,8 @@ module _ (s : Slots) (m : Memory) (p : Spot) (before after : Heap) (t u : Thing)
     raised_now : raised (world_seen f before_) x leaf_before classes (peaks before) ≡ peaks after
     raised_now =
         raised_is f before_ x before (f.leaf x) classes (peaks before) objects
-        ∙ ap (λ a. raised_by (places_used a (things before_ x)) classes (peaks before)) (put_memory (with_store s m x before) p u x)
-        ∙ ap (λ a. raised_by (places_used new a) classes (peaks before)) things_before ∙ raises
+        ∙ ap (λ a. raised_by (places_used a (contents before_ x)) classes (peaks before)) (put_memory (with_store s m x before) p u x)
+        ∙ ap (λ a. raised_by (places_used new a) classes (peaks before)) contents_before ∙ raises
 
     settled_now : settled_in x (world_seen f before_) ≡ with_peaks_at x (peaks after) (world_seen f before_)
     settled_now =
@@ -357,6 +357,6 @@ module _ (s : Slots) (m : Memory) (p : Spot) (before after : Heap) (t u : Thing)
   pub stays_raised : ((k : ℕ) → slot_places k (seen new u) ≤ slot_places k (seen old t))
       → raised_by (places_used new (front s p ++ u ∷ back s p)) classes (peaks before) ≡ peaks before
   stays_raised le =
-      raised_below (places_used new (front s p ++ u ∷ back s p)) (places_used old (things s x)) classes (peaks before) (λ k.
+      raised_below (places_used new (front s p ++ u ∷ back s p)) (places_used old (contents s x)) classes (peaks before) (λ k.
       let e = places_change k old new (front s p) t u (back s p) beside.front_seen beside.back_seen in
-      omega (arith, e, le k, ap (λ ts. places_used old ts k) things_old)) now.peaked
+      omega (arith, e, le k, ap (λ ts. places_used old ts k) contents_old)) now.peaked

@@ -18,10 +18,10 @@ use Rattle.gq_ram.proofs.Moves.{used_kept}
 use Rattle.gq_trade.specs.Stores.{Memory}
 use Rattle.gq_trade.specs.Numbers.{IsTaken}
 use Rattle.gq_trade.specs.declared.requests.Request.{Request}
-use Rattle.gq_contents.specs.declared.thing.Thing.{Thing}
-use Rattle.gq_contents.specs.declared.thing.Thing.TheVariants.{Empty, Block, Slice, Space, Pool, Link, Waiting}
-use Rattle.gq_contents.specs.Kept.{Keeps}
-use Rattle.gq_contents.specs.Things.{IsSlice, IsThing, size_of}
+use Rattle.gq_contents.specs.declared.content.Content.{Content}
+use Rattle.gq_contents.specs.declared.content.Content.TheVariants.{Empty, Block, Slice, Space, Pool, Link, Waiting}
+use Rattle.gq_contents.specs.Kept.{KeepsContents}
+use Rattle.gq_contents.specs.Contents.{IsSlice, IsContent, size_of}
 use Rattle.gq_contents.proofs.Lists.{each_front}
 use Rattle.gq_trade.specs.declared.session.Session.{Session}
 use Rattle.gq_trade.specs.declared.session.Spot.{Spot}
@@ -32,10 +32,10 @@ use Rattle.gq_trade.specs.Trading.{session_in, store_of, with_memory, with_sessi
 use Rattle.gq_trade.proofs.Definition.{given_is}
 use Rattle.gq_trade.proofs.Sessions_kept.{between_at}
 use Rattle.gq_trade.specs.Trades.{IsTrades, Trades}
-use Rattle.gq_slots.specs.Slots.{Frame, IsSpot, Slots, holder, memory_of, thing_at, world_seen}
-use Rattle.gq_slots.specs.Calls.{Puts}
+use Rattle.gq_slots.specs.Slots.{Frame, IsSpot, Slots, holder, memory_of, content_at, world_seen}
+use Rattle.gq_slots.specs.Calls.{PutsSlot}
 use Rattle.gq_slots.specs.Session_calls.{EndsSession, IsBeside, ending, with_trades}
-use Rattle.gq_slots.specs.internal.Holds.{AreObjects, AreUnmade, IsObject, IsSlots, IsUnmade, session_things, things, things_of}
+use Rattle.gq_slots.specs.internal.Holds.{AreObjects, AreUnmade, IsObject, IsSlots, IsUnmade, session_contents, contents, contents_of}
 use Rattle.gq_slots.specs.internal.Put.{put, with_object, with_store}
 use Rattle.gq_slots.proofs.Spots.{back, front, session_split, split_now, taken_below}
 use Rattle.gq_slots.proofs.Worlds.{session_there}
@@ -87,33 +87,33 @@ other_unmade ss k v (r ∷ rs) o a =
     (subst (λ (y : Session). IsUnmade r.ask y.object) (sym same) a.0, other_unmade ss k v rs o.1 a.1)
 
 -- what is left to pay for
-things_left : (x k : ℕ) (ss : List (Option Session)) → k < length ss
-    → session_things x (set ss k None) ≡ session_things x (take k ss) ++ session_things x (drop (suc k) ss)
-things_left x k [] lt = absurd (omega (arith, lt))
-things_left x zero (o ∷ ss) lt = refl
-things_left x (suc k) (None ∷ ss) lt = things_left x k ss (omega (arith, lt))
-things_left x (suc k) (Some t ∷ ss) lt =
-    ap (λ ts. things_of x t ++ ts) (things_left x k ss (omega (arith, lt)))
-    ∙ sym (append_assoc (things_of x t) (session_things x (take k ss)) (session_things x (drop (suc k) ss)))
+contents_left : (x k : ℕ) (ss : List (Option Session)) → k < length ss
+    → session_contents x (set ss k None) ≡ session_contents x (take k ss) ++ session_contents x (drop (suc k) ss)
+contents_left x k [] lt = absurd (omega (arith, lt))
+contents_left x zero (o ∷ ss) lt = refl
+contents_left x (suc k) (None ∷ ss) lt = contents_left x k ss (omega (arith, lt))
+contents_left x (suc k) (Some t ∷ ss) lt =
+    ap (λ ts. contents_of x t ++ ts) (contents_left x k ss (omega (arith, lt)))
+    ∙ sym (append_assoc (contents_of x t) (session_contents x (take k ss)) (session_contents x (drop (suc k) ss)))
 
-bank_gone : (b : Bool) (ts us : List Thing) → ts ≡ replicate 8 Empty → Alike (cond b (Empty ∷ ts) [] ++ us) us
+bank_gone : (b : Bool) (ts us : List Content) → ts ≡ replicate 8 Empty → Alike (cond b (Empty ∷ ts) [] ++ us) us
 bank_gone true ts us e = subst (λ ys. Alike (Empty ∷ (ys ++ us)) us) (sym e) (alike_fewer 9 us)
 bank_gone false ts us e = alike us
 
 gone : (x k : ℕ) (ss : List (Option Session)) (v : Session) → k < length ss → v.object ≡ Empty → v.slots ≡ replicate 8 Empty
-    → Alike (session_things x (set ss k (Some v))) (session_things x (set ss k None))
+    → Alike (session_contents x (set ss k (Some v))) (session_contents x (set ss k None))
 gone x k ss v lt e f =
-    let front = session_things x (take k ss) in
-    let back = session_things x (drop (suc k) ss) in
-    let mid : Alike (things_of x v ++ back) back =
+    let front = session_contents x (take k ss) in
+    let back = session_contents x (drop (suc k) ss) in
+    let mid : Alike (contents_of x v ++ back) back =
     subst (λ o. Alike (cond (eqb v.server x) (o ∷ v.slots) [] ++ back) back) (sym e) (bank_gone (eqb v.server x) v.slots back f) in
-    alike_then (session_things x (set ss k (Some v))) (front ++ (things_of x v ++ back)) (session_things x (set ss k None))
-    (alike_is (session_things x (set ss k (Some v))) (front ++ (things_of x v ++ back)) (sym (session_split x k ss v lt)))
-    (alike_then (front ++ (things_of x v ++ back)) (front ++ back) (session_things x (set ss k None))
-    (alike_behind front (things_of x v ++ back) back mid) (alike_is (front ++ back) (session_things x (set ss k None)) (things_left x k ss lt)))
+    alike_then (session_contents x (set ss k (Some v))) (front ++ (contents_of x v ++ back)) (session_contents x (set ss k None))
+    (alike_is (session_contents x (set ss k (Some v))) (front ++ (contents_of x v ++ back)) (sym (session_split x k ss v lt)))
+    (alike_then (front ++ (contents_of x v ++ back)) (front ++ back) (session_contents x (set ss k None))
+    (alike_behind front (contents_of x v ++ back) back mid) (alike_is (front ++ back) (session_contents x (set ss k None)) (contents_left x k ss lt)))
 
 -- eight empty slots
-all_empty : (n : ℕ) (ts : List Thing) → length ts ≡ n → ((i : ℕ) → i < n → get_or ts i Empty ≡ Empty) → ts ≡ replicate n Empty
+all_empty : (n : ℕ) (ts : List Content) → length ts ≡ n → ((i : ℕ) → i < n → get_or ts i Empty ≡ Empty) → ts ≡ replicate n Empty
 all_empty zero [] e all = refl
 all_empty zero (t ∷ ts) e all = absurd (omega (arith, e))
 all_empty (suc n) [] e all = absurd (omega (arith, e))
@@ -137,7 +137,7 @@ caps_within p false used quota now then_ e c ne =
     let f : then_ - now ≡ quota - used + 1 = some_is (then_ - now) (quota - used + 1) c in
     omega (arith, f)
 
-module _ (w : Trading) (m : Memory) (x : ℕ) (t : Thing) (b : IsBalanced w.memory.ledger) (f : Frees w (with_memory w m) x t) where
+module _ (w : Trading) (m : Memory) (x : ℕ) (t : Content) (b : IsBalanced w.memory.ledger) (f : Frees w (with_memory w m) x t) where
   abbrev no : ℕ
   no = account_of w x
 
@@ -200,7 +200,7 @@ holders_left s k v e (InObject j) ne =
 -- THE OBJECT IS FREE
 
 -- an object that is there is a slice
-object_slice : (st : Store) (t : Thing) → IsThing st t → IsObject t → (t ≡ Empty → ⊥) → IsSlice st t
+object_slice : (st : Store) (t : Content) → IsContent st t → IsObject t → (t ≡ Empty → ⊥) → IsSlice st t
 object_slice st Empty a o ne = absurd (ne refl)
 object_slice st (Block p n) a o ne = absurd o
 object_slice st (Slice k n) a o ne = a
@@ -217,18 +217,19 @@ server_below s k i w there =
     omega (arith, b.server, i.count)
 
 pub slice_there : (s : Slots) (k : ℕ) → IsSlots s → IsTrading s.trades.trading → IsTaken s.trades.trading.sessions k
-    → (thing_at s (InObject k) ≡ Empty → ⊥) → IsSlice (store_of s.trades.trading (server_of s.trades.trading k)) (session_at s.trades.trading k).object
+    → (content_at s (InObject k) ≡ Empty → ⊥) → IsSlice (store_of s.trades.trading (server_of s.trades.trading k)) (session_at s.trades.trading k).object
 slice_there s k i w there ne =
     let x = server_of s.trades.trading k in
     let below = server_below s k i w there in
     let g = heap_in s.heaps x (omega (arith, below, i.count, i.heaps)) in
-    let keeps = subst (λ ts. Keeps (get_or s.heaps x g.heap) (memory_of s x) ts) (split_now s (InObject k) there i.long) (i.holders x g.heap below).keeps in
-    object_slice (memory_of s x) (thing_at s (InObject k))
-    (each_front (memory_of s x) (front s (InObject k)) (thing_at s (InObject k)) (back s (InObject k)) keeps.each).1
+    let keeps = subst (λ ts. KeepsContents (get_or s.heaps x g.heap) (memory_of s x) ts) (split_now s (InObject k) there i.long)
+    (i.holders x g.heap below).keeps in
+    object_slice (memory_of s x) (content_at s (InObject k))
+    (each_front (memory_of s x) (front s (InObject k)) (content_at s (InObject k)) (back s (InObject k)) keeps.each).1
     (object_at k s.trades.trading.sessions i.sound.objects) ne
 
 module _ (s : Slots) (v : Trading) (k : ℕ) (i : IsSlots s) (w : IsTrading s.trades.trading) (there : IsTaken s.trades.trading.sessions k)
-    (empty : (j : ℕ) → j < 8 → thing_at s (InSession k j) ≡ Empty) (none : AreOfOthers k s.trades.trading.requests)
+    (empty : (j : ℕ) → j < 8 → content_at s (InSession k j) ≡ Empty) (none : AreOfOthers k s.trades.trading.requests)
     (c : Closes s.trades.trading v k) where
   abbrev q : Session
   q = session_at s.trades.trading k
@@ -251,7 +252,7 @@ module _ (s : Slots) (v : Trading) (k : ℕ) (i : IsSlots s) (w : IsTrading s.tr
   free_call : IsCall s m (InObject k) h h q.object Empty
   free_call = record {
     spot = there;
-    thing = refl;
+    content = refl;
     heap = heap_here.is;
     others = others_stay s m (InObject k) i w below (λ b ne. c.frees.others.stores b ne);
     quotas = record {
@@ -276,19 +277,19 @@ module _ (s : Slots) (v : Trading) (k : ℕ) (i : IsSlots s) (w : IsTrading s.tr
         unmade = other_unmade s.trades.trading.sessions k (with_object q Empty) s.trades.trading.requests none i.sound.unmade;
       }) (stays_raised s m (InObject k) h h q.object Empty i w below free_call (λ a. omega arith)) (λ e. e))
 
-  freed_puts : Puts s freed (InObject k) world.Empty
+  freed_puts : PutsSlot s freed (InObject k) world.Empty
   freed_puts =
-      subst (λ n. Puts s n (InObject k) world.Empty) freed_is (puts_then s m (InObject k) h h q.object Empty i w below free_call refl)
+      subst (λ n. PutsSlot s n (InObject k) world.Empty) freed_is (puts_then s m (InObject k) h h q.object Empty i w below free_call refl)
 
   -- and the session is gone
   abbrev ended : Slots
   ended =
       with_trades s (with_sessions (given (with_memory s.trades.trading m) x q.client q.donation) (set s.trades.trading.sessions k None))
 
-  things_alike : (y : ℕ) → Alike (things freed y) (things ended y)
-  things_alike y =
+  contents_alike : (y : ℕ) → Alike (contents freed y) (contents ended y)
+  contents_alike y =
       let ss = s.trades.trading.sessions in
-      alike_behind (get_or s.own y []) (session_things y (set ss k (Some (with_object q Empty)))) (session_things y (set ss k None))
+      alike_behind (get_or s.own y []) (session_contents y (set ss k (Some (with_object q Empty)))) (session_contents y (set ss k None))
       (gone y k ss (with_object q Empty) (taken_below ss k there) refl (all_empty 8 q.slots (i.long.slots k there) empty))
 
   module _ (b : IsBalanced s.trades.trading.memory.ledger) (d : IsBalanced ended.trades.trading.memory.ledger)
@@ -304,7 +305,7 @@ module _ (s : Slots) (v : Trading) (k : ℕ) (i : IsSlots s) (w : IsTrading s.tr
             objects = left_objects t.sessions k i.sound.objects;
             unmade = left_unmade t.sessions k t.requests none i.sound.unmade;
           };
-          holders = λ y g lt. holder_alike freed ended y (get_or s.heaps y g) (λ z. record { size = refl; bytes = λ o. refl }) (things_alike y)
+          holders = λ y g lt. holder_alike freed ended y (get_or s.heaps y g) (λ z. record { size = refl; bytes = λ o. refl }) (contents_alike y)
               (used_kept m.ledger.accounts (account_of t x) (account_of t q.client) q.donation (account_of t y) vo co) refl
               (freed_within t m x q.object b c.frees (account_of t y)) (within ended.trades.trading.memory.ledger (account_of t y) d)
               (freed_slots.holders y g lt);
@@ -343,7 +344,7 @@ same_slots : (s : Slots) (v : Trades) (t : Trading) → v.trading ≡ t → v.no
 same_slots s v t e n = λ z. of_parts (record { trading = e z; nodes = n z }) s.own s.heaps
 
 pub closed_kept : {A E : Type 0} (res : Result A E) (s : Slots) (v : Trades) (k : ℕ) → IsSlots s → IsTrading s.trades.trading → IsTrades s.trades
-    → IsTaken s.trades.trading.sessions k → ((j : ℕ) → j < 8 → thing_at s (InSession k j) ≡ Empty) → AreOfOthers k s.trades.trading.requests
+    → IsTaken s.trades.trading.sessions k → ((j : ℕ) → j < 8 → content_at s (InSession k j) ≡ Empty) → AreOfOthers k s.trades.trading.requests
     → IsBalanced s.trades.trading.memory.ledger → IsBalanced v.trading.memory.ledger → v.nodes ≡ s.trades.nodes
     → OnOk res (Closes s.trades.trading v.trading k) → OnErr res (v ≡ s.trades) → IsSlots (of_parts v s.own s.heaps)
 closed_kept (Ok a) s v k i w t there empty none b d n c err =
@@ -360,7 +361,7 @@ closed_kept (Ok a) s v k i w t there empty none b d n c err =
 closed_kept (Err e) s v k i w t there empty none b d n c err = subst (λ y. IsSlots (of_parts y s.own s.heaps)) (sym err) i
 
 pub closed_ends : {A E : Type 0} (res : Result A E) (z s : Slots) (v : Trades) (k : ℕ) → s ≡ z → IsSlots s → IsTrading s.trades.trading
-    → IsTaken s.trades.trading.sessions k → ((j : ℕ) → j < 8 → thing_at s (InSession k j) ≡ Empty) → AreOfOthers k s.trades.trading.requests
+    → IsTaken s.trades.trading.sessions k → ((j : ℕ) → j < 8 → content_at s (InSession k j) ≡ Empty) → AreOfOthers k s.trades.trading.requests
     → v.nodes ≡ s.trades.nodes → OnOk res (Closes s.trades.trading v.trading k) → OnOk res (EndsSession z (of_parts v s.own s.heaps) k)
 closed_ends (Ok a) z s v k same i w there empty none n c =
     let e = ended s v.trading k i w there empty none c in

@@ -15,9 +15,9 @@ use Rattle.gq_ram.proofs.Moves.{used_kept}
 use Rattle.gq_trade.specs.Stores.{Memory, content_for}
 use Rattle.gq_trade.specs.Rest.{IsClosed}
 use Rattle.gq_trade.specs.Numbers.{IsTaken}
-use Rattle.gq_contents.specs.declared.thing.Thing.{Thing}
-use Rattle.gq_contents.specs.declared.thing.Thing.TheVariants.{Empty, Block, Slice, Space, Pool, Link, Waiting}
-use Rattle.gq_contents.specs.Things.{seen}
+use Rattle.gq_contents.specs.declared.content.Content.{Content}
+use Rattle.gq_contents.specs.declared.content.Content.TheVariants.{Empty, Block, Slice, Space, Pool, Link, Waiting}
+use Rattle.gq_contents.specs.Contents.{seen}
 use Rattle.gq_trade.specs.declared.session.Session.{Session}
 use Rattle.gq_trade.specs.declared.session.Spot.{Spot}
 use Rattle.gq_trade.specs.declared.session.Spot.TheVariants.{InLeaf, InSession, InObject}
@@ -32,8 +32,8 @@ use Rattle.gq_trade.proofs.Kept.{live_open}
 use Rattle.gq_trade.proofs.Leaving.{can_start, i_open, if_follower, left_kept, p_open}
 use Rattle.gq_slots.specs.Slots.{Frame, IsNew, IsSpot, Slots, holder, leaf_seen, leaves_seen, memory_of, world_seen}
 use Rattle.gq_slots.specs.Session_calls.{EndsLeaf, bare_in, emptied}
-use Rattle.gq_slots.specs.internal.Holds.{IsHolder, IsSlots, session_things, things}
-use Rattle.gq_slots.proofs.Spots.{things_none}
+use Rattle.gq_slots.specs.internal.Holds.{IsHolder, IsSlots, session_contents, contents}
+use Rattle.gq_slots.proofs.Spots.{contents_none}
 use Rattle.gq_slots.proofs.Worlds.{leaf_at}
 use Rattle.gq_slots.proofs.Alike.{alike_is, holder_alike, within}
 use Rattle.gq_slots.proofs.Answering.{of_parts}
@@ -128,13 +128,13 @@ module _ (s : Trades) (h : IsTrades s) (w : IsTrading s.trading) (b : IsBalanced
 
 -- THINGS
 
-nothing_to : (x : ℕ) (ss : List (Option Session)) → ((k : ℕ) → IsTaken ss k → (session_in ss k).server ≡ x → ⊥) → session_things x ss ≡ []
+nothing_to : (x : ℕ) (ss : List (Option Session)) → ((k : ℕ) → IsTaken ss k → (session_in ss k).server ≡ x → ⊥) → session_contents x ss ≡ []
 nothing_to x [] none = refl
 nothing_to x (None ∷ ss) none = nothing_to x ss (λ k t. none (suc k) t)
-nothing_to x (Some q ∷ ss) none = ap (λ ts. ts ++ session_things x ss) (things_none x q (none zero refl)) ∙ nothing_to x ss (λ k t. none (suc k) t)
+nothing_to x (Some q ∷ ss) none = ap (λ ts. ts ++ session_contents x ss) (contents_none x q (none zero refl)) ∙ nothing_to x ss (λ k t. none (suc k) t)
 
 -- the same bytes, whatever is left to pay
-left_seen : (old new : Store) (t : Thing) → ((k : ℕ) → new.size k ≡ old.size k) → ((k i : ℕ) → new.byte k i ≡ old.byte k i) → seen new t ≡ seen old t
+left_seen : (old new : Store) (t : Content) → ((k : ℕ) → new.size k ≡ old.size k) → ((k i : ℕ) → new.byte k i ≡ old.byte k i) → seen new t ≡ seen old t
 left_seen old new Empty size byte = refl
 left_seen old new (Block p n) size byte = λ z. seen (record old { size = λ k. size k z; byte = λ k i. byte k i z }) (Block p n)
 left_seen old new (Slice k n) size byte = λ z. seen (record old { size = λ j. size j z; byte = λ j i. byte j i z }) (Slice k n)
@@ -146,17 +146,17 @@ left_seen old new (Waiting k) size byte = refl
 -- THE WORLD
 
 abbrev AreSame : (ℕ → Store) → (ℕ → Store) → ℕ → ℕ → Type 0
-AreSame old new n x = (y : ℕ) → y < n → (y ≡ x → ⊥) → (t : Thing) → seen (new y) t ≡ seen (old y) t
+AreSame old new n x = (y : ℕ) → y < n → (y ≡ x → ⊥) → (t : Content) → seen (new y) t ≡ seen (old y) t
 
-leaves_alike : (leaf : ℕ → world.Leaf) (old new : ℕ → Store) (own : List (List Thing)) (hs : List Heap)
-    → ((y : ℕ) → y < length own → (t : Thing) → seen (new y) t ≡ seen (old y) t) → leaves_seen leaf new own hs ≡ leaves_seen leaf old own hs
+leaves_alike : (leaf : ℕ → world.Leaf) (old new : ℕ → Store) (own : List (List Content)) (hs : List Heap)
+    → ((y : ℕ) → y < length own → (t : Content) → seen (new y) t ≡ seen (old y) t) → leaves_seen leaf new own hs ≡ leaves_seen leaf old own hs
 leaves_alike leaf old new [] hs same = refl
 leaves_alike leaf old new (ts ∷ own) [] same = refl
 leaves_alike leaf old new (ts ∷ own) (h ∷ hs) same =
     let f = leaves_alike (λ y. leaf (suc y)) (λ y. old (suc y)) (λ y. new (suc y)) own hs (λ y lt t. same (suc y) (omega (arith, lt)) t) in
     λ k. record (leaf 0) { slots = map (λ t. same zero (omega arith) t k) ts; peaks = peaks h } ∷ f k
 
-leaves_bare : (leaf : ℕ → world.Leaf) (old new : ℕ → Store) (own : List (List Thing)) (hs : List Heap) (x : ℕ) (ts : List Thing) (h : Heap) → x < length own
+leaves_bare : (leaf : ℕ → world.Leaf) (old new : ℕ → Store) (own : List (List Content)) (hs : List Heap) (x : ℕ) (ts : List Content) (h : Heap) → x < length own
     → length hs ≡ length own → AreSame old new (length own) x
     → leaves_seen leaf new (set own x ts) (set hs x h) ≡ set (leaves_seen leaf old own hs) x (leaf_seen (leaf x) (new x) ts h)
 leaves_bare leaf old new [] hs x ts h lt e same = absurd (omega (arith, lt))
@@ -223,7 +223,7 @@ module _ (s : Slots) (x : ℕ) (h : Heap) (v : Trades) (i : IsSlots s) (w : IsTr
     other_holder : (y : ℕ) (g : Heap) → y < length s.own → (y ≡ x → ⊥) → IsHolder then_ y (get_or s.heaps y g)
     other_holder y g lt ne =
         holder_alike s then_ y (get_or s.heaps y g) (λ k. record { size = same_size y lt ne k; bytes = same_byte y lt ne k })
-        (alike_is (things s y) (things then_ y) (ap (λ ts. ts ++ session_things y s.trades.trading.sessions)
+        (alike_is (contents s y) (contents then_ y) (ap (λ ts. ts ++ session_contents y s.trades.trading.sessions)
         (get_or-set_other s.own x y (replicate 64 Empty) [] ne))) (l.used y (at_leaf y lt) ne) l.price
         (within s.trades.trading.memory.ledger (account_of s.trades.trading y) b) (within m.ledger (account_of s.trades.trading y) d) (i.holders y g lt)
 
@@ -280,7 +280,8 @@ ended_left : (s v : Trades) (x : ℕ) → IsTrades s → IsTrading s.trading →
 ended_left s v x h w b live alone e =
     subst (λ (y : Trades). IsLeft s.trading y.trading x) (sym e.is) (its_left s h w b x live alone e.between e.leaves)
 
-same_slots : (s : Slots) (v : Trades) (own : List (List Thing)) (hs : List Heap) (x : ℕ) (h : Heap) → v.trading ≡ with_memory s.trades.trading v.trading.memory
+same_slots : (s : Slots) (v : Trades) (own : List (List Content)) (hs : List Heap) (x : ℕ) (h : Heap)
+    → v.trading ≡ with_memory s.trades.trading v.trading.memory
     → own ≡ set s.own x (replicate 64 Empty) → hs ≡ set s.heaps x h → of_parts v own hs ≡ record {
       trades = record { trading = with_memory s.trades.trading v.trading.memory; nodes = v.nodes };
       own = set s.own x (replicate 64 Empty);
@@ -288,7 +289,7 @@ same_slots : (s : Slots) (v : Trades) (own : List (List Thing)) (hs : List Heap)
     }
 same_slots s v own hs x h e f g = λ z. record { trades = record { trading = e z; nodes = v.nodes }; own = f z; heaps = g z }
 
-pub ended_kept : (s : Slots) (v : Trades) (own : List (List Thing)) (hs : List Heap) (x : ℕ) (h : Heap) → IsSlots s → IsTrades s.trades
+pub ended_kept : (s : Slots) (v : Trades) (own : List (List Content)) (hs : List Heap) (x : ℕ) (h : Heap) → IsSlots s → IsTrades s.trades
     → IsTrading s.trades.trading → IsBalanced s.trades.trading.memory.ledger → IsBalanced v.trading.memory.ledger → IsLive s.trades x
     → HasNoSessions s.trades.trading x → Ends s.trades v x → IsNew h → own ≡ set s.own x (replicate 64 Empty) → hs ≡ set s.heaps x h
     → IsSlots (of_parts v own hs)
@@ -296,7 +297,7 @@ ended_kept s v own hs x h i t w b d live alone e new f g =
     let l = ended_left s.trades v x t w b live alone e in
     subst IsSlots (sym (same_slots s v own hs x h l.is f g)) (then_kept s x h v i w live.there alone new l b d)
 
-pub leaf_ends : (z s : Slots) (v : Trades) (own : List (List Thing)) (hs : List Heap) (x : ℕ) (h : Heap) → s ≡ z → IsSlots s → IsTrades s.trades
+pub leaf_ends : (z s : Slots) (v : Trades) (own : List (List Content)) (hs : List Heap) (x : ℕ) (h : Heap) → s ≡ z → IsSlots s → IsTrades s.trades
     → IsTrading s.trades.trading → IsBalanced s.trades.trading.memory.ledger → IsLive s.trades x → HasNoSessions s.trades.trading x
     → Ends s.trades v x → IsNew h → own ≡ set s.own x (replicate 64 Empty) → hs ≡ set s.heaps x h → EndsLeaf z (of_parts v own hs) x
 leaf_ends z s v own hs x h q i t w b live alone e new f g =

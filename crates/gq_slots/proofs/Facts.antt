@@ -14,8 +14,8 @@ use Rattle.gq_store.specs.Store.{Store, plus_caps}
 use Rattle.gq_model.specs.machine.Prices.{heap as class_prices}
 use Rattle.gq_heap.specs.declared.heap.Heap.{Heap}
 use Rattle.gq_heap.specs.Heap.{peaks}
-use Rattle.gq_contents.specs.declared.thing.Thing.{Thing}
-use Rattle.gq_contents.specs.Things.{put_in, removed, seen, with_entry}
+use Rattle.gq_contents.specs.declared.content.Content.{Content}
+use Rattle.gq_contents.specs.Contents.{put_in, removed, seen, with_entry}
 use Rattle.gq_contents.specs.Paid.{cost_with, Pays}
 
 pub price_put : (r : Resource) (i : ℕ) (bs : List ℕ) (slot : world.Slot) → slot_price r (put_in i bs slot) ≡ slot_price r slot
@@ -82,7 +82,7 @@ entry_same k b n None = omega arith
 entry_same k b n (Some bytes) = omega arith
 
 -- nothing is paid where what is there costs the same
-pub pays_none : (h : Heap) (old new : Store) (t : Thing) → ((r : Resource) → slot_price r (seen new t) ≡ slot_price r (seen old t)) → new.left ≡ old.left
+pub pays_none : (h : Heap) (old new : Store) (t : Content) → ((r : Resource) → slot_price r (seen new t) ≡ slot_price r (seen old t)) → new.left ≡ old.left
     → new.caps ≡ old.caps → Pays h h old new t t
 pays_none h old new t same left caps = record {
   ram = omega (arith, same Ram, left);

@@ -9,8 +9,8 @@ use Rattle.gq_store.specs.Store.{Store, plus_caps}
 use Rattle.gq_heap.specs.declared.heap.Heap.{Heap}
 use Rattle.gq_ram.specs.Entries.{no_amount}
 use Rattle.gq_trade.specs.Numbers.{IsTaken}
-use Rattle.gq_contents.specs.declared.thing.Thing.TheVariants.{Empty}
-use Rattle.gq_contents.specs.Kept.{Keeps}
+use Rattle.gq_contents.specs.declared.content.Content.TheVariants.{Empty}
+use Rattle.gq_contents.specs.Kept.{KeepsContents}
 use Rattle.gq_contents.specs.Paid.{cost, places_used, raised_by}
 use Rattle.gq_contents.proofs.Callers.{empty_kept}
 use Rattle.gq_trade.specs.Trading.{its_account, node_of}
@@ -18,7 +18,7 @@ use Rattle.gq_trade.specs.declared.session.Session.{Session}
 use Rattle.gq_trade.specs.declared.node.Node.{Node}
 use Rattle.gq_trade.specs.Plans.{IsFirst, IsPlan}
 use Rattle.gq_slots.specs.Slots.{AreNew, IsNew, Slots, memory_of}
-use Rattle.gq_slots.specs.internal.Holds.{AreObjects, AreUnmade, IsHolder, IsSlots, held_by, session_things, things}
+use Rattle.gq_slots.specs.internal.Holds.{AreObjects, AreUnmade, IsHolder, IsSlots, held_by, session_contents, contents}
 use Rattle.gq_slots.proofs.Sums.{raised_same}
 
 new_one : (hs : List Heap) (g : Heap) → IsNew g → ((x : ℕ) (h : Heap) → x < length hs → IsNew (get_or hs x h))
@@ -61,26 +61,26 @@ none_taken zero t = cc
 none_taken (suc k) t = cc
 
 -- an empty leaf x, whose heap is new, with nothing in use
-module _ (s : Slots) (x : ℕ) (h : Heap) (own : get_or s.own x [] ≡ replicate 64 Empty) (none : session_things x s.trades.trading.sessions ≡ [])
+module _ (s : Slots) (x : ℕ) (h : Heap) (own : get_or s.own x [] ≡ replicate 64 Empty) (none : session_contents x s.trades.trading.sessions ≡ [])
     (new : IsNew h)
     (unused : (its_account s.trades.trading x).used ≡ no_amount) where
-  things_are : things s x ≡ replicate 64 Empty
-  things_are = (λ k. own k ++ none k) ∙ append-nil (replicate 64 Empty)
+  contents_are : contents s x ≡ replicate 64 Empty
+  contents_are = (λ k. own k ++ none k) ∙ append-nil (replicate 64 Empty)
 
   held_none : (r : Resource) → held_by r s x h ≡ 0
   held_none r =
-      let a = ap (cost r (memory_of s x)) things_are in
+      let a = ap (cost r (memory_of s x)) contents_are in
       let b = ap (class_prices r) new.peaks in
       omega (arith, a, b, no_cost r (memory_of s x) 64, no_prices r)
 
   pub holder_first : IsHolder s x h
   holder_first = record {
-    keeps = subst (Keeps h (memory_of s x)) (sym things_are) (empty_kept h (memory_of s x) 64 (new.keeps (memory_of s x)));
+    keeps = subst (KeepsContents h (memory_of s x)) (sym contents_are) (empty_kept h (memory_of s x) 64 (new.keeps (memory_of s x)));
     ram = omega (arith, held_none Ram, ap (λ a. a.ram) unused);
     caps = ap (λ n. plus_caps n (memory_of s x).caps) (held_none Caps)
         ∙ no_caps (its_account s.trades.trading x).quota.caps (its_account s.trades.trading x).used.caps (eqb s.trades.trading.memory.ledger.price 0)
         (ap (λ a. a.caps) unused);
-    peaked = (λ k. raised_by (places_used (memory_of s x) (things_are k)) classes (new.peaks k))
+    peaked = (λ k. raised_by (places_used (memory_of s x) (contents_are k)) classes (new.peaks k))
         ∙ raised_same (places_used (memory_of s x) (replicate 64 Empty)) (λ c. 0) classes (replicate 8 0) (no_places (memory_of s x) 64) ∙ sym new.peaks;
     eight = ap length new.peaks;
   }
@@ -102,6 +102,6 @@ first_slots total caps ps ns xs os n s plan first own new =
         objects = subst AreObjects (sym first.sessions) tt;
         unmade = subst (AreUnmade s.trades.trading.sessions) (sym first.requests) tt;
       };
-      holders = λ x h lt. holder_first s x (get_or s.heaps x h) (bank x lt) (ap (session_things x) first.sessions) (new.each x h (omega (arith, lt, count)))
+      holders = λ x h lt. holder_first s x (get_or s.heaps x h) (bank x lt) (ap (session_contents x) first.sessions) (new.each x h (omega (arith, lt, count)))
           (first.unused (node_of s.trades.trading x) (subst (λ ys. get_or ys x 0 < length ps) (sym first.leaves) (plan.within x (omega (arith, lt, count)))));
     }

@@ -11,18 +11,18 @@ use Rattle.gq_model.specs.machine.Memory.{bytes_spot}
 use Rattle.gq_model.specs.machine.World as world
 use Rattle.gq_store.specs.Store.{Store}
 use Rattle.gq_store.proofs.Lists.{length-listed}
-use Rattle.gq_contents.specs.declared.thing.Thing.{Thing}
-use Rattle.gq_contents.specs.declared.thing.Thing.TheVariants.{Empty, Block, Slice, Space, Pool, Link, Waiting}
-use Rattle.gq_contents.specs.Things.{bytes_in, put_in, seen, size_of}
+use Rattle.gq_contents.specs.declared.content.Content.{Content}
+use Rattle.gq_contents.specs.declared.content.Content.TheVariants.{Empty, Block, Slice, Space, Pool, Link, Waiting}
+use Rattle.gq_contents.specs.Contents.{bytes_in, put_in, seen, size_of}
 use Rattle.gq_trade.specs.declared.session.Spot.{Spot}
 use Rattle.gq_trade.specs.Seen.{spot_seen}
-use Rattle.gq_slots.specs.Slots.{Frame, Slots, holder, memory_of, slot_of, thing_at, world_seen}
-use Rattle.gq_slots.specs.Calls.{Puts}
+use Rattle.gq_slots.specs.Slots.{Frame, Slots, holder, memory_of, slot_of, content_at, world_seen}
+use Rattle.gq_slots.specs.Calls.{PutsSlot}
 use Rattle.gq_slots.specs.Addresses.{AreFound, AreThere, byte_of, bytes_behind, bytes_of, bytes_there, four_in, number_of, place_seen, put_behind}
 use Rattle.gq_slots.specs.Addresses.{put_slot, put_there}
 
 -- it has as many bytes as it says
-pub length_seen : (st : Store) (t : Thing) → length (bytes_in (seen st t)) ≡ size_of t
+pub length_seen : (st : Store) (t : Content) → length (bytes_in (seen st t)) ≡ size_of t
 length_seen st Empty = refl
 length_seen st (Block p n) = length-listed n _
 length_seen st (Slice k n) = length-listed n _
@@ -42,14 +42,14 @@ module _ (system : System) (w : world.World) (s : Slots) (p : Spot) (i n : ℕ) 
       let long : length (bytes_behind system w (spot_seen p)) ≡ 0 = ap (λ y. length (bytes_there w y)) (sym f) in
       subst (AreFound system w s p i n) (sym e) (omega (arith, long, lt))
 
-  slot_is : (q : Spot) (t : Thing) → t ≡ thing_at s q → world.slot_at w (spot_seen q) ≡ Some (seen (memory_of s (holder s q)) t)
+  slot_is : (q : Spot) (t : Content) → t ≡ content_at s q → world.slot_at w (spot_seen q) ≡ Some (seen (memory_of s (holder s q)) t)
       → world.slot_at w (spot_seen q) ≡ Some (slot_of s q)
   slot_is q t e r = r ∙ ap (λ y. Some (seen (memory_of s (holder s q)) y)) e
 
-  pub found_some : (o : Option Spot) (q : Spot) (t : Thing) → o ≡ Some q → place_seen o ≡ there → t ≡ thing_at s q
+  pub found_some : (o : Option Spot) (q : Spot) (t : Content) → o ≡ Some q → place_seen o ≡ there → t ≡ content_at s q
       → world.slot_at w (spot_seen q) ≡ Some (seen (memory_of s (holder s q)) t) → i + n ≤ size_of t → AreFound system w s p i n (Some (q, i))
   found_some o q t e f g r le =
-      let size = length_seen (memory_of s (holder s q)) (thing_at s q) in
+      let size = length_seen (memory_of s (holder s q)) (content_at s q) in
       let same = ap size_of g in
       record {
         place = sym f ∙ ap place_seen e;
@@ -58,10 +58,10 @@ module _ (system : System) (w : world.World) (s : Slots) (p : Spot) (i n : ℕ) 
         long = omega (arith, size, same, le);
       }
 
-  pub found_short : (o : Option Spot) (q : Spot) (t : Thing) → o ≡ Some q → place_seen o ≡ there → t ≡ thing_at s q
+  pub found_short : (o : Option Spot) (q : Spot) (t : Content) → o ≡ Some q → place_seen o ≡ there → t ≡ content_at s q
       → world.slot_at w (spot_seen q) ≡ Some (seen (memory_of s (holder s q)) t) → size_of t < i + n → AreFound system w s p i n None
   found_short o q t e f g r lt =
-      let size = length_seen (memory_of s (holder s q)) (thing_at s q) in
+      let size = length_seen (memory_of s (holder s q)) (content_at s q) in
       let same = ap size_of g in
       let bytes : bytes_behind system w (spot_seen p) ≡ bytes_in (slot_of s q) =
       ap (bytes_there w) (sym f ∙ ap place_seen e) ∙ ap bytes_of (slot_is q t g r) in
@@ -77,7 +77,7 @@ module _ (system : System) (w : world.World) (s : Slots) (p : Spot) (i n : ℕ) 
   fits (Some f) a = let e = ap length (bytes_are f.0 f.1 a) in let l = a.long in grind (arith, nat_tests, e, l)
 
   pub stored : (f : Frame) (b : Slots) (bs : List ℕ) (o : Option (Spot × ℕ)) → w ≡ world_seen f s → AreFound system w s p i n o
-      → IfSome o (λ g. Puts s b g.0 (put_in g.1 bs (slot_of s g.0))) → IsTrue (is_some o) → world_seen f b ≡ put_behind system w (spot_seen p) i bs
+      → IfSome o (λ g. PutsSlot s b g.0 (put_in g.1 bs (slot_of s g.0))) → IsTrue (is_some o) → world_seen f b ≡ put_behind system w (spot_seen p) i bs
   stored f b bs None e a h t = cc
   stored f b bs (Some g) e a h t =
       h.seen_so f ∙ ap (λ y. world.with_slot y (spot_seen g.0) (put_in g.1 bs (slot_of s g.0))) (sym e)

@@ -6,22 +6,22 @@ use Rattle.gq_model.specs.machine.Sums.{slot_price, slot_places}
 use Rattle.gq_store.specs.Store.{Store, plus_caps}
 use Rattle.gq_heap.specs.declared.heap.Heap.{Heap}
 use Rattle.gq_heap.specs.Heap.{peaks}
-use Rattle.gq_contents.specs.declared.thing.Thing.{Thing}
-use Rattle.gq_contents.specs.declared.thing.Thing.TheVariants.{Empty, Block, Slice, Space, Pool, Link, Waiting}
-use Rattle.gq_contents.specs.Things.{seen}
+use Rattle.gq_contents.specs.declared.content.Content.{Content}
+use Rattle.gq_contents.specs.declared.content.Content.TheVariants.{Empty, Block, Slice, Space, Pool, Link, Waiting}
+use Rattle.gq_contents.specs.Contents.{seen}
 use Rattle.gq_contents.specs.Paid.{Pays}
 use Rattle.gq_contents.proofs.Calls.{HoldsNone, empty_holds, link_holds, none_holds, waiting_holds}
 use Rattle.gq_trade.specs.declared.session.Spot.{Spot}
 use Rattle.gq_trade.specs.Trading.{IsTrading}
 use Rattle.gq_trade.specs.Trades.{Trades, with_trading}
-use Rattle.gq_slots.specs.Slots.{Slots, IsHeapOf, IsMark, IsSlot, IsSpot, holder, memory_of, thing_at}
-use Rattle.gq_slots.specs.Calls.{Puts}
+use Rattle.gq_slots.specs.Slots.{Slots, IsHeapOf, IsMark, IsSlot, IsSpot, holder, memory_of, content_at}
+use Rattle.gq_slots.specs.Calls.{PutsSlot}
 use Rattle.gq_slots.specs.internal.Holds.{IsSlots}
 use Rattle.gq_slots.specs.internal.Put.{put, put_own, put_trading, with_store}
 use Rattle.gq_slots.proofs.Changing.{IsCall, kept_then, puts_then, stays_raised}
 use Rattle.gq_slots.proofs.Answering.{of_parts, same_heap, sound_put, with_sound}
 
-mark_holds : (t : Thing) → IsMark t → HoldsNone t
+mark_holds : (t : Content) → IsMark t → HoldsNone t
 mark_holds Empty m = empty_holds
 mark_holds (Block p n) m = absurd m
 mark_holds (Slice k n) m = absurd m
@@ -30,7 +30,7 @@ mark_holds (Pool p) m = absurd m
 mark_holds (Link k) m = link_holds k
 mark_holds (Waiting k) m = waiting_holds k
 
-mark_price : (r : Resource) (st : Store) (t : Thing) → IsMark t → slot_price r (seen st t) ≡ 0
+mark_price : (r : Resource) (st : Store) (t : Content) → IsMark t → slot_price r (seen st t) ≡ 0
 mark_price r st Empty m = refl
 mark_price r st (Block p n) m = absurd m
 mark_price r st (Slice k n) m = absurd m
@@ -39,7 +39,7 @@ mark_price r st (Pool p) m = absurd m
 mark_price r st (Link k) m = refl
 mark_price r st (Waiting k) m = refl
 
-mark_places : (c : ℕ) (st : Store) (t : Thing) → IsMark t → slot_places c (seen st t) ≡ 0
+mark_places : (c : ℕ) (st : Store) (t : Content) → IsMark t → slot_places c (seen st t) ≡ 0
 mark_places c st Empty m = refl
 mark_places c st (Block p n) m = absurd m
 mark_places c st (Slice k n) m = absurd m
@@ -48,17 +48,17 @@ mark_places c st (Pool p) m = absurd m
 mark_places c st (Link k) m = refl
 mark_places c st (Waiting k) m = refl
 
-mark_pays : (h : Heap) (st : Store) (t u : Thing) → IsMark t → IsMark u → Pays h h st st t u
+mark_pays : (h : Heap) (st : Store) (t u : Content) → IsMark t → IsMark u → Pays h h st st t u
 mark_pays h st t u a b = record {
   ram = omega (arith, mark_price Ram st t a, mark_price Ram st u b);
   caps = ap (λ n. plus_caps (n + class_prices Caps (peaks h)) st.caps) (mark_price Caps st u b ∙ sym (mark_price Caps st t a));
 }
 
-mark_call : (s : Slots) (p : Spot) (h : Heap) (t u : Thing) → IsSpot s p → t ≡ thing_at s p → IsHeapOf s (holder s p) h → IsMark t → IsMark u
+mark_call : (s : Slots) (p : Spot) (h : Heap) (t u : Content) → IsSpot s p → t ≡ content_at s p → IsHeapOf s (holder s p) h → IsMark t → IsMark u
     → IsCall s s.trades.trading.memory p h h t u
 mark_call s p h t u there is heap a b = record {
   spot = there;
-  thing = sym is;
+  content = sym is;
   heap = heap;
   others = λ y lt ne. refl;
   quotas = record { payer = refl; price = refl; quota = λ a. refl };
@@ -67,13 +67,13 @@ mark_call s p h t u there is heap a b = record {
 }
 
 -- where the slots are as before but for one
-same_parts : (s : Slots) (p : Spot) (h : Heap) (u : Thing) → IsHeapOf s (holder s p) h
+same_parts : (s : Slots) (p : Spot) (h : Heap) (u : Content) → IsHeapOf s (holder s p) h
     → put (with_store s s.trades.trading.memory (holder s p) h) p u ≡ put s p u
 same_parts s p h u e = ap (λ hs. put (record { trades = s.trades; own = s.own; heaps = hs }) p u) (same_heap s (holder s p) h e)
 
-pub marked : (s : Slots) (p : Spot) (h : Heap) (t u : Thing) → IsSlots s → IsTrading s.trades.trading → holder s p < length s.own → IsSlot p → IsSpot s p
-    → t ≡ thing_at s p → IsHeapOf s (holder s p) h → IsMark t → IsMark u
-    → IsSlots (put s p u) × Puts s (put s p u) p (seen (memory_of s (holder s p)) u)
+pub marked : (s : Slots) (p : Spot) (h : Heap) (t u : Content) → IsSlots s → IsTrading s.trades.trading → holder s p < length s.own → IsSlot p → IsSpot s p
+    → t ≡ content_at s p → IsHeapOf s (holder s p) h → IsMark t → IsMark u
+    → IsSlots (put s p u) × PutsSlot s (put s p u) p (seen (memory_of s (holder s p)) u)
 marked s p h t u i w lt l there is heap a b =
     let m = s.trades.trading.memory in
     let c = mark_call s p h t u there is heap a b in
@@ -82,21 +82,22 @@ marked s p h t u i w lt l there is heap a b =
       subst IsSlots (same_parts s p h u heap)
           (kept_then s m p h h t u i w lt c (sound_put (with_store s m (holder s p) h) p u l (with_sound s m (holder s p) h i.sound)) up
           (λ e. e)),
-      subst (λ n. Puts s n p (seen st u)) (same_parts s p h u heap) (puts_then s m p h h t u i w lt c refl),
+      subst (λ n. PutsSlot s n p (seen st u)) (same_parts s p h u heap) (puts_then s m p h h t u i w lt c refl),
     )
 
 -- as the contract says it
-pub marks : (z s : Slots) (v : Trades) (own : List (List Thing)) (p : Spot) (h : Heap) (t u : Thing) (x : ℕ) → s ≡ z → IsSlots s → IsTrading s.trades.trading
-    → IsSlot p → IsSpot z p → x ≡ holder z p → x < length z.own → t ≡ thing_at z p → h ≡ get_or s.heaps x h → IsMark (thing_at z p) → IsMark u
+pub marks : (z s : Slots) (v : Trades) (own : List (List Content)) (p : Spot) (h : Heap) (t u : Content) (x : ℕ) → s ≡ z → IsSlots s
+    → IsTrading s.trades.trading
+    → IsSlot p → IsSpot z p → x ≡ holder z p → x < length z.own → t ≡ content_at z p → h ≡ get_or s.heaps x h → IsMark (content_at z p) → IsMark u
     → v ≡ with_trading s.trades (put_trading s.trades.trading p u) → own ≡ put_own s.own p u
-    → IsSlots (of_parts v own s.heaps) × Puts z (of_parts v own s.heaps) p (seen (memory_of z (holder z p)) u)
+    → IsSlots (of_parts v own s.heaps) × PutsSlot z (of_parts v own s.heaps) p (seen (memory_of z (holder z p)) u)
 marks z s v own p h t u x e i w l spot at lt is heap a b ws os =
     let there = subst (λ y. IsSpot y p) (sym e) spot in
     let below = subst (λ y. holder y p < length y.own) (sym e) (subst (λ y. y < length z.own) at lt) in
     let its = subst (λ y. IsHeapOf s y h) (at ∙ ap (λ y. holder y p) (sym e)) (sym heap) in
     let n : of_parts v own s.heaps ≡ put s p u = λ k. record { trades = ws k; own = os k; heaps = s.heaps } in
-    let m = marked s p h t u i w below l there (is ∙ ap (λ y. thing_at y p) (sym e)) its (subst IsMark (sym is) a) b in (
+    let m = marked s p h t u i w below l there (is ∙ ap (λ y. content_at y p) (sym e)) its (subst IsMark (sym is) a) b in (
       subst IsSlots (sym n) m.0,
-      subst (λ y. Puts y (of_parts v own s.heaps) p (seen (memory_of y (holder y p)) u)) e
-          (subst (λ y. Puts s y p (seen (memory_of s (holder s p)) u)) (sym n) m.1),
+      subst (λ y. PutsSlot y (of_parts v own s.heaps) p (seen (memory_of y (holder y p)) u)) e
+          (subst (λ y. PutsSlot s y p (seen (memory_of s (holder s p)) u)) (sym n) m.1),
     )

@@ -10,14 +10,14 @@ use Rattle.gq_store.specs.Store.{Store, plus_caps}
 use Rattle.gq_heap.specs.declared.heap.Heap.{Heap}
 use Rattle.gq_heap.specs.Heap.{peaks}
 use Rattle.gq_ram.specs.Ledgers.{IsBalanced}
-use Rattle.gq_contents.specs.declared.thing.Thing.{Thing}
+use Rattle.gq_contents.specs.declared.content.Content.{Content}
 use Rattle.gq_trade.specs.Trading.{account_of, its_account}
 use Rattle.gq_slots.specs.Slots.{Slots, Frame, IsPaidFor, leaf_seen, leaves_seen, memory_of, world_seen}
 use Rattle.gq_slots.specs.internal.Holds.{IsHolder, IsSlots, held_by}
 use Rattle.gq_slots.proofs.Sums.{held_is, raised_is}
 use Rattle.gq_slots.proofs.Worlds.{leaf_at}
 
-pub leaf_below : (leaf : ℕ → world.Leaf) (st : ℕ → Store) (own : List (List Thing)) (hs : List Heap) (x : ℕ) (l : world.Leaf)
+pub leaf_below : (leaf : ℕ → world.Leaf) (st : ℕ → Store) (own : List (List Content)) (hs : List Heap) (x : ℕ) (l : world.Leaf)
     → slice_get (leaves_seen leaf st own hs) x ≡ Some l → x < length own
 leaf_below leaf st [] hs x l e = cc
 leaf_below leaf st (ts ∷ own) [] x l e = cc

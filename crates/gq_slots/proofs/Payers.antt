@@ -4,15 +4,15 @@ use Rattle.gq_model.specs.machine.World as world
 use Rattle.gq_ram.specs.declared.account.AccountNo.{AccountNo}
 use Rattle.gq_ram.specs.Trees.{number}
 use Rattle.gq_trade.specs.Numbers.{IsTaken}
-use Rattle.gq_contents.specs.declared.thing.Thing.{Thing}
-use Rattle.gq_contents.specs.declared.thing.Thing.TheVariants.{Empty, Block, Slice, Space, Pool, Link, Waiting}
+use Rattle.gq_contents.specs.declared.content.Content.{Content}
+use Rattle.gq_contents.specs.declared.content.Content.TheVariants.{Empty, Block, Slice, Space, Pool, Link, Waiting}
 use Rattle.gq_trade.specs.declared.session.Spot.{Spot}
 use Rattle.gq_trade.specs.declared.session.Spot.TheVariants.{InLeaf, InSession, InObject}
 use Rattle.gq_trade.specs.Trading.{IsTrading, account_no, with_memory}
 use Rattle.gq_trade.proofs.Sessions_kept.{between_at}
 use Rattle.gq_trade.specs.Trades.{IsLive, IsTrades, with_trading}
-use Rattle.gq_slots.specs.Slots.{IsPaidBy, IsSpot, Slots, holder, slot_of, thing_at}
-use Rattle.gq_slots.specs.Calls.{Puts}
+use Rattle.gq_slots.specs.Slots.{IsPaidBy, IsSpot, Slots, holder, slot_of, content_at}
+use Rattle.gq_slots.specs.Calls.{PutsSlot}
 use Rattle.gq_slots.specs.Addresses.{buffer_at, place_in}
 use Rattle.gq_slots.specs.internal.Paying.{paying}
 
@@ -28,10 +28,10 @@ holder_paid s x (InLeaf y i) = refl
 holder_paid s x (InSession k i) = refl
 holder_paid s x (InObject k) = refl
 
-pub thing_paid : (s : Slots) (x : ℕ) (p : Spot) → thing_at (paying s x) p ≡ thing_at s p
-thing_paid s x (InLeaf y i) = refl
-thing_paid s x (InSession k i) = refl
-thing_paid s x (InObject k) = refl
+pub content_paid : (s : Slots) (x : ℕ) (p : Spot) → content_at (paying s x) p ≡ content_at s p
+content_paid s x (InLeaf y i) = refl
+content_paid s x (InSession k i) = refl
+content_paid s x (InObject k) = refl
 
 pub slot_paid : (s : Slots) (x : ℕ) (p : Spot) → slot_of (paying s x) p ≡ slot_of s p
 slot_paid s x (InLeaf y i) = refl
@@ -54,7 +54,7 @@ again s x y e = ap (λ (a : AccountNo). record {
 }) (sym e)
 
 -- a change while another leaf pays is one where it never did
-pub puts_paid : (s v : Slots) (x y : ℕ) (p : Spot) (slot : world.Slot) → IsPaidBy s y → Puts (paying s x) v p slot → Puts s (paying v y) p slot
+pub puts_paid : (s v : Slots) (x y : ℕ) (p : Spot) (slot : world.Slot) → IsPaidBy s y → PutsSlot (paying s x) v p slot → PutsSlot s (paying v y) p slot
 puts_paid s v x y p slot e h =
     let r = h.rest in
     record {
@@ -92,7 +92,7 @@ server_live s k p false t w there e =
     subst (λ q. IsLive s.trades (holder s q)) f live
 
 -- the leaf that pays for the bytes of a live leaf's slot is live
-pub place_live : (bs : List ℕ) (s : Slots) (u : Thing) (x i : ℕ) (p : Spot) → IsTrades s.trades → IsTrading s.trades.trading → IsLive s.trades x
+pub place_live : (bs : List ℕ) (s : Slots) (u : Content) (x i : ℕ) (p : Spot) → IsTrades s.trades → IsTrading s.trades.trading → IsLive s.trades x
     → ((k : ℕ) → u ≡ Link k → IsTaken s.trades.trading.sessions k) → place_in bs s u (InLeaf x i) ≡ Some p → IsLive s.trades (holder s p)
 place_live bs s Empty x i p t w l a e = own_live s x i p l e
 place_live bs s (Block q n) x i p t w l a e = own_live s x i p l e
@@ -106,14 +106,14 @@ pub slot_then : (s a : Slots) (x : ℕ) (p : Spot) → a ≡ paying s x → slot
 slot_then s a x p e = ap (λ z. slot_of z p) e ∙ slot_paid s x p
 
 -- A slot is changed while the leaf x pays, and then the leaf y pays again.
-pub changed : (s a v b : Slots) (x y : ℕ) (p : Spot) (g : world.Slot → world.Slot) → IsPaidBy s y → a ≡ paying s x → Puts a v p (g (slot_of a p))
-    → b ≡ paying v y → Puts s b p (g (slot_of s p))
+pub changed : (s a v b : Slots) (x y : ℕ) (p : Spot) (g : world.Slot → world.Slot) → IsPaidBy s y → a ≡ paying s x → PutsSlot a v p (g (slot_of a p))
+    → b ≡ paying v y → PutsSlot s b p (g (slot_of s p))
 changed s a v b x y p g e f h k =
-    let h1 : Puts (paying s x) v p (g (slot_of (paying s x) p)) = subst (λ z. Puts z v p (g (slot_of z p))) f h in
-    let h2 : Puts (paying s x) v p (g (slot_of s p)) = subst (λ z. Puts (paying s x) v p (g z)) (slot_paid s x p) h1 in
-    subst (λ z. Puts s z p (g (slot_of s p))) (sym k) (puts_paid s v x y p (g (slot_of s p)) e h2)
+    let h1 : PutsSlot (paying s x) v p (g (slot_of (paying s x) p)) = subst (λ z. PutsSlot z v p (g (slot_of z p))) f h in
+    let h2 : PutsSlot (paying s x) v p (g (slot_of s p)) = subst (λ z. PutsSlot (paying s x) v p (g z)) (slot_paid s x p) h1 in
+    subst (λ z. PutsSlot s z p (g (slot_of s p))) (sym k) (puts_paid s v x y p (g (slot_of s p)) e h2)
 
 -- A slot was changed at the index of a place that is there.
-pub put_at : (o : Option (Spot × ℕ)) (s b : Slots) (i : ℕ) (p : Spot) (g : ℕ → world.Slot → world.Slot) → Some (p, i) ≡ o → Puts s b p (g i (slot_of s p))
-    → IfSome o (λ f. Puts s b f.0 (g f.1 (slot_of s f.0)))
-put_at o s b i p g is h = subst (λ z. IfSome z (λ q. Puts s b q.0 (g q.1 (slot_of s q.0)))) is h
+pub put_at : (o : Option (Spot × ℕ)) (s b : Slots) (i : ℕ) (p : Spot) (g : ℕ → world.Slot → world.Slot) → Some (p, i) ≡ o → PutsSlot s b p (g i (slot_of s p))
+    → IfSome o (λ f. PutsSlot s b f.0 (g f.1 (slot_of s f.0)))
+put_at o s b i p g is h = subst (λ z. IfSome z (λ q. PutsSlot s b q.0 (g q.1 (slot_of s q.0)))) is h

@@ -19,10 +19,10 @@ use Rattle.gq_heap.specs.Heap.{bin_at, no_bin, peak_of, peaks, peaks_of, rise, r
 use Rattle.gq_heap.proofs.Charges.{pages_are, price_is}
 use Rattle.gq_heap.proofs.ClassLaws.{index_below, number_is, size_is}
 use Rattle.gq_heap.proofs.Rises.{caps_small, price_set, rise_small}
-use Rattle.gq_contents.specs.declared.thing.Thing.{Thing}
-use Rattle.gq_contents.specs.declared.thing.Thing.TheVariants.{Empty, Block, Slice, Space, Pool, Link, Waiting}
-use Rattle.gq_contents.specs.Things.{IsThing, entry_size}
-use Rattle.gq_contents.specs.Kept.{Keeps}
+use Rattle.gq_contents.specs.declared.content.Content.{Content}
+use Rattle.gq_contents.specs.declared.content.Content.TheVariants.{Empty, Block, Slice, Space, Pool, Link, Waiting}
+use Rattle.gq_contents.specs.Contents.{IsContent, entry_size}
+use Rattle.gq_contents.specs.Kept.{KeepsContents}
 use Rattle.gq_contents.specs.Paid.{places_used, raised_by}
 use Rattle.gq_contents.proofs.Lists.{each_front}
 use Rattle.gq_contents.proofs.Peaks.{counts_are, raised_is}
@@ -30,8 +30,8 @@ use Rattle.gq_trade.specs.declared.session.Spot.{Spot}
 use Rattle.gq_trade.specs.declared.session.Spot.TheVariants.{InLeaf, InSession, InObject}
 use Rattle.gq_trade.specs.Trading.{IsTrading}
 use Rattle.gq_trade.proofs.Sessions_kept.{between_at}
-use Rattle.gq_slots.specs.Slots.{AreRises, AreSmallEntries, IsSpot, Slots, holder, leaf_seen, memory_of, one_more_of, rise_of, thing_at, world_seen}
-use Rattle.gq_slots.specs.internal.Holds.{IsHolder, IsSlots, things}
+use Rattle.gq_slots.specs.Slots.{AreRises, AreSmallEntries, IsSpot, Slots, holder, leaf_seen, memory_of, one_more_of, rise_of, content_at, world_seen}
+use Rattle.gq_slots.specs.internal.Holds.{IsHolder, IsSlots, contents}
 use Rattle.gq_slots.proofs.Paid.{heap_in, leaf_below, some_is}
 use Rattle.gq_slots.proofs.Spots.{back, front, split_now}
 use Rattle.gq_slots.proofs.Sums.{places_is, raised_same}
@@ -84,7 +84,7 @@ as_many (b ∷ bs) = ap suc (as_many bs)
 max_same : (p m n : ℕ) → n ≤ p → m ≡ n → p ≡ max p m
 max_same p m n le e = grind (arith, nat_tests, le, e)
 
-module _ (h : Heap) (st : Store) (ts : List Thing) (k : Keeps h st ts) (eight : length (peaks h) ≡ 8) (n : ℕ) (small : n ≤ 2048) where
+module _ (h : Heap) (st : Store) (ts : List Content) (k : KeepsContents h st ts) (eight : length (peaks h) ≡ 8) (n : ℕ) (small : n ≤ 2048) where
   abbrev j : ℕ
   j = class_for n
 
@@ -172,13 +172,13 @@ rises s i r f x h leaf n is stands small =
     some_is here leaf (ap (λ z. Some (leaf_seen (f.leaf x) (memory_of s x) (get_or s.own x []) z)) (sym is) ∙ sym there ∙ stands) in
     let o : IsHolder s x h = subst (IsHolder s x) is (i.holders x h lt) in
     subst (λ l. class_prices r (raised_by (one_more_of n (places (world_seen f s) x l)) classes l.peaks) ≡ class_prices r l.peaks + rise_of r h n) same
-    (ap (class_prices r) (raised_same (one_more_of n (places (world_seen f s) x here)) (one_more_of n (places_used (memory_of s x) (things s x))) classes
+    (ap (class_prices r) (raised_same (one_more_of n (places (world_seen f s) x here)) (one_more_of n (places_used (memory_of s x) (contents s x))) classes
     (peaks h) (λ c. ap (λ m. m + cond (eqb (size_for n) c) 1 0) (places_is f s x h (f.leaf x) c i.sound.objects)))
-    ∙ price_more h (memory_of s x) (things s x) o.keeps o.eight n small r)
+    ∙ price_more h (memory_of s x) (contents s x) o.keeps o.eight n small r)
 
 -- ENTRIES OF POOLS
 
-small_entry : (st : Store) (t : Thing) → IsThing st t → entry_size t ≤ 2048
+small_entry : (st : Store) (t : Content) → IsContent st t → entry_size t ≤ 2048
 small_entry st Empty is = omega arith
 small_entry st (Block p n) is = omega arith
 small_entry st (Slice k n) is = omega arith
@@ -204,5 +204,5 @@ small_entries s i w p there =
     let x = holder s p in
     let lt = holder_below s i w p there in
     let g = heap_in s.heaps x (omega (arith, lt, i.count, i.heaps)) in
-    let keeps = subst (λ ts. Keeps (get_or s.heaps x g.heap) (memory_of s x) ts) (split_now s p there i.long) (i.holders x g.heap lt).keeps in
-    small_entry (memory_of s x) (thing_at s p) (each_front (memory_of s x) (front s p) (thing_at s p) (back s p) keeps.each).1
+    let keeps = subst (λ ts. KeepsContents (get_or s.heaps x g.heap) (memory_of s x) ts) (split_now s p there i.long) (i.holders x g.heap lt).keeps in
+    small_entry (memory_of s x) (content_at s p) (each_front (memory_of s x) (front s p) (content_at s p) (back s p) keeps.each).1

@@ -1,4 +1,4 @@
--- What a leaf holds and has in use in the world, as sums over the things that it pays for.
+-- What a leaf holds and has in use in the world, as sums over the contents that it pays for.
 use Rattle.std.proofs.Common.{◌≡◌, ℕ, ◌+◌, ◌≤◌, max, Bool, true, false, cond, eqb, List, [], ◌∷◌, ◌++◌, map, get_or, length, Option, Some, None, refl, ap}
 use Rattle.std.proofs.Common.{arith}
 use Rattle.std.specs.Prelude.{sum_by}
@@ -9,32 +9,32 @@ use Rattle.gq_model.specs.machine.Sums.{bank_price, held, places, raised, slot_p
 use Rattle.gq_model.specs.machine.World as world
 use Rattle.gq_store.specs.Store.{Store}
 use Rattle.gq_heap.specs.declared.heap.Heap.{Heap}
-use Rattle.gq_contents.specs.declared.thing.Thing.{Thing}
-use Rattle.gq_contents.specs.declared.thing.Thing.TheVariants.{Empty, Block, Slice, Space, Pool, Link, Waiting}
-use Rattle.gq_contents.specs.Things.{seen}
+use Rattle.gq_contents.specs.declared.content.Content.{Content}
+use Rattle.gq_contents.specs.declared.content.Content.TheVariants.{Empty, Block, Slice, Space, Pool, Link, Waiting}
+use Rattle.gq_contents.specs.Contents.{seen}
 use Rattle.gq_contents.specs.Kept.{SameSeen}
 use Rattle.gq_contents.specs.Paid.{cost, places_used, raised_by}
 use Rattle.gq_contents.proofs.Peaks.{counts_append, counts_same}
 use Rattle.gq_trade.specs.declared.session.Session.{Session}
 use Rattle.gq_trade.specs.Seen.{seen_in, session_seen}
 use Rattle.gq_slots.specs.Slots.{Slots, Frame, leaf_seen, memory_of, world_seen}
-use Rattle.gq_slots.specs.internal.Holds.{AreObjects, IsObject, held_by, session_things, things, things_of}
+use Rattle.gq_slots.specs.internal.Holds.{AreObjects, IsObject, held_by, session_contents, contents, contents_of}
 
--- what things cost together, and with one of them changed
-pub cost_append : (r : Resource) (st : Store) (ts us : List Thing) → cost r st (ts ++ us) ≡ cost r st ts + cost r st us
+-- what contents cost together, and with one of them changed
+pub cost_append : (r : Resource) (st : Store) (ts us : List Content) → cost r st (ts ++ us) ≡ cost r st ts + cost r st us
 cost_append r st [] us = omega arith
 cost_append r st (t ∷ ts) us = omega (arith, cost_append r st ts us)
 
-pub cost_same : (r : Resource) (old new : Store) (ts : List Thing) → SameSeen old new ts → cost r new ts ≡ cost r old ts
+pub cost_same : (r : Resource) (old new : Store) (ts : List Content) → SameSeen old new ts → cost r new ts ≡ cost r old ts
 cost_same r old new [] h = refl
 cost_same r old new (t ∷ ts) h = omega (arith, ap (slot_price r) h.0, cost_same r old new ts h.1)
 
-pub cost_change : (r : Resource) (old new : Store) (front : List Thing) (t u : Thing) (back : List Thing) → SameSeen old new front → SameSeen old new back
+pub cost_change : (r : Resource) (old new : Store) (front : List Content) (t u : Content) (back : List Content) → SameSeen old new front → SameSeen old new back
     → cost r new (front ++ u ∷ back) + slot_price r (seen old t) ≡ cost r old (front ++ t ∷ back) + slot_price r (seen new u)
 cost_change r old new f t u b g h =
     omega (arith, cost_append r new f (u ∷ b), cost_append r old f (t ∷ b), cost_same r old new f g, cost_same r old new b h)
 
-pub places_change : (c : ℕ) (old new : Store) (front : List Thing) (t u : Thing) (back : List Thing) → SameSeen old new front → SameSeen old new back
+pub places_change : (c : ℕ) (old new : Store) (front : List Content) (t u : Content) (back : List Content) → SameSeen old new front → SameSeen old new back
     → places_used new (front ++ u ∷ back) c + slot_places c (seen old t) ≡ places_used old (front ++ t ∷ back) c + slot_places c (seen new u)
 places_change c old new f t u b g h =
     omega (arith, counts_append c new f (u ∷ b), counts_append c old f (t ∷ b), counts_same c old new f g, counts_same c old new b h)
@@ -79,19 +79,19 @@ same_number : (a b : ℕ) → eqb a b ≡ true → a ≡ b
 same_number a b e = grind (arith, nat_tests)
 
 -- a sum over slots
-abbrev sum_of : (Thing → ℕ) → List Thing → ℕ
+abbrev sum_of : (Content → ℕ) → List Content → ℕ
 sum_of f [] = 0
 sum_of f (t ∷ ts) = f t + sum_of f ts
 
-slots_sum : (g : world.Slot → ℕ) (st : Store) (ts : List Thing) → sum_by g (map (seen st) ts) ≡ sum_of (λ t. g (seen st t)) ts
+slots_sum : (g : world.Slot → ℕ) (st : Store) (ts : List Content) → sum_by g (map (seen st) ts) ≡ sum_of (λ t. g (seen st t)) ts
 slots_sum g st [] = refl
 slots_sum g st (t ∷ ts) = let e = sum_by-cons g (seen st t) (map (seen st) ts) in omega (arith, e, slots_sum g st ts)
 
-cost_sum : (r : Resource) (st : Store) (ts : List Thing) → sum_of (λ t. slot_price r (seen st t)) ts ≡ cost r st ts
+cost_sum : (r : Resource) (st : Store) (ts : List Content) → sum_of (λ t. slot_price r (seen st t)) ts ≡ cost r st ts
 cost_sum r st [] = refl
 cost_sum r st (t ∷ ts) = ap (λ n. slot_price r (seen st t) + n) (cost_sum r st ts)
 
-used_sum : (c : ℕ) (st : Store) (ts : List Thing) → sum_of (λ t. slot_places c (seen st t)) ts ≡ places_used st ts c
+used_sum : (c : ℕ) (st : Store) (ts : List Content) → sum_of (λ t. slot_places c (seen st t)) ts ≡ places_used st ts c
 used_sum c st [] = refl
 used_sum c st (t ∷ ts) = ap (λ n. slot_places c (seen st t) + n) (used_sum c st ts)
 
@@ -112,14 +112,14 @@ module _ (names : List (List ℕ)) (st : ℕ → Store) (x : ℕ) where
       )
   price_here r s false e = refl
 
-  sessions_price : (r : Resource) (ss : List (Option Session)) → sum_by (to_leaf x (bank_price r)) (seen_all ss) ≡ cost r (st x) (session_things x ss)
+  sessions_price : (r : Resource) (ss : List (Option Session)) → sum_by (to_leaf x (bank_price r)) (seen_all ss) ≡ cost r (st x) (session_contents x ss)
   sessions_price r [] = refl
   sessions_price r (None ∷ ss) = let e = sum_by-cons (to_leaf x (bank_price r)) None (seen_all ss) in omega (arith, e, sessions_price r ss)
   sessions_price r (Some s ∷ ss) =
       let e = sum_by-cons (to_leaf x (bank_price r)) (Some (session_seen names (st s.server) s)) (seen_all ss) in
-      omega (arith, e, sessions_price r ss, price_here r s (eqb s.server x) refl, cost_append r (st x) (things_of x s) (session_things x ss))
+      omega (arith, e, sessions_price r ss, price_here r s (eqb s.server x) refl, cost_append r (st x) (contents_of x s) (session_contents x ss))
 
-  no_places : (c : ℕ) (a : Store) (t : Thing) → IsObject t → slot_places c (seen a t) ≡ 0
+  no_places : (c : ℕ) (a : Store) (t : Content) → IsObject t → slot_places c (seen a t) ≡ 0
   no_places c a Empty o = refl
   no_places c a (Block p n) o = absurd o
   no_places c a (Slice k n) o = refl
@@ -145,12 +145,12 @@ module _ (names : List (List ℕ)) (st : ℕ → Store) (x : ℕ) where
   places_here c s false e o = refl
 
   sessions_places : (c : ℕ) (ss : List (Option Session)) → AreObjects ss
-      → sum_by (to_leaf x (bank_places c)) (seen_all ss) ≡ places_used (st x) (session_things x ss) c
+      → sum_by (to_leaf x (bank_places c)) (seen_all ss) ≡ places_used (st x) (session_contents x ss) c
   sessions_places c [] o = refl
   sessions_places c (None ∷ ss) o = let e = sum_by-cons (to_leaf x (bank_places c)) None (seen_all ss) in omega (arith, e, sessions_places c ss o)
   sessions_places c (Some s ∷ ss) o =
       let e = sum_by-cons (to_leaf x (bank_places c)) (Some (session_seen names (st s.server) s)) (seen_all ss) in
-      omega (arith, e, sessions_places c ss o.1, places_here c s (eqb s.server x) refl o.0, counts_append c (st x) (things_of x s) (session_things x ss))
+      omega (arith, e, sessions_places c ss o.1, places_here c s (eqb s.server x) refl o.0, counts_append c (st x) (contents_of x s) (session_contents x ss))
 
 module _ (f : Frame) (s : Slots) (x : ℕ) (h : Heap) (l : world.Leaf) where
   abbrev here : world.Leaf
@@ -163,21 +163,21 @@ module _ (f : Frame) (s : Slots) (x : ℕ) (h : Heap) (l : world.Leaf) where
         slots_sum (slot_price r) (memory_of s x) (get_or s.own x []),
         cost_sum r (memory_of s x) (get_or s.own x []),
         sessions_price f.names (memory_of s) x r s.trades.trading.sessions,
-        cost_append r (memory_of s x) (get_or s.own x []) (session_things x s.trades.trading.sessions),
+        cost_append r (memory_of s x) (get_or s.own x []) (session_contents x s.trades.trading.sessions),
       )
 
-  pub places_is : (c : ℕ) → AreObjects s.trades.trading.sessions → places (world_seen f s) x here c ≡ places_used (memory_of s x) (things s x) c
+  pub places_is : (c : ℕ) → AreObjects s.trades.trading.sessions → places (world_seen f s) x here c ≡ places_used (memory_of s x) (contents s x) c
   places_is c o =
       omega (
         arith,
         slots_sum (slot_places c) (memory_of s x) (get_or s.own x []),
         used_sum c (memory_of s x) (get_or s.own x []),
         sessions_places f.names (memory_of s) x c s.trades.trading.sessions o,
-        counts_append c (memory_of s x) (get_or s.own x []) (session_things x s.trades.trading.sessions),
+        counts_append c (memory_of s x) (get_or s.own x []) (session_contents x s.trades.trading.sessions),
       )
 
   pub raised_is : (cs ps : List ℕ) → AreObjects s.trades.trading.sessions
-      → raised (world_seen f s) x here cs ps ≡ raised_by (places_used (memory_of s x) (things s x)) cs ps
+      → raised (world_seen f s) x here cs ps ≡ raised_by (places_used (memory_of s x) (contents s x)) cs ps
   raised_is [] ps o = refl
   raised_is (c ∷ cs) [] o = refl
   raised_is (c ∷ cs) (p ∷ ps) o = let a = places_is c o in let b = raised_is cs ps o in λ k. max p (a k) ∷ b k

@@ -10,9 +10,9 @@ use Rattle.gq_heap.specs.declared.heap.Heap.{Heap}
 use Rattle.gq_heap.specs.Heap.{peaks}
 use Rattle.gq_trade.specs.Stores.{Memory, store_at}
 use Rattle.gq_trade.specs.Numbers.{IsTaken}
-use Rattle.gq_contents.specs.declared.thing.Thing.{Thing}
-use Rattle.gq_contents.specs.declared.thing.Thing.TheVariants.{Empty}
-use Rattle.gq_contents.specs.Things.{seen}
+use Rattle.gq_contents.specs.declared.content.Content.{Content}
+use Rattle.gq_contents.specs.declared.content.Content.TheVariants.{Empty}
+use Rattle.gq_contents.specs.Contents.{seen}
 use Rattle.gq_contents.specs.Kept.{SameSeen}
 use Rattle.gq_trade.specs.declared.session.Session.{Session}
 use Rattle.gq_trade.specs.declared.session.Spot.{Spot}
@@ -20,7 +20,7 @@ use Rattle.gq_trade.specs.declared.session.Spot.TheVariants.{InLeaf, InSession, 
 use Rattle.gq_trade.specs.Seen.{seen_in, session_seen, spot_seen}
 use Rattle.gq_trade.specs.Trading.{account_of, AreBetween, session_in, with_slot}
 use Rattle.gq_slots.specs.Slots.{Slots, Frame, IsSpot, IsHeapOf, holder, leaf_seen, leaves_seen, memory_of, slot_of, world_seen}
-use Rattle.gq_slots.specs.internal.Holds.{AreLong, session_things, things_of}
+use Rattle.gq_slots.specs.internal.Holds.{AreLong, session_contents, contents_of}
 use Rattle.gq_slots.specs.internal.Put.{peaks_in, put, with_object, with_peaks_at, with_store}
 use Rattle.gq_slots.proofs.Spots.{back, front}
 
@@ -63,19 +63,19 @@ some_same a b e = cc
 
 -- THINGS THAT READ AS BEFORE
 
-seen_left : (old new : Store) (ts us : List Thing) → SameSeen old new (ts ++ us) → SameSeen old new ts
+seen_left : (old new : Store) (ts us : List Content) → SameSeen old new (ts ++ us) → SameSeen old new ts
 seen_left old new [] us h = tt
 seen_left old new (t ∷ ts) us h = (h.0, seen_left old new ts us h.1)
 
-seen_right : (old new : Store) (ts us : List Thing) → SameSeen old new (ts ++ us) → SameSeen old new us
+seen_right : (old new : Store) (ts us : List Content) → SameSeen old new (ts ++ us) → SameSeen old new us
 seen_right old new [] us h = h
 seen_right old new (t ∷ ts) us h = seen_right old new ts us h.1
 
-same_map : (old new : Store) (ts : List Thing) → SameSeen old new ts → map (seen new) ts ≡ map (seen old) ts
+same_map : (old new : Store) (ts : List Content) → SameSeen old new ts → map (seen new) ts ≡ map (seen old) ts
 same_map old new [] h = refl
 same_map old new (t ∷ ts) h = λ k. h.0 k ∷ same_map old new ts h.1 k
 
-bank_seen : (old new : Store) (bank : List Thing) (i : ℕ) (u : Thing) → i < length bank → SameSeen old new (take i bank)
+bank_seen : (old new : Store) (bank : List Content) (i : ℕ) (u : Content) → i < length bank → SameSeen old new (take i bank)
     → SameSeen old new (drop (suc i) bank) → map (seen new) (set bank i u) ≡ set (map (seen old) bank) i (seen new u)
 bank_seen old new [] i u lt a b = absurd (omega (arith, lt))
 bank_seen old new (t ∷ ts) zero u lt a b = λ k. seen new u ∷ same_map old new ts b k
@@ -83,21 +83,21 @@ bank_seen old new (t ∷ ts) (suc i) u lt a b = λ k. a.0 k ∷ bank_seen old ne
 
 -- LEAVES
 
-pub leaf_at : (leaf : ℕ → world.Leaf) (st : ℕ → Store) (own : List (List Thing)) (hs : List Heap) (x : ℕ) (h : Heap) → x < length own → x < length hs
+pub leaf_at : (leaf : ℕ → world.Leaf) (st : ℕ → Store) (own : List (List Content)) (hs : List Heap) (x : ℕ) (h : Heap) → x < length own → x < length hs
     → slice_get (leaves_seen leaf st own hs) x ≡ Some (leaf_seen (leaf x) (st x) (get_or own x []) (get_or hs x h))
 leaf_at leaf st [] hs x h lt lh = absurd (omega (arith, lt))
 leaf_at leaf st (ts ∷ own) [] x h lt lh = absurd (omega (arith, lh))
 leaf_at leaf st (ts ∷ own) (g ∷ hs) zero h lt lh = refl
 leaf_at leaf st (ts ∷ own) (g ∷ hs) (suc x) h lt lh = leaf_at (λ y. leaf (suc y)) (λ y. st (suc y)) own hs x h (omega (arith, lt)) (omega (arith, lh))
 
-own_at : (leaf : ℕ → world.Leaf) (st : ℕ → Store) (own : List (List Thing)) (hs : List Heap) (x i : ℕ) → x < length own → length hs ≡ length own
+own_at : (leaf : ℕ → world.Leaf) (st : ℕ → Store) (own : List (List Content)) (hs : List Heap) (x i : ℕ) → x < length own → length hs ≡ length own
     → world.leaf_slot (slice_get (leaves_seen leaf st own hs) x) i ≡ slice_get (map (seen (st x)) (get_or own x [])) i
 own_at leaf st [] hs x i lt e = absurd (omega (arith, lt))
 own_at leaf st (ts ∷ own) [] x i lt e = absurd (omega (arith, e))
 own_at leaf st (ts ∷ own) (g ∷ hs) zero i lt e = refl
 own_at leaf st (ts ∷ own) (g ∷ hs) (suc x) i lt e = own_at (λ y. leaf (suc y)) (λ y. st (suc y)) own hs x i (omega (arith, lt)) (omega (arith, e))
 
-leaves_same : (leaf : ℕ → world.Leaf) (old new : ℕ → Store) (own : List (List Thing)) (hs : List Heap) → ((y : ℕ) → y < length own → new y ≡ old y)
+leaves_same : (leaf : ℕ → world.Leaf) (old new : ℕ → Store) (own : List (List Content)) (hs : List Heap) → ((y : ℕ) → y < length own → new y ≡ old y)
     → leaves_seen leaf new own hs ≡ leaves_seen leaf old own hs
 leaves_same leaf old new [] hs same = refl
 leaves_same leaf old new (ts ∷ own) [] same = refl
@@ -107,7 +107,7 @@ leaves_same leaf old new (ts ∷ own) (h ∷ hs) same =
     λ k. leaf_seen (leaf 0) (e k) ts h ∷ f k
 
 -- one leaf with other slots, another memory and another heap
-leaves_set : (leaf : ℕ → world.Leaf) (old new : ℕ → Store) (own : List (List Thing)) (hs : List Heap) (x : ℕ) (ts : List Thing) (h : Heap) → x < length own
+leaves_set : (leaf : ℕ → world.Leaf) (old new : ℕ → Store) (own : List (List Content)) (hs : List Heap) (x : ℕ) (ts : List Content) (h : Heap) → x < length own
     → length hs ≡ length own → ((y : ℕ) → y < length own → (y ≡ x → ⊥) → new y ≡ old y)
     → leaves_seen leaf new (set own x ts) (set hs x h) ≡ set (leaves_seen leaf old own hs) x (leaf_seen (leaf x) (new x) ts h)
 leaves_set leaf old new [] hs x ts h lt e same = absurd (omega (arith, lt))
@@ -141,26 +141,26 @@ module _ (names : List (List ℕ)) (old new : ℕ → Store) (x n : ℕ) (same :
       let f : s.server ≡ x → ⊥ = λ g. grind (arith, nat_tests, e, g) in
       ap (λ st. session_seen names st s) (same s.server lt f)
 
-  sessions_same : (m : ℕ) (ss : List (Option Session)) → AreBetween n m ss → SameSeen (old x) (new x) (session_things x ss)
+  sessions_same : (m : ℕ) (ss : List (Option Session)) → AreBetween n m ss → SameSeen (old x) (new x) (session_contents x ss)
       → map (seen_in then_) ss ≡ map (seen_in before) ss
   sessions_same m [] b h = refl
   sessions_same m (None ∷ ss) b h = ap (λ ys. None ∷ ys) (sessions_same m ss b h)
   sessions_same m (Some s ∷ ss) b h =
-      let e = one_same s (eqb s.server x) refl b.0.server (seen_left (old x) (new x) (things_of x s) (session_things x ss) h) in
-      let f = sessions_same m ss b.1 (seen_right (old x) (new x) (things_of x s) (session_things x ss) h) in
+      let e = one_same s (eqb s.server x) refl b.0.server (seen_left (old x) (new x) (contents_of x s) (session_contents x ss) h) in
+      let f = sessions_same m ss b.1 (seen_right (old x) (new x) (contents_of x s) (session_contents x ss) h) in
       λ k. Some (e k) ∷ f k
 
   -- one session that is another
-  sessions_set : (m : ℕ) (ss : List (Option Session)) (k : ℕ) (v : Session) → AreBetween n m ss → SameSeen (old x) (new x) (session_things x (take k ss))
-      → SameSeen (old x) (new x) (session_things x (drop (suc k) ss))
+  sessions_set : (m : ℕ) (ss : List (Option Session)) (k : ℕ) (v : Session) → AreBetween n m ss → SameSeen (old x) (new x) (session_contents x (take k ss))
+      → SameSeen (old x) (new x) (session_contents x (drop (suc k) ss))
       → map (seen_in then_) (set ss k (Some v)) ≡ set (map (seen_in before) ss) k (Some (then_ v))
   sessions_set m [] k v b f g = refl
   sessions_set m (None ∷ ss) zero v b f g = ap (λ ys. Some (then_ v) ∷ ys) (sessions_same m ss b g)
   sessions_set m (Some s ∷ ss) zero v b f g = ap (λ ys. Some (then_ v) ∷ ys) (sessions_same m ss b.1 g)
   sessions_set m (None ∷ ss) (suc k) v b f g = ap (λ ys. None ∷ ys) (sessions_set m ss k v b f g)
   sessions_set m (Some s ∷ ss) (suc k) v b f g =
-      let e = one_same s (eqb s.server x) refl b.0.server (seen_left (old x) (new x) (things_of x s) (session_things x (take k ss)) f) in
-      let r = sessions_set m ss k v b.1 (seen_right (old x) (new x) (things_of x s) (session_things x (take k ss)) f) g in
+      let e = one_same s (eqb s.server x) refl b.0.server (seen_left (old x) (new x) (contents_of x s) (session_contents x (take k ss)) f) in
+      let r = sessions_set m ss k v b.1 (seen_right (old x) (new x) (contents_of x s) (session_contents x (take k ss)) f) g in
       λ z. Some (e z) ∷ r z
 
 pub session_there : (f : Session → world.Session) (ss : List (Option Session)) (k : ℕ) → IsTaken ss k
@@ -223,7 +223,7 @@ object_then w k x q l slot ps e g =
     ap (λ o. with_peaks_at x ps (world.put_object w (world.joined o) k slot)) e
     ∙ peaks_there (world.with_session w k (record q { object = slot })) x l ps g
 
-module _ (f : Frame) (s : Slots) (m : Memory) (h : Heap) (u : Thing) (n : ℕ) (long : AreLong s) (heaps : length s.heaps ≡ length s.own)
+module _ (f : Frame) (s : Slots) (m : Memory) (h : Heap) (u : Content) (n : ℕ) (long : AreLong s) (heaps : length s.heaps ≡ length s.own)
     (between : AreBetween (length s.own) n s.trades.trading.sessions) (x : ℕ) (lt : x < length s.own)
     (same : (y : ℕ) → y < length s.own → (y ≡ x → ⊥) → store_at m.ledger (account_of s.trades.trading y) ≡ memory_of s y) where
   abbrev then_of : ℕ → Store
@@ -244,7 +244,7 @@ module _ (f : Frame) (s : Slots) (m : Memory) (h : Heap) (u : Thing) (n : ℕ) (
       ∙ leaves_set f.leaf (memory_of s) then_of s.own s.heaps x (get_or s.own x []) h lt heaps same
       ∙ (λ k. set (world_seen f s).leaves x (record (f.leaf x) { slots = e k; peaks = peaks h }))
 
-pub world_after : (f : Frame) (s : Slots) (m : Memory) (p : Spot) (h : Heap) (u : Thing) (n : ℕ) → IsSpot s p → AreLong s → length s.heaps ≡ length s.own
+pub world_after : (f : Frame) (s : Slots) (m : Memory) (p : Spot) (h : Heap) (u : Content) (n : ℕ) → IsSpot s p → AreLong s → length s.heaps ≡ length s.own
     → holder s p < length s.own → AreBetween (length s.own) n s.trades.trading.sessions
     → ((y : ℕ) → y < length s.own → (y ≡ holder s p → ⊥) → store_at m.ledger (account_of s.trades.trading y) ≡ memory_of s y)
     → SameSeen (memory_of s (holder s p)) (store_at m.ledger (account_of s.trades.trading (holder s p))) (front s p)
@@ -257,10 +257,10 @@ world_after f s m (InLeaf x i) h u n there long heaps lt between same a b =
     let ts = get_or s.own x [] in
     let ss = s.trades.trading.sessions in
     let inside : i < length ts = omega (arith, there.1, long.own x there.0) in
-    let slots = bank_seen (memory_of s x) (st x) ts i u inside a (seen_left (memory_of s x) (st x) (drop (suc i) ts) (session_things x ss) b) in
+    let slots = bank_seen (memory_of s x) (st x) ts i u inside a (seen_left (memory_of s x) (st x) (drop (suc i) ts) (session_contents x ss) b) in
     let leaves = leaves_set f.leaf (memory_of s) st s.own s.heaps x (set ts i u) h lt heaps same in
     let sessions = sessions_same f.names (memory_of s) st x (length s.own) same n ss between
-    (seen_right (memory_of s x) (st x) (drop (suc i) ts) (session_things x ss) b) in
+    (seen_right (memory_of s x) (st x) (drop (suc i) ts) (session_contents x ss) b) in
     let w : world.World = world_seen f s in
     (λ k. record { leaves = leaves k; sessions = sessions k; requests = w.requests })
     ∙ (λ k. with_leaves w (set w.leaves x (record (f.leaf x) { slots = slots k; peaks = peaks h })))
@@ -274,14 +274,14 @@ world_after f s m (InSession k i) h u n there long heaps lt between same a b =
     let o = memory_of s x in
     let ts = get_or s.own x [] in
     let inside : i < length q.slots = omega (arith, there.1, long.slots k there.0) in
-    let own = seen_left o (st x) ts (session_things x (take k ss) ++ q.object ∷ take i q.slots) a in
-    let mid = seen_right o (st x) ts (session_things x (take k ss) ++ q.object ∷ take i q.slots) a in
-    let its = seen_right o (st x) (session_things x (take k ss)) (q.object ∷ take i q.slots) mid in
-    let slots = bank_seen o (st x) q.slots i u inside its.1 (seen_left o (st x) (drop (suc i) q.slots) (session_things x (drop (suc k) ss)) b) in
+    let own = seen_left o (st x) ts (session_contents x (take k ss) ++ q.object ∷ take i q.slots) a in
+    let mid = seen_right o (st x) ts (session_contents x (take k ss) ++ q.object ∷ take i q.slots) a in
+    let its = seen_right o (st x) (session_contents x (take k ss)) (q.object ∷ take i q.slots) mid in
+    let slots = bank_seen o (st x) q.slots i u inside its.1 (seen_left o (st x) (drop (suc i) q.slots) (session_contents x (drop (suc k) ss)) b) in
     let leaves = own_then f s m h u n long heaps between x lt same own in
     let sessions = sessions_set f.names (memory_of s) st x (length s.own) same n ss k (with_slot q i u) between
-    (seen_left o (st x) (session_things x (take k ss)) (q.object ∷ take i q.slots) mid)
-    (seen_right o (st x) (drop (suc i) q.slots) (session_things x (drop (suc k) ss)) b) in
+    (seen_left o (st x) (session_contents x (take k ss)) (q.object ∷ take i q.slots) mid)
+    (seen_right o (st x) (drop (suc i) q.slots) (session_contents x (drop (suc k) ss)) b) in
     let w : world.World = world_seen f s in
     let before : world.Session = session_seen f.names o q in
     (λ z. record { leaves = leaves z; sessions = sessions z; requests = w.requests })
@@ -300,11 +300,11 @@ world_after f s m (InObject k) h u n there long heaps lt between same a b =
     let x = q.server in
     let o = memory_of s x in
     let ts = get_or s.own x [] in
-    let own = seen_left o (st x) ts (session_things x (take k ss)) a in
-    let slots = same_map o (st x) q.slots (seen_left o (st x) q.slots (session_things x (drop (suc k) ss)) b) in
+    let own = seen_left o (st x) ts (session_contents x (take k ss)) a in
+    let slots = same_map o (st x) q.slots (seen_left o (st x) q.slots (session_contents x (drop (suc k) ss)) b) in
     let leaves = own_then f s m h u n long heaps between x lt same own in
     let sessions = sessions_set f.names (memory_of s) st x (length s.own) same n ss k (with_object q u) between
-    (seen_right o (st x) ts (session_things x (take k ss)) a) (seen_right o (st x) q.slots (session_things x (drop (suc k) ss)) b) in
+    (seen_right o (st x) ts (session_contents x (take k ss)) a) (seen_right o (st x) q.slots (session_contents x (drop (suc k) ss)) b) in
     let w : world.World = world_seen f s in
     let before : world.Session = session_seen f.names o q in
     (λ z. record { leaves = leaves z; sessions = sessions z; requests = w.requests })

@@ -6,14 +6,14 @@ use Rattle.gq_model.specs.machine.Scenario.{System}
 use Rattle.gq_model.specs.machine.Memory.{buffer_of, bytes_spot}
 use Rattle.gq_model.specs.machine.World as world
 use Rattle.gq_trade.specs.Numbers.{IsTaken}
-use Rattle.gq_contents.specs.declared.thing.Thing.{Thing}
-use Rattle.gq_contents.specs.declared.thing.Thing.TheVariants.{Empty, Block, Slice, Space, Pool, Link, Waiting}
-use Rattle.gq_contents.specs.Things.{bytes_in, put_in, size_of}
+use Rattle.gq_contents.specs.declared.content.Content.{Content}
+use Rattle.gq_contents.specs.declared.content.Content.TheVariants.{Empty, Block, Slice, Space, Pool, Link, Waiting}
+use Rattle.gq_contents.specs.Contents.{bytes_in, put_in, size_of}
 use Rattle.gq_trade.specs.declared.session.Spot.{Spot}
 use Rattle.gq_trade.specs.declared.session.Spot.TheVariants.{InLeaf, InSession, InObject}
 use Rattle.gq_trade.specs.Seen.{spot_seen}
 use Rattle.gq_trade.specs.Trading.{session_at}
-use Rattle.gq_slots.specs.Slots.{Frame, Slots, slot_of, thing_at}
+use Rattle.gq_slots.specs.Slots.{Frame, Slots, slot_of, content_at}
 
 -- WHERE THE BYTES OF A SLOT STAND
 
@@ -30,7 +30,7 @@ abbrev pub buffer_spot : List ℕ → Slots → ℕ → Option Spot
 buffer_spot bs s k = if buffer_at bs s k == 0 then None else Some (InSession k 0)
 
 -- the bytes of a link stand in the buffer of its session, all others in the slot itself
-abbrev pub place_in : List ℕ → Slots → Thing → Spot → Option Spot
+abbrev pub place_in : List ℕ → Slots → Content → Spot → Option Spot
 place_in bs s Empty p = Some p
 place_in bs s (Block q n) p = Some p
 place_in bs s (Slice k n) p = Some p
@@ -41,7 +41,7 @@ place_in bs s (Waiting k) p = Some p
 
 -- nothing lies behind a link to a session without a buffer
 abbrev pub place_of : List ℕ → Slots → Spot → Option Spot
-place_of bs s p = place_in bs s (thing_at s p) p
+place_of bs s p = place_in bs s (content_at s p) p
 
 abbrev pub place_seen : Option Spot → Option world.Spot
 place_seen None = None
@@ -49,7 +49,7 @@ place_seen (Some p) = Some (spot_seen p)
 
 -- a link that is in the slot leads to a session that is there
 abbrev pub IsLinked : Slots → Spot → Type 0
-IsLinked s p = (k : ℕ) → thing_at s p ≡ Link k → IsTaken s.trades.trading.sessions k
+IsLinked s p = (k : ℕ) → content_at s p ≡ Link k → IsTaken s.trades.trading.sessions k
 
 -- WHAT LIES AT AN ADDRESS
 
@@ -64,7 +64,7 @@ offset a = a % 67108864
 -- the index i of a slot, where n bytes stand in it from there on
 abbrev pub within : Slots → ℕ → ℕ → Option Spot → Option (Spot × ℕ)
 within s i n None = None
-within s i n (Some p) = if nat_le (i + n) (size_of (thing_at s p)) then Some (p, i) else None
+within s i n (Some p) = if nat_le (i + n) (size_of (content_at s p)) then Some (p, i) else None
 
 -- where the n bytes from the address a of the leaf x on stand: the slot, and the index in it
 abbrev pub bytes_at : List ℕ → Slots → ℕ → ℕ → ℕ → Option (Spot × ℕ)

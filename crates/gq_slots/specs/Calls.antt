@@ -26,7 +26,7 @@ pub record SameBeside (old new : Slots) : Type 0 where
   pub holders : (q : Spot) → holder new q ≡ holder old q
 
 -- The slot holds this now, and all else of the machine's world is as before, whatever the leaves do.
-pub record Puts (old new : Slots) (p : Spot) (slot : world.Slot) : Type 0 where
+pub record PutsSlot (old new : Slots) (p : Spot) (slot : world.Slot) : Type 0 where
   pub seen_so : (f : Frame) → world_seen f new ≡ world.with_slot (world_seen f old) (spot_seen p) slot
   pub rest : SameBeside old new
 

@@ -52,11 +52,11 @@ abbrev pub begun_at : world.World → ℕ → Ask → ℕ → Option world.Sessi
 begun_at w k a n None = w
 begun_at w k a n (Some q) = world.with_session w k (begun a n q)
 
--- a request of the session k, whose object has n bytes, is at hand, and these are left
+-- a request of the session k, whose object has n bytes, is current, and these are left
 abbrev pub accepting : world.World → ℕ → Ask → ℕ → List world.Request → world.World
 accepting w k a n rest = begun_at (record w { requests = rest }) k a n (world.session_at w k)
 
--- The oldest request to the leaf x is at hand, and what it asks for has begun.
+-- The oldest request to the leaf x is current, and what it asks for has begun.
 pub record TakesOldest (old new : Slots) (x : ℕ) (r : Request) : Type 0 where
   pub accepts : Accepts old.trades.trading new.trades.trading x r
   pub oldest : (f : Frame) → step.oldest (world_seen f old) x (world_seen f old).requests ≡ Some (request_seen r, (world_seen f new).requests)

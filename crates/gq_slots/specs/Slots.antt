@@ -1,4 +1,4 @@
--- What every slot of a scenario holds, those of its leaves and those of its sessions, as the account machine has it.
+-- What every slot of a scenario holds, those of its leaves and those of its sessions, as the abstract machine has it.
 use Rattle.std.specs.Prelude.{◌≡◌, ℕ, suc, ◌+◌, ◌<◌, ◌≤◌, ◌==◌, if◌then◌else◌, List, [], ◌∷◌, length, map, get_or, replicate, slice_get, Option, Some, None}
 use Rattle.gq_tariff.specs.Prices.{classes, size_for}
 use Rattle.gq_model.specs.machine.Amounts.{Resource, Ram, Caps}
@@ -7,15 +7,15 @@ use Rattle.gq_model.specs.machine.World as world
 use Rattle.gq_model.specs.machine.Sums.{held, places, with_peaks}
 use Rattle.gq_store.specs.Store.{Store}
 use Rattle.gq_heap.specs.declared.heap.Heap.{Heap}
-use Rattle.gq_heap.specs.Heap.{Keeps, peaks, rise, rise_caps}
+use Rattle.gq_heap.specs.Heap.{KeepsPlaces, peaks, rise, rise_caps}
 use Rattle.gq_trade.specs.Numbers.{IsTaken}
 use Rattle.gq_trade.specs.declared.requests.Ask.{Ask}
 use Rattle.gq_trade.specs.declared.requests.Ask.TheVariants as ask
 use Rattle.gq_trade.specs.declared.requests.Request.{Request}
 use Rattle.gq_trade.specs.Seen_requests.{request_seen}
-use Rattle.gq_contents.specs.declared.thing.Thing.{Thing}
-use Rattle.gq_contents.specs.declared.thing.Thing.TheVariants.{Empty, Block, Slice, Space, Pool, Link, Waiting}
-use Rattle.gq_contents.specs.Things.{entry_size, seen}
+use Rattle.gq_contents.specs.declared.content.Content.{Content}
+use Rattle.gq_contents.specs.declared.content.Content.TheVariants.{Empty, Block, Slice, Space, Pool, Link, Waiting}
+use Rattle.gq_contents.specs.Contents.{entry_size, seen}
 use Rattle.gq_contents.specs.Paid.{raised_by}
 use Rattle.gq_trade.specs.declared.session.Spot.{Spot}
 use Rattle.gq_trade.specs.declared.session.Spot.TheVariants.{InLeaf, InSession, InObject}
@@ -27,7 +27,7 @@ use Rattle.gq_trade.specs.Trades.{Trades}
 -- sessions over accounts, and of each leaf its own slots and its heap
 pub record Slots : Type 0 where
   pub trades : Trades
-  pub own : List (List Thing)
+  pub own : List (List Content)
   pub heaps : List Heap
 
 abbrev pub trading_of : Slots → Trading
@@ -57,17 +57,17 @@ holder s (InLeaf x i) = x
 holder s (InSession k i) = server_of s.trades.trading k
 holder s (InObject k) = server_of s.trades.trading k
 
-abbrev pub thing_at : Slots → Spot → Thing
-thing_at s (InLeaf x i) = get_or (get_or s.own x []) i Empty
-thing_at s (InSession k i) = get_or (session_at s.trades.trading k).slots i Empty
-thing_at s (InObject k) = (session_at s.trades.trading k).object
+abbrev pub content_at : Slots → Spot → Content
+content_at s (InLeaf x i) = get_or (get_or s.own x []) i Empty
+content_at s (InSession k i) = get_or (session_at s.trades.trading k).slots i Empty
+content_at s (InObject k) = (session_at s.trades.trading k).object
 
--- the slot of the account machine that it stands for
+-- the slot of the abstract machine that it stands for
 abbrev pub slot_of : Slots → Spot → world.Slot
-slot_of s p = seen (memory_of s (holder s p)) (thing_at s p)
+slot_of s p = seen (memory_of s (holder s p)) (content_at s p)
 
 -- it holds no memory
-abbrev pub IsMark : Thing → Type 0
+abbrev pub IsMark : Content → Type 0
 IsMark Empty = Unit {0}
 IsMark (Block p n) = ⊥
 IsMark (Slice k n) = ⊥
@@ -92,11 +92,11 @@ pub record Frame : Type 0 where
   pub leaf : ℕ → world.Leaf
 
 -- a leaf with these slots, and with the peaks of its heap
-abbrev pub leaf_seen : world.Leaf → Store → List Thing → Heap → world.Leaf
+abbrev pub leaf_seen : world.Leaf → Store → List Content → Heap → world.Leaf
 leaf_seen leaf st ts h = record leaf { slots = map (seen st) ts; peaks = peaks h }
 
 -- all leaves from the first on
-abbrev pub leaves_seen : (ℕ → world.Leaf) → (ℕ → Store) → List (List Thing) → List Heap → List world.Leaf
+abbrev pub leaves_seen : (ℕ → world.Leaf) → (ℕ → Store) → List (List Content) → List Heap → List world.Leaf
 leaves_seen leaf st [] hs = []
 leaves_seen leaf st (ts ∷ own) [] = []
 leaves_seen leaf st (ts ∷ own) (h ∷ hs) = leaf_seen (leaf 0) (st 0) ts h ∷ leaves_seen (λ x. leaf (suc x)) (λ x. st (suc x)) own hs
@@ -142,7 +142,7 @@ pub record AreLong (s : Slots) : Type 0 where
   pub slots : (k : ℕ) → IsTaken s.trades.trading.sessions k → length (session_at s.trades.trading k).slots ≡ 8
 
 -- an object is a slice, once it is there
-abbrev pub IsObject : Thing → Type 0
+abbrev pub IsObject : Content → Type 0
 IsObject Empty = Unit {0}
 IsObject (Block p n) = ⊥
 IsObject (Slice k n) = Unit {0}
@@ -157,7 +157,7 @@ AreObjects (None ∷ ss) = AreObjects ss
 AreObjects (Some s ∷ ss) = IsObject s.object × AreObjects ss
 
 -- of a session whose request to open waits there is no object yet
-abbrev pub IsUnmade : Ask → Thing → Type 0
+abbrev pub IsUnmade : Ask → Content → Type 0
 IsUnmade ask.Open t = t ≡ Empty
 IsUnmade ask.Upgrade t = Unit {0}
 IsUnmade ask.Close t = Unit {0}
@@ -189,13 +189,13 @@ AreRises s = (r : Resource) (f : Frame) (x : ℕ) (h : Heap) (leaf : world.Leaf)
 
 -- an entry of a pool is a place of a class: it has at most 2048 bytes
 abbrev pub AreSmallEntries : Slots → Type 0
-AreSmallEntries s = (p : Spot) → IsSpot s p → entry_size (thing_at s p) ≤ 2048
+AreSmallEntries s = (p : Spot) → IsSpot s p → entry_size (content_at s p) ≤ 2048
 
 -- AT FIRST
 
 -- a heap without a block, whose peaks are 0
 pub record IsNew (h : Heap) : Type 0 where
-  pub keeps : (st : Store) → Keeps h st []
+  pub keeps : (st : Store) → KeepsPlaces h st []
   pub peaks : peaks h ≡ replicate 8 0
 
 -- n heaps without a block

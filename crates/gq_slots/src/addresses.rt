@@ -8,19 +8,19 @@ ghost use Rattle.gq_model.specs.machine.Scenario.{System};
 ghost use Rattle.gq_model.specs.machine.Memory.{bytes_spot};
 ghost use Rattle.gq_model.specs.machine.World.{slot_at, Link};
 ghost use Rattle.gq_trade.specs.Numbers.{IsTaken};
-ghost use Rattle.gq_contents.specs.Things.{bytes_in, put_in, size_of};
+ghost use Rattle.gq_contents.specs.Contents.{bytes_in, put_in, size_of};
 ghost use Rattle.gq_trade.specs.Seen.{spot_seen};
 ghost use Rattle.gq_trade.specs.declared.session.Spot.{Spot};
 ghost use Rattle.gq_trade.specs.Trades.{IsLive};
 ghost use Rattle.gq_slots.specs.Slots.{Slots as Seen};
-ghost use Rattle.gq_slots.specs.Slots.{Frame, IsMark, IsPaidBy, IsSlot, IsSpot, holder, slot_of, thing_at, world_seen};
-ghost use Rattle.gq_slots.specs.Calls.{Puts};
+ghost use Rattle.gq_slots.specs.Slots.{Frame, IsMark, IsPaidBy, IsSlot, IsSpot, holder, slot_of, content_at, world_seen};
+ghost use Rattle.gq_slots.specs.Calls.{PutsSlot};
 ghost use Rattle.gq_slots.specs.Addresses.{AreBuffers, AreFound, IsLinked, buffer_spot, byte_of, bytes_at, bytes_under, four_in, number_of, offset};
 ghost use Rattle.gq_slots.specs.Addresses.{IsNumbered, base_for, own_base, place_in, place_of, place_seen, put_under, slot_for, slot_under};
 ghost use Rattle.gq_slots.specs.internal.Paying.{paying};
 
 use crate::slots::Slots;
-use gq_contents::Thing;
+use gq_contents::Content;
 use gq_trade::{Session, Spot};
 use std::marker::Model;
 
@@ -63,14 +63,14 @@ impl Addresses {
             → place_seen result ≡ bytes_spot system (world_seen f slots.now) (slot_at (world_seen f slots.now) (spot_seen spot)) (spot_seen spot) }
     {
         slots.trades().laws();
-        match slots.thing(spot) {
-            Thing::Link(session) => self.buffer_spot(slots, session as usize),
-            Thing::Empty
-            | Thing::Block(_, _)
-            | Thing::Slice(_, _)
-            | Thing::Space(_, _)
-            | Thing::Pool(_)
-            | Thing::Waiting(_) => Some(spot),
+        match slots.content(spot) {
+            Content::Link(session) => self.buffer_spot(slots, session as usize),
+            Content::Empty
+            | Content::Block(_, _)
+            | Content::Slice(_, _)
+            | Content::Space(_, _)
+            | Content::Pool(_)
+            | Content::Waiting(_) => Some(spot),
         }
     }
 
@@ -105,12 +105,12 @@ impl Addresses {
         requires small { session < 4294967296 }
         requires slot { IsSlot (slot_for slots.old session) }
         requires spot { IsSpot slots.old (slot_for slots.old session) }
-        requires waits { IsMark (thing_at slots.old (slot_for slots.old session)) }
-        ensures linked { Puts slots.old slots.new (slot_for slots.old session) (Link session) }
+        requires waits { IsMark (content_at slots.old (slot_for slots.old session)) }
+        ensures linked { PutsSlot slots.old slots.new (slot_for slots.old session) (Link session) }
         ensures base { result ≡ base_for self.now slots.old session }
     {
         let Session { spot, service, .. } = slots.trades().session(session);
-        slots.mark(spot, Thing::Link(session as u32));
+        slots.mark(spot, Content::Link(session as u32));
         if self.buffer(service) == 0 {
             None
         } else {
@@ -134,7 +134,7 @@ impl Addresses {
         requires some { 0 < count }
         ensures is { result ≡ bytes_at self.now slots.now leaf address count }
         ensures there { IfSome result (λ f. IsSpot slots.now f.0) }
-        ensures inside { IfSome result (λ f. f.1 + count ≤ size_of (thing_at slots.now f.0)) }
+        ensures inside { IfSome result (λ f. f.1 + count ≤ size_of (content_at slots.now f.0)) }
         ensures live { IsLive slots.now.trades leaf → IfSome result (λ f. IsLive slots.now.trades (holder slots.now f.0)) }
         ensures world { (f : Frame) (system : System) → AreBuffers system f slots.now self.now
             → AreFound system (world_seen f slots.now) slots.now (slot_under leaf address) (offset address) count result }
@@ -143,7 +143,7 @@ impl Addresses {
         let slot = (address / WINDOW) as u8;
         let index = address % WINDOW;
         let spot = self.bytes_spot(slots, Spot::InLeaf(leaf, slot))?;
-        if u64::from(index) + u64::from(count) <= slots.thing(spot).size() {
+        if u64::from(index) + u64::from(count) <= slots.content(spot).size() {
             Some((spot, index))
         } else {
             None
@@ -156,15 +156,15 @@ impl Addresses {
         requires leaf { leaf < length slots.now.own }
         requires linked { IsLinked slots.now (slot_under leaf address) }
         ensures is { IsTrue result → bytes_at self.now slots.now leaf address count ≡ Some (slot_under leaf address, offset address) }
-        ensures inside { IsTrue result → offset address + count ≤ size_of (thing_at slots.now (slot_under leaf address)) }
+        ensures inside { IsTrue result → offset address + count ≤ size_of (content_at slots.now (slot_under leaf address)) }
         ensures world { IsTrue result → (f : Frame) (system : System) → AreBuffers system f slots.now self.now
             → AreFound system (world_seen f slots.now) slots.now (slot_under leaf address) (offset address) count
             (Some (slot_under leaf address, offset address)) }
     {
         let _buffers = &self.buffers;
         slots.trades().laws();
-        let thing = slots.thing(own_slot(leaf, address));
-        is_space_with(thing, address % WINDOW, count)
+        let content = slots.content(own_slot(leaf, address));
+        is_space_with(content, address % WINDOW, count)
     }
 
     /// The byte at an address of the leaf that pays. `None` where none lies there. Nothing changes: a byte of a buffer is read in the memory of the
@@ -242,7 +242,7 @@ impl Addresses {
         requires linked { IsLinked slots.old (slot_under leaf address) }
         ensures there { result ≡ is_some (bytes_at self.now slots.old leaf address 1) }
         ensures stored { IfSome (bytes_at self.now slots.old leaf address 1)
-            (λ f. Puts slots.old slots.new f.0 (put_in f.1 (value ∷ []) (slot_of slots.old f.0))) }
+            (λ f. PutsSlot slots.old slots.new f.0 (put_in f.1 (value ∷ []) (slot_of slots.old f.0))) }
         ensures unchanged { IfNone (bytes_at self.now slots.old leaf address 1) (slots.new ≡ slots.old) }
         ensures fits { (f : Frame) (system : System) → AreBuffers system f slots.old self.now
             → result ≡ nat_le (offset address + 1) (length (bytes_under system (world_seen f slots.old) leaf address)) }
@@ -265,7 +265,7 @@ impl Addresses {
         requires linked { IsLinked slots.old (slot_under leaf address) }
         ensures there { result ≡ is_some (bytes_at self.now slots.old leaf address 1) }
         ensures stored { IfSome (bytes_at self.now slots.old leaf address 1)
-            (λ f. Puts slots.old slots.new f.0 (put_in f.1 (value ∷ []) (slot_of slots.old f.0))) }
+            (λ f. PutsSlot slots.old slots.new f.0 (put_in f.1 (value ∷ []) (slot_of slots.old f.0))) }
         ensures unchanged { IfNone (bytes_at self.now slots.old leaf address 1) (slots.new ≡ slots.old) }
         ensures fits { (f : Frame) (system : System) → AreBuffers system f slots.old self.now
             → result ≡ nat_le (offset address + 1) (length (bytes_under system (world_seen f slots.old) leaf address)) }
@@ -288,7 +288,7 @@ impl Addresses {
         requires linked { IsLinked slots.old (slot_under leaf address) }
         ensures there { result ≡ is_some (bytes_at self.now slots.old leaf address 4) }
         ensures stored { IfSome (bytes_at self.now slots.old leaf address 4)
-            (λ f. Puts slots.old slots.new f.0 (put_in f.1 (spelled 4 value) (slot_of slots.old f.0))) }
+            (λ f. PutsSlot slots.old slots.new f.0 (put_in f.1 (spelled 4 value) (slot_of slots.old f.0))) }
         ensures unchanged { IfNone (bytes_at self.now slots.old leaf address 4) (slots.new ≡ slots.old) }
         ensures fits { (f : Frame) (system : System) → AreBuffers system f slots.old self.now
             → result ≡ nat_le (offset address + 4) (length (bytes_under system (world_seen f slots.old) leaf address)) }
@@ -311,7 +311,7 @@ impl Addresses {
         requires linked { IsLinked slots.old (slot_under leaf address) }
         ensures there { result ≡ is_some (bytes_at self.now slots.old leaf address 4) }
         ensures stored { IfSome (bytes_at self.now slots.old leaf address 4)
-            (λ f. Puts slots.old slots.new f.0 (put_in f.1 (spelled 4 value) (slot_of slots.old f.0))) }
+            (λ f. PutsSlot slots.old slots.new f.0 (put_in f.1 (spelled 4 value) (slot_of slots.old f.0))) }
         ensures unchanged { IfNone (bytes_at self.now slots.old leaf address 4) (slots.new ≡ slots.old) }
         ensures fits { (f : Frame) (system : System) → AreBuffers system f slots.old self.now
             → result ≡ nat_le (offset address + 4) (length (bytes_under system (world_seen f slots.old) leaf address)) }
@@ -348,18 +348,18 @@ fn own_slot(leaf: usize, address: u32) -> Spot
 
 // Whether it is a space that has so many bytes from an index on, of those that were asked for: its last page may have more.
 #[inline(always)]
-fn is_space_with(thing: Thing, index: u32, count: u32) -> bool
-    ensures inside { IsTrue result → index + count ≤ size_of thing }
-    ensures space { IsTrue result → (bs : List ℕ) (s : Seen) (p : Spot) → place_in bs s thing p ≡ Some p }
+fn is_space_with(content: Content, index: u32, count: u32) -> bool
+    ensures inside { IsTrue result → index + count ≤ size_of content }
+    ensures space { IsTrue result → (bs : List ℕ) (s : Seen) (p : Spot) → place_in bs s content p ≡ Some p }
 {
-    match thing {
-        Thing::Space(_, size) => u64::from(index) + u64::from(count) <= u64::from(size),
-        Thing::Empty
-        | Thing::Block(_, _)
-        | Thing::Slice(_, _)
-        | Thing::Pool(_)
-        | Thing::Link(_)
-        | Thing::Waiting(_) => false,
+    match content {
+        Content::Space(_, size) => u64::from(index) + u64::from(count) <= u64::from(size),
+        Content::Empty
+        | Content::Block(_, _)
+        | Content::Slice(_, _)
+        | Content::Pool(_)
+        | Content::Link(_)
+        | Content::Waiting(_) => false,
     }
 }
 
@@ -377,7 +377,7 @@ fn load_for(slots: &mut Slots, leaf: usize, spot: Spot, index: u32) -> u8
     requires holder { IsLive slots.old.trades (holder slots.old spot) }
     requires live { IsLive slots.old.trades leaf }
     requires paid { IsPaidBy slots.old leaf }
-    requires inside { index < size_of (thing_at slots.old spot) }
+    requires inside { index < size_of (content_at slots.old spot) }
     ensures byte { result ≡ slice_index (bytes_in (slot_of slots.old spot)) index }
     ensures same { slots.new ≡ slots.old }
 {
@@ -396,7 +396,7 @@ fn load4_for(slots: &mut Slots, leaf: usize, spot: Spot, index: u32) -> u32
     requires holder { IsLive slots.old.trades (holder slots.old spot) }
     requires live { IsLive slots.old.trades leaf }
     requires paid { IsPaidBy slots.old leaf }
-    requires inside { index + 4 ≤ size_of (thing_at slots.old spot) }
+    requires inside { index + 4 ≤ size_of (content_at slots.old spot) }
     ensures number { result ≡ little (slice_range (bytes_in (slot_of slots.old spot)) index (index + 4)) }
     ensures same { slots.new ≡ slots.old }
 {
@@ -415,8 +415,8 @@ fn store_for(slots: &mut Slots, leaf: usize, spot: Spot, index: u32, value: u8)
     requires holder { IsLive slots.old.trades (holder slots.old spot) }
     requires live { IsLive slots.old.trades leaf }
     requires paid { IsPaidBy slots.old leaf }
-    requires inside { index < size_of (thing_at slots.old spot) }
-    ensures { Puts slots.old slots.new spot (put_in index (value ∷ []) (slot_of slots.old spot)) }
+    requires inside { index < size_of (content_at slots.old spot) }
+    ensures { PutsSlot slots.old slots.new spot (put_in index (value ∷ []) (slot_of slots.old spot)) }
 {
     if is_held_by(slots, spot, leaf) {
         slots.store(spot, index, value);
@@ -433,8 +433,8 @@ fn store4_for(slots: &mut Slots, leaf: usize, spot: Spot, index: u32, value: u32
     requires holder { IsLive slots.old.trades (holder slots.old spot) }
     requires live { IsLive slots.old.trades leaf }
     requires paid { IsPaidBy slots.old leaf }
-    requires inside { index + 4 ≤ size_of (thing_at slots.old spot) }
-    ensures { Puts slots.old slots.new spot (put_in index (spelled 4 value) (slot_of slots.old spot)) }
+    requires inside { index + 4 ≤ size_of (content_at slots.old spot) }
+    ensures { PutsSlot slots.old slots.new spot (put_in index (spelled 4 value) (slot_of slots.old spot)) }
 {
     if is_held_by(slots, spot, leaf) {
         slots.store4(spot, index, value);

@@ -1,12 +1,12 @@
 // Leaves that end, over all slots of a scenario.
 ghost use Rattle.std.specs.Prelude.{◌≡◌, ◌<◌, length, replicate, slice_set};
-ghost use Rattle.gq_contents.specs.declared.thing.Thing.TheVariants as thing;
+ghost use Rattle.gq_contents.specs.declared.content.Content.TheVariants as content;
 ghost use Rattle.gq_trade.specs.Ends.{HasNoSessions};
 ghost use Rattle.gq_trade.specs.Trades.{IsLive};
 ghost use Rattle.gq_slots.specs.Session_calls.{EndsLeaf};
 
 use crate::slots::Slots;
-use gq_contents::Thing;
+use gq_contents::Content;
 use gq_heap::Heap;
 
 /// Ends a leaf from which and to which there is no session: its slots are empty, its account is closed with all that it has in memory, and its quota of
@@ -25,9 +25,9 @@ pub fn end(slots: &mut Slots, leaf: usize)
 }
 
 // Makes all slots of a leaf empty.
-fn clear_all(own: &mut Vec<[Thing; 64]>, leaf: usize)
+fn clear_all(own: &mut Vec<[Content; 64]>, leaf: usize)
     requires { leaf < length own.old.items }
-    ensures { own.new.items ≡ slice_set own.old.items leaf (replicate 64 thing.Empty) }
+    ensures { own.new.items ≡ slice_set own.old.items leaf (replicate 64 content.Empty) }
 {
-    own[leaf] = [Thing::Empty; 64];
+    own[leaf] = [Content::Empty; 64];
 }

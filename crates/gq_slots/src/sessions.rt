@@ -1,7 +1,7 @@
 // Sessions over all slots of a scenario: the requests of clients, what their servers take of them, and sessions that end.
 ghost use Rattle.std.specs.Prelude.{◌≡◌, ℕ, ◌<◌, ◌≤◌, ◌↔◌, [], length, get_or, None};
 ghost use Rattle.std.specs.Prelude.{IfOk, IfNone, IfSome, OnOk, OnErr, IsErrOf};
-ghost use Rattle.gq_contents.specs.declared.thing.Thing.TheVariants as thing;
+ghost use Rattle.gq_contents.specs.declared.content.Content.TheVariants as content;
 ghost use Rattle.gq_model.specs.machine.World as world;
 ghost use Rattle.gq_trade.specs.Seen.{spot_seen};
 ghost use Rattle.gq_model.specs.machine.Requests.{new_session};
@@ -14,7 +14,7 @@ ghost use Rattle.gq_trade.specs.Trading.{AreOfOthers, bytes_then, caps_then, upg
 ghost use Rattle.gq_trade.specs.declared.session.Spot.TheVariants.{InObject, InSession};
 ghost use Rattle.gq_trade.specs.Waiting.{IsIdle};
 ghost use Rattle.gq_trade.specs.Trades.{IsLive};
-ghost use Rattle.gq_slots.specs.Slots.{Frame, thing_at, world_seen};
+ghost use Rattle.gq_slots.specs.Slots.{Frame, content_at, world_seen};
 ghost use Rattle.gq_slots.specs.Session_calls.{EndsSession, TakesOldest, asking, opening, upgrading, with_trades};
 
 use crate::slots::Slots;
@@ -139,8 +139,8 @@ pub fn accept(slots: &mut Slots, server: usize) -> Result<Option<Request>, GrowF
 /// capabilities back; then nothing changes.
 pub fn closed(slots: &mut Slots, session: usize) -> Result<(), AccountFault>
     requires there { IsTaken slots.old.trades.trading.sessions session }
-    requires object { thing_at slots.old (InObject session) ≡ thing.Empty → ⊥ }
-    requires empty { (i : ℕ) → i < 8 → thing_at slots.old (InSession session i) ≡ thing.Empty }
+    requires object { content_at slots.old (InObject session) ≡ content.Empty → ⊥ }
+    requires empty { (i : ℕ) → i < 8 → content_at slots.old (InSession session i) ≡ content.Empty }
     requires none_waits { AreOfOthers session slots.old.trades.trading.requests }
     ensures ends { OnOk result (EndsSession slots.old slots.new session) }
     ensures unchanged { OnErr result (slots.new ≡ slots.old) }

@@ -9,8 +9,8 @@ ghost use Rattle.gq_model.specs.machine.Memory.{entry_byte, entry_with};
 ghost use Rattle.gq_model.specs.machine.World as world;
 ghost use Rattle.gq_heap.specs.declared.heap.Heap.{Heap};
 ghost use Rattle.gq_heap.specs.Heap.{rise};
-ghost use Rattle.gq_contents.specs.declared.thing.Thing.TheVariants as thing;
-ghost use Rattle.gq_contents.specs.Things.{added, bytes_in, entry_count, entry_in, entry_size, put_in, removed, seen, size_of, with_entry};
+ghost use Rattle.gq_contents.specs.declared.content.Content.TheVariants as content;
+ghost use Rattle.gq_contents.specs.Contents.{added, bytes_in, entry_count, entry_in, entry_size, put_in, removed, seen, size_of, with_entry};
 ghost use Rattle.gq_trade.specs.Seen.{spot_seen};
 ghost use Rattle.gq_trade.specs.Numbers.{IsTaken};
 ghost use Rattle.gq_trade.specs.Trading.{account_no, server_of, with_memory};
@@ -18,11 +18,11 @@ ghost use Rattle.gq_trade.specs.declared.session.Spot.TheVariants.{InLeaf, InObj
 ghost use Rattle.gq_trade.specs.Plans.{IsFirst, IsPlan};
 ghost use Rattle.gq_trade.specs.Trades.{IsLive, IsTrades, with_trading};
 ghost use Rattle.gq_slots.specs.Slots.{AreLong, AreNew, ArePaidFor, AreRead, AreRises, AreSmallEntries, AreSound, Frame, IsHeapOf, IsMark, IsPaidBy};
-ghost use Rattle.gq_slots.specs.Slots.{IsSlot, IsSpot, holder, memory_of, slot_of, thing_at, world_seen};
-ghost use Rattle.gq_slots.specs.Calls.{Puts, Settles};
+ghost use Rattle.gq_slots.specs.Slots.{IsSlot, IsSpot, holder, memory_of, slot_of, content_at, world_seen};
+ghost use Rattle.gq_slots.specs.Calls.{PutsSlot, Settles};
 
 use crate::places::{clear, fill, replace};
-use gq_contents::Thing;
+use gq_contents::Content;
 use gq_heap::Heap;
 use gq_store::GrowFault;
 use gq_trade::{Plan, Spot, Trades};
@@ -38,7 +38,7 @@ pub struct Slots {
     /// The sessions with the accounts.
     pub(crate) trades: Trades,
     /// The own slots of each leaf.
-    pub(crate) own: Vec<[Thing; 64]>,
+    pub(crate) own: Vec<[Content; 64]>,
     /// The heap of each leaf.
     pub(crate) heaps: Vec<Heap>,
 }
@@ -55,12 +55,12 @@ impl Model for Slots {
 }
 
 // The slots of so many leaves, all empty.
-fn slots_of(alloc: Global, count: usize) -> Result<Vec<[Thing; 64]>, AllocError>
-    ensures { IfOk result (λ own. own.items ≡ replicate count (replicate 64 thing.Empty)) }
+fn slots_of(alloc: Global, count: usize) -> Result<Vec<[Content; 64]>, AllocError>
+    ensures { IfOk result (λ own. own.items ≡ replicate count (replicate 64 content.Empty)) }
 {
     let mut own = Vec::new(alloc);
     for _ in 0..count {
-        own.push([Thing::Empty; 64])?;
+        own.push([Content::Empty; 64])?;
     }
     Ok(own)
 }
@@ -91,7 +91,7 @@ impl Slots {
         requires caps { IfSome caps (λ n. (1 ≤ n) × (n ≤ 65536)) }
         requires plan { IsPlan total caps plan.parents.items plan.nodes.items plan.leaves.items plan.objects.items }
         ensures trades { IfOk result (λ s. IsFirst total caps plan.parents.items plan.nodes.items plan.leaves.items plan.objects.items room s.trades) }
-        ensures own { IfOk result (λ s. s.own ≡ replicate (length plan.leaves.items) (replicate 64 thing.Empty)) }
+        ensures own { IfOk result (λ s. s.own ≡ replicate (length plan.leaves.items) (replicate 64 content.Empty)) }
         ensures heaps { IfOk result (λ s. AreNew (length plan.leaves.items) s.heaps) }
     {
         let count = plan.leaves.len();
@@ -131,9 +131,9 @@ impl Slots {
 
     /// What is in a slot. In the machine's world it is what `seen` says of it.
     #[inline(always)]
-    pub fn thing(&self, spot: Spot) -> Thing
+    pub fn content(&self, spot: Spot) -> Content
         requires { IsSpot self.now spot }
-        ensures is { result ≡ thing_at self.now spot }
+        ensures is { result ≡ content_at self.now spot }
         ensures reads { (f : Frame) → world.slot_at (world_seen f self.now) (spot_seen spot)
             ≡ Some (seen (memory_of self.now (holder self.now spot)) result) }
     {
@@ -143,9 +143,9 @@ impl Slots {
 
     // What is in a slot.
     #[inline(always)]
-    fn found(&self, spot: Spot) -> Thing
+    fn found(&self, spot: Spot) -> Content
         requires { IsSpot self.now spot }
-        ensures { result ≡ thing_at self.now spot }
+        ensures { result ≡ content_at self.now spot }
     {
         match spot {
             Spot::InLeaf(leaf, slot) => self.own[leaf][usize::from(slot)],
@@ -175,13 +175,13 @@ impl Slots {
     pub fn load(&self, spot: Spot, index: u32) -> u8
         requires there { IsSpot self.now spot }
         requires paid { IsPaidBy self.now (holder self.now spot) }
-        requires inside { index < size_of (thing_at self.now spot) }
+        requires inside { index < size_of (content_at self.now spot) }
         ensures { result ≡ slice_index (bytes_in (slot_of self.now spot)) index }
     {
         let _own = &self.own;
         let holder = self.holder(spot);
-        let thing = self.thing(spot);
-        thing.load(&self.trades, &self.heaps[holder], index)
+        let content = self.content(spot);
+        content.load(&self.trades, &self.heaps[holder], index)
     }
 
     /// The number in the four bytes from an index on, the lowest first.
@@ -189,13 +189,13 @@ impl Slots {
     pub fn load4(&self, spot: Spot, index: u32) -> u32
         requires there { IsSpot self.now spot }
         requires paid { IsPaidBy self.now (holder self.now spot) }
-        requires inside { index + 4 ≤ size_of (thing_at self.now spot) }
+        requires inside { index + 4 ≤ size_of (content_at self.now spot) }
         ensures { result ≡ little (slice_range (bytes_in (slot_of self.now spot)) index (index + 4)) }
     {
         let _own = &self.own;
         let holder = self.holder(spot);
-        let thing = self.thing(spot);
-        thing.load4(&self.trades, &self.heaps[holder], index)
+        let content = self.content(spot);
+        content.load4(&self.trades, &self.heaps[holder], index)
     }
 
     /// Sets the byte at an index of a block, a slice or a space.
@@ -203,13 +203,13 @@ impl Slots {
     pub fn store(&mut self, spot: Spot, index: u32, value: u8)
         requires there { IsSpot self.old spot }
         requires paid { IsPaidBy self.old (holder self.old spot) }
-        requires inside { index < size_of (thing_at self.old spot) }
-        ensures { Puts self.old self.new spot (put_in index (value ∷ []) (slot_of self.old spot)) }
+        requires inside { index < size_of (content_at self.old spot) }
+        ensures { PutsSlot self.old self.new spot (put_in index (value ∷ []) (slot_of self.old spot)) }
     {
         let holder = self.holder(spot);
-        let thing = self.thing(spot);
+        let content = self.content(spot);
         self.trades.laws();
-        thing.store(&mut self.trades, &self.heaps[holder], index, value);
+        content.store(&mut self.trades, &self.heaps[holder], index, value);
     }
 
     /// Writes a number to the four bytes from an index on, the lowest first.
@@ -217,13 +217,13 @@ impl Slots {
     pub fn store4(&mut self, spot: Spot, index: u32, value: u32)
         requires there { IsSpot self.old spot }
         requires paid { IsPaidBy self.old (holder self.old spot) }
-        requires inside { index + 4 ≤ size_of (thing_at self.old spot) }
-        ensures { Puts self.old self.new spot (put_in index (spelled 4 value) (slot_of self.old spot)) }
+        requires inside { index + 4 ≤ size_of (content_at self.old spot) }
+        ensures { PutsSlot self.old self.new spot (put_in index (spelled 4 value) (slot_of self.old spot)) }
     {
         let holder = self.holder(spot);
-        let thing = self.thing(spot);
+        let content = self.content(spot);
         self.trades.laws();
-        thing.store4(&mut self.trades, &self.heaps[holder], index, value);
+        content.store4(&mut self.trades, &self.heaps[holder], index, value);
     }
 
     /// Makes a slice of `size` bytes in an empty slot, which read 0.
@@ -234,7 +234,7 @@ impl Slots {
         requires slot { IsSlot spot }
         requires there { IsSpot self.old spot }
         requires paid { IsPaidBy self.old (holder self.old spot) }
-        requires empty { thing_at self.old spot ≡ thing.Empty }
+        requires empty { content_at self.old spot ≡ content.Empty }
         requires size { size ≤ 67108864 }
         ensures made { OnOk result (Settles self.old self.new spot (world.Bytes form.Slice size (replicate size 0))) }
         ensures unchanged { OnErr result (self.new ≡ self.old) }
@@ -245,7 +245,7 @@ impl Slots {
         let holder = self.holder(spot);
         let _heap = &self.heaps[holder];
         self.trades.laws();
-        let made = Thing::make_slice(&mut self.trades, size)?;
+        let made = Content::make_slice(&mut self.trades, size)?;
         fill(&mut self.trades, &mut self.own, spot, made);
         Ok(())
     }
@@ -255,7 +255,7 @@ impl Slots {
         requires slot { IsSlot spot }
         requires there { IsSpot self.old spot }
         requires paid { IsPaidBy self.old (holder self.old spot) }
-        requires empty { thing_at self.old spot ≡ thing.Empty }
+        requires empty { content_at self.old spot ≡ content.Empty }
         requires size { (1 ≤ size) × (size ≤ 67108864) }
         ensures made { OnOk result (Settles self.old self.new spot (world.Bytes form.Space size (replicate (up size) 0))) }
         ensures unchanged { OnErr result (self.new ≡ self.old) }
@@ -266,7 +266,7 @@ impl Slots {
         let holder = self.holder(spot);
         let _heap = &self.heaps[holder];
         self.trades.laws();
-        let made = Thing::make_space(&mut self.trades, size)?;
+        let made = Content::make_space(&mut self.trades, size)?;
         fill(&mut self.trades, &mut self.own, spot, made);
         Ok(())
     }
@@ -276,7 +276,7 @@ impl Slots {
         requires slot { IsSlot spot }
         requires there { IsSpot self.old spot }
         requires paid { IsPaidBy self.old (holder self.old spot) }
-        requires empty { thing_at self.old spot ≡ thing.Empty }
+        requires empty { content_at self.old spot ≡ content.Empty }
         requires size { (1 ≤ size) × (size ≤ 2048) }
         requires count { (1 ≤ count) × (count ≤ 1024) }
         ensures made { OnOk result (Settles self.old self.new spot (world.Pool size (replicate count None))) }
@@ -288,7 +288,7 @@ impl Slots {
         let holder = self.holder(spot);
         let _heap = &self.heaps[holder];
         self.trades.laws();
-        let made = Thing::make_pool(&mut self.trades, size, count)?;
+        let made = Content::make_pool(&mut self.trades, size, count)?;
         fill(&mut self.trades, &mut self.own, spot, made);
         Ok(())
     }
@@ -301,7 +301,7 @@ impl Slots {
         requires slot { IsSlot spot }
         requires there { IsSpot self.old spot }
         requires paid { IsPaidBy self.old (holder self.old spot) }
-        requires empty { thing_at self.old spot ≡ thing.Empty }
+        requires empty { content_at self.old spot ≡ content.Empty }
         requires size { (1 ≤ size) × (size ≤ 67108864) }
         ensures made { OnOk result (Settles self.old self.new spot (world.Bytes form.Block size (replicate size 0))) }
         ensures unchanged { OnErr result (self.new ≡ self.old) }
@@ -312,9 +312,9 @@ impl Slots {
             × ((memory_of self.old (holder self.old spot)).caps ≡ Some 0))) }
     {
         let holder = self.holder(spot);
-        let _empty = self.thing(spot);
+        let _empty = self.content(spot);
         self.trades.laws();
-        let made = Thing::make_block(&mut self.trades, &mut self.heaps[holder], size)?;
+        let made = Content::make_block(&mut self.trades, &mut self.heaps[holder], size)?;
         fill(&mut self.trades, &mut self.own, spot, made);
         Ok(())
     }
@@ -325,69 +325,69 @@ impl Slots {
     pub fn take(&mut self, spot: Spot, index: u32) -> Result<bool, GrowFault>
         requires there { IsSpot self.old spot }
         requires paid { IsPaidBy self.old (holder self.old spot) }
-        requires inside { index < entry_count (thing_at self.old spot) }
+        requires inside { index < entry_count (content_at self.old spot) }
         ensures taken { OnOk result (Settles self.old self.new spot (with_entry index added (slot_of self.old spot))) }
         ensures added { IfOk result (λ b. IsTrue b ↔ (entry_in index (slot_of self.old spot) ≡ None)) }
         ensures unchanged { OnErr result (self.new ≡ self.old) }
         ensures exceeded { (h : Heap) → IsHeapOf self.old (holder self.old spot) h → (IsErrOf result GrowFault.Exceeded
             ↔ ((entry_in index (slot_of self.old spot) ≡ None)
-            × ((memory_of self.old (holder self.old spot)).left < rise h (entry_size (thing_at self.old spot))))) }
+            × ((memory_of self.old (holder self.old spot)).left < rise h (entry_size (content_at self.old spot))))) }
         ensures caps_exceeded { (h : Heap) → IsHeapOf self.old (holder self.old spot) h → (IsErrOf result GrowFault.CapsExceeded
-            ↔ ((entry_in index (slot_of self.old spot) ≡ None) × (0 < rise h (entry_size (thing_at self.old spot)))
-            × (rise h (entry_size (thing_at self.old spot)) ≤ (memory_of self.old (holder self.old spot)).left)
+            ↔ ((entry_in index (slot_of self.old spot) ≡ None) × (0 < rise h (entry_size (content_at self.old spot)))
+            × (rise h (entry_size (content_at self.old spot)) ≤ (memory_of self.old (holder self.old spot)).left)
             × ((memory_of self.old (holder self.old spot)).caps ≡ Some 0))) }
     {
         let holder = self.holder(spot);
-        let thing = self.thing(spot);
+        let content = self.content(spot);
         self.trades.laws();
-        thing.take(&mut self.trades, &mut self.heaps[holder], index)
+        content.take(&mut self.trades, &mut self.heaps[holder], index)
     }
 
     /// Removes an entry of a pool, and says whether it did: not where it was absent.
     pub fn give(&mut self, spot: Spot, index: u32) -> bool
         requires there { IsSpot self.old spot }
         requires paid { IsPaidBy self.old (holder self.old spot) }
-        requires inside { index < entry_count (thing_at self.old spot) }
-        ensures given { Puts self.old self.new spot (with_entry index removed (slot_of self.old spot)) }
+        requires inside { index < entry_count (content_at self.old spot) }
+        ensures given { PutsSlot self.old self.new spot (with_entry index removed (slot_of self.old spot)) }
         ensures absent { (result ≡ false) ↔ (entry_in index (slot_of self.old spot) ≡ None) }
     {
         let holder = self.holder(spot);
-        let thing = self.thing(spot);
+        let content = self.content(spot);
         self.trades.laws();
-        thing.give(&mut self.trades, &mut self.heaps[holder], index)
+        content.give(&mut self.trades, &mut self.heaps[holder], index)
     }
 
     /// The byte of an entry of a pool, 0 where the entry is absent.
     pub fn peek(&self, spot: Spot, index: u32, offset: u32) -> u8
         requires there { IsSpot self.now spot }
         requires paid { IsPaidBy self.now (holder self.now spot) }
-        requires inside { (index < entry_count (thing_at self.now spot)) × (offset < entry_size (thing_at self.now spot)) }
+        requires inside { (index < entry_count (content_at self.now spot)) × (offset < entry_size (content_at self.now spot)) }
         ensures { result ≡ entry_byte (entry_in index (slot_of self.now spot)) offset }
     {
         let _own = &self.own;
         let holder = self.holder(spot);
-        let thing = self.thing(spot);
-        thing.peek(&self.trades, &self.heaps[holder], index, offset)
+        let content = self.content(spot);
+        content.peek(&self.trades, &self.heaps[holder], index, offset)
     }
 
     /// Sets the byte of an entry of a pool; where the entry is absent nothing is done.
     pub fn poke(&mut self, spot: Spot, index: u32, offset: u32, value: u8)
         requires there { IsSpot self.old spot }
         requires paid { IsPaidBy self.old (holder self.old spot) }
-        requires inside { (index < entry_count (thing_at self.old spot)) × (offset < entry_size (thing_at self.old spot)) }
-        ensures { Puts self.old self.new spot (with_entry index (λ n. entry_with offset value) (slot_of self.old spot)) }
+        requires inside { (index < entry_count (content_at self.old spot)) × (offset < entry_size (content_at self.old spot)) }
+        ensures { PutsSlot self.old self.new spot (with_entry index (λ n. entry_with offset value) (slot_of self.old spot)) }
     {
         let holder = self.holder(spot);
-        let thing = self.thing(spot);
+        let content = self.content(spot);
         self.trades.laws();
-        thing.poke(&mut self.trades, &self.heaps[holder], index, offset, value);
+        content.poke(&mut self.trades, &self.heaps[holder], index, offset, value);
     }
 
     // What is in a leaf's own slot. The three calls below that look there are not `inline(always)`: the compiler would then take what they call for rare.
     #[inline(always)]
-    fn own_thing(&self, leaf: usize, slot: u8) -> Thing
+    fn own_content(&self, leaf: usize, slot: u8) -> Content
         requires { IsSpot self.now (InLeaf leaf slot) }
-        ensures { result ≡ thing_at self.now (InLeaf leaf slot) }
+        ensures { result ≡ content_at self.now (InLeaf leaf slot) }
     {
         self.own[leaf][usize::from(slot)]
     }
@@ -397,21 +397,21 @@ impl Slots {
     pub fn peek_own(&self, leaf: usize, slot: u8, index: u32, offset: u32) -> Option<u8>
         requires there { IsSpot self.now (InLeaf leaf slot) }
         requires paid { IsPaidBy self.now leaf }
-        ensures inside { IfSome result (λ b. (index < entry_count (thing_at self.now (InLeaf leaf slot)))
-            × (offset < entry_size (thing_at self.now (InLeaf leaf slot)))) }
+        ensures inside { IfSome result (λ b. (index < entry_count (content_at self.now (InLeaf leaf slot)))
+            × (offset < entry_size (content_at self.now (InLeaf leaf slot)))) }
         ensures read { IfSome result (λ b. b ≡ entry_byte (entry_in index (slot_of self.now (InLeaf leaf slot))) offset) }
-        ensures outside { IfNone result ((entry_count (thing_at self.now (InLeaf leaf slot)) ≤ index)
-            ⊎ (entry_size (thing_at self.now (InLeaf leaf slot)) ≤ offset)) }
+        ensures outside { IfNone result ((entry_count (content_at self.now (InLeaf leaf slot)) ≤ index)
+            ⊎ (entry_size (content_at self.now (InLeaf leaf slot)) ≤ offset)) }
     {
         let _own = &self.own;
-        let thing = self.own_thing(leaf, slot);
-        let Thing::Pool(pool) = thing else {
+        let content = self.own_content(leaf, slot);
+        let Content::Pool(pool) = content else {
             return None;
         };
         if index >= pool.count() || offset >= pool.size() {
             return None;
         }
-        Some(thing.peek(&self.trades, &self.heaps[leaf], index, offset))
+        Some(content.peek(&self.trades, &self.heaps[leaf], index, offset))
     }
 
     /// Sets the byte of an entry of a pool in a leaf's own slot, as `poke` does, where the pool has that byte, and tells whether it has. Where it has not,
@@ -419,23 +419,23 @@ impl Slots {
     pub fn poke_own(&mut self, leaf: usize, slot: u8, index: u32, offset: u32, value: u8) -> bool
         requires there { IsSpot self.old (InLeaf leaf slot) }
         requires paid { IsPaidBy self.old leaf }
-        ensures inside { result ≡ true → (index < entry_count (thing_at self.old (InLeaf leaf slot)))
-            × (offset < entry_size (thing_at self.old (InLeaf leaf slot))) }
-        ensures put { result ≡ true → Puts self.old self.new (InLeaf leaf slot)
+        ensures inside { result ≡ true → (index < entry_count (content_at self.old (InLeaf leaf slot)))
+            × (offset < entry_size (content_at self.old (InLeaf leaf slot))) }
+        ensures put { result ≡ true → PutsSlot self.old self.new (InLeaf leaf slot)
             (with_entry index (λ n. entry_with offset value) (slot_of self.old (InLeaf leaf slot))) }
-        ensures outside { result ≡ false → (entry_count (thing_at self.old (InLeaf leaf slot)) ≤ index)
-            ⊎ (entry_size (thing_at self.old (InLeaf leaf slot)) ≤ offset) }
+        ensures outside { result ≡ false → (entry_count (content_at self.old (InLeaf leaf slot)) ≤ index)
+            ⊎ (entry_size (content_at self.old (InLeaf leaf slot)) ≤ offset) }
         ensures unchanged { result ≡ false → self.new ≡ self.old }
     {
-        let thing = self.own_thing(leaf, slot);
+        let content = self.own_content(leaf, slot);
         self.trades.laws();
-        let Thing::Pool(pool) = thing else {
+        let Content::Pool(pool) = content else {
             return false;
         };
         if index >= pool.count() || offset >= pool.size() {
             return false;
         }
-        thing.poke(&mut self.trades, &self.heaps[leaf], index, offset, value);
+        content.poke(&mut self.trades, &self.heaps[leaf], index, offset, value);
         true
     }
 
@@ -444,21 +444,21 @@ impl Slots {
     pub fn give_own(&mut self, leaf: usize, slot: u8, index: u32) -> Option<bool>
         requires there { IsSpot self.old (InLeaf leaf slot) }
         requires paid { IsPaidBy self.old leaf }
-        ensures inside { IfSome result (λ b. index < entry_count (thing_at self.old (InLeaf leaf slot))) }
-        ensures given { IfSome result (λ b. Puts self.old self.new (InLeaf leaf slot) (with_entry index removed (slot_of self.old (InLeaf leaf slot)))) }
+        ensures inside { IfSome result (λ b. index < entry_count (content_at self.old (InLeaf leaf slot))) }
+        ensures given { IfSome result (λ b. PutsSlot self.old self.new (InLeaf leaf slot) (with_entry index removed (slot_of self.old (InLeaf leaf slot)))) }
         ensures absent { IfSome result (λ b. (b ≡ false) ↔ (entry_in index (slot_of self.old (InLeaf leaf slot)) ≡ None)) }
-        ensures outside { IfNone result (entry_count (thing_at self.old (InLeaf leaf slot)) ≤ index) }
+        ensures outside { IfNone result (entry_count (content_at self.old (InLeaf leaf slot)) ≤ index) }
         ensures unchanged { IfNone result (self.new ≡ self.old) }
     {
-        let thing = self.own_thing(leaf, slot);
+        let content = self.own_content(leaf, slot);
         self.trades.laws();
-        let Thing::Pool(pool) = thing else {
+        let Content::Pool(pool) = content else {
             return None;
         };
         if index >= pool.count() {
             return None;
         }
-        Some(thing.give(&mut self.trades, &mut self.heaps[leaf], index))
+        Some(content.give(&mut self.trades, &mut self.heaps[leaf], index))
     }
 
     /// Makes a slot empty, and the memory free that was in it. Pages of the heap's classes stay the heap's, and paid.
@@ -466,26 +466,26 @@ impl Slots {
         requires slot { IsSlot spot }
         requires there { IsSpot self.old spot }
         requires paid { IsPaidBy self.old (holder self.old spot) }
-        ensures { Puts self.old self.new spot world.Empty }
+        ensures { PutsSlot self.old self.new spot world.Empty }
     {
         let holder = self.holder(spot);
-        let thing = self.thing(spot);
+        let content = self.content(spot);
         self.trades.laws();
-        thing.free(&mut self.trades, &mut self.heaps[holder]);
+        content.free(&mut self.trades, &mut self.heaps[holder]);
         clear(&mut self.trades, &mut self.own, spot);
     }
 
-    /// Puts what holds no memory into a slot in the place of what holds none: a link, a mark that the slot waits, or nothing. Whoever pays, it costs
+    /// PutsSlot what holds no memory into a slot in the place of what holds none: a link, a mark that the slot waits, or nothing. Whoever pays, it costs
     /// nothing.
-    pub fn mark(&mut self, spot: Spot, contents: Thing)
+    pub fn mark(&mut self, spot: Spot, contents: Content)
         requires slot { IsSlot spot }
         requires there { IsSpot self.old spot }
-        requires free { IsMark (thing_at self.old spot) }
+        requires free { IsMark (content_at self.old spot) }
         requires mark { IsMark contents }
-        ensures { Puts self.old self.new spot (seen (memory_of self.old (holder self.old spot)) contents) }
+        ensures { PutsSlot self.old self.new spot (seen (memory_of self.old (holder self.old spot)) contents) }
     {
         let holder = self.holder(spot);
-        let _thing = self.thing(spot);
+        let _content = self.content(spot);
         let _heap = &self.heaps[holder];
         self.trades.laws();
         replace(&mut self.trades, &mut self.own, spot, contents);

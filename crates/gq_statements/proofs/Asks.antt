@@ -1,4 +1,4 @@
--- Requests of the account machine, and the slots whose world is then the machine's.
+-- Requests of the abstract machine, and the slots whose world is then the machine's.
 use Rattle.std.proofs.Common.{◌≡◌, ℕ, inl, inr, true, false, List, ◌∷◌, Option, Some, None, refl, sym, ap, ◌∙◌}
 use Rattle.std.specs.Prelude.{Ok, Err}
 use Rattle.std.proofs.lemmas.Bool.Decides.{eqb_tells}
@@ -16,7 +16,7 @@ use Rattle.gq_laws.proofs.linking.Worlds.{session_else, session_here}
 use Rattle.gq_trade.specs.declared.session.Spot.{Spot}
 use Rattle.gq_trade.specs.Seen.{spot_seen}
 use Rattle.gq_slots.specs.Slots.{Frame, Slots, world_seen}
-use Rattle.gq_slots.specs.Calls.{Puts}
+use Rattle.gq_slots.specs.Calls.{PutsSlot}
 use Rattle.gq_slots.specs.Session_calls.{asking, more_for, upgrading}
 use Rattle.gq_statements.proofs.Marked.{marked_paid, slot_asking}
 use Rattle.gq_statements.specs.Requests.{Blocks, IsNextLevel, leads_from, leads_to, session_named}
@@ -36,7 +36,7 @@ no_link w (Some (world.Link k)) go e = cc
 no_link w (Some (world.Waiting k)) go e = refl
 
 none_linked : (d : Doing) (place : Place) (go : Go) → session_named d place ≡ None → link_at d place go ≡ Err WrongKind
-none_linked d place go e = by (world.spot_of d.x d.leaf.hand place) e
+none_linked d place go e = by (world.spot_of d.x d.leaf.current place) e
   where
     by : (o : Option world.Spot) → leads_from d.world o ≡ None
         → need o WrongKind (λ spot. link_in d.world (world.slot_at d.world spot) (go spot)) ≡ Err WrongKind
@@ -71,7 +71,7 @@ module _ (d : Doing) (w : world.World) (p : world.Spot) (k : ℕ) (ask : world.A
   asked_unpaid v e h = asked_is ∙ (ap (λ y. if_paid d.system y Quiet) e ∙ ap (λ b. when b ExceededQuota (Ok (v, Quiet))) h)
 
 -- the world of slots in which the slot p waits
-waits_in : (f : Frame) (v : world.World) (s t : Slots) (p : Spot) (k : ℕ) → v ≡ world_seen f s → Puts s t p (world.Waiting k)
+waits_in : (f : Frame) (v : world.World) (s t : Slots) (p : Spot) (k : ℕ) → v ≡ world_seen f s → PutsSlot s t p (world.Waiting k)
     → world.with_slot v (spot_seen p) (world.Waiting k) ≡ world_seen f t
 waits_in f v s t p k e puts = ap (λ y. world.with_slot y (spot_seen p) (world.Waiting k)) e ∙ sym (puts.seen_so f)
 
@@ -95,7 +95,7 @@ call_none d place a rest e n =
     call_is d place a rest e ∙ none_linked f place (λ spot k s. asked f d.world spot k (world.Ask_call a)) n
 
 module _ (d : Doing) (place : Place) (p : Spot) (k : ℕ) (l : IsLinkedAt d place (Some (p, k))) (before after : Frame) (s u t : Slots)
-    (q : world.Session) (there : world.session_at (world_seen before s) k ≡ Some q) (puts : Puts u t p (world.Waiting k))
+    (q : world.Session) (there : world.session_at (world_seen before s) k ≡ Some q) (puts : PutsSlot u t p (world.Waiting k))
     (whole : paid d.system (world_seen after t) ≡ true) where
   pub close_some : Blocks d d.leaf before after s → world_seen after u ≡ asking (world_seen after s) k world.Ask_close
       → close d place ≡ Ok (world_seen after t, Quiet)
@@ -171,7 +171,7 @@ module _ (d : Doing) (place : Place) (p : Spot) (k : ℕ) (l : IsLinkedAt d plac
       ap (λ o. asking (more_for (standing d (record d.leaf { phase = phase.Blocked })) k more o) k world.Ask_upgrade) (sym stands)
       ∙ ap (λ w. upgrading w k more) b.world_after
 
-  pub upgrade_some : (u t : Slots) → world_seen after u ≡ upgrading (world_seen after s) k more → Puts u t p (world.Waiting k)
+  pub upgrade_some : (u t : Slots) → world_seen after u ≡ upgrading (world_seen after s) k more → PutsSlot u t p (world.Waiting k)
       → paid d.system (world_seen after t) ≡ true → upgrade d place n ≡ Ok (world_seen after t, Quiet)
   upgrade_some u t e puts whole =
       upgrade_is

@@ -13,16 +13,16 @@ use Rattle.gq_model.specs.declared.fault.Wrong.TheVariants.{ExceededQuota, Wrong
 use Rattle.gq_model.specs.machine.Step.{active_again, all_empty, reply_close, serving, unblocked}
 use Rattle.gq_model.specs.machine.Sums.{paid, slot_price}
 use Rattle.gq_store.specs.Store.{Store}
-use Rattle.gq_contents.specs.declared.thing.Thing.TheVariants as thing
-use Rattle.gq_contents.specs.Things.{seen}
+use Rattle.gq_contents.specs.declared.content.Content.TheVariants as content
+use Rattle.gq_contents.specs.Contents.{seen}
 use Rattle.gq_trade.specs.declared.session.Spot.{Spot}
 use Rattle.gq_trade.specs.declared.session.Spot.TheVariants.{InLeaf, InSession, InObject}
 use Rattle.gq_trade.specs.Seen.{spot_seen}
 use Rattle.gq_trade.specs.Trading.{IsTrading, Trading, bytes_then, caps_then, node_of, server_of, session_at}
 use Rattle.gq_trade.specs.Balances.{node_at}
 use Rattle.gq_trade.proofs.Sessions_kept.{between_at}
-use Rattle.gq_slots.specs.Slots.{AreSound, Frame, IsMark, IsSlot, Slots, holder, memory_of, slot_of, thing_at, world_seen}
-use Rattle.gq_slots.specs.Calls.{Puts}
+use Rattle.gq_slots.specs.Slots.{AreSound, Frame, IsMark, IsSlot, Slots, holder, memory_of, slot_of, content_at, world_seen}
+use Rattle.gq_slots.specs.Calls.{PutsSlot}
 use Rattle.gq_slots.specs.Session_calls.{EndsSession, IsBeside, ending}
 use Rattle.gq_slots.proofs.Answering.{object_at}
 use Rattle.gq_slots.specs.Addresses.{slot_for}
@@ -76,7 +76,7 @@ some_frame = record {
   names = [];
   leaf = λ x. record {
     phase = Running;
-    hand = None;
+    current = None;
     todo = Done;
     loops = [];
     operands = [];
@@ -88,7 +88,7 @@ some_frame = record {
 }
 
 -- what stands in the client's slot once the session has ended
-pub still_mark : (s m : Slots) (k : ℕ) → AreLawful s → AreLawful m → IsAwaited s k → EndsSession s m k → IsMark (thing_at m (slot_for s k))
+pub still_mark : (s m : Slots) (k : ℕ) → AreLawful s → AreLawful m → IsAwaited s k → EndsSession s m k → IsMark (content_at m (slot_for s k))
 still_mark s m k l n a e =
     let f = some_frame in
     let p = slot_for s k in
@@ -97,7 +97,7 @@ still_mark s m k l n a e =
     let was = ap (λ w. world.slot_at w (spot_seen p)) (e.seen_so f) ∙ (beside_stays (world_seen f s) k p b ∙ l.read f p a.spot) in
     let same : Some (slot_of m p) ≡ Some (slot_of s p) = sym now ∙ was in
     let slots : slot_of m p ≡ slot_of s p = cc in
-    waiting_mark (memory_of m (holder m p)) (thing_at m p) k (slots ∙ waiting_seen s k a)
+    waiting_mark (memory_of m (holder m p)) (content_at m p) k (slots ∙ waiting_seen s k a)
 
 -- the same system still goes with the slots
 pub still_of : (system : System) (f : Frame) (s m : Slots) → AreLawful s → AreLawful m → m.trades.nodes ≡ s.trades.nodes
@@ -176,11 +176,11 @@ module _ (f : Frame) (d : Doing) (s : Slots) (k : ℕ) (q : world.Session) (at :
         t : Trading
         t = s.trades.trading
 
-        empty : (i : ℕ) → i < length (session_at t k).slots → thing_at s (InSession k i) ≡ thing.Empty
+        empty : (i : ℕ) → i < length (session_at t k).slots → content_at s (InSession k i) ≡ content.Empty
         empty i lt = empty_each (session_at t k).slots e i
 
     -- the session has ended
-    pub close_done : (m n : Slots) → IsOf d.system f s → AreLawful m → EndsSession s m k → Puts m n (slot_for s k) world.Empty
+    pub close_done : (m n : Slots) → IsOf d.system f s → AreLawful m → EndsSession s m k → PutsSlot m n (slot_for s k) world.Empty
         → reply_close d k q ≡ Ok (world_seen f n, Quiet)
     close_done m n o lm ends puts =
         let price = ends.closes.frees.others.whole.0 in

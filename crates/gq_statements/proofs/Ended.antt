@@ -10,15 +10,15 @@ use Rattle.gq_model.specs.machine.World as world
 use Rattle.gq_store.specs.Store.{Store}
 use Rattle.gq_trade.specs.Numbers.{IsTaken}
 use Rattle.gq_pool.specs.declared.pool.Pool.{Pool}
-use Rattle.gq_contents.specs.declared.thing.Thing.{Thing}
-use Rattle.gq_contents.specs.declared.thing.Thing.TheVariants as thing
-use Rattle.gq_contents.specs.Things.{seen, size_of}
+use Rattle.gq_contents.specs.declared.content.Content.{Content}
+use Rattle.gq_contents.specs.declared.content.Content.TheVariants as content
+use Rattle.gq_contents.specs.Contents.{seen, size_of}
 use Rattle.gq_trade.specs.declared.session.Session.{Session}
 use Rattle.gq_trade.specs.declared.session.Spot.TheVariants.{InSession}
 use Rattle.gq_trade.specs.Seen.{session_seen}
 use Rattle.gq_trade.specs.Trading.{bytes_then, caps_then, its_account, server_of, session_at}
 use Rattle.gq_trade.proofs.Sessions_kept.{between_at}
-use Rattle.gq_slots.specs.Slots.{Frame, Slots, memory_of, thing_at, world_seen}
+use Rattle.gq_slots.specs.Slots.{Frame, Slots, memory_of, content_at, world_seen}
 use Rattle.gq_slots.specs.Session_calls.{ending}
 use Rattle.gq_slots.proofs.Worlds.{session_there}
 use Rattle.gq_statements.specs.Systems.{AreLawful, IsOf}
@@ -29,7 +29,7 @@ use Rattle.gq_statements.proofs.Sums.{held_ended, lent_ended, mine, others, rece
 -- WHAT A SESSION COSTS
 
 -- empty slots cost nothing
-empty_sum : (r : Resource) (st : Store) (ts : List Thing) → ((i : ℕ) → i < length ts → get_or ts i thing.Empty ≡ thing.Empty)
+empty_sum : (r : Resource) (st : Store) (ts : List Content) → ((i : ℕ) → i < length ts → get_or ts i content.Empty ≡ content.Empty)
     → sum_by (slot_price r) (map (seen st) ts) ≡ 0
 empty_sum r st [] empty = refl
 empty_sum r st (t ∷ ts) empty =
@@ -48,28 +48,28 @@ block_bytes_most n m true le = le
 block_bytes_most n m false le = omega arith
 
 -- no object but a pool costs more than a slice of as many bytes
-object_bytes : (st : Store) (t : Thing) → ((p : Pool) → t ≡ thing.Pool p → ⊥) → slot_price Ram (seen st t) ≤ up (size_of t + 32)
-object_bytes st thing.Empty none = omega arith
-object_bytes st (thing.Block p n) none = block_bytes_most (up (n + 32)) (up n) (nat_lt 2048 n) (up_more n)
-object_bytes st (thing.Slice k n) none = omega arith
-object_bytes st (thing.Space k n) none = let a = up_least (up n + 32) in omega (arith, a)
-object_bytes st (thing.Pool p) none = absurd (none p refl)
-object_bytes st (thing.Link k) none = omega arith
-object_bytes st (thing.Waiting k) none = omega arith
+object_bytes : (st : Store) (t : Content) → ((p : Pool) → t ≡ content.Pool p → ⊥) → slot_price Ram (seen st t) ≤ up (size_of t + 32)
+object_bytes st content.Empty none = omega arith
+object_bytes st (content.Block p n) none = block_bytes_most (up (n + 32)) (up n) (nat_lt 2048 n) (up_more n)
+object_bytes st (content.Slice k n) none = omega arith
+object_bytes st (content.Space k n) none = let a = up_least (up n + 32) in omega (arith, a)
+object_bytes st (content.Pool p) none = absurd (none p refl)
+object_bytes st (content.Link k) none = omega arith
+object_bytes st (content.Waiting k) none = omega arith
 
-object_caps : (st : Store) (t : Thing) → slot_price Caps (seen st t) ≤ 1
-object_caps st thing.Empty = omega arith
-object_caps st (thing.Block p n) = block_bytes_most 1 1 (nat_lt 2048 n) (omega arith)
-object_caps st (thing.Slice k n) = omega arith
-object_caps st (thing.Space k n) = omega arith
-object_caps st (thing.Pool p) = omega arith
-object_caps st (thing.Link k) = omega arith
-object_caps st (thing.Waiting k) = omega arith
+object_caps : (st : Store) (t : Content) → slot_price Caps (seen st t) ≤ 1
+object_caps st content.Empty = omega arith
+object_caps st (content.Block p n) = block_bytes_most 1 1 (nat_lt 2048 n) (omega arith)
+object_caps st (content.Slice k n) = omega arith
+object_caps st (content.Space k n) = omega arith
+object_caps st (content.Pool p) = omega arith
+object_caps st (content.Link k) = omega arith
+object_caps st (content.Waiting k) = omega arith
 
 -- SESSIONS THAT END
 
 module _ (system : System) (f : Frame) (s : Slots) (l : AreLawful s) (o : IsOf system f s) (k : ℕ) (there : IsTaken s.trades.trading.sessions k)
-    (empty : (i : ℕ) → i < length (session_at s.trades.trading k).slots → thing_at s (InSession k i) ≡ thing.Empty) where
+    (empty : (i : ℕ) → i < length (session_at s.trades.trading k).slots → content_at s (InSession k i) ≡ content.Empty) where
   abbrev h : HasLeaf f s (server_of s.trades.trading k)
   h = server_leaf f s k l there
 
@@ -98,7 +98,7 @@ module _ (system : System) (f : Frame) (s : Slots) (l : AreLawful s) (o : IsOf s
       let none = others q.client x (donated r seen_as) (between_at _ _ t.sessions k l.trading.between there).apart in
       short system f s l o x h.0 h.1 r p (ending w k) h.1 (omega (arith, held, lent, received, price, slots, given, none, lacks))
 
-  pub unpaid_ending : ((p : Pool) → (session_at s.trades.trading k).object ≡ thing.Pool p → ⊥)
+  pub unpaid_ending : ((p : Pool) → (session_at s.trades.trading k).object ≡ content.Pool p → ⊥)
       → bytes_then s.trades.trading k < (session_at s.trades.trading k).donation.ram → paid system (ending (world_seen f s) k) ≡ false
   unpaid_ending none lacks = let most = object_bytes (memory_of s q.server) q.object none in ending_short Ram tt (omega (arith, most, lacks))
 

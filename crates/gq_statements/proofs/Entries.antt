@@ -10,19 +10,19 @@ use Rattle.gq_model.specs.machine.Doing.{Doing, Quiet, Stepped, need, on_stack, 
 use Rattle.gq_model.specs.declared.fault.Wrong.TheVariants.{UnmappedByte, WrongKind}
 use Rattle.gq_model.specs.machine.Memory.{entry_byte, entry_with, give_entry, if_absent, peek, poke, pool_at, pool_in}
 use Rattle.gq_store.specs.Store.{Store}
-use Rattle.gq_contents.specs.declared.thing.Thing.{Thing}
-use Rattle.gq_contents.specs.declared.thing.Thing.TheVariants.{Empty, Block, Slice, Space, Pool, Link, Waiting}
-use Rattle.gq_contents.specs.Things.{entry_count, entry_in, entry_size, removed, seen, shape_of, with_entry}
+use Rattle.gq_contents.specs.declared.content.Content.{Content}
+use Rattle.gq_contents.specs.declared.content.Content.TheVariants.{Empty, Block, Slice, Space, Pool, Link, Waiting}
+use Rattle.gq_contents.specs.Contents.{entry_count, entry_in, entry_size, removed, seen, shape_of, with_entry}
 use Rattle.gq_contents.proofs.Paying.{entries_long}
 use Rattle.gq_trade.specs.declared.session.Spot.{Spot}
 use Rattle.gq_trade.specs.declared.session.Spot.TheVariants.{InLeaf}
 use Rattle.gq_trade.specs.Seen.{spot_seen}
-use Rattle.gq_slots.specs.Slots.{AreRead, Frame, IsSpot, Slots, holder, memory_of, slot_of, thing_at, world_seen}
-use Rattle.gq_slots.specs.Calls.{Puts}
+use Rattle.gq_slots.specs.Slots.{AreRead, Frame, IsSpot, Slots, holder, memory_of, slot_of, content_at, world_seen}
+use Rattle.gq_slots.specs.Calls.{PutsSlot}
 use Rattle.gq_slots.proofs.Worlds.{set_there}
 use Rattle.gq_statements.specs.declared.actor.Actor.{Actor}
-use Rattle.gq_statements.specs.declared.actor.Hand.{Hand}
-use Rattle.gq_statements.specs.Statements.{IsBy, Pushes, hand_seen, told}
+use Rattle.gq_statements.specs.declared.actor.Current.{Current}
+use Rattle.gq_statements.specs.Statements.{IsBy, Pushes, current_seen, told}
 use Rattle.gq_slots.specs.Addresses.{place_seen}
 use Rattle.gq_statements.specs.internal.Found.{IsPool, entries_in}
 use Rattle.gq_statements.proofs.Founds.{same_spot}
@@ -39,7 +39,7 @@ Go = ℕ → Entries → (Entries → world.World) → Stepped
 first_is : (p q : ℕ × ℕ) → Some p ≡ Some q → p.0 ≡ q.0
 first_is p q e = let same : p ≡ q = cc in ap (λ y. y.0) same
 
-slot_pool : (w : world.World) (p : world.Spot) (st : Store) (t : Thing) (n m : ℕ) (go : Go) → Some (n, m) ≡ shape_of t
+slot_pool : (w : world.World) (p : world.Spot) (st : Store) (t : Content) (n m : ℕ) (go : Go) → Some (n, m) ≡ shape_of t
     → pool_in w p (Some (seen st t)) go ≡ go n (entries_in (seen st t)) (λ new. world.with_slot w p (world.Pool n new))
 slot_pool w p st Empty n m go e = cc
 slot_pool w p st (Block q k) n m go e = cc
@@ -50,7 +50,7 @@ slot_pool w p st (Pool q) n m go e =
 slot_pool w p st (Link k) n m go e = cc
 slot_pool w p st (Waiting k) n m go e = cc
 
-no_pool : (w : world.World) (p : world.Spot) (st : Store) (t : Thing) (go : Go) → None ≡ shape_of t → pool_in w p (Some (seen st t)) go ≡ Err WrongKind
+no_pool : (w : world.World) (p : world.Spot) (st : Store) (t : Content) (go : Go) → None ≡ shape_of t → pool_in w p (Some (seen st t)) go ≡ Err WrongKind
 no_pool w p st Empty go e = refl
 no_pool w p st (Block q k) go e = refl
 no_pool w p st (Slice q k) go e = refl
@@ -59,7 +59,7 @@ no_pool w p st (Pool q) go e = cc
 no_pool w p st (Link k) go e = refl
 no_pool w p st (Waiting k) go e = refl
 
-pub pool_seen : (st : Store) (t : Thing) (n m : ℕ) → Some (n, m) ≡ shape_of t → seen st t ≡ world.Pool n (entries_in (seen st t))
+pub pool_seen : (st : Store) (t : Content) (n m : ℕ) → Some (n, m) ≡ shape_of t → seen st t ≡ world.Pool n (entries_in (seen st t))
 pool_seen st Empty n m e = cc
 pool_seen st (Block q k) n m e = cc
 pool_seen st (Slice q k) n m e = cc
@@ -82,7 +82,7 @@ changed_pool slot n i g e =
     ap (with_entry i g) e ∙ ap (λ o. world.Pool n (slice_set (entries_in slot) i (g n o))) (entry_is slot i)
 
 -- it has as many entries as it says
-pub many : (st : Store) (t : Thing) → length (entries_in (seen st t)) ≡ entry_count t
+pub many : (st : Store) (t : Content) → length (entries_in (seen st t)) ≡ entry_count t
 many st Empty = refl
 many st (Block q k) = refl
 many st (Slice q k) = refl
@@ -92,20 +92,20 @@ many st (Link k) = refl
 many st (Waiting k) = refl
 
 module _ (d : Doing) (a : Actor) (w : world.World) (place : Place) (s : Slots) (h : IsBy d a) where
-  pool_is : (q : world.Spot) (go : Go) → world.spot_of d.x d.leaf.hand place ≡ Some q → pool_at d w place go ≡ pool_in w q (world.slot_at w q) go
+  pool_is : (q : world.Spot) (go : Go) → world.spot_of d.x d.leaf.current place ≡ Some q → pool_at d w place go ≡ pool_in w q (world.slot_at w q) go
   pool_is q go e = ap (λ o. need o WrongKind (λ spot. pool_in w spot (world.slot_at w spot) go)) e
 
-  pub pool_none : (o : Option Spot) → o ≡ None → place_seen o ≡ world.spot_of a.leaf (hand_seen a.hand) place → IsPool d w place s None
+  pub pool_none : (o : Option Spot) → o ≡ None → place_seen o ≡ world.spot_of a.leaf (current_seen a.current) place → IsPool d w place s None
   pool_none o n e go = ap (λ y. need y WrongKind (λ spot. pool_in w spot (world.slot_at w spot) go)) (same_spot d a place o h e ∙ ap place_seen n)
 
-  pub pool_others : (p : Spot) (t : Thing) → place_seen (Some p) ≡ world.spot_of a.leaf (hand_seen a.hand) place
+  pub pool_others : (p : Spot) (t : Content) → place_seen (Some p) ≡ world.spot_of a.leaf (current_seen a.current) place
       → world.slot_at w (spot_seen p) ≡ Some (seen (memory_of s (holder s p)) t) → None ≡ shape_of t → IsPool d w place s None
   pool_others p t e r n go =
       pool_is (spot_seen p) go (same_spot d a place (Some p) h e) ∙ ap (λ o. pool_in w (spot_seen p) o go) r
       ∙ no_pool w (spot_seen p) (memory_of s (holder s p)) t go n
 
-  pub pool_some : (p : Spot) (t : Thing) (n m : ℕ) → place_seen (Some p) ≡ world.spot_of a.leaf (hand_seen a.hand) place
-      → world.slot_at w (spot_seen p) ≡ Some (seen (memory_of s (holder s p)) t) → t ≡ thing_at s p → Some (n, m) ≡ shape_of t
+  pub pool_some : (p : Spot) (t : Content) (n m : ℕ) → place_seen (Some p) ≡ world.spot_of a.leaf (current_seen a.current) place
+      → world.slot_at w (spot_seen p) ≡ Some (seen (memory_of s (holder s p)) t) → t ≡ content_at s p → Some (n, m) ≡ shape_of t
       → IsPool d w place s (Some (p, n, m))
   pool_some p t n m e r same is go =
       pool_is (spot_seen p) go (same_spot d a place (Some p) h e) ∙ ap (λ o. pool_in w (spot_seen p) o go) r
@@ -116,7 +116,7 @@ not_below : (i : ℕ) → i < 0 → ⊥
 not_below i lt = omega (arith, lt)
 
 -- what has an entry is a pool
-pub shape_is : (t : Thing) (i : ℕ) → i < entry_count t → Some (entry_size t, entry_count t) ≡ shape_of t
+pub shape_is : (t : Content) (i : ℕ) → i < entry_count t → Some (entry_size t, entry_count t) ≡ shape_of t
 shape_is Empty i lt = absurd (not_below i lt)
 shape_is (Block q k) i lt = absurd (not_below i lt)
 shape_is (Slice q k) i lt = absurd (not_below i lt)
@@ -126,13 +126,13 @@ shape_is (Link k) i lt = absurd (not_below i lt)
 shape_is (Waiting k) i lt = absurd (not_below i lt)
 
 -- the pool in a slot of the leaf's own
-pub own_pool : (d : Doing) (leaf slot : ℕ) (hand : Option Hand) (f : Frame) (s : Slots) (i : ℕ) → IsBy d (record { leaf = leaf; hand = hand })
-    → IsSpot s (InLeaf leaf slot) → AreRead s → i < entry_count (thing_at s (InLeaf leaf slot)) → IsPool d (world_seen f s) (Own slot) s
-    (Some (InLeaf leaf slot, entry_size (thing_at s (InLeaf leaf slot)), entry_count (thing_at s (InLeaf leaf slot))))
-own_pool d leaf slot hand f s i h spot reads lt =
+pub own_pool : (d : Doing) (leaf slot : ℕ) (current : Option Current) (f : Frame) (s : Slots) (i : ℕ) → IsBy d (record { leaf = leaf; current = current })
+    → IsSpot s (InLeaf leaf slot) → AreRead s → i < entry_count (content_at s (InLeaf leaf slot)) → IsPool d (world_seen f s) (Own slot) s
+    (Some (InLeaf leaf slot, entry_size (content_at s (InLeaf leaf slot)), entry_count (content_at s (InLeaf leaf slot))))
+own_pool d leaf slot current f s i h spot reads lt =
     let p = InLeaf leaf slot in
-    let t = thing_at s p in
-    pool_some d (record { leaf = leaf; hand = hand }) (world_seen f s) (Own slot) s h p t (entry_size t) (entry_count t) refl (reads f p spot) refl
+    let t = content_at s p in
+    pool_some d (record { leaf = leaf; current = current }) (world_seen f s) (Own slot) s h p t (entry_size t) (entry_count t) refl (reads f p spot) refl
     (shape_is t i lt)
 
 -- ENTRIES
@@ -173,16 +173,16 @@ module _ (d : Doing) (place : Place) (s : Slots) where
       need (slice_get es i) UnmappedByte (λ entry. if_absent entry (on_stack d (0 ∷ rest)) (Ok (put (slice_set es i None), Quiet))) in
       ap (λ v. pool_at d v place go) we ∙ found go
 
-module _ (d : Doing) (place : Place) (s : Slots) (p : Spot) (n m : ℕ) (count : m ≡ entry_count (thing_at s p)) where
+module _ (d : Doing) (place : Place) (s : Slots) (p : Spot) (n m : ℕ) (count : m ≡ entry_count (content_at s p)) where
   abbrev pub entries : Entries
   entries = entries_in (slot_of s p)
 
   pub past : (i : ℕ) → m ≤ i → slice_get entries i ≡ None
-  past i le = let long = many (memory_of s (holder s p)) (thing_at s p) in slice_get_past entries i (omega (arith, long, count, le))
+  past i le = let long = many (memory_of s (holder s p)) (content_at s p) in slice_get_past entries i (omega (arith, long, count, le))
 
   pub there : (i : ℕ) → i < m → slice_get entries i ≡ Some (entry_in i (slot_of s p))
   there i lt =
-      let long = many (memory_of s (holder s p)) (thing_at s p) in
+      let long = many (memory_of s (holder s p)) (content_at s p) in
       slice_get-get_or entries i None (omega (arith, long, count, lt)) ∙ ap Some (entry_is (slot_of s p) i)
 
   module _ (w : world.World) (found : IsPool d w place s (Some (p, n, m))) where
@@ -242,7 +242,7 @@ module _ (d : Doing) (place : Place) (s : Slots) (p : Spot) (n m : ℕ) (count :
       poke_short lt short = poke_there lt ∙ ap (λ y. when y UnmappedByte (poked (entry_in i (slot_of s p)))) short
 
       pub poke_some : (f : Frame) (t : Slots) → i < m → nat_lt k n ≡ true → w ≡ world_seen f s → slot_of s p ≡ world.Pool n entries
-          → Puts s t p (with_entry i (λ z. entry_with k b) (slot_of s p)) → poke d place ≡ Ok (world_seen f t, Quiet)
+          → PutsSlot s t p (with_entry i (λ z. entry_with k b) (slot_of s p)) → poke d place ≡ Ok (world_seen f t, Quiet)
       poke_some f t lt long is slot puts =
           let pool = changed_pool (slot_of s p) n i (λ z. entry_with k b) slot in
           poke_there lt ∙ ap (λ y. when y UnmappedByte (poked (entry_in i (slot_of s p)))) long
@@ -266,7 +266,7 @@ module _ (d : Doing) (place : Place) (s : Slots) (p : Spot) (n m : ℕ) (count :
     give_past le = give_is ∙ ap (λ o. need o UnmappedByte given) (past i le)
 
     pub give_some : (t : Slots) (b : Bool) → i < m → ((g : Frame) → world.slot_at (world_seen g s) (spot_seen p) ≡ Some (slot_of s p))
-        → slot_of s p ≡ world.Pool n entries → Puts s t p (with_entry i removed (slot_of s p)) → (b ≡ false ↔ entry_in i (slot_of s p) ≡ None)
+        → slot_of s p ≡ world.Pool n entries → PutsSlot s t p (with_entry i removed (slot_of s p)) → (b ≡ false ↔ entry_in i (slot_of s p) ≡ None)
         → give_entry d rest place i ≡ told f t (Ok b)
     give_some t b lt reads slot puts absent =
         give_is ∙ ap (λ o. need o UnmappedByte given) (there i lt) ∙ by (entry_in i (slot_of s p)) b refl refl
@@ -290,15 +290,16 @@ module _ (d : Doing) (place : Place) (s : Slots) (p : Spot) (n m : ℕ) (count :
 
 -- an entry that is removed from a pool of the leaf's own
 pub own_given : (o : Option Bool) (s t : Slots) (leaf slot i : ℕ) → IsSpot s (InLeaf leaf slot) → AreRead s
-    → IfSome o (λ b. i < entry_count (thing_at s (InLeaf leaf slot)))
-    → IfSome o (λ b. Puts s t (InLeaf leaf slot) (with_entry i removed (slot_of s (InLeaf leaf slot))))
+    → IfSome o (λ b. i < entry_count (content_at s (InLeaf leaf slot)))
+    → IfSome o (λ b. PutsSlot s t (InLeaf leaf slot) (with_entry i removed (slot_of s (InLeaf leaf slot))))
     → IfSome o (λ b. b ≡ false ↔ entry_in i (slot_of s (InLeaf leaf slot)) ≡ None)
-    → IfSome o (λ b. (f : ℕ → Frame) (d : Doing) (rest : List ℕ) (hand : Option Hand) → IsBy d (record { leaf = leaf; hand = hand }) → Pushes d rest f s
+    → IfSome o (λ b. (f : ℕ → Frame) (d : Doing) (rest : List ℕ) (current : Option Current) → IsBy d (record { leaf = leaf; current = current })
+    → Pushes d rest f s
     → give_entry d rest (Own slot) i ≡ told f t (Ok b))
 own_given None s t leaf slot i spot reads inside puts absent = tt
-own_given (Some b) s t leaf slot i spot reads inside puts absent = λ f d rest hand h we.
+own_given (Some b) s t leaf slot i spot reads inside puts absent = λ f d rest current h we.
     let p = InLeaf leaf slot in
-    let n = entry_size (thing_at s p) in
-    let m = entry_count (thing_at s p) in
-    give_some d (Own slot) s p n m refl i rest f we (own_pool d leaf slot hand (f 1) s i h spot reads inside) t b inside (λ g. reads g p spot)
-    (pool_seen (memory_of s (holder s p)) (thing_at s p) n m (shape_is (thing_at s p) i inside)) puts absent
+    let n = entry_size (content_at s p) in
+    let m = entry_count (content_at s p) in
+    give_some d (Own slot) s p n m refl i rest f we (own_pool d leaf slot current (f 1) s i h spot reads inside) t b inside (λ g. reads g p spot)
+    (pool_seen (memory_of s (holder s p)) (content_at s p) n m (shape_is (content_at s p) i inside)) puts absent

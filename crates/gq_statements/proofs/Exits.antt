@@ -10,9 +10,9 @@ use Rattle.gq_model.specs.machine.Step.{all_released, exit_of, exited, main_ende
 use Rattle.gq_model.proofs.Small.{some_same, none_some}
 use Rattle.gq_store.specs.Store.{Store}
 use Rattle.gq_heap.specs.declared.heap.Heap.{Heap}
-use Rattle.gq_contents.specs.declared.thing.Thing.{Thing}
-use Rattle.gq_contents.specs.declared.thing.Thing.TheVariants as thing
-use Rattle.gq_contents.specs.Things.{seen}
+use Rattle.gq_contents.specs.declared.content.Content.{Content}
+use Rattle.gq_contents.specs.declared.content.Content.TheVariants as content
+use Rattle.gq_contents.specs.Contents.{seen}
 use Rattle.gq_trade.specs.declared.session.Spot.TheVariants.{InLeaf}
 use Rattle.gq_trade.specs.Ends.{HasNoSessions}
 use Rattle.gq_slots.specs.Slots.{AreRead, Frame, Slots, leaves_seen, memory_of, slot_of, world_seen}
@@ -23,20 +23,20 @@ use Rattle.gq_statements.specs.internal.Tests.{has_no_link, is_link}
 
 -- LINKS
 
-no_link_first : (st : Store) (t : Thing) (slots : List world.Slot) → no_link (seen st t ∷ slots) ≡ (not (is_link t) && no_link slots)
-no_link_first st thing.Empty slots = refl
-no_link_first st (thing.Block p m) slots = refl
-no_link_first st (thing.Slice k m) slots = refl
-no_link_first st (thing.Space k m) slots = refl
-no_link_first st (thing.Pool p) slots = refl
-no_link_first st (thing.Link k) slots = refl
-no_link_first st (thing.Waiting k) slots = refl
+no_link_first : (st : Store) (t : Content) (slots : List world.Slot) → no_link (seen st t ∷ slots) ≡ (not (is_link t) && no_link slots)
+no_link_first st content.Empty slots = refl
+no_link_first st (content.Block p m) slots = refl
+no_link_first st (content.Slice k m) slots = refl
+no_link_first st (content.Space k m) slots = refl
+no_link_first st (content.Pool p) slots = refl
+no_link_first st (content.Link k) slots = refl
+no_link_first st (content.Waiting k) slots = refl
 
-no_link_seen : (st : Store) (ts : List Thing) → no_link (map (seen st) ts) ≡ has_no_link ts
+no_link_seen : (st : Store) (ts : List Content) → no_link (map (seen st) ts) ≡ has_no_link ts
 no_link_seen st [] = refl
 no_link_seen st (t ∷ ts) = no_link_first st t (map (seen st) ts) ∙ ap (λ b. not (is_link t) && b) (no_link_seen st ts)
 
-no_link_at : (ts : List Thing) → has_no_link ts ≡ true → (i k : ℕ) → get_or ts i thing.Empty ≡ thing.Link k → ⊥
+no_link_at : (ts : List Content) → has_no_link ts ≡ true → (i k : ℕ) → get_or ts i content.Empty ≡ content.Link k → ⊥
 no_link_at [] h i k e = cc
 no_link_at (t ∷ ts) h zero k e = let f = ap is_link e in let n = (and_parts (not (is_link t)) (has_no_link ts) h).0 in cc
 no_link_at (t ∷ ts) h (suc i) k e = no_link_at ts (and_parts (not (is_link t)) (has_no_link ts) h).1 i k e
@@ -45,12 +45,13 @@ pub no_sessions : (s : Slots) (x : ℕ) → has_no_link (own_slots s x) ≡ true
 no_sessions s x h alone = alone (λ i k lt e. no_link_at (own_slots s x) h i k e)
 
 -- the next of the slots that are left
-pub next_slot : (ts : List Thing) (i : ℕ) → i < length ts → has_no_link (drop i ts) ≡ (not (is_link (get_or ts i thing.Empty)) && has_no_link (drop (suc i) ts))
+pub next_slot : (ts : List Content) (i : ℕ) → i < length ts
+    → has_no_link (drop i ts) ≡ (not (is_link (get_or ts i content.Empty)) && has_no_link (drop (suc i) ts))
 next_slot [] i lt = absurd (omega (arith, lt))
 next_slot (t ∷ ts) zero lt = refl
 next_slot (t ∷ ts) (suc i) lt = next_slot ts i (omega (arith, lt))
 
-pub no_more : (ts : List Thing) (i : ℕ) → length ts ≡ i → has_no_link (drop i ts) ≡ true
+pub no_more : (ts : List Content) (i : ℕ) → length ts ≡ i → has_no_link (drop i ts) ≡ true
 no_more [] zero e = refl
 no_more [] (suc i) e = refl
 no_more (t ∷ ts) zero e = absurd (omega (arith, e))
@@ -58,7 +59,7 @@ no_more (t ∷ ts) (suc i) e = no_more ts i (omega (arith, e))
 
 -- LEAVES
 
-slots_seen : (leaf : ℕ → world.Leaf) (st : ℕ → Store) (own : List (List Thing)) (hs : List Heap) (x : ℕ) (l : world.Leaf)
+slots_seen : (leaf : ℕ → world.Leaf) (st : ℕ → Store) (own : List (List Content)) (hs : List Heap) (x : ℕ) (l : world.Leaf)
     → slice_get (leaves_seen leaf st own hs) x ≡ Some l → l.slots ≡ map (seen (st x)) (get_or own x [])
 slots_seen leaf st [] hs x l e = cc
 slots_seen leaf st (ts ∷ own) [] x l e = cc

@@ -8,16 +8,16 @@ use Rattle.gq_model.specs.declared.fault.Wrong.TheVariants.{WrongKind}
 use Rattle.gq_model.specs.machine.Memory as memory
 use Rattle.gq_model.specs.machine.Memory.{bytes_at, bytes_spot}
 use Rattle.gq_store.specs.Store.{Store}
-use Rattle.gq_contents.specs.declared.thing.Thing.{Thing}
-use Rattle.gq_contents.specs.declared.thing.Thing.TheVariants.{Empty, Block, Slice, Space, Pool, Link, Waiting}
-use Rattle.gq_contents.specs.Things.{bytes_in, seen}
+use Rattle.gq_contents.specs.declared.content.Content.{Content}
+use Rattle.gq_contents.specs.declared.content.Content.TheVariants.{Empty, Block, Slice, Space, Pool, Link, Waiting}
+use Rattle.gq_contents.specs.Contents.{bytes_in, seen}
 use Rattle.gq_trade.specs.declared.session.Spot.{Spot}
 use Rattle.gq_trade.specs.Seen.{spot_seen}
-use Rattle.gq_slots.specs.Slots.{Frame, Slots, holder, memory_of, thing_at, world_seen}
+use Rattle.gq_slots.specs.Slots.{Frame, Slots, holder, memory_of, content_at, world_seen}
 use Rattle.gq_slots.specs.Addresses.{AreBuffers, place_seen}
 use Rattle.gq_model.specs.machine.Scenario.{System}
 use Rattle.gq_statements.specs.declared.actor.Actor.{Actor}
-use Rattle.gq_statements.specs.Statements.{IsBy, hand_seen}
+use Rattle.gq_statements.specs.Statements.{IsBy, current_seen}
 use Rattle.gq_statements.specs.internal.Found.{IsFound, byte_count, with_bytes}
 
 abbrev Go : Type 0
@@ -25,7 +25,7 @@ Go = List ℕ → (List ℕ → world.World) → Stepped
 
 -- WHAT A SLOT HOLDS
 
-slot_bytes : (w : world.World) (p : world.Spot) (st : Store) (t : Thing) (n : ℕ) (go : Go) → byte_count t ≡ Some n
+slot_bytes : (w : world.World) (p : world.Spot) (st : Store) (t : Content) (n : ℕ) (go : Go) → byte_count t ≡ Some n
     → memory.bytes_in w p (Some (seen st t)) go ≡ go (bytes_in (seen st t)) (λ new. world.with_slot w p (with_bytes new (seen st t)))
 slot_bytes w p st Empty n go e = cc
 slot_bytes w p st (Block q m) n go e = refl
@@ -35,7 +35,7 @@ slot_bytes w p st (Pool q) n go e = cc
 slot_bytes w p st (Link k) n go e = cc
 slot_bytes w p st (Waiting k) n go e = cc
 
-no_bytes : (w : world.World) (p : world.Spot) (st : Store) (t : Thing) (go : Go) → byte_count t ≡ None
+no_bytes : (w : world.World) (p : world.Spot) (st : Store) (t : Content) (go : Go) → byte_count t ≡ None
     → memory.bytes_in w p (Some (seen st t)) go ≡ Err WrongKind
 no_bytes w p st Empty go e = refl
 no_bytes w p st (Block q m) go e = cc
@@ -47,36 +47,36 @@ no_bytes w p st (Waiting k) go e = refl
 
 module _ (d : Doing) (w : world.World) (place : Place) (s : Slots) where
   -- no slot is named
-  pub none_named : world.spot_of d.x d.leaf.hand place ≡ None → IsFound d w place s None
+  pub none_named : world.spot_of d.x d.leaf.current place ≡ None → IsFound d w place s None
   none_named e go = ap (λ o. need o WrongKind (λ named.
       need (bytes_spot d.system w (world.slot_at w named) named) WrongKind (λ spot. memory.bytes_in w spot (world.slot_at w spot) go))) e
 
-  named_at : (q : world.Spot) (go : Go) → world.spot_of d.x d.leaf.hand place ≡ Some q → bytes_at d w place go
+  named_at : (q : world.Spot) (go : Go) → world.spot_of d.x d.leaf.current place ≡ Some q → bytes_at d w place go
       ≡ need (bytes_spot d.system w (world.slot_at w q) q) WrongKind (λ spot. memory.bytes_in w spot (world.slot_at w spot) go)
   named_at q go e = ap (λ o. need o WrongKind (λ named.
       need (bytes_spot d.system w (world.slot_at w named) named) WrongKind (λ spot. memory.bytes_in w spot (world.slot_at w spot) go))) e
 
   -- nothing stands behind the slot
-  pub nowhere : (q : world.Spot) → world.spot_of d.x d.leaf.hand place ≡ Some q → bytes_spot d.system w (world.slot_at w q) q ≡ None
+  pub nowhere : (q : world.Spot) → world.spot_of d.x d.leaf.current place ≡ Some q → bytes_spot d.system w (world.slot_at w q) q ≡ None
       → IsFound d w place s None
   nowhere q e f go = named_at q go e ∙ ap (λ o. need o WrongKind (λ spot. memory.bytes_in w spot (world.slot_at w spot) go)) f
 
-  placed_at : (q : world.Spot) (p : Spot) (t : Thing) (go : Go) → world.spot_of d.x d.leaf.hand place ≡ Some q
+  placed_at : (q : world.Spot) (p : Spot) (t : Content) (go : Go) → world.spot_of d.x d.leaf.current place ≡ Some q
       → bytes_spot d.system w (world.slot_at w q) q ≡ Some (spot_seen p) → world.slot_at w (spot_seen p) ≡ Some (seen (memory_of s (holder s p)) t)
       → bytes_at d w place go ≡ memory.bytes_in w (spot_seen p) (Some (seen (memory_of s (holder s p)) t)) go
   placed_at q p t go e f g = named_at q go e ∙ ap (λ o. need o WrongKind (λ spot. memory.bytes_in w spot (world.slot_at w spot) go)) f
       ∙ ap (λ o. memory.bytes_in w (spot_seen p) o go) g
 
-  -- other things than bytes stand there
-  pub of_others : (q : world.Spot) (p : Spot) (t : Thing) → world.spot_of d.x d.leaf.hand place ≡ Some q
+  -- other contents than bytes stand there
+  pub of_others : (q : world.Spot) (p : Spot) (t : Content) → world.spot_of d.x d.leaf.current place ≡ Some q
       → bytes_spot d.system w (world.slot_at w q) q ≡ Some (spot_seen p) → world.slot_at w (spot_seen p) ≡ Some (seen (memory_of s (holder s p)) t)
       → byte_count t ≡ None → IsFound d w place s None
   of_others q p t e f g h go = placed_at q p t go e f g ∙ no_bytes w (spot_seen p) (memory_of s (holder s p)) t go h
 
   -- bytes stand there
-  pub of_bytes : (q : world.Spot) (p : Spot) (t : Thing) (n : ℕ) → world.spot_of d.x d.leaf.hand place ≡ Some q
+  pub of_bytes : (q : world.Spot) (p : Spot) (t : Content) (n : ℕ) → world.spot_of d.x d.leaf.current place ≡ Some q
       → bytes_spot d.system w (world.slot_at w q) q ≡ Some (spot_seen p) → world.slot_at w (spot_seen p) ≡ Some (seen (memory_of s (holder s p)) t)
-      → t ≡ thing_at s p → byte_count t ≡ Some n → IsFound d w place s (Some (p, n))
+      → t ≡ content_at s p → byte_count t ≡ Some n → IsFound d w place s (Some (p, n))
   of_bytes q p t n e f g same h go = placed_at q p t go e f g ∙ slot_bytes w (spot_seen p) (memory_of s (holder s p)) t n go h
       ∙ ap (λ y. let slot = seen (memory_of s (holder s p)) y in go (bytes_in slot) (λ new. world.with_slot w (spot_seen p) (with_bytes new slot))) same
 
@@ -84,31 +84,31 @@ module _ (d : Doing) (w : world.World) (place : Place) (s : Slots) where
 
 -- what is known of the step's slot
 pub same_spot : (d : Doing) (a : Actor) (place : Place) (o : Option Spot) → IsBy d a
-    → place_seen o ≡ world.spot_of a.leaf (hand_seen a.hand) place → world.spot_of d.x d.leaf.hand place ≡ place_seen o
-same_spot d a place o h e = (λ k. world.spot_of (h.leaf k) (h.hand k) place) ∙ sym e
+    → place_seen o ≡ world.spot_of a.leaf (current_seen a.current) place → world.spot_of d.x d.leaf.current place ≡ place_seen o
+same_spot d a place o h e = (λ k. world.spot_of (h.leaf k) (h.current k) place) ∙ sym e
 
 module _ (d : Doing) (a : Actor) (f : Frame) (s : Slots) (bs : List ℕ) (place : Place) (h : IsBy d a) (buffers : AreBuffers d.system f s bs) where
-  pub found_none : (o : Option Spot) → o ≡ None → place_seen o ≡ world.spot_of a.leaf (hand_seen a.hand) place → IsFound d (world_seen f s) place s None
+  pub found_none : (o : Option Spot) → o ≡ None → place_seen o ≡ world.spot_of a.leaf (current_seen a.current) place → IsFound d (world_seen f s) place s None
   found_none o n e = none_named d (world_seen f s) place s (same_spot d a place o h e ∙ ap place_seen n)
 
   abbrev Placed : Spot → Option Spot → Type 0
   Placed q r = (g : Frame) (system : System) → AreBuffers system g s bs
       → place_seen r ≡ bytes_spot system (world_seen g s) (world.slot_at (world_seen g s) (spot_seen q)) (spot_seen q)
 
-  pub found_nowhere : (q : Spot) (r : Option Spot) → place_seen (Some q) ≡ world.spot_of a.leaf (hand_seen a.hand) place → r ≡ None → Placed q r
+  pub found_nowhere : (q : Spot) (r : Option Spot) → place_seen (Some q) ≡ world.spot_of a.leaf (current_seen a.current) place → r ≡ None → Placed q r
       → IsFound d (world_seen f s) place s None
   found_nowhere q r e n p =
       nowhere d (world_seen f s) place s (spot_seen q) (same_spot d a place (Some q) h e) (sym (p f d.system buffers) ∙ ap place_seen n)
 
-  abbrev Reads : Spot → Thing → Type 0
+  abbrev Reads : Spot → Content → Type 0
   Reads p t = (g : Frame) → world.slot_at (world_seen g s) (spot_seen p) ≡ Some (seen (memory_of s (holder s p)) t)
 
-  pub found_others : (q p : Spot) (t : Thing) (n : Option ℕ) → place_seen (Some q) ≡ world.spot_of a.leaf (hand_seen a.hand) place → Placed q (Some p)
+  pub found_others : (q p : Spot) (t : Content) (n : Option ℕ) → place_seen (Some q) ≡ world.spot_of a.leaf (current_seen a.current) place → Placed q (Some p)
       → Reads p t → n ≡ byte_count t → n ≡ None → IsFound d (world_seen f s) place s None
   found_others q p t n e g r is none =
       of_others d (world_seen f s) place s (spot_seen q) p t (same_spot d a place (Some q) h e) (sym (g f d.system buffers)) (r f) (sym is ∙ none)
 
-  pub found_bytes : (q p : Spot) (t : Thing) (n : ℕ) → place_seen (Some q) ≡ world.spot_of a.leaf (hand_seen a.hand) place → Placed q (Some p)
-      → Reads p t → t ≡ thing_at s p → Some n ≡ byte_count t → IsFound d (world_seen f s) place s (Some (p, n))
+  pub found_bytes : (q p : Spot) (t : Content) (n : ℕ) → place_seen (Some q) ≡ world.spot_of a.leaf (current_seen a.current) place → Placed q (Some p)
+      → Reads p t → t ≡ content_at s p → Some n ≡ byte_count t → IsFound d (world_seen f s) place s (Some (p, n))
   found_bytes q p t n e g r same is =
       of_bytes d (world_seen f s) place s (spot_seen q) p t n (same_spot d a place (Some q) h e) (sym (g f d.system buffers)) (r f) same (sym is)

@@ -14,13 +14,13 @@ use Rattle.gq_trade.specs.Seen.{session_seen, spot_seen}
 use Rattle.gq_trade.specs.Trading.{IsTrading, session_at}
 use Rattle.gq_trade.proofs.Sessions_kept.{between_at}
 use Rattle.gq_slots.specs.Slots.{Frame, Slots, memory_of, world_seen}
-use Rattle.gq_slots.specs.Calls.{Puts}
+use Rattle.gq_slots.specs.Calls.{PutsSlot}
 use Rattle.gq_slots.proofs.Worlds.{session_there}
 use Rattle.gq_slots.specs.Addresses.{AreBuffers, place_seen}
 use Rattle.gq_statements.specs.Systems.{AreLawful, IsOf}
 use Rattle.gq_statements.proofs.Paid.{all_paid}
 use Rattle.gq_statements.specs.declared.actor.Actor.{Actor}
-use Rattle.gq_statements.specs.Statements.{IsBy, hand_seen}
+use Rattle.gq_statements.specs.Statements.{IsBy, current_seen}
 use Rattle.gq_statements.proofs.Founds.{same_spot}
 use Rattle.gq_statements.proofs.Makings.{still_of}
 
@@ -35,26 +35,26 @@ buffer_is f system bs s k w t a =
     ∙ sym (ap (λ o. shares_buffer system (world.joined o)) (session_there (λ z. session_seen f.names (memory_of s z.server) z) s.trades.trading.sessions k t))
 
 module _ (d : Doing) (a : Actor) (place : Place) (f : Frame) (s : Slots) (p : Spot) (h : IsBy d a)
-    (e : place_seen (Some p) ≡ world.spot_of a.leaf (hand_seen a.hand) place) (we : standing d d.leaf ≡ world_seen f s) where
+    (e : place_seen (Some p) ≡ world.spot_of a.leaf (current_seen a.current) place) (we : standing d d.leaf ≡ world_seen f s) where
   abbrev tested : Bool
   tested = is_memory (world.slot_at (world_seen f s) (spot_seen p))
 
   abbrev freed : world.World
   freed = world.with_slot (world_seen f s) (spot_seen p) world.Empty
 
-  free_is : free d place ≡ when (tested && not (is_kept d d.leaf.hand place)) WrongKind (if_paid d.system freed Quiet)
+  free_is : free d place ≡ when (tested && not (is_kept d d.leaf.current place)) WrongKind (if_paid d.system freed Quiet)
   free_is =
-      ap (λ w. need (world.spot_of d.x d.leaf.hand place) WrongKind (λ spot.
-      when (is_memory (world.slot_at w spot) && not (is_kept d d.leaf.hand place)) WrongKind (if_paid d.system (world.with_slot w spot world.Empty) Quiet)))
+      ap (λ w. need (world.spot_of d.x d.leaf.current place) WrongKind (λ spot.
+      when (is_memory (world.slot_at w spot) && not (is_kept d d.leaf.current place)) WrongKind (if_paid d.system (world.with_slot w spot world.Empty) Quiet)))
       we
       ∙ ap (λ o. need o WrongKind (λ spot.
-      when (is_memory (world.slot_at (world_seen f s) spot) && not (is_kept d d.leaf.hand place)) WrongKind
+      when (is_memory (world.slot_at (world_seen f s) spot) && not (is_kept d d.leaf.current place)) WrongKind
       (if_paid d.system (world.with_slot (world_seen f s) spot world.Empty) Quiet))) (same_spot d a place (Some p) h e)
 
   pub free_other : tested ≡ false → free d place ≡ Err WrongKind
-  free_other n = free_is ∙ ap (λ b. when (b && not (is_kept d d.leaf.hand place)) WrongKind (if_paid d.system freed Quiet)) n
+  free_other n = free_is ∙ ap (λ b. when (b && not (is_kept d d.leaf.current place)) WrongKind (if_paid d.system freed Quiet)) n
 
-  pub free_some : (t : Slots) → tested ≡ true → is_kept d d.leaf.hand place ≡ false → Puts s t p world.Empty → AreLawful s → AreLawful t
+  pub free_some : (t : Slots) → tested ≡ true → is_kept d d.leaf.current place ≡ false → PutsSlot s t p world.Empty → AreLawful s → AreLawful t
       → IsOf d.system f s → free d place ≡ Ok (world_seen f t, Quiet)
   free_some t m n puts l k o =
       free_is ∙ (λ j. when (m j && not (n j)) WrongKind (if_paid d.system freed Quiet))

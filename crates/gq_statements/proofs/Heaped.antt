@@ -17,12 +17,12 @@ use Rattle.gq_heap.specs.declared.heap.Heap.{Heap}
 use Rattle.gq_heap.specs.Heap.{class_rise, rise}
 use Rattle.gq_heap.proofs.Rises.{is_large, is_small}
 use Rattle.gq_pool.specs.Pools.{entries_of, entry_bytes, held_of}
-use Rattle.gq_contents.specs.declared.thing.Thing.{Thing}
-use Rattle.gq_contents.specs.declared.thing.Thing.TheVariants as thing
-use Rattle.gq_contents.specs.Things.{added, entry_count, entry_in, entry_size, seen, with_entry}
+use Rattle.gq_contents.specs.declared.content.Content.{Content}
+use Rattle.gq_contents.specs.declared.content.Content.TheVariants as content
+use Rattle.gq_contents.specs.Contents.{added, entry_count, entry_in, entry_size, seen, with_entry}
 use Rattle.gq_trade.specs.declared.session.Spot.{Spot}
 use Rattle.gq_trade.specs.Seen.{spot_seen}
-use Rattle.gq_slots.specs.Slots.{Frame, IsHeapOf, IsSlot, IsSpot, Slots, holder, memory_of, settled_in, slot_of, thing_at, world_seen}
+use Rattle.gq_slots.specs.Slots.{Frame, IsHeapOf, IsSlot, IsSpot, Slots, holder, memory_of, settled_in, slot_of, content_at, world_seen}
 use Rattle.gq_slots.proofs.Facts.{price_entry}
 use Rattle.gq_statements.specs.Systems.{AreLawful, IsOf, Lacks}
 use Rattle.gq_statements.proofs.Made.{leaf_found, unpaid_made, written_at}
@@ -46,7 +46,7 @@ large_lacks s x h n bytes lt Caps lacks =
 
 -- Where the leaf that pays for an empty slot can't pay for a block more, the world with the block is not paid for.
 pub unpaid_block : (system : System) (f : Frame) (s : Slots) (p : Spot) (h : Heap) (n : ℕ) → AreLawful s → IsOf system f s → IsSpot s p → IsSlot p
-    → thing_at s p ≡ thing.Empty → holder s p < length s.own → IsHeapOf s (holder s p) h → (r : Resource) → Lacks r s (holder s p) (rise h n)
+    → content_at s p ≡ content.Empty → holder s p < length s.own → IsHeapOf s (holder s p) h → (r : Resource) → Lacks r s (holder s p) (rise h n)
     → paid system (settled_in (holder s p) (world.with_slot (world_seen f s) (spot_seen p) (world.Bytes form.Block n (replicate n 0)))) ≡ false
 unpaid_block system f s p h n l o there is empty lt its r lacks = elim (cases_lt 2048 n) [
   | inl large ↦
@@ -92,30 +92,30 @@ places_added c i n es lt e =
     ∙ cond_more (eqb (size_for n) c) (count_by is_some (set es i (Some (replicate n 0)))) (count_by is_some es) (count_added es i (replicate n 0) lt e)
 
 -- so has a slot with a pool
-slot_added : (st : Store) (t : Thing) (c i : ℕ) → i < entry_count t → entry_in i (seen st t) ≡ None
+slot_added : (st : Store) (t : Content) (c i : ℕ) → i < entry_count t → entry_in i (seen st t) ≡ None
     → slot_places c (with_entry i added (seen st t)) ≡ slot_places c (seen st t) + cond (eqb (size_for (entry_size t)) c) 1 0
-slot_added st thing.Empty c i lt e = absurd (omega (arith, lt))
-slot_added st (thing.Block p n) c i lt e = absurd (omega (arith, lt))
-slot_added st (thing.Slice k n) c i lt e = absurd (omega (arith, lt))
-slot_added st (thing.Space k n) c i lt e = absurd (omega (arith, lt))
-slot_added st (thing.Pool p) c i lt e =
+slot_added st content.Empty c i lt e = absurd (omega (arith, lt))
+slot_added st (content.Block p n) c i lt e = absurd (omega (arith, lt))
+slot_added st (content.Slice k n) c i lt e = absurd (omega (arith, lt))
+slot_added st (content.Space k n) c i lt e = absurd (omega (arith, lt))
+slot_added st (content.Pool p) c i lt e =
     let long : length (entries_of p st) ≡ p.count =
     length-map (held_of p st) (entry_bytes p st) ∙ length-listed p.count _ in
     places_added c i p.size (entries_of p st) (omega (arith, lt, long)) e
-slot_added st (thing.Link k) c i lt e = absurd (omega (arith, lt))
-slot_added st (thing.Waiting k) c i lt e = absurd (omega (arith, lt))
+slot_added st (content.Link k) c i lt e = absurd (omega (arith, lt))
+slot_added st (content.Waiting k) c i lt e = absurd (omega (arith, lt))
 
 -- Where the leaf that pays for a pool can't pay for the place of an absent entry, the world with the entry is not paid for.
 pub unpaid_entry : (system : System) (f : Frame) (s : Slots) (p : Spot) (h : Heap) (i : ℕ) → AreLawful s → IsOf system f s → IsSpot s p → IsSlot p
-    → i < entry_count (thing_at s p) → entry_in i (slot_of s p) ≡ None → holder s p < length s.own → IsHeapOf s (holder s p) h
-    → (r : Resource) → Lacks r s (holder s p) (rise h (entry_size (thing_at s p)))
+    → i < entry_count (content_at s p) → entry_in i (slot_of s p) ≡ None → holder s p < length s.own → IsHeapOf s (holder s p) h
+    → (r : Resource) → Lacks r s (holder s p) (rise h (entry_size (content_at s p)))
     → paid system (settled_in (holder s p) (world.with_slot (world_seen f s) (spot_seen p) (with_entry i added (slot_of s p)))) ≡ false
 unpaid_entry system f s p h i l o there is inside absent lt its r lacks =
     let x = holder s p in
-    let n = entry_size (thing_at s p) in
+    let n = entry_size (content_at s p) in
     let old = slot_of s p in
     let slot = with_entry i added old in
     let found = leaf_found f s l x lt in
     unpaid_place system f s l o x lt h its n (l.entries p there) (world.with_slot (world_seen f s) (spot_seen p) slot) found.0 old slot found.1
     (written_at f s p found.0 slot l there is found.1) (λ q. price_entry q i added old)
-    (λ c. slot_added (memory_of s x) (thing_at s p) c i inside absent) r lacks
+    (λ c. slot_added (memory_of s x) (content_at s p) c i inside absent) r lacks

@@ -9,8 +9,8 @@ use Rattle.gq_model.specs.machine.Sums.{paid}
 use Rattle.gq_model.specs.machine.World as world
 use Rattle.gq_trade.specs.Numbers.{IsTaken, free_number}
 use Rattle.gq_ram.specs.Entries.{available, available_caps}
-use Rattle.gq_contents.specs.declared.thing.Thing.{Thing}
-use Rattle.gq_contents.specs.Things.{seen}
+use Rattle.gq_contents.specs.declared.content.Content.{Content}
+use Rattle.gq_contents.specs.Contents.{seen}
 use Rattle.gq_trade.specs.Seen.{session_seen, spot_seen}
 use Rattle.gq_trade.specs.Trading.{session_at}
 use Rattle.gq_trade.specs.declared.requests.Ask.{Ask}
@@ -20,10 +20,10 @@ use Rattle.gq_trade.proofs.Definition.{number_is}
 use Rattle.gq_trade.proofs.Sessions_kept.{added_other}
 use Rattle.gq_slots.proofs.Spots.{taken_below}
 use Rattle.gq_tariff.specs.declared.amount.Amount.{Amount}
-use Rattle.gq_contents.specs.declared.thing.Thing.TheVariants as thing
+use Rattle.gq_contents.specs.declared.content.Content.TheVariants as content
 use Rattle.gq_trade.specs.declared.session.Spot.{Spot}
 use Rattle.gq_trade.specs.declared.session.Spot.TheVariants.{InLeaf, InSession, InObject}
-use Rattle.gq_slots.specs.Slots.{Frame, IsSpot, Slots, holder, memory_of, thing_at, world_seen}
+use Rattle.gq_slots.specs.Slots.{Frame, IsSpot, Slots, holder, memory_of, content_at, world_seen}
 use Rattle.gq_slots.specs.Calls.{SameBeside}
 use Rattle.gq_slots.specs.Session_calls.{opening, upgrading, with_trades}
 use Rattle.gq_slots.proofs.Worlds.{session_there}
@@ -95,13 +95,13 @@ module _ (s : Slots) (v : Trading) (c : Carries s.trades.trading v) where
   holders (InSession j i) h = c.server j h.0
   holders (InObject j) h = c.server j h
 
-  things : (q : Spot) → IsSpot s q → thing_at (with_trades s v) q ≡ thing_at s q
-  things (InLeaf x i) h = refl
-  things (InSession j i) h = ap (λ ts. get_or ts i thing.Empty) (c.slots j h.0)
-  things (InObject j) h = c.object j h
+  contents : (q : Spot) → IsSpot s q → content_at (with_trades s v) q ≡ content_at s q
+  contents (InLeaf x i) h = refl
+  contents (InSession j i) h = ap (λ ts. get_or ts i content.Empty) (c.slots j h.0)
+  contents (InObject j) h = c.object j h
 
-  pub same_thing : (u : Slots) (q : Spot) → u ≡ with_trades s v → IsSpot s q → thing_at u q ≡ thing_at s q
-  same_thing u q e h = ap (λ y. thing_at y q) e ∙ things q h
+  pub same_content : (u : Slots) (q : Spot) → u ≡ with_trades s v → IsSpot s q → content_at u q ≡ content_at s q
+  same_content u q e h = ap (λ y. content_at y q) e ∙ contents q h
 
   pub same_spot : (u : Slots) (q : Spot) → u ≡ with_trades s v → IsSpot s q → IsSpot u q
   same_spot u q e h = subst (λ y. IsSpot y q) (sym e) (spots q h)
@@ -211,10 +211,10 @@ unpaid_open system f s q l o below apart counted only =
 
 -- SLOTS IN THE MACHINE'S WORLD
 
--- what reads as the thing that stands there
-pub reads_thing : (f : Frame) (s : Slots) (p : Spot) (t : Thing) → AreLawful s → IsSpot s p → thing_at s p ≡ t
+-- what reads as the content that stands there
+pub reads_content : (f : Frame) (s : Slots) (p : Spot) (t : Content) → AreLawful s → IsSpot s p → content_at s p ≡ t
     → world.slot_at (world_seen f s) (spot_seen p) ≡ Some (seen (memory_of s (holder s p)) t)
-reads_thing f s p t l there e = l.read f p there ∙ ap (λ y. Some (seen (memory_of s (holder s p)) y)) e
+reads_content f s p t l there e = l.read f p there ∙ ap (λ y. Some (seen (memory_of s (holder s p)) y)) e
 
 -- the session of a number, as the machine's world has it
 abbrev pub its_session : Frame → Slots → ℕ → world.Session

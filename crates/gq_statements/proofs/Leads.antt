@@ -6,21 +6,21 @@ use Rattle.gq_model.specs.machine.World as world
 use Rattle.gq_model.specs.machine.Doing.{Doing}
 use Rattle.gq_model.specs.texts.Operands.{is_slot, is_slot_or_object}
 use Rattle.gq_store.specs.Store.{Store}
-use Rattle.gq_contents.specs.declared.thing.Thing.{Thing}
-use Rattle.gq_contents.specs.declared.thing.Thing.TheVariants.{Empty, Block, Slice, Space, Pool, Link, Waiting}
-use Rattle.gq_contents.specs.Things.{seen}
+use Rattle.gq_contents.specs.declared.content.Content.{Content}
+use Rattle.gq_contents.specs.declared.content.Content.TheVariants.{Empty, Block, Slice, Space, Pool, Link, Waiting}
+use Rattle.gq_contents.specs.Contents.{seen}
 use Rattle.gq_trade.specs.declared.session.Spot.{Spot}
 use Rattle.gq_trade.specs.declared.session.Spot.TheVariants.{InLeaf, InSession, InObject}
 use Rattle.gq_trade.specs.Seen.{spot_seen}
 use Rattle.gq_slots.specs.Slots.{Frame, IsSlot, Slots, holder, memory_of, world_seen}
 use Rattle.gq_slots.specs.Addresses.{place_seen}
 use Rattle.gq_statements.specs.declared.actor.Actor.{Actor}
-use Rattle.gq_statements.specs.Statements.{IsBy, hand_seen}
+use Rattle.gq_statements.specs.Statements.{IsBy, current_seen}
 use Rattle.gq_statements.proofs.Founds.{same_spot}
 use Rattle.gq_statements.specs.Requests.{leads_from, leads_to, session_named}
 use Rattle.gq_statements.specs.internal.Leads.{IsLinkedAt, link_of}
 
-not_link : (st : Store) (t : Thing) → link_of t ≡ None → leads_to (Some (seen st t)) ≡ None
+not_link : (st : Store) (t : Content) → link_of t ≡ None → leads_to (Some (seen st t)) ≡ None
 not_link st Empty e = refl
 not_link st (Block p n) e = refl
 not_link st (Slice k n) e = refl
@@ -32,14 +32,14 @@ not_link st (Waiting k) e = refl
 same_number : (j k : ℕ) → Some j ≡ Some k → j ≡ k
 same_number j k e = cc
 
-pub link_thing : (t : Thing) (k : ℕ) → Some k ≡ link_of t → t ≡ Link k
-link_thing Empty k e = cc
-link_thing (Block p n) k e = cc
-link_thing (Slice j n) k e = cc
-link_thing (Space j n) k e = cc
-link_thing (Pool p) k e = cc
-link_thing (Link j) k e = ap Link (same_number j k (sym e))
-link_thing (Waiting j) k e = cc
+pub link_content : (t : Content) (k : ℕ) → Some k ≡ link_of t → t ≡ Link k
+link_content Empty k e = cc
+link_content (Block p n) k e = cc
+link_content (Slice j n) k e = cc
+link_content (Space j n) k e = cc
+link_content (Pool p) k e = cc
+link_content (Link j) k e = ap Link (same_number j k (sym e))
+link_content (Waiting j) k e = cc
 
 -- an operand that is a slot names no object
 seen_slot : (p : Spot) (o : Option world.Spot) → place_seen (Some p) ≡ o → ((k : ℕ) → o ≡ Some (world.In_object k) → ⊥) → IsSlot p
@@ -47,13 +47,14 @@ seen_slot (InLeaf x i) o e n = tt
 seen_slot (InSession k i) o e n = tt
 seen_slot (InObject k) o e n = absurd (n k (sym e))
 
-no_object : (place : Place) (x : ℕ) (h : Option world.Hand) (k : ℕ) → IsTrue (is_slot place) → world.spot_of x h place ≡ Some (world.In_object k) → ⊥
+no_object : (place : Place) (x : ℕ) (h : Option world.Current) (k : ℕ) → IsTrue (is_slot place) → world.spot_of x h place ≡ Some (world.In_object k) → ⊥
 no_object (Own i) x h k t e = cc
 no_object (Shared i) x None k t e = cc
 no_object (Shared i) x (Some h) k t e = cc
 no_object Object x h k t e = cc
 
-pub names_slot : (place : Place) (x : ℕ) (h : Option world.Hand) (p : Spot) → IsTrue (is_slot place) → place_seen (Some p) ≡ world.spot_of x h place → IsSlot p
+pub names_slot : (place : Place) (x : ℕ) (h : Option world.Current) (p : Spot) → IsTrue (is_slot place) → place_seen (Some p) ≡ world.spot_of x h place
+    → IsSlot p
 names_slot place x h p t e = seen_slot p (world.spot_of x h place) e (λ k f. no_object place x h k t f)
 
 pub slot_or_object : (place : Place) → IsTrue (is_slot place) → IsTrue (is_slot_or_object place)
@@ -62,10 +63,10 @@ slot_or_object (Shared i) t = t
 slot_or_object Object t = cc
 
 module _ (d : Doing) (a : Actor) (place : Place) (f : Frame) (s : Slots) (h : IsBy d a) (we : d.world ≡ world_seen f s) where
-  pub none_named : (o : Option Spot) → o ≡ None → place_seen o ≡ world.spot_of a.leaf (hand_seen a.hand) place → session_named d place ≡ None
+  pub none_named : (o : Option Spot) → o ≡ None → place_seen o ≡ world.spot_of a.leaf (current_seen a.current) place → session_named d place ≡ None
   none_named o n e = ap (leads_from d.world) (same_spot d a place o h e ∙ ap place_seen n)
 
-  module _ (p : Spot) (t : Thing) (e : place_seen (Some p) ≡ world.spot_of a.leaf (hand_seen a.hand) place)
+  module _ (p : Spot) (t : Content) (e : place_seen (Some p) ≡ world.spot_of a.leaf (current_seen a.current) place)
       (r : world.slot_at (world_seen f s) (spot_seen p) ≡ Some (seen (memory_of s (holder s p)) t)) where
     slot_is : world.slot_at d.world (spot_seen p) ≡ Some (seen (memory_of s (holder s p)) t)
     slot_is = ap (λ w. world.slot_at w (spot_seen p)) we ∙ r
@@ -76,4 +77,4 @@ module _ (d : Doing) (a : Actor) (place : Place) (f : Frame) (s : Slots) (h : Is
 
     pub link_named : (k : ℕ) → Some k ≡ link_of t → IsLinkedAt d place (Some (p, k))
     link_named k is =
-        (same_spot d a place (Some p) h e, slot_is ∙ ap (λ y. Some (seen (memory_of s (holder s p)) y)) (link_thing t k is))
+        (same_spot d a place (Some p) h e, slot_is ∙ ap (λ y. Some (seen (memory_of s (holder s p)) y)) (link_content t k is))

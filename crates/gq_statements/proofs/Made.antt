@@ -8,13 +8,13 @@ use Rattle.gq_model.specs.machine.Amounts.{Resource, Ram, Caps, part}
 use Rattle.gq_model.specs.machine.Scenario.{System, Component}
 use Rattle.gq_model.specs.machine.World as world
 use Rattle.gq_model.specs.machine.Sums.{handed, held, lent, paid, received, slot_price, with_peaks}
-use Rattle.gq_contents.specs.declared.thing.Thing.TheVariants as thing
-use Rattle.gq_contents.specs.Things.{seen}
+use Rattle.gq_contents.specs.declared.content.Content.TheVariants as content
+use Rattle.gq_contents.specs.Contents.{seen}
 use Rattle.gq_trade.specs.declared.session.Spot.{Spot}
 use Rattle.gq_trade.specs.declared.session.Spot.TheVariants.{InLeaf, InSession, InObject}
 use Rattle.gq_trade.specs.Seen.{session_seen, spot_seen}
 use Rattle.gq_trade.specs.Trading.{account_of, its_account, session_in}
-use Rattle.gq_slots.specs.Slots.{Frame, IsSlot, IsSpot, Slots, holder, memory_of, raised_in, settled_in, slot_of, thing_at, world_seen}
+use Rattle.gq_slots.specs.Slots.{Frame, IsSlot, IsSpot, Slots, holder, memory_of, raised_in, settled_in, slot_of, content_at, world_seen}
 use Rattle.gq_slots.proofs.Worlds.{session_there}
 use Rattle.gq_laws.proofs.linking.Worlds.{leaf_there, set_here}
 use Rattle.gq_statements.specs.Among.{IsAmong}
@@ -133,7 +133,7 @@ written_at f s (InObject k) leaf slot l there is stands = absurd is
 
 -- Where the leaf that pays for an empty slot can't pay the price of what is to stand there, the world with it is not paid for.
 pub unpaid_made : (system : System) (f : Frame) (s : Slots) (p : Spot) (slot : world.Slot) → AreLawful s → IsOf system f s → IsSpot s p → IsSlot p
-    → thing_at s p ≡ thing.Empty → holder s p < length s.own → (r : Resource) → Lacks r s (holder s p) (slot_price r slot)
+    → content_at s p ≡ content.Empty → holder s p < length s.own → (r : Resource) → Lacks r s (holder s p) (slot_price r slot)
     → paid system (settled_in (holder s p) (world.with_slot (world_seen f s) (spot_seen p) slot)) ≡ false
 unpaid_made system f s p slot l o there is empty lt r lacks =
     let x = holder s p in

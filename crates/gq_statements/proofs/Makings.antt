@@ -9,9 +9,9 @@ use Rattle.gq_model.specs.machine.Doing.{Doing, Quiet, Stepped, fill, if_paid, n
 use Rattle.gq_model.specs.declared.fault.Wrong.TheVariants.{ExceededQuota, WrongKind}
 use Rattle.gq_model.specs.machine.Memory.{make}
 use Rattle.gq_store.specs.Store.{Store}
-use Rattle.gq_contents.specs.declared.thing.Thing.{Thing}
-use Rattle.gq_contents.specs.declared.thing.Thing.TheVariants.{Empty, Block, Slice, Space, Pool, Link, Waiting}
-use Rattle.gq_contents.specs.Things.{seen}
+use Rattle.gq_contents.specs.declared.content.Content.{Content}
+use Rattle.gq_contents.specs.declared.content.Content.TheVariants.{Empty, Block, Slice, Space, Pool, Link, Waiting}
+use Rattle.gq_contents.specs.Contents.{seen}
 use Rattle.gq_trade.specs.declared.session.Spot.{Spot}
 use Rattle.gq_trade.specs.Seen.{spot_seen}
 use Rattle.gq_trade.specs.Balances.{node_at}
@@ -22,13 +22,13 @@ use Rattle.gq_statements.proofs.Paid.{all_paid}
 use Rattle.gq_statements.proofs.Made.{leaf_found, written_at}
 use Rattle.gq_slots.specs.Addresses.{place_seen}
 use Rattle.gq_statements.specs.declared.actor.Actor.{Actor}
-use Rattle.gq_statements.specs.Statements.{IsBy, hand_seen}
+use Rattle.gq_statements.specs.Statements.{IsBy, current_seen}
 use Rattle.gq_statements.specs.internal.Made.{IsFilled, IsUnpaid, filling}
 use Rattle.gq_statements.proofs.Founds.{same_spot}
 
 -- THE SLOT
 
-not_empty : (w : world.World) (p : world.Spot) (st : Store) (t : Thing) (slot : world.Slot) (go : world.World → Stepped) → (t ≡ Empty → ⊥)
+not_empty : (w : world.World) (p : world.Spot) (st : Store) (t : Content) (slot : world.Slot) (go : world.World → Stepped) → (t ≡ Empty → ⊥)
     → fill w p (Some (seen st t)) slot go ≡ Err WrongKind
 not_empty w p st Empty slot go n = absurd (n refl)
 not_empty w p st (Block q k) slot go n = refl
@@ -38,8 +38,8 @@ not_empty w p st (Pool q) slot go n = refl
 not_empty w p st (Link k) slot go n = refl
 not_empty w p st (Waiting k) slot go n = refl
 
-module _ (d : Doing) (a : Actor) (w : world.World) (place : Place) (s : Slots) (h : IsBy d a) (p : Spot) (t : Thing)
-    (e : place_seen (Some p) ≡ world.spot_of a.leaf (hand_seen a.hand) place)
+module _ (d : Doing) (a : Actor) (w : world.World) (place : Place) (s : Slots) (h : IsBy d a) (p : Spot) (t : Content)
+    (e : place_seen (Some p) ≡ world.spot_of a.leaf (current_seen a.current) place)
     (r : world.slot_at w (spot_seen p) ≡ Some (seen (memory_of s (holder s p)) t)) where
   filling_is : (slot : world.Slot) (go : world.World → Stepped)
       → filling d w place slot go ≡ fill w (spot_seen p) (Some (seen (memory_of s (holder s p)) t)) slot go

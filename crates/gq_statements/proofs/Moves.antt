@@ -9,11 +9,11 @@ use Rattle.gq_model.specs.machine.World as world
 use Rattle.gq_model.specs.machine.Doing.{Doing, Quiet, Stepped, on_stack, pop, standing, when, with_operands}
 use Rattle.gq_model.specs.declared.fault.Wrong.TheVariants.{UnmappedByte, WrongKind}
 use Rattle.gq_model.specs.machine.Memory.{bytes_at, load, store}
-use Rattle.gq_contents.specs.Things.{bytes_in, put_in, size_of}
+use Rattle.gq_contents.specs.Contents.{bytes_in, put_in, size_of}
 use Rattle.gq_trade.specs.declared.session.Spot.{Spot}
 use Rattle.gq_trade.specs.Seen.{spot_seen}
-use Rattle.gq_slots.specs.Slots.{Frame, Slots, holder, memory_of, slot_of, thing_at, world_seen}
-use Rattle.gq_slots.specs.Calls.{Puts}
+use Rattle.gq_slots.specs.Slots.{Frame, Slots, holder, memory_of, slot_of, content_at, world_seen}
+use Rattle.gq_slots.specs.Calls.{PutsSlot}
 use Rattle.gq_slots.proofs.Founds.{length_seen}
 use Rattle.gq_statements.specs.internal.Found.{IsFound, with_bytes}
 
@@ -32,9 +32,9 @@ module _ (d : Doing) (width : Width) (place : Place) (s : Slots) where
   abbrev slot_bytes : Spot → List ℕ
   slot_bytes p = bytes_in (slot_of s p)
 
-  long_is : (p : Spot) (n i : ℕ) (b : Bool) → n ≡ size_of (thing_at s p) → nat_le (i + bytes_of width) n ≡ b
+  long_is : (p : Spot) (n i : ℕ) (b : Bool) → n ≡ size_of (content_at s p) → nat_le (i + bytes_of width) n ≡ b
       → nat_le (i + bytes_of width) (length (slot_bytes p)) ≡ b
-  long_is p n i b size e = ap (nat_le (i + bytes_of width)) (length_seen (memory_of s (holder s p)) (thing_at s p) ∙ sym size) ∙ e
+  long_is p n i b size e = ap (nat_le (i + bytes_of width)) (length_seen (memory_of s (holder s p)) (content_at s p) ∙ sym size) ∙ e
 
   -- READ
 
@@ -49,13 +49,13 @@ module _ (d : Doing) (width : Width) (place : Place) (s : Slots) where
     pub load_none : IsFound d w place s None → load d width place ≡ Err WrongKind
     load_none h = load_is ∙ h (reading i rest)
 
-    pub load_short : (p : Spot) (n : ℕ) → IsFound d w place s (Some (p, n)) → n ≡ size_of (thing_at s p) → nat_le (i + bytes_of width) n ≡ false
+    pub load_short : (p : Spot) (n : ℕ) → IsFound d w place s (Some (p, n)) → n ≡ size_of (content_at s p) → nat_le (i + bytes_of width) n ≡ false
         → load d width place ≡ Err UnmappedByte
     load_short p n h size short =
         load_is ∙ h (reading i rest)
         ∙ ap (λ b. when b UnmappedByte (on_stack d (little (slice_range (slot_bytes p) i (i + bytes_of width)) ∷ rest))) (long_is p n i false size short)
 
-    pub load_some : (p : Spot) (n m : ℕ) → IsFound d w place s (Some (p, n)) → n ≡ size_of (thing_at s p) → nat_le (i + bytes_of width) n ≡ true
+    pub load_some : (p : Spot) (n m : ℕ) → IsFound d w place s (Some (p, n)) → n ≡ size_of (content_at s p) → nat_le (i + bytes_of width) n ≡ true
         → m ≡ little (slice_range (slot_bytes p) i (i + bytes_of width)) → load d width place ≡ on_stack d (m ∷ rest)
     load_some p n m h size long is =
         load_is ∙ h (reading i rest)
@@ -81,13 +81,13 @@ module _ (d : Doing) (width : Width) (place : Place) (s : Slots) where
     written p = world.with_slot w (spot_seen p)
         (with_bytes (take i (slot_bytes p) ++ spelled (bytes_of width) v ++ drop (i + bytes_of width) (slot_bytes p)) (slot_of s p))
 
-    pub store_short : (p : Spot) (n : ℕ) → IsFound d w place s (Some (p, n)) → n ≡ size_of (thing_at s p) → nat_le (i + bytes_of width) n ≡ false
+    pub store_short : (p : Spot) (n : ℕ) → IsFound d w place s (Some (p, n)) → n ≡ size_of (content_at s p) → nat_le (i + bytes_of width) n ≡ false
         → store d width place ≡ Err UnmappedByte
     store_short p n h size short =
         store_is ∙ h (writing v i) ∙ ap (λ b. when b UnmappedByte (Ok (written p, Quiet))) (long_is p n i false size short)
 
-    pub store_some : (f : Frame) (t : Slots) (p : Spot) (n : ℕ) → w ≡ world_seen f s → IsFound d w place s (Some (p, n)) → n ≡ size_of (thing_at s p)
-        → nat_le (i + bytes_of width) n ≡ true → Puts s t p (put_in i (spelled (bytes_of width) v) (slot_of s p))
+    pub store_some : (f : Frame) (t : Slots) (p : Spot) (n : ℕ) → w ≡ world_seen f s → IsFound d w place s (Some (p, n)) → n ≡ size_of (content_at s p)
+        → nat_le (i + bytes_of width) n ≡ true → PutsSlot s t p (put_in i (spelled (bytes_of width) v) (slot_of s p))
         → store d width place ≡ Ok (world_seen f t, Quiet)
     store_some f t p n is h size long puts =
         store_is ∙ h (writing v i) ∙ ap (λ b. when b UnmappedByte (Ok (written p, Quiet))) (long_is p n i true size long)

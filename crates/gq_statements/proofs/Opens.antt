@@ -17,17 +17,17 @@ use Rattle.gq_model.proofs.Small.{none_some}
 use Rattle.gq_laws.proofs.linking.Opens.{add_else, free_at, free_slot}
 use Rattle.gq_laws.proofs.linking.Worlds.{object_there, session_there, slot_here}
 use Rattle.gq_store.specs.Store.{Store}
-use Rattle.gq_contents.specs.declared.thing.Thing.{Thing}
-use Rattle.gq_contents.specs.declared.thing.Thing.TheVariants.{Empty, Block, Slice, Space, Pool, Link, Waiting}
-use Rattle.gq_contents.specs.Things.{seen}
+use Rattle.gq_contents.specs.declared.content.Content.{Content}
+use Rattle.gq_contents.specs.declared.content.Content.TheVariants.{Empty, Block, Slice, Space, Pool, Link, Waiting}
+use Rattle.gq_contents.specs.Contents.{seen}
 use Rattle.gq_trade.specs.declared.session.Spot.{Spot}
 use Rattle.gq_trade.specs.Seen.{spot_seen}
 use Rattle.gq_slots.specs.Slots.{Frame, Slots, holder, memory_of, world_seen}
-use Rattle.gq_slots.specs.Calls.{Puts}
+use Rattle.gq_slots.specs.Calls.{PutsSlot}
 use Rattle.gq_slots.specs.Session_calls.{asking, opening}
 use Rattle.gq_slots.specs.Addresses.{place_seen}
 use Rattle.gq_statements.specs.declared.actor.Actor.{Actor}
-use Rattle.gq_statements.specs.Statements.{IsBy, hand_seen}
+use Rattle.gq_statements.specs.Statements.{IsBy, current_seen}
 use Rattle.gq_statements.proofs.Founds.{same_spot}
 use Rattle.gq_statements.proofs.Worlds.{with_same}
 use Rattle.gq_statements.proofs.Marked.{marked_paid, slot_opening}
@@ -43,7 +43,7 @@ differs b e f = cc
 abbrev Fills : Type 0
 Fills = world.World → Stepped
 
-not_empty : (w : world.World) (p : world.Spot) (st : Store) (t : Thing) (slot : world.Slot) (go : Fills) → (t ≡ Empty → ⊥)
+not_empty : (w : world.World) (p : world.Spot) (st : Store) (t : Content) (slot : world.Slot) (go : Fills) → (t ≡ Empty → ⊥)
     → fill w p (Some (seen st t)) slot go ≡ Err WrongKind
 not_empty w p st Empty slot go ne = absurd (ne refl)
 not_empty w p st (Block q n) slot go ne = refl
@@ -54,11 +54,11 @@ not_empty w p st (Link k) slot go ne = refl
 not_empty w p st (Waiting k) slot go ne = refl
 
 module _ (d : Doing) (a : Actor) (place : Place) (f : Frame) (s : Slots) (h : IsBy d a) (we : d.world ≡ world_seen f s) where
-  pub no_room : (o : Option Spot) → o ≡ None → place_seen o ≡ world.spot_of a.leaf (hand_seen a.hand) place → IsRoomAt d place None
+  pub no_room : (o : Option Spot) → o ≡ None → place_seen o ≡ world.spot_of a.leaf (current_seen a.current) place → IsRoomAt d place None
   no_room o n e slot go =
       ap (λ y. need y WrongKind (λ spot. fill d.world spot (world.slot_at d.world spot) slot (go spot))) (same_spot d a place o h e ∙ ap place_seen n)
 
-  module _ (p : Spot) (t : Thing) (e : place_seen (Some p) ≡ world.spot_of a.leaf (hand_seen a.hand) place)
+  module _ (p : Spot) (t : Content) (e : place_seen (Some p) ≡ world.spot_of a.leaf (current_seen a.current) place)
       (r : world.slot_at (world_seen f s) (spot_seen p) ≡ Some (seen (memory_of s (holder s p)) t)) where
     stands : world.slot_at d.world (spot_seen p) ≡ Some (seen (memory_of s (holder s p)) t)
     stands = ap (λ w. world.slot_at w (spot_seen p)) we ∙ r
@@ -152,7 +152,7 @@ leaf_in (Some (world.In_leaf y i)) = y
 leaf_in _ = 0
 
 -- an operand that names a leaf's own slot names one of the leaf that does the step
-own_leaf : (x : ℕ) (h : Option world.Hand) (place : Place) (y i : ℕ) → world.spot_of x h place ≡ Some (world.In_leaf y i) → y ≡ x
+own_leaf : (x : ℕ) (h : Option world.Current) (place : Place) (y i : ℕ) → world.spot_of x h place ≡ Some (world.In_leaf y i) → y ≡ x
 own_leaf x h (Own j) y i e = sym (ap leaf_in e)
 own_leaf x None (Shared j) y i e = cc
 own_leaf x None Object y i e = cc
@@ -220,10 +220,10 @@ module _ (d : Doing) (place : Place) (name : List ℕ) (n : ℕ) where
           ≡ world.with_slot (opening (world_seen after s) q) (spot_seen p) (world.Waiting k)
       opens =
           filled_same d.world q (world.Waiting k) d.x (record d.leaf { phase = phase.Blocked }) (spot_seen p) world.Empty
-          (λ z i e. own_leaf d.x d.leaf.hand place z i (r.0 ∙ ap Some e)) r.1
+          (λ z i e. own_leaf d.x d.leaf.current place z i (r.0 ∙ ap Some e)) r.1
           ∙ ap (λ w. world.with_slot (opening w q) (spot_seen p) (world.Waiting k)) b.world_after
 
-      pub open_some : (u t : Slots) (j : ℕ) → world_seen after u ≡ opening (world_seen after s) q → j ≡ k → Puts u t p (world.Waiting j)
+      pub open_some : (u t : Slots) (j : ℕ) → world_seen after u ≡ opening (world_seen after s) q → j ≡ k → PutsSlot u t p (world.Waiting j)
           → paid d.system (world_seen after t) ≡ true → open_session d place name n ≡ Ok (world_seen after t, Quiet)
       open_some u t j e same puts whole =
           open_is

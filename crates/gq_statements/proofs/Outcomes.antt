@@ -17,7 +17,7 @@ use Rattle.gq_trade.specs.declared.requests.Ask.TheVariants.{Open}
 use Rattle.gq_trade.specs.declared.requests.Request.{Request}
 use Rattle.gq_trade.specs.Queues.{oldest_to}
 use Rattle.gq_trade.specs.Seen_requests.{request_seen}
-use Rattle.gq_contents.specs.declared.thing.Thing.TheVariants.{Empty}
+use Rattle.gq_contents.specs.declared.content.Content.TheVariants.{Empty}
 use Rattle.gq_trade.specs.Trading.{IsOfOldest, LacksBytes, LacksCaps, object_size, server_of, session_at}
 use Rattle.gq_slots.specs.Slots.{AreSound, Frame, Slots, memory_of, world_seen}
 use Rattle.gq_slots.specs.Session_calls.{TakesOldest}

@@ -10,7 +10,7 @@ use Rattle.gq_model.specs.machine.World as world
 use Rattle.gq_model.specs.machine.Sums.{are_paid, handed, is_paid, paid}
 use Rattle.gq_store.specs.Store.{Store}
 use Rattle.gq_heap.specs.declared.heap.Heap.{Heap}
-use Rattle.gq_contents.specs.declared.thing.Thing.{Thing}
+use Rattle.gq_contents.specs.declared.content.Content.{Content}
 use Rattle.gq_trade.specs.Trading.{account_of}
 use Rattle.gq_slots.specs.Slots.{Frame, Slots, leaves_seen, memory_of, world_seen}
 use Rattle.gq_laws.proofs.paying.Prices.{paid_all}
@@ -24,7 +24,7 @@ found_below (b ∷ items) zero a e = omega arith
 found_below (b ∷ items) (suc i) a e = let lt = found_below items i a e in omega (arith, lt)
 
 -- a leaf is in the phase that the frame gives
-pub phase_seen : (leaf : ℕ → world.Leaf) (st : ℕ → Store) (own : List (List Thing)) (hs : List Heap) (x : ℕ) (l : world.Leaf)
+pub phase_seen : (leaf : ℕ → world.Leaf) (st : ℕ → Store) (own : List (List Content)) (hs : List Heap) (x : ℕ) (l : world.Leaf)
     → slice_get (leaves_seen leaf st own hs) x ≡ Some l → l.phase ≡ (leaf x).phase
 phase_seen leaf st [] hs x l e = cc
 phase_seen leaf st (ts ∷ own) [] x l e = cc

@@ -7,19 +7,19 @@ use Rattle.gq_model.specs.machine.World as world
 use Rattle.gq_model.specs.machine.Sums.{slot_price}
 use Rattle.gq_heap.specs.declared.heap.Heap.{Heap}
 use Rattle.gq_heap.specs.Heap.{rise}
-use Rattle.gq_contents.specs.Things.{added, entry_count, entry_in, entry_size, with_entry}
+use Rattle.gq_contents.specs.Contents.{added, entry_count, entry_in, entry_size, with_entry}
 use Rattle.gq_store.specs.declared.GrowFault.{GrowFault}
 use Rattle.gq_store.specs.declared.GrowFault.TheVariants.{Exceeded, CapsExceeded}
-use Rattle.gq_contents.specs.declared.thing.Thing.TheVariants as thing
+use Rattle.gq_contents.specs.declared.content.Content.TheVariants as content
 use Rattle.gq_trade.specs.declared.session.Spot.{Spot}
-use Rattle.gq_slots.specs.Slots.{IsHeapOf, IsSlot, IsSpot, Slots, holder, memory_of, slot_of, thing_at}
+use Rattle.gq_slots.specs.Slots.{IsHeapOf, IsSlot, IsSpot, Slots, holder, memory_of, slot_of, content_at}
 use Rattle.gq_statements.specs.Systems.{AreLawful}
 use Rattle.gq_statements.proofs.Made.{unpaid_made}
 use Rattle.gq_statements.proofs.Heaped.{unpaid_block, unpaid_entry}
 use Rattle.gq_statements.specs.internal.Made.{IsUnpaid}
 
 pub refused : {A : Type 0} (s : Slots) (p : Spot) (slot : world.Slot) (res : Result A GrowFault) → AreLawful s → IsSpot s p → IsSlot p
-    → thing_at s p ≡ thing.Empty → holder s p < length s.own → (IsErrOf res Exceeded → (memory_of s (holder s p)).left < slot_price Ram slot)
+    → content_at s p ≡ content.Empty → holder s p < length s.own → (IsErrOf res Exceeded → (memory_of s (holder s p)).left < slot_price Ram slot)
     → (IsErrOf res CapsExceeded → ((memory_of s (holder s p)).caps ≡ Some 0) × (0 < slot_price Caps slot)) → OnErr res (IsUnpaid s p slot)
 refused s p slot (Ok a) l there is empty lt ram caps = tt
 refused s p slot (Err Exceeded) l there is empty lt ram caps = λ system f o. unpaid_made system f s p slot l o there is empty lt Ram (ram refl)
@@ -38,7 +38,7 @@ heap_at s x =
 
 -- by the rise of the leaf's heap
 pub refused_block : {A : Type 0} (s : Slots) (p : Spot) (n : ℕ) (res : Result A GrowFault) → AreLawful s → IsSpot s p → IsSlot p
-    → thing_at s p ≡ thing.Empty → holder s p < length s.own
+    → content_at s p ≡ content.Empty → holder s p < length s.own
     → ((h : Heap) → IsHeapOf s (holder s p) h → IsErrOf res Exceeded → (memory_of s (holder s p)).left < rise h n)
     → ((h : Heap) → IsHeapOf s (holder s p) h → IsErrOf res CapsExceeded → ((memory_of s (holder s p)).caps ≡ Some 0) × (0 < rise h n))
     → OnErr res (IsUnpaid s p (world.Bytes form.Block n (replicate n 0)))
@@ -51,11 +51,11 @@ refused_block s p n (Err CapsExceeded) l there is empty lt ram caps =
     λ system f o. unpaid_block system f s p at.0 n l o there is empty lt at.1 Caps (caps at.0 at.1 refl)
 
 pub refused_entry : {A : Type 0} (s : Slots) (p : Spot) (i : ℕ) (res : Result A GrowFault) → AreLawful s → IsSpot s p → IsSlot p
-    → i < entry_count (thing_at s p) → holder s p < length s.own
+    → i < entry_count (content_at s p) → holder s p < length s.own
     → ((h : Heap) → IsHeapOf s (holder s p) h → IsErrOf res Exceeded
-    → (entry_in i (slot_of s p) ≡ None) × ((memory_of s (holder s p)).left < rise h (entry_size (thing_at s p))))
+    → (entry_in i (slot_of s p) ≡ None) × ((memory_of s (holder s p)).left < rise h (entry_size (content_at s p))))
     → ((h : Heap) → IsHeapOf s (holder s p) h → IsErrOf res CapsExceeded
-    → (entry_in i (slot_of s p) ≡ None) × ((memory_of s (holder s p)).caps ≡ Some 0) × (0 < rise h (entry_size (thing_at s p))))
+    → (entry_in i (slot_of s p) ≡ None) × ((memory_of s (holder s p)).caps ≡ Some 0) × (0 < rise h (entry_size (content_at s p))))
     → OnErr res ((entry_in i (slot_of s p) ≡ None) × IsUnpaid s p (with_entry i added (slot_of s p)))
 refused_entry s p i (Ok a) l there is lt inside ram caps = tt
 refused_entry s p i (Err Exceeded) l there is lt inside ram caps =

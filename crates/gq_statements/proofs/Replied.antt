@@ -11,15 +11,15 @@ use Rattle.gq_model.specs.machine.Step.{replied, reply, serving}
 use Rattle.gq_model.proofs.Small.{some_same}
 use Rattle.gq_store.specs.Store.{Store}
 use Rattle.gq_trade.specs.Numbers.{IsTaken}
-use Rattle.gq_contents.specs.declared.thing.Thing.{Thing}
-use Rattle.gq_contents.specs.declared.thing.Thing.TheVariants as thing
-use Rattle.gq_contents.specs.Things.{seen}
+use Rattle.gq_contents.specs.declared.content.Content.{Content}
+use Rattle.gq_contents.specs.declared.content.Content.TheVariants as content
+use Rattle.gq_contents.specs.Contents.{seen}
 use Rattle.gq_trade.specs.declared.session.Session.{Session}
 use Rattle.gq_trade.specs.Seen.{session_seen, spot_seen}
 use Rattle.gq_trade.specs.Trading.{IsTrading, server_of, session_at}
 use Rattle.gq_trade.proofs.Sessions_kept.{between_at}
 use Rattle.gq_slots.specs.Slots.{Frame, Slots, memory_of, world_seen}
-use Rattle.gq_slots.specs.Calls.{Puts}
+use Rattle.gq_slots.specs.Calls.{PutsSlot}
 use Rattle.gq_slots.proofs.Worlds.{session_there}
 use Rattle.gq_slots.specs.Addresses.{AreBuffers, slot_for}
 use Rattle.gq_statements.specs.Serving.{GoesOn}
@@ -27,14 +27,14 @@ use Rattle.gq_statements.specs.internal.Tests.{fits, is_space_of}
 use Rattle.gq_statements.proofs.Clients.{going_sessions, going_slot}
 
 -- a space of n bytes in the world is one in the slots
-space_seen : (n : ℕ) (st : Store) (t : Thing) → step.is_space_of n (Some (seen st t)) ≡ is_space_of n t
-space_seen n st thing.Empty = refl
-space_seen n st (thing.Block p m) = refl
-space_seen n st (thing.Slice k m) = refl
-space_seen n st (thing.Space k m) = refl
-space_seen n st (thing.Pool p) = refl
-space_seen n st (thing.Link k) = refl
-space_seen n st (thing.Waiting k) = refl
+space_seen : (n : ℕ) (st : Store) (t : Content) → step.is_space_of n (Some (seen st t)) ≡ is_space_of n t
+space_seen n st content.Empty = refl
+space_seen n st (content.Block p m) = refl
+space_seen n st (content.Slice k m) = refl
+space_seen n st (content.Space k m) = refl
+space_seen n st (content.Pool p) = refl
+space_seen n st (content.Link k) = refl
+space_seen n st (content.Waiting k) = refl
 
 module _ (f : Frame) (d : Doing) (s : Slots) (k : ℕ) (q : world.Session) (g : List ℕ → List ℕ) (at : world.session_at d.world k ≡ Some q)
     (h : GoesOn d q g f s) (there : IsTaken s.trades.trading.sessions k) where
@@ -53,21 +53,21 @@ module _ (f : Frame) (d : Doing) (s : Slots) (k : ℕ) (q : world.Session) (g : 
   pub spot_is : q.spot ≡ spot_seen (slot_for s k)
   spot_is = ap (λ y. y.spot) is_kept
 
-  -- another thing in the client's slot
-  pub going_put : (t : Slots) (slot : world.Slot) → Puts s t (slot_for s k) slot
+  -- another content in the client's slot
+  pub going_put : (t : Slots) (slot : world.Slot) → PutsSlot s t (slot_for s k) slot
       → world_seen f t ≡ step.unblocked (world.with_slot (standing d (serving d.leaf)) q.spot slot) q.client g
   going_put t slot puts =
       puts.seen_so f
       ∙ (ap (λ p. world.with_slot (world_seen f s) p slot) (sym spot_is)
       ∙ (ap (λ w. world.with_slot w q.spot slot) (sym h) ∙ sym (going_slot q.client g (standing d (serving d.leaf)) q.spot slot)))
 
-  pub replied_is : (t : Slots) → Puts s t (slot_for s k) (world.Link k) → replied d k q g ≡ Ok (world_seen f t, Quiet)
+  pub replied_is : (t : Slots) → PutsSlot s t (slot_for s k) (world.Link k) → replied d k q g ≡ Ok (world_seen f t, Quiet)
   replied_is t puts = ap (λ w. Ok (w, Quiet)) (sym (going_put t (world.Link k) puts))
 
 -- a call's result is one operand more
 pub called_is : (f : Frame) (d : Doing) (s t : Slots) (k : ℕ) (q : world.Session) (level a : ℕ) (rest : List ℕ) → world.session_at d.world k ≡ Some q
     → d.leaf.operands ≡ a ∷ rest → GoesOn d q (λ operands. a ∷ operands) f s → IsTaken s.trades.trading.sessions k
-    → Puts s t (slot_for s k) (world.Link k) → reply d k (Calling level) q ≡ Ok (world_seen f t, Quiet)
+    → PutsSlot s t (slot_for s k) (world.Link k) → reply d k (Calling level) q ≡ Ok (world_seen f t, Quiet)
 called_is f d s t k q level a rest at e h there puts =
     ap (λ os. pop os (λ b below. replied d k q (λ operands. b ∷ operands))) e ∙ replied_is f d s k q (λ operands. a ∷ operands) at h there t puts
 
@@ -75,7 +75,7 @@ called_is f d s t k q level a rest at e h there puts =
 
 module _ (f : Frame) (d : Doing) (s : Slots) (k : ℕ) (q : world.Session) (at : world.session_at d.world k ≡ Some q)
     (h : GoesOn d q (λ operands. operands) f s) (there : IsTaken s.trades.trading.sessions k) (w : IsTrading s.trades.trading) (bs : List ℕ)
-    (buffers : AreBuffers d.system f s bs) (n : ℕ) (size : n ≡ get_or bs (session_at s.trades.trading k).service 0) (first : Thing)
+    (buffers : AreBuffers d.system f s bs) (n : ℕ) (size : n ≡ get_or bs (session_at s.trades.trading k).service 0) (first : Content)
     (reads : (e : Frame) → world.slot_at (world_seen e s) (world.In_session k 0) ≡ Some (seen (memory_of s (server_of s.trades.trading k)) first)) where
   buffer_is : buffer_of d.system q.service ≡ n
   buffer_is =
@@ -103,6 +103,6 @@ module _ (f : Frame) (d : Doing) (s : Slots) (k : ℕ) (q : world.Session) (at :
   opened_is e t is = test_is true e ∙ is
 
 -- the client's slot by the session that was read
-pub at_slot : (s t : Slots) (k : ℕ) (y : Session) (slot : world.Slot) → y ≡ session_at s.trades.trading k → Puts s t y.spot slot
-    → Puts s t (slot_for s k) slot
-at_slot s t k y slot e puts = subst (λ z. Puts s t z.spot slot) e puts
+pub at_slot : (s t : Slots) (k : ℕ) (y : Session) (slot : world.Slot) → y ≡ session_at s.trades.trading k → PutsSlot s t y.spot slot
+    → PutsSlot s t (slot_for s k) slot
+at_slot s t k y slot e puts = subst (λ z. PutsSlot s t z.spot slot) e puts

@@ -13,7 +13,7 @@ use Rattle.gq_heap.specs.declared.heap.Heap.{Heap}
 use Rattle.gq_ram.specs.declared.account.Account.{Account}
 use Rattle.gq_trade.specs.Numbers.{IsTaken}
 use Rattle.gq_ram.specs.Entries.{available, available_caps}
-use Rattle.gq_contents.specs.declared.thing.Thing.{Thing}
+use Rattle.gq_contents.specs.declared.content.Content.{Content}
 use Rattle.gq_trade.specs.declared.session.Spot.TheVariants.{InLeaf}
 use Rattle.gq_trade.specs.Trading.{client_of, its_account, server_of}
 use Rattle.gq_trade.proofs.Sessions_kept.{between_at}
@@ -46,7 +46,7 @@ among_at Caps price true e p = absurd (p (grind (arith, nat_tests, e)))
 among_at Caps price false e p = inr (inl refl)
 
 -- a leaf of the world is one of the slots'
-below_own : (leaf : ℕ → world.Leaf) (st : ℕ → Store) (own : List (List Thing)) (hs : List Heap) (x : ℕ) (l : world.Leaf)
+below_own : (leaf : ℕ → world.Leaf) (st : ℕ → Store) (own : List (List Content)) (hs : List Heap) (x : ℕ) (l : world.Leaf)
     → slice_get (leaves_seen leaf st own hs) x ≡ Some l → x < length own
 below_own leaf st [] hs x l e = cc
 below_own leaf st (ts ∷ own) [] x l e = cc

@@ -1,8 +1,8 @@
 -- Who pays for the bytes that a statement names.
 use Rattle.std.proofs.Common.{◌≡◌, ℕ, Bool, true, false, cond, eqb, List, length, Some, None, refl, subst}
 use Rattle.gq_trade.specs.Numbers.{IsTaken}
-use Rattle.gq_contents.specs.declared.thing.Thing.{Thing}
-use Rattle.gq_contents.specs.declared.thing.Thing.TheVariants.{Empty, Block, Slice, Space, Pool, Link, Waiting}
+use Rattle.gq_contents.specs.declared.content.Content.{Content}
+use Rattle.gq_contents.specs.declared.content.Content.TheVariants.{Empty, Block, Slice, Space, Pool, Link, Waiting}
 use Rattle.gq_trade.specs.declared.session.Spot.{Spot}
 use Rattle.gq_trade.specs.declared.session.Spot.TheVariants.{InSession}
 use Rattle.gq_trade.specs.Trading.{IsTrading}
@@ -27,7 +27,7 @@ buffer_live s k p true t w there e = cc
 buffer_live s k p false t w there e = same_live s (InSession k 0) p (server_live s k t w there) e
 
 -- where a live leaf pays for the slot, a live leaf pays for its bytes
-pub place_live : (bs : List ℕ) (s : Slots) (u : Thing) (q p : Spot) → IsTrades s.trades → IsTrading s.trades.trading → IsLive s.trades (holder s q)
+pub place_live : (bs : List ℕ) (s : Slots) (u : Content) (q p : Spot) → IsTrades s.trades → IsTrading s.trades.trading → IsLive s.trades (holder s q)
     → ((k : ℕ) → u ≡ Link k → IsTaken s.trades.trading.sessions k) → place_in bs s u q ≡ Some p → IsLive s.trades (holder s p)
 place_live bs s Empty q p t w l a e = same_live s q p l e
 place_live bs s (Block b n) q p t w l a e = same_live s q p l e

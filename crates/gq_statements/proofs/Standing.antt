@@ -8,9 +8,9 @@ use Rattle.gq_model.specs.machine.World as world
 use Rattle.gq_model.proofs.Small.{some_same, none_some}
 use Rattle.gq_store.specs.Store.{Store}
 use Rattle.gq_pool.specs.declared.pool.Pool.{Pool}
-use Rattle.gq_contents.specs.declared.thing.Thing.{Thing}
-use Rattle.gq_contents.specs.declared.thing.Thing.TheVariants as thing
-use Rattle.gq_contents.specs.Things.{seen}
+use Rattle.gq_contents.specs.declared.content.Content.{Content}
+use Rattle.gq_contents.specs.declared.content.Content.TheVariants as content
+use Rattle.gq_contents.specs.Contents.{seen}
 use Rattle.gq_trade.specs.declared.requests.Ask.TheVariants.{Open}
 use Rattle.gq_trade.specs.declared.requests.Request.{Request}
 use Rattle.gq_trade.specs.Queues.{kept_before, oldest_to}
@@ -19,36 +19,37 @@ use Rattle.gq_trade.specs.Trading.{session_in}
 use Rattle.gq_slots.specs.internal.Holds.{AreUnmade, IsObject, IsUnmade}
 
 -- nothing stands where the test finds nothing
-tested_empty : (st : Store) (t : Thing) → is_empty (seen st t) ≡ true → t ≡ thing.Empty
-tested_empty st thing.Empty e = refl
-tested_empty st (thing.Block p n) e = cc
-tested_empty st (thing.Slice k n) e = cc
-tested_empty st (thing.Space k n) e = cc
-tested_empty st (thing.Pool p) e = cc
-tested_empty st (thing.Link k) e = cc
-tested_empty st (thing.Waiting k) e = cc
+tested_empty : (st : Store) (t : Content) → is_empty (seen st t) ≡ true → t ≡ content.Empty
+tested_empty st content.Empty e = refl
+tested_empty st (content.Block p n) e = cc
+tested_empty st (content.Slice k n) e = cc
+tested_empty st (content.Space k n) e = cc
+tested_empty st (content.Pool p) e = cc
+tested_empty st (content.Link k) e = cc
+tested_empty st (content.Waiting k) e = cc
 
-pub empty_thing : (st : Store) (t : Thing) → seen st t ≡ world.Empty → t ≡ thing.Empty
-empty_thing st t e = tested_empty st t (ap is_empty e)
+pub empty_content : (st : Store) (t : Content) → seen st t ≡ world.Empty → t ≡ content.Empty
+empty_content st t e = tested_empty st t (ap is_empty e)
 
 -- so it is of all slots of a session
-pub empty_things : (st : Store) (ts : List Thing) → all_empty (map (seen st) ts) ≡ true → (i : ℕ) → i < length ts → get_or ts i thing.Empty ≡ thing.Empty
-empty_things st [] e i lt = absurd (omega (arith, lt))
-empty_things st (t ∷ ts) e zero lt = tested_empty st t (and_parts (is_empty (seen st t)) (all_empty (map (seen st) ts)) e).0
-empty_things st (t ∷ ts) e (suc i) lt =
-    empty_things st ts (and_parts (is_empty (seen st t)) (all_empty (map (seen st) ts)) e).1 i (omega (arith, lt))
+pub empty_contents : (st : Store) (ts : List Content) → all_empty (map (seen st) ts) ≡ true → (i : ℕ) → i < length ts
+    → get_or ts i content.Empty ≡ content.Empty
+empty_contents st [] e i lt = absurd (omega (arith, lt))
+empty_contents st (t ∷ ts) e zero lt = tested_empty st t (and_parts (is_empty (seen st t)) (all_empty (map (seen st) ts)) e).0
+empty_contents st (t ∷ ts) e (suc i) lt =
+    empty_contents st ts (and_parts (is_empty (seen st t)) (all_empty (map (seen st) ts)) e).1 i (omega (arith, lt))
 
 -- what reads as bytes is no pool
-pub bytes_no_pool : (st : Store) (t : Thing) (g : Form) (n : ℕ) (bytes : List ℕ) → seen st t ≡ world.Bytes g n bytes → (p : Pool) → t ≡ thing.Pool p → ⊥
+pub bytes_no_pool : (st : Store) (t : Content) (g : Form) (n : ℕ) (bytes : List ℕ) → seen st t ≡ world.Bytes g n bytes → (p : Pool) → t ≡ content.Pool p → ⊥
 bytes_no_pool st t g n bytes e p is = is_pool (ap (seen st) is)
   where
-    is_pool : seen st t ≡ seen st (thing.Pool p) → ⊥
+    is_pool : seen st t ≡ seen st (content.Pool p) → ⊥
     is_pool h = cc
 
 -- INSIDE SLOTS
 
 -- an object is no pool
-pub object_no_pool : (t : Thing) → IsObject t → (p : Pool) → t ≡ thing.Pool p → ⊥
+pub object_no_pool : (t : Content) → IsObject t → (p : Pool) → t ≡ content.Pool p → ⊥
 object_no_pool t o p e = subst IsObject e o
 
 -- of a session whose request to open is the oldest there is no object yet
@@ -70,6 +71,6 @@ unmade_taken ss x (r ∷ rs) p u e = elim (eqb_tells r.server x) [
     later (Some q) all f = first (q.0, r ∷ q.1) (all q refl) f
 
 pub unmade_oldest : (ss : List (Option Session)) (x : ℕ) (rs : List Request) (r : Request) (others : List Request) → AreUnmade ss rs
-    → oldest_to x rs ≡ Some (r, others) → r.ask ≡ Open → (session_in ss r.session).object ≡ thing.Empty
+    → oldest_to x rs ≡ Some (r, others) → r.ask ≡ Open → (session_in ss r.session).object ≡ content.Empty
 unmade_oldest ss x rs r others u e is =
     subst (λ a. IsUnmade a (session_in ss r.session).object) is (unmade_taken ss x rs (r, others) u e)

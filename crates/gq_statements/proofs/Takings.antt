@@ -7,10 +7,10 @@ use Rattle.gq_model.specs.machine.Sums.{paid}
 use Rattle.gq_model.specs.machine.Doing.{Doing, Quiet, Stepped, need, on_stack, settled, when}
 use Rattle.gq_model.specs.declared.fault.Wrong.TheVariants.{ExceededQuota, UnmappedByte, WrongKind}
 use Rattle.gq_model.specs.machine.Memory.{if_absent, pool_at, take_entry}
-use Rattle.gq_contents.specs.Things.{added, entry_count, entry_in, with_entry}
+use Rattle.gq_contents.specs.Contents.{added, entry_count, entry_in, with_entry}
 use Rattle.gq_trade.specs.declared.session.Spot.{Spot}
 use Rattle.gq_trade.specs.Seen.{spot_seen}
-use Rattle.gq_slots.specs.Slots.{Frame, IsSlot, IsSpot, Slots, holder, raised_in, settled_in, slot_of, thing_at, world_seen}
+use Rattle.gq_slots.specs.Slots.{Frame, IsSlot, IsSpot, Slots, holder, raised_in, settled_in, slot_of, content_at, world_seen}
 use Rattle.gq_slots.specs.Calls.{Settles}
 use Rattle.gq_slots.proofs.Worlds.{set_there}
 use Rattle.gq_statements.specs.Systems.{AreLawful, IsOf}
@@ -41,7 +41,7 @@ module _ (d : Doing) (a : Actor) (place : Place) (s : Slots) (i : ℕ) (rest : L
   pub take_none : IsPool d (world_seen (f 1) s) place s None → take_entry d rest place i ≡ Err WrongKind
   take_none found = ap (λ v. pool_at d v place (taking d i rest)) (we 1) ∙ found (taking d i rest)
 
-  module _ (p : Spot) (n m : ℕ) (count : m ≡ entry_count (thing_at s p)) (found : IsPool d (world_seen (f 1) s) place s (Some (p, n, m))) where
+  module _ (p : Spot) (n m : ℕ) (count : m ≡ entry_count (content_at s p)) (found : IsPool d (world_seen (f 1) s) place s (Some (p, n, m))) where
     abbrev with_it : world.World
     with_it = world.with_slot (world_seen (f 1) s) (spot_seen p) (world.Pool n (slice_set (entries_in (slot_of s p)) i (Some (replicate n 0))))
 

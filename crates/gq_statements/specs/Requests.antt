@@ -8,14 +8,14 @@ use Rattle.gq_model.specs.machine.Doing.{Doing, standing}
 use Rattle.gq_model.specs.machine.Scenario.{interface_in, upgrade_caps}
 use Rattle.gq_model.specs.machine.World as world
 use Rattle.gq_trade.specs.Numbers.{IsTaken}
-use Rattle.gq_contents.specs.declared.thing.Thing.TheVariants.{Link}
+use Rattle.gq_contents.specs.declared.content.Content.TheVariants.{Link}
 use Rattle.gq_trade.specs.Trading.{client_of}
 use Rattle.gq_trade.specs.declared.session.Spot.{Spot}
-use Rattle.gq_slots.specs.Slots.{Frame, IsSpot, Slots, holder, thing_at, world_seen}
+use Rattle.gq_slots.specs.Slots.{Frame, IsSpot, Slots, holder, content_at, world_seen}
 
 -- each link in a slot that the leaf x pays for leads to a session that is there, and whose client is x
 abbrev pub OwnsLinks : Slots → ℕ → Type 0
-OwnsLinks s x = (p : Spot) → IsSpot s p → holder s p ≡ x → (k : ℕ) → thing_at s p ≡ Link k
+OwnsLinks s x = (p : Spot) → IsSpot s p → holder s p ≡ x → (k : ℕ) → content_at s p ≡ Link k
     → IsTaken s.trades.trading.sessions k × (client_of s.trades.trading k ≡ x)
 
 -- WHICH SESSION A STATEMENT NAMES
@@ -31,7 +31,7 @@ leads_from w (Some p) = leads_to (world.slot_at w p)
 
 -- the session to which the slot leads that an operand names
 abbrev pub session_named : Doing → Place → Option ℕ
-session_named d place = leads_from d.world (world.spot_of d.x d.leaf.hand place)
+session_named d place = leads_from d.world (world.spot_of d.x d.leaf.current place)
 
 -- this is what the session that an operand names needs for its next level: n bytes, and the capabilities that its service asks for then
 abbrev pub IsNextLevel : Doing → Place → ℕ → Amount → Type 0

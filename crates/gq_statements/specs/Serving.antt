@@ -10,16 +10,16 @@ use Rattle.gq_model.specs.machine.Scenario.{Component, System, interface_in, num
 use Rattle.gq_model.specs.declared.phase.Phase.TheVariants.{Exited}
 use Rattle.gq_model.specs.declared.fault.Wrong.{Wrong}
 use Rattle.gq_trade.specs.Numbers.{IsTaken}
-use Rattle.gq_contents.specs.declared.thing.Thing.TheVariants.{Link, Waiting}
-use Rattle.gq_contents.specs.declared.thing.Thing.{Thing}
+use Rattle.gq_contents.specs.declared.content.Content.TheVariants.{Link, Waiting}
+use Rattle.gq_contents.specs.declared.content.Content.{Content}
 use Rattle.gq_trade.specs.Ends.{HasNoSessions}
 use Rattle.gq_trade.specs.declared.session.Spot.TheVariants.{InLeaf}
 use Rattle.gq_trade.specs.declared.requests.Request.{Request}
 use Rattle.gq_trade.specs.Seen_requests.{request_seen}
 use Rattle.gq_statements.specs.Systems.{IsOf}
 use Rattle.gq_trade.specs.Trading.{client_of}
-use Rattle.gq_slots.specs.Slots.{Frame, IsSlot, IsSpot, Slots, holder, thing_at, world_seen}
-use Rattle.gq_slots.specs.Calls.{Puts}
+use Rattle.gq_slots.specs.Slots.{Frame, IsSlot, IsSpot, Slots, holder, content_at, world_seen}
+use Rattle.gq_slots.specs.Calls.{PutsSlot}
 use Rattle.gq_slots.specs.Session_calls.{EndsSession}
 use Rattle.gq_slots.specs.Addresses.{slot_for}
 
@@ -30,7 +30,7 @@ pub record IsAwaited (s : Slots) (k : ℕ) : Type 0 where
   pub there : IsTaken s.trades.trading.sessions k
   pub slot : IsSlot (slot_for s k)
   pub spot : IsSpot s (slot_for s k)
-  pub waits : thing_at s (slot_for s k) ≡ Waiting k
+  pub waits : content_at s (slot_for s k) ≡ Waiting k
   pub client : holder s (slot_for s k) ≡ client_of s.trades.trading k
 
 -- The leaf of the step serves again and the client goes on with operands by g: that is the world of these slots.
@@ -41,7 +41,7 @@ GoesOn d q g f s = unblocked (standing d (serving d.leaf)) q.client g ≡ world_
 pub record Closes (old new : Slots) (k : ℕ) : Type 0 where
   pub between : Slots
   pub ends : EndsSession old between k
-  pub puts : Puts between new (slot_for old k) world.Empty
+  pub puts : PutsSlot between new (slot_for old k) world.Empty
 
 -- REQUESTS
 
@@ -102,12 +102,12 @@ found r (Err wrong) = Err wrong
 -- LEAVES THAT END
 
 -- the own slots of the leaf x
-abbrev pub own_slots : Slots → ℕ → List Thing
+abbrev pub own_slots : Slots → ℕ → List Content
 own_slots s x = get_or s.own x []
 
 -- Where no own slot of the leaf x is a link, no session is from it or to it.
 abbrev pub IsAloneWithoutLinks : Slots → ℕ → Type 0
-IsAloneWithoutLinks s x = ((i k : ℕ) → i < 64 → thing_at s (InLeaf x i) ≡ Link k → ⊥) → HasNoSessions s.trades.trading x
+IsAloneWithoutLinks s x = ((i k : ℕ) → i < 64 → content_at s (InLeaf x i) ≡ Link k → ⊥) → HasNoSessions s.trades.trading x
 
 -- the leaf has exited, and its slots are as before
 abbrev pub leaving : world.Leaf → world.Leaf

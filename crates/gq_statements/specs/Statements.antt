@@ -8,31 +8,31 @@ use Rattle.gq_trade.specs.Numbers.{IsTaken}
 use Rattle.gq_trade.specs.Trading.{server_of}
 use Rattle.gq_trade.specs.declared.session.Spot.{Spot}
 use Rattle.gq_trade.specs.declared.session.Spot.TheVariants.{InLeaf}
-use Rattle.gq_contents.specs.declared.thing.Thing.{Thing}
-use Rattle.gq_contents.specs.declared.thing.Thing.TheVariants as thing
-use Rattle.gq_slots.specs.Slots.{Frame, IsSpot, Slots, thing_at, world_seen}
+use Rattle.gq_contents.specs.declared.content.Content.{Content}
+use Rattle.gq_contents.specs.declared.content.Content.TheVariants as content
+use Rattle.gq_slots.specs.Slots.{Frame, IsSpot, Slots, content_at, world_seen}
 use Rattle.gq_slots.specs.Addresses.{IsLinked}
-use Rattle.gq_statements.specs.declared.actor.Hand.{Hand}
+use Rattle.gq_statements.specs.declared.actor.Current.{Current}
 use Rattle.gq_statements.specs.declared.actor.Actor.{Actor}
 
--- the session and the section at hand, as the machine's world has them
-abbrev pub hand_seen : Option Hand → Option world.Hand
-hand_seen None = None
-hand_seen (Some h) = Some (record { session = h.session; section = h.section })
+-- the current session and section, as the machine's world has them
+abbrev pub current_seen : Option Current → Option world.Current
+current_seen None = None
+current_seen (Some h) = Some (record { session = h.session; section = h.section })
 
--- the session at hand is there, and the leaf x is its server
-abbrev pub IsAtHand : Slots → ℕ → Option Hand → Type 0
-IsAtHand s x None = Unit {0}
-IsAtHand s x (Some h) = IsTaken s.trades.trading.sessions h.session × (server_of s.trades.trading h.session ≡ x)
+-- the current session is there, and the leaf x is its server
+abbrev pub IsCurrent : Slots → ℕ → Option Current → Type 0
+IsCurrent s x None = Unit {0}
+IsCurrent s x (Some h) = IsTaken s.trades.trading.sessions h.session × (server_of s.trades.trading h.session ≡ x)
 
 -- each link that is in a slot leads to a session that is there
 abbrev pub AreLinked : Slots → Type 0
 AreLinked s = (p : Spot) → IsSpot s p → IsLinked s p
 
--- it is a step of this leaf, with what it has at hand
+-- it is a step of this leaf, with its current request
 pub record IsBy (d : Doing) (a : Actor) : Type 0 where
   pub leaf : d.x ≡ a.leaf
-  pub hand : d.leaf.hand ≡ hand_seen a.hand
+  pub current : d.leaf.current ≡ current_seen a.current
 
 -- a statement that reads a number puts it on the other operands
 abbrev pub read : Doing → List ℕ → Result ℕ Wrong → Stepped
@@ -54,9 +54,9 @@ done (Ok u) w = Ok (w, Quiet)
 done (Err wrong) w = Err wrong
 
 -- the bytes of the space that is in a leaf's own slot, if one is
-abbrev pub space_size : Thing → Option ℕ
-space_size (thing.Space chunk n) = Some (up n)
+abbrev pub space_size : Content → Option ℕ
+space_size (content.Space chunk n) = Some (up n)
 space_size _ = None
 
 abbrev pub space_in : Slots → ℕ → ℕ → Option ℕ
-space_in s leaf slot = space_size (thing_at s (InLeaf leaf slot))
+space_in s leaf slot = space_size (content_at s (InLeaf leaf slot))

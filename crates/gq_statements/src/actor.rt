@@ -4,37 +4,37 @@ ghost use Rattle.gq_model.specs.machine.World as world;
 ghost use Rattle.gq_model.specs.texts.Operands.{is_slot_or_object};
 ghost use Rattle.gq_slots.specs.Slots.{IsSpot, Slots, holder};
 ghost use Rattle.gq_slots.specs.Addresses.{place_seen};
-ghost use Rattle.gq_statements.specs.Statements.{IsAtHand, hand_seen};
+ghost use Rattle.gq_statements.specs.Statements.{IsCurrent, current_seen};
 
 use gq_model::program::{Place, Section};
 use gq_trade::Spot;
 
-/// The session whose request a leaf has at hand, and the section that it does for it.
+/// The session of the current request of a leaf, and the section that it does for it.
 #[derive(Clone, Copy)]
-pub struct Hand {
+pub struct Current {
     pub session: usize,
     pub section: Section,
 }
 
-/// A leaf that does a statement, with what it has at hand: nothing in `main`.
+/// A leaf that does a statement, with its current request: nothing in `main`.
 #[derive(Clone, Copy)]
 pub struct Actor {
     pub leaf: usize,
-    pub hand: Option<Hand>,
+    pub current: Option<Current>,
 }
 
 impl Actor {
-    /// Where the slot stands that a statement names: one of the leaf's own, or of the session at hand. `None` where no session is at hand and one of
+    /// Where the slot stands that a statement names: one of the leaf's own, or of the current session. `None` where no session is current and one of
     /// its slots is named.
     pub fn spot(self, place: Place) -> Option<Spot>
-        ensures is { place_seen result ≡ world.spot_of self.leaf (hand_seen self.hand) place }
-        ensures there { (s : Slots) → self.leaf < length s.own → IsTrue (is_slot_or_object place) → IsAtHand s self.leaf self.hand
+        ensures is { place_seen result ≡ world.spot_of self.leaf (current_seen self.current) place }
+        ensures there { (s : Slots) → self.leaf < length s.own → IsTrue (is_slot_or_object place) → IsCurrent s self.leaf self.current
             → IfSome result (λ p. IsSpot s p × (holder s p ≡ self.leaf)) }
     {
-        match (place, self.hand) {
+        match (place, self.current) {
             (Place::Own(slot), _) => Some(Spot::InLeaf(self.leaf, slot)),
-            (Place::Shared(slot), Some(hand)) => Some(Spot::InSession(hand.session, slot)),
-            (Place::Object, Some(hand)) => Some(Spot::InObject(hand.session)),
+            (Place::Shared(slot), Some(current)) => Some(Spot::InSession(current.session, slot)),
+            (Place::Object, Some(current)) => Some(Spot::InObject(current.session)),
             (Place::Shared(_) | Place::Object, None) => None,
         }
     }

@@ -11,32 +11,32 @@ ghost use Rattle.gq_trade.specs.Trading.{client_of};
 ghost use Rattle.gq_trade.specs.Trades.{IsLive};
 ghost use Rattle.gq_trade.specs.Waiting.{IsIdle};
 ghost use Rattle.gq_slots.specs.Slots.{Frame, world_seen};
-ghost use Rattle.gq_statements.specs.Statements.{IsAtHand, IsBy, done};
+ghost use Rattle.gq_statements.specs.Statements.{IsCurrent, IsBy, done};
 ghost use Rattle.gq_statements.specs.Systems.{AreLawful, IsOf};
 ghost use Rattle.gq_statements.specs.Requests.{Blocks, IsNextLevel, OwnsLinks, Stays, session_named};
 ghost use Rattle.gq_statements.specs.internal.Leads.{IsLink, IsLinkedAt, IsRoomAt, IsVacant, link_of};
 
 use crate::actor::Actor;
 use crate::laws::lawful;
-use gq_contents::Thing;
+use gq_contents::Content;
 use gq_model::fault::Wrong;
 use gq_model::program::Place;
 use gq_slots::{Slots, sessions};
 use gq_tariff::Amount;
 use gq_trade::Spot;
 
-// The session to which a thing leads, if it is a link.
-fn link_of(thing: Thing) -> Option<u32>
-    ensures { result ≡ link_of thing }
+// The session to which a content leads, if it is a link.
+fn link_of(content: Content) -> Option<u32>
+    ensures { result ≡ link_of content }
 {
-    match thing {
-        Thing::Link(session) => Some(session),
-        Thing::Empty
-        | Thing::Block(_, _)
-        | Thing::Slice(_, _)
-        | Thing::Space(_, _)
-        | Thing::Pool(_)
-        | Thing::Waiting(_) => None,
+    match content {
+        Content::Link(session) => Some(session),
+        Content::Empty
+        | Content::Block(_, _)
+        | Content::Slice(_, _)
+        | Content::Space(_, _)
+        | Content::Pool(_)
+        | Content::Waiting(_) => None,
     }
 }
 
@@ -44,14 +44,14 @@ fn link_of(thing: Thing) -> Option<u32>
 fn linked(actor: Actor, slots: &Slots, place: Place) -> Option<(Spot, u32)>
     requires place { IsTrue (is_slot place) }
     requires live { IsLive slots.now.trades actor.leaf }
-    requires hand { IsAtHand slots.now actor.leaf actor.hand }
+    requires current { IsCurrent slots.now actor.leaf actor.current }
     requires linked { OwnsLinks slots.now actor.leaf }
     ensures is { IfSome result (λ f. IsLink slots.now actor.leaf f.0 f.1) }
     ensures found { (f : Frame) (d : Doing) → IsBy d actor → d.world ≡ world_seen f slots.now → IsLinkedAt d place result }
 {
     slots.laws();
     let spot = actor.spot(place)?;
-    let session = link_of(slots.thing(spot))?;
+    let session = link_of(slots.content(spot))?;
     Some((spot, session))
 }
 
@@ -59,7 +59,7 @@ fn linked(actor: Actor, slots: &Slots, place: Place) -> Option<(Spot, u32)>
 pub fn link(actor: Actor, slots: &Slots, place: Place) -> Option<usize>
     requires place { IsTrue (is_slot place) }
     requires live { IsLive slots.now.trades actor.leaf }
-    requires hand { IsAtHand slots.now actor.leaf actor.hand }
+    requires current { IsCurrent slots.now actor.leaf actor.current }
     requires linked { OwnsLinks slots.now actor.leaf }
     ensures is { (f : Frame) (d : Doing) → IsBy d actor → d.world ≡ world_seen f slots.now → result ≡ session_named d place }
     ensures taken { IfSome result (λ k. IsTaken slots.now.trades.trading.sessions k) }
@@ -75,7 +75,7 @@ pub fn link(actor: Actor, slots: &Slots, place: Place) -> Option<usize>
 pub fn close(actor: Actor, slots: &mut Slots, place: Place) -> Result<(), Wrong>
     requires place { IsTrue (is_slot place) }
     requires live { IsLive slots.old.trades actor.leaf }
-    requires hand { IsAtHand slots.old actor.leaf actor.hand }
+    requires current { IsCurrent slots.old actor.leaf actor.current }
     requires idle { IsIdle slots.old.trades.trading actor.leaf }
     requires linked { OwnsLinks slots.old actor.leaf }
     ensures step { (before after : Frame) (d : Doing) → IsBy d actor → IsOf d.system after slots.old → Blocks d d.leaf before after slots.old
@@ -88,7 +88,7 @@ pub fn close(actor: Actor, slots: &mut Slots, place: Place) -> Result<(), Wrong>
     };
     lawful(slots);
     sessions::ask_close(slots, session as usize);
-    slots.mark(spot, Thing::Waiting(session));
+    slots.mark(spot, Content::Waiting(session));
     lawful(slots);
     Ok(())
 }
@@ -98,7 +98,7 @@ pub fn close(actor: Actor, slots: &mut Slots, place: Place) -> Result<(), Wrong>
 pub fn call(actor: Actor, slots: &mut Slots, place: Place, value: u32) -> Result<(), Wrong>
     requires place { IsTrue (is_slot place) }
     requires live { IsLive slots.old.trades actor.leaf }
-    requires hand { IsAtHand slots.old actor.leaf actor.hand }
+    requires current { IsCurrent slots.old actor.leaf actor.current }
     requires idle { IsIdle slots.old.trades.trading actor.leaf }
     requires linked { OwnsLinks slots.old actor.leaf }
     ensures step { (before after : Frame) (d : Doing) (rest : List ℕ) → IsBy d actor → IsOf d.system after slots.old
@@ -112,7 +112,7 @@ pub fn call(actor: Actor, slots: &mut Slots, place: Place, value: u32) -> Result
     };
     lawful(slots);
     sessions::ask_call(slots, session as usize, value);
-    slots.mark(spot, Thing::Waiting(session));
+    slots.mark(spot, Content::Waiting(session));
     lawful(slots);
     Ok(())
 }
@@ -124,7 +124,7 @@ pub fn call(actor: Actor, slots: &mut Slots, place: Place, value: u32) -> Result
 pub fn upgrade(actor: Actor, slots: &mut Slots, place: Place, donation: Amount) -> Result<(), Wrong>
     requires place { IsTrue (is_slot place) }
     requires live { IsLive slots.old.trades actor.leaf }
-    requires hand { IsAtHand slots.old actor.leaf actor.hand }
+    requires current { IsCurrent slots.old actor.leaf actor.current }
     requires idle { IsIdle slots.old.trades.trading actor.leaf }
     requires linked { OwnsLinks slots.old actor.leaf }
     requires counted { slots.old.trades.trading.memory.ledger.price ≡ 0 → donation.caps ≡ 0 }
@@ -140,7 +140,7 @@ pub fn upgrade(actor: Actor, slots: &mut Slots, place: Place, donation: Amount) 
     match sessions::upgrade(slots, session as usize, donation) {
         Err(_) => Err(Wrong::ExceededQuota),
         Ok(()) => {
-            slots.mark(spot, Thing::Waiting(session));
+            slots.mark(spot, Content::Waiting(session));
             lawful(slots);
             Ok(())
         }
@@ -151,13 +151,13 @@ pub fn upgrade(actor: Actor, slots: &mut Slots, place: Place, donation: Amount) 
 fn vacant(actor: Actor, slots: &Slots, place: Place) -> Option<Spot>
     requires place { IsTrue (is_slot place) }
     requires live { IsLive slots.now.trades actor.leaf }
-    requires hand { IsAtHand slots.now actor.leaf actor.hand }
+    requires current { IsCurrent slots.now actor.leaf actor.current }
     ensures is { IfSome result (λ p. IsVacant slots.now p) }
     ensures found { (f : Frame) (d : Doing) → IsBy d actor → d.world ≡ world_seen f slots.now → IsRoomAt d place result }
 {
     slots.laws();
     let spot = actor.spot(place)?;
-    if slots.thing(spot).is_empty() {
+    if slots.content(spot).is_empty() {
         Some(spot)
     } else {
         None
@@ -179,7 +179,7 @@ pub fn open(
 ) -> Result<(), Wrong>
     requires place { IsTrue (is_slot place) }
     requires live { IsLive slots.old.trades actor.leaf }
-    requires hand { IsAtHand slots.old actor.leaf actor.hand }
+    requires current { IsCurrent slots.old actor.leaf actor.current }
     requires server { IfSome server (λ y. IsLive slots.old.trades y × (actor.leaf ≡ y → ⊥)) }
     requires service { service < length slots.old.trades.trading.objects }
     requires counted { slots.old.trades.trading.memory.ledger.price ≡ 0 → donation.caps ≡ 0 }
@@ -203,7 +203,7 @@ pub fn open(
     match sessions::ask(slots, actor.leaf, spot, server, service, donation) {
         Err(_) => Err(Wrong::ExceededQuota),
         Ok(session) => {
-            slots.mark(spot, Thing::Waiting(session as u32));
+            slots.mark(spot, Content::Waiting(session as u32));
             lawful(slots);
             Ok(())
         }

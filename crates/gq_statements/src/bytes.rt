@@ -1,34 +1,34 @@
 // Statements that read and write bytes.
 ghost use Rattle.std.specs.Prelude.{◌≡◌, ◌+◌, ◌<◌, ◌≤◌, ◌∷◌, List, ℕ, nat_le, slice_range, IfSome, IsTrue, OnErr, Ok, Option, Some, None, false, true};
 ghost use Rattle.gq_model.specs.declared.program.Place.TheVariants.{Own};
-ghost use Rattle.gq_statements.specs.declared.actor.Hand.{Hand};
+ghost use Rattle.gq_statements.specs.declared.actor.Current.{Current};
 ghost use Rattle.gq_model.specs.machine.Doing.{Doing, standing, with_operands};
 ghost use Rattle.gq_model.specs.machine.Memory as memory;
 ghost use Rattle.gq_model.specs.texts.Operands.{is_slot_or_object};
 ghost use Rattle.gq_trade.specs.Trades.{IsLive};
-ghost use Rattle.gq_slots.specs.Slots.{Frame, IsPaidBy, IsSpot, holder, slot_of, thing_at, world_seen};
-ghost use Rattle.gq_slots.specs.Calls.{Puts, SameBeside};
-ghost use Rattle.gq_contents.specs.Things.{size_of};
+ghost use Rattle.gq_slots.specs.Slots.{Frame, IsPaidBy, IsSpot, holder, slot_of, content_at, world_seen};
+ghost use Rattle.gq_slots.specs.Calls.{PutsSlot, SameBeside};
+ghost use Rattle.gq_contents.specs.Contents.{size_of};
 ghost use Rattle.gq_slots.specs.Addresses.{AreBuffers};
-ghost use Rattle.gq_statements.specs.Statements.{AreLinked, IsAtHand, IsBy, done, read, space_in};
+ghost use Rattle.gq_statements.specs.Statements.{AreLinked, IsCurrent, IsBy, done, read, space_in};
 ghost use Rattle.gq_model.specs.machine.Program.{bytes_of, little, spelled};
-ghost use Rattle.gq_contents.specs.Things.{bytes_in, put_in};
+ghost use Rattle.gq_contents.specs.Contents.{bytes_in, put_in};
 ghost use Rattle.gq_statements.specs.internal.Found.{IsFound, byte_count};
 
 use crate::actor::Actor;
-use gq_contents::Thing;
+use gq_contents::Content;
 use gq_model::fault::Wrong;
 use gq_model::program::{Place, Width};
 use gq_slots::{Addresses, Slots};
 use gq_trade::Spot;
 
-// How many bytes a thing has, if it is one of bytes.
-fn byte_count(thing: Thing) -> Option<u64>
-    ensures { result ≡ byte_count thing }
+// How many bytes a content has, if it is one of bytes.
+fn byte_count(content: Content) -> Option<u64>
+    ensures { result ≡ byte_count content }
 {
-    match thing {
-        Thing::Block(_, _) | Thing::Slice(_, _) | Thing::Space(_, _) => Some(thing.size()),
-        Thing::Empty | Thing::Pool(_) | Thing::Link(_) | Thing::Waiting(_) => None,
+    match content {
+        Content::Block(_, _) | Content::Slice(_, _) | Content::Space(_, _) => Some(content.size()),
+        Content::Empty | Content::Pool(_) | Content::Link(_) | Content::Waiting(_) => None,
     }
 }
 
@@ -38,11 +38,11 @@ impl Actor {
     fn bytes(self, addresses: &Addresses, slots: &Slots, place: Place) -> Option<(Spot, u64)>
         requires place { IsTrue (is_slot_or_object place) }
         requires live { IsLive slots.now.trades self.leaf }
-        requires hand { IsAtHand slots.now self.leaf self.hand }
+        requires current { IsCurrent slots.now self.leaf self.current }
         requires linked { AreLinked slots.now }
         ensures there { IfSome result (λ f. IsSpot slots.now f.0) }
         ensures live { IfSome result (λ f. IsLive slots.now.trades (holder slots.now f.0)) }
-        ensures size { IfSome result (λ f. f.1 ≡ size_of (thing_at slots.now f.0)) }
+        ensures size { IfSome result (λ f. f.1 ≡ size_of (content_at slots.now f.0)) }
         ensures found { (f : Frame) (d : Doing) → IsBy d self → AreBuffers d.system f slots.now addresses.now
             → IsFound d (world_seen f slots.now) place slots.now result }
     {
@@ -50,7 +50,7 @@ impl Actor {
         slots.trades().laws();
         let named = self.spot(place)?;
         let spot = addresses.bytes_spot(slots, named)?;
-        let count = byte_count(slots.thing(spot))?;
+        let count = byte_count(slots.content(spot))?;
         Some((spot, count))
     }
 
@@ -59,10 +59,10 @@ impl Actor {
     fn own_bytes(self, slots: &Slots, place: Place) -> Option<(Spot, u64)>
         requires place { IsTrue (is_slot_or_object place) }
         requires live { IsLive slots.now.trades self.leaf }
-        requires hand { IsAtHand slots.now self.leaf self.hand }
+        requires current { IsCurrent slots.now self.leaf self.current }
         ensures there { IfSome result (λ f. IsSpot slots.now f.0) }
         ensures own { IfSome result (λ f. holder slots.now f.0 ≡ self.leaf) }
-        ensures size { IfSome result (λ f. f.1 ≡ size_of (thing_at slots.now f.0)) }
+        ensures size { IfSome result (λ f. f.1 ≡ size_of (content_at slots.now f.0)) }
         ensures found { IfSome result (λ o. (f : Frame) (d : Doing) (bs : List ℕ) → IsBy d self → AreBuffers d.system f slots.now bs
             → IsFound d (world_seen f slots.now) place slots.now (Some o)) }
     {
@@ -70,7 +70,7 @@ impl Actor {
         match place {
             Place::Own(slot) => {
                 let spot = Spot::InLeaf(self.leaf, slot);
-                let count = byte_count(slots.thing(spot))?;
+                let count = byte_count(slots.content(spot))?;
                 Some((spot, count))
             }
             Place::Shared(_) | Place::Object => None,
@@ -93,7 +93,7 @@ impl Actor {
         requires place { IsTrue (is_slot_or_object place) }
         requires live { IsLive slots.old.trades self.leaf }
         requires paid { IsPaidBy slots.old self.leaf }
-        requires hand { IsAtHand slots.old self.leaf self.hand }
+        requires current { IsCurrent slots.old self.leaf self.current }
         requires linked { AreLinked slots.old }
         ensures step { (f : Frame) (d : Doing) (rest : List ℕ) → IsBy d self → AreBuffers d.system f slots.old addresses.now → d.world ≡ world_seen f slots.old
             → d.leaf.operands ≡ index ∷ rest → memory.load d width place ≡ read d rest result }
@@ -104,7 +104,7 @@ impl Actor {
                 // (made anew, so that it goes to memory only here)
                 let actor = Actor {
                     leaf: self.leaf,
-                    hand: self.hand,
+                    current: self.current,
                 };
                 actor.load_elsewhere(addresses, slots, width, place, index)
             }
@@ -130,7 +130,7 @@ impl Actor {
         requires place { IsTrue (is_slot_or_object place) }
         requires live { IsLive slots.old.trades self.leaf }
         requires paid { IsPaidBy slots.old self.leaf }
-        requires hand { IsAtHand slots.old self.leaf self.hand }
+        requires current { IsCurrent slots.old self.leaf self.current }
         requires linked { AreLinked slots.old }
         ensures step { (f : Frame) (d : Doing) (rest : List ℕ) → IsBy d self → AreBuffers d.system f slots.old addresses.now → d.world ≡ world_seen f slots.old
             → d.leaf.operands ≡ index ∷ rest → memory.load d width place ≡ read d rest result }
@@ -164,7 +164,7 @@ impl Actor {
         requires place { IsTrue (is_slot_or_object place) }
         requires live { IsLive slots.old.trades self.leaf }
         requires paid { IsPaidBy slots.old self.leaf }
-        requires hand { IsAtHand slots.old self.leaf self.hand }
+        requires current { IsCurrent slots.old self.leaf self.current }
         requires linked { AreLinked slots.old }
         ensures step { (f : Frame) (d : Doing) (rest : List ℕ) → IsBy d self → AreBuffers d.system f slots.old addresses.now
             → standing d (with_operands d rest) ≡ world_seen f slots.old → d.leaf.operands ≡ value ∷ index ∷ rest
@@ -177,7 +177,7 @@ impl Actor {
                 // (made anew, so that it goes to memory only here)
                 let actor = Actor {
                     leaf: self.leaf,
-                    hand: self.hand,
+                    current: self.current,
                 };
                 actor.store_elsewhere(addresses, slots, width, place, index, value)
             }
@@ -205,7 +205,7 @@ impl Actor {
         requires place { IsTrue (is_slot_or_object place) }
         requires live { IsLive slots.old.trades self.leaf }
         requires paid { IsPaidBy slots.old self.leaf }
-        requires hand { IsAtHand slots.old self.leaf self.hand }
+        requires current { IsCurrent slots.old self.leaf self.current }
         requires linked { AreLinked slots.old }
         ensures step { (f : Frame) (d : Doing) (rest : List ℕ) → IsBy d self → AreBuffers d.system f slots.old addresses.now
             → standing d (with_operands d rest) ≡ world_seen f slots.old → d.leaf.operands ≡ value ∷ index ∷ rest
@@ -234,29 +234,30 @@ fn own_space(leaf: usize, slots: &Slots, slot: u8) -> Option<(Spot, u64)>
     requires live { IsLive slots.now.trades leaf }
     ensures there { IfSome result (λ f. IsSpot slots.now f.0) }
     ensures own { IfSome result (λ f. holder slots.now f.0 ≡ leaf) }
-    ensures size { IfSome result (λ f. f.1 ≡ size_of (thing_at slots.now f.0)) }
-    ensures found { IfSome result (λ o. (f : Frame) (d : Doing) (bs : List ℕ) (hand : Option Hand) → IsBy d (record { leaf = leaf; hand = hand })
+    ensures size { IfSome result (λ f. f.1 ≡ size_of (content_at slots.now f.0)) }
+    ensures found { IfSome result (λ o. (f : Frame) (d : Doing) (bs : List ℕ) (current : Option Current) → IsBy d (record { leaf = leaf; current = current })
         → AreBuffers d.system f slots.now bs → IsFound d (world_seen f slots.now) (Own slot) slots.now (Some o)) }
     ensures space { IfSome result (λ f. space_in slots.now leaf slot ≡ Some f.1) }
     ensures none { result ≡ None → space_in slots.now leaf slot ≡ None }
 {
     slots.laws();
     let spot = Spot::InLeaf(leaf, slot);
-    let thing = slots.thing(spot);
-    match thing {
-        Thing::Space(_, _) => Some((spot, thing.size())),
+    let content = slots.content(spot);
+    match content {
+        Content::Space(_, _) => Some((spot, content.size())),
         _ => None,
     }
 }
 
-/// Reads a byte or a word of a space in a slot of the leaf's own, from an index on, the least byte first, whatever the leaf has at hand. `None` where that slot
+/// Reads a byte or a word of a space in a slot of the leaf's own, from an index on, the least byte first, whatever its current request. `None` where that slot
 /// holds no space, or not all that is read is in it: then `Actor::load` tells what the statement is. Most statements that read are of this kind.
 #[inline(always)]
 pub fn load_own(leaf: usize, slots: &Slots, width: Width, slot: u8, index: u32) -> Option<u32>
     requires slot { slot < 64 }
     requires live { IsLive slots.now.trades leaf }
     requires paid { IsPaidBy slots.now leaf }
-    ensures step { IfSome result (λ n. (f : Frame) (d : Doing) (rest bs : List ℕ) (hand : Option Hand) → IsBy d (record { leaf = leaf; hand = hand })
+    ensures step { IfSome result
+        (λ n. (f : Frame) (d : Doing) (rest bs : List ℕ) (current : Option Current) → IsBy d (record { leaf = leaf; current = current })
         → AreBuffers d.system f slots.now bs → d.world ≡ world_seen f slots.now → d.leaf.operands ≡ index ∷ rest
         → memory.load d width (Own slot) ≡ read d rest (Ok n)) }
     ensures short { result ≡ None → (n : ℕ) → space_in slots.now leaf slot ≡ Some n → n < index + bytes_of width }
@@ -284,7 +285,7 @@ pub fn store_own(
     requires slot { slot < 64 }
     requires live { IsLive slots.old.trades leaf }
     requires paid { IsPaidBy slots.old leaf }
-    ensures step { result ≡ true → (f : Frame) (d : Doing) (rest bs : List ℕ) (hand : Option Hand) → IsBy d (record { leaf = leaf; hand = hand })
+    ensures step { result ≡ true → (f : Frame) (d : Doing) (rest bs : List ℕ) (current : Option Current) → IsBy d (record { leaf = leaf; current = current })
         → AreBuffers d.system f slots.old bs → standing d (with_operands d rest) ≡ world_seen f slots.old → d.leaf.operands ≡ value ∷ index ∷ rest
         → memory.store d width (Own slot) ≡ done (Ok tt) (world_seen f slots.new) }
     ensures beside { SameBeside slots.old slots.new }
@@ -318,7 +319,7 @@ fn is_inside(width: Width, index: u32, count: u64) -> bool
 fn read_number(slots: &Slots, spot: Spot, width: Width, index: u32) -> u32
     requires there { IsSpot slots.now spot }
     requires paid { IsPaidBy slots.now (holder slots.now spot) }
-    requires inside { index + bytes_of width ≤ size_of (thing_at slots.now spot) }
+    requires inside { index + bytes_of width ≤ size_of (content_at slots.now spot) }
     ensures { result ≡ little (slice_range (bytes_in (slot_of slots.now spot)) index (index + bytes_of width)) }
 {
     match width {
@@ -332,8 +333,8 @@ fn read_number(slots: &Slots, spot: Spot, width: Width, index: u32) -> u32
 fn write_number(slots: &mut Slots, spot: Spot, width: Width, index: u32, value: u32)
     requires there { IsSpot slots.old spot }
     requires paid { IsPaidBy slots.old (holder slots.old spot) }
-    requires inside { index + bytes_of width ≤ size_of (thing_at slots.old spot) }
-    ensures { Puts slots.old slots.new spot (put_in index (spelled (bytes_of width) value) (slot_of slots.old spot)) }
+    requires inside { index + bytes_of width ≤ size_of (content_at slots.old spot) }
+    ensures { PutsSlot slots.old slots.new spot (put_in index (spelled (bytes_of width) value) (slot_of slots.old spot)) }
 {
     match width {
         Width::Byte => slots.store(spot, index, (value % 256) as u8),

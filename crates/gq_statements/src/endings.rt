@@ -8,7 +8,7 @@ ghost use Rattle.gq_slots.specs.Session_calls.{EndsLeaf};
 ghost use Rattle.gq_statements.specs.Serving.{IsAloneWithoutLinks, IsReleased, finished, own_slots};
 ghost use Rattle.gq_statements.specs.internal.Tests.{has_no_link, is_link};
 
-use gq_contents::Thing;
+use gq_contents::Content;
 use gq_model::fault::Wrong;
 use gq_slots::{Slots, leaves};
 use gq_trade::Spot;
@@ -38,7 +38,7 @@ fn has_no_link(slots: &Slots, leaf: usize) -> bool
 {
     slots.laws();
     for slot in 0..64_u8 {
-        if is_link(slots.thing(Spot::InLeaf(leaf, slot))) {
+        if is_link(slots.content(Spot::InLeaf(leaf, slot))) {
             return false;
         }
     }
@@ -46,16 +46,16 @@ fn has_no_link(slots: &Slots, leaf: usize) -> bool
 }
 
 // Whether it is a link.
-fn is_link(thing: Thing) -> bool
-    ensures { result ≡ is_link thing }
+fn is_link(content: Content) -> bool
+    ensures { result ≡ is_link content }
 {
-    match thing {
-        Thing::Link(_) => true,
-        Thing::Empty
-        | Thing::Block(_, _)
-        | Thing::Slice(_, _)
-        | Thing::Space(_, _)
-        | Thing::Pool(_)
-        | Thing::Waiting(_) => false,
+    match content {
+        Content::Link(_) => true,
+        Content::Empty
+        | Content::Block(_, _)
+        | Content::Slice(_, _)
+        | Content::Space(_, _)
+        | Content::Pool(_)
+        | Content::Waiting(_) => false,
     }
 }

@@ -7,12 +7,12 @@ ghost use Rattle.gq_model.specs.machine.World as world;
 ghost use Rattle.gq_model.specs.machine.Sums.{handed, held, lent, paid, received, slot_price};
 ghost use Rattle.gq_heap.specs.declared.heap.Heap.{Heap};
 ghost use Rattle.gq_heap.specs.Heap.{rise};
-ghost use Rattle.gq_contents.specs.declared.thing.Thing.TheVariants as thing;
-ghost use Rattle.gq_contents.specs.Things.{added, entry_count, entry_in, entry_size, with_entry};
+ghost use Rattle.gq_contents.specs.declared.content.Content.TheVariants as content;
+ghost use Rattle.gq_contents.specs.Contents.{added, entry_count, entry_in, entry_size, with_entry};
 ghost use Rattle.gq_trade.specs.declared.session.Spot.{Spot};
 ghost use Rattle.gq_trade.specs.Seen.{spot_seen};
 ghost use Rattle.gq_trade.specs.Trading.{its_account};
-ghost use Rattle.gq_slots.specs.Slots.{Frame, IsHeapOf, IsSlot, IsSpot, Slots as Seen, holder, settled_in, slot_of, thing_at, world_seen};
+ghost use Rattle.gq_slots.specs.Slots.{Frame, IsHeapOf, IsSlot, IsSpot, Slots as Seen, holder, settled_in, slot_of, content_at, world_seen};
 ghost use Rattle.gq_statements.specs.Among.{IsAmong};
 ghost use Rattle.gq_statements.specs.Systems.{AreLawful, IsOf, Lacks};
 
@@ -49,13 +49,13 @@ pub fn lacking_is_unpaid()
         → slice_get w.leaves x ≡ Some leaf → IsAmong r system.counted
         → handed leaf.phase (part r c.node.quantum) + received r w x < held r w x leaf + lent r w x → paid system w ≡ false }
     ensures made { (system : System) (f : Frame) (s : Seen) (p : Spot) (slot : world.Slot) → AreLawful s → IsOf system f s → IsSpot s p → IsSlot p
-        → thing_at s p ≡ thing.Empty → holder s p < length s.own → (r : Resource) → Lacks r s (holder s p) (slot_price r slot)
+        → content_at s p ≡ content.Empty → holder s p < length s.own → (r : Resource) → Lacks r s (holder s p) (slot_price r slot)
         → paid system (settled_in (holder s p) (world.with_slot (world_seen f s) (spot_seen p) slot)) ≡ false }
     ensures block { (system : System) (f : Frame) (s : Seen) (p : Spot) (h : Heap) (n : ℕ) → AreLawful s → IsOf system f s → IsSpot s p → IsSlot p
-        → thing_at s p ≡ thing.Empty → holder s p < length s.own → IsHeapOf s (holder s p) h → (r : Resource) → Lacks r s (holder s p) (rise h n)
+        → content_at s p ≡ content.Empty → holder s p < length s.own → IsHeapOf s (holder s p) h → (r : Resource) → Lacks r s (holder s p) (rise h n)
         → paid system (settled_in (holder s p) (world.with_slot (world_seen f s) (spot_seen p) (world.Bytes form.Block n (replicate n 0)))) ≡ false }
     ensures entry { (system : System) (f : Frame) (s : Seen) (p : Spot) (h : Heap) (i : ℕ) → AreLawful s → IsOf system f s → IsSpot s p → IsSlot p
-        → i < entry_count (thing_at s p) → entry_in i (slot_of s p) ≡ None → holder s p < length s.own → IsHeapOf s (holder s p) h
-        → (r : Resource) → Lacks r s (holder s p) (rise h (entry_size (thing_at s p)))
+        → i < entry_count (content_at s p) → entry_in i (slot_of s p) ≡ None → holder s p < length s.own → IsHeapOf s (holder s p) h
+        → (r : Resource) → Lacks r s (holder s p) (rise h (entry_size (content_at s p)))
         → paid system (settled_in (holder s p) (world.with_slot (world_seen f s) (spot_seen p) (with_entry i added (slot_of s p)))) ≡ false }
 {}

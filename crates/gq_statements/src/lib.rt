@@ -1,10 +1,10 @@
-//! What statements, requests and replies do to slots, each as the account machine has it.
+//! What statements, requests and replies do to slots, each as the abstract machine has it.
 //!
 //! ```rust
 //! use gq_statements::Actor;
 //!
-//! // The leaf 0 writes a word into a space of its own, o0, and reads it; it has no request at hand.
-//! let actor = Actor { leaf: 0, hand: None };
+//! // The leaf 0 writes a word into a space of its own, o0, and reads it; it has no current request.
+//! let actor = Actor { leaf: 0, current: None };
 //! actor.make(&mut slots, Form::Space, Place::Own(0), 4096)?;
 //! actor.store(&addresses, &mut slots, Width::Word, Place::Own(0), 8, 77)?;
 //! assert_eq!(rt; actor.load(&addresses, &mut slots, Width::Word, Place::Own(0), 8), Ok(77));
@@ -49,7 +49,7 @@ pub mod replies;
 pub mod requests;
 pub mod serving_requests;
 
-pub use actor::{Actor, Hand};
+pub use actor::{Actor, Current};
 pub use asking::{call, close, link, open, upgrade};
 pub use bytes::{load_own, store_own};
 pub use pools::{give_own, peek_own, poke_own};

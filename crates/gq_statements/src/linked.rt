@@ -7,12 +7,12 @@ ghost use Rattle.gq_laws.specs.Links.{IsLinkedWorld};
 ghost use Rattle.gq_trade.specs.Numbers.{IsTaken, free_number};
 ghost use Rattle.gq_trade.specs.declared.requests.Request.{Request};
 ghost use Rattle.gq_trade.specs.Queues.{oldest_to};
-ghost use Rattle.gq_contents.specs.declared.thing.Thing.TheVariants as thing;
+ghost use Rattle.gq_contents.specs.declared.content.Content.TheVariants as content;
 ghost use Rattle.gq_trade.specs.declared.session.Spot.{Spot};
 ghost use Rattle.gq_trade.specs.declared.session.Spot.TheVariants.{InLeaf};
 ghost use Rattle.gq_trade.specs.Ends.{HasNoSessions};
 ghost use Rattle.gq_trade.specs.Waiting.{IsIdle};
-ghost use Rattle.gq_slots.specs.Slots.{AreLong, AreSound, Frame, IsSpot, Slots, thing_at, world_seen};
+ghost use Rattle.gq_slots.specs.Slots.{AreLong, AreSound, Frame, IsSpot, Slots, content_at, world_seen};
 ghost use Rattle.gq_statements.specs.Systems.{AreLawful};
 ghost use Rattle.gq_statements.specs.Linked.{IsAsked, IsAwaited, IsHandled, IsInSlot, IsSlotOf, Names, ProvidesNothing};
 
@@ -22,10 +22,10 @@ ghost use Rattle.gq_statements.specs.Linked.{IsAsked, IsAwaited, IsHandled, IsIn
 /// session's client.
 ///
 /// `sessions`: a session stands in a slot of its client. In it is a link to the session where the session is accepted and no request of it waits or is at
-/// its server's hand; else a mark that the slot waits.
+/// current at its server; else a mark that the slot waits.
 pub fn linked_sessions()
     ensures links { (system : System) (f : Frame) (s : Slots) (p : Spot) (k : ℕ) → AreLawful s → IsLinkedWorld system (world_seen f s) → IsSpot s p
-        → Names (thing_at s p) k → IsSlotOf s p k }
+        → Names (content_at s p) k → IsSlotOf s p k }
     ensures sessions { (system : System) (f : Frame) (s : Slots) (k : ℕ) → AreLawful s → IsLinkedWorld system (world_seen f s) → AreLong s
         → IsTaken s.trades.trading.sessions k → IsInSlot f s k }
 {}
@@ -42,7 +42,7 @@ pub fn linked_requests()
     ensures idle { (system : System) (f : Frame) (s : Slots) (x : ℕ) → AreLawful s → IsLinkedWorld system (world_seen f s)
         → ((f.leaf x).phase ≡ Blocked → ⊥) → IsIdle s.trades.trading x }
     ensures awaited { (system : System) (f : Frame) (s : Slots) (p : Spot) (k : ℕ) → AreLawful s → IsLinkedWorld system (world_seen f s) → IsSpot s p
-        → thing_at s p ≡ thing.Waiting k → IsAwaited f s k }
+        → content_at s p ≡ content.Waiting k → IsAwaited f s k }
     ensures oldest { (system : System) (f : Frame) (s : Slots) (x : ℕ) (r : Request) (rest : List Request) → AreLawful s
         → IsLinkedWorld system (world_seen f s) → AreSound s.trades.trading → oldest_to x s.trades.trading.requests ≡ Some (r, rest)
         → IsAsked f s x r }
@@ -50,15 +50,16 @@ pub fn linked_requests()
 
 /// Leaves.
 ///
-/// `hands`: what is at a leaf's hand is an accepted session to it, with an object that is no pool. No request of the session waits; its client is blocked,
+/// `all_current`: what is current at a leaf is an accepted session to it, with an object that is no pool. No request of the session waits; its client is
+/// blocked,
 /// and its slot waits.
 ///
 /// `ends`: a running leaf that has no link, and to which no component's route leads, has no session, neither as a client nor as a server.
 pub fn linked_leaves()
-    ensures hands { (system : System) (f : Frame) (s : Slots) (x : ℕ) (hand : world.Hand) → AreLawful s → IsLinkedWorld system (world_seen f s)
-        → x < length s.own → (f.leaf x).hand ≡ Some hand → IsHandled f s x hand }
+    ensures all_current { (system : System) (f : Frame) (s : Slots) (x : ℕ) (current : world.Current) → AreLawful s → IsLinkedWorld system (world_seen f s)
+        → x < length s.own → (f.leaf x).current ≡ Some current → IsHandled f s x current }
     ensures ends { (system : System) (f : Frame) (s : Slots) (x : ℕ) → AreLawful s → IsLinkedWorld system (world_seen f s) → AreLong s
-        → (f.leaf x).phase ≡ Running → ((i k : ℕ) → i < 64 → thing_at s (InLeaf x i) ≡ thing.Link k → ⊥) → ProvidesNothing system x
+        → (f.leaf x).phase ≡ Running → ((i k : ℕ) → i < 64 → content_at s (InLeaf x i) ≡ content.Link k → ⊥) → ProvidesNothing system x
         → HasNoSessions s.trades.trading x }
 {}
 

@@ -6,13 +6,13 @@ ghost use Rattle.gq_model.specs.machine.Memory as memory;
 ghost use Rattle.gq_model.specs.machine.World.{Pool, slot_at};
 ghost use Rattle.gq_model.specs.texts.Operands.{is_slot};
 ghost use Rattle.gq_trade.specs.Trades.{IsLive};
-ghost use Rattle.gq_slots.specs.Slots.{Frame, IsPaidBy, IsSlot, IsSpot, holder, slot_of, thing_at, world_seen};
+ghost use Rattle.gq_slots.specs.Slots.{Frame, IsPaidBy, IsSlot, IsSpot, holder, slot_of, content_at, world_seen};
 ghost use Rattle.gq_trade.specs.Seen.{spot_seen};
 ghost use Rattle.gq_trade.specs.declared.session.Spot.TheVariants.{InLeaf};
 ghost use Rattle.gq_slots.specs.Calls.{SameBeside};
-ghost use Rattle.gq_contents.specs.Things.{entry_count, entry_size};
-ghost use Rattle.gq_statements.specs.declared.actor.Hand.{Hand};
-ghost use Rattle.gq_statements.specs.Statements.{IsAtHand, IsBy, Pushes, done, read, told};
+ghost use Rattle.gq_contents.specs.Contents.{entry_count, entry_size};
+ghost use Rattle.gq_statements.specs.declared.actor.Current.{Current};
+ghost use Rattle.gq_statements.specs.Statements.{IsCurrent, IsBy, Pushes, done, read, told};
 ghost use Rattle.gq_statements.specs.internal.Found.{IsPool, entries_in};
 
 use crate::actor::Actor;
@@ -26,19 +26,19 @@ impl Actor {
     pub(crate) fn pool(self, slots: &Slots, place: Place) -> Option<(Spot, u32, u32)>
         requires place { IsTrue (is_slot place) }
         requires live { IsLive slots.now.trades self.leaf }
-        requires hand { IsAtHand slots.now self.leaf self.hand }
+        requires current { IsCurrent slots.now self.leaf self.current }
         ensures there { IfSome result (λ p. IsSpot slots.now p.0) }
         ensures kind { IfSome result (λ p. IsSlot p.0) }
         ensures holder { IfSome result (λ p. holder slots.now p.0 ≡ self.leaf) }
-        ensures size { IfSome result (λ p. p.1 ≡ entry_size (thing_at slots.now p.0)) }
-        ensures count { IfSome result (λ p. p.2 ≡ entry_count (thing_at slots.now p.0)) }
+        ensures size { IfSome result (λ p. p.1 ≡ entry_size (content_at slots.now p.0)) }
+        ensures count { IfSome result (λ p. p.2 ≡ entry_count (content_at slots.now p.0)) }
         ensures reads { IfSome result (λ p. (f : Frame) → slot_at (world_seen f slots.now) (spot_seen p.0) ≡ Some (slot_of slots.now p.0)) }
         ensures slot { IfSome result (λ p. slot_of slots.now p.0 ≡ Pool p.1 (entries_in (slot_of slots.now p.0))) }
         ensures found { (f : Frame) (d : Doing) → IsBy d self → IsPool d (world_seen f slots.now) place slots.now result }
     {
         slots.laws();
         let spot = self.spot(place)?;
-        let (size, count) = slots.thing(spot).entries()?;
+        let (size, count) = slots.content(spot).entries()?;
         Some((spot, size, count))
     }
 
@@ -50,7 +50,7 @@ impl Actor {
         requires place { IsTrue (is_slot place) }
         requires live { IsLive slots.now.trades self.leaf }
         requires paid { IsPaidBy slots.now self.leaf }
-        requires hand { IsAtHand slots.now self.leaf self.hand }
+        requires current { IsCurrent slots.now self.leaf self.current }
         ensures step { (f : Frame) (d : Doing) (rest : List ℕ) → IsBy d self → d.world ≡ world_seen f slots.now
             → d.leaf.operands ≡ offset ∷ index ∷ rest → memory.peek d place ≡ read d rest result }
     {
@@ -79,7 +79,7 @@ impl Actor {
         requires place { IsTrue (is_slot place) }
         requires live { IsLive slots.old.trades self.leaf }
         requires paid { IsPaidBy slots.old self.leaf }
-        requires hand { IsAtHand slots.old self.leaf self.hand }
+        requires current { IsCurrent slots.old self.leaf self.current }
         ensures step { (f : Frame) (d : Doing) (rest : List ℕ) → IsBy d self → standing d (with_operands d rest) ≡ world_seen f slots.old
             → d.leaf.operands ≡ value ∷ offset ∷ index ∷ rest → memory.poke d place ≡ done result (world_seen f slots.new) }
         ensures beside { SameBeside slots.old slots.new }
@@ -104,7 +104,7 @@ impl Actor {
         requires place { IsTrue (is_slot place) }
         requires live { IsLive slots.old.trades self.leaf }
         requires paid { IsPaidBy slots.old self.leaf }
-        requires hand { IsAtHand slots.old self.leaf self.hand }
+        requires current { IsCurrent slots.old self.leaf self.current }
         ensures step { (f : ℕ → Frame) (d : Doing) (rest : List ℕ) → IsBy d self → Pushes d rest f slots.old
             → memory.give_entry d rest place index ≡ told f slots.new result }
         ensures beside { SameBeside slots.old slots.new }
@@ -120,7 +120,7 @@ impl Actor {
     }
 }
 
-/// Reads the byte of an entry of a pool in a slot of the leaf's own, 0 where the entry is absent, whatever the leaf has at hand. `None` where that slot holds
+/// Reads the byte of an entry of a pool in a slot of the leaf's own, 0 where the entry is absent, whatever its current request. `None` where that slot holds
 /// no pool, or the pool has no such entry, or its entries have no such byte: then `Actor::peek` tells what the statement is. Most statements on pools are of
 /// this kind.
 #[inline(always)]
@@ -128,10 +128,10 @@ pub fn peek_own(leaf: usize, slots: &Slots, slot: u8, index: u32, offset: u32) -
     requires slot { slot < 64 }
     requires live { IsLive slots.now.trades leaf }
     requires paid { IsPaidBy slots.now leaf }
-    ensures step { IfSome result (λ n. (f : Frame) (d : Doing) (rest : List ℕ) (hand : Option Hand) → IsBy d (record { leaf = leaf; hand = hand })
+    ensures step { IfSome result (λ n. (f : Frame) (d : Doing) (rest : List ℕ) (current : Option Current) → IsBy d (record { leaf = leaf; current = current })
         → d.world ≡ world_seen f slots.now → d.leaf.operands ≡ offset ∷ index ∷ rest → memory.peek d (Own slot) ≡ read d rest (Ok n)) }
-    ensures short { IfNone result ((entry_count (thing_at slots.now (InLeaf leaf slot)) ≤ index)
-        ⊎ (entry_size (thing_at slots.now (InLeaf leaf slot)) ≤ offset)) }
+    ensures short { IfNone result ((entry_count (content_at slots.now (InLeaf leaf slot)) ≤ index)
+        ⊎ (entry_size (content_at slots.now (InLeaf leaf slot)) ≤ offset)) }
 {
     slots.laws();
     match slots.peek_own(leaf, slot, index, offset) {
@@ -154,13 +154,13 @@ pub fn poke_own(
     requires slot { slot < 64 }
     requires live { IsLive slots.old.trades leaf }
     requires paid { IsPaidBy slots.old leaf }
-    ensures step { result ≡ true → (f : Frame) (d : Doing) (rest : List ℕ) (hand : Option Hand) → IsBy d (record { leaf = leaf; hand = hand })
+    ensures step { result ≡ true → (f : Frame) (d : Doing) (rest : List ℕ) (current : Option Current) → IsBy d (record { leaf = leaf; current = current })
         → standing d (with_operands d rest) ≡ world_seen f slots.old → d.leaf.operands ≡ value ∷ offset ∷ index ∷ rest
         → memory.poke d (Own slot) ≡ done (Ok tt) (world_seen f slots.new) }
     ensures beside { SameBeside slots.old slots.new }
     ensures unchanged { result ≡ false → slots.new ≡ slots.old }
-    ensures short { result ≡ false → (entry_count (thing_at slots.old (InLeaf leaf slot)) ≤ index)
-        ⊎ (entry_size (thing_at slots.old (InLeaf leaf slot)) ≤ offset) }
+    ensures short { result ≡ false → (entry_count (content_at slots.old (InLeaf leaf slot)) ≤ index)
+        ⊎ (entry_size (content_at slots.old (InLeaf leaf slot)) ≤ offset) }
 {
     slots.laws();
     slots.poke_own(leaf, slot, index, offset, (value % 256) as u8)
@@ -173,11 +173,12 @@ pub fn give_own(leaf: usize, slots: &mut Slots, slot: u8, index: u32) -> Option<
     requires slot { slot < 64 }
     requires live { IsLive slots.old.trades leaf }
     requires paid { IsPaidBy slots.old leaf }
-    ensures step { IfSome result (λ b. (f : ℕ → Frame) (d : Doing) (rest : List ℕ) (hand : Option Hand) → IsBy d (record { leaf = leaf; hand = hand })
+    ensures step { IfSome result
+        (λ b. (f : ℕ → Frame) (d : Doing) (rest : List ℕ) (current : Option Current) → IsBy d (record { leaf = leaf; current = current })
         → Pushes d rest f slots.old → memory.give_entry d rest (Own slot) index ≡ told f slots.new (Ok b)) }
     ensures beside { SameBeside slots.old slots.new }
     ensures unchanged { IfNone result (slots.new ≡ slots.old) }
-    ensures short { IfNone result (entry_count (thing_at slots.old (InLeaf leaf slot)) ≤ index) }
+    ensures short { IfNone result (entry_count (content_at slots.old (InLeaf leaf slot)) ≤ index) }
 {
     slots.laws();
     slots.give_own(leaf, slot, index)

@@ -6,8 +6,8 @@ ghost use Rattle.gq_model.specs.machine.Step as step;
 ghost use Rattle.gq_model.specs.declared.program.Section.TheVariants as section;
 ghost use Rattle.gq_trade.specs.declared.session.Spot.TheVariants.{InObject};
 ghost use Rattle.gq_trade.specs.Trading.{AreOfOthers};
-ghost use Rattle.gq_contents.specs.declared.thing.Thing.TheVariants as thing;
-ghost use Rattle.gq_slots.specs.Slots.{Frame, thing_at, world_seen};
+ghost use Rattle.gq_contents.specs.declared.content.Content.TheVariants as content;
+ghost use Rattle.gq_slots.specs.Slots.{Frame, content_at, world_seen};
 ghost use Rattle.gq_slots.specs.Calls.{SameBeside};
 ghost use Rattle.gq_slots.specs.Addresses.{AreBuffers};
 ghost use Rattle.gq_statements.specs.Statements.{done};
@@ -15,7 +15,7 @@ ghost use Rattle.gq_statements.specs.Systems.{IsOf};
 ghost use Rattle.gq_statements.specs.Serving.{Closes, GoesOn, IsAwaited};
 ghost use Rattle.gq_statements.specs.internal.Tests.{are_empty, fits, is_empty, is_space_of};
 
-use gq_contents::Thing;
+use gq_contents::Content;
 use gq_model::fault::Wrong;
 use gq_slots::{Addresses, Slots, sessions};
 use gq_trade::{Session, Spot};
@@ -36,7 +36,7 @@ pub fn reply(slots: &mut Slots, session: usize)
     ensures beside { SameBeside slots.old slots.new }
 {
     let spot = slots.trades().session(session).spot;
-    slots.mark(spot, Thing::Link(session as u32));
+    slots.mark(spot, Content::Link(session as u32));
 }
 
 /// The reply to a request to open a session: as `reply`, without an operand more.
@@ -53,7 +53,7 @@ pub fn reply_open(addresses: &Addresses, slots: &mut Slots, session: usize) -> R
     slots.trades().laws();
     let service = slots.trades().session(session).service;
     let size = addresses.buffer(service);
-    let first = slots.thing(Spot::InSession(session, 0));
+    let first = slots.content(Spot::InSession(session, 0));
     if !fits(size, first) {
         return Err(Wrong::WrongKind);
     }
@@ -62,24 +62,24 @@ pub fn reply_open(addresses: &Addresses, slots: &mut Slots, session: usize) -> R
 }
 
 // Whether no buffer is shared, or this is a space of its size.
-fn fits(size: u32, first: Thing) -> bool
+fn fits(size: u32, first: Content) -> bool
     ensures { result ≡ fits size first }
 {
     size == 0 || is_space_of(first, size)
 }
 
 // Whether it is a space of that size.
-fn is_space_of(thing: Thing, size: u32) -> bool
-    ensures { result ≡ is_space_of size thing }
+fn is_space_of(content: Content, size: u32) -> bool
+    ensures { result ≡ is_space_of size content }
 {
-    match thing {
-        Thing::Space(_, bytes) => bytes == size,
-        Thing::Empty
-        | Thing::Block(_, _)
-        | Thing::Slice(_, _)
-        | Thing::Pool(_)
-        | Thing::Link(_)
-        | Thing::Waiting(_) => false,
+    match content {
+        Content::Space(_, bytes) => bytes == size,
+        Content::Empty
+        | Content::Block(_, _)
+        | Content::Slice(_, _)
+        | Content::Pool(_)
+        | Content::Link(_)
+        | Content::Waiting(_) => false,
     }
 }
 
@@ -89,7 +89,7 @@ fn is_space_of(thing: Thing, size: u32) -> bool
 /// `WrongKind` where a slot of the session is not empty, else `ExceededQuota` where what was given can't be paid back; then nothing changes.
 pub fn reply_close(slots: &mut Slots, session: usize) -> Result<(), Wrong>
     requires awaited { IsAwaited slots.old session }
-    requires object { thing_at slots.old (InObject session) ≡ thing.Empty → ⊥ }
+    requires object { content_at slots.old (InObject session) ≡ content.Empty → ⊥ }
     requires none_waits { AreOfOthers session slots.old.trades.trading.requests }
     ensures closed { (f : Frame) (d : Doing) (q : world.Session) (level : ℕ) → world.session_at d.world session ≡ Some q → IsOf d.system f slots.old
         → GoesOn d q (λ operands. operands) f slots.old → step.reply d session (section.Closing level) q ≡ done result (world_seen f slots.new) }
@@ -113,18 +113,18 @@ pub fn reply_close(slots: &mut Slots, session: usize) -> Result<(), Wrong>
             slots.laws();
             slots.trades().laws();
             slots.trades().memory().accounts().laws();
-            slots.mark(spot, Thing::Empty);
+            slots.mark(spot, Content::Empty);
             Ok(())
         }
     }
 }
 
 // Whether all of these are empty.
-fn are_empty(things: &[Thing]) -> bool
-    ensures { result ≡ are_empty things.now }
+fn are_empty(contents: &[Content]) -> bool
+    ensures { result ≡ are_empty contents.now }
 {
-    for thing in things {
-        if !is_empty(*thing) {
+    for content in contents {
+        if !is_empty(*content) {
             return false;
         }
     }
@@ -132,16 +132,16 @@ fn are_empty(things: &[Thing]) -> bool
 }
 
 // Whether it is empty.
-fn is_empty(thing: Thing) -> bool
-    ensures { result ≡ is_empty thing }
+fn is_empty(content: Content) -> bool
+    ensures { result ≡ is_empty content }
 {
-    match thing {
-        Thing::Empty => true,
-        Thing::Block(_, _)
-        | Thing::Slice(_, _)
-        | Thing::Space(_, _)
-        | Thing::Pool(_)
-        | Thing::Link(_)
-        | Thing::Waiting(_) => false,
+    match content {
+        Content::Empty => true,
+        Content::Block(_, _)
+        | Content::Slice(_, _)
+        | Content::Space(_, _)
+        | Content::Pool(_)
+        | Content::Link(_)
+        | Content::Waiting(_) => false,
     }
 }

@@ -1,4 +1,4 @@
-// Laws of requests: where slots refuse one for want of quota, the account machine's world with it is not paid for.
+// Laws of requests: where slots refuse one for want of quota, the abstract machine's world with it is not paid for.
 ghost use Rattle.std.specs.Prelude.{◌≡◌, ℕ, ◌<◌, List, length, Some, false};
 ghost use Rattle.gq_tariff.specs.declared.amount.Amount.{Amount};
 ghost use Rattle.gq_model.specs.machine.Amounts.{Resource};
@@ -11,10 +11,10 @@ ghost use Rattle.gq_ram.specs.Entries.{available, available_caps};
 ghost use Rattle.gq_trade.specs.declared.requests.Ask.TheVariants as ask;
 ghost use Rattle.gq_trade.specs.declared.requests.Request.{Request};
 ghost use Rattle.gq_trade.specs.Queues.{oldest_to};
-ghost use Rattle.gq_contents.specs.declared.thing.Thing.TheVariants as thing;
+ghost use Rattle.gq_contents.specs.declared.content.Content.TheVariants as content;
 ghost use Rattle.gq_trade.specs.declared.session.Spot.TheVariants.{InSession};
 ghost use Rattle.gq_trade.specs.Trading.{LacksBytes, LacksCaps, bytes_then, caps_then, client_of, its_account, object_size, session_at};
-ghost use Rattle.gq_slots.specs.Slots.{Frame, Slots, thing_at, world_seen};
+ghost use Rattle.gq_slots.specs.Slots.{Frame, Slots, content_at, world_seen};
 ghost use Rattle.gq_slots.specs.Session_calls.{accepting, asking, ending, opening, upgrading};
 ghost use Rattle.gq_statements.specs.Systems.{AreLawful, IsOf};
 
@@ -44,11 +44,11 @@ pub fn refused_upgrades()
 pub fn refused_beginnings()
     ensures bytes { (system : System) (f : Frame) (s : Slots) (x : ℕ) (r : Request) (others : List Request) (left : List world.Request)
         → AreLawful s → IsOf system f s → oldest_to x s.trades.trading.requests ≡ Some (r, others)
-        → (r.ask ≡ ask.Open → (session_at s.trades.trading r.session).object ≡ thing.Empty) → LacksBytes r.ask s.trades.trading r.session
+        → (r.ask ≡ ask.Open → (session_at s.trades.trading r.session).object ≡ content.Empty) → LacksBytes r.ask s.trades.trading r.session
         → paid system (accepting (world_seen f s) r.session r.ask (object_size s.trades.trading r.session) left) ≡ false }
     ensures caps { (system : System) (f : Frame) (s : Slots) (x : ℕ) (r : Request) (others : List Request) (left : List world.Request)
         → AreLawful s → IsOf system f s → oldest_to x s.trades.trading.requests ≡ Some (r, others)
-        → (r.ask ≡ ask.Open → (session_at s.trades.trading r.session).object ≡ thing.Empty) → LacksCaps r.ask s.trades.trading r.session
+        → (r.ask ≡ ask.Open → (session_at s.trades.trading r.session).object ≡ content.Empty) → LacksCaps r.ask s.trades.trading r.session
         → paid system (accepting (world_seen f s) r.session r.ask (object_size s.trades.trading r.session) left) ≡ false }
 {}
 
@@ -56,11 +56,11 @@ pub fn refused_beginnings()
 /// world without the session is not paid for. The slots of the session are empty, and its object is no pool.
 pub fn refused_endings()
     ensures bytes { (system : System) (f : Frame) (s : Slots) (k : ℕ) → AreLawful s → IsOf system f s → IsTaken s.trades.trading.sessions k
-        → ((i : ℕ) → i < length (session_at s.trades.trading k).slots → thing_at s (InSession k i) ≡ thing.Empty)
-        → ((p : Pool) → (session_at s.trades.trading k).object ≡ thing.Pool p → ⊥)
+        → ((i : ℕ) → i < length (session_at s.trades.trading k).slots → content_at s (InSession k i) ≡ content.Empty)
+        → ((p : Pool) → (session_at s.trades.trading k).object ≡ content.Pool p → ⊥)
         → bytes_then s.trades.trading k < (session_at s.trades.trading k).donation.ram → paid system (ending (world_seen f s) k) ≡ false }
     ensures caps { (system : System) (f : Frame) (s : Slots) (k : ℕ) → AreLawful s → IsOf system f s → IsTaken s.trades.trading.sessions k
-        → ((i : ℕ) → i < length (session_at s.trades.trading k).slots → thing_at s (InSession k i) ≡ thing.Empty)
+        → ((i : ℕ) → i < length (session_at s.trades.trading k).slots → content_at s (InSession k i) ≡ content.Empty)
         → caps_then s.trades.trading k < (session_at s.trades.trading k).donation.caps → paid system (ending (world_seen f s) k) ≡ false }
 {}
 

@@ -1,4 +1,4 @@
--- The table of sessions is that of the account machine.
+-- The table of sessions is that of the abstract machine.
 use Rattle.std.proofs.Common.{◌≡◌, ℕ, suc, List, [], ◌∷◌, Option, Some, None, map, get_or, refl, ap, ap₂, ◌∙◌}
 use Rattle.gq_tariff.specs.declared.amount.Amount.{Amount}
 use Rattle.gq_model.specs.machine.World as world
@@ -6,9 +6,9 @@ use Rattle.gq_model.specs.machine.Requests as requests
 use Rattle.gq_store.specs.Store.{Store}
 use Rattle.gq_trade.proofs.Donating.{with_left}
 use Rattle.gq_trade.specs.Numbers.{added, free_number}
-use Rattle.gq_contents.specs.declared.thing.Thing.{Thing}
-use Rattle.gq_contents.specs.declared.thing.Thing.TheVariants.{Empty, Block, Slice, Space, Pool, Link, Waiting}
-use Rattle.gq_contents.specs.Things.{seen}
+use Rattle.gq_contents.specs.declared.content.Content.{Content}
+use Rattle.gq_contents.specs.declared.content.Content.TheVariants.{Empty, Block, Slice, Space, Pool, Link, Waiting}
+use Rattle.gq_contents.specs.Contents.{seen}
 use Rattle.gq_trade.specs.declared.session.Session.{Session}
 use Rattle.gq_trade.specs.declared.session.Spot.{Spot}
 use Rattle.gq_trade.specs.Seen.{seen_in, session_seen, sessions_seen, spot_seen}
@@ -33,23 +33,23 @@ fresh_is names st client spot server service n = refl
 
 -- WHAT IS LEFT TO PAY CHANGES NO SLOT
 
-thing_same : (st : Store) (n : ℕ) (c : Option ℕ) (t : Thing) → seen (with_left st n c) t ≡ seen st t
-thing_same st n c Empty = refl
-thing_same st n c (Block p k) = refl
-thing_same st n c (Slice k m) = refl
-thing_same st n c (Space k m) = refl
-thing_same st n c (Pool p) = refl
-thing_same st n c (Link k) = refl
-thing_same st n c (Waiting k) = refl
+content_same : (st : Store) (n : ℕ) (c : Option ℕ) (t : Content) → seen (with_left st n c) t ≡ seen st t
+content_same st n c Empty = refl
+content_same st n c (Block p k) = refl
+content_same st n c (Slice k m) = refl
+content_same st n c (Space k m) = refl
+content_same st n c (Pool p) = refl
+content_same st n c (Link k) = refl
+content_same st n c (Waiting k) = refl
 
-things_same : (st : Store) (n : ℕ) (c : Option ℕ) (ts : List Thing) → map (seen (with_left st n c)) ts ≡ map (seen st) ts
-things_same st n c [] = refl
-things_same st n c (t ∷ ts) = ap₂ (λ (x : world.Slot) xs. x ∷ xs) (thing_same st n c t) (things_same st n c ts)
+contents_same : (st : Store) (n : ℕ) (c : Option ℕ) (ts : List Content) → map (seen (with_left st n c)) ts ≡ map (seen st) ts
+contents_same st n c [] = refl
+contents_same st n c (t ∷ ts) = ap₂ (λ (x : world.Slot) xs. x ∷ xs) (content_same st n c t) (contents_same st n c ts)
 
 session_same : (names : List (List ℕ)) (st : Store) (n : ℕ) (c : Option ℕ) (s : Session) → session_seen names (with_left st n c) s ≡ session_seen names st s
 session_same names st n c s =
-    let o = thing_same st n c s.object in
-    let ts = things_same st n c s.slots in
+    let o = content_same st n c s.object in
+    let ts = contents_same st n c s.slots in
     λ i. record (session_seen names st s) { object = o i; slots = ts i }
 
 all_same : (f g : Session → world.Session) → ((s : Session) → f s ≡ g s) → (ss : List (Option Session)) → map (seen_in f) ss ≡ map (seen_in g) ss

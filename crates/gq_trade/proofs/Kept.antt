@@ -8,7 +8,7 @@ use Rattle.gq_ram.specs.Ledgers.{Ledger, IsBalanced}
 use Rattle.gq_trade.specs.Stores.{Memory}
 use Rattle.gq_trade.specs.Rest.{SameRest}
 use Rattle.gq_trade.specs.internal.Rests.{rest_refl}
-use Rattle.gq_contents.specs.declared.thing.Thing.{Thing}
+use Rattle.gq_contents.specs.declared.content.Content.{Content}
 use Rattle.gq_trade.specs.Numbers.{IsTaken}
 use Rattle.gq_trade.specs.declared.session.Session.{Session}
 use Rattle.gq_trade.specs.Trading.{Trading, IsTrading, IsBetween, account_of, asked, client_of, its_account}
@@ -228,7 +228,7 @@ upgraded_by (Ok u) w v k n h t taken counted idle b is enough enough_caps err =
 upgraded_by (Err e) w v k n h t taken counted idle b is enough enough_caps err = subst (λ y. IsTrades (with_trading w y)) (sym err) h
 
 -- a slot of a session holds something else
-pub slot_kept : (w : Trades) (v : Trading) (k i : ℕ) (u : Thing) → IsTrades w → IsTrading w.trading → IsTaken w.trading.sessions k
+pub slot_kept : (w : Trades) (v : Trading) (k i : ℕ) (u : Content) → IsTrades w → IsTrading w.trading → IsTaken w.trading.sessions k
     → v ≡ with_session w.trading k (with_slot (session_at w.trading k) i u) → IsTrades (with_trading w v)
 slot_kept w v k i u h t taken is =
     subst (λ y. IsTrades (with_trading w y)) (sym is)

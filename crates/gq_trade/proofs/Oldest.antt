@@ -1,4 +1,4 @@
--- The oldest request to a server is that of the account machine.
+-- The oldest request to a server is that of the abstract machine.
 use Rattle.std.proofs.Common.{◌≡◌, ℕ, List, [], ◌∷◌, Option, Some, None, map, refl, sym, ap, ◌∙◌, inl, inr}
 use Rattle.std.proofs.lemmas.Bool.Decides.{eqb_tells}
 use Rattle.gq_model.specs.machine.World as world

@@ -6,7 +6,7 @@ use Rattle.gq_ram.specs.Ledgers.{Ledger}
 use Rattle.gq_store.specs.Store.{Store}
 use Rattle.gq_trade.specs.Stores.{Memory, store_at, store_of}
 use Rattle.gq_trade.specs.Rest.{SameRest}
-use Rattle.gq_contents.specs.declared.thing.Thing.{Thing}
+use Rattle.gq_contents.specs.declared.content.Content.{Content}
 use Rattle.gq_contents.specs.Kept.{Changes}
 
 -- m is the memory l where the account a pays, n what it is after a call, and k the ledger then
@@ -20,7 +20,7 @@ module _ (l : Ledger) (a : AccountNo) (m n : Memory) (k : Ledger) (first : m ≡
       let q : n.payer ≡ a = rest.payer ∙ ap (λ (x : Memory). x.payer) first in
       λ i. store_at (sym last i) (q i).0
 
-  pub changes_for : (t u : Thing) → ((heap : Heap) → Changes heap heap (store_of m) (store_of n) t u)
+  pub changes_for : (t u : Content) → ((heap : Heap) → Changes heap heap (store_of m) (store_of n) t u)
       → (heap : Heap) → Changes heap heap (store_at l a.0) (store_at k a.0) t u
   changes_for t u h heap =
       subst (λ (st : Store). Changes heap heap (store_at l a.0) st t u) store_after

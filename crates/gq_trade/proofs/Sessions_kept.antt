@@ -18,9 +18,9 @@ use Rattle.gq_store.specs.Store.{one_more}
 use Rattle.gq_store.specs.declared.GrowFault.{GrowFault}
 use Rattle.gq_trade.specs.Stores.{Memory, store_at}
 use Rattle.gq_trade.specs.Rest.{SameRest}
-use Rattle.gq_contents.specs.declared.thing.Thing.{Thing}
-use Rattle.gq_contents.specs.declared.thing.Thing.TheVariants as thing
-use Rattle.gq_contents.specs.Things.{seen, size_of}
+use Rattle.gq_contents.specs.declared.content.Content.{Content}
+use Rattle.gq_contents.specs.declared.content.Content.TheVariants as content
+use Rattle.gq_contents.specs.Contents.{seen, size_of}
 use Rattle.gq_contents.specs.Kept.{Changes}
 use Rattle.gq_contents.specs.Paid.{Pays}
 use Rattle.gq_trade.specs.Queues.{IsOldest, kept_before, oldest_to}
@@ -262,22 +262,22 @@ accepts_of w u v x r b taken rest =
 -- OBJECTS
 
 -- m is the memory in which the account a has made a slice of n bytes
-pub makes_of : (r : Result Thing GrowFault) (w : Trading) (m : Memory) (x n n0 : ℕ) (a : AccountNo) → a ≡ account_no w x → n0 ≡ n
-    → IfOk r (λ t. (heap : Heap) → Changes heap heap (store_at w.memory.ledger a.0) (store_at m.ledger a.0) thing.Empty t)
+pub makes_of : (r : Result Content GrowFault) (w : Trading) (m : Memory) (x n n0 : ℕ) (a : AccountNo) → a ≡ account_no w x → n0 ≡ n
+    → IfOk r (λ t. (heap : Heap) → Changes heap heap (store_at w.memory.ledger a.0) (store_at m.ledger a.0) content.Empty t)
     → IfOk r (λ t. seen (store_at m.ledger a.0) t ≡ world.Bytes form.Slice n0 (replicate n0 0)) → IfOk r (λ t. size_of t ≡ n0)
-    → IfOk r (λ t. (heap : Heap) → Pays heap heap (store_at w.memory.ledger a.0) (store_at m.ledger a.0) thing.Empty t)
+    → IfOk r (λ t. (heap : Heap) → Pays heap heap (store_at w.memory.ledger a.0) (store_at m.ledger a.0) content.Empty t)
     → m.payer ≡ w.memory.payer → SameOthers w.memory.ledger m.ledger a → IfOk r (λ t. Makes w (with_memory w m) x n t)
 makes_of (Err e) w m x n n0 a ea en changes seen_is size pays payer rest = tt
 makes_of (Ok t) w m x n n0 a ea en changes seen_is size pays payer rest = record {
   is = refl;
   payer = payer;
   changes =
-      subst (λ (b : AccountNo). (heap : Heap) → Changes heap heap (store_at w.memory.ledger b.0) (store_at m.ledger b.0) thing.Empty t) ea changes;
+      subst (λ (b : AccountNo). (heap : Heap) → Changes heap heap (store_at w.memory.ledger b.0) (store_at m.ledger b.0) content.Empty t) ea changes;
   seen =
       subst (λ (b : AccountNo). seen (store_at m.ledger b.0) t ≡ world.Bytes form.Slice n (replicate n 0)) ea
       (subst (λ i. seen (store_at m.ledger a.0) t ≡ world.Bytes form.Slice i (replicate i 0)) en seen_is);
   size = size ∙ en;
-  pays = subst (λ (b : AccountNo). (heap : Heap) → Pays heap heap (store_at w.memory.ledger b.0) (store_at m.ledger b.0) thing.Empty t) ea pays;
+  pays = subst (λ (b : AccountNo). (heap : Heap) → Pays heap heap (store_at w.memory.ledger b.0) (store_at m.ledger b.0) content.Empty t) ea pays;
   others = subst (λ (b : AccountNo). SameOthers w.memory.ledger m.ledger b) ea rest;
 }
 
@@ -323,17 +323,17 @@ removed_kept w k h o = record {
 }
 
 -- m is the memory in which the account a has freed a slice
-pub frees_of : (w : Trading) (m : Memory) (x : ℕ) (a : AccountNo) (t : Thing) → a ≡ account_no w x
-    → ((heap : Heap) → Changes heap heap (store_at w.memory.ledger a.0) (store_at m.ledger a.0) t thing.Empty)
-    → ((heap : Heap) → Pays heap heap (store_at w.memory.ledger a.0) (store_at m.ledger a.0) t thing.Empty)
+pub frees_of : (w : Trading) (m : Memory) (x : ℕ) (a : AccountNo) (t : Content) → a ≡ account_no w x
+    → ((heap : Heap) → Changes heap heap (store_at w.memory.ledger a.0) (store_at m.ledger a.0) t content.Empty)
+    → ((heap : Heap) → Pays heap heap (store_at w.memory.ledger a.0) (store_at m.ledger a.0) t content.Empty)
     → (store_at m.ledger a.0).left ≡ (store_at w.memory.ledger a.0).left + up (size_of t + 32)
     → (store_at m.ledger a.0).caps ≡ one_more (store_at w.memory.ledger a.0).caps → m.payer ≡ w.memory.payer
     → SameOthers w.memory.ledger m.ledger a → Frees w (with_memory w m) x t
 frees_of w m x a t e changes pays back caps payer rest = record {
   is = refl;
   payer = payer;
-  changes = subst (λ (b : AccountNo). (heap : Heap) → Changes heap heap (store_at w.memory.ledger b.0) (store_at m.ledger b.0) t thing.Empty) e changes;
-  pays = subst (λ (b : AccountNo). (heap : Heap) → Pays heap heap (store_at w.memory.ledger b.0) (store_at m.ledger b.0) t thing.Empty) e pays;
+  changes = subst (λ (b : AccountNo). (heap : Heap) → Changes heap heap (store_at w.memory.ledger b.0) (store_at m.ledger b.0) t content.Empty) e changes;
+  pays = subst (λ (b : AccountNo). (heap : Heap) → Pays heap heap (store_at w.memory.ledger b.0) (store_at m.ledger b.0) t content.Empty) e pays;
   back =
       subst (λ (b : AccountNo). (store_at m.ledger b.0).left ≡ (store_at w.memory.ledger b.0).left + up (size_of t + 32)) e back;
   caps = subst (λ (b : AccountNo). (store_at m.ledger b.0).caps ≡ one_more (store_at w.memory.ledger b.0).caps) e caps;

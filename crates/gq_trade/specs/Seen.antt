@@ -1,8 +1,8 @@
--- Sessions as the account machine has them.
+-- Sessions as the abstract machine has them.
 use Rattle.std.specs.Prelude.{ℕ, List, [], Option, Some, None, map, get_or}
 use Rattle.gq_model.specs.machine.World as world
 use Rattle.gq_store.specs.Store.{Store}
-use Rattle.gq_contents.specs.Things.{seen}
+use Rattle.gq_contents.specs.Contents.{seen}
 use Rattle.gq_trade.specs.declared.session.Session.{Session}
 use Rattle.gq_trade.specs.declared.session.Spot.{Spot}
 use Rattle.gq_trade.specs.declared.session.Spot.TheVariants.{InLeaf, InSession, InObject}

@@ -1,4 +1,4 @@
--- Requests as the account machine has them.
+-- Requests as the abstract machine has them.
 use Rattle.std.specs.Prelude.{◌≡◌, ℕ, ◌==◌, List, [], ◌∷◌, Option, Some, None, map}
 use Rattle.gq_model.specs.machine.World as world
 use Rattle.gq_model.specs.machine.Step as step

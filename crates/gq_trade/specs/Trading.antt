@@ -19,9 +19,9 @@ use Rattle.gq_trade.specs.declared.requests.Ask.{Ask}
 use Rattle.gq_trade.specs.declared.requests.Ask.TheVariants.{Open, Upgrade, Close, Call}
 use Rattle.gq_trade.specs.declared.requests.Request.{Request}
 use Rattle.gq_trade.specs.Queues.{oldest_to}
-use Rattle.gq_contents.specs.declared.thing.Thing.{Thing}
-use Rattle.gq_contents.specs.declared.thing.Thing.TheVariants as thing
-use Rattle.gq_contents.specs.Things.{seen, size_of}
+use Rattle.gq_contents.specs.declared.content.Content.{Content}
+use Rattle.gq_contents.specs.declared.content.Content.TheVariants as content
+use Rattle.gq_contents.specs.Contents.{seen, size_of}
 use Rattle.gq_contents.specs.Kept.{Changes}
 use Rattle.gq_contents.specs.Paid.{Pays}
 use Rattle.gq_trade.specs.declared.session.Session.{Session}
@@ -60,8 +60,8 @@ fresh client spot server service n = record {
   level = 0;
   donation = n;
   accepted = false;
-  object = thing.Empty;
-  slots = replicate 8 thing.Empty;
+  object = content.Empty;
+  slots = replicate 8 content.Empty;
 }
 
 abbrev pub no_session : Session
@@ -162,7 +162,7 @@ with_more s n = record {
 }
 
 -- a session with something else in a slot
-abbrev pub with_slot : Session → ℕ → Thing → Session
+abbrev pub with_slot : Session → ℕ → Content → Session
 with_slot s i t = record {
   client = s.client;
   spot = s.spot;
@@ -189,13 +189,13 @@ abbrev pub store_of : Trading → ℕ → Store
 store_of w x = store_at w.memory.ledger (account_of w x)
 
 -- a slice t of n bytes, which read 0, is made and paid for by the leaf x
-pub record Makes (w v : Trading) (x n : ℕ) (t : Thing) : Type 0 where
+pub record Makes (w v : Trading) (x n : ℕ) (t : Content) : Type 0 where
   pub is : v ≡ with_memory w v.memory
   pub payer : v.memory.payer ≡ w.memory.payer
-  pub changes : (heap : Heap) → Changes heap heap (store_of w x) (store_of v x) thing.Empty t
+  pub changes : (heap : Heap) → Changes heap heap (store_of w x) (store_of v x) content.Empty t
   pub seen : seen (store_of v x) t ≡ world.Bytes form.Slice n (replicate n 0)
   pub size : size_of t ≡ n
-  pub pays : (heap : Heap) → Pays heap heap (store_of w x) (store_of v x) thing.Empty t
+  pub pays : (heap : Heap) → Pays heap heap (store_of w x) (store_of v x) content.Empty t
   pub others : SameOthers w.memory.ledger v.memory.ledger (account_no w x)
 
 -- how many bytes the object of a session has, and what it costs
@@ -205,7 +205,7 @@ object_size w k = get_or w.objects (session_at w k).service 0
 abbrev pub object_price : Trading → ℕ → ℕ
 object_price w k = up (object_size w k + 32)
 
-abbrev pub opened : Session → Thing → Session
+abbrev pub opened : Session → Content → Session
 opened s t = record {
   client = s.client;
   spot = s.spot;
@@ -233,7 +233,7 @@ raised s = record {
 
 -- the session is accepted, and has an object that its server has paid for
 pub record Opens (w v : Trading) (k : ℕ) : Type 0 where
-  pub object : Thing
+  pub object : Content
   pub makes : Makes w (with_memory w v.memory) (server_of w k) (object_size w k) object
   pub is : v ≡ with_session (with_memory w v.memory) k (opened (session_at w k) object)
 
@@ -282,11 +282,11 @@ abbrev pub caps_then : Trading → ℕ → ℕ
 caps_then w k = available_caps (its_account w (server_of w k)) + 1
 
 -- a slice that the leaf x has paid for is free
-pub record Frees (w v : Trading) (x : ℕ) (t : Thing) : Type 0 where
+pub record Frees (w v : Trading) (x : ℕ) (t : Content) : Type 0 where
   pub is : v ≡ with_memory w v.memory
   pub payer : v.memory.payer ≡ w.memory.payer
-  pub changes : (heap : Heap) → Changes heap heap (store_of w x) (store_of v x) t thing.Empty
-  pub pays : (heap : Heap) → Pays heap heap (store_of w x) (store_of v x) t thing.Empty
+  pub changes : (heap : Heap) → Changes heap heap (store_of w x) (store_of v x) t content.Empty
+  pub pays : (heap : Heap) → Pays heap heap (store_of w x) (store_of v x) t content.Empty
   pub back : (store_of v x).left ≡ (store_of w x).left + up (size_of t + 32)
   pub caps : (store_of v x).caps ≡ one_more (store_of w x).caps
   pub others : SameOthers w.memory.ledger v.memory.ledger (account_no w x)

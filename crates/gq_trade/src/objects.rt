@@ -7,14 +7,14 @@ ghost use Rattle.gq_heap.specs.declared.heap.Heap.{Heap};
 ghost use Rattle.gq_ram.specs.Entries.{IsOpen};
 ghost use Rattle.gq_store.specs.Store.{one_more};
 ghost use Rattle.gq_trade.specs.Stores.{store_at};
-ghost use Rattle.gq_contents.specs.declared.thing.Thing.TheVariants as thing;
-ghost use Rattle.gq_contents.specs.Things.{IsSlice, seen, size_of};
+ghost use Rattle.gq_contents.specs.declared.content.Content.TheVariants as content;
+ghost use Rattle.gq_contents.specs.Contents.{IsSlice, seen, size_of};
 ghost use Rattle.gq_contents.specs.Kept.{Changes};
 ghost use Rattle.gq_contents.specs.Paid.{Pays};
 ghost use Rattle.gq_trade.specs.Trading.{SameOthers};
 
 use crate::memory::Memory;
-use gq_contents::Thing;
+use gq_contents::Content;
 use gq_ram::AccountNo;
 use gq_store::GrowFault;
 
@@ -23,15 +23,15 @@ pub(crate) fn make_slice_for(
     memory: &mut Memory,
     account: AccountNo,
     size: u32,
-) -> Result<Thing, GrowFault>
+) -> Result<Content, GrowFault>
     requires open { IsOpen memory.old.ledger.accounts account.0 }
     requires size { size ≤ 67108864 }
     ensures changes { IfOk result (λ t. (heap : Heap)
-        → Changes heap heap (store_at memory.old.ledger account.0) (store_at memory.new.ledger account.0) thing.Empty t) }
+        → Changes heap heap (store_at memory.old.ledger account.0) (store_at memory.new.ledger account.0) content.Empty t) }
     ensures seen { IfOk result (λ t. seen (store_at memory.new.ledger account.0) t ≡ world.Bytes form.Slice size (replicate size 0)) }
     ensures size { IfOk result (λ t. size_of t ≡ size) }
     ensures pays { IfOk result (λ t. (heap : Heap)
-        → Pays heap heap (store_at memory.old.ledger account.0) (store_at memory.new.ledger account.0) thing.Empty t) }
+        → Pays heap heap (store_at memory.old.ledger account.0) (store_at memory.new.ledger account.0) content.Empty t) }
     ensures exceeded { IsErrOf result GrowFault.Exceeded ↔ ((store_at memory.old.ledger account.0).left < up (size + 32)) }
     ensures none { IsErrOf result GrowFault.CapsExceeded
         ↔ ((up (size + 32) ≤ (store_at memory.old.ledger account.0).left) × ((store_at memory.old.ledger account.0).caps ≡ Some 0)) }
@@ -41,17 +41,17 @@ pub(crate) fn make_slice_for(
 {
     let payer = memory.payer();
     memory.pay_by(account);
-    let made = Thing::make_slice(memory, size);
+    let made = Content::make_slice(memory, size);
     memory.pay_by(payer);
     made
 }
 
 // Makes a slice of this account free. The account at hand stays.
-pub(crate) fn free_slice_of(memory: &mut Memory, account: AccountNo, slice: Thing)
+pub(crate) fn free_slice_of(memory: &mut Memory, account: AccountNo, slice: Content)
     requires open { IsOpen memory.old.ledger.accounts account.0 }
     requires slice { IsSlice (store_at memory.old.ledger account.0) slice }
-    ensures changes { (heap : Heap) → Changes heap heap (store_at memory.old.ledger account.0) (store_at memory.new.ledger account.0) slice thing.Empty }
-    ensures pays { (heap : Heap) → Pays heap heap (store_at memory.old.ledger account.0) (store_at memory.new.ledger account.0) slice thing.Empty }
+    ensures changes { (heap : Heap) → Changes heap heap (store_at memory.old.ledger account.0) (store_at memory.new.ledger account.0) slice content.Empty }
+    ensures pays { (heap : Heap) → Pays heap heap (store_at memory.old.ledger account.0) (store_at memory.new.ledger account.0) slice content.Empty }
     ensures back { (store_at memory.new.ledger account.0).left ≡ (store_at memory.old.ledger account.0).left + up (size_of slice + 32) }
     ensures caps { (store_at memory.new.ledger account.0).caps ≡ one_more (store_at memory.old.ledger account.0).caps }
     ensures payer { memory.new.payer ≡ memory.old.payer }

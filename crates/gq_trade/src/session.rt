@@ -1,5 +1,5 @@
 // What a session is.
-use gq_contents::Thing;
+use gq_contents::Content;
 use gq_tariff::Amount;
 
 /// Where a slot stands.
@@ -24,6 +24,6 @@ pub struct Session {
     pub level: u8,
     pub donation: Amount,
     pub accepted: bool,
-    pub object: Thing,
-    pub slots: [Thing; 8],
+    pub object: Content,
+    pub slots: [Content; 8],
 }

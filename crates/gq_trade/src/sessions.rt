@@ -7,8 +7,8 @@ ghost use Rattle.gq_ram.specs.Trees.{AreNodes, account_of as tree_account_of, nu
 ghost use Rattle.gq_trade.specs.Numbers.{free_number, IsTaken};
 ghost use Rattle.gq_trade.specs.declared.requests.Ask.TheVariants as ask;
 ghost use Rattle.gq_trade.specs.Queues.{IsOldest, oldest_to};
-ghost use Rattle.gq_contents.specs.declared.thing.Thing.TheVariants as thing;
-ghost use Rattle.gq_contents.specs.Things.{IsSlice, size_of};
+ghost use Rattle.gq_contents.specs.declared.content.Content.TheVariants as content;
+ghost use Rattle.gq_contents.specs.Contents.{IsSlice, size_of};
 ghost use Rattle.gq_trade.specs.Trading.{Accepts, AreOfOthers, Begins, Closes, Frees, IsBetween, IsOfOldest, IsTrading, LacksBytes, LacksCaps, Leaves};
 ghost use Rattle.gq_trade.specs.Trading.{Makes, Opens};
 ghost use Rattle.gq_trade.specs.Trading.{account_no, account_of, asked, bytes_then, caps_then};
@@ -21,7 +21,7 @@ use crate::numbered::Numbered;
 use crate::objects::{free_slice_of, make_slice_for};
 use crate::requests::{Ask, Request, Requests};
 use crate::session::{Session, Spot};
-use gq_contents::Thing;
+use gq_contents::Content;
 use gq_model::limits::GREATEST_LEAVES;
 use gq_ram::{AccountFault, AccountNo, AccountTree};
 use gq_store::{ByteStore, ChunkNo, GrowFault};
@@ -95,7 +95,7 @@ impl Sessions {
           requests = [];
         }) }
     {
-        let _nothing = Thing::Empty;
+        let _nothing = Content::Empty;
         let sessions = Numbered::new(alloc, room)?;
         Ok(Sessions {
             memory,
@@ -149,8 +149,8 @@ impl Sessions {
             level: 0,
             donation,
             accepted: false,
-            object: Thing::Empty,
-            slots: [Thing::Empty; 8],
+            object: Content::Empty,
+            slots: [Content::Empty; 8],
         }))
     }
 
@@ -247,7 +247,7 @@ impl Sessions {
         requires client_open { IsOpen self.old.memory.ledger.accounts (account_of self.old (client_of self.old session)) }
         requires server_open { IsOpen self.old.memory.ledger.accounts (account_of self.old (server_of self.old session)) }
         requires object { IsSlice (store_of self.old (server_of self.old session)) (session_at self.old session).object }
-        requires empty { (i : ℕ) → i < 8 → get_or (session_at self.old session).slots i thing.Empty ≡ thing.Empty }
+        requires empty { (i : ℕ) → i < 8 → get_or (session_at self.old session).slots i content.Empty ≡ content.Empty }
         requires counted { self.old.memory.ledger.price ≡ 0 → (session_at self.old session).donation.caps ≡ 0 }
         requires none_waits { AreOfOthers session self.old.requests }
         ensures ok { OnOk result (Closes self.old self.new session) }
@@ -278,19 +278,19 @@ impl Sessions {
 
     /// What a slot of a session holds.
     #[inline(always)]
-    pub fn slot(&self, session: usize, slot: usize) -> Thing
+    pub fn slot(&self, session: usize, slot: usize) -> Content
         requires there { IsTaken self.now.sessions session }
         requires slot { slot < 8 }
-        ensures { result ≡ get_or (session_at self.now session).slots slot thing.Empty }
+        ensures { result ≡ get_or (session_at self.now session).slots slot content.Empty }
     {
         self.sessions.at(session).slots[slot]
     }
 
     /// Puts something into an empty slot of a session.
-    pub fn put(&mut self, session: usize, slot: usize, contents: Thing)
+    pub fn put(&mut self, session: usize, slot: usize, contents: Content)
         requires there { IsTaken self.old.sessions session }
         requires slot { slot < 8 }
-        requires empty { get_or (session_at self.old session).slots slot thing.Empty ≡ thing.Empty }
+        requires empty { get_or (session_at self.old session).slots slot content.Empty ≡ content.Empty }
         ensures { self.new ≡ with_session self.old session (with_slot (session_at self.old session) slot contents) }
     {
         self.set_slot(session, slot, contents);
@@ -300,9 +300,9 @@ impl Sessions {
     pub fn clear_slot(&mut self, session: usize, slot: usize)
         requires there { IsTaken self.old.sessions session }
         requires slot { slot < 8 }
-        ensures { self.new ≡ with_session self.old session (with_slot (session_at self.old session) slot thing.Empty) }
+        ensures { self.new ≡ with_session self.old session (with_slot (session_at self.old session) slot content.Empty) }
     {
-        self.set_slot(session, slot, Thing::Empty);
+        self.set_slot(session, slot, Content::Empty);
     }
 
     /// Closes the account of a leaf, which is the reference account of no other: what it has in memory is removed, and its quota of both kinds goes to
@@ -436,7 +436,7 @@ impl Sessions {
     }
 
     // An object of a service, a slice that a leaf pays for.
-    fn make(&mut self, leaf: usize, service: usize) -> Result<Thing, GrowFault>
+    fn make(&mut self, leaf: usize, service: usize) -> Result<Content, GrowFault>
         requires leaf { leaf < length self.old.leaves }
         requires service { service < length self.old.objects }
         requires open { IsOpen self.old.memory.ledger.accounts (account_of self.old leaf) }
@@ -453,7 +453,7 @@ impl Sessions {
     }
 
     // A session is accepted, with this object.
-    fn put_object(&mut self, session: usize, object: Thing)
+    fn put_object(&mut self, session: usize, object: Content)
         requires { IsTaken self.old.sessions session }
         ensures { self.new ≡ with_session self.old session (opened (session_at self.old session) object) }
     {
@@ -462,8 +462,8 @@ impl Sessions {
         accepted.object = object;
     }
 
-    // Another thing in a slot of a session.
-    fn set_slot(&mut self, session: usize, slot: usize, contents: Thing)
+    // Another content in a slot of a session.
+    fn set_slot(&mut self, session: usize, slot: usize, contents: Content)
         requires there { IsTaken self.old.sessions session }
         requires slot { slot < 8 }
         ensures { self.new ≡ with_session self.old session (with_slot (session_at self.old session) slot contents) }
@@ -513,7 +513,7 @@ impl Sessions {
     }
 
     // Makes a slice free that a leaf has paid for.
-    fn free(&mut self, leaf: usize, slice: Thing)
+    fn free(&mut self, leaf: usize, slice: Content)
         requires leaf { leaf < length self.old.leaves }
         requires open { IsOpen self.old.memory.ledger.accounts (account_of self.old leaf) }
         requires slice { IsSlice (store_of self.old leaf) slice }
@@ -583,7 +583,7 @@ impl Sessions {
         ensures number { result ≡ free_number self.old.sessions }
         ensures entered { self.new ≡ entered self.old session }
     {
-        let _nothing = Thing::Empty;
+        let _nothing = Content::Empty;
         let server = session.server;
         let number = self.sessions.add(session);
         self.requests.push(Request {

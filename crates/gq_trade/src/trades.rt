@@ -4,8 +4,8 @@ ghost use Rattle.gq_ram.specs.Entries.{available, available_caps, IsOpen};
 ghost use Rattle.gq_trade.specs.Numbers.{free_number, IsTaken};
 ghost use Rattle.gq_trade.specs.declared.requests.Ask.TheVariants as ask;
 ghost use Rattle.gq_trade.specs.Queues.{IsOldest, oldest_to};
-ghost use Rattle.gq_contents.specs.declared.thing.Thing.TheVariants as thing;
-ghost use Rattle.gq_contents.specs.Things.{IsSlice};
+ghost use Rattle.gq_contents.specs.declared.content.Content.TheVariants as content;
+ghost use Rattle.gq_contents.specs.Contents.{IsSlice};
 ghost use Rattle.gq_trade.specs.Trading.{Accepts, AreOfOthers, Closes, IsOfOldest, IsTrading, LacksBytes, LacksCaps, account_no, asked};
 ghost use Rattle.gq_trade.specs.Trading.{bytes_then, caps_then};
 ghost use Rattle.gq_trade.specs.Trading.{client_of, fresh, its_account, server_of, session_at, store_of, upgraded, with_ask, with_memory};
@@ -24,7 +24,7 @@ use crate::node::{Node, Stage, follower, handed_to};
 use crate::requests::Request;
 use crate::session::{Session, Spot};
 use crate::sessions::Sessions;
-use gq_contents::Thing;
+use gq_contents::Content;
 use gq_ram::{AccountFault, AccountNo, AccountTree, Accounts};
 use gq_store::{ByteStore, ChunkNo, GrowFault};
 use gq_tariff::Amount;
@@ -209,7 +209,7 @@ impl Trades {
     pub fn closed(&mut self, session: usize) -> Result<(), AccountFault>
         requires there { IsTaken self.old.trading.sessions session }
         requires object { IsSlice (store_of self.old.trading (server_of self.old.trading session)) (session_at self.old.trading session).object }
-        requires empty { (i : ℕ) → i < 8 → get_or (session_at self.old.trading session).slots i thing.Empty ≡ thing.Empty }
+        requires empty { (i : ℕ) → i < 8 → get_or (session_at self.old.trading session).slots i content.Empty ≡ content.Empty }
         requires none_waits { AreOfOthers session self.old.trading.requests }
         ensures ok { OnOk result (Closes self.old.trading self.new.trading session) }
         ensures nodes { self.new.nodes ≡ self.old.nodes }
@@ -237,19 +237,19 @@ impl Trades {
 
     /// What a slot of a session holds.
     #[inline(always)]
-    pub fn slot(&self, session: usize, slot: usize) -> Thing
+    pub fn slot(&self, session: usize, slot: usize) -> Content
         requires there { IsTaken self.now.trading.sessions session }
         requires slot { slot < 8 }
-        ensures { result ≡ get_or (session_at self.now.trading session).slots slot thing.Empty }
+        ensures { result ≡ get_or (session_at self.now.trading session).slots slot content.Empty }
     {
         self.sessions.slot(session, slot)
     }
 
     /// Puts something into an empty slot of a session.
-    pub fn put(&mut self, session: usize, slot: usize, contents: Thing)
+    pub fn put(&mut self, session: usize, slot: usize, contents: Content)
         requires there { IsTaken self.old.trading.sessions session }
         requires slot { slot < 8 }
-        requires empty { get_or (session_at self.old.trading session).slots slot thing.Empty ≡ thing.Empty }
+        requires empty { get_or (session_at self.old.trading session).slots slot content.Empty ≡ content.Empty }
         ensures { self.new ≡ with_trading self.old
             (with_session self.old.trading session (with_slot (session_at self.old.trading session) slot contents)) }
     {
@@ -262,7 +262,7 @@ impl Trades {
         requires there { IsTaken self.old.trading.sessions session }
         requires slot { slot < 8 }
         ensures { self.new ≡ with_trading self.old
-            (with_session self.old.trading session (with_slot (session_at self.old.trading session) slot thing.Empty)) }
+            (with_session self.old.trading session (with_slot (session_at self.old.trading session) slot content.Empty)) }
     {
         self.sessions.laws();
         self.sessions.clear_slot(session, slot);

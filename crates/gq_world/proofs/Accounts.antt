@@ -255,7 +255,7 @@ module _ (low high : LeafAccount → Amount → ℕ) (by : (q : Amount) (l : Lea
   fits_once q None a b = refl
   fits_once q (Some l) a b = le_prop a b
 
-  fits_by : (q : Amount) (o : Option LeafAccount) → promises.Keeps q o → Fits q o
+  fits_by : (q : Amount) (o : Option LeafAccount) → promises.KeepsQuota q o → Fits q o
   fits_by q None h = tt
   fits_by q (Some l) h = by q l h
 

@@ -10,7 +10,7 @@ use Rattle.gq_model.specs.machine.Amounts.{Caps, Ram, Resource, part}
 use Rattle.gq_model.specs.machine.Scenario.{Component, End, Init_node, Leaf_node, Nodes, Scenario, below, components, system}
 use Rattle.gq_model.specs.machine.Sums.{held}
 use Rattle.gq_model.specs.machine.World.{Leaf, World}
-use Rattle.gq_model.specs.Promises.{AllKeep, EachOf, IsUpheld, Keeps, KeepsAccounts, SumsToTotal, held_at, held_of}
+use Rattle.gq_model.specs.Promises.{AllKeep, EachOf, IsUpheld, KeepsQuota, KeepsAccounts, SumsToTotal, held_at, held_of}
 use Rattle.gq_model.specs.rules.Accept.{budgets, step_budgets}
 use Rattle.gq_model.proofs.Small.{get_within}
 use Rattle.gq_scenario.proofs.Preorder.{components-count}
@@ -30,10 +30,10 @@ used all = sum_by (λ (a : Account). use_in a.leaf) all
 abbrev given : List Account → ℕ
 given all = sum_by (λ (a : Account). part Ram a.quota) all
 
-kept_one : (a : Account) → Keeps a.quota a.leaf → use_in a.leaf ≤ part Ram a.quota
+kept_one : (a : Account) → KeepsQuota a.quota a.leaf → use_in a.leaf ≤ part Ram a.quota
 kept_one a h = by a.leaf h
   where
-    by : (o : Option LeafAccount) → Keeps a.quota o → use_in o ≤ part Ram a.quota
+    by : (o : Option LeafAccount) → KeepsQuota a.quota o → use_in o ≤ part Ram a.quota
     by None h = omega arith
     by (Some l) h = h.bytes
 

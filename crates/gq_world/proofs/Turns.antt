@@ -18,7 +18,7 @@ use Rattle.gq_machine.specs.Events.{event_of}
 use Rattle.gq_machine.specs.Machines.{AreCountable, IsCountable}
 use Rattle.gq_machine.specs.declared.event.Event.{Event}
 use Rattle.gq_machine.specs.declared.event.Event.TheVariants as events
-use Rattle.gq_machine.specs.Bursts.{Tells, lines_of, told_to}
+use Rattle.gq_machine.specs.Bursts.{OutputsLines, lines_of, output_to}
 use Rattle.gq_model.specs.rules.Accept.{Budget, budgets}
 use Rattle.gq_world.specs.Worlds.{World, line_told, shown}
 use Rattle.gq_world.specs.internal.Keeping.{IsBudgeted}
@@ -120,18 +120,18 @@ never_wrong promises keeps s w x n r p e wrong stands =
 
 -- turns, as of the world that contracts see
 pub told_seen : (s : Scenario) (w v u : model.World) (old : World) (x n : ℕ) (e : Event) (lines : List ℕ) → s ≡ old.scenario → w ≡ old.world → u ≡ v
-    → Tells s x n w v (Ok e) lines → Tells old.scenario x n old.world u (Ok e) lines
+    → OutputsLines s x n w v (Ok e) lines → OutputsLines old.scenario x n old.world u (Ok e) lines
 told_seen s w v u old x n e lines a b same tells =
-    subst (λ z. Tells old.scenario x n old.world z (Ok e) lines) (sym same)
-    (subst (λ z. Tells old.scenario x n z v (Ok e) lines) b (subst (λ t. Tells t x n w v (Ok e) lines) a tells))
+    subst (λ z. OutputsLines old.scenario x n old.world z (Ok e) lines) (sym same)
+    (subst (λ z. OutputsLines old.scenario x n z v (Ok e) lines) b (subst (λ t. OutputsLines t x n w v (Ok e) lines) a tells))
 
 -- what stands stands after them, and the budgets stay
 pub kept_told : Promises → Keeps → (s t : Scenario) (w v : model.World) (all : List Budget) (x n : ℕ) (e : Event) (lines : List ℕ) → t ≡ s
-    → Tells s x n w v (Ok e) lines → IsBudgeted s w all → IsBudgeted t v all
+    → OutputsLines s x n w v (Ok e) lines → IsBudgeted s w all → IsBudgeted t v all
 kept_told promises keeps s t w v all x n e lines same tells h =
     record {
       stands = subst (λ (r : Scenario). ∥ Stands r v ∥₁) (sym same)
-          (stands_then promises keeps s w x n (told_to x (Ok e) lines v []) (tells []) h.stands);
+          (stands_then promises keeps s w x n (output_to x (Ok e) lines v []) (tells []) h.stands);
       budgets_are = h.budgets_are ∙ ap budgets (sym same);
     }
 

@@ -10,7 +10,7 @@ use Rattle.gq_machine.specs.declared.event.Event.{Event}
 use Rattle.gq_machine.specs.declared.event.Event.TheVariants as events
 use Rattle.gq_init.specs.Writes.{IsFront}
 
--- an accepted scenario, the world of the account machine, and whether a turn has stopped it
+-- an accepted scenario, the world of the abstract machine, and whether a turn has stopped it
 pub record World : Type 0 where
   pub scenario : Scenario
   pub world : model.World
@@ -27,7 +27,7 @@ shown (doing.Line text) = events.Line
 abbrev pub line_told : Scenario → ℕ → doing.Event → List ℕ
 line_told s leaf event = line_of (label_at (slice_get (components s) leaf)) event
 
--- the step of the account machine was taken, its event told, and its line written
+-- the step of the abstract machine was taken, its event told, and its line written
 pub record IsTurn (old new : World) (leaf : ℕ) (event : Event) (before after : Option (List ℕ)) : Type 0 where
   pub step : doing.Event
   pub next : next (system old.scenario) old.world leaf ≡ Ok (new.world, step)

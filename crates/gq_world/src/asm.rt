@@ -1,7 +1,7 @@
 // The code of a leaf's program.
 ghost use Rattle.std.specs.Prelude.{◌≡◌, ◌∷◌, ◌++◌, [], Ok, Err, IfOk, IfErr, None, OnOk, string_bytes};
 ghost use Rattle.gq_model.specs.texts.Code.{code_of, hex_of};
-ghost use Rattle.gq_load.specs.Faults.{Gives};
+ghost use Rattle.gq_load.specs.Faults.{PrintsFault};
 ghost use Rattle.gq_load.specs.Load.{source_fault};
 ghost use Rattle.gq_init.specs.Counts.{written_to, failures_of};
 ghost use Rattle.gq_world.specs.Outcomes.{IsBefore, IsCutShort, IsFaultOf, IsWhole};
@@ -35,7 +35,7 @@ fn hexadecimal_line(alloc: Global, bytes: &[u8]) -> Result<String, AllocError>
 fn leaf_code(alloc: Global, leaf: &Leaf) -> Result<Vec<u8>, LoadError>
     ensures code { IfOk result (λ code. code.items ≡ code_of leaf.now.program) }
     ensures faultless { IfOk result (λ code. source_fault leaf.now.name leaf.now.source ≡ None) }
-    ensures refused { IfErr result (λ e. Gives e (source_fault leaf.now.name leaf.now.source)) }
+    ensures refused { IfErr result (λ e. PrintsFault e (source_fault leaf.now.name leaf.now.source)) }
 {
     let program = read_program(alloc, leaf)?;
     let code = encode(alloc, &program);

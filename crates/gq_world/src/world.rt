@@ -183,7 +183,7 @@ impl World {
         requires { leaf < length (components self.old.scenario) }
         ensures scenario { self.new.scenario ≡ self.old.scenario }
 
-        // The step of the account machine is taken, and the line that it gives is written.
+        // The step of the abstract machine is taken, and the line that it gives is written.
         ensures turned { IfOk result (λ event. IsTurn self.old self.new leaf event (written_to W.contents out.old) (written_to W.contents out.new)) }
         ensures goes_on { OnOk result (self.new.stopped ≡ false) }
         ensures counted { OnOk result (failures_of out.new ≡ failures_of out.old) }

@@ -18,9 +18,9 @@ abbrev pub Fails : {Y : Type 0} → LineError → Result Y TextFault → Type 0
 Fails Memory answer = Unit {0}
 Fails (Fault fault) answer = answer ≡ Err fault
 
-abbrev pub Gives : {X Y : Type 0} → (X → Y) → Result X LineError → Result Y TextFault → Type 0
-Gives view (Ok x) answer = answer ≡ Ok (view x)
-Gives view (Err error) answer = Fails error answer
+abbrev pub AnswersBy : {X Y : Type 0} → (X → Y) → Result X LineError → Result Y TextFault → Type 0
+AnswersBy view (Ok x) answer = answer ≡ Ok (view x)
+AnswersBy view (Err error) answer = Fails error answer
 
 abbrev pub kind_of : BlockKind → text.BlockKind
 kind_of (Section s) = text.Section_block s

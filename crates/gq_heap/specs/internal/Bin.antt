@@ -32,7 +32,7 @@ pub record KeepsMore (z p : ℕ) (bin : Bin) (old new : Store) (q : ℕ) (more m
   pub kept : KeepsBin z p bin new more mine_after
 
 -- One place more is in use, q. Whatever list of places the caller has, it wasn't in it.
-pub record Takes (z p : ℕ) (before after : Bin) (old new : Store) (q : ℕ) : Type 0 where
+pub record TakesPlace (z p : ℕ) (before after : Bin) (old new : Store) (q : ℕ) : Type 0 where
   pub fresh : (used mine : List ℕ) → KeepsBin z p before old used mine → times q used ≡ 0
   pub kept : (used mine more : List ℕ) → KeepsBin z p before old used mine → Adds q used more → KeepsMore z p after old new q more mine
   pub zero : (i : ℕ) → i < z → place_byte new z p q i ≡ 0
@@ -42,7 +42,7 @@ pub record Takes (z p : ℕ) (before after : Bin) (old new : Store) (q : ℕ) : 
   pub caps : plus_caps (bin_price z after.peak / 4096) new.caps ≡ plus_caps (bin_price z before.peak / 4096) old.caps
 
 -- The place q is free.
-pub record Gives (z p : ℕ) (before after : Bin) (old new : Store) (q : ℕ) : Type 0 where
+pub record FreesPlace (z p : ℕ) (before after : Bin) (old new : Store) (q : ℕ) : Type 0 where
   pub kept : (used mine rest : List ℕ) → KeepsBin z p before old used mine → Adds q rest used → KeepsBin z p after new rest mine
   pub alone : Writes old new (q / p) (q % p * z) z
   pub peak : after.peak ≡ before.peak

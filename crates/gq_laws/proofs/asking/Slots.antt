@@ -4,10 +4,10 @@ use Rattle.std.specs.Prelude.{slice_get, slice_set}
 use Rattle.std.proofs.lemmas.Bool.Decides.{eqb_tells}
 use Rattle.gq_model.specs.declared.program.Form.TheVariants.{Slice}
 use Rattle.gq_model.specs.machine.Scenario.{number_of}
-use Rattle.gq_model.specs.machine.World.{Slot, Empty, Bytes, Pool, Link, Waiting, Session, Hand, World, session_at}
+use Rattle.gq_model.specs.machine.World.{Slot, Empty, Bytes, Pool, Link, Waiting, Session, Current, World, session_at}
 use Rattle.gq_model.specs.rules.Kinds.{Kind, Memory, Context}
 use Rattle.gq_laws.specs.Links.{Naming, Leads, Waits, named, naming}
-use Rattle.gq_laws.specs.Typed.{IsKind, AreKinds, HandMeets}
+use Rattle.gq_laws.specs.Typed.{IsKind, AreKinds, CurrentMeets}
 use Rattle.gq_laws.specs.Asking.{promised_anew}
 
 suc_zero : (j : ℕ) → suc j ≢ 0
@@ -64,13 +64,13 @@ module _ (promised : ℕ → Option Kind) (k : ℕ) (kind : Kind) where
   kinds_waiting [] (l ∷ kinds) i f h = absurd h
   kinds_waiting (s ∷ slots) [] i f h = absurd h
 
-  -- the session at hand, with the same slots in another world
-  pub hand_anew : (c : Context) (kinds : List Kind) (v w : World) (hand : Option Hand)
-      → ((g : Hand) (s : Session) → hand ≡ Some g → session_at v g.session ≡ Some s
+  -- the current session, with the same slots in another world
+  pub current_anew : (c : Context) (kinds : List Kind) (v w : World) (current : Option Current)
+      → ((g : Current) (s : Session) → current ≡ Some g → session_at v g.session ≡ Some s
       → (t : Session) × (session_at w g.session ≡ Some t) × (t.slots ≡ s.slots) × (t.object ≡ s.object) × AreFree s.slots × Free s.object)
-      → HandMeets promised c kinds v hand → HandMeets anew c kinds w hand
-  hand_anew c kinds v w None same h = tt
-  hand_anew c kinds v w (Some g) same h =
+      → CurrentMeets promised c kinds v current → CurrentMeets anew c kinds w current
+  current_anew c kinds v w None same h = tt
+  current_anew c kinds v w (Some g) same h =
       let t = same g h.0 refl h.1 in (
         t.0,
         t.1,

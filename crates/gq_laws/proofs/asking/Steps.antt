@@ -16,7 +16,8 @@ use Rattle.gq_model.specs.machine.Scenario.{Interface, interface_in, number_of, 
 use Rattle.gq_model.specs.machine.Routes.{server_of}
 use Rattle.gq_model.specs.declared.fault.Wrong.TheVariants.{WrongKind}
 use Rattle.gq_model.specs.machine.World.{joined, Slot, Empty, Bytes, Pool, Link, Waiting, Spot, In_leaf, In_session, Session, Ask, Ask_open, Ask_upgrade}
-use Rattle.gq_model.specs.machine.World.{Ask_close, Ask_call, Hand, Leaf, World, session_at, with_session, slot_at, with_slot, put_leaf_slot, put_session_slot}
+use Rattle.gq_model.specs.machine.World.{Ask_close, Ask_call, Current, Leaf, World, session_at, with_session, slot_at, with_slot, put_leaf_slot}
+use Rattle.gq_model.specs.machine.World.{put_session_slot}
 use Rattle.gq_model.specs.machine.World.{spot_of}
 use Rattle.gq_model.specs.machine.Doing.{Doing, need, fill, with_operands}
 use Rattle.gq_model.specs.machine.Requests.{add_session, free_place, new_session, asked, link_in}
@@ -26,7 +27,7 @@ use Rattle.gq_model.specs.rules.Kinds.{Kind, Empty_kind, Memory, Pool_kind, Link
 use Rattle.gq_laws.specs.Kept.{Under}
 use Rattle.gq_laws.specs.Links.{Naming, Leads, named, naming_in, outline_in, links, IsLinkedWorld}
 use Rattle.gq_laws.specs.Typed.{IsKind, Meets}
-use Rattle.gq_laws.specs.Statements.{IsSafe, Takes, Grants}
+use Rattle.gq_laws.specs.Statements.{IsSafe, TakesLeaf, Grants}
 use Rattle.gq_laws.specs.Asking.{TellsLinks, IsAsk, IsServed, Awaits, AsksAsRuled}
 use Rattle.gq_model.proofs.Small.{some_same, none_some, set_there}
 use Rattle.gq_laws.proofs.linking.Worlds.{session_here, session_else, slot_requests, leaf_in_slot}
@@ -34,7 +35,7 @@ use Rattle.gq_laws.proofs.linking.Opens.{free_at, add_here, add_else, free_slot}
 use Rattle.gq_laws.proofs.stating.Rules.{safe_need, safe_pop, given_there, popped_there, pushed_there, judged_alone}
 use Rattle.gq_laws.proofs.stating.Memory.{finds, empty_by}
 use Rattle.gq_laws.proofs.stating.Numbers.{under_top}
-use Rattle.gq_laws.proofs.asking.Waits.{Made, IsSlotPlace, same_slots, Hands, asked_safe}
+use Rattle.gq_laws.proofs.asking.Waits.{Made, IsSlotPlace, same_slots, AllCurrent, asked_safe}
 use Rattle.gq_model.proofs.Rules_laws.{ok_same, must_holds}
 
 -- THE LINK THAT A STATEMENT NAMES
@@ -67,7 +68,7 @@ same_given e = cc
 -- the session behind a link, which stands as promised; no other slot names it
 pub record Linked (d : Doing) (place : Place) (service : List ℕ) (level : ℕ) (given : Amount) : Type 0 where
   pub q : Spot
-  pub spot : spot_of d.x d.leaf.hand place ≡ Some q
+  pub spot : spot_of d.x d.leaf.current place ≡ Some q
   pub k : ℕ
   pub there : slot_at d.world q ≡ Some (Link k)
   pub s : Session
@@ -77,9 +78,9 @@ pub record Linked (d : Doing) (place : Place) (service : List ℕ) (level : ℕ)
   pub given_is : given ≡ s.donation
   pub alone : (r : Spot) → r ≢ q → (n : Naming) → naming_in (slot_at d.world r) ≡ Some n → named n ≢ k
 
-module _ (promised : ℕ → Option Kind) (c : Context) (d : Doing) (t : Takes d) (h : IsLinkedWorld d.system d.world) (tells : TellsLinks promised d.world)
+module _ (promised : ℕ → Option Kind) (c : Context) (d : Doing) (t : TakesLeaf d) (h : IsLinkedWorld d.system d.world) (tells : TellsLinks promised d.world)
     (g : Grants promised c d) (state : State) (m : Meets promised c state d.world d.leaf) where
-  linked_by : (place : Place) (service : List ℕ) (level : ℕ) (given : Amount) (q : Spot) → spot_of d.x d.leaf.hand place ≡ Some q → (slot : Slot)
+  linked_by : (place : Place) (service : List ℕ) (level : ℕ) (given : Amount) (q : Spot) → spot_of d.x d.leaf.current place ≡ Some q → (slot : Slot)
       → slot_at d.world q ≡ Some slot → IsKind promised slot (Link_kind service level given) → Linked d place service level given
   linked_by place service level given q spot Empty there is = absurd (empty_link is)
   linked_by place service level given q spot (Bytes form n bytes) there is = absurd (memory_link is.0)
@@ -123,9 +124,9 @@ module _ (promised : ℕ → Option Kind) (c : Context) (d : Doing) (t : Takes d
   keeps_bounds Object kind = refl
 
   -- no session has changed
-  hands_same : (k : ℕ) (kind : Kind) (ask : Ask) (i : Instruction) (is : IsAsk i ask) (place : Place) → IsSlotPlace place
-      → Hands promised c d t state m k kind ask i is place d.world
-  hands_same k kind ask i is place slot g s handed there = (s, there, refl, same_slots k place slot s.slots s.slots refl)
+  all_current_same : (k : ℕ) (kind : Kind) (ask : Ask) (i : Instruction) (is : IsAsk i ask) (place : Place) → IsSlotPlace place
+      → AllCurrent promised c d t state m k kind ask i is place d.world
+  all_current_same k kind ask i is place slot g s handed there = (s, there, refl, same_slots k place slot s.slots s.slots refl)
 
   close_waits : (place : Place) (new : State) → judge c state (Close place) ≡ Ok new → IsSafe (Awaits promised c new (Close place) d) (instruct d (Close place))
   close_waits place new e =
@@ -137,12 +138,12 @@ module _ (promised : ℕ → Option Kind) (c : Context) (d : Doing) (t : Takes d
       let made : Made d k.k Empty_kind Ask_close d.world =
       record { old = t.old; there = t.there; requests = refl; session = k.s; found = k.found; fits = (refl, tt) } in
       subst (λ new. IsSafe (Awaits promised c new (Close place) d) (instruct d (Close place))) (ok_same may.1)
-      (safe_need (spot_of d.x d.leaf.hand place) _ _ k.q k.spot
+      (safe_need (spot_of d.x d.leaf.current place) _ _ k.q k.spot
       (subst (λ o. IsSafe (Awaits promised c (with_kind state place Empty_kind) (Close place) d) (link_in d.world o (λ j s. asked d d.world k.q j Ask_close)))
       (sym k.there)
       (safe_need (session_at d.world k.k) _ _ k.s k.found
       (asked_safe promised c d t state m k.k Empty_kind Ask_close (Close place) refl place k.q d.world d.leaf.operands state.bounds
-      (with_kind state place Empty_kind) slot d.leaf.hand refl k.spot k.alone made (hands_same k.k Empty_kind Ask_close (Close place) refl place slot)
+      (with_kind state place Empty_kind) slot d.leaf.current refl k.spot k.alone made (all_current_same k.k Empty_kind Ask_close (Close place) refl place slot)
       (keeps_bounds place Empty_kind) m.operands))))
 
   -- a call: the operand is taken, and the reply is not there yet
@@ -193,19 +194,19 @@ module _ (promised : ℕ → Option Kind) (c : Context) (d : Doing) (t : Takes d
       let after : State = record state { bounds = i.0.reply ∷ p.1 } in
       subst (λ new. IsSafe (Awaits promised c new (Call place) d) (instruct d (Call place))) (sym (pushed_there i.0.reply taken new fits.1).1)
       (safe_pop d.leaf.operands _ u.0 u.1 u.2
-      (safe_need (spot_of d.x d.leaf.hand place) _ _ k.q k.spot
+      (safe_need (spot_of d.x d.leaf.current place) _ _ k.q k.spot
       (subst (λ o. IsSafe (Awaits promised c after (Call place) d)
       (link_in d.world o (λ j s. asked (record d { leaf = with_operands d u.1 }) d.world k.q j (Ask_call u.0)))) (sym k.there)
       (safe_need (session_at d.world k.k) _ _ k.s k.found
       (asked_safe promised c d t state m k.k kind (Ask_call u.0) (Call place)
-      (u.0, refl) place k.q d.world u.1 p.1 after slot d.leaf.hand refl k.spot k.alone made
-      (hands_same k.k kind (Ask_call u.0) (Call place) (u.0, refl) place slot) stays u.4)))))
+      (u.0, refl) place k.q d.world u.1 p.1 after slot d.leaf.current refl k.spot k.alone made
+      (all_current_same k.k kind (Ask_call u.0) (Call place) (u.0, refl) place slot) stays u.4)))))
 
   -- an upgrade: the session has a greater donation
-  hands_given : (k : ℕ) (kind : Kind) (ask : Ask) (i : Instruction) (is : IsAsk i ask) (place : Place) → IsSlotPlace place → (s : Session)
-      → session_at d.world k ≡ Some s → (more : Amount) → Hands promised c d t state m k kind ask i is place
+  current_given : (k : ℕ) (kind : Kind) (ask : Ask) (i : Instruction) (is : IsAsk i ask) (place : Place) → IsSlotPlace place → (s : Session)
+      → session_at d.world k ≡ Some s → (more : Amount) → AllCurrent promised c d t state m k kind ask i is place
       (with_session d.world k (record s { donation = more }))
-  hands_given k kind ask i is place slot s found more g u handed there =
+  current_given k kind ask i is place slot s found more g u handed there =
       elim (eqb_tells g.session k) [
         | inl a ↦ (let same : s ≡ u = some_same (sym found ∙ (ap (session_at d.world) (sym a.1) ∙ there)) in (
           record s { donation = more },
@@ -245,15 +246,15 @@ module _ (promised : ℕ → Option Kind) (c : Context) (d : Doing) (t : Takes d
             (λ j. Link_kind (k.service_is j) (suc (k.level_is j)) (plus (k.given_is j) (amount n (caps j))), tt);
       } in
       subst (λ new. IsSafe (Awaits promised c new (Upgrade place n) d) (instruct d (Upgrade place n))) (ok_same enough.1)
-      (safe_need (spot_of d.x d.leaf.hand place) _ _ k.q k.spot
+      (safe_need (spot_of d.x d.leaf.current place) _ _ k.q k.spot
       (subst (λ o. IsSafe (Awaits promised c (with_kind state place kind) (Upgrade place n) d)
       (link_in d.world o (λ j s. asked d (with_session d.world j
       (record s { donation = plus s.donation (amount n (upgrade_caps (interface_in s.service d.system.interfaces) s.level)) })) k.q j Ask_upgrade)))
       (sym k.there)
       (safe_need (session_at d.world k.k) _ _ k.s k.found
       (asked_safe promised c d t state m k.k kind Ask_upgrade (Upgrade place n) refl place k.q w d.leaf.operands state.bounds
-      (with_kind state place kind) slot d.leaf.hand refl k.spot k.alone made
-      (hands_given k.k kind Ask_upgrade (Upgrade place n) refl place slot k.s k.found more) (keeps_bounds place kind) m.operands))))
+      (with_kind state place kind) slot d.leaf.current refl k.spot k.alone made
+      (current_given k.k kind Ask_upgrade (Upgrade place n) refl place slot k.s k.found more) (keeps_bounds place kind) m.operands))))
 
   -- an open: a session at the first free place
   empty_place : (place : Place) (kind : Kind) → kind_at c state place ≡ Some kind → is_empty_kind kind ≡ true → IsSlotPlace place
@@ -297,26 +298,27 @@ module _ (promised : ℕ → Option Kind) (c : Context) (d : Doing) (t : Takes d
       (sym there)
       (session_here d.world j u (record u { slots = slice_set u.slots at (Waiting place_free) }) there)
 
-  hands_opened : (kind : Kind) (i : Instruction) (is : IsAsk i Ask_open) (s : Session) (place : Place) (hand : Option Hand) (q : Spot) → IsSlotPlace place
-      → d.leaf.hand ≡ hand → spot_of d.x hand place ≡ Some q → Hands promised c d t state m place_free kind Ask_open i is place (opened_world s q)
-  hands_opened kind i is s (Own at) hand q slot handed spot g u here there = (
+  current_opened : (kind : Kind) (i : Instruction) (is : IsAsk i Ask_open) (s : Session) (place : Place) (current : Option Current) (q : Spot)
+      → IsSlotPlace place
+      → d.leaf.current ≡ current → spot_of d.x current place ≡ Some q → AllCurrent promised c d t state m place_free kind Ask_open i is place (opened_world s q)
+  current_opened kind i is s (Own at) current q slot handed spot g u here there = (
     u,
     opened_else s q g.session (is_else g.session u there)
         ∙ (ap (λ q. session_at (filled q) g.session) (sym (some_same spot)) ∙ (own_sessions at g.session ∙ there)),
     refl,
     refl,
   )
-  hands_opened kind i is s (Shared at) None q slot handed spot g u here there = absurd (none_some spot)
-  hands_opened kind i is s (Shared at) (Some f) q slot handed spot g u here there =
+  current_opened kind i is s (Shared at) None q slot handed spot g u here there = absurd (none_some spot)
+  current_opened kind i is s (Shared at) (Some f) q slot handed spot g u here there =
       let same : f ≡ g = some_same (sym handed ∙ here) in
-      let at_hand : In_session g.session at ≡ q = ap (λ (f : Hand). In_session f.session at) (sym same) ∙ some_same spot in (
+      let at_current : In_session g.session at ≡ q = ap (λ (f : Current). In_session f.session at) (sym same) ∙ some_same spot in (
         record u { slots = slice_set u.slots at (Waiting place_free) },
         opened_else s q g.session (is_else g.session u there)
-            ∙ (ap (λ q. session_at (filled q) g.session) (sym at_hand) ∙ shared_session g.session at u there),
+            ∙ (ap (λ q. session_at (filled q) g.session) (sym at_current) ∙ shared_session g.session at u there),
         refl,
         set-set u.slots at (Waiting place_free) (Waiting place_free),
       )
-  hands_opened kind i is s Object hand q slot handed spot g u here there = absurd slot
+  current_opened kind i is s Object current q slot handed spot g u here there = absurd slot
 
   open_waits : (place : Place) (service : List ℕ) (n : ℕ) (new : State) (server : ℕ) → server_of d.system d.component service ≡ Some server
       → judge c state (Open place service n) ≡ Ok new → IsSafe (Awaits promised c new (Open place service n) d) (instruct d (Open place service n))
@@ -349,7 +351,7 @@ module _ (promised : ℕ → Option Kind) (c : Context) (d : Doing) (t : Takes d
       none_some (sym (ap outline_in (free_at d.world.sessions)) ∙ (ap (links d.world).sessions (sym same) ∙ v.1))) in
       let P = Awaits promised c (with_kind state place kind) (Open place service n) d in
       subst (λ new. IsSafe (Awaits promised c new (Open place service n) d) (instruct d (Open place service n))) (ok_same enough.1)
-      (safe_need (spot_of d.x d.leaf.hand place) _ _ f.q f.named
+      (safe_need (spot_of d.x d.leaf.current place) _ _ f.q f.named
       (subst (λ o. IsSafe P (fill d.world f.q o (Waiting place_free)
       (λ u. need (server_of d.system d.component service) WrongKind
       (λ server. asked d (record u {
@@ -359,8 +361,8 @@ module _ (promised : ℕ → Option Kind) (c : Context) (d : Doing) (t : Takes d
       (sym (f.there ∙ ap Some none))
       (safe_need (server_of d.system d.component service) _ _ server served
       (asked_safe promised c d t state m place_free kind Ask_open (Open place service n) refl place f.q w d.leaf.operands state.bounds
-      (with_kind state place kind) slot d.leaf.hand refl f.named alone made
-      (hands_opened kind (Open place service n) refl s place d.leaf.hand f.q slot refl f.named) (keeps_bounds place kind) m.operands))))
+      (with_kind state place kind) slot d.leaf.current refl f.named alone made
+      (current_opened kind (Open place service n) refl s place d.leaf.current f.q slot refl f.named) (keeps_bounds place kind) m.operands))))
 
   asks_by : (new : State) (i : Instruction) → IsServed d i → judge c state i ≡ Ok new → IsSafe (Awaits promised c new i d) (instruct d i)
   asks_by new (Open place service n) served e = open_waits place service n new served.0 served.1 e
@@ -369,6 +371,6 @@ module _ (promised : ℕ → Option Kind) (c : Context) (d : Doing) (t : Takes d
   asks_by new (Close place) served e = close_waits place new e
   asks_by new _ served e = absurd served
 
-pub asks_ruled : (promised : ℕ → Option Kind) (c : Context) (d : Doing) → Takes d → IsLinkedWorld d.system d.world → TellsLinks promised d.world
+pub asks_ruled : (promised : ℕ → Option Kind) (c : Context) (d : Doing) → TakesLeaf d → IsLinkedWorld d.system d.world → TellsLinks promised d.world
     → Grants promised c d → AsksAsRuled promised c d
 asks_ruled promised c d t h tells g state new i served m e = asks_by promised c d t h tells g state m new i served (judged_alone c state i new e)

@@ -8,7 +8,7 @@ use Rattle.gq_model.specs.declared.program.Form.TheVariants.{Slice}
 use Rattle.gq_model.specs.declared.phase.Phase.TheVariants.{Blocked}
 use Rattle.gq_model.specs.declared.program.Instruction.{Instruction}
 use Rattle.gq_model.specs.machine.Scenario.{number_of}
-use Rattle.gq_model.specs.machine.World.{Slot, Waiting, Spot, In_leaf, In_session, In_object, Session, Ask, Ask_open, Ask_upgrade, Ask_close, Ask_call, Hand}
+use Rattle.gq_model.specs.machine.World.{Slot, Waiting, Spot, In_leaf, In_session, In_object, Session, Ask, Ask_open, Ask_upgrade, Ask_close, Ask_call, Current}
 use Rattle.gq_model.specs.machine.World.{Leaf, World, session_at, with_leaf, with_session, leaf_slot, session_slot, session_object, with_slot, put_leaf_slot}
 use Rattle.gq_model.specs.machine.World.{put_session_slot, spot_of}
 use Rattle.gq_model.specs.machine.Doing.{Doing, Quiet, with_operands}
@@ -17,13 +17,13 @@ use Rattle.gq_model.specs.machine.Step.{section_for}
 use Rattle.gq_model.specs.rules.Kinds.{Kind, Memory, State, Context, with_kind}
 use Rattle.gq_laws.specs.Kept.{Under, level_then, kind_replied}
 use Rattle.gq_laws.specs.Links.{Naming, named, naming_in, Links, links}
-use Rattle.gq_laws.specs.Typed.{IsKind, AreKinds, IsAtHand, BankMeets, HandMeets, AreCounts, Meets}
-use Rattle.gq_laws.specs.Statements.{IsSafe, Takes}
+use Rattle.gq_laws.specs.Typed.{IsKind, AreKinds, IsCurrent, BankMeets, CurrentMeets, AreCounts, Meets}
+use Rattle.gq_laws.specs.Statements.{IsSafe, TakesLeaf}
 use Rattle.gq_laws.specs.Asking.{promised_anew, while_waiting, IsAsk, IsWithin, Awaits}
 use Rattle.gq_model.proofs.Small.{some_same, none_some}
 use Rattle.gq_laws.proofs.linking.Worlds.{set_here, session_here, session_else}
 use Rattle.gq_laws.proofs.stating.Rules.{safe_gives, safe_tested}
-use Rattle.gq_laws.proofs.asking.Slots.{Free, kind_anew, kinds_anew, kinds_waiting, hand_anew}
+use Rattle.gq_laws.proofs.asking.Slots.{Free, kind_anew, kinds_anew, kinds_waiting, current_anew}
 
 -- what is asked is of a session that stands so
 abbrev pub Fits : Doing → Ask → Kind → Session → Type 0
@@ -54,11 +54,12 @@ module _ (promised : ℕ → Option Kind) (c : Context) (d : Doing) (k : ℕ) (k
   requested u = record u { requests = u.requests ++ record { session = k; ask = ask } ∷ [] }
 
   -- its own slot waits
-  own_awaits : (at : ℕ) → Made d k kind ask w → IsAtHand c.section d.leaf.hand → AreKinds m (slice_set d.leaf.slots at (Waiting k)) (while_waiting i state).own
-      → HandMeets m c (while_waiting i state).bank w d.leaf.hand → Under ops (while_waiting i state).bounds → Under d.leaf.locals c.subject.program.locals
+  own_awaits : (at : ℕ) → Made d k kind ask w → IsCurrent c.section d.leaf.current
+      → AreKinds m (slice_set d.leaf.slots at (Waiting k)) (while_waiting i state).own
+      → CurrentMeets m c (while_waiting i state).bank w d.leaf.current → Under ops (while_waiting i state).bounds → Under d.leaf.locals c.subject.program.locals
       → AreCounts d.leaf.loops c.counts
       → Awaits promised c state i d (requested (with_slot v (In_leaf d.x at) (Waiting k)))
-  own_awaits at made hand own bank operands locals loops =
+  own_awaits at made current own bank operands locals loops =
       let leaf : Leaf = record blocked { slots = slice_set d.leaf.slots at (Waiting k) } in
       let here : slice_get v.leaves d.x ≡ Some blocked = set_here w.leaves d.x blocked made.old made.there in
       subst (λ o. Awaits promised c state i d (requested (put_leaf_slot v o d.x at (Waiting k)))) (sym here)
@@ -67,10 +68,10 @@ module _ (promised : ℕ → Option Kind) (c : Context) (d : Doing) (k : ℕ) (k
         kind = kind;
         leaf = leaf;
         there = set_here v.leaves d.x leaf blocked here;
-        meets = record { own = own; hand = hand; bank = at_hand d.leaf.hand bank; operands = operands; locals = locals; loops = loops };
+        meets = record { own = own; current = current; bank = at_current d.leaf.current bank; operands = operands; locals = locals; loops = loops };
         todo = refl;
         loops = refl;
-        hand = refl;
+        current = refl;
         phase = refl;
         ask = ask;
         is = is;
@@ -81,10 +82,11 @@ module _ (promised : ℕ → Option Kind) (c : Context) (d : Doing) (k : ℕ) (k
         argument = made.fits.1;
       })
     where
-      at_hand : (hand : Option Hand) → HandMeets m c (while_waiting i state).bank w hand
-          → HandMeets m c (while_waiting i state).bank (requested (with_leaf v d.x (record blocked { slots = slice_set d.leaf.slots at (Waiting k) }))) hand
-      at_hand None h = tt
-      at_hand (Some g) h = h
+      at_current : (current : Option Current) → CurrentMeets m c (while_waiting i state).bank w current
+          → CurrentMeets m c (while_waiting i state).bank
+          (requested (with_leaf v d.x (record blocked { slots = slice_set d.leaf.slots at (Waiting k) }))) current
+      at_current None h = tt
+      at_current (Some g) h = h
 
   fits_slots : (ask : Ask) (s : Session) (slots : List Slot) → Fits d ask kind s → Fits d ask kind (record s { slots = slots })
   fits_slots Ask_open s slots f = f
@@ -92,13 +94,13 @@ module _ (promised : ℕ → Option Kind) (c : Context) (d : Doing) (k : ℕ) (k
   fits_slots Ask_close s slots f = f
   fits_slots (Ask_call value) s slots f = f
 
-  -- a slot of the session at hand waits
-  shared_awaits : (g : Hand) (at : ℕ) → d.leaf.hand ≡ Some g → Made d k kind ask w → IsAtHand c.section d.leaf.hand
+  -- a slot of the current session waits
+  shared_awaits : (g : Current) (at : ℕ) → d.leaf.current ≡ Some g → Made d k kind ask w → IsCurrent c.section d.leaf.current
       → AreKinds m d.leaf.slots (while_waiting i state).own
       → (s : Session) → session_at w g.session ≡ Some s → BankMeets m c (while_waiting i state).bank (record s { slots = slice_set s.slots at (Waiting k) })
       → Under ops (while_waiting i state).bounds → Under d.leaf.locals c.subject.program.locals → AreCounts d.leaf.loops c.counts
       → Awaits promised c state i d (requested (with_slot v (In_session g.session at) (Waiting k)))
-  shared_awaits g at handed made hand own s found bank operands locals loops =
+  shared_awaits g at handed made current own s found bank operands locals loops =
       let t : Session = record s { slots = slice_set s.slots at (Waiting k) } in
       let here : slice_get v.leaves d.x ≡ Some blocked = set_here w.leaves d.x blocked made.old made.there in
       let mine : (u : Session) × (session_at (with_session v g.session t) k ≡ Some u) × Fits d ask kind u = elim (eqb_tells k g.session) [
@@ -119,8 +121,8 @@ module _ (promised : ℕ → Option Kind) (c : Context) (d : Doing) (k : ℕ) (k
         there = here;
         meets = record {
           own = own;
-          hand = hand;
-          bank = subst (HandMeets m c (while_waiting i state).bank (requested (with_session v g.session t))) (sym handed)
+          current = current;
+          bank = subst (CurrentMeets m c (while_waiting i state).bank (requested (with_session v g.session t))) (sym handed)
               (t, session_here v g.session s t found, bank);
           operands = operands;
           locals = locals;
@@ -128,7 +130,7 @@ module _ (promised : ℕ → Option Kind) (c : Context) (d : Doing) (k : ℕ) (k
         };
         todo = refl;
         loops = refl;
-        hand = refl;
+        current = refl;
         phase = refl;
         ask = ask;
         is = is;
@@ -163,7 +165,7 @@ session_place j a b ne e = ne (number e)
     number : {j a b : ℕ} → In_session j a ≡ In_session j b → a ≡ b
     number e = cc
 
--- the slots of the session at hand are as they were, but for the one that will wait
+-- the slots of the current session are as they were, but for the one that will wait
 abbrev pub SameSlots : ℕ → Place → List Slot → List Slot → Type 0
 SameSlots k (Own i) a b = a ≡ b
 SameSlots k (Shared i) a b = slice_set a i (Waiting k) ≡ slice_set b i (Waiting k)
@@ -179,7 +181,8 @@ same_slots k (Own i) is_slot a b e = e
 same_slots k (Shared i) is_slot a b e = ap (λ l. slice_set l i (Waiting k)) e
 same_slots k Object is_slot a b e = absurd is_slot
 
-module _ (promised : ℕ → Option Kind) (c : Context) (d : Doing) (t : Takes d) (state : State) (m : Meets promised c state d.world d.leaf) (k : ℕ) (kind : Kind)
+module _ (promised : ℕ → Option Kind) (c : Context) (d : Doing) (t : TakesLeaf d) (state : State) (m : Meets promised c state d.world d.leaf) (k : ℕ)
+    (kind : Kind)
     (ask : Ask) (i : Instruction) (is : IsAsk i ask) where
   abbrev L : Links
   L = links d.world
@@ -192,28 +195,28 @@ module _ (promised : ℕ → Option Kind) (c : Context) (d : Doing) (t : Takes d
   own_free q alone j s ne e n names = alone (In_leaf d.x j) ne n (ap (λ o. naming_in (leaf_slot o j)) t.there
       ∙ (ap (λ l. naming_in (slice_get l j)) (sym t.slots) ∙ (ap naming_in e ∙ names)))
 
-  bank_free : (q : Spot) → Alone q → (g : Hand) (u : Session) → session_at d.world g.session ≡ Some u → (j : ℕ) (s : Slot) → In_session g.session j ≢ q
+  bank_free : (q : Spot) → Alone q → (g : Current) (u : Session) → session_at d.world g.session ≡ Some u → (j : ℕ) (s : Slot) → In_session g.session j ≢ q
       → slice_get u.slots j ≡ Some s → Free promised k kind s
   bank_free q alone g u there j s ne e n names = alone (In_session g.session j) ne n (ap (λ o. naming_in (session_slot o j)) there ∙ (ap naming_in e ∙ names))
 
-  object_free : (q : Spot) → Alone q → (g : Hand) (u : Session) → session_at d.world g.session ≡ Some u → In_object g.session ≢ q
+  object_free : (q : Spot) → Alone q → (g : Current) (u : Session) → session_at d.world g.session ≡ Some u → In_object g.session ≢ q
       → Free promised k kind u.object
   object_free q alone g u there ne n names = alone (In_object g.session) ne n (ap (λ o. naming_in (session_object o)) there ∙ names)
 
-  -- the session at hand, in the world that is made ready
-  abbrev pub Hands : Place → World → Type 0
-  Hands place w = (g : Hand) (s : Session) → d.leaf.hand ≡ Some g → session_at d.world g.session ≡ Some s
+  -- the current session, in the world that is made ready
+  abbrev pub AllCurrent : Place → World → Type 0
+  AllCurrent place w = (g : Current) (s : Session) → d.leaf.current ≡ Some g → session_at d.world g.session ≡ Some s
       → (u : Session) × (session_at w g.session ≡ Some u) × (u.object ≡ s.object) × SameSlots k place u.slots s.slots
 
   abbrev Safe : State → List ℕ → World → Spot → Type 0
   Safe new ops w q = IsSafe (Awaits promised c new i d) (asked (record d { leaf = with_operands d ops }) w q k ask)
 
-  asked_own : (at : ℕ) (w : World) (ops bounds : List ℕ) (new : State) → Alone (In_leaf d.x at) → Made d k kind ask w → Hands (Own at) w
+  asked_own : (at : ℕ) (w : World) (ops bounds : List ℕ) (new : State) → Alone (In_leaf d.x at) → Made d k kind ask w → AllCurrent (Own at) w
       → while_waiting i new ≡ record (with_kind state (Own at) kind) { bounds = bounds } → Under ops bounds → Safe new ops w (In_leaf d.x at)
-  asked_own at w ops bounds new alone made hands stays under =
+  asked_own at w ops bounds new alone made all_current stays under =
       let own = kinds_waiting promised k kind d.leaf.slots state.own at (λ j s ne e. own_free (In_leaf d.x at) alone j s (leaf_place d.x j at ne) e) m.own in
-      let bank = hand_anew promised k kind c state.bank d.world w d.leaf.hand
-      (λ g s e there. (let u = hands g s e there in (
+      let bank = current_anew promised k kind c state.bank d.world w d.leaf.current
+      (λ g s e there. (let u = all_current g s e there in (
         u.0,
         u.1,
         u.3,
@@ -221,18 +224,18 @@ module _ (promised : ℕ → Option Kind) (c : Context) (d : Doing) (t : Takes d
         λ j x f. bank_free (In_leaf d.x at) alone g s there j x (session_leaf g.session j d.x at) f,
         object_free (In_leaf d.x at) alone g s there (object_leaf g.session d.x at),
       ))) m.bank in
-      safe_tested _ _ (safe_gives _ Quiet (own_awaits promised c d k kind ask i is new ops w at made m.hand
+      safe_tested _ _ (safe_gives _ Quiet (own_awaits promised c d k kind ask i is new ops w at made m.current
       (subst (λ (u : State). AreKinds (promised_anew promised k kind) (slice_set d.leaf.slots at (Waiting k)) u.own) (sym stays) own)
-      (subst (λ (u : State). HandMeets (promised_anew promised k kind) c u.bank w d.leaf.hand) (sym stays) bank)
+      (subst (λ (u : State). CurrentMeets (promised_anew promised k kind) c u.bank w d.leaf.current) (sym stays) bank)
       (subst (λ (u : State). Under ops u.bounds) (sym stays) under) m.locals m.loops))
 
-  asked_shared : (g : Hand) (at : ℕ) (w : World) (ops bounds : List ℕ) (new : State) → d.leaf.hand ≡ Some g → Alone (In_session g.session at)
-      → Made d k kind ask w → Hands (Shared at) w → while_waiting i new ≡ record (with_kind state (Shared at) kind) { bounds = bounds } → Under ops bounds
+  asked_shared : (g : Current) (at : ℕ) (w : World) (ops bounds : List ℕ) (new : State) → d.leaf.current ≡ Some g → Alone (In_session g.session at)
+      → Made d k kind ask w → AllCurrent (Shared at) w → while_waiting i new ≡ record (with_kind state (Shared at) kind) { bounds = bounds } → Under ops bounds
       → Safe new ops w (In_session g.session at)
-  asked_shared g at w ops bounds new handed alone made hands stays under =
+  asked_shared g at w ops bounds new handed alone made all_current stays under =
       let q : Spot = In_session g.session at in
-      let b = subst (HandMeets promised c state.bank d.world) handed m.bank in
-      let u = hands g b.0 handed b.1 in
+      let b = subst (CurrentMeets promised c state.bank d.world) handed m.bank in
+      let u = all_current g b.0 handed b.1 in
       let own = kinds_anew promised k kind d.leaf.slots state.own (λ j s e. own_free q alone j s (leaf_session d.x j g.session at) e) m.own in
       let slots = kinds_waiting promised k kind b.0.slots state.bank at
       (λ j s ne e. bank_free q alone g b.0 b.1 j s (session_place g.session j at ne) e) b.2.slots in
@@ -243,18 +246,19 @@ module _ (promised : ℕ → Option Kind) (c : Context) (d : Doing) (t : Takes d
         object = subst (λ o. IsKind (promised_anew promised k kind) o (Memory Slice (number_of c.subject.provided (λ i. i.object)))) (sym u.2) object;
       }
       in
-      safe_tested _ _ (safe_gives _ Quiet (shared_awaits promised c d k kind ask i is new ops w g at handed made m.hand
+      safe_tested _ _ (safe_gives _ Quiet (shared_awaits promised c d k kind ask i is new ops w g at handed made m.current
       (subst (λ (u : State). AreKinds (promised_anew promised k kind) d.leaf.slots u.own) (sym stays) own) u.0 u.1
       (subst (λ (v : State). BankMeets (promised_anew promised k kind) c v.bank (record u.0 { slots = slice_set u.0.slots at (Waiting k) })) (sym stays) meets)
       (subst (λ (u : State). Under ops u.bounds) (sym stays) under) m.locals m.loops))
 
-  pub asked_safe : (place : Place) (q : Spot) (w : World) (ops bounds : List ℕ) (new : State) → IsSlotPlace place → (hand : Option Hand) → d.leaf.hand ≡ hand
-      → spot_of d.x hand place ≡ Some q → Alone q → Made d k kind ask w → Hands place w
+  pub asked_safe : (place : Place) (q : Spot) (w : World) (ops bounds : List ℕ) (new : State) → IsSlotPlace place → (current : Option Current)
+      → d.leaf.current ≡ current
+      → spot_of d.x current place ≡ Some q → Alone q → Made d k kind ask w → AllCurrent place w
       → while_waiting i new ≡ record (with_kind state place kind) { bounds = bounds } → Under ops bounds → Safe new ops w q
-  asked_safe (Own at) q w ops bounds new is_slot hand handed spot alone made hands stays under =
-      subst (λ q. Safe new ops w q) (some_same spot) (asked_own at w ops bounds new (subst Alone (sym (some_same spot)) alone) made hands stays under)
-  asked_safe (Shared at) q w ops bounds new is_slot None handed spot alone made hands stays under = absurd (none_some spot)
-  asked_safe (Shared at) q w ops bounds new is_slot (Some g) handed spot alone made hands stays under =
+  asked_safe (Own at) q w ops bounds new is_slot current handed spot alone made all_current stays under =
+      subst (λ q. Safe new ops w q) (some_same spot) (asked_own at w ops bounds new (subst Alone (sym (some_same spot)) alone) made all_current stays under)
+  asked_safe (Shared at) q w ops bounds new is_slot None handed spot alone made all_current stays under = absurd (none_some spot)
+  asked_safe (Shared at) q w ops bounds new is_slot (Some g) handed spot alone made all_current stays under =
       subst (λ q. Safe new ops w q) (some_same spot) (asked_shared g at w ops bounds new handed
-      (subst Alone (sym (some_same spot)) alone) made hands stays under)
-  asked_safe Object q w ops bounds new is_slot hand handed spot alone made hands stays under = absurd is_slot
+      (subst Alone (sym (some_same spot)) alone) made all_current stays under)
+  asked_safe Object q w ops bounds new is_slot current handed spot alone made all_current stays under = absurd is_slot

@@ -23,7 +23,7 @@ use Rattle.gq_model.specs.rules.Use.{subject, from_sections, provided_by, steps_
 use Rattle.gq_laws.specs.Links.{outline, outline_in, IsLinkedWorld}
 use Rattle.gq_laws.specs.internal.Remaining.{left_requests}
 use Rattle.gq_laws.specs.Typed.{Meets}
-use Rattle.gq_laws.specs.Statements.{Takes, Grants}
+use Rattle.gq_laws.specs.Statements.{TakesLeaf, Grants}
 use Rattle.gq_laws.specs.Asking.{promised_anew, IsServed, Awaits}
 use Rattle.gq_laws.specs.Typing.{section_of, IsTypedBy}
 use Rattle.gq_laws.specs.internal.Carrying.{Carries}
@@ -87,24 +87,24 @@ module _ (system : System) (z x : ℕ) (section : Section) (service : List ℕ) 
 
 -- ASKING
 
-module _ (promised : ℕ → Option Kind) (left : Requests) (d : Doing) (sure : IsSure d.system) (named : ProvidesNamed d.system) (takes : Takes d)
+module _ (promised : ℕ → Option Kind) (left : Requests) (d : Doing) (sure : IsSure d.system) (named : ProvidesNamed d.system) (takes : TakesLeaf d)
     (h : IsLinkedWorld d.system d.world) (t : IsTypedBy promised (Within d.system left) d.system d.world)
     (at : slice_get d.system.components d.x ≡ Some d.component)
     (own : IsOneOn d takes) (w : World) (linked : IsLinkedWorld d.system w) (stepped : (leaf : Leaf) → slice_get w.leaves d.x ≡ Some leaf
     → leaf.steps ≡ d.leaf.steps) (a : Acts promised (Within d.system left) d)
     (i : Instruction) (rest : Statements) (first : d.leaf.todo ≡ Do i rest) (served : IsServed (with_rest d rest) i) (new : State)
-    (judges : judged (within (context (subject d.system d.component) (section_of d.leaf.hand)) d.leaf.loops) a.state i ≡ Ok new)
-    (goes_on : Continues (context (subject d.system d.component) (section_of d.leaf.hand)) new rest d.leaf.loops a.end) (event : Event)
+    (judges : judged (within (context (subject d.system d.component) (section_of d.leaf.current)) d.leaf.loops) a.state i ≡ Ok new)
+    (goes_on : Continues (context (subject d.system d.component) (section_of d.leaf.current)) new rest d.leaf.loops a.end) (event : Event)
     (is : instruct (with_rest d rest) i ≡ Ok (w, event))
-    (awaits : Awaits promised (within (context (subject d.system d.component) (section_of d.leaf.hand)) d.leaf.loops) new i (with_rest d rest) w) where
+    (awaits : Awaits promised (within (context (subject d.system d.component) (section_of d.leaf.current)) d.leaf.loops) new i (with_rest d rest) w) where
   abbrev c : Context
-  c = context (subject d.system d.component) (section_of d.leaf.hand)
+  c = context (subject d.system d.component) (section_of d.leaf.current)
 
   abbrev s : Session
   s = awaits.session
 
-  taken : Takes (with_rest d rest)
-  taken = record { old = takes.old; there = takes.there; slots = takes.slots; phase = takes.phase; hand = takes.hand }
+  taken : TakesLeaf (with_rest d rest)
+  taken = record { old = takes.old; there = takes.there; slots = takes.slots; phase = takes.phase; current = takes.current }
 
   active : d.leaf.phase ≢ Blocked
   active = not_blocked promised (Within d.system left) d sure takes h t at a.active
@@ -149,10 +149,18 @@ module _ (promised : ℕ → Option Kind) (left : Requests) (d : Doing) (sure : 
   left_then y service q = left y service q - further y service q
 
   g : Grants promised (within c d.leaf.loops) (with_rest d rest)
-  g = grants promised (Within d.system left) (with_rest d rest) sure h t (section_of d.leaf.hand) (counts_of d.leaf.loops) taken active at
+  g = grants promised (Within d.system left) (with_rest d rest) sure h t (section_of d.leaf.current) (counts_of d.leaf.loops) taken active at
 
   meets : Meets promised (within c d.leaf.loops) a.state d.world (record d.leaf { todo = rest })
-  meets = record { own = a.meets.own; hand = a.meets.hand; bank = a.meets.bank; operands = a.meets.operands; locals = a.meets.locals; loops = a.meets.loops }
+  meets = record {
+    own = a.meets.own;
+    current = a.meets.current;
+    bank = a.meets.bank;
+    operands = a.meets.operands;
+    locals = a.meets.locals;
+    loops =
+        a.meets.loops;
+  }
 
   -- the request is one of those that were left
   among : (service : List ℕ) (q : Section) → further d.x service q + left_requests service q c new rest d.leaf.loops ≤ left d.x service q
@@ -240,10 +248,10 @@ module _ (promised : ℕ → Option Kind) (left : Requests) (d : Doing) (sure : 
   carries y from state todo loops ne b e placed service q = let most = b e placed service q in let none = further_else y ne service q in
       omega (arith, most, none)
 
-  within_left : Within d.system left_then d.x (section_of d.leaf.hand) new rest d.leaf.loops
+  within_left : Within d.system left_then d.x (section_of d.leaf.current) new rest d.leaf.loops
   unfolding left_then
   within_left b placed service q =
-      subst (λ b. left_requests service q (context (subject d.system b) (section_of d.leaf.hand)) new rest d.leaf.loops ≤ left_then d.x service q)
+      subst (λ b. left_requests service q (context (subject d.system b) (section_of d.leaf.current)) new rest d.leaf.loops ≤ left_then d.x service q)
       (some_same (sym at ∙ placed))
       (let most = among service q in omega (arith, most))
 

@@ -7,7 +7,7 @@ use Rattle.gq_model.specs.declared.phase.Phase.{Phase}
 use Rattle.gq_model.specs.declared.phase.Phase.TheVariants.{Pending, Running, Blocked, Serving, Handling, Exited}
 use Rattle.gq_model.specs.machine.Program.{Done}
 use Rattle.gq_model.specs.machine.Scenario.{Component}
-use Rattle.gq_model.specs.machine.World.{Slot, Session, Hand, Leaf, World, session_at}
+use Rattle.gq_model.specs.machine.World.{Slot, Session, Current, Leaf, World, session_at}
 use Rattle.gq_model.specs.machine.Doing.{Doing, Event, Quiet, Finished, standing}
 use Rattle.gq_model.specs.machine.Step.{is_named, released, all_released, exited, exit_of, serving, resumed, main_ended, section_ended}
 use Rattle.gq_model.specs.rules.Kinds.{Kind, State, Context}
@@ -17,7 +17,7 @@ use Rattle.gq_laws.specs.internal.Counting.{rounds_cost}
 use Rattle.gq_model.specs.rules.Use.{subject}
 use Rattle.gq_laws.specs.Links.{stance, IsLinkedWorld}
 use Rattle.gq_laws.specs.Typed.{Meets}
-use Rattle.gq_laws.specs.Statements.{Takes}
+use Rattle.gq_laws.specs.Statements.{TakesLeaf}
 use Rattle.gq_laws.specs.Replies.{HasEnded, Replies, slot_replied, own_then, resuming}
 use Rattle.gq_laws.specs.Typing.{section_of, IsTypedBy}
 use Rattle.gq_laws.specs.internal.Counting.{Often, Requests, ahead, served_at, waiting_in, Within, Counts, IsCounted}
@@ -72,7 +72,7 @@ released_back name (c ∷ cs) (old ∷ leaves) (suc y) leaf there = released_bac
 
 -- THE END OF `main`
 
-module _ (left : Requests) (d : Doing) (takes : Takes d) where
+module _ (left : Requests) (d : Doing) (takes : TakesLeaf d) where
   -- one leaf has ended its section, and all others are as they were
   module _ (new : Leaf) (ends : Costs new takes.old) where
     standing_leaves : (y : ℕ) (leaf : Leaf) → slice_get (standing d new).leaves y ≡ Some leaf
@@ -107,17 +107,17 @@ module _ (left : Requests) (d : Doing) (takes : Takes d) where
 
 -- a client that waited goes on with what it had left
 resuming_costs : (leaf : Leaf) (operands : List ℕ) (slots : List Slot) → leaf.phase ≡ Blocked → Costs (resuming leaf operands slots) leaf
-resuming_costs leaf operands slots blocked = by leaf.hand
+resuming_costs leaf operands slots blocked = by leaf.current
   where
     was : ahead leaf leaf.phase ≡ all_left leaf
     was = ap (ahead leaf) blocked
 
-    by : (hand : Option Hand) → leaf.steps + ahead (record leaf { phase = resumed hand; operands = operands; slots = slots }) (resumed hand)
+    by : (current : Option Current) → leaf.steps + ahead (record leaf { phase = resumed current; operands = operands; slots = slots }) (resumed current)
         ≤ leaf.steps + ahead leaf leaf.phase
     by None = omega (arith, was)
     by (Some g) = omega (arith, was)
 
-module _ (promised : ℕ → Option Kind) (left : Requests) (d : Doing) (sure : IsSure d.system) (takes : Takes d) (h : IsLinkedWorld d.system d.world)
+module _ (promised : ℕ → Option Kind) (left : Requests) (d : Doing) (sure : IsSure d.system) (takes : TakesLeaf d) (h : IsLinkedWorld d.system d.world)
     (t : IsTypedBy promised (Within d.system left) d.system d.world) (at : slice_get d.system.components d.x ≡ Some d.component)
     (own : IsOneOn d takes) (w : World) (a : Acts promised (Within d.system left) d) (nothing : d.leaf.todo ≡ Done) (out : d.leaf.loops ≡ []) where
   -- the section's end is left
@@ -130,7 +130,7 @@ module _ (promised : ℕ → Option Kind) (left : Requests) (d : Doing) (sure : 
   exits : Costs (exited d.leaf) takes.old
   exits = let was = was_ahead d takes own a.active in let one = one_on d takes own in omega (arith, was, one, one_left)
 
-  module _ (g : Hand) (s : Session) (mine : d.leaf.hand ≡ Some g) (found : session_at d.world g.session ≡ Some s) (r : (c : Context) × (state : State)
+  module _ (g : Current) (s : Session) (mine : d.leaf.current ≡ Some g) (found : session_at d.world g.session ≡ Some s) (r : (c : Context) × (state : State)
       × Replies promised c state d g s w) where
     leaves : (y : ℕ) (leaf : Leaf) → slice_get w.leaves y ≡ Some leaf → (old : Leaf) × (slice_get d.world.leaves y ≡ Some old) × Costs leaf old
     leaves y leaf there =
@@ -162,9 +162,9 @@ module _ (promised : ℕ → Option Kind) (left : Requests) (d : Doing) (sure : 
         (handling promised (Within d.system left) d sure takes h t at g mine a.active) g s mine found) y q)
         (λ y c leaf placed there. leaves y leaf there)
 
-  reply_ended : (last : State) → Meets promised (context (subject d.system d.component) (section_of d.leaf.hand)) a.end d.world d.leaf
-      → section_end (subject d.system d.component) (section_of d.leaf.hand) a.end ≡ Ok last
-      → (g : Hand) → d.leaf.hand ≡ Some g → (event : Event) → section_ended d d.leaf.hand ≡ Ok (w, event) → Spends d.system d.world w left left
+  reply_ended : (last : State) → Meets promised (context (subject d.system d.component) (section_of d.leaf.current)) a.end d.world d.leaf
+      → section_end (subject d.system d.component) (section_of d.leaf.current) a.end ≡ Ok last
+      → (g : Current) → d.leaf.current ≡ Some g → (event : Event) → section_ended d d.leaf.current ≡ Ok (w, event) → Spends d.system d.world w left left
   reply_ended last meets ends g mine event is =
       let handles = handling promised (Within d.system left) d sure takes h t at g mine a.active in
       let handled = h.handles d.x d.leaf.phase g (stood d takes ∙ ap (λ o. Some (stance d.leaf.phase o)) mine) in
@@ -178,25 +178,26 @@ module _ (promised : ℕ → Option Kind) (left : Requests) (d : Doing) (sure : 
         meets = m;
         last = last;
         ends = last_is;
-        at_hand = mine;
+        at_current = mine;
         there = s.1;
         event = event;
         ended = is;
       } in
       reply_spends g s.0 mine s.1 (c, a.end, replies_ruled promised c d takes h handles a.end g s.0 w ended)
 
-  spends : (last : State) → Meets promised (context (subject d.system d.component) (section_of d.leaf.hand)) a.end d.world d.leaf
-      → section_end (subject d.system d.component) (section_of d.leaf.hand) a.end ≡ Ok last
-      → (hand : Option Hand) → d.leaf.hand ≡ hand → (event : Event) → section_ended d d.leaf.hand ≡ Ok (w, event) → Spends d.system d.world w left left
+  spends : (last : State) → Meets promised (context (subject d.system d.component) (section_of d.leaf.current)) a.end d.world d.leaf
+      → section_end (subject d.system d.component) (section_of d.leaf.current) a.end ≡ Ok last
+      → (current : Option Current) → d.leaf.current ≡ current → (event : Event) → section_ended d d.leaf.current ≡ Ok (w, event)
+      → Spends d.system d.world w left left
   spends last meets ends None mine event is = (main_spends left d takes serves exits d.component.node.provides).holds w event
       (subst (λ o. section_ended d o ≡ Ok (w, event)) mine is)
   spends last meets ends (Some g) mine event is = reply_ended last meets ends g mine event is
 
-  pub ended_counted : (last : State) → Meets promised (context (subject d.system d.component) (section_of d.leaf.hand)) a.end d.world d.leaf
-      → section_end (subject d.system d.component) (section_of d.leaf.hand) a.end ≡ Ok last
-      → (event : Event) → section_ended d d.leaf.hand ≡ Ok (w, event) → (done : Often) (made : Requests) → Counts done made left d.system d.world
+  pub ended_counted : (last : State) → Meets promised (context (subject d.system d.component) (section_of d.leaf.current)) a.end d.world d.leaf
+      → section_end (subject d.system d.component) (section_of d.leaf.current) a.end ≡ Ok last
+      → (event : Event) → section_ended d d.leaf.current ≡ Ok (w, event) → (done : Often) (made : Requests) → Counts done made left d.system d.world
       → IsCounted d.system w
   ended_counted last meets ends event is done made counts =
-      spends_counted done made left left d.system d.world w counts (spends last meets ends d.leaf.hand refl event is) promised
+      spends_counted done made left left d.system d.world w counts (spends last meets ends d.leaf.current refl event is) promised
       (ended_typed promised (Within d.system left) d sure takes h t at (Within d.system left)
-      (λ y section state todo loops ne b. b) w d.leaf.hand refl a last meets ends event is)
+      (λ y section state todo loops ne b. b) w d.leaf.current refl a last meets ends event is)

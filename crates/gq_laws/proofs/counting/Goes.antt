@@ -4,7 +4,7 @@ use Rattle.std.specs.Prelude.{slice_get}
 use Rattle.std.proofs.lemmas.Bool.Decides.{eqb_tells}
 use Rattle.gq_model.specs.declared.phase.Phase.{Phase}
 use Rattle.gq_model.specs.machine.Scenario.{Component}
-use Rattle.gq_model.specs.machine.World.{Session, Hand, Leaf, World, session_at}
+use Rattle.gq_model.specs.machine.World.{Session, Current, Leaf, World, session_at}
 use Rattle.gq_model.specs.machine.Doing.{Doing}
 use Rattle.gq_model.specs.rules.Kinds.{Kind, Context}
 use Rattle.gq_model.specs.rules.Flow.{context}
@@ -14,7 +14,7 @@ use Rattle.gq_model.specs.rules.Use.{subject}
 use Rattle.gq_laws.specs.Links.{IsLinkedWorld}
 use Rattle.gq_laws.specs.internal.Remaining.{left_requests}
 use Rattle.gq_laws.specs.internal.Left.{IsGood}
-use Rattle.gq_laws.specs.Statements.{Takes, LeadsOn, KeepsSessionIn, LeavesOthers}
+use Rattle.gq_laws.specs.Statements.{TakesLeaf, LeadsOn, KeepsSessionIn, LeavesOthers}
 use Rattle.gq_laws.specs.Typing.{section_of, IsTypedBy}
 use Rattle.gq_laws.specs.internal.Counting.{Often, Requests, ahead, served_at, waiting_in, Within, Counts, IsCounted}
 use Rattle.gq_model.proofs.Small.{some_same}
@@ -36,10 +36,10 @@ ahead_active leaf phase (inl e) = ap (ahead leaf) e
 ahead_active leaf phase (inr e) = ap (ahead leaf) e
 
 -- the leaf of a step is the one that the world has, with one step more
-abbrev pub IsOneOn : (d : Doing) → Takes d → Type 0
+abbrev pub IsOneOn : (d : Doing) → TakesLeaf d → Type 0
 IsOneOn d takes = d.leaf ≡ record takes.old { steps = suc takes.old.steps }
 
-module _ (d : Doing) (takes : Takes d) (own : IsOneOn d takes) where
+module _ (d : Doing) (takes : TakesLeaf d) (own : IsOneOn d takes) where
   pub one_on : d.leaf.steps ≡ suc takes.old.steps
   one_on = ap (λ (l : Leaf). l.steps) own
 
@@ -49,19 +49,19 @@ module _ (d : Doing) (takes : Takes d) (own : IsOneOn d takes) where
 
 -- SESSIONS
 
-kept_served : (hand : Option Hand) (k : ℕ) (old new : Option Session) → KeepsSessionIn hand k old new → served_at new ≡ served_at old
-kept_served hand k None new h = ap served_at h
-kept_served hand k (Some old) new h = ap served_at h.1 ∙ ap (λ (s : Session). Some (s.server, s.level)) h.2.rest
+kept_served : (current : Option Current) (k : ℕ) (old new : Option Session) → KeepsSessionIn current k old new → served_at new ≡ served_at old
+kept_served current k None new h = ap served_at h
+kept_served current k (Some old) new h = ap served_at h.1 ∙ ap (λ (s : Session). Some (s.server, s.level)) h.2.rest
 
 -- STEPS INSIDE A SECTION
 
-module _ (promised : ℕ → Option Kind) (left : Requests) (d : Doing) (sure : IsSure d.system) (takes : Takes d) (h : IsLinkedWorld d.system d.world)
+module _ (promised : ℕ → Option Kind) (left : Requests) (d : Doing) (sure : IsSure d.system) (takes : TakesLeaf d) (h : IsLinkedWorld d.system d.world)
     (t : IsTypedBy promised (Within d.system left) d.system d.world) (at : slice_get d.system.components d.x ≡ Some d.component)
     (own : IsOneOn d takes) (w : World) (stepped : (leaf : Leaf) → slice_get w.leaves d.x ≡ Some leaf
     → leaf.steps ≡ d.leaf.steps) (a : Acts promised (Within d.system left) d) (others : LeavesOthers d w)
-    (leads : LeadsOn promised (context (subject d.system d.component) (section_of d.leaf.hand)) a.state a.end d w) where
+    (leads : LeadsOn promised (context (subject d.system d.component) (section_of d.leaf.current)) a.state a.end d w) where
   abbrev c : Context
-  c = context (subject d.system d.component) (section_of d.leaf.hand)
+  c = context (subject d.system d.component) (section_of d.leaf.current)
 
   here : (leaf : Leaf) → slice_get w.leaves d.x ≡ Some leaf → leaf.steps + ahead leaf leaf.phase ≤ takes.old.steps + ahead takes.old takes.old.phase
   here leaf there =
@@ -92,17 +92,17 @@ module _ (promised : ℕ → Option Kind) (left : Requests) (d : Doing) (sure : 
   spends =
       quiet_spends d.system d.world w left
       (λ y q. ap (waiting_in w y q) others.requests ∙ waiting_all d.world w
-      (λ j. kept_served d.leaf.hand j (session_at d.world j) (session_at w j) (others.sessions j)) d.world.requests y q)
+      (λ j. kept_served d.leaf.current j (session_at d.world j) (session_at w j) (others.sessions j)) d.world.requests y q)
       leaves
 
   -- no more requests are left
-  within_left : Within d.system left d.x (section_of d.leaf.hand) leads.state leads.leaf.todo leads.leaf.loops
+  within_left : Within d.system left d.x (section_of d.leaf.current) leads.state leads.leaf.todo leads.leaf.loops
   within_left b placed service section =
       let same : d.component ≡ b = some_same (sym at ∙ placed) in
       let most = a.also d.component at service section in
       let fewer = requests_moves service section c a.state leads.state a.end d.leaf.todo leads.leaf.todo d.leaf.loops leads.leaf.loops
       (all_have_round (IsGood d.system d.component) d.leaf.todo a.good) a.goes_on leads.moves in
-      subst (λ b. left_requests service section (context (subject d.system b) (section_of d.leaf.hand)) leads.state leads.leaf.todo leads.leaf.loops
+      subst (λ b. left_requests service section (context (subject d.system b) (section_of d.leaf.current)) leads.state leads.leaf.todo leads.leaf.loops
       ≤ left d.x service section) same (omega (arith, most, fewer))
 
   pub goes_counted : (done : Often) (made : Requests) → Counts done made left d.system d.world → IsCounted d.system w

@@ -14,7 +14,7 @@ use Rattle.gq_model.specs.rules.Use.{subject, is_there, from_sections, from_leav
 use Rattle.gq_laws.specs.Links.{IsLinkedWorld}
 use Rattle.gq_laws.specs.Sound.{IsSound}
 use Rattle.gq_laws.specs.internal.Left.{AreLeft, IsGood}
-use Rattle.gq_laws.specs.Statements.{Takes}
+use Rattle.gq_laws.specs.Statements.{TakesLeaf}
 use Rattle.gq_laws.specs.Turns.{steps_of, can_run}
 use Rattle.gq_laws.specs.internal.Counting.{Often, Requests, made_from, made_for, Within, IsCounted}
 use Rattle.gq_model.proofs.Small.{some_same, none_some, add_none, add_next}
@@ -54,7 +54,7 @@ one_more system w x old was new event can stepped leaf there =
 
 -- WHAT A STEP DOES
 
-module _ (d : Doing) (sure : IsSure d.system) (named : ProvidesNamed d.system) (takes : Takes d) (h : IsLinkedWorld d.system d.world)
+module _ (d : Doing) (sure : IsSure d.system) (named : ProvidesNamed d.system) (takes : TakesLeaf d) (h : IsLinkedWorld d.system d.world)
     (at : slice_get d.system.components d.x ≡ Some d.component) (own : IsOneOn d takes)
     (k : IsCounted d.system d.world) (w : World) (linked : IsLinkedWorld d.system w) (stepped : (leaf : Leaf) → slice_get w.leaves d.x ≡ Some leaf
     → leaf.steps ≡ d.leaf.steps) where
@@ -91,7 +91,7 @@ next_counted system sure named w h left k x new event linked stepped = turn (can
     by can (Some c) e None f g = subst (IsCounted system) (same_world g) k
     by can (Some c) e (Some leaf) f g =
         let d : Doing = record { system = system; world = w; x = x; component = c; leaf = record leaf { steps = suc leaf.steps } } in
-        let taken : Takes d = record { old = leaf; there = f; slots = refl; phase = refl; hand = refl } in
+        let taken : TakesLeaf d = record { old = leaf; there = f; slots = refl; phase = refl; current = refl } in
         let extra = Within system k.left in
         let o = outcome k.promised extra d sure taken h k.typed e (left x c leaf e f).todo
         (counted k.promised extra system w x c leaf (suc leaf.steps) leaf.phase (k.typed.leaves x c leaf e f)) in

@@ -14,13 +14,14 @@ use Rattle.gq_model.specs.rules.Kinds.{Kind, State, Context, kind_at}
 use Rattle.gq_model.specs.rules.Rules.{link_kind, called, judge, judged}
 use Rattle.gq_model.specs.rules.Budgets.{is_one, by_link, asks}
 use Rattle.gq_laws.specs.Typed.{Meets}
-use Rattle.gq_laws.specs.Statements.{Takes, Grants}
+use Rattle.gq_laws.specs.Statements.{TakesLeaf, Grants}
 use Rattle.gq_laws.specs.Asking.{TellsLinks}
 use Rattle.gq_laws.proofs.stating.Rules.{given_there, popped_there, judged_alone}
 use Rattle.gq_laws.proofs.typing.Asked_worlds.{Asked}
 use Rattle.gq_laws.proofs.typing.Asked_services.{linked_service}
 
-module _ (promised : ℕ → Option Kind) (c : Context) (d : Doing) (t : Takes d) (tells : TellsLinks promised d.world) (g : Grants promised c d) (state : State)
+module _ (promised : ℕ → Option Kind) (c : Context) (d : Doing) (t : TakesLeaf d) (tells : TellsLinks promised d.world) (g : Grants promised c d)
+    (state : State)
     (m : Meets promised c state d.world d.leaf) (service : List ℕ) (section : Section) where
   -- what is counted on the link is counted on the session
   on_link : (place : Place) (of : ℕ → Section) (l : List ℕ × ℕ × Amount) → link_kind (kind_at c state place) ≡ Some l → (s : Session) → l.0 ≡ s.service
@@ -61,7 +62,7 @@ module _ (promised : ℕ → Option Kind) (c : Context) (d : Doing) (t : Takes d
   counts_by _ k s w new a e = absurd a.was
 
 -- the statement's requests are the one that it makes
-pub asks_one : (promised : ℕ → Option Kind) (c : Context) (d : Doing) (i : Instruction) (state new : State) → Takes d → TellsLinks promised d.world
+pub asks_one : (promised : ℕ → Option Kind) (c : Context) (d : Doing) (i : Instruction) (state new : State) → TakesLeaf d → TellsLinks promised d.world
     → Grants promised c d → Meets promised c state d.world d.leaf → judged c state i ≡ Ok new
     → (k : ℕ) (s : Session) (w : World) (a : Asked d i k s w) (service : List ℕ) (section : Section)
     → asks service section c state i ≡ is_one service section s.service (section_for a.ask (level_then a.ask s.level))

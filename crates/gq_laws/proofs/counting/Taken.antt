@@ -16,7 +16,7 @@ use Rattle.gq_laws.specs.Kept.{level_then}
 use Rattle.gq_model.specs.rules.Use.{subject, from_sections, steps_of}
 use Rattle.gq_laws.specs.Links.{outline, outline_in, links, requests_of, IsAsked, Stands, IsLinkedWorld}
 use Rattle.gq_laws.specs.internal.Remaining.{left_requests}
-use Rattle.gq_laws.specs.Statements.{Takes}
+use Rattle.gq_laws.specs.Statements.{TakesLeaf}
 use Rattle.gq_laws.specs.Typing.{IsTypedBy}
 use Rattle.gq_laws.specs.internal.Carrying.{Carries}
 use Rattle.gq_laws.specs.internal.Counting.{Often, Requests, ahead, one_at, served_at, asks_at, waiting_in, waiting, Within, Counts, IsCounted}
@@ -59,7 +59,7 @@ record Starts (d : Doing) (r : Request) (rest : List Request) (w : World) : Type
   requests : w.requests ≡ rest
   sessions : (j : ℕ) → j ≢ r.session → session_at w j ≡ session_at d.world j
 
-starts : (d : Doing) → Takes d → (r : Request) (rest : List Request) → Ends (Starts d r rest) (accept d r rest)
+starts : (d : Doing) → TakesLeaf d → (r : Request) (rest : List Request) → Ends (Starts d r rest) (accept d r rest)
 starts d takes r rest =
     need_found (Starts d r rest) _ _ _ (λ old was. when_ends (Starts d r rest) _ _ _ (need_found (Starts d r rest) _ _ _ (λ list found.
     let new : Session = accepted_as d.system r.ask old in
@@ -82,7 +82,7 @@ starts d takes r rest =
 
 -- THE REQUEST
 
-module _ (promised : ℕ → Option Kind) (left : Requests) (d : Doing) (sure : IsSure d.system) (takes : Takes d) (h : IsLinkedWorld d.system d.world)
+module _ (promised : ℕ → Option Kind) (left : Requests) (d : Doing) (sure : IsSure d.system) (takes : TakesLeaf d) (h : IsLinkedWorld d.system d.world)
     (t : IsTypedBy promised (Within d.system left) d.system d.world) (at : slice_get d.system.components d.x ≡ Some d.component)
     (own : IsOneOn d takes) (w : World) (serves : d.leaf.phase ≡ Serving) (r : Request) (rest : List Request)
     (first : oldest d.world d.x d.world.requests ≡ Some (r, rest)) (s : Starts d r rest w) where
@@ -99,7 +99,8 @@ module _ (promised : ℕ → Option Kind) (left : Requests) (d : Doing) (sure : 
   found = oldest_found (IsAsked (links d.world)) d.world d.x d.world.requests (r, rest) first
 
   server : s.old.server ≡ d.x
-  server = server_is d (record { old = takes.old; there = takes.there; slots = takes.slots; phase = takes.phase; hand = takes.hand }) h serves r rest found
+  server = server_is d
+      (record { old = takes.old; there = takes.there; slots = takes.slots; phase = takes.phase; current = takes.current }) h serves r rest found
       s.old s.was
 
   -- it is the one request of its session
@@ -217,7 +218,7 @@ module _ (promised : ℕ → Option Kind) (left : Requests) (d : Doing) (sure : 
       spends_counted done made left new d.system d.world w counts spends promised
       (taken_typed promised (Within d.system left) d sure takes h t at (Within d.system new) carries w serves r rest first event is within_new)
 
-pub taken_counted : (promised : ℕ → Option Kind) (left : Requests) (d : Doing) → IsSure d.system → (takes : Takes d) → IsLinkedWorld d.system d.world
+pub taken_counted : (promised : ℕ → Option Kind) (left : Requests) (d : Doing) → IsSure d.system → (takes : TakesLeaf d) → IsLinkedWorld d.system d.world
     → IsTypedBy promised (Within d.system left) d.system d.world → slice_get d.system.components d.x ≡ Some d.component
     → IsOneOn d takes → (w : World) → d.leaf.phase ≡ Serving → (r : Request) (rest : List Request) → oldest d.world d.x d.world.requests ≡ Some (r, rest)
     → (event : Event) → accept d r rest ≡ Ok (w, event)

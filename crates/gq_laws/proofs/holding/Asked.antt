@@ -8,7 +8,7 @@ use Rattle.gq_model.specs.declared.program.Instruction.TheVariants.{Open, Upgrad
 use Rattle.gq_model.specs.declared.phase.Phase.TheVariants.{Blocked}
 use Rattle.gq_model.specs.machine.Program.{Statements}
 use Rattle.gq_model.specs.machine.Scenario.{Interface, interface_in, upgrade_caps}
-use Rattle.gq_model.specs.machine.World.{Link, Waiting, Spot, In_session, Session, Ask, Hand, Leaf, World, session_at, session_slot, slot_at}
+use Rattle.gq_model.specs.machine.World.{Link, Waiting, Spot, In_session, Session, Ask, Current, Leaf, World, session_at, session_slot, slot_at}
 use Rattle.gq_model.specs.machine.Doing.{Doing, Event}
 use Rattle.gq_model.specs.machine.Step.{section_for, instruct}
 use Rattle.gq_model.specs.machine.Requests.{new_session}
@@ -22,7 +22,7 @@ use Rattle.gq_laws.specs.Shapes.{Each}
 use Rattle.gq_laws.specs.Links.{Waits, named, naming_in, outline, outline_in, stance, links, IsLinkedWorld}
 use Rattle.gq_laws.specs.internal.Lending.{given_by}
 use Rattle.gq_laws.specs.Typed.{Meets}
-use Rattle.gq_laws.specs.Statements.{Takes, Grants}
+use Rattle.gq_laws.specs.Statements.{TakesLeaf, Grants}
 use Rattle.gq_laws.specs.Asking.{promised_anew, TellsLinks, IsAsk, Awaits}
 use Rattle.gq_laws.specs.Typing.{section_of, IsTypedBy}
 use Rattle.gq_laws.specs.internal.Holding.{IsBounded, bank_part, CostsWithin, GivesFor}
@@ -56,12 +56,13 @@ more_open (Open place service n) ask level more is = subst (λ ask. StaysOpen (S
 more_open (Upgrade place n) ask level more is = subst (λ ask. StaysOpen (Some (section_for ask level))) (sym is) tt
 more_open _ ask level more is = absurd more
 
--- a slot of a session that a leaf names is of the session at its hand
-mine_hand : (x : ℕ) (hand : Option Hand) (q : Spot) (j n : ℕ) → IsMine x hand q → q ≡ In_session j n → (g : Hand) × (hand ≡ Some g) × (g.session ≡ j)
-mine_hand x None q j n m e = absurd (subst (IsMine x None) e m)
-mine_hand x (Some g) q j n m e = (g, refl, sym (subst (IsMine x (Some g)) e m))
+-- a slot of a session that a leaf names is of the session current at it
+mine_current : (x : ℕ) (current : Option Current) (q : Spot) (j n : ℕ) → IsMine x current q → q ≡ In_session j n
+    → (g : Current) × (current ≡ Some g) × (g.session ≡ j)
+mine_current x None q j n m e = absurd (subst (IsMine x None) e m)
+mine_current x (Some g) q j n m e = (g, refl, sym (subst (IsMine x (Some g)) e m))
 
-module _ (promised anew : ℕ → Option Kind) (d : Doing) (sure : IsSure d.system) (takes : Takes d) (h : IsLinkedWorld d.system d.world)
+module _ (promised anew : ℕ → Option Kind) (d : Doing) (sure : IsSure d.system) (takes : TakesLeaf d) (h : IsLinkedWorld d.system d.world)
     (at : slice_get d.system.components d.x ≡ Some d.component) (held : AreHeld d.system d.world)
     (c : Context) (state new : State) (tells : TellsLinks promised d.world) (grant : Grants promised c d) (m : Meets promised c state d.world d.leaf)
     (w : World) (event : Event) (linked : IsLinkedWorld d.system w) (typed : IsTypedBy anew (IsBounded d.system) d.system w) (k : ℕ) (s : Session) where
@@ -88,7 +89,7 @@ module _ (promised anew : ℕ → Option Kind) (d : Doing) (sure : IsSure d.syst
     else_was : (j : ℕ) (u : Session) → j ≢ k → session_at w j ≡ Some u → WasSo d.world j u
     else_was j u ne e = let b = else_then j u ne e in (b.old, b.was, b.rest)
 
-    -- the session at hand, where it is told of its slot that it stays open
+    -- the current session, where it is told of its slot that it stays open
     waits_alone : IsMore i → (j : ℕ) (u : Session) → session_at w j ≡ Some u → (links w).slots u.spot ≡ Some (Waits j) → u.client ≡ d.x
         → StaysOpen (section_asked w j u)
     waits_alone more j u there waits client =
@@ -100,18 +101,19 @@ module _ (promised anew : ℕ → Option Kind) (d : Doing) (sure : IsSure d.syst
         let asked = (λ n. section_asked w (same n) (session n)) ∙ asked_here d takes i k s w a in
         subst StaysOpen (sym asked) (more_open i a.ask (level_then a.ask s.level) more a.is)
 
-    more_costs : IsMore i → (g : Hand) → d.leaf.hand ≡ Some g → (u : Session) → session_at w g.session ≡ Some u → IsCovered d.system u (λ r. bank_part r w u)
+    more_costs : IsMore i → (g : Current) → d.leaf.current ≡ Some g → (u : Session) → session_at w g.session ≡ Some u
+        → IsCovered d.system u (λ r. bank_part r w u)
     more_costs more g mine u there =
-        let hand = a.hand ∙ mine in
-        let server = its_server anew d.system sure w linked typed d.x d.component a.leaf at a.there g u hand there in
+        let current = a.current ∙ mine in
+        let server = its_server anew d.system sure w linked typed d.x d.component a.leaf at a.there g u current there in
         let opens = bank_open anew d.system sure w linked typed g.session u there
         (λ j v found waits client. waits_alone more j v found waits (client ∙ server)) in
-        blocked_bounded anew d.system sure w linked typed d.x d.component a.leaf at a.there g u hand there opens phase
+        blocked_bounded anew d.system sure w linked typed d.x d.component a.leaf at a.there g u current there opens phase
 
     more_changed : IsMore i → (j : ℕ) (u : Session) → session_at w j ≡ Some u → (b : Then a.q (Waiting k) j (session_at d.world j) u) → (n : ℕ)
         → a.q ≡ In_session j n → CostsWithin d.system w u
     more_changed more j u e b n at_spot =
-        let f = mine_hand d.x d.leaf.hand a.q j n a.mine at_spot in
+        let f = mine_current d.x d.leaf.current a.q j n a.mine at_spot in
         record { costs = more_costs more f.0 f.1 u (ap (session_at w) f.2 ∙ e); given = given_bare d.system b.old u b.rest (held.0 j b.old b.was).given }
 
     -- where the session that is asked stays as it was, a slot that waits for it has lent what a link to it has
@@ -151,8 +153,8 @@ module _ (promised anew : ℕ → Option Kind) (d : Doing) (sure : IsSure d.syst
 
     -- none of its own slots waits
     apart_own : (n : ℕ) → In_session k n ≢ a.q
-    apart_own n = mine_session d.x d.leaf.hand a.q a.mine k n
-        (λ g e. a.free.no_hand d.x d.leaf.phase g (stood d takes ∙ ap (λ o. Some (stance d.leaf.phase o)) e))
+    apart_own n = mine_session d.x d.leaf.current a.q a.mine k n
+        (λ g e. a.free.no_current d.x d.leaf.phase g (stood d takes ∙ ap (λ o. Some (stance d.leaf.phase o)) e))
 
     own_costs : session_at d.world k ≡ Some s → CostsWithin d.system w s
     own_costs was = costs_bare d.system s s refl d.world w (λ r. free_part r k s was apart_own) (held.0 k s was)
@@ -254,22 +256,23 @@ module _ (promised anew : ℕ → Option Kind) (d : Doing) (sure : IsSure d.syst
 
 -- THE STEP
 
-module _ (promised : ℕ → Option Kind) (d : Doing) (sure : IsSure d.system) (takes : Takes d) (h : IsLinkedWorld d.system d.world)
+module _ (promised : ℕ → Option Kind) (d : Doing) (sure : IsSure d.system) (takes : TakesLeaf d) (h : IsLinkedWorld d.system d.world)
     (t : IsTypedBy promised (IsBounded d.system) d.system d.world) (at : slice_get d.system.components d.x ≡ Some d.component)
     (held : AreHeld d.system d.world) (w : World) (linked : IsLinkedWorld d.system w) (a : Acts promised (IsBounded d.system) d) where
   pub asked_held : (i : Instruction) (rest : Statements) (new : State)
-      → judged (within (context (subject d.system d.component) (section_of d.leaf.hand)) d.leaf.loops) a.state i ≡ Ok new → (event : Event)
+      → judged (within (context (subject d.system d.component) (section_of d.leaf.current)) d.leaf.loops) a.state i ≡ Ok new → (event : Event)
       → instruct (with_rest d rest) i ≡ Ok (w, event)
-      → (b : Awaits promised (within (context (subject d.system d.component) (section_of d.leaf.hand)) d.leaf.loops) new i (with_rest d rest) w)
+      → (b : Awaits promised (within (context (subject d.system d.component) (section_of d.leaf.current)) d.leaf.loops) new i (with_rest d rest) w)
       → IsTypedBy (promised_anew promised b.k b.kind) (IsBounded d.system) d.system w → AreHeld d.system w
   asked_held i rest new judges event is b typed =
-      let c = within (context (subject d.system d.component) (section_of d.leaf.hand)) d.leaf.loops in
+      let c = within (context (subject d.system d.component) (section_of d.leaf.current)) d.leaf.loops in
       let e = with_rest d rest in
       let active = not_blocked promised (IsBounded d.system) d sure takes h t at a.active in
-      let taken : Takes e = record { old = takes.old; there = takes.there; slots = takes.slots; phase = takes.phase; hand = takes.hand } in
+      let taken : TakesLeaf e = record { old = takes.old; there = takes.there; slots = takes.slots; phase = takes.phase; current = takes.current } in
       let meets : Meets promised c a.state d.world e.leaf =
-      record { own = a.meets.own; hand = a.meets.hand; bank = a.meets.bank; operands = a.meets.operands; locals = a.meets.locals; loops = a.meets.loops } in
-      let grant = grants promised (IsBounded d.system) e sure h t (section_of d.leaf.hand) (counts_of d.leaf.loops) taken active at in
+      record { own = a.meets.own; current = a.meets.current; bank = a.meets.bank; operands = a.meets.operands; locals = a.meets.locals; loops = a.meets.loops }
+      in
+      let grant = grants promised (IsBounded d.system) e sure h t (section_of d.leaf.current) (counts_of d.leaf.loops) taken active at in
       let asked = (asks_asked promised c e i new taken h active at w event is b).0 in
       let phase = ap (λ (l : Leaf). l.phase) (some_same (sym asked.there ∙ b.there)) ∙ b.phase in
       asked_by promised (promised_anew promised b.k b.kind) e sure taken h at held c a.state new

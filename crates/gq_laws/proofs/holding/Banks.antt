@@ -1,4 +1,5 @@
--- The slots and the object of a session at a leaf's hand cost no more than its level needs, where the leaf stands at a point of its section and none of them is
+-- The slots and the object of a session current at a leaf cost no more than its level needs, where the leaf stands at a point of its section and none of them
+-- is
 -- being closed.
 use Rattle.std.proofs.Common.{◌≡◌, ◌≢◌, ℕ, ◌+◌, ◌≤◌, List, [], ◌∷◌, Option, Some, refl, ap, sym, ◌∙◌, subst, arith}
 use Rattle.std.specs.Prelude.{slice_get}
@@ -11,7 +12,7 @@ use Rattle.gq_model.specs.declared.program.Section.TheVariants.{Main, Opening, U
 use Rattle.gq_model.specs.declared.phase.Phase.{Phase}
 use Rattle.gq_model.specs.declared.phase.Phase.TheVariants.{Pending, Running, Blocked, Serving, Handling, Exited}
 use Rattle.gq_model.specs.machine.Scenario.{Interface, System, Component, interface_in, number_of}
-use Rattle.gq_model.specs.machine.World.{Slot, Empty, Waiting, Bytes, Pool, Link, In_session, In_object, Session, Hand, Leaf, World, session_at, slot_at}
+use Rattle.gq_model.specs.machine.World.{Slot, Empty, Waiting, Bytes, Pool, Link, In_session, In_object, Session, Current, Leaf, World, session_at, slot_at}
 use Rattle.gq_model.specs.machine.World.{session_slot, session_object}
 use Rattle.gq_model.specs.machine.Sums.{slot_price}
 use Rattle.gq_model.specs.rules.Kinds.{Kind, Memory, State, level_of, kind_price, kinds_cost, session_cost, need_of}
@@ -20,13 +21,13 @@ use Rattle.gq_laws.specs.Kept.{section_asked}
 use Rattle.gq_model.specs.Promises.{EachOf}
 use Rattle.gq_laws.specs.Shapes.{Each}
 use Rattle.gq_laws.specs.Links.{Waits, naming_in, outline, outline_in, stance, stance_in, links, Belongs, IsAt, Handles, IsLinkedWorld}
-use Rattle.gq_laws.specs.Typed.{IsKind, AreKinds, IsAtHand, HandMeets}
+use Rattle.gq_laws.specs.Typed.{IsKind, AreKinds, IsCurrent, CurrentMeets}
 use Rattle.gq_laws.specs.Replies.{once_replied}
 use Rattle.gq_laws.specs.Typing.{section_of, GoesOnFrom, IsInSection, StandsBy, IsTypedBy}
 use Rattle.gq_laws.specs.internal.Holding.{IsBounded, bank_part}
 use Rattle.gq_model.proofs.Small.{some_same}
 use Rattle.gq_laws.proofs.linking.Events.{same_phase}
-use Rattle.gq_laws.proofs.typing.Links.{provided_at_hand}
+use Rattle.gq_laws.proofs.typing.Links.{provided_current}
 use Rattle.gq_laws.proofs.linking.Sections.{session_of_outline}
 use Rattle.gq_laws.proofs.verified.Kind_costs.{StaysOpen, NoClose, each_found, linked_named, linked_no_close, slots_price, slots_cost}
 use Rattle.gq_laws.proofs.verified.Sure.{IsSure}
@@ -43,7 +44,7 @@ level_is (Upgrading l) level at = at
 level_is (Calling l) level at = at
 level_is (Closing l) level at = at
 
--- a reply changes no slot of the session at hand
+-- a reply changes no slot of the current session
 replied_bank : (most : ℕ) (section : Section) (state : State) → (once_replied most section state).bank ≡ state.bank
 replied_bank most Main state = refl
 replied_bank most Opening state = refl
@@ -92,8 +93,8 @@ module _ (promised : ℕ → Option Kind) (system : System) (sure : IsSure syste
 
   -- THE SESSION AT HAND
 
-  module _ (x : ℕ) (c : Component) (leaf : Leaf) (at : slice_get system.components x ≡ Some c) (there : slice_get w.leaves x ≡ Some leaf) (g : Hand)
-      (s : Session) (mine : leaf.hand ≡ Some g) (found : session_at w g.session ≡ Some s) where
+  module _ (x : ℕ) (c : Component) (leaf : Leaf) (at : slice_get system.components x ≡ Some c) (there : slice_get w.leaves x ≡ Some leaf) (g : Current)
+      (s : Session) (mine : leaf.current ≡ Some g) (found : session_at w g.session ≡ Some s) where
     handled : Handles (links w) x g
     handled = h.handles x leaf.phase g (ap stance_in there ∙ ap (λ o. Some (stance leaf.phase o)) mine)
 
@@ -104,7 +105,7 @@ module _ (promised : ℕ → Option Kind) (system : System) (sure : IsSure syste
     its_server = ap (λ (u : Session). u.server) (sym (some_same (sym handled.1 ∙ ap outline_in found))) ∙ handled.2
 
     provided : interface_in s.service system.interfaces ≡ (subject system c).provided
-    provided = (provided_at_hand promised (IsBounded system) system sure w h t x c leaf.phase leaf.hand at (ap stance_in there) g s mine found).1
+    provided = (provided_current promised (IsBounded system) system sure w h t x c leaf.phase leaf.current at (ap stance_in there) g s mine found).1
 
     module _ (opens : Each (NoClose w) s.slots) where
       -- it costs what its kinds cost
@@ -121,16 +122,16 @@ module _ (promised : ℕ → Option Kind) (system : System) (sure : IsSure syste
           → (i : Interface) → interface_in s.service system.interfaces ≡ Some i → EachOf i.counted (λ r. bank_part r w s ≤ part r (need_of i s.level))
       bank_bounded phase section b i known =
           let v = subject system c in
-          let hand : IsAtHand section (Some g) = subst (IsAtHand section) mine b.meets.hand in
-          let m : HandMeets promised _ b.state.bank w (Some g) = subst (HandMeets promised _ b.state.bank w) mine b.meets.bank in
+          let current : IsCurrent section (Some g) = subst (IsCurrent section) mine b.meets.current in
+          let m : CurrentMeets promised _ b.state.bank w (Some g) = subst (CurrentMeets promised _ b.state.bank w) mine b.meets.bank in
           let is : m.0 ≡ s = some_same (sym m.1 ∙ found) in
           let provides : v.provided ≡ Some i = sym provided ∙ known in
-          let level : level_of section ≡ s.level = ap level_of (sym hand.0) ∙ level_is g.section s.level its_level in
+          let level : level_of section ≡ s.level = ap level_of (sym current.0) ∙ level_is g.section s.level its_level in
           let slots : AreKinds promised s.slots b.state.bank = subst (λ (u : Session). AreKinds promised u.slots b.state.bank) is m.2.slots in
           let object : IsKind promised s.object (Memory Slice i.object) =
           subst (λ o. IsKind promised s.object (Memory Slice (number_of o (λ i. i.object)))) provides
           (subst (λ (u : Session). IsKind promised u.object (Memory Slice (number_of v.provided (λ i. i.object)))) is m.2.object) in
-          let covers = (b.also c at).1 hand.1 i provides in
+          let covers = (b.also c at).1 current.1 i provides in
           each_of i.counted _ _ (λ r less.
           let cost = bank_cost r i.object b.state.bank slots object in
           let same = ap (session_cost r i) (from_bank system w x phase b.state b.next b.from) in
@@ -140,10 +141,10 @@ module _ (promised : ℕ → Option Kind) (system : System) (sure : IsSure syste
       -- in the midst of the section, or while it waits there for a reply
       pub handling_bounded : leaf.phase ≡ Handling → (i : Interface) → interface_in s.service system.interfaces ≡ Some i
           → EachOf i.counted (λ r. bank_part r w s ≤ part r (need_of i s.level))
-      handling_bounded e = bank_bounded Handling (section_of leaf.hand)
+      handling_bounded e = bank_bounded Handling (section_of leaf.current)
           (subst (StandsBy promised (IsBounded system) system w x c leaf) e (t.leaves x c leaf at there))
 
       pub blocked_bounded : leaf.phase ≡ Blocked → (i : Interface) → interface_in s.service system.interfaces ≡ Some i
           → EachOf i.counted (λ r. bank_part r w s ≤ part r (need_of i s.level))
-      blocked_bounded e = bank_bounded Blocked (section_of leaf.hand)
+      blocked_bounded e = bank_bounded Blocked (section_of leaf.current)
           (subst (StandsBy promised (IsBounded system) system w x c leaf) e (t.leaves x c leaf at there))

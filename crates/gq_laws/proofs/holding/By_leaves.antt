@@ -18,7 +18,7 @@ use Rattle.gq_laws.specs.Kept.{level_then}
 use Rattle.gq_model.specs.rules.Use.{subject}
 use Rattle.gq_laws.specs.Links.{Waits, named, naming_in, Belongs, outline_in, links, IsLinkedWorld}
 use Rattle.gq_laws.specs.internal.Lending.{given_by}
-use Rattle.gq_laws.specs.Statements.{Takes}
+use Rattle.gq_laws.specs.Statements.{TakesLeaf}
 use Rattle.gq_laws.specs.Asking.{IsServed, Awaits, promised_anew}
 use Rattle.gq_laws.specs.Typing.{section_of, StandsBy, IsTypedBy}
 use Rattle.gq_laws.specs.internal.Holding.{IsBounded, main_points, own_part, PeaksWithin, HoldsWithin, AllHold}
@@ -36,7 +36,7 @@ use Rattle.gq_laws.proofs.verified.Sure.{IsSure}
 
 -- ASKED
 
-module _ (d : Doing) (takes : Takes d) (peaks : d.leaf.peaks ≡ takes.old.peaks) (at : slice_get d.system.components d.x ≡ Some d.component)
+module _ (d : Doing) (takes : TakesLeaf d) (peaks : d.leaf.peaks ≡ takes.old.peaks) (at : slice_get d.system.components d.x ≡ Some d.component)
     (held : AllHold d.system d.world) (i : Instruction) (k : ℕ) (s : Session) (w : World) (a : Asked d i k s w) where
   -- for other sessions the same was given
   else_less_given : (r : Resource) (j : ℕ) → j ≢ k → Less r d.world w j
@@ -49,14 +49,14 @@ module _ (d : Doing) (takes : Takes d) (peaks : d.leaf.peaks ≡ takes.old.peaks
   else_holds y c leaf ne placed there =
       let before = sym (a.leaves y ne) ∙ there in
       else_less d takes peaks at held w y c leaf placed before (λ r j n e.
-      else_less_given r (named n) (a.free.names (In_leaf y j) n (λ q. ne (subst (IsMine d.x d.leaf.hand) (sym q) a.mine))
+      else_less_given r (named n) (a.free.names (In_leaf y j) n (λ q. ne (subst (IsMine d.x d.leaf.current) (sym q) a.mine))
       (ap (λ o. naming_in (leaf_slot o j)) before ∙ e)))
 
   -- THE SESSION STAYS AS IT WAS
 
   link_there : slot_at d.world a.q ≡ Some (Link k) → (y j : ℕ) → a.q ≡ In_leaf y j → slice_get d.leaf.slots j ≡ Some (Link k)
   link_there link y j e =
-      let mine : y ≡ d.x = subst (IsMine d.x d.leaf.hand) e a.mine in
+      let mine : y ≡ d.x = subst (IsMine d.x d.leaf.current) e a.mine in
       ap (λ l. slice_get l j) takes.slots ∙ (sym (ap (λ o. leaf_slot o j) (ap (slice_get d.world.leaves) mine ∙ takes.there))
       ∙ (ap (slot_at d.world) (sym e) ∙ link))
 
@@ -99,7 +99,7 @@ module _ (d : Doing) (takes : Takes d) (peaks : d.leaf.peaks ≡ takes.old.peaks
         → StaysOpen (Some (section_for a.ask (level_then a.ask s.level)))
         → (r : Resource) → own_part r w a.leaf ≤ greatest (λ (u : State). kinds_cost r u.own) (main_points (subject d.system d.component))
     open_part sure promised t phase stays =
-        own_bounded promised d.system sure w t d.x d.component at a.leaf Blocked (section_of a.leaf.hand)
+        own_bounded promised d.system sure w t d.x d.component at a.leaf Blocked (section_of a.leaf.current)
         (subst (StandsBy promised (IsBounded d.system) d.system w d.x d.component a.leaf) phase (t.leaves d.x d.component a.leaf at a.there))
         (no_close_each promised d.system w h t.tells d.x a.leaf a.there (open_each stays))
 
@@ -108,7 +108,7 @@ opens : (ask other : Ask) (level : ℕ) → ask ≡ other → StaysOpen (Some (s
     → StaysOpen (Some (section_for ask (level_then ask level)))
 opens ask other level e h = subst (λ ask. StaysOpen (Some (section_for ask (level_then ask level)))) (sym e) h
 
-module _ (d : Doing) (takes : Takes d) (peaks : d.leaf.peaks ≡ takes.old.peaks) (at : slice_get d.system.components d.x ≡ Some d.component)
+module _ (d : Doing) (takes : TakesLeaf d) (peaks : d.leaf.peaks ≡ takes.old.peaks) (at : slice_get d.system.components d.x ≡ Some d.component)
     (held : AllHold d.system d.world) (sure : IsSure d.system) (promised : ℕ
     → Option Kind) (w : World) (h : IsLinkedWorld d.system w) (t : IsTypedBy promised (IsBounded d.system) d.system w) (k : ℕ) (s : Session) where
   part_asked : (i : Instruction) (a : Asked d i k s w) → a.leaf.phase ≡ Blocked → IsServed d i → (r : Resource)
@@ -133,7 +133,7 @@ module _ (d : Doing) (takes : Takes d) (peaks : d.leaf.peaks ≡ takes.old.peaks
       })) (else_holds d takes peaks at held i k s w a)
 
 -- a statement that asks something of a session
-pub asked_hold : (d : Doing) (takes : Takes d) → d.leaf.peaks ≡ takes.old.peaks → slice_get d.system.components d.x ≡ Some d.component
+pub asked_hold : (d : Doing) (takes : TakesLeaf d) → d.leaf.peaks ≡ takes.old.peaks → slice_get d.system.components d.x ≡ Some d.component
     → AllHold d.system d.world → IsSure d.system → (promised : ℕ → Option Kind) (c : Context) (new : State) (i : Instruction) → IsServed d i
     → IsLinkedWorld d.system d.world → d.leaf.phase ≢ Blocked
     → (w : World) (event : Event) → instruct d i ≡ Ok (w, event) → (b : Awaits promised c new i d w) → IsLinkedWorld d.system w
@@ -146,7 +146,7 @@ asked_hold d takes peaks at held sure promised c new i served linked active w ev
 -- STEPS
 
 -- every step keeps what leaves hold within what was verified
-pub leaves_hold : (promised : ℕ → Option Kind) (d : Doing) → IsSure d.system → (takes : Takes d) → d.leaf.peaks ≡ takes.old.peaks
+pub leaves_hold : (promised : ℕ → Option Kind) (d : Doing) → IsSure d.system → (takes : TakesLeaf d) → d.leaf.peaks ≡ takes.old.peaks
     → IsLinkedWorld d.system d.world → IsTypedBy promised (IsBounded d.system) d.system d.world → slice_get d.system.components d.x ≡ Some d.component
     → AllHold d.system d.world → (w : World) → IsLinkedWorld d.system w → Outcome promised (IsBounded d.system) d w → AllHold d.system w
 leaves_hold promised d sure takes peaks h t at held w linked (Idles same) = subst (AllHold d.system) (sym same) held
@@ -154,11 +154,12 @@ leaves_hold promised d sure takes peaks h t at held w linked (Goes_on a inside o
     goes_hold d takes peaks at held sure promised w linked
     (goes_bounded promised d sure takes h t at w a others leads) a.active inside others event is leads.leaf leads.there leads.phase
 leaves_hold promised d sure takes peaks h t at held w linked (Has_asked a i rest first served new judges goes_on event is awaits) =
-    let taken : Takes (with_rest d rest) = record { old = takes.old; there = takes.there; slots = takes.slots; phase = takes.phase; hand = takes.hand } in
+    let taken : TakesLeaf (with_rest d rest) =
+    record { old = takes.old; there = takes.there; slots = takes.slots; phase = takes.phase; current = takes.current } in
     asked_hold (with_rest d rest) taken peaks at held sure promised _ new i served h
     (not_blocked promised (IsBounded d.system) d sure takes h t at a.active) w event is awaits linked
     (asked_bounded promised d sure takes h t at w a i rest first served new judges goes_on event is awaits)
 leaves_hold promised d sure takes peaks h t at held w linked (Has_taken serves r rest first event is) = taken_hold d takes peaks at held r rest w event is
 leaves_hold promised d sure takes peaks h t at held w linked (Has_ended a done out last meets ends event is) =
-    ended_hold d takes peaks at held promised h (λ g mine. handling promised (IsBounded d.system) d sure takes h t at g mine a.active) d.leaf.hand refl a.end
+    ended_hold d takes peaks at held promised h (λ g mine. handling promised (IsBounded d.system) d sure takes h t at g mine a.active) d.leaf.current refl a.end
     last meets ends w event is

@@ -1,7 +1,7 @@
 -- Whatever a step does, what sessions cost and were given stays within what they need.
 use Rattle.std.proofs.Common.{◌≡◌, ℕ, Option, Some, None, Ok, refl, ap, sym, ◌∙◌, subst}
 use Rattle.std.specs.Prelude.{slice_get}
-use Rattle.gq_model.specs.machine.World.{Hand, World, session_at}
+use Rattle.gq_model.specs.machine.World.{Current, World, session_at}
 use Rattle.gq_model.specs.machine.Doing.{Doing, Event}
 use Rattle.gq_model.specs.machine.Step.{section_ended}
 use Rattle.gq_model.specs.rules.Kinds.{Kind, State}
@@ -9,7 +9,7 @@ use Rattle.gq_model.specs.rules.Flow.{context, section_end}
 use Rattle.gq_model.specs.rules.Use.{subject}
 use Rattle.gq_laws.specs.Links.{stance, IsLinkedWorld}
 use Rattle.gq_laws.specs.Typed.{Meets}
-use Rattle.gq_laws.specs.Statements.{Takes}
+use Rattle.gq_laws.specs.Statements.{TakesLeaf}
 use Rattle.gq_laws.specs.Asking.{promised_anew}
 use Rattle.gq_laws.specs.Typing.{section_of, IsTypedBy}
 use Rattle.gq_laws.specs.internal.Holding.{IsBounded}
@@ -21,7 +21,7 @@ use Rattle.gq_laws.proofs.holding.Parts.{AreHeld}
 use Rattle.gq_laws.proofs.holding.Sessions.{goes_held, taken_held, main_held, replied_held}
 use Rattle.gq_laws.proofs.holding.Asked.{asked_held}
 
-module _ (promised : ℕ → Option Kind) (d : Doing) (sure : IsSure d.system) (takes : Takes d) (h : IsLinkedWorld d.system d.world)
+module _ (promised : ℕ → Option Kind) (d : Doing) (sure : IsSure d.system) (takes : TakesLeaf d) (h : IsLinkedWorld d.system d.world)
     (t : IsTypedBy promised (IsBounded d.system) d.system d.world) (at : slice_get d.system.components d.x ≡ Some d.component) (held : AreHeld d.system d.world)
     (w : World) (linked : IsLinkedWorld d.system w) where
   -- the world after the step is typed: by the same promises, but for the session that is asked
@@ -33,10 +33,11 @@ module _ (promised : ℕ → Option Kind) (d : Doing) (sure : IsSure d.system) (
   TypedAfter (Has_taken serves r rest first event is) = IsTypedBy promised (IsBounded d.system) d.system w
   TypedAfter (Has_ended a done out last meets ends event is) = IsTypedBy promised (IsBounded d.system) d.system w
 
-  pub ended_held : IsTypedBy promised (IsBounded d.system) d.system w → (hand : Option Hand) → d.leaf.hand ≡ hand
+  pub ended_held : IsTypedBy promised (IsBounded d.system) d.system w → (current : Option Current) → d.leaf.current ≡ current
       → (a : Acts promised (IsBounded d.system) d) (last : State)
-      → Meets promised (context (subject d.system d.component) (section_of d.leaf.hand)) a.end d.world d.leaf
-      → section_end (subject d.system d.component) (section_of d.leaf.hand) a.end ≡ Ok last → (event : Event) → section_ended d d.leaf.hand ≡ Ok (w, event)
+      → Meets promised (context (subject d.system d.component) (section_of d.leaf.current)) a.end d.world d.leaf
+      → section_end (subject d.system d.component) (section_of d.leaf.current) a.end ≡ Ok last → (event : Event)
+      → section_ended d d.leaf.current ≡ Ok (w, event)
       → AreHeld d.system w
   ended_held typed None mine a last meets ends event is =
       main_held promised d sure takes h t at held w linked typed event (subst (λ o. section_ended d o ≡ Ok (w, event)) mine is)
@@ -51,4 +52,4 @@ module _ (promised : ℕ → Option Kind) (d : Doing) (sure : IsSure d.system) (
   outcome_held (Has_asked a i rest first served new judges goes_on event is awaits) typed =
       asked_held promised d sure takes h t at held w linked a i rest new judges event is awaits typed
   outcome_held (Has_taken serves r rest first event is) typed = taken_held promised d sure takes h t at held w linked typed serves r rest first event is
-  outcome_held (Has_ended a done out last meets ends event is) typed = ended_held typed d.leaf.hand refl a last meets ends event is
+  outcome_held (Has_ended a done out last meets ends event is) typed = ended_held typed d.leaf.current refl a last meets ends event is

@@ -20,7 +20,7 @@ use Rattle.gq_model.specs.rules.Kinds.{Kind, Link_kind, State, Context, kind_at,
 use Rattle.gq_model.specs.rules.Rules.{link_kind, judged}
 use Rattle.gq_laws.specs.internal.Lending.{given_by}
 use Rattle.gq_laws.specs.Typed.{IsKind, Meets}
-use Rattle.gq_laws.specs.Statements.{Takes, Grants}
+use Rattle.gq_laws.specs.Statements.{TakesLeaf, Grants}
 use Rattle.gq_laws.specs.Asking.{TellsLinks, IsAsk}
 use Rattle.gq_laws.proofs.turning.Endings.{Ends, gives, need_found, when_ends}
 use Rattle.gq_model.proofs.Small.{some_same}
@@ -92,7 +92,7 @@ asked_gives d i v q k ask requests how =
 
 open_gives : (d : Doing) (place : Place) (service : List ℕ) (n : ℕ) → Ends (HasGiven d (Open place service n)) (open_session d place service n)
 open_gives d place service n =
-    need_found P (spot_of d.x d.leaf.hand place) WrongKind _
+    need_found P (spot_of d.x d.leaf.current place) WrongKind _
     (λ q at. fill_found P d.world q (Waiting k) _ (λ empty. need_found P (server_of d.system d.component service) WrongKind _ (λ server found.
     let filled = with_slot d.world q (Waiting k) in
     let new = new_session d.x q server service (amount n (open_caps (interface_in service d.system.interfaces))) in
@@ -146,7 +146,7 @@ pub record IsEnough (i : Interface) (level : ℕ) (more : Amount) : Type 0 where
   pub less : level < length i.upgrades
   pub pays : (r : Resource) → part r (slice_index_or i.upgrades level (amount 0 0)) ≤ part r more
 
-module _ (promised : ℕ → Option Kind) (c : Context) (d : Doing) (t : Takes d) (tells : TellsLinks promised d.world) (g : Grants promised c d)
+module _ (promised : ℕ → Option Kind) (c : Context) (d : Doing) (t : TakesLeaf d) (tells : TellsLinks promised d.world) (g : Grants promised c d)
     (state new : State) (m : Meets promised c state d.world d.leaf) where
   pub open_enough : (place : Place) (service : List ℕ) (n : ℕ) → judged c state (Open place service n) ≡ Ok new → (s : Session) → s.service ≡ service
       → s.level ≡ 0
@@ -161,7 +161,7 @@ module _ (promised : ℕ → Option Kind) (c : Context) (d : Doing) (t : Takes d
       omega (arith, pays, caps, need, level, donation)
 
   pub upgrade_enough : (place : Place) (n : ℕ) → judged c state (Upgrade place n) ≡ Ok new → (q : Spot) (k : ℕ) (old : Session)
-      → spot_of d.x d.leaf.hand place ≡ Some q → slot_at d.world q ≡ Some (Link k) → session_at d.world k ≡ Some old
+      → spot_of d.x d.leaf.current place ≡ Some q → slot_at d.world q ≡ Some (Link k) → session_at d.world k ≡ Some old
       → (i : Interface) → interface_in old.service d.system.interfaces ≡ Some i
       → IsEnough i old.level (amount n (upgrade_caps (interface_in old.service d.system.interfaces) old.level))
   upgrade_enough place n e q k old spot link there i known =

@@ -13,7 +13,7 @@ use Rattle.gq_model.specs.declared.program.Section.TheVariants.{Main, Opening, U
 use Rattle.gq_model.specs.declared.fault.Wrong.TheVariants.{WrongKind, ExceededQuota, MissingSection}
 use Rattle.gq_model.specs.machine.Program.{section_in, body_of}
 use Rattle.gq_model.specs.machine.Scenario.{System, Component}
-use Rattle.gq_model.specs.machine.World.{Slot, Waiting, In_leaf, Session, Ask, Ask_open, Ask_upgrade, Ask_close, Ask_call, Request, Hand, Leaf, World}
+use Rattle.gq_model.specs.machine.World.{Slot, Waiting, In_leaf, Session, Ask, Ask_open, Ask_upgrade, Ask_close, Ask_call, Request, Current, Leaf, World}
 use Rattle.gq_model.specs.machine.World.{session_at, slot_at, leaf_slot, with_session}
 use Rattle.gq_model.specs.machine.Sums.{slot_price, places, raised, paid, donated}
 use Rattle.gq_model.specs.machine.Doing.{Doing, Event, Quiet, Finished, need, when, standing}
@@ -25,7 +25,7 @@ use Rattle.gq_model.specs.rules.Use.{subject}
 use Rattle.gq_laws.specs.Links.{named, Belongs, outline, outline_in, stance, links, IsLinkedWorld}
 use Rattle.gq_laws.specs.Typed.{Meets}
 use Rattle.gq_laws.specs.internal.Lending.{given_by, slot_given}
-use Rattle.gq_laws.specs.Statements.{Takes, LeavesOthers, KeepsSessionIn, IsInside}
+use Rattle.gq_laws.specs.Statements.{TakesLeaf, LeavesOthers, KeepsSessionIn, IsInside}
 use Rattle.gq_laws.specs.Replies.{slot_replied, session_replied, own_then, resuming, Replies, HasEnded}
 use Rattle.gq_laws.specs.Typing.{section_of, StandsBy, IsInSection, IsTypedBy, Extra}
 use Rattle.gq_laws.specs.internal.Holding.{IsBounded, main_points, own_part, PeaksWithin, HoldsNone, HoldsWithin, AllHold}
@@ -44,16 +44,16 @@ use Rattle.gq_laws.proofs.verified.Sure.{IsSure}
 
 -- where a leaf is active it stands in a section
 pub in_section : (promised : ℕ → Option Kind) (extra : Extra) (system : System) (w : World) (x : ℕ) (c : Component) (leaf : Leaf) (phase : Phase)
-    → IsActive phase → StandsBy promised extra system w x c leaf phase → IsInSection promised extra system w x c leaf phase (section_of leaf.hand)
+    → IsActive phase → StandsBy promised extra system w x c leaf phase → IsInSection promised extra system w x c leaf phase (section_of leaf.current)
 in_section promised extra system w x c leaf phase (inl e) s =
-    subst (λ p. IsInSection promised extra system w x c leaf p (section_of leaf.hand)) (sym e) (subst (StandsBy promised extra system w x c leaf) e s)
+    subst (λ p. IsInSection promised extra system w x c leaf p (section_of leaf.current)) (sym e) (subst (StandsBy promised extra system w x c leaf) e s)
 in_section promised extra system w x c leaf phase (inr e) s =
-    subst (λ p. IsInSection promised extra system w x c leaf p (section_of leaf.hand)) (sym e) (subst (StandsBy promised extra system w x c leaf) e s)
+    subst (λ p. IsInSection promised extra system w x c leaf p (section_of leaf.current)) (sym e) (subst (StandsBy promised extra system w x c leaf) e s)
 
 -- a session that a step keeps, but for its slots and its object, was given the same
-kept_gives : (r : Resource) (hand : Option Hand) (k : ℕ) (old new : Option Session) → KeepsSessionIn hand k old new → given_by r new ≤ given_by r old
-kept_gives r hand k None new e = let same = ap (given_by r) e in omega (arith, same)
-kept_gives r hand k (Some old) new e =
+kept_gives : (r : Resource) (current : Option Current) (k : ℕ) (old new : Option Session) → KeepsSessionIn current k old new → given_by r new ≤ given_by r old
+kept_gives r current k None new e = let same = ap (given_by r) e in omega (arith, same)
+kept_gives r current k (Some old) new e =
     let now = ap (given_by r) e.1 in let same = ap (λ (s : Session). donated r s) e.2.rest in omega (arith, now, same)
 
 accepted_gives : (r : Resource) (system : System) (ask : Ask) (s : Session) → donated r (accepted_as system ask s) ≡ donated r s
@@ -76,11 +76,11 @@ released_none leaf name after Serving h = tt
 released_none leaf name after Handling h = tt
 released_none leaf name after Exited h = h
 
-resumed_none : (leaf : Leaf) (hand : Option Hand) → HoldsNone leaf (resumed hand)
+resumed_none : (leaf : Leaf) (current : Option Current) → HoldsNone leaf (resumed current)
 resumed_none leaf None = tt
 resumed_none leaf (Some g) = tt
 
-module _ (d : Doing) (takes : Takes d) (peaks : d.leaf.peaks ≡ takes.old.peaks) (at : slice_get d.system.components d.x ≡ Some d.component)
+module _ (d : Doing) (takes : TakesLeaf d) (peaks : d.leaf.peaks ≡ takes.old.peaks) (at : slice_get d.system.components d.x ≡ Some d.component)
     (held : AllHold d.system d.world) where
   abbrev v : Subject
   v = subject d.system d.component
@@ -140,8 +140,8 @@ module _ (d : Doing) (takes : Takes d) (peaks : d.leaf.peaks ≡ takes.old.peaks
         let s = in_section promised (IsBounded d.system) d.system w d.x d.component leaf leaf.phase goes (t.leaves d.x d.component leaf at there) in
         let awake = no_close_awake promised d.system w h t.tells d.x leaf there (active_awake leaf.phase goes) in
         record {
-          own = own_bounded promised d.system sure w t d.x d.component at leaf leaf.phase (section_of leaf.hand) s awake;
-          peaks = raised_or (places_bounded promised d.system sure w t d.x d.component at leaf leaf.phase (section_of leaf.hand) s there)
+          own = own_bounded promised d.system sure w t d.x d.component at leaf leaf.phase (section_of leaf.current) s awake;
+          peaks = raised_or (places_bounded promised d.system sure w t d.x d.component at leaf leaf.phase (section_of leaf.current) s there)
               (peaks_inside d takes peaks w event inside is leaf there);
           none = active_none leaf leaf.phase goes;
         }
@@ -158,7 +158,7 @@ module _ (d : Doing) (takes : Takes d) (peaks : d.leaf.peaks ≡ takes.old.peaks
     goes_hold active inside others event is new there phase =
         all_same w (λ leaf found. inside_mine active inside event is leaf found (ap (λ (l : Leaf). l.phase) (some_same (sym found ∙ there)) ∙ phase))
         others.leaves
-        (λ r k. kept_gives r d.leaf.hand k (session_at d.world k) (session_at w k) (others.sessions k))
+        (λ r k. kept_gives r d.leaf.current k (session_at d.world k) (session_at w k) (others.sessions k))
 
   -- REQUESTS THAT ARE TAKEN UP
 
@@ -242,7 +242,7 @@ module _ (d : Doing) (takes : Takes d) (peaks : d.leaf.peaks ≡ takes.old.peaks
 
   -- THE END OF ANOTHER SECTION
 
-  module _ (promised : ℕ → Option Kind) (c : Context) (g : Hand) (s : Session) (end : State) (w : World) (h : IsLinkedWorld d.system d.world)
+  module _ (promised : ℕ → Option Kind) (c : Context) (g : Current) (s : Session) (end : State) (w : World) (h : IsLinkedWorld d.system d.world)
       (found : session_at d.world g.session ≡ Some s) (z : Replies promised c end d g s w) where
     abbrev slot : Slot
     slot = slot_replied g.section g.session
@@ -293,7 +293,7 @@ module _ (d : Doing) (takes : Takes d) (peaks : d.leaf.peaks ≡ takes.old.peaks
         let new = resuming z.client z.operands (own_then s.spot slot z.client.slots) in
         holds_less d.system d.world w b z.client new (held s.client b z.client placed z.was)
         (λ r. then_less r d.world w s.spot (Waiting g.session) slot z.client.slots waits_there (replied_price r g.section) (replied_given r g.section)
-        (λ i n e. replied_less r (named n))) refl (resumed_none new z.client.hand)
+        (λ i n e. replied_less r (named n))) refl (resumed_none new z.client.current)
 
     replies_hold : AllHold d.system w
     replies_hold =
@@ -307,10 +307,10 @@ module _ (d : Doing) (takes : Takes d) (peaks : d.leaf.peaks ≡ takes.old.peaks
         ])
 
   -- a section has ended
-  pub ended_hold : (promised : ℕ → Option Kind) (h : IsLinkedWorld d.system d.world) (handles : (g : Hand) → d.leaf.hand ≡ Some g
-      → d.leaf.phase ≡ Handling) (hand : Option Hand) → d.leaf.hand ≡ hand → (end last : State)
-      → Meets promised (context v (section_of d.leaf.hand)) end d.world d.leaf → section_end v (section_of d.leaf.hand) end ≡ Ok last
-      → (w : World) (event : Event) → section_ended d d.leaf.hand ≡ Ok (w, event) → AllHold d.system w
+  pub ended_hold : (promised : ℕ → Option Kind) (h : IsLinkedWorld d.system d.world) (handles : (g : Current) → d.leaf.current ≡ Some g
+      → d.leaf.phase ≡ Handling) (current : Option Current) → d.leaf.current ≡ current → (end last : State)
+      → Meets promised (context v (section_of d.leaf.current)) end d.world d.leaf → section_end v (section_of d.leaf.current) end ≡ Ok last
+      → (w : World) (event : Event) → section_ended d d.leaf.current ≡ Ok (w, event) → AllHold d.system w
   ended_hold promised h handles None mine end last meets ends w event is =
       (main_ends d.component.node.provides).holds w event (subst (λ o. section_ended d o ≡ Ok (w, event)) mine is)
   ended_hold promised h handles (Some g) mine end last meets ends w event is =
@@ -319,5 +319,5 @@ module _ (d : Doing) (takes : Takes d) (peaks : d.leaf.peaks ≡ takes.old.peaks
       let m : Meets promised (context v g.section) end d.world d.leaf = subst (λ o. Meets promised (context v (section_of o)) end d.world d.leaf) mine meets in
       let last_is : section_end v g.section end ≡ Ok last = subst (λ o. section_end v (section_of o) end ≡ Ok last) mine ends in
       let ended : HasEnded promised (context v g.section) end d g s.0 w =
-      record { meets = m; last = last; ends = last_is; at_hand = mine; there = s.1; event = event; ended = is } in
+      record { meets = m; last = last; ends = last_is; at_current = mine; there = s.1; event = event; ended = is } in
       replies_hold promised (context v g.section) g s.0 end w h s.1 (replies_ruled promised (context v g.section) d takes h (handles g mine) end g s.0 w ended)

@@ -5,7 +5,7 @@ use Rattle.gq_model.specs.machine.World.{World}
 use Rattle.gq_model.specs.machine.Doing.{Doing}
 use Rattle.gq_model.specs.rules.Kinds.{Kind}
 use Rattle.gq_laws.specs.Links.{IsLinkedWorld}
-use Rattle.gq_laws.specs.Statements.{Takes}
+use Rattle.gq_laws.specs.Statements.{TakesLeaf}
 use Rattle.gq_laws.specs.Asking.{promised_anew}
 use Rattle.gq_laws.specs.Typing.{IsTypedBy}
 use Rattle.gq_laws.specs.internal.Holding.{IsBounded, IsHeld}
@@ -15,7 +15,7 @@ use Rattle.gq_laws.proofs.typing.Bounded.{goes_bounded, asked_bounded, taken_bou
 use Rattle.gq_laws.proofs.holding.By_leaves.{leaves_hold}
 use Rattle.gq_laws.proofs.holding.By_sessions.{TypedAfter, outcome_held}
 
-module _ (promised : ℕ → Option Kind) (d : Doing) (sure : IsSure d.system) (takes : Takes d) (peaks : d.leaf.peaks ≡ takes.old.peaks)
+module _ (promised : ℕ → Option Kind) (d : Doing) (sure : IsSure d.system) (takes : TakesLeaf d) (peaks : d.leaf.peaks ≡ takes.old.peaks)
     (h : IsLinkedWorld d.system d.world) (t : IsTypedBy promised (IsBounded d.system) d.system d.world)
     (at : slice_get d.system.components d.x ≡ Some d.component)
     (held : IsHeld d.system d.world) (w : World) (linked : IsLinkedWorld d.system w) where

@@ -12,17 +12,18 @@ use Rattle.gq_model.specs.declared.program.Section.{Section}
 use Rattle.gq_model.specs.declared.program.Section.TheVariants.{Main, Opening, Upgrading, Calling, Closing}
 use Rattle.gq_model.specs.machine.Program.{Statements, Done, Do, If, Loop}
 use Rattle.gq_model.specs.machine.Scenario.{System, Component}
-use Rattle.gq_model.specs.machine.World.{Slot, Empty, Waiting, Bytes, Pool, Link, In_leaf, Session, Hand, Leaf, World, joined, session_at, slot_at, leaf_slot}
+use Rattle.gq_model.specs.machine.World.{Slot, Empty, Waiting, Bytes, Pool, Link, In_leaf, Session, Current, Leaf, World, joined, session_at, slot_at}
+use Rattle.gq_model.specs.machine.World.{leaf_slot}
 use Rattle.gq_model.specs.machine.Sums.{slot_places, to_leaf, places}
 use Rattle.gq_model.specs.rules.Kinds.{Kind, State, Subject, Context, in_main, inside, no_kinds, kind_places, kinds_cost}
 use Rattle.gq_model.specs.rules.Rules.{Judged, judged}
 use Rattle.gq_model.specs.rules.Flow.{at, state_or, flow, points, context, body, start_of, bank_at}
-use Rattle.gq_laws.specs.Kept.{section_if, section_at_hand, within, bank_kinds}
+use Rattle.gq_laws.specs.Kept.{section_if, current_section, within, bank_kinds}
 use Rattle.gq_model.specs.rules.Use.{subject}
 use Rattle.gq_laws.specs.Shapes.{Each}
 use Rattle.gq_laws.specs.Links.{Waits, Belongs, Stance, stance_in, naming_in, links, IsLinkedWorld}
-use Rattle.gq_laws.specs.Typed.{HandMeets}
-use Rattle.gq_laws.specs.Typing.{GoesOnFrom, Tells, FitsService, IsInSection, IsTypedBy}
+use Rattle.gq_laws.specs.Typed.{CurrentMeets}
+use Rattle.gq_laws.specs.Typing.{GoesOnFrom, PromisesSessions, FitsService, IsInSection, IsTypedBy}
 use Rattle.gq_laws.specs.Replies.{once_replied}
 use Rattle.gq_laws.specs.internal.Holding.{main_points, IsBounded, own_part}
 use Rattle.gq_model.proofs.Small.{some_same}
@@ -148,9 +149,9 @@ module _ (promised : ℕ → Option Kind) (system : System) (sure : IsSure syste
     own_places k = let fit = places_fit promised k leaf.slots s.state.own s.meets.own in let under = own_under (sum_by (kind_places k)) in
         omega (arith, fit, under)
 
-    -- the session at hand has none
-    hand_light : (k : ℕ) → sum_by (kind_places k) s.state.bank ≡ 0
-    hand_light k =
+    -- the current session has none
+    current_light : (k : ℕ) → sum_by (kind_places k) s.state.bank ≡ 0
+    current_light k =
         let here = point_here (in_bank k) (context v section) s.next leaf.todo leaf.loops in
         let whole = (s.also c at_place).0 (in_bank k) in
         let none = points_light k promised (context v section) (start_of v section) (body v section) (bank_before_no_heap v section) in
@@ -164,30 +165,30 @@ module _ (promised : ℕ → Option Kind) (system : System) (sure : IsSure syste
     module _ (there : slice_get w.leaves x ≡ Some leaf) (k : ℕ) where
       -- nor has another session to the leaf
       session_light : (j : ℕ) (u : Session) → session_at w j ≡ Some u → u.server ≡ x → sum_by (slot_places k) u.slots ≡ 0
-      session_light j u found serves = by leaf.hand refl
+      session_light j u found serves = by leaf.current refl
         where
-          rests : section_if j leaf.hand ≡ None → sum_by (slot_places k) u.slots ≡ 0
+          rests : section_if j leaf.current ≡ None → sum_by (slot_places k) u.slots ≡ 0
           rests none =
               let f : FitsService promised system w j u = t.sessions j u found in
-              let r = f.rests c (ap (slice_get system.components) serves ∙ at_place) (ap (λ y. section_at_hand j (slice_get w.leaves y)) serves
-              ∙ (ap (section_at_hand j) there ∙ none)) in
+              let r = f.rests c (ap (slice_get system.components) serves ∙ at_place) (ap (λ y. current_section j (slice_get w.leaves y)) serves
+              ∙ (ap (current_section j) there ∙ none)) in
               let fit = places_fit promised k u.slots (bank_kinds system c u) r.bank in
               let light = kinds_none promised k (bank_kinds system c u) (rests_light u.accepted u.level) in
               omega (arith, fit, light)
 
-          at_hand : (g : Hand) → leaf.hand ≡ Some g → g.session ≡ j → sum_by (slot_places k) u.slots ≡ 0
-          at_hand g e is =
-              let m = subst (HandMeets promised (within (context v section) leaf.loops) s.state.bank w) e s.meets.bank in
+          at_current : (g : Current) → leaf.current ≡ Some g → g.session ≡ j → sum_by (slot_places k) u.slots ≡ 0
+          at_current g e is =
+              let m = subst (CurrentMeets promised (within (context v section) leaf.loops) s.state.bank w) e s.meets.bank in
               let fit = places_fit promised k m.0.slots s.state.bank m.2.slots in
-              let light = hand_light k in
+              let light = current_light k in
               let one = ap (λ (q : Session). sum_by (slot_places k) q.slots) (some_same (sym found ∙ (ap (session_at w) (sym is) ∙ m.1))) in
               omega (arith, fit, light, one)
 
-          by : (o : Option Hand) → leaf.hand ≡ o → sum_by (slot_places k) u.slots ≡ 0
+          by : (o : Option Current) → leaf.current ≡ o → sum_by (slot_places k) u.slots ≡ 0
           by None e = rests (ap (section_if j) e)
           by (Some g) e =
               elim (eqb_tells g.session j) [
-                | inl q ↦ at_hand g e q.1
+                | inl q ↦ at_current g e q.1
                 | inr q ↦ rests (ap (section_if j) e ∙ ap (λ b. cond b (Some g.section) None) q.0)
               ]
 
@@ -199,7 +200,7 @@ module _ (promised : ℕ → Option Kind) (system : System) (sure : IsSure syste
 -- SLOTS THAT WAIT
 
 -- where those of a leaf's own slots that wait do not wait for a close, none does
-pub no_close_each : (promised : ℕ → Option Kind) (system : System) (w : World) → IsLinkedWorld system w → Tells promised w → (x : ℕ) (leaf : Leaf)
+pub no_close_each : (promised : ℕ → Option Kind) (system : System) (w : World) → IsLinkedWorld system w → PromisesSessions promised w → (x : ℕ) (leaf : Leaf)
     → slice_get w.leaves x ≡ Some leaf
     → ((i k : ℕ) → slot_at w (In_leaf x i) ≡ Some (Waiting k) → NoClose w (Waiting k)) → Each (NoClose w) leaf.slots
 no_close_each promised system w h tells x leaf there waits = each_found (NoClose w) leaf.slots (λ i slot e. by i slot (ap (λ o. leaf_slot o i) there ∙ e))
@@ -221,7 +222,7 @@ waits_blocked system w h x i k leaf there e =
     ap (λ (u : Stance). u.phase) (some_same (sym (ap stance_in there) ∙ (ap (links w).stances client ∙ waits.1)))
 
 -- so none of a leaf that is not blocked waits for a close
-pub no_close_awake : (promised : ℕ → Option Kind) (system : System) (w : World) → IsLinkedWorld system w → Tells promised w → (x : ℕ) (leaf : Leaf)
+pub no_close_awake : (promised : ℕ → Option Kind) (system : System) (w : World) → IsLinkedWorld system w → PromisesSessions promised w → (x : ℕ) (leaf : Leaf)
     → slice_get w.leaves x ≡ Some leaf → leaf.phase ≢ Blocked → Each (NoClose w) leaf.slots
 no_close_awake promised system w h tells x leaf there awake =
     no_close_each promised system w h tells x leaf there (λ i k e. absurd (awake (waits_blocked system w h x i k leaf there e)))

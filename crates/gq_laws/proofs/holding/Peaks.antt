@@ -20,7 +20,7 @@ use Rattle.gq_model.specs.machine.Requests.{asked, call, link_at}
 use Rattle.gq_model.specs.machine.Memory.{load, store, take_entry, give_entry, peek, poke, entry_byte, entry_with, make, free, is_memory, is_kept, bytes_spot}
 use Rattle.gq_model.specs.machine.Memory.{bytes_at, pool_at}
 use Rattle.gq_model.specs.machine.Step.{instruct, body_ended, perform}
-use Rattle.gq_laws.specs.Statements.{IsOfOwn, IsInside, Takes}
+use Rattle.gq_laws.specs.Statements.{IsOfOwn, IsInside, TakesLeaf}
 use Rattle.gq_laws.specs.Asking.{IsServed}
 use Rattle.gq_laws.proofs.turning.Endings.{Ends, gives, need_ends, need_found, when_ends, pop_ends, push_ends, link_in_ends, absent_ends, fill_ends}
 use Rattle.gq_laws.proofs.turning.Endings.{bytes_in_ends}
@@ -127,26 +127,26 @@ module _ (d : Doing) (h : HasPeaks d.x d.leaf.peaks d.world) where
   raises_settled = settled_raises d.x d.leaf.peaks d.system
 
   make_raises : (place : Place) (slot : Slot) → Ends Raised (make d place slot)
-  make_raises place slot = need_ends Raised (spot_of d.x d.leaf.hand place) _ _
+  make_raises place slot = need_ends Raised (spot_of d.x d.leaf.current place) _ _
       (λ q. fill_ends Raised Same same_slot (standing d d.leaf) q (slot_at (standing d d.leaf) q) slot _ keeps_leaf (λ v hv. raises_settled v hv))
 
   free_stays : (place : Place) → Ends Raised (free d place)
-  free_stays place = need_ends Raised (spot_of d.x d.leaf.hand place) _ _ (λ q.
+  free_stays place = need_ends Raised (spot_of d.x d.leaf.current place) _ _ (λ q.
       let w = with_slot (standing d d.leaf) q Empty in
-      when_ends Raised (is_memory (slot_at (standing d d.leaf) q) && not (is_kept d d.leaf.hand place)) WrongKind (if_paid d.system w Quiet)
+      when_ends Raised (is_memory (slot_at (standing d d.leaf) q) && not (is_kept d d.leaf.current place)) WrongKind (if_paid d.system w Quiet)
       (when_ends Raised (paid d.system w) ExceededQuota (Ok (w, Quiet)) (gives w Quiet (stays w (same_slot (standing d d.leaf) q Empty keeps_leaf)))))
 
   bytes_stay : (w : World) (place : Place) (go : List ℕ → (List ℕ → World) → Stepped) → Same w
       → ((bytes : List ℕ) (put : List ℕ → World) → ((new : List ℕ) → Same (put new)) → Ends Raised (go bytes put)) → Ends Raised (bytes_at d w place go)
   bytes_stay w place go hw each =
-      need_ends Raised (spot_of d.x d.leaf.hand place) _ _
+      need_ends Raised (spot_of d.x d.leaf.current place) _ _
       (λ named. need_ends Raised (bytes_spot d.system w (slot_at w named) named) _ _
       (λ q. bytes_in_ends Raised Same same_slot w q (slot_at w q) go hw each))
 
   pool_stays : (w : World) (place : Place) (go : ℕ → List (Option (List ℕ)) → (List (Option (List ℕ)) → World) → Stepped) → Same w
       → ((n : ℕ) (entries : List (Option (List ℕ))) (put : List (Option (List ℕ)) → World) → ((new : List (Option (List ℕ))) → Same (put new))
       → Ends Raised (go n entries put)) → Ends Raised (pool_at d w place go)
-  pool_stays w place go hw each = need_ends Raised (spot_of d.x d.leaf.hand place) _ _ (λ q. pool_in_ends Raised Same same_slot w q (slot_at w q) go hw each)
+  pool_stays w place go hw each = need_ends Raised (spot_of d.x d.leaf.current place) _ _ (λ q. pool_in_ends Raised Same same_slot w q (slot_at w q) go hw each)
 
   load_stays : (width : Width) (place : Place) → Ends Raised (load d width place)
   load_stays width place =
@@ -218,11 +218,11 @@ module _ (d : Doing) (h : HasPeaks d.x d.leaf.peaks d.world) where
   more_sessions = sessions_kept d.x d.leaf.peaks
 
   call_keeps : (place : Place) → Ends Same (call d place)
-  call_keeps place = pop_ends Same _ _ (λ a rest. need_ends Same (spot_of d.x d.leaf.hand place) WrongKind _
+  call_keeps place = pop_ends Same _ _ (λ a rest. need_ends Same (spot_of d.x d.leaf.current place) WrongKind _
       (λ q. link_in_ends Same d.world (slot_at d.world q) _ (λ k s. asked_keeps rest d.world q k (Ask_call a) h)))
 
   link_keeps : (place : Place) (go : Spot → ℕ → Session → Stepped) → ((q : Spot) (k : ℕ) (s : Session) → Ends Same (go q k s)) → Ends Same (link_at d place go)
-  link_keeps place go each = need_ends Same (spot_of d.x d.leaf.hand place) _ _ (λ q. link_in_ends Same d.world (slot_at d.world q) (go q) (each q))
+  link_keeps place go each = need_ends Same (spot_of d.x d.leaf.current place) _ _ (λ q. link_in_ends Same d.world (slot_at d.world q) (go q) (each q))
 
   asks_keep : (i : Instruction) → IsServed d i → Ends Same (instruct d i)
   asks_keep (Open place service n) served = search (
@@ -245,7 +245,7 @@ module _ (d : Doing) (h : HasPeaks d.x d.leaf.peaks d.world) where
 
 -- STEPS
 
-has_peaks : (d : Doing) (takes : Takes d) → d.leaf.peaks ≡ takes.old.peaks → HasPeaks d.x d.leaf.peaks d.world
+has_peaks : (d : Doing) (takes : TakesLeaf d) → d.leaf.peaks ≡ takes.old.peaks → HasPeaks d.x d.leaf.peaks d.world
 has_peaks d takes same = record { keeps = λ leaf there. ap (λ (l : Leaf). l.peaks) (some_same (sym there ∙ takes.there)) ∙ sym same }
 
 perform_raises : (d : Doing) → HasPeaks d.x d.leaf.peaks d.world → (todo : Statements) → IsInside todo d.leaf.loops
@@ -265,13 +265,13 @@ perform_raises d h (If arm other rest) inside = pop_ends (RaisesPeaks d.x d.leaf
 perform_raises d h (Loop count body rest) inside = gives _ Quiet (stays d h _ (stands d h _ refl))
 
 -- a step inside a section keeps the leaf's peaks, or raises them to what is in use then
-pub peaks_inside : (d : Doing) (takes : Takes d) → d.leaf.peaks ≡ takes.old.peaks → (w : World) (event : Event) → IsInside d.leaf.todo d.leaf.loops
+pub peaks_inside : (d : Doing) (takes : TakesLeaf d) → d.leaf.peaks ≡ takes.old.peaks → (w : World) (event : Event) → IsInside d.leaf.todo d.leaf.loops
     → perform d d.leaf.todo ≡ Ok (w, event)
     → (leaf : Leaf) → slice_get w.leaves d.x ≡ Some leaf → (leaf.peaks ≡ d.leaf.peaks) ⊎ (leaf.peaks ≡ raised w d.x leaf classes d.leaf.peaks)
 peaks_inside d takes same w event inside e = ((perform_raises d (has_peaks d takes same) d.leaf.todo inside).holds w event e).raises
 
 -- a statement that asks something of a session keeps them
-pub peaks_asked : (d : Doing) (takes : Takes d) → d.leaf.peaks ≡ takes.old.peaks → (i : Instruction) → IsServed d i → (w : World) (event : Event)
+pub peaks_asked : (d : Doing) (takes : TakesLeaf d) → d.leaf.peaks ≡ takes.old.peaks → (i : Instruction) → IsServed d i → (w : World) (event : Event)
     → instruct d i ≡ Ok (w, event)
     → (leaf : Leaf) → slice_get w.leaves d.x ≡ Some leaf → leaf.peaks ≡ d.leaf.peaks
 peaks_asked d takes same i served w event e = ((asks_keep d (has_peaks d takes same) i served).holds w event e).keeps

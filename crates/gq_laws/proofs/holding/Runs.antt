@@ -21,7 +21,7 @@ use Rattle.gq_model.specs.Promises.{budget_of}
 use Rattle.gq_laws.specs.Links.{IsLinkedWorld}
 use Rattle.gq_laws.specs.Sound.{IsSound}
 use Rattle.gq_laws.specs.internal.Left.{AllAre, AreLeft, IsGood}
-use Rattle.gq_laws.specs.Statements.{Takes}
+use Rattle.gq_laws.specs.Statements.{TakesLeaf}
 use Rattle.gq_laws.specs.Typing.{IsTypedBy}
 use Rattle.gq_laws.specs.internal.Lending.{slot_given}
 use Rattle.gq_laws.specs.internal.Holding.{IsBounded, main_points, PeaksWithin, HoldsNone, HoldsWithin, IsHeld}
@@ -133,7 +133,7 @@ module _ (s : Scenario) (sound : IsSound s) where
       by (Some c) f None g k = (gives {P = Stands} w Idle h).holds new event k
       by (Some c) f (Some leaf) g k =
           let d : Doing = record { system = u; world = w; x = x; component = c; leaf = record leaf { steps = suc leaf.steps } } in
-          let taken : Takes d = record { old = leaf; there = g; slots = refl; phase = refl; hand = refl } in
+          let taken : TakesLeaf d = record { old = leaf; there = g; slots = refl; phase = refl; current = refl } in
           let good = all_good_same real c leaf.todo (h.left x c leaf f g).todo in
           let stands = counted h.promised (IsBounded u) u w x c leaf (suc leaf.steps) leaf.phase (h.typed.leaves x c leaf f g) in
           let o = (outcome h.promised (IsBounded u) d sure taken h.linked h.typed f good stands).ends new event k in
@@ -158,7 +158,7 @@ module _ (s : Scenario) (sound : IsSound s) where
       by (Some c) f None g k = absurd (no k)
       by (Some c) f (Some leaf) g k =
           let d : Doing = record { system = u; world = w; x = x; component = c; leaf = record leaf { steps = suc leaf.steps } } in
-          let taken : Takes d = record { old = leaf; there = g; slots = refl; phase = refl; hand = refl } in
+          let taken : TakesLeaf d = record { old = leaf; there = g; slots = refl; phase = refl; current = refl } in
           let good = all_good_same real c leaf.todo (h.left x c leaf f g).todo in
           let stands = counted h.promised (IsBounded u) u w x c leaf (suc leaf.steps) leaf.phase (h.typed.leaves x c leaf f g) in
           never_short real w x wrong e ((outcome h.promised (IsBounded u) d sure taken h.linked h.typed f good stands).short wrong k)

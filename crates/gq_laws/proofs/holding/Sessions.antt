@@ -8,7 +8,7 @@ use Rattle.gq_model.specs.declared.program.Section.{Section}
 use Rattle.gq_model.specs.declared.program.Section.TheVariants.{Main, Opening, Upgrading, Calling, Closing}
 use Rattle.gq_model.specs.machine.Program.{section_in, body_of}
 use Rattle.gq_model.specs.machine.Scenario.{Interface, System, interface_in}
-use Rattle.gq_model.specs.machine.World.{Slot, Waiting, In_session, Session, Ask, Ask_open, Ask_upgrade, Ask_close, Ask_call, Request, Hand, Leaf, World}
+use Rattle.gq_model.specs.machine.World.{Slot, Waiting, In_session, Session, Ask, Ask_open, Ask_upgrade, Ask_close, Ask_call, Request, Current, Leaf, World}
 use Rattle.gq_model.specs.machine.World.{session_at, with_session, session_slot, slot_at}
 use Rattle.gq_model.specs.machine.Sums.{slot_price}
 use Rattle.gq_model.specs.rules.Kinds.{Kind, State, Context}
@@ -20,7 +20,7 @@ use Rattle.gq_laws.specs.Shapes.{Each}
 use Rattle.gq_laws.specs.Links.{outline, outline_in, links, requests_of, Stands, IsAsked, IsLinkedWorld}
 use Rattle.gq_laws.specs.internal.Lending.{given_by, slot_given}
 use Rattle.gq_laws.specs.Typed.{Meets}
-use Rattle.gq_laws.specs.Statements.{Takes, bare, IsElse, KeepsSession, KeepsSessionIn, LeavesOthers, LeadsOn}
+use Rattle.gq_laws.specs.Statements.{TakesLeaf, bare, IsElse, KeepsSession, KeepsSessionIn, LeavesOthers, LeadsOn}
 use Rattle.gq_laws.specs.Replies.{Replies, slot_replied, session_replied}
 use Rattle.gq_laws.specs.Typing.{section_of, IsTypedBy}
 use Rattle.gq_laws.specs.internal.Holding.{IsBounded, bank_part, CostsWithin, GivesFor}
@@ -57,45 +57,45 @@ accepted_given system (Ask_call value) s h g = h
 
 -- A STEP INSIDE A SECTION
 
-module _ (promised : ℕ → Option Kind) (d : Doing) (sure : IsSure d.system) (takes : Takes d) (h : IsLinkedWorld d.system d.world)
+module _ (promised : ℕ → Option Kind) (d : Doing) (sure : IsSure d.system) (takes : TakesLeaf d) (h : IsLinkedWorld d.system d.world)
     (t : IsTypedBy promised (IsBounded d.system) d.system d.world) (at : slice_get d.system.components d.x ≡ Some d.component)
     (held : AreHeld d.system d.world) (w : World) (linked : IsLinkedWorld d.system w) (typed : IsTypedBy promised (IsBounded d.system) d.system w) where
   module _ (a : Acts promised (IsBounded d.system) d) (others : LeavesOthers d w)
-      (leads : LeadsOn promised (context (subject d.system d.component) (section_of d.leaf.hand)) a.state a.end d w) where
+      (leads : LeadsOn promised (context (subject d.system d.component) (section_of d.leaf.current)) a.state a.end d w) where
     less : NoMoreGiven d.world w
     less r k = by (session_at d.world k) (others.sessions k)
       where
-        by : (o : Option Session) → KeepsSessionIn d.leaf.hand k o (session_at w k) → given_by r (session_at w k) ≤ given_by r o
+        by : (o : Option Session) → KeepsSessionIn d.leaf.current k o (session_at w k) → given_by r (session_at w k) ≤ given_by r o
         by None e = let f = ap (given_by r) e in omega (arith, f)
         by (Some old) e =
             let f = ap (given_by r) e.1 in let same = ap (λ (u : Session). part r u.donation) e.2.rest in omega (arith, f, same)
 
-    -- the session at hand is at a point of its section, which is covered
-    at_hand : (g : Hand) → d.leaf.hand ≡ Some g → (s : Session) → session_at w g.session ≡ Some s → IsCovered d.system s (λ r. bank_part r w s)
-    at_hand g mine s there =
+    -- the current session is at a point of its section, which is covered
+    at_current : (g : Current) → d.leaf.current ≡ Some g → (s : Session) → session_at w g.session ≡ Some s → IsCovered d.system s (λ r. bank_part r w s)
+    at_current g mine s there =
         let phase = leads.phase ∙ handling promised (IsBounded d.system) d sure takes h t at g mine a.active in
-        let hand = leads.hand ∙ mine in
-        let server = its_server promised d.system sure w linked typed d.x d.component leads.leaf at leads.there g s hand there in
+        let current = leads.current ∙ mine in
+        let server = its_server promised d.system sure w linked typed d.x d.component leads.leaf at leads.there g s current there in
         let opens = active_open promised d.system sure w linked typed g.session s there d.x leads.leaf leads.there
         (λ e. handling_blocked (sym phase ∙ e)) server in
-        handling_bounded promised d.system sure w linked typed d.x d.component leads.leaf at leads.there g s hand there opens phase
+        handling_bounded promised d.system sure w linked typed d.x d.component leads.leaf at leads.there g s current there opens phase
 
     costs_each : (k : ℕ) (s : Session) → session_at w k ≡ Some s → CostsWithin d.system w s
-    costs_each k s there = by d.leaf.hand refl
+    costs_each k s there = by d.leaf.current refl
       where
-        b : (old : Session) × (session_at d.world k ≡ Some old) × KeepsSession d.leaf.hand k old s
+        b : (old : Session) × (session_at d.world k ≡ Some old) × KeepsSession d.leaf.current k old s
         b = session_back d w others k s there
 
-        else : IsElse k d.leaf.hand → CostsWithin d.system w s
+        else : IsElse k d.leaf.current → CostsWithin d.system w s
         else ne = costs_bare d.system b.0 s b.2.rest d.world w (λ r. stay_part d.world w r less b.0 s b.2.object (b.2.slots ne)) (held.0 k b.0 b.1)
 
-        here : (g : Hand) → d.leaf.hand ≡ Some g → g.session ≡ k → CostsWithin d.system w s
+        here : (g : Current) → d.leaf.current ≡ Some g → g.session ≡ k → CostsWithin d.system w s
         here g mine same = record {
-          costs = at_hand g mine s (ap (session_at w) same ∙ there);
+          costs = at_current g mine s (ap (session_at w) same ∙ there);
           given = given_bare d.system b.0 s b.2.rest (held.0 k b.0 b.1).given;
         }
 
-        by : (o : Option Hand) → d.leaf.hand ≡ o → CostsWithin d.system w s
+        by : (o : Option Current) → d.leaf.current ≡ o → CostsWithin d.system w s
         by None e = else (subst (IsElse k) (sym e) tt)
         by (Some g) e = elim (eqb_tells g.session k) [ inl f ↦ here g e f.1 | inr f ↦ else (subst (IsElse k) (sym e) f.1) ]
 
@@ -116,11 +116,11 @@ module _ (promised : ℕ → Option Kind) (d : Doing) (sure : IsSure d.system) (
       abbrev new : Session
       new = accepted_as d.system q.ask old
 
-      abbrev hand_then : Hand
-      hand_then = record { session = k; section = section_for q.ask new.level }
+      abbrev current_then : Current
+      current_then = record { session = k; section = section_for q.ask new.level }
 
       abbrev leaf_then : Leaf
-      leaf_then = beginning d.leaf hand_then (first_operands q.ask) (body_of (section_in hand_then.section d.component.node.program.sections))
+      leaf_then = beginning d.leaf current_then (first_operands q.ask) (body_of (section_in current_then.section d.component.node.program.sections))
 
       abbrev between : World
       between = record (standing d leaf_then) { requests = left }
@@ -164,9 +164,9 @@ module _ (promised : ℕ → Option Kind) (d : Doing) (sure : IsSure d.system) (
       -- the leaf is at the start of the section, which is covered
       its_costs : IsCovered d.system new (λ r. bank_part r w new)
       its_costs =
-          let server = its_server promised d.system sure w linked typed d.x d.component leaf_then at leaf_there hand_then new refl session_now in
+          let server = its_server promised d.system sure w linked typed d.x d.component leaf_then at leaf_there current_then new refl session_now in
           let opens = active_open promised d.system sure w linked typed k new session_now d.x leaf_then leaf_there handling_blocked server in
-          handling_bounded promised d.system sure w linked typed d.x d.component leaf_then at leaf_there hand_then new refl session_now opens refl
+          handling_bounded promised d.system sure w linked typed d.x d.component leaf_then at leaf_there current_then new refl session_now opens refl
 
       taken_costs : (j : ℕ) (s : Session) → session_at w j ≡ Some s → CostsWithin d.system w s
       taken_costs j s e =
@@ -204,17 +204,18 @@ module _ (promised : ℕ → Option Kind) (d : Doing) (sure : IsSure d.system) (
       by None = when_ends (AreHeld d.system) _ _ _ (gives (exit_of d) Finished (same_held d.system d.world (exit_of d) (λ k. refl) refl held))
 
   -- of a session
-  module _ (g : Hand) (s : Session) (mine : d.leaf.hand ≡ Some g) (found : session_at d.world g.session ≡ Some s) (a : Acts promised (IsBounded d.system) d)
-      (last : State) (meets : Meets promised (context (subject d.system d.component) (section_of d.leaf.hand)) a.end d.world d.leaf)
-      (ends : section_end (subject d.system d.component) (section_of d.leaf.hand) a.end ≡ Ok last) (event : Event)
-      (is : section_ended d d.leaf.hand ≡ Ok (w, event)) where
+  module _ (g : Current) (s : Session) (mine : d.leaf.current ≡ Some g) (found : session_at d.world g.session ≡ Some s)
+      (a : Acts promised (IsBounded d.system) d)
+      (last : State) (meets : Meets promised (context (subject d.system d.component) (section_of d.leaf.current)) a.end d.world d.leaf)
+      (ends : section_end (subject d.system d.component) (section_of d.leaf.current) a.end ≡ Ok last) (event : Event)
+      (is : section_ended d d.leaf.current ≡ Ok (w, event)) where
     abbrev c : Context
-    c = context (subject d.system d.component) (section_of d.leaf.hand)
+    c = context (subject d.system d.component) (section_of d.leaf.current)
 
     replies : Replies promised c a.end d g s w
     replies =
         replies_ruled promised c d takes h (handling promised (IsBounded d.system) d sure takes h t at g mine a.active) a.end g s w
-        (record { meets = meets; last = last; ends = ends; at_hand = mine; there = found; event = event; ended = is })
+        (record { meets = meets; last = last; ends = ends; at_current = mine; there = found; event = event; ended = is })
 
     -- the session is as it was, or gone
     replied_given : (r : Resource) (section : Section) → given_by r (session_replied section s) ≤ given_by r (Some s)

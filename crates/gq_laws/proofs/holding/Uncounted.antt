@@ -11,7 +11,8 @@ use Rattle.gq_model.specs.declared.phase.Phase.TheVariants.{Pending, Running, Bl
 use Rattle.gq_model.specs.declared.fault.Wrong.{Wrong}
 use Rattle.gq_model.specs.declared.fault.Wrong.TheVariants.{MissingOperand, WrongKind, UnmappedByte, ExceededQuota, MissingSection}
 use Rattle.gq_model.specs.machine.Scenario.{System, Component}
-use Rattle.gq_model.specs.machine.World.{Slot, Empty, Bytes, Pool, Link, Spot, Session, Ask, Ask_call, Request, Hand, Round, Leaf, World, session_at, slot_at}
+use Rattle.gq_model.specs.machine.World.{Slot, Empty, Bytes, Pool, Link, Spot, Session, Ask, Ask_call, Request, Current, Round, Leaf, World, session_at}
+use Rattle.gq_model.specs.machine.World.{slot_at}
 use Rattle.gq_model.specs.machine.World.{spot_of}
 use Rattle.gq_model.specs.machine.Sums.{all_paid, paid}
 use Rattle.gq_model.specs.machine.Doing.{Event, Idle, Quiet, Finished, Doing, Stepped, need, when, pop, push, if_paid, with_operands, fill, settled}
@@ -155,7 +156,7 @@ module _ (d : Doing) where
 module _ (d : Doing) where
   instruct_alike : (i : Instruction) → Alike d.system (instruct d i) (instruct (free_of_quota d) i)
   instruct_alike (Call place) =
-      pop_alike d.system d.leaf.operands _ _ (λ a rest. need_alike d.system (spot_of d.x d.leaf.hand place) WrongKind _ _ other_kind
+      pop_alike d.system d.leaf.operands _ _ (λ a rest. need_alike d.system (spot_of d.x d.leaf.current place) WrongKind _ _ other_kind
       (λ spot. link_in_alike d.system d.world (slot_at d.world spot) _ _ (λ k s.
       asked_alike (record d { leaf = with_operands d rest }) d.world spot k (Ask_call a))))
   instruct_alike i =
@@ -194,12 +195,12 @@ module _ (d : Doing) where
   main_alike (Some service) = ends_alike d.system _ Quiet
   main_alike None = when_alike d.system _ WrongKind _ _ other_kind (ends_alike d.system _ Finished)
 
-  section_alike : (hand : Option Hand) → Twin d (section_ended d hand) (section_ended (free_of_quota d) hand)
+  section_alike : (current : Option Current) → Twin d (section_ended d current) (section_ended (free_of_quota d) current)
   section_alike None = main_alike d.component.node.provides
-  section_alike (Some hand) = need_alike d.system _ WrongKind _ _ other_kind (λ s. reply_alike hand.session hand.section s)
+  section_alike (Some current) = need_alike d.system _ WrongKind _ _ other_kind (λ s. reply_alike current.session current.section s)
 
   body_alike : (loops : List Round) → Twin d (body_ended d loops) (body_ended (free_of_quota d) loops)
-  body_alike [] = section_alike d.leaf.hand
+  body_alike [] = section_alike d.leaf.current
   body_alike (r ∷ loops) = ends_alike d.system _ Quiet
 
   begun_in : (w : World) (body : Option Statements) → ((v : World) (e : Event) → need body MissingSection (λ b. Ok (w, Quiet)) ≡ Ok (v, e) → v ≡ w)

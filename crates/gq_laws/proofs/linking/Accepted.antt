@@ -1,4 +1,4 @@
--- Steps that leave the same links, and those that accept a request, keep sessions, slots, requests and hands in agreement.
+-- Steps that leave the same links, and those that accept a request, keep sessions, slots, requests and current requests in agreement.
 use Rattle.std.proofs.Common.{◌≡◌, ◌≢◌, ℕ, ◌+◌, ◌==◌, inl, inr, Bool, true, false, cond, not, List, [], ◌∷◌, Option, Some, None, Ok, refl, ap, sym, ◌∙◌, subst}
 use Rattle.std.proofs.Common.{arith}
 use Rattle.std.specs.Prelude.{slice_get}
@@ -8,7 +8,7 @@ use Rattle.gq_model.specs.declared.program.Section.{Section}
 use Rattle.gq_model.specs.declared.fault.Wrong.TheVariants.{ExceededQuota, MissingSection}
 use Rattle.gq_model.specs.declared.phase.Phase.TheVariants.{Serving}
 use Rattle.gq_model.specs.machine.Scenario.{System}
-use Rattle.gq_model.specs.machine.World.{Spot, In_object, Session, Ask, Ask_open, Ask_upgrade, Ask_close, Ask_call, Request, Hand, Leaf, World, session_at}
+use Rattle.gq_model.specs.machine.World.{Spot, In_object, Session, Ask, Ask_open, Ask_upgrade, Ask_close, Ask_call, Request, Current, Leaf, World, session_at}
 use Rattle.gq_model.specs.machine.World.{session_object, slot_at, with_session}
 use Rattle.gq_model.specs.machine.Doing.{Doing, Quiet, need, when, standing}
 use Rattle.gq_model.specs.machine.Sums.{paid}
@@ -24,9 +24,9 @@ use Rattle.gq_laws.proofs.linking.Accepts.{Accepts, accepts_changes}
 use Rattle.gq_laws.proofs.linking.Replies.{calm_linked}
 use Rattle.gq_laws.proofs.linking.Worlds.{same_spot, leaf_stance, leaf_stances, leaf_keeps_slots, session_here, session_else, session_slots}
 use Rattle.gq_laws.proofs.linking.Quiet.{stood, Same}
-use Rattle.gq_laws.specs.Statements.{Takes}
+use Rattle.gq_laws.specs.Statements.{TakesLeaf}
 use Rattle.gq_laws.proofs.linking.Quiet.{stood, Same}
-use Rattle.gq_laws.specs.Statements.{Takes}
+use Rattle.gq_laws.specs.Statements.{TakesLeaf}
 use Rattle.std.proofs.lemmas.Bool.{true≢false}
 
 -- THE SAME LINKS
@@ -75,26 +75,26 @@ module _ (P : Request → Type 0) (w : World) (x : ℕ) where
   oldest_found [] p e = absurd (none_some e)
   oldest_found (q ∷ qs) p e = found_by q qs (is_to x (session_at w q.session)) refl (oldest w x qs) (λ a f. oldest_found qs a f) p e
 
-module _ (d : Doing) (t : Takes d) (h : AreLinked d.system (links d.world)) where
+module _ (d : Doing) (t : TakesLeaf d) (h : AreLinked d.system (links d.world)) where
   abbrev L : Links
   L = links d.world
 
   pub stand_slots : (leaf : Leaf) → leaf.slots ≡ d.leaf.slots → (r : Spot) → slot_at (standing d leaf) r ≡ slot_at d.world r
   stand_slots leaf same r = leaf_keeps_slots d.world d.x t.old leaf t.there (same ∙ t.slots) r
 
-  pub stand_stance : (leaf : Leaf) → stance_in (slice_get (standing d leaf).leaves d.x) ≡ Some (stance leaf.phase leaf.hand)
+  pub stand_stance : (leaf : Leaf) → stance_in (slice_get (standing d leaf).leaves d.x) ≡ Some (stance leaf.phase leaf.current)
   stand_stance leaf = leaf_stance d.world d.x t.old leaf t.there
 
   pub stand_stances : (leaf : Leaf) (y : ℕ) → y ≢ d.x → stance_in (slice_get (standing d leaf).leaves y) ≡ stance_in (slice_get d.world.leaves y)
   stand_stances leaf y ne = leaf_stances d.world d.x t.old leaf t.there y ne
 
-  fits_now : Fits d.leaf.phase d.leaf.hand
-  fits_now = h.fits d.x (stance d.leaf.phase d.leaf.hand) (stood d t)
+  fits_now : Fits d.leaf.phase d.leaf.current
+  fits_now = h.fits d.x (stance d.leaf.phase d.leaf.current) (stood d t)
 
-  -- who serves has nothing at hand
-  no_hand_serving : (hand : Option Hand) → Fits Serving hand → hand ≡ None
-  no_hand_serving None f = refl
-  no_hand_serving (Some g) f = absurd f
+  -- who serves has no current request
+  no_current_serving : (current : Option Current) → Fits Serving current → current ≡ None
+  no_current_serving None f = refl
+  no_current_serving (Some g) f = absurd f
 
   module _ (serves : d.leaf.phase ≡ Serving) (r : Request) (rest : List Request)
       (found : Found (IsAsked (links d.world)) d.world d.x d.world.requests (r, rest)) (old : Session) (there : session_at d.world r.session ≡ Some old) where
@@ -116,11 +116,11 @@ module _ (d : Doing) (t : Takes d) (h : AreLinked d.system (links d.world)) wher
     abbrev section : Section
     section = section_for r.ask s.level
 
-    abbrev at_hand_now : Hand
-    at_hand_now = record { session = r.session; section = section }
+    abbrev current_now : Current
+    current_now = record { session = r.session; section = section }
 
     abbrev begun : Leaf
-    begun = beginning d.leaf at_hand_now (first_operands r.ask) (body_of (section_in section d.component.node.program.sections))
+    begun = beginning d.leaf current_now (first_operands r.ask) (body_of (section_in section d.component.node.program.sections))
 
     abbrev taken : World
     taken = with_session (record (standing d begun) { requests = rest }) r.session s
@@ -164,13 +164,13 @@ module _ (d : Doing) (t : Takes d) (h : AreLinked d.system (links d.world)) wher
               (λ i other. ap (λ slots. slice_get slots i) (sym (kept_as r.ask).4)) (λ other. absurd (other refl)) q e ∙ stand_slots begun refl q)
         ]
 
-    accepts : Accepts L (links taken) d.x r.session (outline old) (outline s) at_hand_now
+    accepts : Accepts L (links taken) d.x r.session (outline old) (outline s) current_now
     accepts =
         let k = kept_as r.ask in
         let a = accepted_now r.ask asked_as in
         record {
-          serving = stood d t ∙ (λ i. Some (stance (serves i) d.leaf.hand))
-              ∙ ap (λ o. Some (stance Serving o)) (no_hand_serving d.leaf.hand (subst (λ p. Fits p d.leaf.hand) serves fits_now));
+          serving = stood d t ∙ (λ i. Some (stance (serves i) d.leaf.current))
+              ∙ ap (λ o. Some (stance Serving o)) (no_current_serving d.leaf.current (subst (λ p. Fits p d.leaf.current) serves fits_now));
           was = there_l;
           server = server_is;
           kept_client = k.0;
@@ -179,7 +179,7 @@ module _ (d : Doing) (t : Takes d) (h : AreLinked d.system (links d.world)) wher
           kept_service = k.3;
           accepted = a.0;
           object = a.1;
-          session_at_hand = refl;
+          current_session = refl;
           at_level = at_level_now r.ask asked_as;
           taken = (let n = found.counts r.session in let one = one_one r.session r.session refl in omega (arith, n, one));
           counts = λ j ne. (let n = found.counts j in let none = one_none r.session j (λ e. ne (sym e)) in omega (arith, n, none));
@@ -193,7 +193,7 @@ module _ (d : Doing) (t : Takes d) (h : AreLinked d.system (links d.world)) wher
 
     taken_linked : AreLinked d.system (links taken)
     taken_linked = changes_linked same_spot d.system L (links taken) r.session s.spot h
-        (accepts_changes d.system L (links taken) d.x r.session (outline old) (outline s) at_hand_now h accepts)
+        (accepts_changes d.system L (links taken) d.x r.session (outline old) (outline s) current_now h accepts)
 
     taken_ends : Ends (IsLinkedWorld d.system) (when (paid d.system taken) ExceededQuota
         (need (section_in section d.component.node.program.sections) MissingSection (λ b. Ok (taken, Quiet))))

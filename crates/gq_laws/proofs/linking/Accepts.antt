@@ -1,25 +1,25 @@
--- What the acceptance of a request changes of sessions, slots, requests and hands.
+-- What the acceptance of a request changes of sessions, slots, requests and current requests.
 use Rattle.std.proofs.Common.{◌≡◌, ◌≢◌, ℕ, suc, ◌⊎◌, inl, inr, true, false, Option, Some, None, refl, ap, sym, ◌∙◌, subst, arith}
 use Rattle.std.specs.Prelude.{slice_get}
 use Rattle.std.proofs.lemmas.Bool.Decides.{eqb_tells}
 use Rattle.gq_model.specs.machine.Scenario.{System}
 use Rattle.gq_model.specs.machine.Routes.{server_of}
-use Rattle.gq_model.specs.machine.World.{Spot, In_leaf, In_session, In_object, Session, Hand}
+use Rattle.gq_model.specs.machine.World.{Spot, In_leaf, In_session, In_object, Session, Current}
 use Rattle.gq_model.specs.declared.phase.Phase.{Phase}
 use Rattle.gq_model.specs.declared.phase.Phase.TheVariants.{Blocked, Serving, Handling}
 use Rattle.gq_laws.specs.Shapes.{Each}
-use Rattle.gq_laws.specs.Links.{Waits, named, Stance, stance, Links, requests_of, at_hand, pending_of, Stands, Belongs, IsBytes, IsRouted, IsAsked, IsAt}
+use Rattle.gq_laws.specs.Links.{Waits, named, Stance, stance, Links, requests_of, at_current, pending_of, Stands, Belongs, IsBytes, IsRouted, IsAsked, IsAt}
 use Rattle.gq_laws.specs.Links.{Handles, Fits, AreLinked}
 use Rattle.gq_laws.proofs.linking.Linking.{Changes}
 use Rattle.gq_model.proofs.Small.{some_same}
-use Rattle.gq_laws.proofs.linking.Events.{apart, at_server, each_map, is_blocked, names_apart, none_of, one_none, one_one, same_hand, same_phase}
+use Rattle.gq_laws.proofs.linking.Events.{apart, at_server, each_map, is_blocked, names_apart, none_of, one_none, one_one, same_current, same_phase}
 use Rattle.std.proofs.lemmas.Bool.{true≢false}
 use Rattle.gq_laws.proofs.turning.Outcomes.{handling_blocked}
 
 -- ACCEPTANCE
 
--- the x-th leaf, which serves, takes a request of session k to its hand
-pub record Accepts (l m : Links) (x k : ℕ) (t s : Session) (hand : Hand) : Type 0 where
+-- the x-th leaf, which serves, takes a request of session k as its current one
+pub record Accepts (l m : Links) (x k : ℕ) (t s : Session) (current : Current) : Type 0 where
   pub serving : l.stances x ≡ Some (stance Serving None)
   pub was : l.sessions k ≡ Some t
   pub server : t.server ≡ x
@@ -29,18 +29,18 @@ pub record Accepts (l m : Links) (x k : ℕ) (t s : Session) (hand : Hand) : Typ
   pub kept_service : t.service ≡ s.service
   pub accepted : s.accepted ≡ true
   pub object : IsBytes s.object
-  pub session_at_hand : hand.session ≡ k
-  pub at_level : IsAt hand.section s.level
+  pub current_session : current.session ≡ k
+  pub at_level : IsAt current.section s.level
   pub taken : requests_of k l.requests ≡ suc (requests_of k m.requests)
   pub counts : (j : ℕ) → j ≢ k → requests_of j m.requests ≡ requests_of j l.requests
   pub asked : Each (IsAsked l) m.requests
   pub slots : (r : Spot) → m.slots r ≡ l.slots r
   pub session : m.sessions k ≡ Some s
   pub sessions : (j : ℕ) → j ≢ k → m.sessions j ≡ l.sessions j
-  pub stance_x : m.stances x ≡ Some (stance Handling (Some hand))
+  pub stance_x : m.stances x ≡ Some (stance Handling (Some current))
   pub stances : (y : ℕ) → y ≢ x → m.stances y ≡ l.stances y
 
-module _ (system : System) (l m : Links) (x k : ℕ) (t s : Session) (hand : Hand) (h : AreLinked system l) (a : Accepts l m x k t s hand) where
+module _ (system : System) (l m : Links) (x k : ℕ) (t s : Session) (current : Current) (h : AreLinked system l) (a : Accepts l m x k t s current) where
   taken_it : (P : Session → Type 0) → P s → (u : Session) → m.sessions k ≡ Some u → P u
   taken_it P p u e = subst P (some_same (sym a.session ∙ e)) p
 
@@ -55,21 +55,22 @@ module _ (system : System) (l m : Links) (x k : ℕ) (t s : Session) (hand : Han
   taken_slot : m.slots s.spot ≡ Some (Waits k)
   taken_slot = a.slots s.spot ∙ ap l.slots (sym a.kept_spot) ∙ was_waiting.0
 
-  taken_hand : at_hand k (m.stances s.server) ≡ 1
-  taken_hand = ap (λ y. at_hand k (m.stances y)) (sym a.kept_server ∙ a.server) ∙ ap (at_hand k) a.stance_x ∙ one_one hand.session k a.session_at_hand
+  taken_current : at_current k (m.stances s.server) ≡ 1
+  taken_current = ap (λ y. at_current k (m.stances y)) (sym a.kept_server ∙ a.server) ∙ ap (at_current k) a.stance_x
+      ∙ one_one current.session k a.current_session
 
   taken_pending : pending_of m k s ≡ 1
-  taken_pending = let none = was_waiting.1 in let one = taken_hand in omega (arith, none, one)
+  taken_pending = let none = was_waiting.1 in let one = taken_current in omega (arith, none, one)
 
-  taken_hands : (j : ℕ) → j ≢ k → (y : ℕ) → at_hand j (m.stances y) ≡ at_hand j (l.stances y)
-  taken_hands j ne y = elim (eqb_tells y x) [ inl e ↦ here e.1 | inr e ↦ ap (at_hand j) (a.stances y e.1) ]
+  taken_all_current : (j : ℕ) → j ≢ k → (y : ℕ) → at_current j (m.stances y) ≡ at_current j (l.stances y)
+  taken_all_current j ne y = elim (eqb_tells y x) [ inl e ↦ here e.1 | inr e ↦ ap (at_current j) (a.stances y e.1) ]
     where
-      here : y ≡ x → at_hand j (m.stances y) ≡ at_hand j (l.stances y)
+      here : y ≡ x → at_current j (m.stances y) ≡ at_current j (l.stances y)
       here e =
-          ap (λ y. at_hand j (m.stances y)) e ∙ ap (at_hand j) a.stance_x ∙ one_none hand.session j (λ same. ne (sym same ∙ a.session_at_hand))
-          ∙ sym (ap (at_hand j) a.serving) ∙ ap (λ y. at_hand j (l.stances y)) (sym e)
+          ap (λ y. at_current j (m.stances y)) e ∙ ap (at_current j) a.stance_x ∙ one_none current.session j (λ same. ne (sym same ∙ a.current_session))
+          ∙ sym (ap (at_current j) a.serving) ∙ ap (λ y. at_current j (l.stances y)) (sym e)
 
-  taken_waits : (hand : Option Hand) × (m.stances s.client ≡ Some (stance Blocked hand))
+  taken_waits : (current : Option Current) × (m.stances s.client ≡ Some (stance Blocked current))
   taken_waits =
       let g = h.waits k t a.was was_waiting.0 in
       let ne = is_blocked system l h k t a.was was_waiting.0 x Serving None a.serving (λ e. serves e) in
@@ -85,18 +86,18 @@ module _ (system : System) (l m : Links) (x k : ℕ) (t s : Session) (hand : Han
   taken_asked = each_map (λ r. IsAsked l r × (r.session ≢ k)) (IsAsked m) (λ r p. (p.0.0, a.sessions r.session p.1 ∙ p.0.1, p.0.2)) m.requests
       (none_of (IsAsked l) k m.requests was_waiting.1 a.asked)
 
-  taken_handles : (y : ℕ) (p : Phase) (g : Hand) → m.stances y ≡ Some (stance p (Some g)) → Handles m y g
+  taken_handles : (y : ℕ) (p : Phase) (g : Current) → m.stances y ≡ Some (stance p (Some g)) → Handles m y g
   taken_handles y p g at = elim (eqb_tells y x) [ inl e ↦ here e.1 | inr e ↦ there e.1 ]
     where
-      hand_same : hand ≡ g → Handles m x hand → Handles m x g
-      hand_same e t = subst (Handles m x) e t
+      current_same : current ≡ g → Handles m x current → Handles m x g
+      current_same e t = subst (Handles m x) e t
 
       here : y ≡ x → Handles m y g
       here e =
-          let same = some_same (same_hand (sym a.stance_x ∙ ap m.stances (sym e) ∙ at)) in
-          subst (λ y. Handles m y g) (sym e) (hand_same same (
+          let same = some_same (same_current (sym a.stance_x ∙ ap m.stances (sym e) ∙ at)) in
+          subst (λ y. Handles m y g) (sym e) (current_same same (
             s,
-            ap m.sessions a.session_at_hand ∙ a.session,
+            ap m.sessions a.current_session ∙ a.session,
             sym a.kept_server
                 ∙ a.server,
             a.accepted,
@@ -110,13 +111,13 @@ module _ (system : System) (l m : Links) (x k : ℕ) (t s : Session) (hand : Han
           let other : g.session ≢ k = λ same. ne (sym (at_server system l h k t a.was y p g was same) ∙ a.server) in
           (t'.0, a.sessions g.session other ∙ t'.1, t'.2, t'.3, t'.4)
 
-  taken_fits : (y : ℕ) (u : Stance) → m.stances y ≡ Some u → Fits u.phase u.hand
+  taken_fits : (y : ℕ) (u : Stance) → m.stances y ≡ Some u → Fits u.phase u.current
   taken_fits y u at = elim (eqb_tells y x) [
-    | inl e ↦ subst (λ (t : Stance). Fits t.phase t.hand) (some_same (sym a.stance_x ∙ ap m.stances (sym e.1) ∙ at)) tt
+    | inl e ↦ subst (λ (t : Stance). Fits t.phase t.current) (some_same (sym a.stance_x ∙ ap m.stances (sym e.1) ∙ at)) tt
     | inr e ↦ h.fits y u (sym (a.stances y e.1) ∙ at)
   ]
 
-  taken_blocked : (y : ℕ) (g : Option Hand) → m.stances y ≡ Some (stance Blocked g)
+  taken_blocked : (y : ℕ) (g : Option Current) → m.stances y ≡ Some (stance Blocked g)
       → ((s : Session) × (m.sessions k ≡ Some s) × (s.client ≡ y) × (m.slots s.spot ≡ Some (Waits k)))
       ⊎ ((j : ℕ) × (t : Session) × (j ≢ k) × (l.sessions j ≡ Some t) × (t.client ≡ y) × (l.slots t.spot ≡ Some (Waits j)))
   taken_blocked y g at = elim (eqb_tells y x) [
@@ -164,7 +165,7 @@ module _ (system : System) (l m : Links) (x k : ℕ) (t s : Session) (hand : Han
         sessions = a.sessions;
         slots = λ r ne. a.slots r;
         counts = a.counts;
-        hands = taken_hands;
+        all_current = taken_all_current;
         elsewhere = λ j u ne e same. apart system l h k t a.was j u ne e (same ∙ sym a.kept_spot);
         names = λ r n ne e. names_apart system l h k t a.was r n (λ same. ne (same ∙ a.kept_spot)) e;
         owns = inl (λ u e yes. (s, a.session, a.accepted, sym a.kept_server ∙ ap (λ (s : Session). s.server) (some_same (sym a.was ∙ e))));
@@ -175,7 +176,8 @@ module _ (system : System) (l m : Links) (x k : ℕ) (t s : Session) (hand : Han
         routed = taken_it (IsRouted system) taken_routed;
         opens = taken_it (λ s. s.accepted ≡ false → s.level ≡ 0) (λ no. absurd (true≢false (sym a.accepted ∙ no)));
         objects = taken_it (λ s. s.accepted ≡ true → IsBytes s.object) (λ yes. a.object);
-        waits = taken_it (λ s. m.slots s.spot ≡ Some (Waits k) → (hand : Option Hand) × (m.stances s.client ≡ Some (stance Blocked hand))) (λ w. taken_waits);
+        waits = taken_it (λ s. m.slots s.spot ≡ Some (Waits k) → (current : Option Current) × (m.stances s.client ≡ Some (stance Blocked current)))
+            (λ w. taken_waits);
         alone = taken_it (λ s. m.slots s.spot ≡ Some (Waits k) → (j : ℕ) (t : Session) → j ≢ k → l.sessions j ≡ Some t → l.slots t.spot ≡ Some (Waits j)
             → t.client ≢ s.client) (λ w j u ne e v same. ne (h.alone j k u t e a.was v was_waiting.0 (same ∙ sym a.kept_client)));
         others_wait = λ j u ne e v. a.stances u.client (is_blocked system l h j u e v x Serving None a.serving serving_ne);

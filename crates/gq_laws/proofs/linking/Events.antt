@@ -1,13 +1,14 @@
--- What a request changes of sessions, slots, requests and hands.
+-- What a request changes of sessions, slots, requests and current requests.
 use Rattle.std.proofs.Common.{◌≡◌, ◌≢◌, ℕ, ◌+◌, ◌==◌, ◌⊎◌, inl, inr, true, false, not, List, [], ◌∷◌, ◌++◌, Option, Some, None, refl, ap, sym, ◌∙◌, subst}
 use Rattle.std.proofs.Common.{arith}
 use Rattle.std.proofs.lemmas.Bool.Decides.{eqb_tells}
 use Rattle.gq_model.specs.machine.Scenario.{System}
-use Rattle.gq_model.specs.machine.World.{Spot, Session, Ask, Request, Hand}
+use Rattle.gq_model.specs.machine.World.{Spot, Session, Ask, Request, Current}
 use Rattle.gq_model.specs.declared.phase.Phase.{Phase}
 use Rattle.gq_model.specs.declared.phase.Phase.TheVariants.{Blocked}
 use Rattle.gq_laws.specs.Shapes.{Each}
-use Rattle.gq_laws.specs.Links.{Naming, Leads, Waits, named, Stance, stance, Links, one_if, requests_of, by_hand, at_hand, is_open, Stands, Belongs, IsBytes}
+use Rattle.gq_laws.specs.Links.{Naming, Leads, Waits, named, Stance, stance, Links, one_if, requests_of, by_current, at_current, is_open, Stands, Belongs}
+use Rattle.gq_laws.specs.Links.{IsBytes}
 use Rattle.gq_laws.specs.Links.{IsRouted, IsAsked, Handles, Fits, AreLinked}
 use Rattle.gq_laws.proofs.linking.Linking.{Changes}
 use Rattle.gq_model.proofs.Small.{some_same}
@@ -40,22 +41,22 @@ none_of P k (r ∷ rest) e h = ((h.0, first), none_of P k rest (omega (arith, e)
     first : r.session ≢ k
     first same = let one = one_one r.session k same in omega (arith, e, one)
 
-no_hand : (k : ℕ) (hand : Option Hand) → ((g : Hand) → hand ≡ Some g → g.session ≢ k) → by_hand k hand ≡ 0
-no_hand k None h = refl
-no_hand k (Some g) h = one_none g.session k (h g refl)
+no_current : (k : ℕ) (current : Option Current) → ((g : Current) → current ≡ Some g → g.session ≢ k) → by_current k current ≡ 0
+no_current k None h = refl
+no_current k (Some g) h = one_none g.session k (h g refl)
 
-pub no_hand_at : (k : ℕ) (t : Option Stance) → ((g : Hand) (p : Phase) → t ≡ Some (stance p (Some g)) → g.session ≢ k) → at_hand k t ≡ 0
-no_hand_at k None h = refl
-no_hand_at k (Some t) h = no_hand k t.hand (λ g e. h g t.phase (ap (λ o. Some (stance t.phase o)) e))
+pub no_current_at : (k : ℕ) (t : Option Stance) → ((g : Current) (p : Phase) → t ≡ Some (stance p (Some g)) → g.session ≢ k) → at_current k t ≡ 0
+no_current_at k None h = refl
+no_current_at k (Some t) h = no_current k t.current (λ g e. h g t.phase (ap (λ o. Some (stance t.phase o)) e))
 
-pub same_hand : {p q : Phase} {a b : Option Hand} → Some (stance p a) ≡ Some (stance q b) → a ≡ b
-same_hand {p} {q} {a} {b} e = ap hand_or e
+pub same_current : {p q : Phase} {a b : Option Current} → Some (stance p a) ≡ Some (stance q b) → a ≡ b
+same_current {p} {q} {a} {b} e = ap current_or e
   where
-    hand_or : Option Stance → Option Hand
-    hand_or None = None
-    hand_or (Some t) = t.hand
+    current_or : Option Stance → Option Current
+    current_or None = None
+    current_or (Some t) = t.current
 
-pub same_phase : {p q : Phase} {a b : Option Hand} → Some (stance p a) ≡ Some (stance q b) → p ≡ q
+pub same_phase : {p q : Phase} {a b : Option Current} → Some (stance p a) ≡ Some (stance q b) → p ≡ q
 same_phase {p} {q} {a} {b} e = ap phase_or e
   where
     phase_or : Option Stance → Phase
@@ -86,17 +87,17 @@ module _ (system : System) (l : Links) (h : AreLinked system l) where
       let t = h.named r n there in
       ne (sym t.2 ∙ ap (λ (s : Session). s.spot) (some_same (sym t.1 ∙ ap l.sessions same ∙ e)))
 
-  -- a session at a hand is at no other
-  pub at_server : (k : ℕ) (s : Session) → l.sessions k ≡ Some s → (y : ℕ) (p : Phase) (g : Hand) → l.stances y ≡ Some (stance p (Some g)) → g.session ≡ k
+  -- a current session is current nowhere else
+  pub at_server : (k : ℕ) (s : Session) → l.sessions k ≡ Some s → (y : ℕ) (p : Phase) (g : Current) → l.stances y ≡ Some (stance p (Some g)) → g.session ≡ k
       → s.server ≡ y
   at_server k s e y p g at same =
       let t = h.handles y p g at in
       ap (λ (s : Session). s.server) (some_same (sym e ∙ ap l.sessions (sym same) ∙ t.1)) ∙ t.2
 
   -- a leaf that waits is blocked
-  pub is_blocked : (j : ℕ) (t : Session) → l.sessions j ≡ Some t → l.slots t.spot ≡ Some (Waits j) → (x : ℕ) (phase : Phase) (hand : Option Hand)
-      → l.stances x ≡ Some (stance phase hand) → phase ≢ Blocked → t.client ≢ x
-  is_blocked j t e w x phase hand at ne same = let g = h.waits j t e w in ne (same_phase (sym at ∙ ap l.stances (sym same) ∙ g.1))
+  pub is_blocked : (j : ℕ) (t : Session) → l.sessions j ≡ Some t → l.slots t.spot ≡ Some (Waits j) → (x : ℕ) (phase : Phase) (current : Option Current)
+      → l.stances x ≡ Some (stance phase current) → phase ≢ Blocked → t.client ≢ x
+  is_blocked j t e w x phase current at ne same = let g = h.waits j t e w in ne (same_phase (sym at ∙ ap l.stances (sym same) ∙ g.1))
 
 -- REQUESTS
 
@@ -108,12 +109,12 @@ pub record Kept (t s : Session) : Type 0 where
   pub accepted : t.accepted ≡ s.accepted
 
 -- the x-th leaf asks something of session k, which may be new
-pub record Asks (system : System) (l m : Links) (x : ℕ) (phase : Phase) (hand : Option Hand) (k : ℕ) (s : Session) (ask : Ask) : Type 0 where
-  pub active : l.stances x ≡ Some (stance phase hand)
+pub record Asks (system : System) (l m : Links) (x : ℕ) (phase : Phase) (current : Option Current) (k : ℕ) (s : Session) (ask : Ask) : Type 0 where
+  pub active : l.stances x ≡ Some (stance phase current)
   pub is_active : phase ≢ Blocked
   pub client : s.client ≡ x
   pub kept : (t : Session) → l.sessions k ≡ Some t → Kept t s
-  pub no_hand : (y : ℕ) (p : Phase) (g : Hand) → l.stances y ≡ Some (stance p (Some g)) → g.session ≢ k
+  pub no_current : (y : ℕ) (p : Phase) (g : Current) → l.stances y ≡ Some (stance p (Some g)) → g.session ≢ k
   pub no_request : requests_of k l.requests ≡ 0
   pub elsewhere : (j : ℕ) (t : Session) → j ≢ k → l.sessions j ≡ Some t → t.spot ≢ s.spot
   pub names : (r : Spot) (n : Naming) → r ≢ s.spot → l.slots r ≡ Some n → named n ≢ k
@@ -126,50 +127,50 @@ pub record Asks (system : System) (l m : Links) (x : ℕ) (phase : Phase) (hand 
   pub slots : (r : Spot) → r ≢ s.spot → m.slots r ≡ l.slots r
   pub session : m.sessions k ≡ Some s
   pub sessions : (j : ℕ) → j ≢ k → m.sessions j ≡ l.sessions j
-  pub stance_x : m.stances x ≡ Some (stance Blocked hand)
+  pub stance_x : m.stances x ≡ Some (stance Blocked current)
   pub stances : (y : ℕ) → y ≢ x → m.stances y ≡ l.stances y
   pub requests : m.requests ≡ l.requests ++ record { session = k; ask = ask } ∷ []
 
-module _ (system : System) (l m : Links) (x : ℕ) (phase : Phase) (hand : Option Hand) (k : ℕ) (s : Session) (ask : Ask) (h : AreLinked system l)
-    (a : Asks system l m x phase hand k s ask) where
+module _ (system : System) (l m : Links) (x : ℕ) (phase : Phase) (current : Option Current) (k : ℕ) (s : Session) (ask : Ask) (h : AreLinked system l)
+    (a : Asks system l m x phase current k s ask) where
   ask_it : (P : Session → Type 0) → P s → (t : Session) → m.sessions k ≡ Some t → P t
   ask_it P p t e = subst P (some_same (sym a.session ∙ e)) p
 
-  ask_hands : (j : ℕ) → j ≢ k → (y : ℕ) → at_hand j (m.stances y) ≡ at_hand j (l.stances y)
-  ask_hands j ne y = elim (eqb_tells y x) [
-    | inl e ↦ ap (λ y. at_hand j (m.stances y)) e.1
-        ∙ (ap (at_hand j) a.stance_x ∙ sym (ap (at_hand j) a.active) ∙ ap (λ y. at_hand j (l.stances y)) (sym e.1))
-    | inr e ↦ ap (at_hand j) (a.stances y e.1)
+  ask_all_current : (j : ℕ) → j ≢ k → (y : ℕ) → at_current j (m.stances y) ≡ at_current j (l.stances y)
+  ask_all_current j ne y = elim (eqb_tells y x) [
+    | inl e ↦ ap (λ y. at_current j (m.stances y)) e.1
+        ∙ (ap (at_current j) a.stance_x ∙ sym (ap (at_current j) a.active) ∙ ap (λ y. at_current j (l.stances y)) (sym e.1))
+    | inr e ↦ ap (at_current j) (a.stances y e.1)
   ]
 
-  ask_no_hand : (y : ℕ) → at_hand k (m.stances y) ≡ 0
-  ask_no_hand y = no_hand_at k (m.stances y) (λ g p at.
+  ask_no_current : (y : ℕ) → at_current k (m.stances y) ≡ 0
+  ask_no_current y = no_current_at k (m.stances y) (λ g p at.
       elim (eqb_tells y x) [
-        | inl e ↦ a.no_hand x phase g (a.active ∙ ap (λ o. Some (stance phase o)) (same_hand (sym a.stance_x ∙ ap m.stances (sym e.1) ∙ at)))
-        | inr e ↦ a.no_hand y p g (sym (a.stances y e.1) ∙ at)
+        | inl e ↦ a.no_current x phase g (a.active ∙ ap (λ o. Some (stance phase o)) (same_current (sym a.stance_x ∙ ap m.stances (sym e.1) ∙ at)))
+        | inr e ↦ a.no_current y p g (sym (a.stances y e.1) ∙ at)
       ])
 
   ask_count : (j : ℕ) → requests_of j m.requests ≡ requests_of j l.requests + one_if (k == j)
   ask_count j = ap (requests_of j) a.requests ∙ requests_end j l.requests (record { session = k; ask = ask })
 
-  ask_moves : (y : ℕ) (g : Hand) → g.session ≢ k → Handles l y g → Handles m y g
+  ask_moves : (y : ℕ) (g : Current) → g.session ≢ k → Handles l y g → Handles m y g
   ask_moves y g ne t = (t.0, a.sessions g.session ne ∙ t.1, t.2, t.3, t.4)
 
-  ask_handles : (y : ℕ) (p : Phase) (g : Hand) → m.stances y ≡ Some (stance p (Some g)) → Handles m y g
+  ask_handles : (y : ℕ) (p : Phase) (g : Current) → m.stances y ≡ Some (stance p (Some g)) → Handles m y g
   ask_handles y p g at = elim (eqb_tells y x) [ inl e ↦ here e.1 | inr e ↦ there e.1 ]
     where
       here : y ≡ x → Handles m y g
       here e =
           let was : l.stances x ≡ Some (stance phase (Some g)) =
-          a.active ∙ ap (λ o. Some (stance phase o)) (same_hand (sym a.stance_x ∙ ap m.stances (sym e) ∙ at)) in
-          subst (λ y. Handles m y g) (sym e) (ask_moves x g (a.no_hand x phase g was) (h.handles x phase g was))
+          a.active ∙ ap (λ o. Some (stance phase o)) (same_current (sym a.stance_x ∙ ap m.stances (sym e) ∙ at)) in
+          subst (λ y. Handles m y g) (sym e) (ask_moves x g (a.no_current x phase g was) (h.handles x phase g was))
 
       there : y ≢ x → Handles m y g
-      there ne = let was = sym (a.stances y ne) ∙ at in ask_moves y g (a.no_hand y p g was) (h.handles y p g was)
+      there ne = let was = sym (a.stances y ne) ∙ at in ask_moves y g (a.no_current y p g was) (h.handles y p g was)
 
-  ask_fits : (y : ℕ) (t : Stance) → m.stances y ≡ Some t → Fits t.phase t.hand
+  ask_fits : (y : ℕ) (t : Stance) → m.stances y ≡ Some t → Fits t.phase t.current
   ask_fits y t at = elim (eqb_tells y x) [
-    | inl e ↦ subst (λ (t : Stance). Fits t.phase t.hand) (some_same (sym a.stance_x ∙ ap m.stances (sym e.1) ∙ at)) tt
+    | inl e ↦ subst (λ (t : Stance). Fits t.phase t.current) (some_same (sym a.stance_x ∙ ap m.stances (sym e.1) ∙ at)) tt
     | inr e ↦ h.fits y t (sym (a.stances y e.1) ∙ at)
   ]
 
@@ -183,7 +184,7 @@ module _ (system : System) (l m : Links) (x : ℕ) (phase : Phase) (hand : Optio
         | inr e ↦ (t.0, a.sessions r.session e.1 ∙ t.1, t.2)
       ]
 
-  ask_blocked : (y : ℕ) (g : Option Hand) → m.stances y ≡ Some (stance Blocked g)
+  ask_blocked : (y : ℕ) (g : Option Current) → m.stances y ≡ Some (stance Blocked g)
       → ((s : Session) × (m.sessions k ≡ Some s) × (s.client ≡ y) × (m.slots s.spot ≡ Some (Waits k)))
       ⊎ ((j : ℕ) × (t : Session) × (j ≢ k) × (l.sessions j ≡ Some t) × (t.client ≡ y) × (l.slots t.spot ≡ Some (Waits j)))
   ask_blocked y g at = elim (eqb_tells y x) [ inl e ↦ inl (s, a.session, a.client ∙ sym e.1, a.slot) | inr e ↦ inr (there e.1) ]
@@ -199,7 +200,7 @@ module _ (system : System) (l m : Links) (x : ℕ) (phase : Phase) (hand : Optio
         sessions = a.sessions;
         slots = a.slots;
         counts = λ j ne. let n = ask_count j in let none = one_none k j (λ e. ne (sym e)) in omega (arith, n, none);
-        hands = ask_hands;
+        all_current = ask_all_current;
         elsewhere = a.elsewhere;
         names = a.names;
         owns = inl (λ t e yes. (s, a.session, sym (a.kept t e).accepted ∙ yes, sym (a.kept t e).server));
@@ -207,17 +208,17 @@ module _ (system : System) (l m : Links) (x : ℕ) (phase : Phase) (hand : Optio
         stands = ask_it (Stands m k) (inr (
           a.slot,
           (let n = ask_count k in let none = a.no_request in let one = one_one k k refl in
-              let zero_hand = ask_no_hand s.server in omega (arith, n, none, one, zero_hand)),
+              let zero_current = ask_no_current s.server in omega (arith, n, none, one, zero_current)),
         ));
         belongs = ask_it (λ s. Belongs m s.spot s.client) (subst (Belongs m s.spot) (sym a.client) a.belongs);
         routed = ask_it (IsRouted system) a.routed;
         opens = ask_it (λ s. s.accepted ≡ false → s.level ≡ 0) a.opens;
         objects = ask_it (λ s. s.accepted ≡ true → IsBytes s.object) a.objects;
         waits = ask_it (λ s. m.slots s.spot ≡ Some (Waits k)
-            → (hand : Option Hand) × (m.stances s.client ≡ Some (stance Blocked hand))) (λ w. (hand, ap m.stances a.client ∙ a.stance_x));
+            → (current : Option Current) × (m.stances s.client ≡ Some (stance Blocked current))) (λ w. (current, ap m.stances a.client ∙ a.stance_x));
         alone = ask_it (λ s. m.slots s.spot ≡ Some (Waits k) → (j : ℕ) (t : Session) → j ≢ k → l.sessions j ≡ Some t → l.slots t.spot ≡ Some (Waits j)
-            → t.client ≢ s.client) (λ w j t ne e v same. is_blocked system l h j t e v x phase hand a.active a.is_active (same ∙ a.client));
-        others_wait = λ j t ne e v. a.stances t.client (is_blocked system l h j t e v x phase hand a.active a.is_active);
+            → t.client ≢ s.client) (λ w j t ne e v same. is_blocked system l h j t e v x phase current a.active a.is_active (same ∙ a.client));
+        others_wait = λ j t ne e v. a.stances t.client (is_blocked system l h j t e v x phase current a.active a.is_active);
         blocked = ask_blocked;
         asked = ask_asked;
         handles = ask_handles;

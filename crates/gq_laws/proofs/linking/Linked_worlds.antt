@@ -1,4 +1,4 @@
--- In each world that is reached sessions, slots, requests and hands agree.
+-- In each world that is reached sessions, slots, requests and current requests agree.
 use Rattle.std.proofs.Common.{◌≡◌, ◌≢◌, ℕ, zero, suc, ◌⊎◌, inl, inr, Bool, true, false, cond, nat_lt, List, [], ◌∷◌, Option, Some, None, Ok, refl, ap, sym, ◌∙◌}
 use Rattle.std.proofs.Common.{subst}
 use Rattle.std.specs.Prelude.{slice_get}
@@ -11,7 +11,7 @@ use Rattle.gq_model.specs.declared.phase.Phase.{Phase}
 use Rattle.gq_model.specs.declared.phase.Phase.TheVariants.{Pending, Running, Blocked, Serving, Handling, Exited}
 use Rattle.gq_model.specs.declared.fault.Wrong.TheVariants.{WrongKind}
 use Rattle.gq_model.specs.machine.Scenario.{System, Component}
-use Rattle.gq_model.specs.machine.World.{Slot, Empty, Bytes, Pool, Link, Waiting, Spot, In_leaf, In_session, In_object, Request, Hand, Round, Leaf, World}
+use Rattle.gq_model.specs.machine.World.{Slot, Empty, Bytes, Pool, Link, Waiting, Spot, In_leaf, In_session, In_object, Request, Current, Round, Leaf, World}
 use Rattle.gq_model.specs.machine.World.{session_at, leaf_slot, slot_at, first_phase, start_leaves, start}
 use Rattle.gq_model.specs.machine.Doing.{Doing, Event, Quiet, Finished, Stepped, standing}
 use Rattle.gq_model.specs.machine.Step.{oldest, no_link, released, all_released, is_named, exited, exit_of, serving, instruct, main_ended, section_ended}
@@ -23,7 +23,7 @@ use Rattle.gq_laws.proofs.linking.Events.{same_phase}
 use Rattle.gq_laws.proofs.linking.Replies.{Steps_aside, calm_linked}
 use Rattle.gq_laws.proofs.linking.Worlds.{set_here, set_else}
 use Rattle.gq_laws.proofs.linking.Quiet.{stood, Same, stands, when_found, quiet_ends}
-use Rattle.gq_laws.specs.Statements.{Takes}
+use Rattle.gq_laws.specs.Statements.{TakesLeaf}
 use Rattle.gq_laws.proofs.linking.Requests.{upgrade_ends, call_ends, close_ends}
 use Rattle.gq_laws.proofs.linking.Opens.{none_named, open_ends}
 use Rattle.gq_laws.proofs.linking.Accepted.{same_linked, stand_slots, stand_stance, stand_stances, accept_ends}
@@ -63,40 +63,40 @@ released_slot name (c ∷ cs) (leaf ∷ leaves) zero i = refl
 released_slot name (c ∷ cs) (leaf ∷ leaves) (suc y) i = released_slot name cs leaves y i
 
 abbrev Releases : Option Stance → Option Stance → Type 0
-Releases before after = (after ≡ before) ⊎ ((hand : Option Hand) × (before ≡ Some (stance Pending hand)) × (after ≡ Some (stance Running hand)))
+Releases before after = (after ≡ before) ⊎ ((current : Option Current) × (before ≡ Some (stance Pending current)) × (after ≡ Some (stance Running current)))
 
-release_by : (b : Bool) (hand : Option Hand) → Releases (Some (stance Pending hand)) (Some (stance (cond b Running Pending) hand))
-release_by true hand = inr (hand, refl, refl)
-release_by false hand = inl refl
+release_by : (b : Bool) (current : Option Current) → Releases (Some (stance Pending current)) (Some (stance (cond b Running Pending) current))
+release_by true current = inr (current, refl, refl)
+release_by false current = inl refl
 
-release_phase : (name : List ℕ) (after : Option (List ℕ)) (phase : Phase) (hand : Option Hand)
-    → Releases (Some (stance phase hand)) (Some (stance (released name after phase) hand))
-release_phase name after Pending hand = release_by (is_named name after) hand
-release_phase name after Running hand = inl refl
-release_phase name after Blocked hand = inl refl
-release_phase name after Serving hand = inl refl
-release_phase name after Handling hand = inl refl
-release_phase name after Exited hand = inl refl
+release_phase : (name : List ℕ) (after : Option (List ℕ)) (phase : Phase) (current : Option Current)
+    → Releases (Some (stance phase current)) (Some (stance (released name after phase) current))
+release_phase name after Pending current = release_by (is_named name after) current
+release_phase name after Running current = inl refl
+release_phase name after Blocked current = inl refl
+release_phase name after Serving current = inl refl
+release_phase name after Handling current = inl refl
+release_phase name after Exited current = inl refl
 
 released_stance : (name : List ℕ) (cs : List Component) (leaves : List Leaf) (y : ℕ)
     → Releases (stance_in (slice_get leaves y)) (stance_in (slice_get (all_released name cs leaves) y))
 released_stance name [] leaves y = inl refl
 released_stance name (c ∷ cs) [] y = inl refl
-released_stance name (c ∷ cs) (leaf ∷ leaves) zero = release_phase name c.node.after leaf.phase leaf.hand
+released_stance name (c ∷ cs) (leaf ∷ leaves) zero = release_phase name c.node.after leaf.phase leaf.current
 released_stance name (c ∷ cs) (leaf ∷ leaves) (suc y) = released_stance name cs leaves y
 
-module _ (d : Doing) (t : Takes d) (active : d.leaf.phase ≢ Blocked) (h : AreLinked d.system (links d.world)) where
+module _ (d : Doing) (t : TakesLeaf d) (active : d.leaf.phase ≢ Blocked) (h : AreLinked d.system (links d.world)) where
   abbrev L : Links
   L = links d.world
 
   abbrev P : World → Type 0
   P = IsLinkedWorld d.system
 
-  module _ (hand : d.leaf.hand ≡ None) where
+  module _ (current : d.leaf.current ≡ None) where
     stood_free : L.stances d.x ≡ Some (stance d.leaf.phase None)
-    stood_free = stood d t ∙ ap (λ o. Some (stance d.leaf.phase o)) hand
+    stood_free = stood d t ∙ ap (λ o. Some (stance d.leaf.phase o)) current
 
-    -- the leaf stands in another phase that fits an empty hand
+    -- the leaf stands in another phase that fits no current request
     serving_linked : AreLinked d.system (links (standing d (serving d.leaf)))
     serving_linked =
         calm_linked d.system L (links (standing d (serving d.leaf))) h
@@ -159,7 +159,7 @@ module _ (d : Doing) (t : Takes d) (active : d.leaf.phase ≢ Blocked) (h : AreL
       | inr e ↦ there e.1
     ]
       where
-        pending_exited : {o : Option Hand} → Some (stance Exited None) ≡ Some (stance Pending o) → ⊥
+        pending_exited : {o : Option Current} → Some (stance Exited None) ≡ Some (stance Pending o) → ⊥
         pending_exited e = phases (same_phase e)
           where
             phases : Exited ≡ Pending → ⊥
@@ -168,16 +168,16 @@ module _ (d : Doing) (t : Takes d) (active : d.leaf.phase ≢ Blocked) (h : AreL
         gone : stance_in (slice_get (exit_of d).leaves d.x) ≡ Some (stance Exited None)
         gone =
             elim (released_stance d.component.node.name d.system.components left.leaves d.x) [
-              | inl e ↦ e ∙ (stand_stance d t h (exited d.leaf) ∙ ap (λ o. Some (stance Exited o)) hand)
-              | inr e ↦ absurd (pending_exited (sym (stand_stance d t h (exited d.leaf) ∙ ap (λ o. Some (stance Exited o)) hand) ∙ e.1))
+              | inl e ↦ e ∙ (stand_stance d t h (exited d.leaf) ∙ ap (λ o. Some (stance Exited o)) current)
+              | inr e ↦ absurd (pending_exited (sym (stand_stance d t h (exited d.leaf) ∙ ap (λ o. Some (stance Exited o)) current) ∙ e.1))
             ]
 
         here : Steps_aside (L.stances d.x) (stance_in (slice_get (exit_of d).leaves d.x))
         here = record { old = d.leaf.phase; new = Exited; stood = stood_free; stands = gone; old_ne = active; new_ne = λ e. cc; new_fits = tt }
 
-        no_hand_pending : (o : Option Hand) → Fits Pending o → o ≡ None
-        no_hand_pending None f = refl
-        no_hand_pending (Some g) f = absurd f
+        no_current_pending : (o : Option Current) → Fits Pending o → o ≡ None
+        no_current_pending None f = refl
+        no_current_pending (Some g) f = absurd f
 
         there : y ≢ d.x → (stance_in (slice_get (exit_of d).leaves y) ≡ L.stances y) ⊎ Steps_aside (L.stances y) (stance_in (slice_get (exit_of d).leaves y))
         there ne = go (released_stance d.component.node.name d.system.components left.leaves y)
@@ -187,7 +187,7 @@ module _ (d : Doing) (t : Takes d) (active : d.leaf.phase ≢ Blocked) (h : AreL
             go (inl e) = inl (e ∙ stand_stances d t h (exited d.leaf) y ne)
             go (inr e) =
                 let was = sym (stand_stances d t h (exited d.leaf) y ne) ∙ e.1 in
-                let none = no_hand_pending e.0 (h.fits y (stance Pending e.0) was) in
+                let none = no_current_pending e.0 (h.fits y (stance Pending e.0) was) in
                 inr (record {
                   old = Pending;
                   new = Running;
@@ -207,14 +207,14 @@ module _ (d : Doing) (t : Takes d) (active : d.leaf.phase ≢ Blocked) (h : AreL
     main_ends (Some service) = gives _ Quiet serving_linked
     main_ends None = when_found P (no_link d.leaf.slots) WrongKind _ (λ none. gives (exit_of d) Finished (exit_linked none))
 
-  section_ends : (hand : Option Hand) → d.leaf.hand ≡ hand → Ends P (section_ended d hand)
+  section_ends : (current : Option Current) → d.leaf.current ≡ current → Ends P (section_ended d current)
   section_ends None e = main_ends e d.component.node.provides
   section_ends (Some g) e = need_found P (session_at d.world g.session) WrongKind _
       (λ s there. reply_ends d t h (handling_with d.leaf.phase g
-      (subst (Fits d.leaf.phase) e (h.fits d.x (stance d.leaf.phase d.leaf.hand) (stood d t))) active) g e s there g.section)
+      (subst (Fits d.leaf.phase) e (h.fits d.x (stance d.leaf.phase d.leaf.current) (stood d t))) active) g e s there g.section)
 
   body_ends : (loops : List Round) → Ends P (body_ended d loops)
-  body_ends [] = section_ends d.leaf.hand refl
+  body_ends [] = section_ends d.leaf.current refl
   body_ends (r ∷ loops) = by_round (nat_lt (suc r.round) r.count)
     where
       by_round : (b : Bool) → Ends P (Ok (
@@ -253,11 +253,11 @@ module _ (d : Doing) (t : Takes d) (active : d.leaf.phase ≢ Blocked) (h : AreL
 
 -- STEPS
 
-module _ (d : Doing) (t : Takes d) (h : AreLinked d.system (links d.world)) (component : slice_get d.system.components d.x ≡ Some d.component) where
+module _ (d : Doing) (t : TakesLeaf d) (h : AreLinked d.system (links d.world)) (component : slice_get d.system.components d.x ≡ Some d.component) where
   perform_ends : d.leaf.phase ≢ Blocked → (todo : Statements) → Ends (IsLinkedWorld d.system) (perform d todo)
   perform_ends active Done = body_ends d t active h d.leaf.loops
   perform_ends active (Do i rest) = instruct_ends (record d { leaf = record d.leaf { todo = rest } })
-      (record { old = t.old; there = t.there; slots = t.slots; phase = t.phase; hand = t.hand }) active h component i
+      (record { old = t.old; there = t.there; slots = t.slots; phase = t.phase; current = t.current }) active h component i
   perform_ends active (If arm other rest) = pop_ends (IsLinkedWorld d.system) _ _
       (λ a below. gives _ Quiet (same_linked d.system (links d.world) _ h (stands d t _ refl refl refl)))
   perform_ends active (Loop count body rest) = gives _ Quiet (same_linked d.system (links d.world) _ h (stands d t _ refl refl refl))
@@ -279,7 +279,7 @@ next_by : (system : System) (w : World) (x : ℕ) (c : Option Component) (leaf :
     → slice_get w.leaves x ≡ leaf → Ends (IsLinkedWorld system) (step_of system w x c leaf)
 next_by system w x (Some c) (Some leaf) h component there =
     step_ends (record { system = system; world = w; x = x; component = c; leaf = record leaf { steps = suc leaf.steps } })
-    (record { old = leaf; there = there; slots = refl; phase = refl; hand = refl }) h component leaf.phase refl
+    (record { old = leaf; there = there; slots = refl; phase = refl; current = refl }) h component leaf.phase refl
 next_by system w x (Some c) None h component there = gives _ _ h
 next_by system w x None leaf h component there = gives _ _ h
 
@@ -295,10 +295,10 @@ start_slots [] x i = refl
 start_slots (c ∷ cs) zero i = none_named 64 i
 start_slots (c ∷ cs) (suc x) i = start_slots cs x i
 
--- a leaf begins in a phase that fits an empty hand, and is not blocked
+-- a leaf begins in a phase that fits no current request, and is not blocked
 record Begins (u : Stance) : Type 0 where
-  free : u.hand ≡ None
-  fits : Fits u.phase u.hand
+  free : u.current ≡ None
+  fits : Fits u.phase u.current
   active : u.phase ≢ Blocked
 
 first_begins : (after : Option (List ℕ)) → Begins (stance (first_phase after) None)
@@ -320,11 +320,11 @@ start_linked system =
       opens = λ k s e. absurd (none_some e);
       objects = λ k s e. absurd (none_some e);
       asked = tt;
-      handles = λ x phase hand e. absurd (some_none (start_stances system.components x (stance phase (Some hand)) e).free);
+      handles = λ x phase current e. absurd (some_none (start_stances system.components x (stance phase (Some current)) e).free);
       fits = λ x u e. (start_stances system.components x u e).fits;
       waits = λ k s e. absurd (none_some e);
       alone = λ k m s u e. absurd (none_some e);
-      blocked = λ x hand e. absurd ((start_stances system.components x (stance Blocked hand) e).active refl);
+      blocked = λ x current e. absurd ((start_stances system.components x (stance Blocked current) e).active refl);
     }
   where
     none_named_at : (q : Spot) (n : Naming) → naming_in (slot_at (start system) q) ≡ Some n → ⊥

@@ -1,17 +1,17 @@
--- A change of one session, its slot, its requests and the leaves that take part keeps sessions, slots, requests and hands in agreement.
+-- A change of one session, its slot, its requests and the leaves that take part keeps sessions, slots, requests and current requests in agreement.
 use Rattle.std.proofs.Common.{◌≡◌, ◌≢◌, ℕ, ◌+◌, ◌⊎◌, inl, inr, true, false, Option, Some, None, sym, ◌∙◌, subst, refl}
 use Rattle.std.proofs.lemmas.Bool.Decides.{eqb_tells}
 use Rattle.gq_model.specs.machine.Scenario.{System}
-use Rattle.gq_model.specs.machine.World.{Spot, In_leaf, In_session, In_object, Session, Hand}
+use Rattle.gq_model.specs.machine.World.{Spot, In_leaf, In_session, In_object, Session, Current}
 use Rattle.gq_model.specs.declared.phase.Phase.{Phase}
 use Rattle.gq_model.specs.declared.phase.Phase.TheVariants.{Pending, Running, Blocked, Serving, Handling, Exited}
 use Rattle.gq_laws.specs.Shapes.{Each}
-use Rattle.gq_laws.specs.Links.{Naming, Waits, named, Stance, stance, Links, requests_of, at_hand, pending_of, Stands, Belongs, IsBytes, IsRouted, IsAsked}
+use Rattle.gq_laws.specs.Links.{Naming, Waits, named, Stance, stance, Links, requests_of, at_current, pending_of, Stands, Belongs, IsBytes, IsRouted, IsAsked}
 use Rattle.gq_laws.specs.Links.{Handles, Fits, AreLinked}
 use Rattle.gq_model.proofs.Small.{none_some}
 
--- a leaf with a request at hand that is not blocked handles it
-pub handling_with : (phase : Phase) (g : Hand) → Fits phase (Some g) → phase ≢ Blocked → phase ≡ Handling
+-- a leaf with a current request that is not blocked handles it
+pub handling_with : (phase : Phase) (g : Current) → Fits phase (Some g) → phase ≢ Blocked → phase ≡ Handling
 handling_with Pending g f ne = absurd f
 handling_with Running g f ne = absurd f
 handling_with Blocked g f ne = absurd (ne refl)
@@ -26,7 +26,7 @@ pub record Changes (system : System) (l m : Links) (k : ℕ) (q : Spot) : Type 0
   pub sessions : (j : ℕ) → j ≢ k → m.sessions j ≡ l.sessions j
   pub slots : (r : Spot) → r ≢ q → m.slots r ≡ l.slots r
   pub counts : (j : ℕ) → j ≢ k → requests_of j m.requests ≡ requests_of j l.requests
-  pub hands : (j : ℕ) → j ≢ k → (y : ℕ) → at_hand j (m.stances y) ≡ at_hand j (l.stances y)
+  pub all_current : (j : ℕ) → j ≢ k → (y : ℕ) → at_current j (m.stances y) ≡ at_current j (l.stances y)
   pub elsewhere : (j : ℕ) (t : Session) → j ≢ k → l.sessions j ≡ Some t → t.spot ≢ q
   pub names : (r : Spot) (n : Naming) → r ≢ q → l.slots r ≡ Some n → named n ≢ k
   -- it stays a client's, or no slot of its names a session
@@ -39,17 +39,18 @@ pub record Changes (system : System) (l m : Links) (k : ℕ) (q : Spot) : Type 0
   pub routed : (s : Session) → m.sessions k ≡ Some s → IsRouted system s
   pub opens : (s : Session) → m.sessions k ≡ Some s → s.accepted ≡ false → s.level ≡ 0
   pub objects : (s : Session) → m.sessions k ≡ Some s → s.accepted ≡ true → IsBytes s.object
-  pub waits : (s : Session) → m.sessions k ≡ Some s → m.slots s.spot ≡ Some (Waits k) → (hand : Option Hand) × (m.stances s.client ≡ Some (stance Blocked hand))
+  pub waits : (s : Session) → m.sessions k ≡ Some s → m.slots s.spot ≡ Some (Waits k)
+      → (current : Option Current) × (m.stances s.client ≡ Some (stance Blocked current))
   pub alone : (s : Session) → m.sessions k ≡ Some s → m.slots s.spot ≡ Some (Waits k) → (j : ℕ) (t : Session) → j ≢ k → l.sessions j ≡ Some t
       → l.slots t.spot ≡ Some (Waits j) → t.client ≢ s.client
   -- of the leaves and the requests
   pub others_wait : (j : ℕ) (t : Session) → j ≢ k → l.sessions j ≡ Some t → l.slots t.spot ≡ Some (Waits j) → m.stances t.client ≡ l.stances t.client
-  pub blocked : (y : ℕ) (hand : Option Hand) → m.stances y ≡ Some (stance Blocked hand)
+  pub blocked : (y : ℕ) (current : Option Current) → m.stances y ≡ Some (stance Blocked current)
       → ((s : Session) × (m.sessions k ≡ Some s) × (s.client ≡ y) × (m.slots s.spot ≡ Some (Waits k)))
       ⊎ ((j : ℕ) × (t : Session) × (j ≢ k) × (l.sessions j ≡ Some t) × (t.client ≡ y) × (l.slots t.spot ≡ Some (Waits j)))
   pub asked : Each (IsAsked m) m.requests
-  pub handles : (x : ℕ) (phase : Phase) (hand : Hand) → m.stances x ≡ Some (stance phase (Some hand)) → Handles m x hand
-  pub fits : (x : ℕ) (t : Stance) → m.stances x ≡ Some t → Fits t.phase t.hand
+  pub handles : (x : ℕ) (phase : Phase) (current : Current) → m.stances x ≡ Some (stance phase (Some current)) → Handles m x current
+  pub fits : (x : ℕ) (t : Stance) → m.stances x ≡ Some t → Fits t.phase t.current
 
 module _ (system : System) (l m : Links) (k : ℕ) (q : Spot) (h : AreLinked system l) (c : Changes system l m k q) where
   -- another session is there before, and its slot says what it said
@@ -63,7 +64,7 @@ module _ (system : System) (l m : Links) (k : ℕ) (q : Spot) (h : AreLinked sys
   other_stands j t ne e = go (h.stands j t (before j t ne e))
     where
       count : pending_of m j t ≡ pending_of l j t
-      count = (λ i. c.counts j ne i + c.hands j ne t.server i)
+      count = (λ i. c.counts j ne i + c.all_current j ne t.server i)
 
       go : Stands l j t → Stands m j t
       go (inl s) = inl (slot_of j t ne e ∙ s.0, s.1, count ∙ s.2)
@@ -101,11 +102,12 @@ module _ (system : System) (l m : Links) (k : ℕ) (q : Spot) (h : AreLinked sys
   ]
 
   all_waits : (j : ℕ) (t : Session) → m.sessions j ≡ Some t → m.slots t.spot ≡ Some (Waits j)
-      → (hand : Option Hand) × (m.stances t.client ≡ Some (stance Blocked hand))
-  all_waits = by_number (λ j t. m.slots t.spot ≡ Some (Waits j) → (hand : Option Hand) × (m.stances t.client ≡ Some (stance Blocked hand))) c.waits other
+      → (current : Option Current) × (m.stances t.client ≡ Some (stance Blocked current))
+  all_waits = by_number
+      (λ j t. m.slots t.spot ≡ Some (Waits j) → (current : Option Current) × (m.stances t.client ≡ Some (stance Blocked current))) c.waits other
     where
       other : (j : ℕ) (t : Session) → j ≢ k → m.sessions j ≡ Some t → m.slots t.spot ≡ Some (Waits j)
-          → (hand : Option Hand) × (m.stances t.client ≡ Some (stance Blocked hand))
+          → (current : Option Current) × (m.stances t.client ≡ Some (stance Blocked current))
       other j t ne e w =
           let was = before j t ne e in
           let waited = sym (slot_of j t ne e) ∙ w in
@@ -134,9 +136,9 @@ module _ (system : System) (l m : Links) (k : ℕ) (q : Spot) (h : AreLinked sys
             | inr b ↦ h.alone i j s t (before i s a is) (before j t b.1 js) (sym (slot_of i s a is) ∙ iw) (sym (slot_of j t b.1 js) ∙ jw) same
           ]
 
-  all_blocked : (y : ℕ) (hand : Option Hand) → m.stances y ≡ Some (stance Blocked hand)
+  all_blocked : (y : ℕ) (current : Option Current) → m.stances y ≡ Some (stance Blocked current)
       → (j : ℕ) × (s : Session) × (m.sessions j ≡ Some s) × (s.client ≡ y) × (m.slots s.spot ≡ Some (Waits j))
-  all_blocked y hand e = elim (c.blocked y hand e) [
+  all_blocked y current e = elim (c.blocked y current e) [
     | inl s ↦ (k, s.0, s.1, s.2, s.3)
     | inr t ↦ (t.0, t.1, c.sessions t.0 t.2 ∙ t.3, t.4, c.slots t.1.spot (c.elsewhere t.0 t.1 t.2 t.3) ∙ t.5)
   ]

@@ -1,4 +1,4 @@
--- A request to open a session keeps sessions, slots, requests and hands in agreement.
+-- A request to open a session keeps sessions, slots, requests and current requests in agreement.
 use Rattle.std.proofs.Common.{◌≡◌, ◌≢◌, ℕ, zero, suc, inl, inr, true, false, List, [], ◌∷◌, replicate, Option, Some, None, refl, ap, sym, ◌∙◌, arith}
 use Rattle.std.specs.Prelude.{slice_get, slice_set}
 use Rattle.std.proofs.lemmas.Bool.Decides.{eqb_tells}
@@ -9,7 +9,7 @@ use Rattle.gq_model.specs.declared.phase.Phase.TheVariants.{Blocked}
 use Rattle.gq_model.specs.machine.Amounts.{Amount, amount}
 use Rattle.gq_model.specs.machine.Scenario.{interface_in, open_caps}
 use Rattle.gq_model.specs.machine.Routes.{server_of}
-use Rattle.gq_model.specs.machine.World.{Slot, Empty, Waiting, Spot, In_leaf, In_session, In_object, Session, Ask_open, Request, Hand, Leaf, World, joined}
+use Rattle.gq_model.specs.machine.World.{Slot, Empty, Waiting, Spot, In_leaf, In_session, In_object, Session, Ask_open, Request, Current, Leaf, World, joined}
 use Rattle.gq_model.specs.machine.World.{session_at, session_slot, session_object, slot_at, put_leaf_slot, put_session_slot, put_object, with_slot, spot_of}
 use Rattle.gq_model.specs.machine.Doing.{Doing, Stepped, fill}
 use Rattle.gq_model.specs.machine.Requests.{add_session, free_place, asked, new_session, open_session}
@@ -20,7 +20,7 @@ use Rattle.gq_model.proofs.Small.{some_same, none_some}
 use Rattle.gq_laws.proofs.linking.Events.{its_slot, one_none}
 use Rattle.gq_laws.proofs.linking.Worlds.{session_there, slot_here, slot_else, slot_outlines, slot_stances, slot_requests, leaf_in_slot}
 use Rattle.gq_laws.proofs.linking.Quiet.{stood, full_object}
-use Rattle.gq_laws.specs.Statements.{Takes}
+use Rattle.gq_laws.specs.Statements.{TakesLeaf}
 use Rattle.gq_laws.proofs.linking.Requests.{spot_belongs, Ready, Prepared, asked_linked}
 
 -- THE FREE PLACE
@@ -95,9 +95,9 @@ fill_found P w q slot go h = by (slot_at w q) refl
 
 -- A NEW SESSION
 
-module _ (d : Doing) (t : Takes d) (active : d.leaf.phase ≢ Blocked) (h : AreLinked d.system (links d.world))
+module _ (d : Doing) (t : TakesLeaf d) (active : d.leaf.phase ≢ Blocked) (h : AreLinked d.system (links d.world))
     (component : slice_get d.system.components d.x ≡ Some d.component)
-    (place : Place) (q : Spot) (at : spot_of d.x d.leaf.hand place ≡ Some q) (empty : slot_at d.world q ≡ Some Empty) (service : List ℕ) (given : Amount)
+    (place : Place) (q : Spot) (at : spot_of d.x d.leaf.current place ≡ Some q) (empty : slot_at d.world q ≡ Some Empty) (service : List ℕ) (given : Amount)
     (server : ℕ) (found : server_of d.system d.component service ≡ Some server) where
   abbrev L : Links
   L = links d.world
@@ -120,14 +120,14 @@ module _ (d : Doing) (t : Takes d) (active : d.leaf.phase ≢ Blocked) (h : AreL
   same_place : k ≡ free_place filled.sessions
   same_place = sym (free_slot d.world q (Waiting k))
 
-  handled : (g : Hand) → d.leaf.hand ≡ Some g → Handles L d.x g
+  handled : (g : Current) → d.leaf.current ≡ Some g → Handles L d.x g
   handled g e = h.handles d.x d.leaf.phase g (stood d t ∙ ap (λ o. Some (stance d.leaf.phase o)) e)
 
   pub not_object : (j : ℕ) → q ≢ In_object j
-  not_object j same = by place d.leaf.hand refl at
+  not_object j same = by place d.leaf.current refl at
     where
-      by : (place : Place) (hand : Option Hand) → d.leaf.hand ≡ hand → spot_of d.x hand place ≡ Some q → ⊥
-      by (Own i) hand e f = leaf_object (some_same (f ∙ ap Some same))
+      by : (place : Place) (current : Option Current) → d.leaf.current ≡ current → spot_of d.x current place ≡ Some q → ⊥
+      by (Own i) current e f = leaf_object (some_same (f ∙ ap Some same))
         where
           leaf_object : {x i k : ℕ} → In_leaf x i ≡ In_object k → ⊥
           leaf_object e = cc
@@ -144,11 +144,11 @@ module _ (d : Doing) (t : Takes d) (active : d.leaf.phase ≢ Blocked) (h : AreL
       record {
         client = refl;
         kept = λ u e. absurd (none_some (sym free_l ∙ e));
-        no_hand = λ y p g e same. (let u = h.handles y p g e in none_some (sym free_l ∙ ap L.sessions (sym same) ∙ u.1));
+        no_current = λ y p g e same. (let u = h.handles y p g e in none_some (sym free_l ∙ ap L.sessions (sym same) ∙ u.1));
         no_request = none_asked L k free_l d.world.requests h.asked;
         elsewhere = λ j u ne e same. (let s = its_slot d.system L h j u e in none_some (sym (ap naming_in empty) ∙ ap L.slots (sym same) ∙ s.1));
         names = λ r n ne e same. (let u = h.named r n e in none_some (sym free_l ∙ ap L.sessions (sym same) ∙ u.1));
-        belongs = spot_belongs L d.x d.leaf.hand place q handled at not_object;
+        belongs = spot_belongs L d.x d.leaf.current place q handled at not_object;
         routed = (d.component, component, found);
         opens = λ no. refl;
         objects = λ yes. false_true yes;
@@ -215,7 +215,7 @@ module _ (d : Doing) (t : Takes d) (active : d.leaf.phase ≢ Blocked) (h : AreL
   new_ends : Ends (IsLinkedWorld d.system) (asked d added q k Ask_open)
   new_ends = asked_linked d t active h added k (outline new) Ask_open ready prepared
 
-pub open_ends : (d : Doing) → Takes d → d.leaf.phase ≢ Blocked → AreLinked d.system (links d.world) → slice_get d.system.components d.x ≡ Some d.component
+pub open_ends : (d : Doing) → TakesLeaf d → d.leaf.phase ≢ Blocked → AreLinked d.system (links d.world) → slice_get d.system.components d.x ≡ Some d.component
     → (place : Place) (service : List ℕ) (n : ℕ) → Ends (IsLinkedWorld d.system) (open_session d place service n)
 open_ends d t active h component place service n =
     need_found (IsLinkedWorld d.system) _ _ _ (λ q at. fill_found (IsLinkedWorld d.system) d.world q _ _ (λ empty.

@@ -1,4 +1,4 @@
--- Statements on operands, locals and memory change no session, request, hand or phase, and no slot that names a session.
+-- Statements on operands, locals and memory change no session, current request or phase, and no slot that names a session.
 use Rattle.std.proofs.Common.{◌≡◌, ◌≢◌, ℕ, ◌&&◌, inl, inr, Bool, true, false, not, List, Option, Some, None, Ok, refl, ap, sym, ◌∙◌, subst}
 use Rattle.std.specs.Prelude.{slice_get}
 use Rattle.gq_model.specs.declared.program.Place.{Place}
@@ -8,7 +8,8 @@ use Rattle.gq_model.specs.declared.program.Instruction.TheVariants.{Say, Make, M
 use Rattle.gq_model.specs.declared.fault.Wrong.{Wrong}
 use Rattle.gq_model.specs.declared.fault.Wrong.TheVariants.{WrongKind, ExceededQuota}
 use Rattle.gq_model.specs.machine.Scenario.{System}
-use Rattle.gq_model.specs.machine.World.{Slot, Empty, Bytes, Pool, Link, Waiting, Spot, In_leaf, In_session, In_object, Session, Hand, Leaf, World, session_at}
+use Rattle.gq_model.specs.machine.World.{Slot, Empty, Bytes, Pool, Link, Waiting, Spot, In_leaf, In_session, In_object, Session, Current, Leaf, World}
+use Rattle.gq_model.specs.machine.World.{session_at}
 use Rattle.gq_model.specs.machine.World.{session_object, with_leaf, slot_at, with_slot, spot_of}
 use Rattle.gq_model.specs.machine.Doing.{Doing, Quiet, Stepped, when, standing, settled, fill}
 use Rattle.gq_model.specs.machine.Sums.{paid}
@@ -21,7 +22,7 @@ use Rattle.gq_laws.proofs.linking.Worlds.{slot_stances}
 use Rattle.gq_laws.proofs.linking.Worlds.{slot_requests}
 use Rattle.gq_laws.proofs.turning.Endings.{Ends, gives, fails, need_ends, need_found, when_ends, pop_ends, push_ends, absent_ends}
 use Rattle.std.proofs.lemmas.Bool.Decides.{eqb_tells}
-use Rattle.gq_laws.specs.Statements.{Takes}
+use Rattle.gq_laws.specs.Statements.{TakesLeaf}
 
 -- these are the links of the world
 pub record Same (l : Links) (w : World) : Type 0 where
@@ -40,14 +41,14 @@ when_found P false wrong next h = fails wrong
 
 module _ (l : Links) where
   pub same_leaf : (w : World) (x : ℕ) (old leaf : Leaf) → slice_get w.leaves x ≡ Some old → leaf.slots ≡ old.slots → leaf.phase ≡ old.phase
-      → leaf.hand ≡ old.hand → Same l w → Same l (with_leaf w x leaf)
-  same_leaf w x old leaf there slots phase hand h =
+      → leaf.current ≡ old.current → Same l w → Same l (with_leaf w x leaf)
+  same_leaf w x old leaf there slots phase current h =
       record {
         slots = λ r. ap naming_in (leaf_keeps_slots w x old leaf there slots r) ∙ h.slots r;
         sessions = h.sessions;
         stances = λ y. (elim (eqb_tells y x) [
           | inl e ↦ ap (λ y. stance_in (slice_get (with_leaf w x leaf).leaves y)) e.1
-              ∙ (leaf_stance w x old leaf there ∙ ((λ i. Some (record { phase = phase i; hand = hand i }))
+              ∙ (leaf_stance w x old leaf there ∙ ((λ i. Some (record { phase = phase i; current = current i }))
               ∙ (sym (ap stance_in there) ∙ ap (λ y. stance_in (slice_get w.leaves y)) (sym e.1))))
           | inr e ↦ leaf_stances w x old leaf there y e.1
         ])
@@ -131,21 +132,21 @@ IsQuiet (Call place) = ⊥
 IsQuiet (Close place) = ⊥
 IsQuiet _ = Unit {0}
 
-module _ (d : Doing) (t : Takes d) where
+module _ (d : Doing) (t : TakesLeaf d) where
   abbrev L : Links
   L = links d.world
 
-  pub stands : (leaf : Leaf) → leaf.slots ≡ d.leaf.slots → leaf.phase ≡ d.leaf.phase → leaf.hand ≡ d.leaf.hand → Same L (standing d leaf)
-  stands leaf slots phase hand = same_leaf L d.world d.x t.old leaf t.there (slots ∙ t.slots) (phase ∙ t.phase) (hand ∙ t.hand) (its_links d.world)
+  pub stands : (leaf : Leaf) → leaf.slots ≡ d.leaf.slots → leaf.phase ≡ d.leaf.phase → leaf.current ≡ d.leaf.current → Same L (standing d leaf)
+  stands leaf slots phase current = same_leaf L d.world d.x t.old leaf t.there (slots ∙ t.slots) (phase ∙ t.phase) (current ∙ t.current) (its_links d.world)
 
   -- how the leaf stands
-  pub stood : L.stances d.x ≡ Some (stance d.leaf.phase d.leaf.hand)
-  stood = ap stance_in t.there ∙ (λ i. Some (stance (sym t.phase i) (sym t.hand i)))
+  pub stood : L.stances d.x ≡ Some (stance d.leaf.phase d.leaf.current)
+  stood = ap stance_in t.there ∙ (λ i. Some (stance (sym t.phase i) (sym t.current i)))
 
-  free_by : (place : Place) (hand : Option Hand) (q : Spot) → spot_of d.x hand place ≡ Some q
-      → Ends (Same L) (when (is_memory (slot_at (standing d d.leaf) q) && not (is_kept d hand place)) WrongKind
+  free_by : (place : Place) (current : Option Current) (q : Spot) → spot_of d.x current place ≡ Some q
+      → Ends (Same L) (when (is_memory (slot_at (standing d d.leaf) q) && not (is_kept d current place)) WrongKind
       (when (paid d.system (with_slot (standing d d.leaf) q Empty)) ExceededQuota (Ok (with_slot (standing d d.leaf) q Empty, Quiet))))
-  free_by (Own i) hand q e = same_freed L d.system (is_kept d hand (Own i)) (standing d d.leaf) q (λ k same. leaf_object (some_same (e ∙ ap Some same)))
+  free_by (Own i) current q e = same_freed L d.system (is_kept d current (Own i)) (standing d d.leaf) q (λ k same. leaf_object (some_same (e ∙ ap Some same)))
       (stands d.leaf refl refl refl)
     where
       leaf_object : {x i k : ℕ} → In_leaf x i ≡ In_object k → ⊥
@@ -164,11 +165,11 @@ module _ (d : Doing) (t : Takes d) where
       never false next = fails WrongKind
 
   free_ends : (place : Place) → Ends (Same L) (free d place)
-  free_ends place = need_found (Same L) _ _ _ (λ q e. free_by place d.leaf.hand q e)
+  free_ends place = need_found (Same L) _ _ _ (λ q e. free_by place d.leaf.current q e)
 
   module _ (h : AreLinked d.system L) where
-    -- the object at hand is not Empty
-    pub full_object : (g : Hand) → d.leaf.hand ≡ Some g → slot_at d.world (In_object g.session) ≡ Some Empty → ⊥
+    -- the object of the current session is not Empty
+    pub full_object : (g : Current) → d.leaf.current ≡ Some g → slot_at d.world (In_object g.session) ≡ Some Empty → ⊥
     full_object g at empty =
         let s = object_there d.world g.session Empty empty in
         let u = h.handles d.x d.leaf.phase g (stood ∙ ap (λ o. Some (stance d.leaf.phase o)) at) in
@@ -176,9 +177,10 @@ module _ (d : Doing) (t : Takes d) where
         let accepted = ap (λ (s : Session). s.accepted) (some_same (sym there ∙ u.1)) ∙ u.3 in
         subst (λ o. IsBytes (shape o)) s.2 (h.objects g.session (outline s.0) there accepted)
 
-    make_by : (place : Place) (slot : Slot) → naming slot ≡ None → (hand : Option Hand) → d.leaf.hand ≡ hand → (q : Spot) → spot_of d.x hand place ≡ Some q
+    make_by : (place : Place) (slot : Slot) → naming slot ≡ None → (current : Option Current) → d.leaf.current ≡ current → (q : Spot)
+        → spot_of d.x current place ≡ Some q
         → Ends (Same L) (fill (standing d d.leaf) q (slot_at (standing d d.leaf) q) slot (settled d.system d.x))
-    make_by (Own i) slot new hand at q e = fill_same L (Same L) (standing d d.leaf) q slot _ new (λ k same. leaf_object (some_same (e ∙ ap Some same)))
+    make_by (Own i) slot new current at q e = fill_same L (Same L) (standing d d.leaf) q slot _ new (λ k same. leaf_object (some_same (e ∙ ap Some same)))
         (stands d.leaf refl refl refl) (same_settled L d.system d.x)
       where
         leaf_object : {x i k : ℕ} → In_leaf x i ≡ In_object k → ⊥
@@ -200,7 +202,7 @@ module _ (d : Doing) (t : Takes d) where
         by _ e = fails WrongKind
 
     make_ends : (place : Place) (slot : Slot) → naming slot ≡ None → Ends (Same L) (make d place slot)
-    make_ends place slot new = need_found (Same L) _ _ _ (λ q e. make_by place slot new d.leaf.hand refl q e)
+    make_ends place slot new = need_found (Same L) _ _ _ (λ q e. make_by place slot new d.leaf.current refl q e)
 
     pub quiet_ends : (i : Instruction) → IsQuiet i → Ends (Same L) (instruct d i)
     quiet_ends (Say text) quiet = gives _ _ (stands d.leaf refl refl refl)

@@ -1,4 +1,4 @@
--- Requests keep sessions, slots, requests and hands in agreement.
+-- Requests keep sessions, slots, requests and current requests in agreement.
 use Rattle.std.proofs.Common.{◌≡◌, ◌≢◌, ℕ, suc, ◌⊎◌, inl, inr, true, false, not, [], ◌∷◌, ◌++◌, Option, Some, None, refl, ap, sym, ◌∙◌, subst, arith}
 use Rattle.std.specs.Prelude.{slice_get}
 use Rattle.std.proofs.lemmas.Bool.Decides.{eqb_tells}
@@ -9,12 +9,13 @@ use Rattle.gq_model.specs.declared.phase.Phase.{Phase}
 use Rattle.gq_model.specs.declared.phase.Phase.TheVariants.{Blocked}
 use Rattle.gq_model.specs.machine.Amounts.{Amount, amount, plus}
 use Rattle.gq_model.specs.machine.Scenario.{System, interface_in, upgrade_caps}
-use Rattle.gq_model.specs.machine.World.{Slot, Link, Waiting, Spot, In_leaf, In_session, In_object, Session, Ask, Ask_upgrade, Ask_close, Ask_call, Hand, Leaf}
+use Rattle.gq_model.specs.machine.World.{Slot, Link, Waiting, Spot, In_leaf, In_session, In_object, Session, Ask, Ask_upgrade, Ask_close, Ask_call, Current}
+use Rattle.gq_model.specs.machine.World.{Leaf}
 use Rattle.gq_model.specs.machine.World.{World, session_at, with_leaf, with_session, leaf_slot, slot_at, with_slot, spot_of}
 use Rattle.gq_model.specs.machine.Doing.{Doing, Quiet, Stepped, with_operands}
 use Rattle.gq_model.specs.machine.Sums.{paid}
 use Rattle.gq_model.specs.machine.Requests.{asked, link_in, upgrade, call, close}
-use Rattle.gq_laws.specs.Links.{Naming, Leads, Waits, named, naming_in, IsBytes, outline, outline_in, stance, stance_in, Links, links, requests_of, at_hand}
+use Rattle.gq_laws.specs.Links.{Naming, Leads, Waits, named, naming_in, IsBytes, outline, outline_in, stance, stance_in, Links, links, requests_of, at_current}
 use Rattle.gq_laws.specs.Links.{pending_of, is_open, Stands, Belongs, IsRouted, Handles, AreLinked, IsLinkedWorld}
 use Rattle.gq_laws.proofs.turning.Endings.{Ends, gives, fails, need_found, when_ends, pop_ends}
 use Rattle.gq_laws.proofs.linking.Linking.{changes_linked}
@@ -23,14 +24,14 @@ use Rattle.gq_laws.proofs.linking.Events.{apart, names_apart, at_server, one_one
 use Rattle.gq_laws.proofs.linking.Worlds.{same_spot, set_here, set_else, leaf_stance, leaf_stances, session_here, session_else, session_slots, slot_here}
 use Rattle.gq_laws.proofs.linking.Worlds.{slot_else, slot_outlines, slot_stances, slot_requests}
 use Rattle.gq_laws.proofs.linking.Quiet.{stood}
-use Rattle.gq_laws.specs.Statements.{Takes}
+use Rattle.gq_laws.specs.Statements.{TakesLeaf}
 
 -- SPOTS OF A LEAF
 
--- what an operand names is the leaf's own, or of the session at its hand
-own_spot : (l : Links) (x : ℕ) (hand : Option Hand) (place : Place) (q : Spot) (c : ℕ) → ((g : Hand) → hand ≡ Some g → Handles l x g)
-    → spot_of x hand place ≡ Some q → Belongs l q c → c ≡ x
-own_spot l x hand (Own i) q c h e b = go (subst (λ q. Belongs l q c) (some_same (sym e)) b)
+-- what an operand names is the leaf's own, or of the session current at it
+own_spot : (l : Links) (x : ℕ) (current : Option Current) (place : Place) (q : Spot) (c : ℕ) → ((g : Current) → current ≡ Some g → Handles l x g)
+    → spot_of x current place ≡ Some q → Belongs l q c → c ≡ x
+own_spot l x current (Own i) q c h e b = go (subst (λ q. Belongs l q c) (some_same (sym e)) b)
   where
     go : Belongs l (In_leaf x i) c → c ≡ x
     go b = sym b
@@ -42,9 +43,9 @@ own_spot l x (Some g) (Shared i) q c h e b = go (subst (λ q. Belongs l q c) (so
 own_spot l x None Object q c h e b = absurd (none_some e)
 own_spot l x (Some g) Object q c h e b = absurd (subst (λ q. Belongs l q c) (some_same (sym e)) b)
 
-pub spot_belongs : (l : Links) (x : ℕ) (hand : Option Hand) (place : Place) (q : Spot) → ((g : Hand) → hand ≡ Some g → Handles l x g)
-    → spot_of x hand place ≡ Some q → ((k : ℕ) → q ≢ In_object k) → Belongs l q x
-spot_belongs l x hand (Own i) q h e other = subst (λ q. Belongs l q x) (some_same e) refl
+pub spot_belongs : (l : Links) (x : ℕ) (current : Option Current) (place : Place) (q : Spot) → ((g : Current) → current ≡ Some g → Handles l x g)
+    → spot_of x current place ≡ Some q → ((k : ℕ) → q ≢ In_object k) → Belongs l q x
+spot_belongs l x current (Own i) q h e other = subst (λ q. Belongs l q x) (some_same e) refl
 spot_belongs l x None (Shared i) q h e other = absurd (none_some e)
 spot_belongs l x (Some g) (Shared i) q h e other = let s = h g refl in subst (λ q. Belongs l q x) (some_same e) (s.0, s.1, s.3, s.2)
 spot_belongs l x None Object q h e other = absurd (none_some e)
@@ -56,7 +57,7 @@ spot_belongs l x (Some g) Object q h e other = absurd (other g.session (some_sam
 pub record Ready (system : System) (l : Links) (x : ℕ) (k : ℕ) (s : Session) (ask : Ask) : Type 0 where
   pub client : s.client ≡ x
   pub kept : (t : Session) → l.sessions k ≡ Some t → Kept t s
-  pub no_hand : (y : ℕ) (p : Phase) (g : Hand) → l.stances y ≡ Some (stance p (Some g)) → g.session ≢ k
+  pub no_current : (y : ℕ) (p : Phase) (g : Current) → l.stances y ≡ Some (stance p (Some g)) → g.session ≢ k
   pub no_request : requests_of k l.requests ≡ 0
   pub elsewhere : (j : ℕ) (t : Session) → j ≢ k → l.sessions j ≡ Some t → t.spot ≢ s.spot
   pub names : (r : Spot) (n : Naming) → r ≢ s.spot → l.slots r ≡ Some n → named n ≢ k
@@ -78,7 +79,7 @@ pub record Prepared (d : Doing) (w : World) (q : Spot) (k : ℕ) (s : Session) :
   pub requests : w.requests ≡ d.world.requests
   pub not_object : (j : ℕ) → q ≢ In_object j
 
-module _ (d : Doing) (t : Takes d) (active : d.leaf.phase ≢ Blocked) (h : AreLinked d.system (links d.world)) (w : World) (k : ℕ) (s : Session) (ask : Ask)
+module _ (d : Doing) (t : TakesLeaf d) (active : d.leaf.phase ≢ Blocked) (h : AreLinked d.system (links d.world)) (w : World) (k : ℕ) (s : Session) (ask : Ask)
     (r : Ready d.system (links d.world) d.x k s ask) (p : Prepared d w s.spot k s) where
   abbrev blocking : World
   blocking = with_leaf w d.x (record d.leaf { phase = Blocked })
@@ -111,7 +112,7 @@ module _ (d : Doing) (t : Takes d) (active : d.leaf.phase ≢ Blocked) (h : AreL
   after_outlines : (j : ℕ) → outline_in (session_at after j) ≡ outline_in (session_at w j)
   after_outlines j = slot_outlines blocking s.spot (Waiting k) (λ i u at e. absurd (p.not_object i at)) j
 
-  after_stance : stance_in (slice_get after.leaves d.x) ≡ Some (stance Blocked d.leaf.hand)
+  after_stance : stance_in (slice_get after.leaves d.x) ≡ Some (stance Blocked d.leaf.current)
   after_stance = slot_stances blocking s.spot (Waiting k) d.x ∙ leaf_stance w d.x p.leaf.0 (record d.leaf { phase = Blocked }) p.leaf.1
 
   after_stances : (y : ℕ) → y ≢ d.x → stance_in (slice_get after.leaves y) ≡ stance_in (slice_get d.world.leaves y)
@@ -128,14 +129,14 @@ module _ (d : Doing) (t : Takes d) (active : d.leaf.phase ≢ Blocked) (h : AreL
         | inr e ↦ (b.0, after_outlines j ∙ (p.sessions j e.1 ∙ b.1), b.2, b.3)
       ]
 
-  asks : Asks d.system (links d.world) (links after) d.x d.leaf.phase d.leaf.hand k s ask
+  asks : Asks d.system (links d.world) (links after) d.x d.leaf.phase d.leaf.current k s ask
   asks =
       record {
         active = stood d t;
         is_active = active;
         client = r.client;
         kept = r.kept;
-        no_hand = r.no_hand;
+        no_current = r.no_current;
         no_request = r.no_request;
         elsewhere = r.elsewhere;
         names = r.names;
@@ -157,7 +158,7 @@ module _ (d : Doing) (t : Takes d) (active : d.leaf.phase ≢ Blocked) (h : AreL
   asked_linked =
       when_ends (IsLinkedWorld d.system) (paid d.system after) ExceededQuota _ (gives after Quiet
       (changes_linked same_spot d.system (links d.world) (links after) k s.spot h
-      (asks_changes d.system (links d.world) (links after) d.x d.leaf.phase d.leaf.hand k s ask h asks)))
+      (asks_changes d.system (links d.world) (links after) d.x d.leaf.phase d.leaf.current k s ask h asks)))
 
 -- REQUESTS OF A LINKED SESSION
 
@@ -170,14 +171,14 @@ link_found P w q go h = by (slot_at w q) refl
     by (Some (Link k)) e = need_found P (session_at w k) WrongKind (go k) (λ s f. h k s e f)
     by _ e = fails WrongKind
 
-module _ (d : Doing) (t : Takes d) (active : d.leaf.phase ≢ Blocked) (h : AreLinked d.system (links d.world)) where
+module _ (d : Doing) (t : TakesLeaf d) (active : d.leaf.phase ≢ Blocked) (h : AreLinked d.system (links d.world)) where
   abbrev L : Links
   L = links d.world
 
-  handled : (g : Hand) → d.leaf.hand ≡ Some g → Handles L d.x g
+  handled : (g : Current) → d.leaf.current ≡ Some g → Handles L d.x g
   handled g e = h.handles d.x d.leaf.phase g (stood d t ∙ ap (λ o. Some (stance d.leaf.phase o)) e)
 
-  module _ (place : Place) (q : Spot) (at : spot_of d.x d.leaf.hand place ≡ Some q) (k : ℕ) (s : Session) (link : slot_at d.world q ≡ Some (Link k))
+  module _ (place : Place) (q : Spot) (at : spot_of d.x d.leaf.current place ≡ Some q) (k : ℕ) (s : Session) (link : slot_at d.world q ≡ Some (Link k))
       (there : session_at d.world k ≡ Some s) where
     there_l : L.sessions k ≡ Some (outline s)
     there_l = ap outline_in there
@@ -200,12 +201,12 @@ module _ (d : Doing) (t : Takes d) (active : d.leaf.phase ≢ Blocked) (h : AreL
         go (inr u) = absurd (leads_waits (sym link_l ∙ ap L.slots (sym spot_is) ∙ u.0))
 
     client_is : s.client ≡ d.x
-    client_is = own_spot L d.x d.leaf.hand place q s.client handled at (subst (λ q. Belongs L q s.client) spot_is (h.belongs k (outline s) there_l))
+    client_is = own_spot L d.x d.leaf.current place q s.client handled at (subst (λ q. Belongs L q s.client) spot_is (h.belongs k (outline s) there_l))
 
-    none_at_hand : (y : ℕ) (p : Phase) (g : Hand) → L.stances y ≡ Some (stance p (Some g)) → g.session ≢ k
-    none_at_hand y p g e same =
+    none_current : (y : ℕ) (p : Phase) (g : Current) → L.stances y ≡ Some (stance p (Some g)) → g.session ≢ k
+    none_current y p g e same =
         let server = at_server d.system L h k (outline s) there_l y p g e same in
-        let one = ap (λ y. at_hand k (L.stances y)) server ∙ ap (at_hand k) e ∙ one_one g.session k same in
+        let one = ap (λ y. at_current k (L.stances y)) server ∙ ap (at_current k) e ∙ one_one g.session k same in
         let none = at_rest.1 in
         absurd (omega (arith, one, none))
 
@@ -228,7 +229,7 @@ module _ (d : Doing) (t : Takes d) (active : d.leaf.phase ≢ Blocked) (h : AreL
                   server = ap (λ (s : Session). s.server) (sym same);
                   accepted = ap (λ (s : Session). s.accepted) (sym same);
                 };
-            no_hand = none_at_hand;
+            no_current = none_current;
             no_request = (let none = at_rest.1 in omega (arith, none));
             elsewhere = apart d.system L h k (outline s) there_l;
             names = names_apart d.system L h k (outline s) there_l;
@@ -293,11 +294,11 @@ module _ (d : Doing) (t : Takes d) (active : d.leaf.phase ≢ Blocked) (h : AreL
   close_ends place = need_found (IsLinkedWorld d.system) _ _ _
       (λ q at. link_found (IsLinkedWorld d.system) d.world q _ (λ k s link there. link_ends place q at k s link there Ask_close refl))
 
-pub call_ends : (d : Doing) → Takes d → d.leaf.phase ≢ Blocked → AreLinked d.system (links d.world) → (place : Place)
+pub call_ends : (d : Doing) → TakesLeaf d → d.leaf.phase ≢ Blocked → AreLinked d.system (links d.world) → (place : Place)
     → Ends (IsLinkedWorld d.system) (call d place)
 call_ends d t active h place =
     pop_ends (IsLinkedWorld d.system) _ _ (λ a rest.
     let e : Doing = record d { leaf = with_operands d rest } in
-    let u : Takes e = record { old = t.old; there = t.there; slots = t.slots; phase = t.phase; hand = t.hand } in
+    let u : TakesLeaf e = record { old = t.old; there = t.there; slots = t.slots; phase = t.phase; current = t.current } in
     need_found (IsLinkedWorld d.system) _ _ _ (λ q at. link_found (IsLinkedWorld d.system) d.world q _
     (λ k s link there. link_ends e u active h place q at k s link there (Ask_call a) refl)))

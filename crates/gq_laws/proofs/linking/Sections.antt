@@ -1,4 +1,4 @@
--- Replies keep sessions, slots, requests and hands in agreement.
+-- Replies keep sessions, slots, requests and current requests in agreement.
 use Rattle.std.proofs.Common.{◌≡◌, ◌≢◌, ℕ, zero, suc, inl, inr, true, List, [], ◌∷◌, Option, Some, None, refl, ap, sym, ◌∙◌, subst, arith}
 use Rattle.std.specs.Prelude.{slice_get, slice_set}
 use Rattle.std.proofs.lemmas.Bool.Decides.{eqb_tells}
@@ -8,12 +8,12 @@ use Rattle.gq_model.specs.declared.fault.Wrong.TheVariants.{WrongKind, ExceededQ
 use Rattle.gq_model.specs.declared.phase.Phase.{Phase}
 use Rattle.gq_model.specs.declared.phase.Phase.TheVariants.{Blocked, Serving, Handling}
 use Rattle.gq_model.specs.machine.Scenario.{System}
-use Rattle.gq_model.specs.machine.World.{Slot, Empty, Bytes, Pool, Link, Waiting, Spot, In_leaf, In_session, In_object, Session, Hand, Leaf, World, joined}
+use Rattle.gq_model.specs.machine.World.{Slot, Empty, Bytes, Pool, Link, Waiting, Spot, In_leaf, In_session, In_object, Session, Current, Leaf, World, joined}
 use Rattle.gq_model.specs.machine.World.{session_at, session_slot, session_object, slot_at, with_leaf, with_slot}
 use Rattle.gq_model.specs.machine.Doing.{Doing, Quiet, standing}
 use Rattle.gq_model.specs.machine.Sums.{paid}
 use Rattle.gq_model.specs.machine.Step.{all_empty, serving, resumed, active_again, unblocked, replied, reply_close, reply}
-use Rattle.gq_laws.specs.Links.{Naming, Waits, naming_in, outline, outline_in, Stance, stance, stance_in, Links, links, at_hand, Stands, Belongs, Fits}
+use Rattle.gq_laws.specs.Links.{Naming, Waits, naming_in, outline, outline_in, Stance, stance, stance_in, Links, links, at_current, Stands, Belongs, Fits}
 use Rattle.gq_laws.specs.Links.{AreLinked, IsLinkedWorld}
 use Rattle.gq_laws.proofs.turning.Endings.{Ends, gives, fails, when_ends, pop_ends}
 use Rattle.gq_laws.proofs.linking.Linking.{changes_linked}
@@ -23,14 +23,14 @@ use Rattle.gq_laws.proofs.linking.Replies.{Answers, link_changes, close_changes}
 use Rattle.gq_laws.proofs.linking.Worlds.{set_else, same_spot, leaf_stance, leaf_stances, leaf_keeps_slots, slot_here, slot_else, slot_outlines, slot_stances}
 use Rattle.gq_laws.proofs.linking.Worlds.{slot_requests}
 use Rattle.gq_laws.proofs.linking.Quiet.{stood, when_found}
-use Rattle.gq_laws.specs.Statements.{Takes}
+use Rattle.gq_laws.specs.Statements.{TakesLeaf}
 use Rattle.gq_laws.proofs.linking.Accepted.{object_unnamed, stand_slots, stand_stance, stand_stances}
 use Rattle.gq_laws.proofs.turning.Outcomes.{handling_blocked}
 
 -- REPLIES
 
 -- what is found by its stance or its naming is there
-pub leaf_of_stance : (o : Option Leaf) (u : Stance) → stance_in o ≡ Some u → (leaf : Leaf) × (o ≡ Some leaf) × (stance leaf.phase leaf.hand ≡ u)
+pub leaf_of_stance : (o : Option Leaf) (u : Stance) → stance_in o ≡ Some u → (leaf : Leaf) × (o ≡ Some leaf) × (stance leaf.phase leaf.current ≡ u)
 leaf_of_stance None u e = absurd (none_some e)
 leaf_of_stance (Some leaf) u e = (leaf, refl, some_same e)
 
@@ -42,22 +42,23 @@ pub slot_of_naming : (o : Option Slot) (n : Naming) → naming_in o ≡ Some n �
 slot_of_naming None n e = absurd (none_some e)
 slot_of_naming (Some slot) n e = (slot, refl)
 
--- a leaf goes on in a phase that fits its hand, and is not blocked
-goes_on : (hand : Option Hand) → resumed hand ≢ Blocked
+-- a leaf goes on in a phase that fits its current request, and is not blocked
+goes_on : (current : Option Current) → resumed current ≢ Blocked
 goes_on None e = absurd cc
 goes_on (Some g) e = absurd cc
 
-goes_on_fits : (hand : Option Hand) → Fits (resumed hand) hand
+goes_on_fits : (current : Option Current) → Fits (resumed current) current
 goes_on_fits None = tt
 goes_on_fits (Some g) = tt
 
--- a session whose section is at its server's hand waits
-pub handled_waits : (system : System) (l : Links) → AreLinked system l → (y : ℕ) (p : Phase) (g : Hand) (s : Session) → l.stances y ≡ Some (stance p (Some g))
+-- a session whose section is current at its server waits
+pub handled_waits : (system : System) (l : Links) → AreLinked system l → (y : ℕ) (p : Phase) (g : Current) (s : Session)
+    → l.stances y ≡ Some (stance p (Some g))
     → l.sessions g.session ≡ Some s → l.slots s.spot ≡ Some (Waits g.session)
 handled_waits system l h y p g s at there = go (h.stands g.session s there)
   where
-    one : at_hand g.session (l.stances s.server) ≡ 1
-    one = ap (λ y. at_hand g.session (l.stances y)) (at_server system l h g.session s there y p g at refl) ∙ ap (at_hand g.session) at
+    one : at_current g.session (l.stances s.server) ≡ 1
+    one = ap (λ y. at_current g.session (l.stances y)) (at_server system l h g.session s there y p g at refl) ∙ ap (at_current g.session) at
         ∙ one_one g.session g.session refl
 
     go : Stands l g.session s → l.slots s.spot ≡ Some (Waits g.session)
@@ -80,7 +81,8 @@ gone_here [] k = refl
 gone_here (a ∷ rest) zero = refl
 gone_here (a ∷ rest) (suc k) = gone_here rest k
 
-module _ (d : Doing) (t : Takes d) (h : AreLinked d.system (links d.world)) (handles : d.leaf.phase ≡ Handling) (g : Hand) (hand : d.leaf.hand ≡ Some g)
+module _ (d : Doing) (t : TakesLeaf d) (h : AreLinked d.system (links d.world)) (handles : d.leaf.phase ≡ Handling) (g : Current)
+    (current : d.leaf.current ≡ Some g)
     (s : Session) (there : session_at d.world g.session ≡ Some s) where
   abbrev pub k : ℕ
   k = g.session
@@ -89,7 +91,7 @@ module _ (d : Doing) (t : Takes d) (h : AreLinked d.system (links d.world)) (han
   M = links d.world
 
   pub handling : M.stances d.x ≡ Some (stance Handling (Some g))
-  handling = stood d t ∙ (λ i. Some (stance (handles i) (hand i)))
+  handling = stood d t ∙ (λ i. Some (stance (handles i) (current i)))
 
   pub was : M.sessions k ≡ Some (outline s)
   was = ap outline_in there
@@ -97,7 +99,7 @@ module _ (d : Doing) (t : Takes d) (h : AreLinked d.system (links d.world)) (han
   pub slot_waits : M.slots s.spot ≡ Some (Waits k)
   slot_waits = handled_waits d.system M h d.x Handling g (outline s) handling was
 
-  pub client_waits : (o : Option Hand) × (M.stances s.client ≡ Some (stance Blocked o))
+  pub client_waits : (o : Option Current) × (M.stances s.client ≡ Some (stance Blocked o))
   client_waits = h.waits k (outline s) was slot_waits
 
   pub not_server : s.client ≢ d.x
@@ -136,18 +138,18 @@ module _ (d : Doing) (t : Takes d) (h : AreLinked d.system (links d.world)) (han
     put_requests = slot_requests served s.spot slot
 
     -- the client's leaf
-    pub client_leaf : (leaf : Leaf) × (slice_get put.leaves s.client ≡ Some leaf) × (stance leaf.phase leaf.hand ≡ stance Blocked client_waits.0)
+    pub client_leaf : (leaf : Leaf) × (slice_get put.leaves s.client ≡ Some leaf) × (stance leaf.phase leaf.current ≡ stance Blocked client_waits.0)
     client_leaf = leaf_of_stance (slice_get put.leaves s.client) (stance Blocked client_waits.0) (put_stances s.client not_server ∙ client_waits.1)
 
-    abbrev pub its_hand : Option Hand
-    its_hand = client_leaf.0.hand
+    abbrev pub its_current : Option Current
+    its_current = client_leaf.0.current
 
-    pub client_blocked : M.stances s.client ≡ Some (stance Blocked its_hand)
-    client_blocked = client_waits.1 ∙ ap (λ o. Some (stance Blocked o)) (sym (ap (λ (u : Stance). u.hand) client_leaf.2))
+    pub client_blocked : M.stances s.client ≡ Some (stance Blocked its_current)
+    client_blocked = client_waits.1 ∙ ap (λ o. Some (stance Blocked o)) (sym (ap (λ (u : Stance). u.current) client_leaf.2))
 
     module _ (f : List ℕ → List ℕ) where
       abbrev pub resumes : Leaf
-      resumes = record client_leaf.0 { phase = resumed its_hand; operands = f client_leaf.0.operands }
+      resumes = record client_leaf.0 { phase = resumed its_current; operands = f client_leaf.0.operands }
 
       -- a world like that one but for its sessions
       module _ (v : World) (same_leaves : v.leaves ≡ put.leaves) where
@@ -160,7 +162,7 @@ module _ (d : Doing) (t : Takes d) (h : AreLinked d.system (links d.world)) (han
         resumed_slots : (r : Spot) → slot_at resumed_world r ≡ slot_at v r
         resumed_slots r = leaf_keeps_slots v s.client client_leaf.0 resumes v_there refl r
 
-        pub resumed_here : stance_in (slice_get resumed_world.leaves s.client) ≡ Some (stance (resumed its_hand) its_hand)
+        pub resumed_here : stance_in (slice_get resumed_world.leaves s.client) ≡ Some (stance (resumed its_current) its_current)
         resumed_here = leaf_stance v s.client client_leaf.0 resumes v_there
 
         pub resumed_else : (y : ℕ) → y ≢ s.client → stance_in (slice_get resumed_world.leaves y) ≡ stance_in (slice_get put.leaves y)
@@ -168,15 +170,15 @@ module _ (d : Doing) (t : Takes d) (h : AreLinked d.system (links d.world)) (han
 
         answers : ((r : Spot) → r ≢ s.spot → naming_in (slot_at v r) ≡ naming_in (slot_at d.world r))
             → ((j : ℕ) → j ≢ k → outline_in (session_at v j) ≡ outline_in (session_at d.world j)) → v.requests ≡ d.world.requests
-            → Answers M (links resumed_world) d.x k (outline s) g (resumed its_hand) its_hand
+            → Answers M (links resumed_world) d.x k (outline s) g (resumed its_current) its_current
         answers slots sessions requests =
             record {
               handling = handling;
-              session_at_hand = refl;
+              current_session = refl;
               was = was;
               waiting = client_blocked;
-              goes_on = goes_on its_hand;
-              fits = goes_on_fits its_hand;
+              goes_on = goes_on its_current;
+              fits = goes_on_fits its_current;
               slots = λ r ne. ap naming_in (resumed_slots r) ∙ slots r ne;
               sessions = sessions;
               serves = resumed_else d.x (λ e. not_server (sym e)) ∙ put_serves;
@@ -196,7 +198,7 @@ module _ (d : Doing) (t : Takes d) (h : AreLinked d.system (links d.world)) (han
       (put_requests (Link k)) in
       unblocked_linked (Link k) f (put (Link k)) refl
       (changes_linked same_spot d.system M m k s.spot h
-      (link_changes d.system M m d.x k (outline s) g (resumed (its_hand (Link k))) (its_hand (Link k)) h a (put_outlines (Link k) k ∙ was)
+      (link_changes d.system M m d.x k (outline s) g (resumed (its_current (Link k))) (its_current (Link k)) h a (put_outlines (Link k) k ∙ was)
       (ap naming_in (resumed_slots (Link k) f (put (Link k)) refl s.spot) ∙ ap naming_in (put_here (Link k)))))
 
   replied_ends : (f : List ℕ → List ℕ) → Ends (IsLinkedWorld d.system) (replied d k s f)
@@ -253,7 +255,7 @@ module _ (d : Doing) (t : Takes d) (h : AreLinked d.system (links d.world)) (han
         (put_requests Empty) in
         unblocked_linked Empty (λ operands. operands) without refl
         (changes_linked same_spot d.system M m k s.spot h
-        (close_changes d.system M m d.x k (outline s) g (resumed (its_hand Empty)) (its_hand Empty) h a (ap outline_in (gone_here (put Empty).sessions k))
+        (close_changes d.system M m d.x k (outline s) g (resumed (its_current Empty)) (its_current Empty) h a (ap outline_in (gone_here (put Empty).sessions k))
         (ap naming_in (resumed_slots Empty (λ operands. operands) without refl s.spot) ∙ without_free) bare_l))
 
   close_ends : Ends (IsLinkedWorld d.system) (reply_close d k s)

@@ -1,4 +1,4 @@
--- What a written leaf, slot or session changes of slots, sessions, hands and phases.
+-- What a written leaf, slot or session changes of slots, sessions, current requests and phases.
 use Rattle.std.proofs.Common.{◌≡◌, ◌≢◌, ℕ, zero, suc, ◌⊎◌, inl, inr, List, [], ◌∷◌, Option, Some, None, refl, ap, sym, ◌∙◌}
 use Rattle.std.specs.Prelude.{slice_get, slice_set}
 use Rattle.std.proofs.lemmas.Bool.Decides.{eqb_tells}
@@ -55,7 +55,7 @@ same_spot (In_object k) (In_object m) = elim (eqb_tells k m) [ inl a ↦ inl (λ
 -- LEAVES
 
 module _ (w : World) (x : ℕ) (old leaf : Leaf) (there : slice_get w.leaves x ≡ Some old) where
-  pub leaf_stance : stance_in (slice_get (with_leaf w x leaf).leaves x) ≡ Some (stance leaf.phase leaf.hand)
+  pub leaf_stance : stance_in (slice_get (with_leaf w x leaf).leaves x) ≡ Some (stance leaf.phase leaf.current)
   leaf_stance = ap stance_in (set_here w.leaves x leaf old there)
 
   pub leaf_stances : (y : ℕ) → y ≢ x → stance_in (slice_get (with_leaf w x leaf).leaves y) ≡ stance_in (slice_get w.leaves y)

@@ -15,7 +15,8 @@ use Rattle.gq_model.specs.declared.fault.Wrong.TheVariants.{WrongKind, ExceededQ
 use Rattle.gq_model.specs.machine.Amounts.{amount}
 use Rattle.gq_model.specs.machine.Scenario.{System, Component, Scenario, components, system, interface_in, open_caps}
 use Rattle.gq_model.specs.machine.Routes.{server_of}
-use Rattle.gq_model.specs.machine.World.{Slot, Empty, Waiting, Link, Spot, In_leaf, In_session, In_object, Session, Ask, Ask_open, Ask_upgrade, Request, Hand}
+use Rattle.gq_model.specs.machine.World.{Slot, Empty, Waiting, Link, Spot, In_leaf, In_session, In_object, Session, Ask, Ask_open, Ask_upgrade, Request}
+use Rattle.gq_model.specs.machine.World.{Current}
 use Rattle.gq_model.specs.machine.World.{Round, Leaf, World, joined, session_at, slot_at, spot_of, with_leaf, with_session, with_slot, put_leaf_slot}
 use Rattle.gq_model.specs.machine.World.{put_session_slot, put_object}
 use Rattle.gq_model.specs.machine.Doing.{Doing, Idle, Quiet, Finished, Stepped, need, when, standing, settled}
@@ -31,7 +32,7 @@ use Rattle.gq_laws.proofs.turning.Endings.{fill_ends, bytes_in_ends, pool_in_end
 use Rattle.gq_model.proofs.Small.{some_same, none_some, get_within}
 use Rattle.gq_laws.proofs.linking.Worlds.{set_else, session_here, session_else}
 use Rattle.gq_laws.proofs.linking.Quiet.{stood, when_found}
-use Rattle.gq_laws.specs.Statements.{Takes}
+use Rattle.gq_laws.specs.Statements.{TakesLeaf}
 use Rattle.gq_laws.proofs.linking.Opens.{add_here, add_else}
 use Rattle.gq_laws.proofs.linking.Sections.{without, v_there, gone_here}
 use Rattle.gq_laws.proofs.turning.Outcomes.{section_taken, taken, closed, running_blocked, handling_blocked}
@@ -99,7 +100,7 @@ module _ (k : ℕ) where
 
     open_stays : (place : Place) (service : List ℕ) (n : ℕ) → Ends (IsThere k) (open_session d place service n)
     open_stays place service n =
-        need_ends (IsThere k) (spot_of d.x d.leaf.hand place) WrongKind _
+        need_ends (IsThere k) (spot_of d.x d.leaf.current place) WrongKind _
         (λ q. fill_ends (IsThere k) (IsThere k) there_slot d.world q (slot_at d.world q) (Waiting (free_place d.world.sessions)) _ h (λ w hw.
         need_ends (IsThere k) (server_of d.system d.component service) WrongKind _ (λ server.
         let new = new_session d.x q server service (amount n (open_caps (interface_in service d.system.interfaces))) in
@@ -107,7 +108,7 @@ module _ (k : ℕ) where
 
     upgrade_stays : (place : Place) (n : ℕ) → Ends (IsThere k) (upgrade d place n)
     upgrade_stays place n =
-        need_ends (IsThere k) (spot_of d.x d.leaf.hand place) WrongKind _
+        need_ends (IsThere k) (spot_of d.x d.leaf.current place) WrongKind _
         (λ q. link_in_found (IsThere k) d.world (slot_at d.world q) _ (λ j s there. asked_stays _ q j Ask_upgrade (there_session d.world j s _ there h)))
 
     instruct_stays : (i : Instruction) → Ends (IsThere k) (instruct d i)
@@ -188,7 +189,7 @@ Closes s w k u v = session_at v k ≡ None → IsClosed s w v u
 stays_closes : (s : Scenario) (w : World) (k : ℕ) (u : Session) (r : Stepped) → Ends (IsThere k) r → Ends (Closes s w k u) r
 stays_closes s w k u r e = record { holds = λ v event q gone. (let there = e.holds v event q in absurd (none_some (sym gone ∙ there.1))) }
 
-module _ (s : Scenario) (d : Doing) (of : d.system ≡ system s) (t : Takes d) (linked : AreLinked d.system (links d.world))
+module _ (s : Scenario) (d : Doing) (of : d.system ≡ system s) (t : TakesLeaf d) (linked : AreLinked d.system (links d.world))
     (component : slice_get d.system.components d.x ≡ Some d.component) (pays : paid d.system d.world ≡ true) (k : ℕ) (u : Session)
     (there : session_at d.world k ≡ Some u) (peaks : d.leaf.peaks ≡ t.old.peaks) where
   abbrev P : World → Type 0
@@ -200,19 +201,19 @@ module _ (s : Scenario) (d : Doing) (of : d.system ≡ system s) (t : Takes d) (
   here : IsThere k d.world
   here = (u, there)
 
-  module _ (handles : d.leaf.phase ≡ Handling) (g : Hand) (hand : d.leaf.hand ≡ Some g) where
+  module _ (handles : d.leaf.phase ≡ Handling) (g : Current) (current : d.leaf.current ≡ Some g) where
     own_closes : (v : Session) → session_at d.world g.session ≡ Some v → u ≡ v → Ends P (reply_close d g.session v)
     own_closes v at same =
         when_found P (all_empty v.slots) WrongKind _ (λ bare. when_found P (paid d.system (closed d g.session v)) ExceededQuota _
         (λ still. gives (closed d g.session v) Quiet (λ gone. record { empty = ap (λ (u : Session). all_empty u.slots) same ∙ bare; gives_back = back still })))
       where
         back : paid d.system (closed d g.session v) ≡ true → EachOf (system s).counted (GivesBack s d.world (closed d g.session v) u)
-        back = subst (λ o. paid d.system (active_again (without d t linked handles g hand v at) v.client (λ operands. operands) o) ≡ true
-            → EachOf (system s).counted (GivesBack s d.world (active_again (without d t linked handles g hand v at) v.client (λ operands. operands) o) u))
-            (sym (v_there d t linked handles g hand v at Empty (λ operands. operands) (without d t linked handles g hand v at) refl))
-            (λ still. subst (λ u. EachOf (system s).counted (GivesBack s d.world (after s d of t linked component pays handles g hand v at) u)) (sym same)
-            (subst (λ (a : System). EachOf a.counted (GivesBack s d.world (after s d of t linked component pays handles g hand v at) v)) of
-            (gives_back s d of t linked component pays handles g hand v at peaks still)))
+        back = subst (λ o. paid d.system (active_again (without d t linked handles g current v at) v.client (λ operands. operands) o) ≡ true
+            → EachOf (system s).counted (GivesBack s d.world (active_again (without d t linked handles g current v at) v.client (λ operands. operands) o) u))
+            (sym (v_there d t linked handles g current v at Empty (λ operands. operands) (without d t linked handles g current v at) refl))
+            (λ still. subst (λ u. EachOf (system s).counted (GivesBack s d.world (after s d of t linked component pays handles g current v at) u)) (sym same)
+            (subst (λ (a : System). EachOf a.counted (GivesBack s d.world (after s d of t linked component pays handles g current v at) v)) of
+            (gives_back s d of t linked component pays handles g current v at peaks still)))
 
     reply_closes : (section : Section) (v : Session) → session_at d.world g.session ≡ Some v → Ends P (reply d g.session section v)
     reply_closes Main v at = fails WrongKind
@@ -224,14 +225,14 @@ module _ (s : Scenario) (d : Doing) (of : d.system ≡ system s) (t : Takes d) (
       | inr e ↦ quiet _ (close_stays k d here g.session v e.1)
     ]
 
-  section_closes : d.leaf.phase ≢ Blocked → (hand : Option Hand) → d.leaf.hand ≡ hand → Ends P (section_ended d hand)
+  section_closes : d.leaf.phase ≢ Blocked → (current : Option Current) → d.leaf.current ≡ current → Ends P (section_ended d current)
   section_closes active None e = quiet _ (main_stays k d here d.component.node.provides)
   section_closes active (Some g) e = need_found P (session_at d.world g.session) WrongKind _
       (λ v at. reply_closes (handling_with d.leaf.phase g
-      (subst (Fits d.leaf.phase) e (linked.fits d.x (stance d.leaf.phase d.leaf.hand) (stood d t))) active) g e g.section v at)
+      (subst (Fits d.leaf.phase) e (linked.fits d.x (stance d.leaf.phase d.leaf.current) (stood d t))) active) g e g.section v at)
 
   body_closes : d.leaf.phase ≢ Blocked → (loops : List Round) → Ends P (body_ended d loops)
-  body_closes active [] = section_closes active d.leaf.hand refl
+  body_closes active [] = section_closes active d.leaf.current refl
   body_closes active (r ∷ loops) = quiet _ (body_stays k d here r loops)
 
   perform_closes : d.leaf.phase ≢ Blocked → (todo : Statements) → Ends P (perform d todo)
@@ -258,7 +259,7 @@ module _ (s : Scenario) (w : World) (linked : IsLinkedWorld (system s) w) (pays 
       → Ends (Closes s w k u) (step_of (system s) w x c leaf)
   next_closes x (Some c) (Some leaf) component at =
       step_closes s (record { system = system s; world = w; x = x; component = c; leaf = record leaf { steps = suc leaf.steps } }) refl
-      (record { old = leaf; there = at; slots = refl; phase = refl; hand = refl }) linked component pays k u there refl leaf.phase refl
+      (record { old = leaf; there = at; slots = refl; phase = refl; current = refl }) linked component pays k u there refl leaf.phase refl
   next_closes x (Some c) None component at = stays_closes s w k u _ (gives w Idle (u, there))
   next_closes x None leaf component at = stays_closes s w k u _ (gives w Idle (u, there))
 
@@ -292,13 +293,13 @@ ends_sessions s w whole x k new event at_end stepped =
     let count = whole.count in
     let c = get_within (components s) x (omega (arith, below, count)) in
     let e : next (system s) w x ≡ step_of (system s) w x (Some c.0) (Some at_end.leaf) = λ i. step_of (system s) w x (c.1 i) (at_end.there i) in
-    (ends c.0 at_end.leaf at_end.phase at_end.todo at_end.loops at_end.hand).holds new event (sym e ∙ stepped)
+    (ends c.0 at_end.leaf at_end.phase at_end.todo at_end.loops at_end.current).holds new event (sym e ∙ stepped)
   where
     ends : (c : Component) (leaf : Leaf) → leaf.phase ≡ Handling → leaf.todo ≡ Done → leaf.loops ≡ []
-        → leaf.hand ≡ Some (record { session = k; section = Closing at_end.level })
+        → leaf.current ≡ Some (record { session = k; section = Closing at_end.level })
         → Ends (λ w. session_at w k ≡ None) (step_of (system s) w x (Some c) (Some leaf))
-    ends c leaf phase todo loops hand =
+    ends c leaf phase todo loops current =
         let d : Doing = record { system = system s; world = w; x = x; component = c; leaf = record leaf { steps = suc leaf.steps } } in
-        let e : step_of (system s) w x (Some c) (Some leaf) ≡ section_ended d leaf.hand =
+        let e : step_of (system s) w x (Some c) (Some leaf) ≡ section_ended d leaf.current =
         ap (step_in d) phase ∙ (ap (perform d) todo ∙ ap (body_ended d) loops) in
-        subst (Ends (λ w. session_at w k ≡ None)) (sym (e ∙ ap (section_ended d) hand)) (close_ended d k at_end.level)
+        subst (Ends (λ w. session_at w k ≡ None)) (sym (e ∙ ap (section_ended d) current)) (close_ended d k at_end.level)

@@ -6,7 +6,7 @@ use Rattle.std.proofs.lemmas.Bool.Decides.{eqb_tells}
 use Rattle.gq_model.specs.declared.phase.Phase.TheVariants.{Blocked, Serving, Handling}
 use Rattle.gq_model.specs.machine.Amounts.{Resource, part}
 use Rattle.gq_model.specs.machine.Scenario.{System, Component, Scenario, components, system}
-use Rattle.gq_model.specs.machine.World.{Slot, Empty, Waiting, Spot, In_leaf, In_session, In_object, Session, Hand, Leaf, World, session_at, session_slot}
+use Rattle.gq_model.specs.machine.World.{Slot, Empty, Waiting, Spot, In_leaf, In_session, In_object, Session, Current, Leaf, World, session_at, session_slot}
 use Rattle.gq_model.specs.machine.World.{session_object, slot_at, with_slot, put_leaf_slot}
 use Rattle.gq_model.specs.machine.World.{put_session_slot, put_object}
 use Rattle.gq_model.specs.machine.Doing.{Doing, standing}
@@ -20,9 +20,9 @@ use Rattle.gq_laws.proofs.replying.Worlds.{Goes, IsOf, written, waiting_slot}
 use Rattle.gq_laws.proofs.linking.Worlds.{set_here, set_else}
 use Rattle.gq_laws.proofs.linking.Accepted.{stand_slots}
 use Rattle.gq_model.proofs.Small.{some_same}
-use Rattle.gq_laws.specs.Statements.{Takes}
+use Rattle.gq_laws.specs.Statements.{TakesLeaf}
 use Rattle.gq_laws.proofs.linking.Sections.{leaf_of_stance, session_of_outline, handling, slot_waits, was, not_server, put, put_outlines, put_serves}
-use Rattle.gq_laws.proofs.linking.Sections.{client_blocked, its_hand}
+use Rattle.gq_laws.proofs.linking.Sections.{client_blocked, its_current}
 use Rattle.gq_laws.proofs.linking.Sections.{resumed_world}
 use Rattle.gq_laws.proofs.linking.Sections.{resumed_here, resumed_else, without}
 use Rattle.gq_laws.proofs.paying.Prices.{sum_set, session_stands, paid_one}
@@ -139,28 +139,28 @@ quota_there : (r : Resource) (s : Scenario) (w : World) (x : ℕ) (c : Component
     → slice_get w.leaves x ≡ Some leaf → quota_at r s w x ≡ quota r w x c leaf
 quota_there r s w x c leaf e f = (λ i. quota_of r w x (e i) (f i))
 
-module _ (s : Scenario) (d : Doing) (of : d.system ≡ system s) (t : Takes d) (h : AreLinked d.system (links d.world))
+module _ (s : Scenario) (d : Doing) (of : d.system ≡ system s) (t : TakesLeaf d) (h : AreLinked d.system (links d.world))
     (component : slice_get d.system.components d.x ≡ Some d.component) (pays : paid d.system d.world ≡ true)
-    (handles : d.leaf.phase ≡ Handling) (g : Hand) (hand : d.leaf.hand ≡ Some g) (u : Session) (there : session_at d.world g.session ≡ Some u) where
+    (handles : d.leaf.phase ≡ Handling) (g : Current) (current : d.leaf.current ≡ Some g) (u : Session) (there : session_at d.world g.session ≡ Some u) where
   abbrev empty_put : World
-  empty_put = put d t h handles g hand u there Empty
+  empty_put = put d t h handles g current u there Empty
 
   abbrev gone : World
-  gone = without d t h handles g hand u there
+  gone = without d t h handles g current u there
 
   abbrev pub after : World
-  after = resumed_world d t h handles g hand u there Empty (λ operands. operands) gone refl
+  after = resumed_world d t h handles g current u there Empty (λ operands. operands) gone refl
 
   server_is : u.server ≡ d.x
-  server_is = let v = h.handles d.x Handling g (handling d t h handles g hand u there) in
-      ap (λ (s : Session). s.server) (some_same (sym (was d t h handles g hand u there) ∙ v.1)) ∙ v.2
+  server_is = let v = h.handles d.x Handling g (handling d t h handles g current u there) in
+      ap (λ (s : Session). s.server) (some_same (sym (was d t h handles g current u there) ∙ v.1)) ∙ v.2
 
   client_ne : u.client ≢ d.x
-  client_ne = not_server d t h handles g hand u there
+  client_ne = not_server d t h handles g current u there
 
   -- the session as it stands before it goes
   last : (v : Session) × (session_at empty_put g.session ≡ Some v) × (outline v ≡ outline u)
-  last = session_of_outline (session_at empty_put g.session) (outline u) (put_outlines d t h handles g hand u there Empty g.session ∙ ap outline_in there)
+  last = session_of_outline (session_at empty_put g.session) (outline u) (put_outlines d t h handles g current u there Empty g.session ∙ ap outline_in there)
 
   last_given : (r : Resource) → donated r last.0 ≡ donated r u
   last_given r = ap (donated r) last.2
@@ -173,31 +173,32 @@ module _ (s : Scenario) (d : Doing) (of : d.system ≡ system s) (t : Takes d) (
       omega (arith, n, m, none)
 
   client_component : (c : Component) × (slice_get d.system.components u.client ≡ Some c)
-  client_component = let r = h.routed g.session (outline u) (was d t h handles g hand u there) in (r.0, r.1)
+  client_component = let r = h.routed g.session (outline u) (was d t h handles g current u there) in (r.0, r.1)
 
   in_components : (x : ℕ) (c : Component) → slice_get d.system.components x ≡ Some c → slice_get (components s) x ≡ Some c
   in_components x c e = ap (λ (a : System). slice_get a.components x) (sym of) ∙ e
 
   client_was : (leaf : Leaf) × (slice_get d.world.leaves u.client ≡ Some leaf)
-      × (stance leaf.phase leaf.hand ≡ stance Blocked (its_hand d t h handles g hand u there Empty))
-  client_was = leaf_of_stance (slice_get d.world.leaves u.client) (stance Blocked (its_hand d t h handles g hand u there Empty))
-      (client_blocked d t h handles g hand u there Empty)
+      × (stance leaf.phase leaf.current ≡ stance Blocked (its_current d t h handles g current u there Empty))
+  client_was = leaf_of_stance (slice_get d.world.leaves u.client) (stance Blocked (its_current d t h handles g current u there Empty))
+      (client_blocked d t h handles g current u there Empty)
 
   client_now : (leaf : Leaf) × (slice_get after.leaves u.client ≡ Some leaf)
-      × (stance leaf.phase leaf.hand ≡ stance (resumed (its_hand d t h handles g hand u there Empty)) (its_hand d t h handles g hand u there Empty))
-  client_now = leaf_of_stance (slice_get after.leaves u.client) _ (resumed_here d t h handles g hand u there Empty (λ operands. operands) gone refl)
+      × (stance leaf.phase leaf.current
+      ≡ stance (resumed (its_current d t h handles g current u there Empty)) (its_current d t h handles g current u there Empty))
+  client_now = leaf_of_stance (slice_get after.leaves u.client) _ (resumed_here d t h handles g current u there Empty (λ operands. operands) gone refl)
 
-  server_now : (leaf : Leaf) × (slice_get after.leaves d.x ≡ Some leaf) × (stance leaf.phase leaf.hand ≡ stance Serving None)
+  server_now : (leaf : Leaf) × (slice_get after.leaves d.x ≡ Some leaf) × (stance leaf.phase leaf.current ≡ stance Serving None)
   server_now =
       leaf_of_stance (slice_get after.leaves d.x) (stance Serving None)
-      (resumed_else d t h handles g hand u there Empty (λ operands. operands) gone refl d.x (λ e. client_ne (sym e))
-      ∙ put_serves d t h handles g hand u there Empty)
+      (resumed_else d t h handles g current u there Empty (λ operands. operands) gone refl d.x (λ e. client_ne (sym e))
+      ∙ put_serves d t h handles g current u there Empty)
 
   client_phase : (q : ℕ) → (handed client_was.0.phase q ≡ q) × (handed client_now.0.phase q ≡ q)
   client_phase q = (
     ap (λ p. handed p q) (ap (λ (a : Stance). a.phase) client_was.2),
     ap (λ p. handed p q) (ap (λ (a : Stance). a.phase) client_now.2)
-        ∙ handed_resumed (its_hand d t h handles g hand u there Empty) q,
+        ∙ handed_resumed (its_current d t h handles g current u there Empty) q,
   )
 
   server_phase : (q : ℕ) → (handed t.old.phase q ≡ q) × (handed server_now.0.phase q ≡ q)
@@ -206,7 +207,7 @@ module _ (s : Scenario) (d : Doing) (of : d.system ≡ system s) (t : Takes d) (
   -- WHAT THE SERVER HOLDS
 
   spot_of_client : (q : Spot) → u.spot ≡ q → IsOf u.client q
-  spot_of_client q e = by q (subst (λ q. Belongs (links d.world) q u.client) e (h.belongs g.session (outline u) (was d t h handles g hand u there)))
+  spot_of_client q e = by q (subst (λ q. Belongs (links d.world) q u.client) e (h.belongs g.session (outline u) (was d t h handles g current u there)))
     where
       by : (q : Spot) → Belongs (links d.world) q u.client → IsOf u.client q
       by (In_leaf x i) b = b
@@ -224,7 +225,7 @@ module _ (s : Scenario) (d : Doing) (of : d.system ≡ system s) (t : Takes d) (
       ∙ (client_written.leaves d.x (λ e. client_ne (sym e)) ∙ set_here d.world.leaves d.x (serving d.leaf) t.old t.there)
 
   waits_there : slot_at d.world u.spot ≡ Some (Waiting g.session)
-  waits_there = waiting_slot (slot_at d.world u.spot) g.session (slot_waits d t h handles g hand u there)
+  waits_there = waiting_slot (slot_at d.world u.spot) g.session (slot_waits d t h handles g current u there)
 
   -- the session costs what it did, also where the slot that waited is its own
   last_price : (r : Resource) → bank_price r last.0 ≡ bank_price r u

@@ -17,7 +17,7 @@ use Rattle.gq_model.specs.machine.Amounts.{Resource, Ram, Caps, part}
 use Rattle.gq_model.specs.machine.Prices.{heap, price_pool}
 use Rattle.gq_model.specs.machine.Scenario.{System, Component, Scenario, components, system}
 use Rattle.gq_model.specs.machine.Routes.{is_service, server_of}
-use Rattle.gq_model.specs.machine.World.{Slot, Empty, Bytes, Pool, Link, Spot, In_leaf, In_session, In_object, Session, Request, Hand, Round, Leaf, World}
+use Rattle.gq_model.specs.machine.World.{Slot, Empty, Bytes, Pool, Link, Spot, In_leaf, In_session, In_object, Session, Request, Current, Round, Leaf, World}
 use Rattle.gq_model.specs.machine.World.{joined, session_at, slot_at, with_leaf, start_leaf, start_leaves, start}
 use Rattle.gq_model.specs.machine.Doing.{Doing, Event, Idle, Quiet, Finished, Stepped, need, when, standing, settled, fill}
 use Rattle.gq_model.specs.machine.Sums.{slot_price, bank_price, donated, to_leaf, from_leaf, held, lent, received, handed, is_paid, are_paid, paid, with_peaks}
@@ -32,7 +32,7 @@ use Rattle.gq_model.proofs.Small.{some_same, none_some}
 use Rattle.gq_laws.proofs.linking.Events.{its_slot}
 use Rattle.gq_laws.proofs.linking.Worlds.{set_here, set_else, leaf_keeps_slots}
 use Rattle.gq_laws.proofs.linking.Quiet.{when_found}
-use Rattle.gq_laws.specs.Statements.{Takes}
+use Rattle.gq_laws.specs.Statements.{TakesLeaf}
 use Rattle.gq_laws.proofs.linking.Sections.{slot_of_naming}
 use Rattle.gq_laws.proofs.linking.Linked_worlds.{unnamed}
 use Rattle.gq_laws.proofs.paying.Prices.{IsNoDearer, same_price, leaf_no_dearer, slot_no_dearer, paid_one, paid_all, paid_each, still_paid}
@@ -48,13 +48,13 @@ handed_most Serving q = omega arith
 handed_most Handling q = omega arith
 handed_most Exited q = omega arith
 
-pub handed_resumed : (hand : Option Hand) (quantum : ℕ) → handed (resumed hand) quantum ≡ quantum
+pub handed_resumed : (current : Option Current) (quantum : ℕ) → handed (resumed current) quantum ≡ quantum
 handed_resumed None q = refl
 handed_resumed (Some g) q = refl
 
 -- UNTESTED STEPS
 
-module _ (d : Doing) (t : Takes d) (peaks : d.leaf.peaks ≡ t.old.peaks) (h : paid d.system d.world ≡ true) where
+module _ (d : Doing) (t : TakesLeaf d) (peaks : d.leaf.peaks ≡ t.old.peaks) (h : paid d.system d.world ≡ true) where
   abbrev P : World → Type 0
   P w = paid d.system w ≡ true
 
@@ -154,10 +154,10 @@ module _ (d : Doing) (t : Takes d) (peaks : d.leaf.peaks ≡ t.old.peaks) (h : p
       go : (o : Option Leaf) → slice_get w.leaves x ≡ o → Q (active_again w x f o)
       go None e = q
       go (Some leaf) e =
-          leaf_no_dearer d.world w x leaf (record leaf { phase = resumed leaf.hand; operands = f leaf.operands }) e
+          leaf_no_dearer d.world w x leaf (record leaf { phase = resumed leaf.current; operands = f leaf.operands }) e
           (record {
             own = λ r. omega arith;
-            phase = λ n. (let most = handed_most leaf.phase n in let all = handed_resumed leaf.hand n in
+            phase = λ n. (let most = handed_most leaf.phase n in let all = handed_resumed leaf.current n in
                 omega (arith, most, all));
           }) q
 
@@ -260,12 +260,13 @@ was_released name (c ∷ cs) (leaf ∷ leaves) zero new e =
 was_released name (c ∷ cs) (leaf ∷ leaves) (suc y) new e = let u = was_released name cs leaves y new e in
     record { old = u.old; there = u.there; slots = u.slots; peaks = u.peaks; phase = u.phase; gone = u.gone }
 
-module _ (s : Scenario) (differ : NamesDiffer s) (d : Doing) (of : d.system ≡ system s) (t : Takes d) (peaks : d.leaf.peaks ≡ t.old.peaks)
+module _ (s : Scenario) (differ : NamesDiffer s) (d : Doing) (of : d.system ≡ system s) (t : TakesLeaf d) (peaks : d.leaf.peaks ≡ t.old.peaks)
     (h : paid d.system d.world ≡ true) (linked : AreLinked d.system (links d.world)) (component : slice_get d.system.components d.x ≡ Some d.component) where
   abbrev L : Links
   L = links d.world
 
-  module _ (alone : d.component.node.provides ≡ None) (active : d.leaf.phase ≢ Blocked) (hand : d.leaf.hand ≡ None) (bare : no_link d.leaf.slots ≡ true) where
+  module _ (alone : d.component.node.provides ≡ None) (active : d.leaf.phase ≢ Blocked) (current : d.leaf.current ≡ None)
+      (bare : no_link d.leaf.slots ≡ true) where
     -- no session is to this leaf
     no_session_to : (k : ℕ) (u : Session) → session_at d.world k ≡ Some u → u.server ≢ d.x
     no_session_to k u e same =
@@ -282,7 +283,7 @@ module _ (s : Scenario) (differ : NamesDiffer s) (d : Doing) (of : d.system ≡ 
         n = its_slot d.system L linked k (outline u) (ap outline_in e)
 
         by : (q : Spot) → u.spot ≡ q → Belongs L q u.client → ⊥
-        by (In_leaf y i) at b = none_some (sym (unnamed d t active linked hand bare i) ∙ ap (λ y. L.slots (In_leaf y i)) (sym same ∙ sym b)
+        by (In_leaf y i) at b = none_some (sym (unnamed d t active linked current bare i) ∙ ap (λ y. L.slots (In_leaf y i)) (sym same ∙ sym b)
             ∙ ap L.slots (sym at) ∙ n.1)
         by (In_session j i) at b = found (session_at d.world j) refl b.1
           where
@@ -342,25 +343,25 @@ module _ (s : Scenario) (differ : NamesDiffer s) (d : Doing) (of : d.system ≡ 
                     le-leb (held r (exit_of d) x leaf + lent r (exit_of d) x) (handed leaf.phase (part r c.node.quantum) + received r (exit_of d) x)
                     (omega (arith, was, slots, tops, phase))
 
-  main_ends : d.leaf.phase ≢ Blocked → d.leaf.hand ≡ None → (provides : Option (List ℕ)) → d.component.node.provides ≡ provides
+  main_ends : d.leaf.phase ≢ Blocked → d.leaf.current ≡ None → (provides : Option (List ℕ)) → d.component.node.provides ≡ provides
       → Ends (λ w. paid d.system w ≡ true) (main_ended d provides)
-  main_ends active hand (Some service) e = gives (standing d (serving d.leaf)) Quiet (cheap d t peaks h _ (serves d t peaks h))
-  main_ends active hand None e = when_found (λ w. paid d.system w ≡ true) (no_link d.leaf.slots) WrongKind _
-      (λ bare. gives (exit_of d) Finished (exit_paid e active hand bare))
+  main_ends active current (Some service) e = gives (standing d (serving d.leaf)) Quiet (cheap d t peaks h _ (serves d t peaks h))
+  main_ends active current None e = when_found (λ w. paid d.system w ≡ true) (no_link d.leaf.slots) WrongKind _
+      (λ bare. gives (exit_of d) Finished (exit_paid e active current bare))
 
-  section_ends : d.leaf.phase ≢ Blocked → (hand : Option Hand) → d.leaf.hand ≡ hand → Ends (λ w. paid d.system w ≡ true) (section_ended d hand)
+  section_ends : d.leaf.phase ≢ Blocked → (current : Option Current) → d.leaf.current ≡ current → Ends (λ w. paid d.system w ≡ true) (section_ended d current)
   section_ends active None e = main_ends active e d.component.node.provides refl
   section_ends active (Some g) e = need_found (λ w. paid d.system w ≡ true) (session_at d.world g.session) WrongKind _
       (λ u there. reply_ends d t peaks h linked g.session g.section u there)
 
   body_ends : d.leaf.phase ≢ Blocked → (loops : List Round) → Ends (λ w. paid d.system w ≡ true) (body_ended d loops)
-  body_ends active [] = section_ends active d.leaf.hand refl
+  body_ends active [] = section_ends active d.leaf.current refl
   body_ends active (r ∷ loops) = body_next_ends d t peaks h r loops
 
   perform_ends : d.leaf.phase ≢ Blocked → (todo : Statements) → Ends (λ w. paid d.system w ≡ true) (perform d todo)
   perform_ends active Done = body_ends active d.leaf.loops
   perform_ends active (Do i rest) = instruct_ends (record d { leaf = record d.leaf { todo = rest } })
-      (record { old = t.old; there = t.there; slots = t.slots; phase = t.phase; hand = t.hand }) peaks h i
+      (record { old = t.old; there = t.there; slots = t.slots; phase = t.phase; current = t.current }) peaks h i
   perform_ends active (If arm other rest) = pop_ends (λ w. paid d.system w ≡ true) _ _
       (λ a below. gives _ Quiet (cheap d t peaks h _ (stands d t peaks h _ refl refl refl)))
   perform_ends active (Loop count body rest) = gives _ Quiet (cheap d t peaks h _ (stands d t peaks h _ refl refl refl))
@@ -384,7 +385,7 @@ module _ (s : Scenario) (differ : NamesDiffer s) where
       → slice_get (components s) x ≡ c → slice_get w.leaves x ≡ leaf → Ends (λ v. paid (system s) v ≡ true) (step_of (system s) w x c leaf)
   next_by w x (Some c) (Some leaf) linked h component there =
       step_ends s differ (record { system = system s; world = w; x = x; component = c; leaf = record leaf { steps = suc leaf.steps } }) refl
-      (record { old = leaf; there = there; slots = refl; phase = refl; hand = refl }) refl h linked component leaf.phase refl
+      (record { old = leaf; there = there; slots = refl; phase = refl; current = refl }) refl h linked component leaf.phase refl
   next_by w x (Some c) None linked h component there = gives w Idle h
   next_by w x None leaf linked h component there = gives w Idle h
 

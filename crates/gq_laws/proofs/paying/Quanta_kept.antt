@@ -12,7 +12,7 @@ use Rattle.gq_model.specs.declared.phase.Phase.TheVariants.{Pending, Running, Bl
 use Rattle.gq_model.specs.declared.fault.Wrong.TheVariants.{WrongKind, ExceededQuota}
 use Rattle.gq_model.specs.machine.Amounts.{Resource, Ram, Caps}
 use Rattle.gq_model.specs.machine.Scenario.{System, Component, Scenario, components, system}
-use Rattle.gq_model.specs.machine.World.{Slot, Empty, Link, Spot, Session, Request, Hand, Round, Leaf}
+use Rattle.gq_model.specs.machine.World.{Slot, Empty, Link, Spot, Session, Request, Current, Round, Leaf}
 use Rattle.gq_model.specs.machine.World.{World, session_at, with_leaf, with_slot, start}
 use Rattle.gq_model.specs.machine.Doing.{Doing, Event, Idle, Quiet, Finished, Stepped, standing, settled}
 use Rattle.gq_model.specs.machine.Sums.{handed, paid, with_peaks}
@@ -25,7 +25,7 @@ use Rattle.gq_laws.specs.Resolved.{IsResolved}
 use Rattle.gq_laws.proofs.turning.Endings.{Ends, gives, fails, need_found, when_ends, pop_ends}
 use Rattle.gq_laws.proofs.linking.Worlds.{set_here, set_else}
 use Rattle.gq_laws.proofs.linking.Quiet.{stood}
-use Rattle.gq_laws.specs.Statements.{Takes}
+use Rattle.gq_laws.specs.Statements.{TakesLeaf}
 use Rattle.gq_laws.proofs.linking.Sections.{leaf_of_stance, handled_waits}
 use Rattle.gq_laws.proofs.turning.Outcomes.{closed, running_blocked, handling_blocked, begun}
 use Rattle.gq_laws.proofs.paying.Quanta.{fit_less, spent_same, exit_fits, start_fit}
@@ -76,7 +76,7 @@ module _ (w : World) where
       (gives (with_leaf v x (with_peaks v x leaf)) Quiet (same_phase_leaf v x leaf (with_peaks v x leaf) there refl h)))
 
 -- a step of a leaf to which its whole quantum is handed
-module _ (d : Doing) (t : Takes d) (lives : (q : ℕ) → handed d.leaf.phase q ≡ q) where
+module _ (d : Doing) (t : TakesLeaf d) (lives : (q : ℕ) → handed d.leaf.phase q ≡ q) where
   abbrev P : World → Type 0
   P = SameHanded d.world
 
@@ -99,7 +99,7 @@ module _ (d : Doing) (t : Takes d) (lives : (q : ℕ) → handed d.leaf.phase q 
   serves : P (standing d (serving d.leaf))
   serves = stands_in d.world (serving d.leaf) (λ q. refl) unchanged
 
-  resumed_alive : (hand : Option Hand) (q : ℕ) → handed (resumed hand) q ≡ q
+  resumed_alive : (current : Option Current) (q : ℕ) → handed (resumed current) q ≡ q
   resumed_alive None q = refl
   resumed_alive (Some g) q = refl
 
@@ -109,7 +109,7 @@ module _ (d : Doing) (t : Takes d) (lives : (q : ℕ) → handed d.leaf.phase q 
     where
       go : (o : Option Leaf) → P (active_again v x f o)
       go None = h
-      go (Some leaf) = same_leaf d.world v x (record leaf { phase = resumed leaf.hand; operands = f leaf.operands }) (λ q. resumed_alive leaf.hand q
+      go (Some leaf) = same_leaf d.world v x (record leaf { phase = resumed leaf.current; operands = f leaf.operands }) (λ q. resumed_alive leaf.current q
           ∙ sym (alive q)) h
 
   accept_ends : (r : Request) (rest : List Request) → Ends P (accept d r rest)
@@ -126,11 +126,11 @@ module _ (d : Doing) (t : Takes d) (lives : (q : ℕ) → handed d.leaf.phase q 
       by_round true = gives _ Quiet (stands _ refl)
       by_round false = gives _ Quiet (stands _ refl)
 
-  module _ (h : AreLinked d.system (links d.world)) (handles : d.leaf.phase ≡ Handling) (g : Hand) (hand : d.leaf.hand ≡ Some g) (s : Session)
+  module _ (h : AreLinked d.system (links d.world)) (handles : d.leaf.phase ≡ Handling) (g : Current) (current : d.leaf.current ≡ Some g) (s : Session)
       (there : session_at d.world g.session ≡ Some s) where
     client_lives : (q : ℕ) → handed_to (slice_get d.world.leaves s.client) q ≡ q
     client_lives q =
-        let at : stance_in (slice_get d.world.leaves d.x) ≡ Some (stance Handling (Some g)) = stood d t ∙ (λ i. Some (stance (handles i) (hand i))) in
+        let at : stance_in (slice_get d.world.leaves d.x) ≡ Some (stance Handling (Some g)) = stood d t ∙ (λ i. Some (stance (handles i) (current i))) in
         let waits = handled_waits d.system (links d.world) h d.x Handling g (outline s) at (ap outline_in there) in
         let b = h.waits g.session (outline s) (ap outline_in there) waits in
         let leaf = leaf_of_stance (slice_get d.world.leaves s.client) (stance Blocked b.0) b.1 in
@@ -166,7 +166,7 @@ same_fits r s w h x e = record {
 }
 
 module _ (r : Resource) (s : Scenario) (resolved : IsResolved s) (after : after_fault (components s) [] (components s) ≡ None) (d : Doing)
-    (of : d.system ≡ system s) (t : Takes d) (linked : AreLinked d.system (links d.world)) (component : slice_get (components s) d.x ≡ Some d.component)
+    (of : d.system ≡ system s) (t : TakesLeaf d) (linked : AreLinked d.system (links d.world)) (component : slice_get (components s) d.x ≡ Some d.component)
     (fits : Fit r s d.world) where
   abbrev Q : World → Type 0
   Q = Fit r s
@@ -181,20 +181,20 @@ module _ (r : Resource) (s : Scenario) (resolved : IsResolved s) (after : after_
         when_ends Q (no_link d.leaf.slots) WrongKind _ (gives (exit_of d) Finished
         (exit_fits r s resolved after d t.old of t.there (λ q. ap (λ p. handed p q) (sym t.phase) ∙ lives q) component fits))
 
-    section_fits : (hand : Option Hand) → d.leaf.hand ≡ hand → Ends Q (section_ended d hand)
+    section_fits : (current : Option Current) → d.leaf.current ≡ current → Ends Q (section_ended d current)
     section_fits None e = main_fits d.component.node.provides
     section_fits (Some g) e = need_found Q (session_at d.world g.session) WrongKind _
         (λ v at. same _ (reply_ends d t lives linked (handling_with d.leaf.phase g
-        (subst (Fits d.leaf.phase) e (linked.fits d.x (stance d.leaf.phase d.leaf.hand) (stood d t))) active) g e v at g.section))
+        (subst (Fits d.leaf.phase) e (linked.fits d.x (stance d.leaf.phase d.leaf.current) (stood d t))) active) g e v at g.section))
 
     body_fits : (loops : List Round) → Ends Q (body_ended d loops)
-    body_fits [] = section_fits d.leaf.hand refl
+    body_fits [] = section_fits d.leaf.current refl
     body_fits (p ∷ loops) = same _ (body_next d t lives p loops)
 
     perform_fits : (todo : Statements) → Ends Q (perform d todo)
     perform_fits Done = body_fits d.leaf.loops
     perform_fits (Do i rest) = same _ (instruct_ends (record d { leaf = record d.leaf { todo = rest } })
-        (record { old = t.old; there = t.there; slots = t.slots; phase = t.phase; hand = t.hand }) lives i)
+        (record { old = t.old; there = t.there; slots = t.slots; phase = t.phase; current = t.current }) lives i)
     perform_fits (If arm other rest) = pop_ends Q _ _ (λ a below. same _ (gives _ Quiet (stands d t lives _ refl)))
     perform_fits (Loop count body rest) = same _ (gives _ Quiet (stands d t lives _ refl))
 
@@ -229,7 +229,7 @@ module _ (r : Resource) (s : Scenario) (resolved : IsResolved s) where
   next_fits w x (Some c) (Some leaf) linked h component there =
       step_fits r s resolved (quanta_fit s resolved.fits).2
       (record { system = system s; world = w; x = x; component = c; leaf = record leaf { steps = suc leaf.steps } }) refl
-      (record { old = leaf; there = there; slots = refl; phase = refl; hand = refl }) linked component h leaf.phase refl
+      (record { old = leaf; there = there; slots = refl; phase = refl; current = refl }) linked component h leaf.phase refl
   next_fits w x (Some c) None linked h component there = gives w Idle h
   next_fits w x None leaf linked h component there = gives w Idle h
 

@@ -7,13 +7,13 @@ use Rattle.gq_model.specs.machine.Lists.{any_of}
 use Rattle.gq_model.specs.machine.Program.{text_eq}
 use Rattle.gq_model.specs.machine.Scenario.{Scenario, System, Component, components, system}
 use Rattle.gq_model.specs.machine.Routes.{server_of}
-use Rattle.gq_model.specs.machine.World.{Session, Request, Hand, Leaf, World, session_at}
+use Rattle.gq_model.specs.machine.World.{Session, Request, Current, Leaf, World, session_at}
 use Rattle.gq_model.specs.declared.phase.Phase.{Phase}
 use Rattle.gq_model.specs.declared.phase.Phase.TheVariants.{Pending, Running, Blocked, Serving, Handling, Exited}
 use Rattle.gq_model.specs.machine.Step.{is_to, kept_before, oldest}
 use Rattle.gq_model.specs.rules.Use.{is_there, services}
 use Rattle.gq_laws.specs.Turns.{runs, runs_as, can_run}
-use Rattle.gq_laws.specs.Links.{Leads, Waits, Links, links, stance, stance_in, one_if, requests_of, by_hand, at_hand, pending_of}
+use Rattle.gq_laws.specs.Links.{Leads, Waits, Links, links, stance, stance_in, one_if, requests_of, by_current, at_current, pending_of}
 use Rattle.gq_laws.specs.Links.{Stands, Fits}
 use Rattle.gq_model.proofs.Small.{equal_self, text_is, get_within}
 use Rattle.gq_laws.proofs.turning.Whole_worlds.{each_get}
@@ -72,25 +72,25 @@ module _ (s : Scenario) (w : World) (h : Lasts s w) (idle : (x : ℕ) → can_ru
       get_within (components s) x (omega (arith, below, count))
 
   abbrev pub IsBlocked : ℕ → Type 0
-  IsBlocked x = (hand : Option Hand) × (L.stances x ≡ Some (stance Blocked hand))
+  IsBlocked x = (current : Option Current) × (L.stances x ≡ Some (stance Blocked current))
 
-  -- the leaf of a server that does not run is blocked, if a request of its waits or is at its hand
+  -- the leaf of a server that does not run is blocked, if a request of its waits or is current at it
   server_blocked : (y k : ℕ) (u : Session) (d : Component) (leaf : Leaf) → session_at w k ≡ Some u → u.server ≡ y → slice_get (components s) y ≡ Some d
-      → is_some d.node.provides ≡ true → slice_get w.leaves y ≡ Some leaf → requests_of k w.requests + at_hand k (L.stances y) ≡ 1
+      → is_some d.node.provides ≡ true → slice_get w.leaves y ≡ Some leaf → requests_of k w.requests + at_current k (L.stances y) ≡ 1
       → (phase : Phase) → leaf.phase ≡ phase → IsBlocked y
   server_blocked y k u d leaf there to at provides found one Pending e =
       absurd (true≢false (sym provides ∙ ap is_some (subst (Suits d.node.provides) e (h.ready.suits y d leaf at found))))
   server_blocked y k u d leaf there to at provides found one Running e = absurd (true≢false (ap (runs w y) (sym e) ∙ stays y d leaf at found))
-  server_blocked y k u d leaf there to at provides found one Blocked e = (leaf.hand, ap stance_in found ∙ ap (λ p. Some (stance p leaf.hand)) e)
+  server_blocked y k u d leaf there to at provides found one Blocked e = (leaf.current, ap stance_in found ∙ ap (λ p. Some (stance p leaf.current)) e)
   server_blocked y k u d leaf there to at provides found one Serving e =
       let none = none_asked w y k u there to w.requests (ap (runs w y) (sym e) ∙ stays y d leaf at found) in
-      let free = no_hand leaf.hand (subst (λ p. Fits p leaf.hand) e (h.stands.linked.fits y (stance leaf.phase leaf.hand) (ap stance_in found))) in
-      let nothing : at_hand k (L.stances y) ≡ 0 = ap (at_hand k) (ap stance_in found) ∙ ap (by_hand k) free in
+      let free = no_current leaf.current (subst (λ p. Fits p leaf.current) e (h.stands.linked.fits y (stance leaf.phase leaf.current) (ap stance_in found))) in
+      let nothing : at_current k (L.stances y) ≡ 0 = ap (at_current k) (ap stance_in found) ∙ ap (by_current k) free in
       absurd (omega (arith, none, nothing, one))
     where
-      no_hand : (hand : Option Hand) → Fits Serving hand → hand ≡ None
-      no_hand None f = refl
-      no_hand (Some g) f = absurd f
+      no_current : (current : Option Current) → Fits Serving current → current ≡ None
+      no_current None f = refl
+      no_current (Some g) f = absurd f
   server_blocked y k u d leaf there to at provides found one Handling e = absurd (true≢false (ap (runs w y) (sym e) ∙ stays y d leaf at found))
   server_blocked y k u d leaf there to at provides found one Exited e =
       absurd (true≢false (sym provides ∙ ap is_some (subst (Suits d.node.provides) e (h.ready.suits y d leaf at found))))

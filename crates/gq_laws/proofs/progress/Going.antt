@@ -50,7 +50,7 @@ module _ (s : Scenario) (w : World) (h : Lasts s w) where
       by : (phase : Phase) → leaf.phase ≡ phase → rests w x phase ≡ true
       by Pending e = absurd (never_pending s w h idle x leaf there e)
       by Running e = let c = placed s w h idle x leaf there in absurd (true≢false (ap (runs w x) (sym e) ∙ stays s w h idle x c.0 leaf c.1 there))
-      by Blocked e = absurd (never_blocked s w h idle x (leaf.hand, ap stance_in there ∙ ap (λ p. Some (stance p leaf.hand)) e))
+      by Blocked e = absurd (never_blocked s w h idle x (leaf.current, ap stance_in there ∙ ap (λ p. Some (stance p leaf.current)) e))
       by Serving e = let c = placed s w h idle x leaf there in ap not (ap (runs w x) (sym e) ∙ stays s w h idle x c.0 leaf c.1 there)
       by Handling e = let c = placed s w h idle x leaf there in absurd (true≢false (ap (runs w x) (sym e) ∙ stays s w h idle x c.0 leaf c.1 there))
       by Exited e = refl

@@ -21,7 +21,7 @@ use Rattle.gq_laws.proofs.gathering.Reaching.{in_reached}
 use Rattle.gq_laws.proofs.gathering.Standing.{stands_first, stands_next}
 use Rattle.gq_laws.proofs.progress.Opened.{OpensOwn, opens_programs, AllOpened, kept_opened, start_opened}
 use Rattle.gq_laws.specs.Phases.{AreReady}
-use Rattle.gq_laws.proofs.progress.Phases.{HandsProvide, kept_ready, start_ready}
+use Rattle.gq_laws.proofs.progress.Phases.{CurrentProvides, kept_ready, start_ready}
 use Rattle.gq_model.proofs.Small.{or_first_none}
 
 pub record Lasts (s : Scenario) (w : World) : Type 0 where
@@ -41,8 +41,8 @@ pub server_some : (s : Scenario) → IsSound s → (x y : ℕ) (c d : Component)
 server_some s sound x y c d service there routed at =
     service_some d.node.provides service (server_provides s sound.formed.differ x y c d service there routed at)
 
-hands_provide : (s : Scenario) (w : World) → Stands s w → HandsProvide (system s) w
-hands_provide s w h x c leaf g placed there mine =
+current_provides : (s : Scenario) (w : World) → Stands s w → CurrentProvides (system s) w
+current_provides s w h x c leaf g placed there mine =
     let l = h.linked in
     let m = l.handles x leaf.phase g (ap stance_in there ∙ ap (λ o. Some (stance leaf.phase o)) mine) in
     let r = l.routed g.session m.0 m.1 in
@@ -78,7 +78,7 @@ module _ (s : Scenario) (sound : IsSound s) where
         stands = stands_next s w x new event h.stands e;
         own = kept_left OpensOwn (system s) programs w x new event h.own e;
         opened = kept_opened (system s) w x new event h.opened h.own e;
-        ready = kept_ready (system s) w x new event h.ready (hands_provide s w h.stands) e;
+        ready = kept_ready (system s) w x new event h.ready (current_provides s w h.stands) e;
       }
 
   pub reached_lasts : (w : World) → IsReached s w → Lasts s w

@@ -16,7 +16,8 @@ use Rattle.gq_model.specs.machine.Amounts.{amount}
 use Rattle.gq_model.specs.machine.Scenario.{System, Component, interface_in, open_caps}
 use Rattle.gq_model.specs.machine.Routes.{server_of}
 use Rattle.gq_model.specs.machine.World.{Slot, Waiting, Spot, In_leaf, In_session, In_object, Session, Ask, Ask_open, Ask_upgrade, Ask_close}
-use Rattle.gq_model.specs.machine.World.{Ask_call, Request, Hand, Round, Leaf, World, joined, session_at, slot_at, spot_of, with_leaf, with_session, with_slot}
+use Rattle.gq_model.specs.machine.World.{Ask_call, Request, Current, Round, Leaf, World, joined, session_at, slot_at, spot_of, with_leaf, with_session}
+use Rattle.gq_model.specs.machine.World.{with_slot}
 use Rattle.gq_model.specs.machine.World.{put_leaf_slot, put_session_slot, put_object, start}
 use Rattle.gq_model.specs.machine.Doing.{Doing, Event, Idle, Quiet, Finished, standing, settled}
 use Rattle.gq_model.specs.machine.Sums.{paid, with_peaks}
@@ -190,7 +191,7 @@ module _ (d : Doing) (h : AllOpened d.system d.world) (component : slice_get d.s
 
   open_opened : (place : Place) (service : List ℕ) (n : ℕ) → any_of (text_eq service) (services d.component) ≡ true → Ends P (open_session d place service n)
   open_opened place service n own =
-      need_ends P (spot_of d.x d.leaf.hand place) WrongKind _
+      need_ends P (spot_of d.x d.leaf.current place) WrongKind _
       (λ q. fill_ends P P same_slot d.world q (slot_at d.world q) (Waiting (free_place d.world.sessions)) _ h (λ w hw.
       need_ends P (server_of d.system d.component service) WrongKind _ (λ server.
       let new = new_session d.x q server service (amount n (open_caps (interface_in service d.system.interfaces))) in
@@ -199,7 +200,7 @@ module _ (d : Doing) (h : AllOpened d.system d.world) (component : slice_get d.s
 
   upgrade_opened : (place : Place) (n : ℕ) → Ends P (upgrade d place n)
   upgrade_opened place n =
-      need_ends P (spot_of d.x d.leaf.hand place) WrongKind _
+      need_ends P (spot_of d.x d.leaf.current place) WrongKind _
       (λ q. link_in_found P d.world (slot_at d.world q) _ (λ j s there. asked_opened _ q j Ask_upgrade (opened_same d.system d.world j s _ there refl refl h)))
 
   instruct_opened : (i : Instruction) → OpensOwn d.component i → Ends P (instruct d i)
@@ -211,12 +212,12 @@ module _ (d : Doing) (h : AllOpened d.system d.world) (component : slice_get d.s
   main_opened (Some service) = gives (standing d (serving d.leaf)) Quiet (stands (serving d.leaf))
   main_opened None = when_ends P _ _ _ (gives (exit_of d) Finished (record { at = h.at }))
 
-  section_opened : (hand : Option Hand) → Ends P (section_ended d hand)
-  section_opened hand = section_by d P same_slot (stands (serving d.leaf)) (opened_active d.system) (opened_gone d.system)
-      (main_opened d.component.node.provides) hand
+  section_opened : (current : Option Current) → Ends P (section_ended d current)
+  section_opened current = section_by d P same_slot (stands (serving d.leaf)) (opened_active d.system) (opened_gone d.system)
+      (main_opened d.component.node.provides) current
 
   body_opened : (loops : List Round) → Ends P (body_ended d loops)
-  body_opened [] = section_opened d.leaf.hand
+  body_opened [] = section_opened d.leaf.current
   body_opened (r ∷ loops) = gives _ Quiet (stands _)
 
   accept_opened : (r : Request) (rest : List Request) → Ends P (accept d r rest)

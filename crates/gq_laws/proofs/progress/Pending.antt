@@ -117,7 +117,7 @@ module _ (s : Scenario) (w : World) (h : Lasts s w) (idle : (x : ℕ) → can_ru
   before_pending y d leaf at bare there live Pending e = (leaf, there, e)
   before_pending y d leaf at bare there live Running e = absurd (true≢false (ap (runs w y) (sym e) ∙ stays s w h idle y d leaf at there))
   before_pending y d leaf at bare there live Blocked e =
-      absurd (never_blocked s w h idle y (leaf.hand, ap stance_in there ∙ ap (λ p. Some (stance p leaf.hand)) e))
+      absurd (never_blocked s w h idle y (leaf.current, ap stance_in there ∙ ap (λ p. Some (stance p leaf.current)) e))
   before_pending y d leaf at bare there live Serving e =
       absurd (true≢false (sym (subst (Suits d.node.provides) e (h.ready.suits y d leaf at there)) ∙ bare))
   before_pending y d leaf at bare there live Handling e = absurd (true≢false (ap (runs w y) (sym e) ∙ stays s w h idle y d leaf at there))

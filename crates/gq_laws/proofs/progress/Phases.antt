@@ -9,7 +9,7 @@ use Rattle.gq_model.specs.declared.phase.Phase.{Phase}
 use Rattle.gq_model.specs.declared.phase.Phase.TheVariants.{Pending, Running, Blocked, Serving, Handling, Exited}
 use Rattle.gq_model.specs.declared.fault.Wrong.TheVariants.{WrongKind}
 use Rattle.gq_model.specs.machine.Scenario.{System, Component}
-use Rattle.gq_model.specs.machine.World.{Slot, Spot, Request, Hand, Round, Leaf}
+use Rattle.gq_model.specs.machine.World.{Slot, Spot, Request, Current, Round, Leaf}
 use Rattle.gq_model.specs.machine.World.{World, session_at, with_leaf, with_slot}
 use Rattle.gq_model.specs.machine.World.{first_phase, start}
 use Rattle.gq_model.specs.machine.Doing.{Doing, Event, Idle, Quiet, Finished, Stepped, standing, settled}
@@ -18,7 +18,7 @@ use Rattle.gq_model.specs.machine.Step.{active_again, unblocked, is_named, relea
 use Rattle.gq_model.specs.machine.Step.{section_ended, body_ended, perform, accept_oldest, step_in, step_of, next}
 use Rattle.gq_model.proofs.Small.{some_same, none_some, text_self}
 use Rattle.gq_laws.specs.Phases.{AreReady, NotExited, Suits}
-use Rattle.gq_laws.specs.Statements.{Takes}
+use Rattle.gq_laws.specs.Statements.{TakesLeaf}
 use Rattle.gq_laws.proofs.turning.Endings.{Ends, gives, need_ends, need_found, when_ends, pop_ends}
 use Rattle.gq_laws.proofs.remaining.Worlds.{set_get}
 use Rattle.gq_laws.proofs.turning.Outcomes.{begun}
@@ -58,7 +58,7 @@ module _ (system : System) (old : World) where
   mild_settled : (x : ℕ) (w : World) → Mild w → Ends Mild (settled system x w)
   mild_settled x w h = need_found Mild _ _ _ (λ leaf there. when_ends Mild _ _ _ (gives _ _ (mild_leaf w x _ h (h.at x leaf there))))
 
-  busy_resumed : (x : ℕ) (hand : Option Hand) → IsBusy x (resumed hand)
+  busy_resumed : (x : ℕ) (current : Option Current) → IsBusy x (resumed current)
   busy_resumed x None = tt
   busy_resumed x (Some g) = tt
 
@@ -67,7 +67,7 @@ module _ (system : System) (old : World) where
     where
       go : (o : Option Leaf) → slice_get w.leaves x ≡ o → Mild (active_again w x f o)
       go None e = h
-      go (Some leaf) e = mild_leaf w x _ h (let m = h.at x leaf e in (m.0, m.1, inr (busy_resumed x leaf.hand)))
+      go (Some leaf) e = mild_leaf w x _ h (let m = h.at x leaf e in (m.0, m.1, inr (busy_resumed x leaf.current)))
 
   -- such a change keeps leaves ready
   module _ (ready : AreReady system old) where
@@ -110,7 +110,7 @@ module _ (system : System) (old : World) where
 
 -- STEPS
 
-module _ (d : Doing) (t : Takes d) (component : slice_get d.system.components d.x ≡ Some d.component) where
+module _ (d : Doing) (t : TakesLeaf d) (component : slice_get d.system.components d.x ≡ Some d.component) where
   abbrev P : World → Type 0
   P w = Mild d.system d.world w
 
@@ -261,13 +261,13 @@ module _ (d : Doing) (t : Takes d) (component : slice_get d.system.components d.
     main_ends (Some service) e = quiet _ (gives _ Quiet (served (ap is_some e)))
     main_ends None e = when_ends R (no_link d.leaf.slots) WrongKind _ (gives (exit_of d) Finished (exit_ready e))
 
-    section_ends : (hand : Option Hand) → ((g : Hand) → hand ≡ Some g → is_some d.component.node.provides ≡ true) → Ends R (section_ended d hand)
+    section_ends : (current : Option Current) → ((g : Current) → current ≡ Some g → is_some d.component.node.provides ≡ true) → Ends R (section_ended d current)
     section_ends None h = main_ends d.component.node.provides refl
     section_ends (Some g) h = quiet _ (need_ends P (session_at d.world g.session) WrongKind _
         (reply_by d P same_slot (served (h g refl)) (mild_active d.system d.world) (λ w k hw. record { at = hw.at }) g.session g.section))
 
-    body_ends : ((g : Hand) → d.leaf.hand ≡ Some g → is_some d.component.node.provides ≡ true) → (loops : List Round) → Ends R (body_ended d loops)
-    body_ends h [] = section_ends d.leaf.hand h
+    body_ends : ((g : Current) → d.leaf.current ≡ Some g → is_some d.component.node.provides ≡ true) → (loops : List Round) → Ends R (body_ended d loops)
+    body_ends h [] = section_ends d.leaf.current h
     body_ends h (r ∷ loops) = quiet _ (gives _ Quiet (stands _ (by (nat_lt (suc r.round) r.count))))
       where
         by : (b : Bool) → (cond b (record d.leaf { todo = r.body; loops = record r { round = suc r.round } ∷ loops })
@@ -275,19 +275,19 @@ module _ (d : Doing) (t : Takes d) (component : slice_get d.system.components d.
         by true = refl
         by false = refl
 
-perform_ready : (d : Doing) → Takes d → slice_get d.system.components d.x ≡ Some d.component → AreReady d.system d.world
-    → ((g : Hand) → d.leaf.hand ≡ Some g → is_some d.component.node.provides ≡ true) → (todo : Statements) → Ends (AreReady d.system) (perform d todo)
+perform_ready : (d : Doing) → TakesLeaf d → slice_get d.system.components d.x ≡ Some d.component → AreReady d.system d.world
+    → ((g : Current) → d.leaf.current ≡ Some g → is_some d.component.node.provides ≡ true) → (todo : Statements) → Ends (AreReady d.system) (perform d todo)
 perform_ready d t component ready provides Done = body_ends d t component ready provides d.leaf.loops
 perform_ready d t component ready provides (Do i rest) =
     let e : Doing = record d { leaf = record d.leaf { todo = rest } } in
-    let u : Takes e = record { old = t.old; there = t.there; slots = t.slots; phase = t.phase; hand = t.hand } in
+    let u : TakesLeaf e = record { old = t.old; there = t.there; slots = t.slots; phase = t.phase; current = t.current } in
     quiet e u component ready _ (instruct_ends e u component i)
 perform_ready d t component ready provides (If arm other rest) =
     quiet d t component ready _ (pop_ends (P d t component) _ _ (λ a below. gives _ Quiet (stands d t component _ refl)))
 perform_ready d t component ready provides (Loop count body rest) = quiet d t component ready _ (gives _ Quiet (stands d t component _ refl))
 
-step_ready : (d : Doing) → Takes d → slice_get d.system.components d.x ≡ Some d.component → AreReady d.system d.world
-    → ((g : Hand) → d.leaf.hand ≡ Some g → is_some d.component.node.provides ≡ true) → (phase : Phase) → Ends (AreReady d.system) (step_in d phase)
+step_ready : (d : Doing) → TakesLeaf d → slice_get d.system.components d.x ≡ Some d.component → AreReady d.system d.world
+    → ((g : Current) → d.leaf.current ≡ Some g → is_some d.component.node.provides ≡ true) → (phase : Phase) → Ends (AreReady d.system) (step_in d phase)
 step_ready d t component ready provides Pending = gives d.world Idle ready
 step_ready d t component ready provides Running = perform_ready d t component ready provides d.leaf.todo
 step_ready d t component ready provides Blocked = gives d.world Idle ready
@@ -299,20 +299,20 @@ step_ready d t component ready provides Serving = by (oldest d.world d.x d.world
 step_ready d t component ready provides Handling = perform_ready d t component ready provides d.leaf.todo
 step_ready d t component ready provides Exited = gives d.world Idle ready
 
--- a leaf with a request at hand provides a service
-abbrev pub HandsProvide : System → World → Type 0
-HandsProvide system w = (x : ℕ) (c : Component) (leaf : Leaf) (g : Hand) → slice_get system.components x ≡ Some c → slice_get w.leaves x ≡ Some leaf
-    → leaf.hand ≡ Some g → is_some c.node.provides ≡ true
+-- a leaf with a current request provides a service
+abbrev pub CurrentProvides : System → World → Type 0
+CurrentProvides system w = (x : ℕ) (c : Component) (leaf : Leaf) (g : Current) → slice_get system.components x ≡ Some c → slice_get w.leaves x ≡ Some leaf
+    → leaf.current ≡ Some g → is_some c.node.provides ≡ true
 
-next_by : (system : System) (w : World) (x : ℕ) (c : Option Component) (leaf : Option Leaf) → AreReady system w → HandsProvide system w
+next_by : (system : System) (w : World) (x : ℕ) (c : Option Component) (leaf : Option Leaf) → AreReady system w → CurrentProvides system w
     → slice_get system.components x ≡ c → slice_get w.leaves x ≡ leaf → Ends (AreReady system) (step_of system w x c leaf)
 next_by system w x (Some c) (Some leaf) ready provides component there =
     step_ready (record { system = system; world = w; x = x; component = c; leaf = record leaf { steps = suc leaf.steps } })
-    (record { old = leaf; there = there; slots = refl; phase = refl; hand = refl }) component ready (λ g e. provides x c leaf g component there e) leaf.phase
+    (record { old = leaf; there = there; slots = refl; phase = refl; current = refl }) component ready (λ g e. provides x c leaf g component there e) leaf.phase
 next_by system w x (Some c) None ready provides component there = gives w Idle ready
 next_by system w x None leaf ready provides component there = gives w Idle ready
 
-pub kept_ready : (system : System) (w : World) (x : ℕ) (new : World) (event : Event) → AreReady system w → HandsProvide system w
+pub kept_ready : (system : System) (w : World) (x : ℕ) (new : World) (event : Event) → AreReady system w → CurrentProvides system w
     → next system w x ≡ Ok (new, event) → AreReady system new
 kept_ready system w x new event ready provides stepped =
     (next_by system w x (slice_get system.components x) (slice_get w.leaves x) ready provides refl refl).holds new event stepped

@@ -9,7 +9,7 @@ use Rattle.gq_model.specs.declared.program.Section.TheVariants.{Main}
 use Rattle.gq_model.specs.declared.phase.Phase.{Phase}
 use Rattle.gq_model.specs.declared.phase.Phase.TheVariants.{Pending, Running, Blocked, Serving, Handling, Exited}
 use Rattle.gq_model.specs.machine.Scenario.{System, Component}
-use Rattle.gq_model.specs.machine.World.{Slot, Spot, Request, Hand, Round, Leaf, World}
+use Rattle.gq_model.specs.machine.World.{Slot, Spot, Request, Current, Round, Leaf, World}
 use Rattle.gq_model.specs.machine.World.{start_leaf, start_leaves, start, with_leaf, with_slot}
 use Rattle.gq_model.specs.machine.Doing.{Doing, Event, standing, settled}
 use Rattle.gq_model.specs.machine.Step.{instruct, oldest, accept, serving, active_again, unblocked}
@@ -141,12 +141,12 @@ module _ (P : Component → Instruction → Type 0) where
     main_ends (Some service) = gives _ _ (stands (serving d.leaf) (tt, tt))
     main_ends None = when_ends Q _ _ _ (gives _ _ exit_ends)
 
-    section_ends : (hand : Option Hand) → Ends Q (section_ended d hand)
-    section_ends hand = section_by d Q same_slot (stands (serving d.leaf) (tt, tt)) (left_active P d.system) (λ w k hw. record { at = hw.at })
-        (main_ends d.component.node.provides) hand
+    section_ends : (current : Option Current) → Ends Q (section_ended d current)
+    section_ends current = section_by d Q same_slot (stands (serving d.leaf) (tt, tt)) (left_active P d.system) (λ w k hw. record { at = hw.at })
+        (main_ends d.component.node.provides) current
 
     body_ends : (loops : List Round) → Each (λ r. AllAre (P d.component) r.body × AllAre (P d.component) r.rest) loops → Ends Q (body_ended d loops)
-    body_ends [] rounds = section_ends d.leaf.hand
+    body_ends [] rounds = section_ends d.leaf.current
     body_ends (r ∷ loops) rounds = gives _ _ (stands _ (by (nat_lt (suc r.round) r.count)))
       where
         by : (b : Bool) → Left P d.system d.component (cond b (record d.leaf { todo = r.body; loops = record r { round = suc r.round } ∷ loops })

@@ -7,7 +7,7 @@ use Rattle.gq_model.specs.declared.program.Form.TheVariants.{Space, Slice, Block
 use Rattle.gq_model.specs.declared.program.Section.{Section}
 use Rattle.gq_model.specs.declared.program.Section.TheVariants.{Main, Opening, Upgrading, Calling, Closing}
 use Rattle.gq_model.specs.machine.Scenario.{number_of, service_in}
-use Rattle.gq_model.specs.machine.World.{Slot, Empty, Bytes, Pool, Link, Waiting, In_leaf, In_session, Session, Hand, session_at, leaf_slot, session_slot}
+use Rattle.gq_model.specs.machine.World.{Slot, Empty, Bytes, Pool, Link, Waiting, In_leaf, In_session, Session, Current, session_at, leaf_slot, session_slot}
 use Rattle.gq_model.specs.machine.World.{spot_of}
 use Rattle.gq_model.specs.machine.Doing.{Doing, Stepped}
 use Rattle.gq_model.specs.machine.Step.{is_empty, all_empty, is_space_of, no_link, reply, main_ended, section_ended}
@@ -17,8 +17,8 @@ use Rattle.gq_laws.specs.Kept.{Under}
 use Rattle.gq_model.specs.rules.Rules.{must, is_empty_kind}
 use Rattle.gq_model.specs.rules.Flow.{is_nil, none_left, has_link, is_space_kind, bank_is_empty, main_end, opening_end, section_end, bank_at}
 use Rattle.gq_model.specs.rules.Use.{subject}
-use Rattle.gq_laws.specs.Typed.{IsKind, AreKinds, IsAtHand, HandMeets, IsLinkKind, Meets}
-use Rattle.gq_laws.specs.Statements.{IsSafe, Takes, Grants}
+use Rattle.gq_laws.specs.Typed.{IsKind, AreKinds, IsCurrent, CurrentMeets, IsLinkKind, Meets}
+use Rattle.gq_laws.specs.Statements.{IsSafe, TakesLeaf, Grants}
 use Rattle.gq_laws.specs.Sections.{EndsAsRuled}
 use Rattle.gq_laws.proofs.stating.Rules.{safe_gives, safe_tested, safe_need, safe_when, safe_pop, popped_there}
 use Rattle.gq_laws.proofs.stating.Slots.{kinds_get}
@@ -97,7 +97,7 @@ module _ (promised : ℕ → Option Kind) where
 
 -- ENDS
 
-module _ (promised : ℕ → Option Kind) (c : Context) (d : Doing) (t : Takes d) (g : Grants promised c d) (mine : c.subject ≡ subject d.system d.component)
+module _ (promised : ℕ → Option Kind) (c : Context) (d : Doing) (t : TakesLeaf d) (g : Grants promised c d) (mine : c.subject ≡ subject d.system d.component)
     (state last : State) (m : Meets promised c state d.world d.leaf) where
   abbrev Safe : Stepped → Type 0
   Safe r = IsSafe (λ w. Unit {0}) r
@@ -105,11 +105,11 @@ module _ (promised : ℕ → Option Kind) (c : Context) (d : Doing) (t : Takes d
   own_plain : IsPlain promised d.leaf.slots
   own_plain i k kind e = g.links (In_leaf d.x i) k kind (ap (λ o. leaf_slot o i) t.there ∙ (ap (λ l. slice_get l i) (sym t.slots) ∙ e))
 
-  bank_plain : (hand : Hand) (s : Session) → session_at d.world hand.session ≡ Some s → IsPlain promised s.slots
-  bank_plain hand s there i k kind e = g.links (In_session hand.session i) k kind (ap (λ o. session_slot o i) there ∙ e)
+  bank_plain : (current : Current) (s : Session) → session_at d.world current.session ≡ Some s → IsPlain promised s.slots
+  bank_plain current s there i k kind e = g.links (In_session current.session i) k kind (ap (λ o. session_slot o i) there ∙ e)
 
-  bank_quiet : (hand : Hand) (s : Session) → d.leaf.hand ≡ Some hand → session_at d.world hand.session ≡ Some s → IsQuietList s.slots
-  bank_quiet hand s handed there i k e = g.awake (Shared i) (In_session hand.session i) k (ap (λ h. spot_of d.x h (Shared i)) handed)
+  bank_quiet : (current : Current) (s : Session) → d.leaf.current ≡ Some current → session_at d.world current.session ≡ Some s → IsQuietList s.slots
+  bank_quiet current s handed there i k e = g.awake (Shared i) (In_session current.session i) k (ap (λ h. spot_of d.x h (Shared i)) handed)
       (ap (λ o. session_slot o i) there ∙ e)
 
   provides_none : d.component.node.provides ≡ None → c.subject.provided ≡ None
@@ -125,13 +125,13 @@ module _ (promised : ℕ → Option Kind) (c : Context) (d : Doing) (t : Takes d
       safe_when (no_link d.leaf.slots) _ _ (no_links promised d.leaf.slots state.own m.own own_plain (ap (λ (s : State). has_link s.own) (sym none.1) ∙ links))
       (safe_gives _ _ tt)
 
-  bank_safe : (section : Section) (hand : Hand) → d.leaf.hand ≡ Some hand → in_main section ≡ false → section_end c.subject section state ≡ Ok last
-      → (s : Session) → session_at d.world hand.session ≡ Some s → AreKinds promised s.slots state.bank → Safe (reply d hand.session section s)
-  bank_safe Main hand handed outside e s there kinds = absurd (true≢false outside)
-  bank_safe Opening hand handed outside e s there kinds =
+  bank_safe : (section : Section) (current : Current) → d.leaf.current ≡ Some current → in_main section ≡ false → section_end c.subject section state ≡ Ok last
+      → (s : Session) → session_at d.world current.session ≡ Some s → AreKinds promised s.slots state.bank → Safe (reply d current.session section s)
+  bank_safe Main current handed outside e s there kinds = absurd (true≢false outside)
+  bank_safe Opening current handed outside e s there kinds =
       let left = then_there (none_left state) (opening_end (number_of c.subject.provided (λ i. i.buffer))) last e in
       let none = none_left_ok state left.0 left.1 in
-      let n = ap (λ o. number_of o (λ i. i.buffer)) (g.provided hand s handed there) in
+      let n = ap (λ o. number_of o (λ i. i.buffer)) (g.provided current s handed there) in
       safe_when _ _ _ (subst (λ n. (n == 0 || is_space_of n (slice_get s.slots 0)) ≡ true) (sym n)
       (by (number_of c.subject.provided (λ i. i.buffer))
       (subst (λ (u : State). opening_end (number_of c.subject.provided (λ i. i.buffer)) u ≡ Ok last) none.1 left.2))) (safe_gives _ _ tt)
@@ -140,29 +140,29 @@ module _ (promised : ℕ → Option Kind) (c : Context) (d : Doing) (t : Takes d
       space n None at e = absurd (false≢true e)
       space n (Some kind) at e =
           let f = kinds_get promised s.slots state.bank 0 kind kinds at in
-          ap (is_space_of n) f.1 ∙ space_slot promised n f.0 kind f.2 (λ k same. bank_plain hand s there 0 k kind (f.1 ∙ ap Some same))
-          (λ k same. bank_quiet hand s handed there 0 k (f.1 ∙ ap Some same)) e
+          ap (is_space_of n) f.1 ∙ space_slot promised n f.0 kind f.2 (λ k same. bank_plain current s there 0 k kind (f.1 ∙ ap Some same))
+          (λ k same. bank_quiet current s handed there 0 k (f.1 ∙ ap Some same)) e
 
       by : (n : ℕ) → opening_end n state ≡ Ok last → (n == 0 || is_space_of n (slice_get s.slots 0)) ≡ true
       by zero e = refl
       by (suc n) e = or_right (suc n == 0) (is_space_of (suc n) (slice_get s.slots 0))
           (space (suc n) (slice_get state.bank 0) refl (must_holds (is_space_kind (suc n) (slice_get state.bank 0)) _ _ last e).0)
-  bank_safe (Upgrading l) hand handed outside e s there kinds = safe_gives _ _ tt
-  bank_safe (Calling l) hand handed outside e s there kinds =
+  bank_safe (Upgrading l) current handed outside e s there kinds = safe_gives _ _ tt
+  bank_safe (Calling l) current handed outside e s there kinds =
       let p = popped_there state (λ a t. must (is_nil t.bounds) LeftoverOperand
       (must (nat_le a (number_of c.subject.provided (λ i. i.reply))) ValueTooLarge
       (must (same_kinds state.bank (bank_at c.subject l)) SessionBankChanged (Ok t)))) last e in
       let u = under_top d.leaf.operands p.0 p.1 (subst (Under d.leaf.operands) p.2 m.operands) in
       safe_pop d.leaf.operands _ u.0 u.1 u.2 (safe_gives _ _ tt)
-  bank_safe (Closing l) hand handed outside e s there kinds =
+  bank_safe (Closing l) current handed outside e s there kinds =
       let left = then_there (none_left state) (λ t. must (bank_is_empty t.bank) SessionBankChanged (Ok t)) last e in
       let none = none_left_ok state left.0 left.1 in
       let empty = must_holds (bank_is_empty left.0.bank) _ _ last left.2 in
-      safe_when (all_empty s.slots) _ _ (all_are_empty promised s.slots state.bank kinds (bank_plain hand s there) (bank_quiet hand s handed there)
+      safe_when (all_empty s.slots) _ _ (all_are_empty promised s.slots state.bank kinds (bank_plain current s there) (bank_quiet current s handed there)
       (ap (λ (s : State). bank_is_empty s.bank) (sym none.1) ∙ empty.0)) (safe_tested _ _ (safe_gives _ _ tt))
 
-  ends_safe : section_end c.subject c.section state ≡ Ok last → (hand : Option Hand) → d.leaf.hand ≡ hand → IsAtHand c.section hand
-      → HandMeets promised c state.bank d.world hand → Safe (section_ended d hand)
+  ends_safe : section_end c.subject c.section state ≡ Ok last → (current : Option Current) → d.leaf.current ≡ current → IsCurrent c.section current
+      → CurrentMeets promised c state.bank d.world current → Safe (section_ended d current)
   ends_safe e None handed at bank = main_safe (by c.section at e) d.component.node.provides refl
     where
       by : (section : Section) → in_main section ≡ true → section_end c.subject section state ≡ Ok last → section_end c.subject Main state ≡ Ok last
@@ -171,10 +171,11 @@ module _ (promised : ℕ → Option Kind) (c : Context) (d : Doing) (t : Takes d
       by (Upgrading l) at e = absurd (false≢true at)
       by (Calling l) at e = absurd (false≢true at)
       by (Closing l) at e = absurd (false≢true at)
-  ends_safe e (Some hand) handed at bank =
-      safe_need (session_at d.world hand.session) _ _ bank.0 bank.1
-      (subst (λ section. Safe (reply d hand.session section bank.0)) (sym at.0) (bank_safe c.section hand handed at.1 e bank.0 bank.1 bank.2.slots))
+  ends_safe e (Some current) handed at bank =
+      safe_need (session_at d.world current.session) _ _ bank.0 bank.1
+      (subst (λ section. Safe (reply d current.session section bank.0)) (sym at.0) (bank_safe c.section current handed at.1 e bank.0 bank.1 bank.2.slots))
 
-pub ends_ruled : (promised : ℕ → Option Kind) (c : Context) (d : Doing) → Takes d → Grants promised c d → c.subject ≡ subject d.system d.component
+pub ends_ruled : (promised : ℕ → Option Kind) (c : Context) (d : Doing) → TakesLeaf d → Grants promised c d → c.subject ≡ subject d.system d.component
     → EndsAsRuled promised c d
-ends_ruled promised c d t g mine state last wrong m e fails = (ends_safe promised c d t g mine state last m e d.leaf.hand refl m.hand m.bank).short wrong fails
+ends_ruled promised c d t g mine state last wrong m e fails =
+    (ends_safe promised c d t g mine state last m e d.leaf.current refl m.current m.bank).short wrong fails

@@ -7,14 +7,15 @@ use Rattle.gq_model.specs.declared.program.Section.{Section}
 use Rattle.gq_model.specs.declared.program.Section.TheVariants.{Main, Opening, Upgrading, Calling, Closing}
 use Rattle.gq_model.specs.declared.phase.Phase.TheVariants.{Handling}
 use Rattle.gq_model.specs.machine.Scenario.{number_of}
-use Rattle.gq_model.specs.machine.World.{Slot, Waiting, Spot, In_leaf, In_session, In_object, Session, Hand, Leaf, World, session_at, leaf_slot, session_slot}
+use Rattle.gq_model.specs.machine.World.{Slot, Waiting, Spot, In_leaf, In_session, In_object, Session, Current, Leaf, World, session_at, leaf_slot}
+use Rattle.gq_model.specs.machine.World.{session_slot}
 use Rattle.gq_model.specs.machine.World.{slot_at}
 use Rattle.gq_model.specs.machine.Doing.{Doing}
 use Rattle.gq_model.specs.rules.Kinds.{Kind, Memory, State, Context}
 use Rattle.gq_laws.specs.Kept.{Under, kind_replied}
 use Rattle.gq_laws.specs.Links.{stance_in, IsLinkedWorld}
-use Rattle.gq_laws.specs.Typed.{IsKind, AreKinds, HandMeets, Meets}
-use Rattle.gq_laws.specs.Statements.{bare, Takes, IsElse, StandElse}
+use Rattle.gq_laws.specs.Typed.{IsKind, AreKinds, CurrentMeets, Meets}
+use Rattle.gq_laws.specs.Statements.{bare, TakesLeaf, IsElse, StandElse}
 use Rattle.gq_laws.specs.Replies.{HasEnded, slot_replied, AreReplied, own_then, bank_then, session_then, resuming, Replies, once_replied, KeepsBank, Resumes}
 use Rattle.gq_laws.specs.Replies.{ResumesAsRuled}
 use Rattle.gq_model.proofs.Small.{some_same}
@@ -32,31 +33,31 @@ alike promised k (Closing l) s p kind is = some_same (sym is ∙ p)
 
 -- a leaf that stood, with its slots of the same kinds and the reply
 meets_by : (promised : ℕ → Option Kind) (e : Context) (state : State) (v w : World) (old : Leaf) (most : ℕ) (section : Section) (operands : List ℕ)
-    (slots : List Slot) → AreReplied most section old.operands operands → AreKinds promised slots state.own → HandMeets promised e state.bank w old.hand
+    (slots : List Slot) → AreReplied most section old.operands operands → AreKinds promised slots state.own → CurrentMeets promised e state.bank w old.current
     → Meets promised e state v old
     → Meets promised e (once_replied most section state) w (resuming old operands slots)
 meets_by promised e state v w old most Main operands slots r own bank m = absurd r
 meets_by promised e state v w old most Opening operands slots r own bank m =
-    record { own = own; hand = m.hand; bank = bank; operands = subst (λ o. Under o state.bounds) (sym r) m.operands; locals = m.locals; loops = m.loops }
+    record { own = own; current = m.current; bank = bank; operands = subst (λ o. Under o state.bounds) (sym r) m.operands; locals = m.locals; loops = m.loops }
 meets_by promised e state v w old most (Upgrading l) operands slots r own bank m =
-    record { own = own; hand = m.hand; bank = bank; operands = subst (λ o. Under o state.bounds) (sym r) m.operands; locals = m.locals; loops = m.loops }
+    record { own = own; current = m.current; bank = bank; operands = subst (λ o. Under o state.bounds) (sym r) m.operands; locals = m.locals; loops = m.loops }
 meets_by promised e state v w old most (Calling l) operands slots r own bank m =
     record {
       own = own;
-      hand = m.hand;
+      current = m.current;
       bank = bank;
       operands = subst (λ o. Under o (most ∷ state.bounds)) (sym r.2) (r.1, m.operands);
       locals = m.locals;
       loops = m.loops;
     }
 meets_by promised e state v w old most (Closing l) operands slots r own bank m =
-    record { own = own; hand = m.hand; bank = bank; operands = subst (λ o. Under o state.bounds) (sym r) m.operands; locals = m.locals; loops = m.loops }
+    record { own = own; current = m.current; bank = bank; operands = subst (λ o. Under o state.bounds) (sym r) m.operands; locals = m.locals; loops = m.loops }
 
-module _ (promised : ℕ → Option Kind) (c : Context) (d : Doing) (t : Takes d) (h : IsLinkedWorld d.system d.world) (handles : d.leaf.phase ≡ Handling)
-    (state : State) (g : Hand) (s : Session) (w : World) (e : HasEnded promised c state d g s w)
+module _ (promised : ℕ → Option Kind) (c : Context) (d : Doing) (t : TakesLeaf d) (h : IsLinkedWorld d.system d.world) (handles : d.leaf.phase ≡ Handling)
+    (state : State) (g : Current) (s : Session) (w : World) (e : HasEnded promised c state d g s w)
     (promise : promised g.session ≡ Some (kind_replied g.section s)) where
   r : Replies promised c state d g s w
-  r = replies_by promised c d t h handles state g s e.at_hand e.there w e
+  r = replies_by promised c d t h handles state g s e.at_current e.there w e
 
   abbrev k : ℕ
   k = g.session
@@ -100,11 +101,12 @@ module _ (promised : ℕ → Option Kind) (c : Context) (d : Doing) (t : Takes d
   banks_stand : KeepsBank promised k d.world w
   banks_stand j u kinds ne there are = bank_stands s.spot refl j u kinds there are (r.sessions j ne ∙ ap (session_then s.spot slot j) there)
 
-  -- what is at a hand, if it is another session
-  hand_stands : (f : Context) (kinds : List Kind) (hand : Option Hand) → ((b : Hand) → hand ≡ Some b → b.session ≢ k) → HandMeets promised f kinds d.world hand
-      → HandMeets promised f kinds w hand
-  hand_stands f kinds None else m = tt
-  hand_stands f kinds (Some b) else m =
+  -- what is current, if it is another session
+  current_stands : (f : Context) (kinds : List Kind) (current : Option Current) → ((b : Current) → current ≡ Some b → b.session ≢ k)
+      → CurrentMeets promised f kinds d.world current
+      → CurrentMeets promised f kinds w current
+  current_stands f kinds None else m = tt
+  current_stands f kinds (Some b) else m =
       let n = banks_stand b.session m.0 kinds (else b refl) m.1 m.2.slots in (
         n.0,
         n.1,
@@ -119,18 +121,18 @@ module _ (promised : ℕ → Option Kind) (c : Context) (d : Doing) (t : Takes d
   others_stand f st leaf else m =
       record {
         own = m.own;
-        hand = m.hand;
-        bank = hand_stands f st.bank leaf.hand (λ b at same. subst (IsElse b.session) e.at_hand (else b at) (sym same)) m.bank;
+        current = m.current;
+        bank = current_stands f st.bank leaf.current (λ b at same. subst (IsElse b.session) e.at_current (else b at) (sym same)) m.bank;
         operands = m.operands;
         locals = m.locals;
         loops = m.loops;
       }
 
-  -- the client has another session at hand, or none
-  client_hand : (b : Hand) → r.client.hand ≡ Some b → b.session ≢ k
-  client_hand b at =
-      let u = h.handles s.client r.client.phase b (ap stance_in r.was ∙ ap (λ o. Some (record { phase = r.client.phase; hand = o })) at) in
-      served_else promised c d t h handles state g s e.at_hand e.there b.session u.0 u.1 u.2
+  -- the client has another current session, or none
+  client_current : (b : Current) → r.client.current ≡ Some b → b.session ≢ k
+  client_current b at =
+      let u = h.handles s.client r.client.phase b (ap stance_in r.was ∙ ap (λ o. Some (record { phase = r.client.phase; current = o })) at) in
+      served_else promised c d t h handles state g s e.at_current e.there b.session u.0 u.1 u.2
 
   abbrev most : ℕ
   most = number_of c.subject.provided (λ i. i.reply)
@@ -139,10 +141,11 @@ module _ (promised : ℕ → Option Kind) (c : Context) (d : Doing) (t : Takes d
       → (leaf : Leaf) × (slice_get w.leaves s.client ≡ Some leaf) × Meets promised f (once_replied most g.section st) w leaf
   client_stands f st m =
       let slots : List Slot = own_then s.spot slot r.client.slots in
-      let own = own_stands s.spot refl (client_spot promised c d t h handles state g s e.at_hand e.there) st.own m.own in (
+      let own = own_stands s.spot refl (client_spot promised c d t h handles state g s e.at_current e.there) st.own m.own in (
         resuming r.client r.operands slots,
         r.goes_on,
-        meets_by promised f st d.world w r.client most g.section r.operands slots r.replied own (hand_stands f st.bank r.client.hand client_hand m.bank) m,
+        meets_by promised f st d.world w r.client most g.section r.operands slots r.replied own
+            (current_stands f st.bank r.client.current client_current m.bank) m,
       )
 
   pub resumes_by : Resumes promised c d g s w
@@ -153,6 +156,6 @@ module _ (promised : ℕ → Option Kind) (c : Context) (d : Doing) (t : Takes d
         sessions = banks_stand;
       }
 
-pub resumes_ruled : (promised : ℕ → Option Kind) (c : Context) (d : Doing) → Takes d → IsLinkedWorld d.system d.world → d.leaf.phase ≡ Handling
+pub resumes_ruled : (promised : ℕ → Option Kind) (c : Context) (d : Doing) → TakesLeaf d → IsLinkedWorld d.system d.world → d.leaf.phase ≡ Handling
     → ResumesAsRuled promised c d
 resumes_ruled promised c d t h handles state g s w e promise = resumes_by promised c d t h handles state g s w e promise

@@ -13,14 +13,14 @@ use Rattle.gq_model.specs.rules.Kinds.{Kind, Memory, Subject, in_main}
 use Rattle.gq_model.specs.rules.Flow.{first_bounds, bank_before, own_before}
 use Rattle.gq_laws.specs.Kept.{Under, level_then}
 use Rattle.gq_laws.specs.Typed.{IsKind, AreKinds}
-use Rattle.gq_laws.specs.Statements.{IsSafe, Takes}
+use Rattle.gq_laws.specs.Statements.{IsSafe, TakesLeaf}
 use Rattle.gq_laws.specs.Sections.{IsAtRest, Begins, BeginsAsRuled}
 use Rattle.gq_laws.proofs.linking.Worlds.{set_here, session_here}
 use Rattle.gq_laws.proofs.stating.Rules.{safe_gives, safe_tested, safe_need}
 use Rattle.gq_laws.proofs.stating.Numbers.{zeros_bytes}
 use Rattle.gq_laws.proofs.stating.Frame.{zeros}
 
-module _ (promised : ℕ → Option Kind) (d : Doing) (t : Takes d) (eight : length d.component.node.program.locals ≡ 8) (k : ℕ) (rest : List Request) where
+module _ (promised : ℕ → Option Kind) (d : Doing) (t : TakesLeaf d) (eight : length d.component.node.program.locals ≡ 8) (k : ℕ) (rest : List Request) where
   abbrev v : Subject
   v = subject d.system d.component
 
@@ -30,7 +30,7 @@ module _ (promised : ℕ → Option Kind) (d : Doing) (t : Takes d) (eight : len
   abbrev world_at : Section → List ℕ → Session → World
   world_at section ops s = with_session (record (standing d (leaf_at section ops)) { requests = rest }) k s
 
-  -- the leaf at the start of a section, with the session at hand
+  -- the leaf at the start of a section, with the current session
   begins : (ask : Ask) (section : Section) (ops : List ℕ) (old new : Session) → session_at d.world k ≡ Some old → in_main section ≡ false
       → AreKinds promised d.leaf.slots (own_before v section) → AreKinds promised new.slots (bank_before v section)
       → IsKind promised new.object (Memory Slice (number_of v.provided (λ i. i.object))) → Under ops (first_bounds v.provided section)
@@ -42,7 +42,7 @@ module _ (promised : ℕ → Option Kind) (d : Doing) (t : Takes d) (eight : len
         meets =
             record {
               own = own;
-              hand = (refl, outside);
+              current = (refl, outside);
               bank = (
                 new,
                 session_here (record (standing d (leaf_at section ops)) { requests = rest }) k old new there,
@@ -54,7 +54,7 @@ module _ (promised : ℕ → Option Kind) (d : Doing) (t : Takes d) (eight : len
             };
         todo = refl;
         loops = refl;
-        hand = refl;
+        current = refl;
         phase = refl;
       }
 
@@ -84,5 +84,5 @@ module _ (promised : ℕ → Option Kind) (d : Doing) (t : Takes d) (eight : len
       (safe_gives _ _ (begins (Ask_call value) (section_for (Ask_call value) s.level) (value ∷ []) s s h.there refl h.own h.bank h.object
       (subst (λ o. value ≤ number_of o (λ i. i.arg)) h.provided h.argument, tt)))))
 
-pub begins_ruled : (promised : ℕ → Option Kind) (d : Doing) → Takes d → BeginsAsRuled promised d
+pub begins_ruled : (promised : ℕ → Option Kind) (d : Doing) → TakesLeaf d → BeginsAsRuled promised d
 begins_ruled promised d t r rest s eight h = begins_by promised d t eight r.session rest r.ask s h

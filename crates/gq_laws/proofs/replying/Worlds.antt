@@ -9,7 +9,7 @@ use Rattle.gq_model.specs.declared.phase.Phase.TheVariants.{Blocked, Handling}
 use Rattle.gq_model.specs.declared.fault.Rule.TheVariants.{LeftoverOperand, ValueTooLarge, SessionBankChanged}
 use Rattle.gq_model.specs.declared.fault.Wrong.TheVariants.{WrongKind, ExceededQuota}
 use Rattle.gq_model.specs.machine.Scenario.{number_of}
-use Rattle.gq_model.specs.machine.World.{Slot, Empty, Bytes, Pool, Link, Waiting, Spot, In_leaf, In_session, In_object, Session, Hand, Leaf, World, joined}
+use Rattle.gq_model.specs.machine.World.{Slot, Empty, Bytes, Pool, Link, Waiting, Spot, In_leaf, In_session, In_object, Session, Current, Leaf, World, joined}
 use Rattle.gq_model.specs.machine.World.{session_at, slot_at, with_session, with_slot, put_leaf_slot, put_session_slot}
 use Rattle.gq_model.specs.machine.Doing.{Doing, Quiet, need, pop, standing}
 use Rattle.gq_model.specs.machine.Sums.{paid}
@@ -19,8 +19,8 @@ use Rattle.gq_laws.specs.Kept.{Under}
 use Rattle.gq_model.specs.rules.Rules.{must}
 use Rattle.gq_model.specs.rules.Flow.{is_nil, section_end, bank_at}
 use Rattle.gq_laws.specs.Links.{Leads, Waits, naming_in, outline, outline_in, Stance, stance, Links, links, Belongs, IsLinkedWorld}
-use Rattle.gq_laws.specs.Typed.{IsAtHand, BankMeets, HandMeets}
-use Rattle.gq_laws.specs.Statements.{Takes}
+use Rattle.gq_laws.specs.Typed.{IsCurrent, BankMeets, CurrentMeets}
+use Rattle.gq_laws.specs.Statements.{TakesLeaf}
 use Rattle.gq_laws.specs.Replies.{HasEnded, slot_replied, session_replied, AreReplied, own_then, bank_then, session_then, resuming, Replies, RepliesAsRuled}
 use Rattle.gq_laws.proofs.turning.Endings.{Ends, gives, fails, when_ends}
 use Rattle.gq_model.proofs.Small.{some_same, none_some}
@@ -92,9 +92,9 @@ pub record Wakes (v w : World) (x : ℕ) (new : Leaf) : Type 0 where
   pub requests : w.requests ≡ v.requests
 
 wakes : (v : World) (x : ℕ) (f : List ℕ → List ℕ) (old : Leaf) → slice_get v.leaves x ≡ Some old
-    → Wakes v (unblocked v x f) x (record old { phase = resumed old.hand; operands = f old.operands })
+    → Wakes v (unblocked v x f) x (record old { phase = resumed old.current; operands = f old.operands })
 wakes v x f old there =
-    let new : Leaf = record old { phase = resumed old.hand; operands = f old.operands } in
+    let new : Leaf = record old { phase = resumed old.current; operands = f old.operands } in
     subst (λ o. Wakes v (active_again v x f o) x new) (sym there)
     (record { there = set_here v.leaves x new old there; leaves = λ y ne. set_else v.leaves x y new ne; sessions = λ j. refl; requests = refl })
 
@@ -115,8 +115,8 @@ waiting_slot (Some (Waiting j)) k e = ap (λ n. Some (Waiting n)) (number e)
 
 -- THE REPLY
 
-module _ (promised : ℕ → Option Kind) (c : Context) (d : Doing) (t : Takes d) (h : IsLinkedWorld d.system d.world) (handles : d.leaf.phase ≡ Handling)
-    (state : State) (g : Hand) (s : Session) (at_hand : d.leaf.hand ≡ Some g) (found : session_at d.world g.session ≡ Some s) where
+module _ (promised : ℕ → Option Kind) (c : Context) (d : Doing) (t : TakesLeaf d) (h : IsLinkedWorld d.system d.world) (handles : d.leaf.phase ≡ Handling)
+    (state : State) (g : Current) (s : Session) (at_current : d.leaf.current ≡ Some g) (found : session_at d.world g.session ≡ Some s) where
   abbrev L : Links
   L = links d.world
 
@@ -127,18 +127,18 @@ module _ (promised : ℕ → Option Kind) (c : Context) (d : Doing) (t : Takes d
   outlined = ap outline_in found
 
   waits : L.slots s.spot ≡ Some (Waits k)
-  waits = slot_waits d t h handles g at_hand s found
+  waits = slot_waits d t h handles g at_current s found
 
   pub client_else : s.client ≢ d.x
-  client_else = not_server d t h handles g at_hand s found
+  client_else = not_server d t h handles g at_current s found
 
   stood : L.stances d.x ≡ Some (stance Handling (Some g))
-  stood = handling d t h handles g at_hand s found
+  stood = handling d t h handles g at_current s found
 
-  pub blocks : (o : Option Hand) × (L.stances s.client ≡ Some (stance Blocked o))
+  pub blocks : (o : Option Current) × (L.stances s.client ≡ Some (stance Blocked o))
   blocks = h.waits k (outline s) outlined waits
 
-  pub client_leaf : (leaf : Leaf) × (slice_get d.world.leaves s.client ≡ Some leaf) × (stance leaf.phase leaf.hand ≡ stance Blocked blocks.0)
+  pub client_leaf : (leaf : Leaf) × (slice_get d.world.leaves s.client ≡ Some leaf) × (stance leaf.phase leaf.current ≡ stance Blocked blocks.0)
   client_leaf = leaf_of_stance (slice_get d.world.leaves s.client) (stance Blocked blocks.0) blocks.1
 
   abbrev old : Leaf
@@ -240,22 +240,22 @@ module _ (promised : ℕ → Option Kind) (c : Context) (d : Doing) (t : Takes d
       (when_ends (Made_by (Closing l)) (paid d.system (unblocked without s.client (λ operands. operands))) ExceededQuota _
       (gives _ Quiet (old.operands, refl, made_close)))
 
-  bank_is : (o : Option Hand) → o ≡ Some g → HandMeets promised c state.bank d.world o → BankMeets promised c state.bank s
+  bank_is : (o : Option Current) → o ≡ Some g → CurrentMeets promised c state.bank d.world o → BankMeets promised c state.bank s
   bank_is None e b = absurd (none_some e)
   bank_is (Some f) e b = subst (BankMeets promised c state.bank)
-      (some_same (sym b.1 ∙ (ap (λ (f : Hand). session_at d.world f.session) (some_same e) ∙ found))) b.2
+      (some_same (sym b.1 ∙ (ap (λ (f : Current). session_at d.world f.session) (some_same e) ∙ found))) b.2
 
   pub replies_by : (w : World) → HasEnded promised c state d g s w → Replies promised c state d g s w
   replies_by w e =
-      let at : IsAtHand c.section (Some g) = subst (IsAtHand c.section) at_hand e.meets.hand in
+      let at : IsCurrent c.section (Some g) = subst (IsCurrent c.section) at_current e.meets.current in
       let ends = ap (λ section. section_end c.subject section state) at.0 ∙ e.ends in
-      let is : reply d k g.section s ≡ Ok (w, e.event) = sym (ap (section_ended d) at_hand ∙ ap (λ o. need o WrongKind (reply d k g.section)) found)
+      let is : reply d k g.section s ≡ Ok (w, e.event) = sym (ap (section_ended d) at_current ∙ ap (λ o. need o WrongKind (reply d k g.section)) found)
       ∙ e.ended in
       let m = (reply_made g.section e.last e.meets.operands ends).holds w e.event is in
       record {
         server = m.2.server;
         session = m.2.session;
-        bank = bank_is d.leaf.hand at_hand e.meets.bank;
+        bank = bank_is d.leaf.current at_current e.meets.bank;
         other = client_else;
         client = old;
         was = client_leaf.1;
@@ -269,6 +269,6 @@ module _ (promised : ℕ → Option Kind) (c : Context) (d : Doing) (t : Takes d
         requests = m.2.requests;
       }
 
-pub replies_ruled : (promised : ℕ → Option Kind) (c : Context) (d : Doing) → Takes d → IsLinkedWorld d.system d.world → d.leaf.phase ≡ Handling
+pub replies_ruled : (promised : ℕ → Option Kind) (c : Context) (d : Doing) → TakesLeaf d → IsLinkedWorld d.system d.world → d.leaf.phase ≡ Handling
     → RepliesAsRuled promised c d
-replies_ruled promised c d t h handles state g s w e = replies_by promised c d t h handles state g s e.at_hand e.there w e
+replies_ruled promised c d t h handles state g s w e = replies_by promised c d t h handles state g s e.at_current e.there w e

@@ -3,20 +3,20 @@ use Rattle.std.proofs.Common.{◌≡◌, ◌≢◌, ℕ, zero, suc, ◌≤◌, i
 use Rattle.std.specs.Prelude.{slice_get, slice_set}
 use Rattle.std.proofs.lemmas.Bool.Decides.{eqb_tells}
 use Rattle.gq_model.specs.machine.Scenario.{Component}
-use Rattle.gq_model.specs.machine.World.{Slot, Spot, In_leaf, In_session, In_object, Session, Hand, Leaf, World, session_at, with_leaf, with_session}
+use Rattle.gq_model.specs.machine.World.{Slot, Spot, In_leaf, In_session, In_object, Session, Current, Leaf, World, session_at, with_leaf, with_session}
 use Rattle.gq_model.specs.machine.World.{put_leaf_slot, put_session_slot, put_object, with_slot, start_leaves}
 use Rattle.gq_model.specs.machine.Step.{all_released}
 use Rattle.gq_model.proofs.Small.{some_same, none_some}
 use Rattle.gq_laws.proofs.linking.Worlds.{set_else, session_here, session_else}
 use Rattle.gq_laws.specs.Room.{HasRoomFor}
 
--- a leaf's operands, and what is at its hand
+-- a leaf's operands, and what is current at it
 pub record Held : Type 0 where
   pub operands : List ℕ
-  pub hand : Option Hand
+  pub current : Option Current
 
 abbrev pub held : Leaf → Held
-held leaf = record { operands = leaf.operands; hand = leaf.hand }
+held leaf = record { operands = leaf.operands; current = leaf.current }
 
 abbrev pub held_in : Option Leaf → Option Held
 held_in None = None
@@ -70,8 +70,8 @@ released_held name (c ∷ cs) [] y = refl
 released_held name (c ∷ cs) (leaf ∷ leaves) zero = refl
 released_held name (c ∷ cs) (leaf ∷ leaves) (suc y) = released_held name cs leaves y
 
--- a leaf starts with no operands, and nothing at hand
-pub start_held : (cs : List Component) (x : ℕ) (h : Held) → held_in (slice_get (start_leaves cs) x) ≡ Some h → record { operands = []; hand = None } ≡ h
+-- a leaf starts with no operands, and no current request
+pub start_held : (cs : List Component) (x : ℕ) (h : Held) → held_in (slice_get (start_leaves cs) x) ≡ Some h → record { operands = []; current = None } ≡ h
 start_held [] x h e = absurd (none_some e)
 start_held (c ∷ cs) zero h e = some_same e
 start_held (c ∷ cs) (suc x) h e = start_held cs x h e

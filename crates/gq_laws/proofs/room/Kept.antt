@@ -5,7 +5,7 @@ use Rattle.std.proofs.lemmas.Bool.Decides.{eqb_tells}
 use Rattle.gq_model.specs.declared.phase.Phase.{Phase}
 use Rattle.gq_model.specs.declared.phase.Phase.TheVariants.{Blocked}
 use Rattle.gq_model.specs.machine.Scenario.{System}
-use Rattle.gq_model.specs.machine.World.{Session, Ask, Ask_open, Ask_upgrade, Ask_close, Ask_call, Request, Hand, Leaf, World, session_at}
+use Rattle.gq_model.specs.machine.World.{Session, Ask, Ask_open, Ask_upgrade, Ask_close, Ask_call, Request, Current, Leaf, World, session_at}
 use Rattle.gq_model.proofs.Small.{some_same}
 use Rattle.gq_laws.specs.Shapes.{Each}
 use Rattle.gq_laws.specs.Links.{stance, stance_in, links, IsLinkedWorld}
@@ -27,14 +27,14 @@ pub leaf_before : (v w : World) (y : ℕ) (leaf : Leaf) → slice_get w.leaves y
     → (old : Leaf) × (slice_get v.leaves y ≡ Some old) × (held old ≡ held leaf)
 leaf_before v w y leaf there same = leaf_of_held (slice_get v.leaves y) (held leaf) (sym same ∙ ap held_in there)
 
--- a leaf with this at its hand has this stance
-pub hand_stance : (v : World) (y : ℕ) (leaf : Leaf) (g : Hand) → slice_get v.leaves y ≡ Some leaf → leaf.hand ≡ Some g
+-- a leaf with this current at it has this stance
+pub current_stance : (v : World) (y : ℕ) (leaf : Leaf) (g : Current) → slice_get v.leaves y ≡ Some leaf → leaf.current ≡ Some g
     → (links v).stances y ≡ Some (stance leaf.phase (Some g))
-hand_stance v y leaf g there same = ap stance_in there ∙ ap (λ o. Some (stance leaf.phase o)) same
+current_stance v y leaf g there same = ap stance_in there ∙ ap (λ o. Some (stance leaf.phase o)) same
 
-module _ (system : System) (v : World) (h : IsLinkedWorld system v) (roomy : IsRoomy v) (x : ℕ) (phase : Phase) (was : Option Hand)
+module _ (system : System) (v : World) (h : IsLinkedWorld system v) (roomy : IsRoomy v) (x : ℕ) (phase : Phase) (was : Option Current)
     (stands : (links v).stances x ≡ Some (stance phase was)) (active : phase ≢ Blocked)
-    (most : ℕ) (hand : Option Hand) (waiting : List Request) (w : World) (g : Goes v x most hand waiting w) where
+    (most : ℕ) (current : Option Current) (waiting : List Request) (w : World) (g : Goes v x most current waiting w) where
   pub kept_room : (k : ℕ) → WaitsFor v k → HasRoomFor v k → HasRoomFor w k
   kept_room k u room = room_as v w k clients same room
     where
@@ -50,13 +50,13 @@ module _ (system : System) (v : World) (h : IsLinkedWorld system v) (roomy : IsR
       (λ r p. asked_as v w r.session (kept_room r.session p.0) r.ask p.1) v.requests
       (each_both (λ r. WaitsFor v r.session) (HasRoomAsked v) v.requests (waits_asked system v h) roomy.asked)
 
-  -- what a leaf has at hand in either world
-  pub kept_handled : (y : ℕ) (leaf : Leaf) (k level : ℕ) → slice_get v.leaves y ≡ Some leaf → leaf.hand ≡ Some (calling k level) → HasRoomFor w k
+  -- the current request of a leaf in either world
+  pub kept_handled : (y : ℕ) (leaf : Leaf) (k level : ℕ) → slice_get v.leaves y ≡ Some leaf → leaf.current ≡ Some (calling k level) → HasRoomFor w k
   kept_handled y leaf k level there at = kept_room k
-      (waits_handled system v h y leaf.phase (calling k level) (hand_stance v y leaf (calling k level) there at)) (roomy.handled y leaf k level there at)
+      (waits_handled system v h y leaf.phase (calling k level) (current_stance v y leaf (calling k level) there at)) (roomy.handled y leaf k level there at)
 
-  pub goes_roomy : most ≤ 16 → Each (HasRoomAsked w) waiting → ((k level : ℕ) → hand ≡ Some (calling k level) → HasRoomFor w k) → IsRoomy w
-  goes_roomy few asked at_hand =
+  pub goes_roomy : most ≤ 16 → Each (HasRoomAsked w) waiting → ((k level : ℕ) → current ≡ Some (calling k level) → HasRoomFor w k) → IsRoomy w
+  goes_roomy few asked at_current =
       record {
         small = λ y leaf there. elim (eqb_tells y x) [
           | inl e ↦ (let less = (g.own (held leaf) (ap (λ y. held_in (slice_get w.leaves y)) (sym e.1) ∙ ap held_in there)).0 in omega (arith, less, few))
@@ -65,9 +65,9 @@ module _ (system : System) (v : World) (h : IsLinkedWorld system v) (roomy : IsR
         ];
         asked = subst (Each (HasRoomAsked w)) (sym g.requests) asked;
         handled = λ y leaf k level there at. elim (eqb_tells y x) [
-          | inl e ↦ at_hand k level
+          | inl e ↦ at_current k level
               (sym (g.own (held leaf) (ap (λ y. held_in (slice_get w.leaves y)) (sym e.1) ∙ ap held_in there)).1 ∙ at)
           | inr e ↦ (let old = leaf_before v w y leaf there (g.others y e.1) in
-              kept_handled y old.0 k level old.1 (ap (λ (h : Held). h.hand) old.2 ∙ at))
+              kept_handled y old.0 k level old.1 (ap (λ (h : Held). h.current) old.2 ∙ at))
         ];
       }

@@ -6,14 +6,14 @@ use Rattle.gq_model.specs.declared.program.Section.{Section}
 use Rattle.gq_model.specs.declared.program.Section.TheVariants.{Main, Opening, Upgrading, Calling, Closing}
 use Rattle.gq_model.specs.declared.fault.Wrong.TheVariants.{WrongKind, ExceededQuota}
 use Rattle.gq_model.specs.declared.phase.Phase.TheVariants.{Handling}
-use Rattle.gq_model.specs.machine.World.{Slot, Empty, Link, Session, Hand, Leaf, World, joined, session_at, with_slot}
+use Rattle.gq_model.specs.machine.World.{Slot, Empty, Link, Session, Current, Leaf, World, joined, session_at, with_slot}
 use Rattle.gq_model.specs.machine.Sums.{paid}
 use Rattle.gq_model.specs.machine.Doing.{Doing, Quiet, standing}
 use Rattle.gq_model.specs.machine.Step.{all_empty, serving, resumed, active_again, unblocked, replied, reply_close, reply}
 use Rattle.gq_model.proofs.Small.{some_same, none_some}
 use Rattle.gq_laws.specs.Shapes.{Each}
-use Rattle.gq_laws.specs.Links.{outline, outline_in, links, requests_of, at_hand, Stands, IsLinkedWorld}
-use Rattle.gq_laws.specs.Statements.{Takes}
+use Rattle.gq_laws.specs.Links.{outline, outline_in, links, requests_of, at_current, Stands, IsLinkedWorld}
+use Rattle.gq_laws.specs.Statements.{TakesLeaf}
 use Rattle.gq_laws.proofs.linking.Events.{at_server, each_map, none_of, one_one}
 use Rattle.gq_laws.proofs.linking.Sections.{handling, was, slot_waits, not_server}
 use Rattle.gq_laws.proofs.linking.Worlds.{set_else}
@@ -23,13 +23,13 @@ use Rattle.gq_laws.specs.Room.{HasRoomFor, HasRoomAsked, calling, IsRoomy}
 use Rattle.gq_laws.proofs.room.Held.{Held, held, held_in, client_in, leaf_held, leaf_held_else, leaf_of_held, room_as}
 use Rattle.gq_laws.proofs.room.Goes.{Goes, goes_slot, goes_leaf}
 use Rattle.gq_laws.proofs.room.Waiting.{WaitsFor, waits_asked, waits_handled, not_waiting, each_both}
-use Rattle.gq_laws.proofs.room.Kept.{asked_as, leaf_before, hand_stance}
+use Rattle.gq_laws.proofs.room.Kept.{asked_as, leaf_before, current_stance}
 
--- the x-th leaf has nothing at hand any more, client c goes on with these operands, and session k may be gone; else all hold what they held
+-- the x-th leaf has no current request any more, client c goes on with these operands, and session k may be gone; else all hold what they held
 pub record Answered (v : World) (x c k : ℕ) (f : List ℕ → List ℕ) (w : World) : Type 0 where
-  pub own : (h : Held) → held_in (slice_get w.leaves x) ≡ Some h → (length h.operands ≤ 16) × (h.hand ≡ None)
+  pub own : (h : Held) → held_in (slice_get w.leaves x) ≡ Some h → (length h.operands ≤ 16) × (h.current ≡ None)
   pub client : (h : Held) → held_in (slice_get w.leaves c) ≡ Some h
-      → (old : Leaf) × (slice_get v.leaves c ≡ Some old) × (f old.operands ≡ h.operands) × (old.hand ≡ h.hand)
+      → (old : Leaf) × (slice_get v.leaves c ≡ Some old) × (f old.operands ≡ h.operands) × (old.current ≡ h.current)
   pub others : (y : ℕ) → y ≢ x → y ≢ c → held_in (slice_get w.leaves y) ≡ held_in (slice_get v.leaves y)
   pub clients : (j : ℕ) (s : Session) → j ≢ k → session_at v j ≡ Some s → client_in (session_at w j) ≡ Some s.client
   pub requests : w.requests ≡ v.requests
@@ -52,7 +52,7 @@ answered v x c k f u w ne g leaves requests sessions = go (slice_get w.leaves c)
           requests = requests ∙ g.requests;
         }
     go (Some leaf) e =
-        let new = record leaf { phase = resumed leaf.hand; operands = f leaf.operands } in
+        let new = record leaf { phase = resumed leaf.current; operands = f leaf.operands } in
         record {
           own = λ h at. g.own h (sym (same x) ∙ (sym (leaf_held_else w c x new (λ e. ne (sym e))) ∙ at));
           client = λ h at.
@@ -61,28 +61,29 @@ answered v x c k f u w ne g leaves requests sessions = go (slice_get w.leaves c)
                 old.0,
                 old.1,
                 ap (λ (h : Held). f h.operands) old.2 ∙ ap (λ (h : Held). h.operands) is,
-                ap (λ (h : Held). h.hand) old.2 ∙ ap (λ (h : Held). h.hand) is,
+                ap (λ (h : Held). h.current) old.2 ∙ ap (λ (h : Held). h.current) is,
               ));
           others = λ y other apart. leaf_held_else w c y new apart ∙ (same y ∙ g.others y other);
           clients = λ j s other there. ap client_in (sessions j other) ∙ g.clients j s there;
           requests = requests ∙ g.requests;
         }
 
-module _ (d : Doing) (t : Takes d) (h : IsLinkedWorld d.system d.world) (roomy : IsRoomy d.world)
-    (start : Goes d.world d.x 16 d.leaf.hand d.world.requests d.world)
-    (handles : d.leaf.phase ≡ Handling) (g : Hand) (hand : d.leaf.hand ≡ Some g) (s : Session) (there : session_at d.world g.session ≡ Some s) where
+module _ (d : Doing) (t : TakesLeaf d) (h : IsLinkedWorld d.system d.world) (roomy : IsRoomy d.world)
+    (start : Goes d.world d.x 16 d.leaf.current d.world.requests d.world)
+    (handles : d.leaf.phase ≡ Handling) (g : Current) (current : d.leaf.current ≡ Some g) (s : Session) (there : session_at d.world g.session ≡ Some s) where
   abbrev k : ℕ
   k = g.session
 
   server : s.server ≡ d.x
-  server = at_server d.system (links d.world) h k (outline s) (was d t h handles g hand s there) d.x Handling g (handling d t h handles g hand s there) refl
+  server = at_server d.system (links d.world) h k (outline s) (was d t h handles g current s there) d.x Handling g
+      (handling d t h handles g current s there) refl
 
   -- the session has no further request
   none_left : requests_of k d.world.requests ≡ 0
-  none_left = go (h.stands k (outline s) (was d t h handles g hand s there))
+  none_left = go (h.stands k (outline s) (was d t h handles g current s there))
     where
-      one : at_hand k ((links d.world).stances s.server) ≡ 1
-      one = ap (λ y. at_hand k ((links d.world).stances y)) server ∙ (ap (at_hand k) (handling d t h handles g hand s there) ∙ one_one k k refl)
+      one : at_current k ((links d.world).stances s.server) ≡ 1
+      one = ap (λ y. at_current k ((links d.world).stances y)) server ∙ (ap (at_current k) (handling d t h handles g current s there) ∙ one_one k k refl)
 
       go : Stands (links d.world) k (outline s) → requests_of k d.world.requests ≡ 0
       go (inl u) = let none = u.2 in absurd (omega (arith, none, one))
@@ -98,20 +99,21 @@ module _ (d : Doing) (t : Takes d) (h : IsLinkedWorld d.system d.world) (roomy :
         clients q at = ap client_in u.there ∙ (sym (a.clients j u.session ne u.there) ∙ ap client_in at)
 
         apart : u.session.client ≢ s.client
-        apart e = ne (h.alone j k (outline u.session) (outline s) (ap outline_in u.there) (was d t h handles g hand s there) u.slot
-            (slot_waits d t h handles g hand s there) e)
+        apart e = ne (h.alone j k (outline u.session) (outline s) (ap outline_in u.there) (was d t h handles g current s there) u.slot
+            (slot_waits d t h handles g current s there) e)
 
         same : (c : ℕ) → client_in (session_at d.world j) ≡ Some c → held_in (slice_get w.leaves c) ≡ held_in (slice_get d.world.leaves c)
         same c e =
             let is = some_same (sym (ap client_in u.there) ∙ e) in
-            a.others c (λ at. not_waiting d.system d.world h j u d.x Handling (Some g) (handling d t h handles g hand s there)
+            a.others c (λ at. not_waiting d.system d.world h j u d.x Handling (Some g) (handling d t h handles g current s there)
             handling_blocked (is ∙ at)) (λ at. apart (is ∙ at))
 
-    -- what another leaf had at hand
-    other_handled : (y : ℕ) (leaf : Leaf) (j level : ℕ) → y ≢ d.x → slice_get d.world.leaves y ≡ Some leaf → leaf.hand ≡ Some (calling j level) → HasRoomFor w j
+    -- the current request of another leaf
+    other_handled : (y : ℕ) (leaf : Leaf) (j level : ℕ) → y ≢ d.x → slice_get d.world.leaves y ≡ Some leaf → leaf.current ≡ Some (calling j level)
+        → HasRoomFor w j
     other_handled y leaf j level ne at same =
-        let stands = hand_stance d.world y leaf (calling j level) at same in
-        let else : j ≢ k = λ e. ne (sym (at_server d.system (links d.world) h k (outline s) (was d t h handles g hand s there) y leaf.phase (calling j level)
+        let stands = current_stance d.world y leaf (calling j level) at same in
+        let else : j ≢ k = λ e. ne (sym (at_server d.system (links d.world) h k (outline s) (was d t h handles g current s there) y leaf.phase (calling j level)
         stands e) ∙ server) in
         other_room j else (waits_handled d.system d.world h y leaf.phase (calling j level) stands) (roomy.handled y leaf j level at same)
 
@@ -126,7 +128,7 @@ module _ (d : Doing) (t : Takes d) (h : IsLinkedWorld d.system d.world) (roomy :
       ]
     ]
 
-    handled : (y : ℕ) (leaf : Leaf) (j level : ℕ) → slice_get w.leaves y ≡ Some leaf → leaf.hand ≡ Some (calling j level) → HasRoomFor w j
+    handled : (y : ℕ) (leaf : Leaf) (j level : ℕ) → slice_get w.leaves y ≡ Some leaf → leaf.current ≡ Some (calling j level) → HasRoomFor w j
     handled y leaf j level at same = elim (eqb_tells y d.x) [
       | inl e ↦ absurd (none_some
           (sym (a.own (held leaf) (ap (λ y. held_in (slice_get w.leaves y)) (sym e.1) ∙ ap held_in at)).1 ∙ same))
@@ -134,7 +136,7 @@ module _ (d : Doing) (t : Takes d) (h : IsLinkedWorld d.system d.world) (roomy :
         | inl c ↦ (let old = a.client (held leaf) (ap (λ y. held_in (slice_get w.leaves y)) (sym c.1) ∙ ap held_in at) in
             other_handled y old.0 j level e.1 (ap (slice_get d.world.leaves) c.1 ∙ old.1) (old.3 ∙ same))
         | inr c ↦ (let old = leaf_before d.world w y leaf at (a.others y e.1 c.1) in
-            other_handled y old.0 j level e.1 old.1 (ap (λ (h : Held). h.hand) old.2 ∙ same))
+            other_handled y old.0 j level e.1 old.1 (ap (λ (h : Held). h.current) old.2 ∙ same))
       ]
     ]
 
@@ -156,10 +158,10 @@ module _ (d : Doing) (t : Takes d) (h : IsLinkedWorld d.system d.world) (roomy :
 
     goes_put : Goes d.world d.x 16 None d.world.requests put
     goes_put = goes_slot d.world d.x 16 None d.world.requests (standing d (serving d.leaf)) s.spot slot
-        (goes_leaf d.world d.x 16 d.leaf.hand d.world.requests d.world (serving d.leaf) 16 None (omega arith) refl start)
+        (goes_leaf d.world d.x 16 d.leaf.current d.world.requests d.world (serving d.leaf) 16 None (omega arith) refl start)
 
   other_client : s.client ≢ d.x
-  other_client = not_server d t h handles g hand s there
+  other_client = not_server d t h handles g current s there
 
   replied_ends : (f : List ℕ → List ℕ) → ((old : Leaf) → slice_get d.world.leaves s.client ≡ Some old → length (f old.operands) ≤ 16)
       → Ends IsRoomy (replied d k s f)
@@ -183,8 +185,8 @@ module _ (d : Doing) (t : Takes d) (h : IsLinkedWorld d.system d.world) (roomy :
   reply_ends (Upgrading l) e = replied_ends (λ operands. operands) same_few
   reply_ends (Calling l) e = pop_ends IsRoomy _ _ (λ a rest. replied_ends (λ operands. a ∷ operands) (one_more a))
     where
-      called : t.old.hand ≡ Some (calling k l)
-      called = sym t.hand ∙ (hand ∙ ap (λ section. Some (record { session = k; section = section })) e)
+      called : t.old.current ≡ Some (calling k l)
+      called = sym t.current ∙ (current ∙ ap (λ section. Some (record { session = k; section = section })) e)
 
       one_more : (a : ℕ) (old : Leaf) → slice_get d.world.leaves s.client ≡ Some old → length (a ∷ old.operands) ≤ 16
       one_more a old at = let room = roomy.handled d.x t.old k l t.there called s old there at in omega (arith, room)

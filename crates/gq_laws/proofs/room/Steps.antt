@@ -19,7 +19,7 @@ use Rattle.gq_model.specs.machine.Requests.{open_session, upgrade, call, close, 
 use Rattle.gq_model.specs.machine.Step.{instruct}
 use Rattle.gq_model.proofs.Small.{some_same, none_some}
 use Rattle.gq_laws.specs.Links.{IsLinkedWorld}
-use Rattle.gq_laws.specs.Statements.{Takes}
+use Rattle.gq_laws.specs.Statements.{TakesLeaf}
 use Rattle.gq_laws.proofs.linking.Events.{each_end}
 use Rattle.gq_laws.proofs.linking.Opens.{free_at, free_slot, add_else, fill_found}
 use Rattle.gq_laws.proofs.linking.Quiet.{stood, IsQuiet, when_found}
@@ -54,7 +54,7 @@ no_more rest few = omega (arith, few)
 
 -- P holds of the world before the step, and of it once the leaf stands there with at most 16 operands, whatever is written to slots
 module _ (d : Doing) (P : World → Type 0) (few : length d.leaf.operands ≤ 16) (here : P d.world)
-    (stands : (leaf : Leaf) → length leaf.operands ≤ 16 → leaf.hand ≡ d.leaf.hand → P (standing d leaf))
+    (stands : (leaf : Leaf) → length leaf.operands ≤ 16 → leaf.current ≡ d.leaf.current → P (standing d leaf))
     (written : (w : World) (q : Spot) (slot : Slot) → P w → P (with_slot w q slot)) (settles : (w : World) → P w → Ends P (settled d.system d.x w)) where
   with_few : (operands : List ℕ) → length operands ≤ 16 → P (standing d (with_operands d operands))
   with_few operands less = stands (with_operands d operands) less refl
@@ -89,39 +89,39 @@ module _ (d : Doing) (P : World → Type 0) (few : length d.leaf.operands ≤ 16
     few,
   ) depth 14
 
-module _ (d : Doing) (few : length d.leaf.operands ≤ 16) (start : Goes d.world d.x 16 d.leaf.hand d.world.requests d.world) where
+module _ (d : Doing) (few : length d.leaf.operands ≤ 16) (start : Goes d.world d.x 16 d.leaf.current d.world.requests d.world) where
   abbrev pub P : World → Type 0
-  P = Goes d.world d.x 16 d.leaf.hand d.world.requests
+  P = Goes d.world d.x 16 d.leaf.current d.world.requests
 
-  pub stands : (leaf : Leaf) → length leaf.operands ≤ 16 → leaf.hand ≡ d.leaf.hand → P (standing d leaf)
-  stands leaf less same = goes_leaf d.world d.x 16 d.leaf.hand d.world.requests d.world leaf 16 d.leaf.hand less same start
+  pub stands : (leaf : Leaf) → length leaf.operands ≤ 16 → leaf.current ≡ d.leaf.current → P (standing d leaf)
+  stands leaf less same = goes_leaf d.world d.x 16 d.leaf.current d.world.requests d.world leaf 16 d.leaf.current less same start
 
   pub quiet_goes : (i : Instruction) → IsQuiet i → Ends P (instruct d i)
-  quiet_goes i quiet = quiet_by d P few start stands (goes_slot d.world d.x 16 d.leaf.hand d.world.requests)
-      (goes_settled d.world d.x 16 d.leaf.hand d.world.requests d.system) i quiet
+  quiet_goes i quiet = quiet_by d P few start stands (goes_slot d.world d.x 16 d.leaf.current d.world.requests)
+      (goes_settled d.world d.x 16 d.leaf.current d.world.requests d.system) i quiet
 
 -- REQUESTS
 
-module _ (d : Doing) (t : Takes d) (active : d.leaf.phase ≢ Blocked) (h : IsLinkedWorld d.system d.world) (roomy : IsRoomy d.world)
-    (few : length d.leaf.operands ≤ 16) (start : Goes d.world d.x 16 d.leaf.hand d.world.requests d.world) where
-  pub calm_roomy : (w : World) → Goes d.world d.x 16 d.leaf.hand d.world.requests w → IsRoomy w
+module _ (d : Doing) (t : TakesLeaf d) (active : d.leaf.phase ≢ Blocked) (h : IsLinkedWorld d.system d.world) (roomy : IsRoomy d.world)
+    (few : length d.leaf.operands ≤ 16) (start : Goes d.world d.x 16 d.leaf.current d.world.requests d.world) where
+  pub calm_roomy : (w : World) → Goes d.world d.x 16 d.leaf.current d.world.requests w → IsRoomy w
   calm_roomy w g =
-      goes_roomy d.system d.world h roomy d.x d.leaf.phase d.leaf.hand (stood d t) active 16 d.leaf.hand d.world.requests w g (omega arith)
-      (kept_asked d.system d.world h roomy d.x d.leaf.phase d.leaf.hand (stood d t) active 16 d.leaf.hand d.world.requests w g)
-      (λ k level at. kept_handled d.system d.world h roomy d.x d.leaf.phase d.leaf.hand (stood d t) active 16 d.leaf.hand d.world.requests w g
-      d.x t.old k level t.there (sym t.hand ∙ at))
+      goes_roomy d.system d.world h roomy d.x d.leaf.phase d.leaf.current (stood d t) active 16 d.leaf.current d.world.requests w g (omega arith)
+      (kept_asked d.system d.world h roomy d.x d.leaf.phase d.leaf.current (stood d t) active 16 d.leaf.current d.world.requests w g)
+      (λ k level at. kept_handled d.system d.world h roomy d.x d.leaf.phase d.leaf.current (stood d t) active 16 d.leaf.current d.world.requests w g
+      d.x t.old k level t.there (sym t.current ∙ at))
 
-  pub calm_ends : (r : Stepped) → Ends (Goes d.world d.x 16 d.leaf.hand d.world.requests) r → Ends IsRoomy r
+  pub calm_ends : (r : Stepped) → Ends (Goes d.world d.x 16 d.leaf.current d.world.requests) r → Ends IsRoomy r
   calm_ends r e = record { holds = λ w event q. calm_roomy w (e.holds w event q) }
 
   -- the leaf asks something in this world, with these operands
-  module _ (operands : List ℕ) (less : length operands ≤ 16) (w : World) (g : Goes d.world d.x 16 d.leaf.hand d.world.requests w) (q : Spot) (k : ℕ) where
+  module _ (operands : List ℕ) (less : length operands ≤ 16) (w : World) (g : Goes d.world d.x 16 d.leaf.current d.world.requests w) (q : Spot) (k : ℕ) where
     abbrev e : Doing
     e = record d { leaf = with_operands d operands }
 
-    asked_goes : (ask : Ask) (most : ℕ) → length operands ≤ most → Goes d.world d.x most d.leaf.hand
+    asked_goes : (ask : Ask) (most : ℕ) → length operands ≤ most → Goes d.world d.x most d.leaf.current
         (d.world.requests ++ record { session = k; ask = ask } ∷ []) (asked_world e w q k ask)
-    asked_goes ask most small = goes_asked e d.world 16 most d.leaf.hand d.world.requests w q k ask small g
+    asked_goes ask most small = goes_asked e d.world 16 most d.leaf.current d.world.requests w q k ask small g
 
     asked_roomy : (ask : Ask) → HasRoomIfCalled (asked_world e w q k ask) k ask → Ends IsRoomy (asked e w q k ask)
     asked_roomy ask room =
@@ -129,11 +129,11 @@ module _ (d : Doing) (t : Takes d) (active : d.leaf.phase ≢ Blocked) (h : IsLi
         let rs = d.world.requests ++ record { session = k; ask = ask } ∷ [] in
         let a = asked_goes ask 16 less in
         ends_asked IsRoomy e w q k ask
-        (goes_roomy d.system d.world h roomy d.x d.leaf.phase d.leaf.hand (stood d t) active 16 d.leaf.hand rs v a (omega arith)
+        (goes_roomy d.system d.world h roomy d.x d.leaf.phase d.leaf.current (stood d t) active 16 d.leaf.current rs v a (omega arith)
         (each_end (HasRoomAsked v) d.world.requests _
-        (kept_asked d.system d.world h roomy d.x d.leaf.phase d.leaf.hand (stood d t) active 16 d.leaf.hand rs v a) room)
-        (λ j level at. kept_handled d.system d.world h roomy d.x d.leaf.phase d.leaf.hand (stood d t) active 16 d.leaf.hand rs v a
-        d.x t.old j level t.there (sym t.hand ∙ at)))
+        (kept_asked d.system d.world h roomy d.x d.leaf.phase d.leaf.current (stood d t) active 16 d.leaf.current rs v a) room)
+        (λ j level at. kept_handled d.system d.world h roomy d.x d.leaf.phase d.leaf.current (stood d t) active 16 d.leaf.current rs v a
+        d.x t.old j level t.there (sym t.current ∙ at)))
 
     -- a call leaves room for its reply
     call_room : (value : ℕ) → length operands ≤ 15 → (s : Session) → session_at d.world k ≡ Some s → s.client ≡ d.x
@@ -151,7 +151,7 @@ module _ (d : Doing) (t : Takes d) (active : d.leaf.phase ≢ Blocked) (h : IsLi
   upgrade_ends place n = need_found IsRoomy _ _ _ (λ q at. link_found IsRoomy d.world q _ (λ k s link there.
       let given = plus s.donation (amount n (upgrade_caps (interface_in s.service d.system.interfaces) s.level)) in
       asked_roomy d.leaf.operands few (with_session d.world k (record s { donation = given }))
-      (goes_session d.world d.x 16 d.leaf.hand d.world.requests d.world k s (record s { donation = given }) there refl start) q k Ask_upgrade tt))
+      (goes_session d.world d.x 16 d.leaf.current d.world.requests d.world k s (record s { donation = given }) there refl start) q k Ask_upgrade tt))
 
   call_ends : (place : Place) → Ends IsRoomy (call d place)
   call_ends place = pop_few IsRoomy _ _ few (λ a rest less. need_found IsRoomy _ _ _ (λ q at. link_found IsRoomy d.world q _ (λ k s link there.
@@ -159,8 +159,8 @@ module _ (d : Doing) (t : Takes d) (active : d.leaf.phase ≢ Blocked) (h : IsLi
       (link_ready d t active h place q at k s link there s.donation (Ask_call a) refl).client))))
 
   -- a session at a place that was free is no other's
-  added_goes : (s : Session) (w : World) → free_place w.sessions ≡ free_place d.world.sessions → Goes d.world d.x 16 d.leaf.hand d.world.requests w
-      → Goes d.world d.x 16 d.leaf.hand d.world.requests (record w { sessions = add_session s w.sessions })
+  added_goes : (s : Session) (w : World) → free_place w.sessions ≡ free_place d.world.sessions → Goes d.world d.x 16 d.leaf.current d.world.requests w
+      → Goes d.world d.x 16 d.leaf.current d.world.requests (record w { sessions = add_session s w.sessions })
   added_goes s w same g =
       record {
         own = g.own;
@@ -182,11 +182,11 @@ module _ (d : Doing) (t : Takes d) (active : d.leaf.phase ≢ Blocked) (h : IsLi
       let filled = with_slot d.world q (Waiting k) in
       asked_roomy d.leaf.operands few _
       (added_goes (new_session d.x q server service given) filled (free_slot d.world q (Waiting k))
-      (goes_slot d.world d.x 16 d.leaf.hand d.world.requests d.world q (Waiting k) start)) q k Ask_open tt
+      (goes_slot d.world d.x 16 d.leaf.current d.world.requests d.world q (Waiting k) start)) q k Ask_open tt
 
   open_ends : (place : Place) (service : List ℕ) (n : ℕ) → Ends IsRoomy (open_session d place service n)
   open_ends place service n =
-      need_found IsRoomy (spot_of d.x d.leaf.hand place) WrongKind _ (λ q at. fill_found IsRoomy d.world q (Waiting (free_place d.world.sessions)) _
+      need_found IsRoomy (spot_of d.x d.leaf.current place) WrongKind _ (λ q at. fill_found IsRoomy d.world q (Waiting (free_place d.world.sessions)) _
       (λ empty. need_found IsRoomy (server_of d.system d.component service) WrongKind _
       (λ server found. new_ends q service (amount n (open_caps (interface_in service d.system.interfaces))) server)))
 

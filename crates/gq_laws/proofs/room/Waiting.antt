@@ -3,7 +3,7 @@ use Rattle.std.proofs.Common.{◌≡◌, ◌≢◌, ℕ, ◌≤◌, inl, inr, Li
 use Rattle.gq_model.specs.declared.phase.Phase.{Phase}
 use Rattle.gq_model.specs.declared.phase.Phase.TheVariants.{Blocked}
 use Rattle.gq_model.specs.machine.Scenario.{System}
-use Rattle.gq_model.specs.machine.World.{Session, Request, Hand, World, session_at}
+use Rattle.gq_model.specs.machine.World.{Session, Request, Current, World, session_at}
 use Rattle.gq_laws.specs.Shapes.{Each}
 use Rattle.gq_laws.specs.Links.{Waits, outline, outline_in, stance, links, requests_of, Stands, IsAsked, IsLinkedWorld}
 use Rattle.gq_laws.proofs.linking.Events.{one_one, same_phase, each_map}
@@ -14,8 +14,8 @@ pub record WaitsFor (v : World) (k : ℕ) : Type 0 where
   pub session : Session
   pub there : session_at v k ≡ Some session
   pub slot : (links v).slots session.spot ≡ Some (Waits k)
-  pub hand : Option Hand
-  pub blocked : (links v).stances session.client ≡ Some (stance Blocked hand)
+  pub current : Option Current
+  pub blocked : (links v).stances session.client ≡ Some (stance Blocked current)
 
 pub each_both : {A : Type 0} (P Q : A → Type 0) (items : List A) → Each P items → Each Q items → Each (λ a. P a × Q a) items
 each_both P Q [] p q = tt
@@ -33,7 +33,7 @@ module _ (system : System) (v : World) (h : IsLinkedWorld system v) where
   waits_slot : (k : ℕ) (s : Session) → session_at v k ≡ Some s → (links v).slots s.spot ≡ Some (Waits k) → WaitsFor v k
   waits_slot k s there slot =
       let w = h.waits k (outline s) (ap outline_in there) slot in
-      record { session = s; there = there; slot = slot; hand = w.0; blocked = w.1 }
+      record { session = s; there = there; slot = slot; current = w.0; blocked = w.1 }
 
   waits_request : (r : Request) → IsAsked (links v) r × (1 ≤ requests_of r.session v.requests) → WaitsFor v r.session
   waits_request r p = go (session_of_outline (session_at v r.session) p.0.0 p.0.1)
@@ -51,13 +51,13 @@ module _ (system : System) (v : World) (h : IsLinkedWorld system v) where
       (each_both (IsAsked (links v)) (λ r. 1 ≤ requests_of r.session v.requests) v.requests h.asked
       (each_counted v.requests v.requests (λ k. omega arith)))
 
-  pub waits_handled : (y : ℕ) (p : Phase) (g : Hand) → (links v).stances y ≡ Some (stance p (Some g)) → WaitsFor v g.session
+  pub waits_handled : (y : ℕ) (p : Phase) (g : Current) → (links v).stances y ≡ Some (stance p (Some g)) → WaitsFor v g.session
   waits_handled y p g at =
       let t = h.handles y p g at in
       let s = session_of_outline (session_at v g.session) t.0 t.1 in
       waits_slot g.session s.0 s.1 (handled_waits system (links v) h y p g (outline s.0) at (ap outline_in s.1))
 
   -- a leaf that is not blocked waits for nothing
-  pub not_waiting : (k : ℕ) (u : WaitsFor v k) (x : ℕ) (phase : Phase) (hand : Option Hand) → (links v).stances x ≡ Some (stance phase hand)
+  pub not_waiting : (k : ℕ) (u : WaitsFor v k) (x : ℕ) (phase : Phase) (current : Option Current) → (links v).stances x ≡ Some (stance phase current)
       → phase ≢ Blocked → u.session.client ≢ x
-  not_waiting k u x phase hand at ne same = ne (same_phase (sym at ∙ ap (links v).stances (sym same) ∙ u.blocked))
+  not_waiting k u x phase current at ne same = ne (same_phase (sym at ∙ ap (links v).stances (sym same) ∙ u.blocked))

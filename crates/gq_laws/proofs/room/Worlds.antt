@@ -9,13 +9,13 @@ use Rattle.gq_model.specs.declared.phase.Phase.{Phase}
 use Rattle.gq_model.specs.declared.phase.Phase.TheVariants.{Pending, Running, Blocked, Serving, Handling, Exited}
 use Rattle.gq_model.specs.machine.Program.{Statements, Done, Do, If, Loop}
 use Rattle.gq_model.specs.machine.Scenario.{System, Component}
-use Rattle.gq_model.specs.machine.World.{Session, Ask, Ask_open, Ask_upgrade, Ask_close, Ask_call, Request, Hand, Round, Leaf, World, start, session_at}
+use Rattle.gq_model.specs.machine.World.{Session, Ask, Ask_open, Ask_upgrade, Ask_close, Ask_call, Request, Current, Round, Leaf, World, start, session_at}
 use Rattle.gq_model.specs.machine.Doing.{Doing, Event, Quiet, Finished, standing}
 use Rattle.gq_model.specs.machine.Step.{oldest, section_for, first_operands, accepted_as, serving, no_link, exited, exit_of, main_ended, section_ended}
 use Rattle.gq_model.specs.machine.Step.{body_ended, perform, accept, accept_oldest, step_in, step_of, next}
 use Rattle.gq_model.proofs.Small.{some_same, none_some}
 use Rattle.gq_laws.specs.Links.{stance, Fits, IsLinkedWorld}
-use Rattle.gq_laws.specs.Statements.{Takes}
+use Rattle.gq_laws.specs.Statements.{TakesLeaf}
 use Rattle.gq_laws.proofs.linking.Accepted.{Found, oldest_found}
 use Rattle.gq_laws.proofs.linking.Linking.{handling_with}
 use Rattle.gq_laws.proofs.linking.Quiet.{stood}
@@ -30,11 +30,11 @@ use Rattle.gq_laws.proofs.room.Replied.{reply_ends}
 use Rattle.gq_laws.proofs.room.Steps.{pop_few, no_more, stands, calm_roomy, instruct_ends}
 
 -- before its step a leaf holds what it holds in the world
-goes_start : (d : Doing) (t : Takes d) → IsRoomy d.world → Goes d.world d.x 16 d.leaf.hand d.world.requests d.world
+goes_start : (d : Doing) (t : TakesLeaf d) → IsRoomy d.world → Goes d.world d.x 16 d.leaf.current d.world.requests d.world
 goes_start d t roomy =
     record {
-      own = λ h e. subst (λ (h : Held). (length h.operands ≤ 16) × (h.hand ≡ d.leaf.hand)) (some_same (sym (ap held_in t.there) ∙ e))
-          (roomy.small d.x t.old t.there, sym t.hand);
+      own = λ h e. subst (λ (h : Held). (length h.operands ≤ 16) × (h.current ≡ d.leaf.current)) (some_same (sym (ap held_in t.there) ∙ e))
+          (roomy.small d.x t.old t.there, sym t.current);
       others = λ y ne. refl;
       clients = λ k s e. ap client_in e;
       requests = refl;
@@ -42,16 +42,16 @@ goes_start d t roomy =
 
 -- THE END OF A SECTION
 
-module _ (d : Doing) (t : Takes d) (active : d.leaf.phase ≢ Blocked) (h : IsLinkedWorld d.system d.world) (roomy : IsRoomy d.world)
+module _ (d : Doing) (t : TakesLeaf d) (active : d.leaf.phase ≢ Blocked) (h : IsLinkedWorld d.system d.world) (roomy : IsRoomy d.world)
     (few : length d.leaf.operands ≤ 16) where
-  start_at : Goes d.world d.x 16 d.leaf.hand d.world.requests d.world
+  start_at : Goes d.world d.x 16 d.leaf.current d.world.requests d.world
   start_at = goes_start d t roomy
 
-  calm : (w : World) → Goes d.world d.x 16 d.leaf.hand d.world.requests w → IsRoomy w
+  calm : (w : World) → Goes d.world d.x 16 d.leaf.current d.world.requests w → IsRoomy w
   calm w g = calm_roomy d t active h roomy few start_at w g
 
   -- the leaf stands there with at most 16 operands
-  stands_roomy : (leaf : Leaf) → length leaf.operands ≤ 16 → leaf.hand ≡ d.leaf.hand → IsRoomy (standing d leaf)
+  stands_roomy : (leaf : Leaf) → length leaf.operands ≤ 16 → leaf.current ≡ d.leaf.current → IsRoomy (standing d leaf)
   stands_roomy leaf less same = calm (standing d leaf) (stands d few start_at leaf less same)
 
   exit_roomy : IsRoomy (exit_of d)
@@ -67,18 +67,18 @@ module _ (d : Doing) (t : Takes d) (active : d.leaf.phase ≢ Blocked) (h : IsLi
         requests = g.requests;
       })
 
-  main_ends : d.leaf.hand ≡ None → (provides : Option (List ℕ)) → Ends IsRoomy (main_ended d provides)
+  main_ends : d.leaf.current ≡ None → (provides : Option (List ℕ)) → Ends IsRoomy (main_ended d provides)
   main_ends free (Some service) = gives _ Quiet (stands_roomy (serving d.leaf) (omega arith) (sym free))
   main_ends free None = when_ends IsRoomy (no_link d.leaf.slots) WrongKind _ (gives (exit_of d) Finished exit_roomy)
 
-  section_ends : (hand : Option Hand) → d.leaf.hand ≡ hand → Ends IsRoomy (section_ended d hand)
+  section_ends : (current : Option Current) → d.leaf.current ≡ current → Ends IsRoomy (section_ended d current)
   section_ends None e = main_ends e d.component.node.provides
   section_ends (Some g) e = need_found IsRoomy (session_at d.world g.session) WrongKind _
       (λ s there. reply_ends d t h roomy start_at (handling_with d.leaf.phase g
-      (subst (Fits d.leaf.phase) e (h.fits d.x (stance d.leaf.phase d.leaf.hand) (stood d t))) active) g e s there g.section refl)
+      (subst (Fits d.leaf.phase) e (h.fits d.x (stance d.leaf.phase d.leaf.current) (stood d t))) active) g e s there g.section refl)
 
   body_ends : (loops : List Round) → Ends IsRoomy (body_ended d loops)
-  body_ends [] = section_ends d.leaf.hand refl
+  body_ends [] = section_ends d.leaf.current refl
   body_ends (r ∷ loops) = by_round (nat_lt (suc r.round) r.count)
     where
       by_round : (b : Bool) → Ends IsRoomy (Ok (
@@ -91,32 +91,32 @@ module _ (d : Doing) (t : Takes d) (active : d.leaf.phase ≢ Blocked) (h : IsLi
 
 -- ACCEPTANCE
 
-module _ (d : Doing) (t : Takes d) (serves : d.leaf.phase ≡ Serving) (h : IsLinkedWorld d.system d.world) (roomy : IsRoomy d.world) where
+module _ (d : Doing) (t : TakesLeaf d) (serves : d.leaf.phase ≡ Serving) (h : IsLinkedWorld d.system d.world) (roomy : IsRoomy d.world) where
   active : d.leaf.phase ≢ Blocked
   active e = serving_blocked (sym serves ∙ e)
     where
       serving_blocked : Serving ≢ Blocked
       serving_blocked e = cc
 
-  abbrev at_hand : ℕ → Section → Hand
-  at_hand k section = record { session = k; section = section }
+  abbrev at_current : ℕ → Section → Current
+  at_current k section = record { session = k; section = section }
 
-  -- what is at hand for a call is a call that was asked
-  called : (ask : Ask) (k j l level : ℕ) (w : World) → HasRoomIfCalled w k ask → Some (at_hand k (section_for ask l)) ≡ Some (calling j level)
+  -- what is current for a call is a call that was asked
+  called : (ask : Ask) (k j l level : ℕ) (w : World) → HasRoomIfCalled w k ask → Some (at_current k (section_for ask l)) ≡ Some (calling j level)
       → HasRoomFor w j
-  called Ask_open k j l level w room e = absurd (opening_calling (ap (λ (g : Hand). g.section) (some_same e)))
+  called Ask_open k j l level w room e = absurd (opening_calling (ap (λ (g : Current). g.section) (some_same e)))
     where
       opening_calling : Opening ≢ Calling level
       opening_calling e = cc
-  called Ask_upgrade k j l level w room e = absurd (upgrading_calling (ap (λ (g : Hand). g.section) (some_same e)))
+  called Ask_upgrade k j l level w room e = absurd (upgrading_calling (ap (λ (g : Current). g.section) (some_same e)))
     where
       upgrading_calling : Upgrading l ≢ Calling level
       upgrading_calling e = cc
-  called Ask_close k j l level w room e = absurd (closing_calling (ap (λ (g : Hand). g.section) (some_same e)))
+  called Ask_close k j l level w room e = absurd (closing_calling (ap (λ (g : Current). g.section) (some_same e)))
     where
       closing_calling : Closing l ≢ Calling level
       closing_calling e = cc
-  called (Ask_call value) k j l level w room e = subst (HasRoomFor w) (ap (λ (g : Hand). g.session) (some_same e)) room
+  called (Ask_call value) k j l level w room e = subst (HasRoomFor w) (ap (λ (g : Current). g.session) (some_same e)) room
 
   first_few : (ask : Ask) → length (first_operands ask) ≤ 16
   first_few Ask_open = omega arith
@@ -132,12 +132,12 @@ module _ (d : Doing) (t : Takes d) (serves : d.leaf.phase ≡ Serving) (h : IsLi
 
   module _ (r : Request) (rest : List Request) (found : oldest d.world d.x d.world.requests ≡ Some (r, rest)) (old : Session)
       (there : session_at d.world r.session ≡ Some old) where
-    taken_goes : Goes d.world d.x 16 (begun d r old).hand rest (taken d r rest old)
+    taken_goes : Goes d.world d.x 16 (begun d r old).current rest (taken d r rest old)
     taken_goes =
-        goes_session d.world d.x 16 (begun d r old).hand rest (record (standing d (begun d r old)) { requests = rest }) r.session old
+        goes_session d.world d.x 16 (begun d r old).current rest (record (standing d (begun d r old)) { requests = rest }) r.session old
         (accepted_as d.system r.ask old) there (same_client r.ask old)
-        (goes_requests d.world d.x 16 (begun d r old).hand d.world.requests (standing d (begun d r old)) rest
-        (goes_leaf d.world d.x 16 d.leaf.hand d.world.requests d.world (begun d r old) 16 (begun d r old).hand (first_few r.ask) refl
+        (goes_requests d.world d.x 16 (begun d r old).current d.world.requests (standing d (begun d r old)) rest
+        (goes_leaf d.world d.x 16 d.leaf.current d.world.requests d.world (begun d r old) 16 (begun d r old).current (first_few r.ask) refl
         (goes_start d t roomy)))
 
     abbrev was : World
@@ -150,13 +150,13 @@ module _ (d : Doing) (t : Takes d) (serves : d.leaf.phase ≡ Serving) (h : IsLi
     taken_roomy : IsRoomy (taken d r rest old)
     taken_roomy =
         let new = taken d r rest old in
-        let hand = (begun d r old).hand in
-        goes_roomy d.system was h roomy d.x d.leaf.phase d.leaf.hand (stood d t) active 16 hand rest new taken_goes (omega arith)
+        let current = (begun d r old).current in
+        goes_roomy d.system was h roomy d.x d.leaf.phase d.leaf.current (stood d t) active 16 current rest new taken_goes (omega arith)
         ((found_in (HasRoomAsked new)).left
-        (kept_asked d.system was h roomy d.x d.leaf.phase d.leaf.hand (stood d t) active 16 hand rest new taken_goes))
+        (kept_asked d.system was h roomy d.x d.leaf.phase d.leaf.current (stood d t) active 16 current rest new taken_goes))
         (λ j level at. called r.ask r.session j (accepted_as d.system r.ask old).level level new
         ((found_in (HasRoomAsked new)).first
-        (kept_asked d.system was h roomy d.x d.leaf.phase d.leaf.hand (stood d t) active 16 hand rest new taken_goes)) at)
+        (kept_asked d.system was h roomy d.x d.leaf.phase d.leaf.current (stood d t) active 16 current rest new taken_goes)) at)
 
   accept_ends : (r : Request) (rest : List Request) → oldest d.world d.x d.world.requests ≡ Some (r, rest) → Ends IsRoomy (accept d r rest)
   accept_ends r rest e = accept_by IsRoomy d r rest (λ old there. taken_roomy r rest e old there)
@@ -167,12 +167,12 @@ module _ (d : Doing) (t : Takes d) (serves : d.leaf.phase ≡ Serving) (h : IsLi
 
 -- STEPS
 
-module _ (d : Doing) (t : Takes d) (h : IsLinkedWorld d.system d.world) (roomy : IsRoomy d.world) (few : length d.leaf.operands ≤ 16) where
+module _ (d : Doing) (t : TakesLeaf d) (h : IsLinkedWorld d.system d.world) (roomy : IsRoomy d.world) (few : length d.leaf.operands ≤ 16) where
   perform_ends : d.leaf.phase ≢ Blocked → (todo : Statements) → Ends IsRoomy (perform d todo)
   perform_ends active Done = body_ends d t active h roomy few d.leaf.loops
   perform_ends active (Do i rest) =
       let e : Doing = record d { leaf = record d.leaf { todo = rest } } in
-      let u : Takes e = record { old = t.old; there = t.there; slots = t.slots; phase = t.phase; hand = t.hand } in
+      let u : TakesLeaf e = record { old = t.old; there = t.there; slots = t.slots; phase = t.phase; current = t.current } in
       instruct_ends e u active h roomy few (goes_start e u roomy) i
   perform_ends active (If arm other rest) = pop_few IsRoomy _ _ few (λ a below less.
       gives _ Quiet (stands_roomy d t active h roomy few _ (no_more below less) refl))
@@ -190,7 +190,7 @@ next_by : (system : System) (w : World) (x : ℕ) (c : Option Component) (leaf :
     → slice_get w.leaves x ≡ leaf → Ends IsRoomy (step_of system w x c leaf)
 next_by system w x (Some c) (Some leaf) h roomy there =
     step_ends (record { system = system; world = w; x = x; component = c; leaf = record leaf { steps = suc leaf.steps } })
-    (record { old = leaf; there = there; slots = refl; phase = refl; hand = refl }) h roomy (roomy.small x leaf there) leaf.phase refl
+    (record { old = leaf; there = there; slots = refl; phase = refl; current = refl }) h roomy (roomy.small x leaf there) leaf.phase refl
 next_by system w x (Some c) None h roomy there = gives _ _ roomy
 next_by system w x None leaf h roomy there = gives _ _ roomy
 
@@ -208,5 +208,5 @@ start_roomy system =
           subst (λ (h : Held). length h.operands ≤ 16) none (omega arith));
       asked = tt;
       handled = λ x leaf k level there at. (let none = start_held system.components x (held leaf) (ap held_in there) in
-          absurd (none_some (ap (λ (h : Held). h.hand) none ∙ at)));
+          absurd (none_some (ap (λ (h : Held). h.current) none ∙ at)));
     }

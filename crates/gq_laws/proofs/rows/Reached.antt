@@ -7,7 +7,7 @@ use Rattle.gq_model.specs.declared.phase.Phase.{Phase}
 use Rattle.gq_model.specs.declared.phase.Phase.TheVariants.{Handling}
 use Rattle.gq_model.specs.declared.program.Section.TheVariants.{Closing}
 use Rattle.gq_model.specs.machine.Scenario.{Scenario, system}
-use Rattle.gq_model.specs.machine.World.{Bytes, In_leaf, Session, Hand, Leaf, World, with_slot, start}
+use Rattle.gq_model.specs.machine.World.{Bytes, In_leaf, Session, Current, Leaf, World, with_slot, start}
 use Rattle.gq_model.specs.machine.Run.{run}
 use Rattle.gq_model.specs.machine.Sums.{paid}
 use Rattle.gq_model.specs.machine.Accounts.{accounts}
@@ -15,7 +15,7 @@ use Rattle.gq_model.specs.rules.Resolve.{Quanta_exceed, unresolved}
 use Rattle.gq_model.specs.Promises.{quota_at, held_at}
 use Rattle.gq_model.proofs.Samples.{echo_of, echo_turns, scenario, leaves, leaf, main_of}
 use Rattle.gq_laws.specs.Reached.{IsReached}
-use Rattle.gq_laws.specs.Links.{Naming, Leads, Waits, links, requests_of, at_hand}
+use Rattle.gq_laws.specs.Links.{Naming, Leads, Waits, links, requests_of, at_current}
 
 abbrev after : List (ℕ × ℕ) → World
 after turns = (run (system (echo_of 8192)) turns).world
@@ -44,12 +44,12 @@ slot_waits : (slot_of_client [] ≡ None) × (slot_of_client ((0, 1) ∷ (1, 1) 
     × (slot_of_client ((0, 1) ∷ (1, 1) ∷ (0, 2) ∷ []) ≡ Some (Leads 0)) × (slot_of_client echo_turns ≡ None)
 slot_waits = (refl, refl, refl, refl)
 
--- the request to open waits, is at the server's hand, and is done; then the session has none
-abbrev requests_and_hand : List (ℕ × ℕ) → ℕ × ℕ
-requests_and_hand turns = let l = links (after turns) in (requests_of 0 l.requests, at_hand 0 (l.stances 0))
+-- the request to open waits, is current at the server, and is done; then the session has none
+abbrev requests_and_current : List (ℕ × ℕ) → ℕ × ℕ
+requests_and_current turns = let l = links (after turns) in (requests_of 0 l.requests, at_current 0 (l.stances 0))
 
-one_request : (requests_and_hand ((0, 1) ∷ (1, 1) ∷ []) ≡ (1, 0)) × (requests_and_hand ((0, 1) ∷ (1, 1) ∷ (0, 1) ∷ []) ≡ (0, 1))
-    × (requests_and_hand ((0, 1) ∷ (1, 1) ∷ (0, 2) ∷ []) ≡ (0, 0))
+one_request : (requests_and_current ((0, 1) ∷ (1, 1) ∷ []) ≡ (1, 0)) × (requests_and_current ((0, 1) ∷ (1, 1) ∷ (0, 1) ∷ []) ≡ (0, 1))
+    × (requests_and_current ((0, 1) ∷ (1, 1) ∷ (0, 2) ∷ []) ≡ (0, 0))
 one_request = (refl, refl, refl)
 
 -- QUOTAS
@@ -82,12 +82,12 @@ held_before = refl
 held_after : held_at Ram (surplus ((0, 1) ∷ (1, 1) ∷ (0, 2) ∷ (1, 2) ∷ (0, 4) ∷ (1, 2) ∷ (0, 2) ∷ [])) 0 ≡ 0
 held_after = refl
 
-abbrev phase_and_hand : Option Leaf → Option (Phase × Option Hand)
-phase_and_hand None = None
-phase_and_hand (Some leaf) = Some (leaf.phase, leaf.hand)
+abbrev phase_and_current : Option Leaf → Option (Phase × Option Current)
+phase_and_current None = None
+phase_and_current (Some leaf) = Some (leaf.phase, leaf.current)
 
 -- so it is at the end of the close of session 0, and its next turn ends the session
-at_close : phase_and_hand (slice_get closing.leaves 0) ≡ Some (Handling, Some (record { session = 0; section = Closing 0 }))
+at_close : phase_and_current (slice_get closing.leaves 0) ≡ Some (Handling, Some (record { session = 0; section = Closing 0 }))
 at_close = refl
 
 is_there : map ends_of closing.sessions ≡ (1, 0) ∷ []

@@ -16,7 +16,7 @@ use Rattle.gq_model.specs.rules.Use.{subject}
 use Rattle.gq_model.specs.rules.Kinds.{Kind, Link_kind, Empty_kind, State, Context, no_kinds}
 use Rattle.gq_model.specs.rules.Flow.{context, flow, state_or}
 use Rattle.gq_model.proofs.Samples.{good_log, log_client}
-use Rattle.gq_laws.specs.Statements.{IsSafe, Takes, Grants, LeadsOn}
+use Rattle.gq_laws.specs.Statements.{IsSafe, TakesLeaf, Grants, LeadsOn}
 use Rattle.gq_laws.specs.Typed.{AreKinds, IsLinkKind, HasBuffer, PromisesLinks, SharesBuffers, Meets}
 use Rattle.gq_model.proofs.Small.{some_same, none_some}
 use Rattle.gq_laws.proofs.gathering.Reaching.{in_reached}
@@ -42,7 +42,7 @@ the a None = a
 the a (Some b) = b
 
 abbrev client : Leaf
-client = the (record { phase = Running; hand = None; todo = Done; loops = []; operands = []; locals = []; slots = []; peaks = []; steps = 0 })
+client = the (record { phase = Running; current = None; todo = Done; loops = []; operands = []; locals = []; slots = []; peaks = []; steps = 0 })
     (slice_get w.leaves 1)
 
 abbrev d : Doing
@@ -69,8 +69,8 @@ state = record { own = link ∷ replicate 63 Empty_kind; bank = no_kinds; bounds
 abbrev end : State
 end = state_or state (flow c state client.todo)
 
-takes : Takes d
-takes = record { old = client; there = refl; slots = refl; phase = refl; hand = refl }
+takes : TakesLeaf d
+takes = record { old = client; there = refl; slots = refl; phase = refl; current = refl }
 
 empties : (n : ℕ) → AreKinds promised (replicate n Empty) (replicate n Empty_kind)
 empties zero = tt
@@ -87,7 +87,7 @@ no_link (suc n) (suc i) k e = no_link n i k e
 meets : Meets promised c state w client
 meets = record {
   own = (refl, empties 63);
-  hand = refl;
+  current = refl;
   bank = tt;
   operands = (omega arith, (omega arith, tt));
   locals = zeros 8 c.subject.program.locals refl;
@@ -136,7 +136,7 @@ shares q k service level given e is more =
     same e = cc
 
 grants : Grants promised c d
-grants = record { interfaces = refl; provided = λ hand s e. absurd (none_some e); links = links; buffers = shares; awake = is_awake d takes linked running }
+grants = record { interfaces = refl; provided = λ current s e. absurd (none_some e); links = links; buffers = shares; awake = is_awake d takes linked running }
   where
     running : Running ≢ Blocked
     running e = cc

@@ -3,23 +3,24 @@ use Rattle.std.proofs.Common.{◌≡◌, ◌≢◌, ℕ, Option, Some, None, ref
 use Rattle.gq_model.specs.declared.program.Place.{Place}
 use Rattle.gq_model.specs.declared.program.Place.TheVariants.{Own, Shared, Object}
 use Rattle.gq_model.specs.declared.phase.Phase.TheVariants.{Blocked}
-use Rattle.gq_model.specs.machine.World.{Spot, In_session, Session, Hand, spot_of}
+use Rattle.gq_model.specs.machine.World.{Spot, In_session, Session, Current, spot_of}
 use Rattle.gq_model.specs.machine.Doing.{Doing}
 use Rattle.gq_laws.specs.Links.{Waits, naming_in, stance, stance_in, Stance, Links, links, Belongs, IsLinkedWorld}
-use Rattle.gq_laws.specs.Statements.{Takes, IsAwake}
+use Rattle.gq_laws.specs.Statements.{TakesLeaf, IsAwake}
 use Rattle.gq_model.proofs.Small.{none_some, some_same}
 
-module _ (d : Doing) (t : Takes d) (h : IsLinkedWorld d.system d.world) (active : d.leaf.phase ≢ Blocked) where
+module _ (d : Doing) (t : TakesLeaf d) (h : IsLinkedWorld d.system d.world) (active : d.leaf.phase ≢ Blocked) where
   abbrev L : Links
   L = links d.world
 
-  stood : L.stances d.x ≡ Some (stance d.leaf.phase d.leaf.hand)
-  stood = ap stance_in t.there ∙ (λ i. Some (stance (sym t.phase i) (sym t.hand i)))
+  stood : L.stances d.x ≡ Some (stance d.leaf.phase d.leaf.current)
+  stood = ap stance_in t.there ∙ (λ i. Some (stance (sym t.phase i) (sym t.current i)))
 
-  -- a slot that the leaf names is its own, or one of a session at hand, of which it is the server
-  client_is : (place : Place) (hand : Option Hand) (q : Spot) (client : ℕ) → d.leaf.hand ≡ hand → spot_of d.x hand place ≡ Some q → Belongs L q client
+  -- a slot that the leaf names is its own, or one of a current session, of which it is the server
+  client_is : (place : Place) (current : Option Current) (q : Spot) (client : ℕ) → d.leaf.current ≡ current → spot_of d.x current place ≡ Some q
+      → Belongs L q client
       → d.x ≡ client
-  client_is (Own i) hand q client at e b = subst (λ q. Belongs L q client) (sym (some_same e)) b
+  client_is (Own i) current q client at e b = subst (λ q. Belongs L q client) (sym (some_same e)) b
   client_is (Shared i) None q client at e b = absurd (none_some e)
   client_is (Shared i) (Some g) q client at e b =
       let own : Belongs L (In_session g.session i) client = subst (λ q. Belongs L q client) (sym (some_same e)) b in
@@ -34,5 +35,5 @@ module _ (d : Doing) (t : Takes d) (h : IsLinkedWorld d.system d.world) (active 
       let s = h.named q (Waits k) n in
       let there : L.slots s.0.spot ≡ Some (Waits k) = ap L.slots s.2 ∙ n in
       let w = h.waits k s.0 s.1 there in
-      let mine = client_is place d.leaf.hand q s.0.client refl e (subst (λ q. Belongs L q s.0.client) s.2 (h.belongs k s.0 s.1)) in
+      let mine = client_is place d.leaf.current q s.0.client refl e (subst (λ q. Belongs L q s.0.client) s.2 (h.belongs k s.0 s.1)) in
       active (ap (λ (t : Stance). t.phase) (some_same (sym stood ∙ (ap L.stances mine ∙ w.1))))

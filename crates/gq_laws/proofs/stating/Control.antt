@@ -5,7 +5,7 @@ use Rattle.std.proofs.lemmas.Bool.{ltb-true}
 use Rattle.gq_model.specs.machine.Program.{Statements, Done, Do, If, Loop, ◌then◌}
 use Rattle.gq_model.specs.declared.program.Instruction.{Instruction}
 use Rattle.gq_model.specs.texts.Operands.{operands}
-use Rattle.gq_model.specs.machine.World.{Hand, Round, Leaf, World}
+use Rattle.gq_model.specs.machine.World.{Current, Round, Leaf, World}
 use Rattle.gq_model.specs.machine.Doing.{Doing, Stepped, Quiet, standing}
 use Rattle.gq_model.specs.machine.Step.{instruct, chosen, body_ended, perform}
 use Rattle.gq_model.specs.rules.Kinds.{Kind, State, Context}
@@ -14,8 +14,8 @@ use Rattle.gq_model.specs.rules.Flow.{flow, at, later, none_left}
 use Rattle.gq_laws.specs.Kept.{Under, counts_of, within, Continues}
 use Rattle.gq_laws.proofs.stating.Loops.{if_ok, loop_enters, loop_again, loop_leaves}
 use Rattle.gq_laws.specs.Moves.{Moves, Does, Chooses, Enters, Repeats, Leaves}
-use Rattle.gq_laws.specs.Typed.{AreKinds, AreCounts, HandMeets, Meets}
-use Rattle.gq_laws.specs.Statements.{IsSafe, Takes, Grants, LeadsOn, IsInside, LeadsAsRuled}
+use Rattle.gq_laws.specs.Typed.{AreKinds, AreCounts, CurrentMeets, Meets}
+use Rattle.gq_laws.specs.Statements.{IsSafe, TakesLeaf, Grants, LeadsOn, IsInside, LeadsAsRuled}
 use Rattle.gq_laws.proofs.linking.Worlds.{set_here}
 use Rattle.gq_laws.proofs.stating.Rules.{safe_gives, safe_pop, popped_there}
 use Rattle.gq_laws.proofs.stating.Numbers.{under_top}
@@ -26,11 +26,11 @@ use Rattle.gq_model.proofs.Rules_laws.{then_ok, at_ok, later_ok, none_left_ok}
 safe_more : {P Q : World → Type 0} (r : Stepped) → ((w : World) → P w → Q w) → IsSafe P r → IsSafe Q r
 safe_more r more h = record { ends = λ w event e. more w (h.ends w event e); short = h.short }
 
--- the loops around say nothing of what is at hand
-hand_counts : (promised : ℕ → Option Kind) (c : Context) (counts : List ℕ) (kinds : List Kind) (w : World) (hand : Option Hand)
-    → HandMeets promised c kinds w hand → HandMeets promised (record c { counts = counts }) kinds w hand
-hand_counts promised c counts kinds w None h = tt
-hand_counts promised c counts kinds w (Some g) h = (h.0, h.1, record { slots = h.2.slots; object = h.2.object })
+-- the loops around say nothing of what is current
+current_counts : (promised : ℕ → Option Kind) (c : Context) (counts : List ℕ) (kinds : List Kind) (w : World) (current : Option Current)
+    → CurrentMeets promised c kinds w current → CurrentMeets promised (record c { counts = counts }) kinds w current
+current_counts promised c counts kinds w None h = tt
+current_counts promised c counts kinds w (Some g) h = (h.0, h.1, record { slots = h.2.slots; object = h.2.object })
 
 chosen_flows : (c : Context) (s u : State) (arm other rest : Statements) (a : ℕ) → flow c s (arm then rest) ≡ Ok u → flow c s (other then rest) ≡ Ok u
     → flow c s (chosen a arm other then rest) ≡ Ok u
@@ -41,16 +41,16 @@ either : (a : ℕ) (arm other rest : Statements) → ((chosen a arm other then r
 either zero arm other rest = inr refl
 either (suc n) arm other rest = inl refl
 
-module _ (promised : ℕ → Option Kind) (c : Context) (d : Doing) (t : Takes d) (g : Grants promised c d) (state end : State)
+module _ (promised : ℕ → Option Kind) (c : Context) (d : Doing) (t : TakesLeaf d) (g : Grants promised c d) (state end : State)
     (h : Meets promised (within c d.leaf.loops) state d.world d.leaf) where
   Leads : Stepped → Type 0
   Leads r = IsSafe (LeadsOn promised c state end d) r
 
   -- the leaf goes on with other statements
   leads : (new : State) (leaf : Leaf) → Moves c state d.leaf.todo d.leaf.loops new leaf.todo leaf.loops → Meets promised (within c leaf.loops) new d.world leaf
-      → Continues c new leaf.todo leaf.loops end → leaf.hand ≡ d.leaf.hand → leaf.phase ≡ d.leaf.phase → Leads (Ok (standing d leaf, Quiet))
+      → Continues c new leaf.todo leaf.loops end → leaf.current ≡ d.leaf.current → leaf.phase ≡ d.leaf.phase → Leads (Ok (standing d leaf, Quiet))
   unfolding Leads
-  leads new leaf moves m goes hand phase =
+  leads new leaf moves m goes current phase =
       safe_gives (standing d leaf) Quiet
       (record {
         leaf = leaf;
@@ -59,7 +59,7 @@ module _ (promised : ℕ → Option Kind) (c : Context) (d : Doing) (t : Takes d
         meets = meets_kept promised (within c leaf.loops) new (standing d leaf) d.world leaf (λ k. refl) m;
         moves = moves;
         goes_on = goes;
-        hand = hand;
+        current = current;
         phase = phase;
       })
 
@@ -70,9 +70,9 @@ module _ (promised : ℕ → Option Kind) (c : Context) (d : Doing) (t : Takes d
   stands_in new operands todo loops own bank u counts =
       record {
         own = subst (AreKinds promised d.leaf.slots) (sym own) h.own;
-        hand = h.hand;
-        bank = hand_counts promised (within c d.leaf.loops) (counts_of loops) new.bank d.world d.leaf.hand
-            (subst (λ b. HandMeets promised (within c d.leaf.loops) b d.world d.leaf.hand) (sym bank) h.bank);
+        current = h.current;
+        bank = current_counts promised (within c d.leaf.loops) (counts_of loops) new.bank d.world d.leaf.current
+            (subst (λ b. CurrentMeets promised (within c d.leaf.loops) b d.world d.leaf.current) (sym bank) h.bank);
         operands = u;
         locals = h.locals;
         loops = counts;
@@ -86,11 +86,11 @@ module _ (promised : ℕ → Option Kind) (c : Context) (d : Doing) (t : Takes d
       let e : Doing = record d { leaf = record d.leaf { todo = rest } } in
       let v = then_ok (at 1 (judged k state i)) (λ s. later 1 (flow k s rest)) goes.0 goes.1 in
       let flows = later_ok 1 (flow k v.0 rest) goes.0 v.2 in
-      let taken : Takes e = record { old = t.old; there = t.there; slots = t.slots; phase = t.phase; hand = t.hand } in
+      let taken : TakesLeaf e = record { old = t.old; there = t.there; slots = t.slots; phase = t.phase; current = t.current } in
       let granted : Grants promised k e = record { interfaces = g.interfaces; provided = g.provided; links = g.links; buffers = g.buffers; awake = g.awake } in
       let m : Meets promised k state d.world e.leaf = record {
         own = h.own;
-        hand = h.hand;
+        current = h.current;
         bank = h.bank;
         operands = h.operands;
         locals = h.locals;
@@ -105,7 +105,7 @@ module _ (promised : ℕ → Option Kind) (c : Context) (d : Doing) (t : Takes d
         moves = Does i rest is (at_ok 1 (judged k state i) v.0 v.1) s.todo s.loops;
         goes_on = subst (λ l. Continues c v.0 s.leaf.todo l end) (sym s.loops)
             (subst (λ todo. Continues c v.0 todo d.leaf.loops end) (sym s.todo) (goes.0, flows, goes.2));
-        hand = s.hand;
+        current = s.current;
         phase = s.phase;
       }) (own_goes promised k e taken granted state v.0 i inside.0 inside.1 m (at_ok 1 (judged k state i) v.0 v.1))
 
@@ -163,6 +163,6 @@ module _ (promised : ℕ → Option Kind) (c : Context) (d : Doing) (t : Takes d
   all_lead (If arm other rest) is inside goes = if_leads arm other rest is goes
   all_lead (Loop n body rest) is inside goes = loop_leads n body rest is inside goes
 
-pub leads_on : (promised : ℕ → Option Kind) (c : Context) (d : Doing) → Takes d → Grants promised c d → LeadsAsRuled promised c d
+pub leads_on : (promised : ℕ → Option Kind) (c : Context) (d : Doing) → TakesLeaf d → Grants promised c d → LeadsAsRuled promised c d
 unfolding Leads
 leads_on promised c d t g state end inside h goes = all_lead promised c d t g state end h d.leaf.todo refl inside goes

@@ -2,11 +2,11 @@
 use Rattle.std.proofs.Common.{◌≡◌, ℕ, zero, suc, List, [], ◌∷◌, length, replicate, Option, Some, None, refl, subst, arith}
 use Rattle.gq_model.specs.declared.program.Form.TheVariants.{Slice}
 use Rattle.gq_model.specs.machine.Scenario.{number_of}
-use Rattle.gq_model.specs.machine.World.{Empty, Hand, World, session_at}
+use Rattle.gq_model.specs.machine.World.{Empty, Current, World, session_at}
 use Rattle.gq_model.specs.machine.Doing.{Doing}
 use Rattle.gq_model.specs.rules.Kinds.{Kind, Empty_kind, Memory, Context, Subject}
 use Rattle.gq_laws.specs.Kept.{Under}
-use Rattle.gq_laws.specs.Typed.{AreKinds, HandMeets}
+use Rattle.gq_laws.specs.Typed.{AreKinds, CurrentMeets}
 use Rattle.gq_laws.specs.Statements.{IsElse, KeepsSessionIn, LeavesOthers, StandElse, StartsAsRuled}
 use Rattle.gq_laws.proofs.stating.Others.{stays_kind, stay_kinds}
 
@@ -21,13 +21,15 @@ zeros zero (b ∷ bounds) e = absurd (omega (arith, e))
 zeros (suc n) [] e = absurd (omega (arith, e))
 
 pub starts : (promised : ℕ → Option Kind) (v : Subject) → StartsAsRuled promised v
-starts promised v w c eight = record { own = empties promised 64; hand = refl; bank = tt; operands = tt; locals = zeros 8 v.program.locals eight; loops = tt }
+starts promised v w c eight =
+    record { own = empties promised 64; current = refl; bank = tt; operands = tt; locals = zeros 8 v.program.locals eight; loops = tt }
 
-hand_stands : (promised : ℕ → Option Kind) (c : Context) (kinds : List Kind) (d : Doing) (w : World) → LeavesOthers d w → (hand : Option Hand)
-    → ((g : Hand) → hand ≡ Some g → IsElse g.session d.leaf.hand) → HandMeets promised c kinds d.world hand → HandMeets promised c kinds w hand
-hand_stands promised c kinds d w others None else h = tt
-hand_stands promised c kinds d w others (Some g) else h =
-    let s = subst (λ o. KeepsSessionIn d.leaf.hand g.session o (session_at w g.session)) h.1 (others.sessions g.session) in (
+current_stands : (promised : ℕ → Option Kind) (c : Context) (kinds : List Kind) (d : Doing) (w : World) → LeavesOthers d w → (current : Option Current)
+    → ((g : Current) → current ≡ Some g → IsElse g.session d.leaf.current) → CurrentMeets promised c kinds d.world current
+    → CurrentMeets promised c kinds w current
+current_stands promised c kinds d w others None else h = tt
+current_stands promised c kinds d w others (Some g) else h =
+    let s = subst (λ o. KeepsSessionIn d.leaf.current g.session o (session_at w g.session)) h.1 (others.sessions g.session) in (
       s.0,
       s.1,
       record {
@@ -40,8 +42,8 @@ pub stand_else : (promised : ℕ → Option Kind) (d : Doing) (w : World) → Le
 stand_else promised d w others c state leaf else h =
     record {
       own = h.own;
-      hand = h.hand;
-      bank = hand_stands promised c state.bank d w others leaf.hand else h.bank;
+      current = h.current;
+      bank = current_stands promised c state.bank d w others leaf.current else h.bank;
       operands = h.operands;
       locals = h.locals;
       loops = h.loops;

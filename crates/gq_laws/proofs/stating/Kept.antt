@@ -4,15 +4,15 @@ use Rattle.std.proofs.Common.{arith}
 use Rattle.std.proofs.lemmas.Bool.Decides.{eqb_tells}
 use Rattle.gq_model.specs.declared.program.Instruction.{Instruction}
 use Rattle.gq_model.specs.declared.program.Instruction.TheVariants.{Open, Upgrade, Call, Close}
-use Rattle.gq_model.specs.machine.World.{Round, Slot, Empty, Bytes, Pool, Link, Waiting, Spot, Session, Hand, World, session_at, slot_at}
+use Rattle.gq_model.specs.machine.World.{Round, Slot, Empty, Bytes, Pool, Link, Waiting, Spot, Session, Current, World, session_at, slot_at}
 use Rattle.gq_model.specs.machine.Memory.{buffer_of}
 use Rattle.gq_model.specs.machine.Doing.{Doing, Quiet, standing}
 use Rattle.gq_model.specs.machine.Program.{Statements, Done, Do, If, Loop}
 use Rattle.gq_model.specs.machine.Step.{body_ended, perform}
 use Rattle.gq_model.specs.rules.Kinds.{Kind}
 use Rattle.gq_laws.specs.Typed.{PromisesLinks, SharesBuffers}
-use Rattle.gq_laws.specs.Statements.{Takes, IsOfOwn, IsElse, IsInside, KeepsSessionIn, LeavesOthers, KeepsPromises}
-use Rattle.gq_laws.specs.Links.{Naming, Leads, Waits, naming_in, one_if, at_hand, stance, stance_in, Stands, Links, links, IsLinkedWorld}
+use Rattle.gq_laws.specs.Statements.{TakesLeaf, IsOfOwn, IsElse, IsInside, KeepsSessionIn, LeavesOthers, KeepsPromises}
+use Rattle.gq_laws.specs.Links.{Naming, Leads, Waits, naming_in, one_if, at_current, stance, stance_in, Stands, Links, links, IsLinkedWorld}
 use Rattle.gq_model.proofs.Small.{none_some, some_same}
 use Rattle.gq_laws.proofs.turning.Endings.{Ends, gives, pop_ends}
 use Rattle.gq_laws.proofs.linking.Quiet.{Same, IsQuiet, stands, quiet_ends}
@@ -40,22 +40,22 @@ is_link (Some (Waiting j)) k e = absurd (waits_leads j k e)
     waits_leads : (j k : ℕ) → ◌≡◌ {A = Option Naming} (Some (Waits j)) (Some (Leads k)) → ⊥
     waits_leads j k e = cc
 
-module _ (d : Doing) (t : Takes d) (h : IsLinkedWorld d.system d.world) where
+module _ (d : Doing) (t : TakesLeaf d) (h : IsLinkedWorld d.system d.world) where
   abbrev L : Links
   L = links d.world
 
-  stood : L.stances d.x ≡ Some (stance d.leaf.phase d.leaf.hand)
-  stood = ap stance_in t.there ∙ (λ i. Some (stance (sym t.phase i) (sym t.hand i)))
+  stood : L.stances d.x ≡ Some (stance d.leaf.phase d.leaf.current)
+  stood = ap stance_in t.there ∙ (λ i. Some (stance (sym t.phase i) (sym t.current i)))
 
-  -- a session to which a link leads is not at hand
-  at_ease : (q : Spot) (k : ℕ) → L.slots q ≡ Some (Leads k) → (hand : Option Hand) → d.leaf.hand ≡ hand → IsElse k hand
+  -- a session to which a link leads is not current
+  at_ease : (q : Spot) (k : ℕ) → L.slots q ≡ Some (Leads k) → (current : Option Current) → d.leaf.current ≡ current → IsElse k current
   at_ease q k n None at = tt
   at_ease q k n (Some g) at = λ same.
       let s = h.named q (Leads k) n in
       let u = h.handles d.x d.leaf.phase g (stood ∙ ap (λ o. Some (stance d.leaf.phase o)) at) in
       let server : s.0.server ≡ d.x = ap (λ (s : Session). s.server) (some_same (sym s.1 ∙ (ap L.sessions (sym same) ∙ u.1))) ∙ u.2 in
-      let held : at_hand k (L.stances s.0.server) ≡ one_if (g.session == k) =
-      ap (λ x. at_hand k (L.stances x)) server ∙ ap (at_hand k) (stood ∙ ap (λ o. Some (stance d.leaf.phase o)) at) in
+      let held : at_current k (L.stances s.0.server) ≡ one_if (g.session == k) =
+      ap (λ x. at_current k (L.stances x)) server ∙ ap (at_current k) (stood ∙ ap (λ o. Some (stance d.leaf.phase o)) at) in
       let one : one_if (g.session == k) ≡ 1 = here g.session k same in
       by s.0 s.2 (held ∙ one) (h.stands k s.0 s.1)
     where
@@ -65,7 +65,7 @@ module _ (d : Doing) (t : Takes d) (h : IsLinkedWorld d.system d.world) where
       leads_waits : (j k : ℕ) → ◌≡◌ {A = Option Naming} (Some (Leads j)) (Some (Waits k)) → ⊥
       leads_waits j k e = cc
 
-      by : (s : Session) → s.spot ≡ q → at_hand k (L.stances s.server) ≡ 1 → Stands L k s → ⊥
+      by : (s : Session) → s.spot ≡ q → at_current k (L.stances s.server) ≡ 1 → Stands L k s → ⊥
       by s spot one (inl a) = let none = a.2 in omega (arith, one, none)
       by s spot one (inr a) = leads_waits k k (sym n ∙ (ap L.slots (sym spot) ∙ a.0))
 
@@ -79,20 +79,20 @@ module _ (d : Doing) (t : Takes d) (h : IsLinkedWorld d.system d.world) where
     shares : SharesBuffers d.system promised d.world → SharesBuffers d.system promised w
     shares before q k service level given e is more =
         let b = before q k service level given (is_link (slot_at d.world q) k (was_link q k e)) is more in
-        let s = subst (λ o. KeepsSessionIn d.leaf.hand k o (session_at w k)) b.1 (others.sessions k) in (
+        let s = subst (λ o. KeepsSessionIn d.leaf.current k o (session_at w k)) b.1 (others.sessions k) in (
           s.0,
           s.1,
           ap (λ (s : Session). s.service) s.2.rest
               ∙ b.2,
-          stay_buffer (buffer_of d.system service) b.0 s.0 (s.2.slots (at_ease q k (was_link q k e) d.leaf.hand refl)) b.3,
+          stay_buffer (buffer_of d.system service) b.0 s.0 (s.2.slots (at_ease q k (was_link q k e) d.leaf.current refl)) b.3,
         )
 
-same_ends : (d : Doing) → Takes d → IsLinkedWorld d.system d.world → (todo : Statements) → IsInside todo d.leaf.loops
+same_ends : (d : Doing) → TakesLeaf d → IsLinkedWorld d.system d.world → (todo : Statements) → IsInside todo d.leaf.loops
     → Ends (Same (links d.world)) (perform d todo)
 same_ends d t h todo inside = by todo inside
   where
-    u : Takes d
-    u = record { old = t.old; there = t.there; slots = t.slots; phase = t.phase; hand = t.hand }
+    u : TakesLeaf d
+    u = record { old = t.old; there = t.there; slots = t.slots; phase = t.phase; current = t.current }
 
     by_loops : (loops : List Round) → IsInside Done loops → Ends (Same (links d.world)) (body_ended d loops)
     by_loops [] inside = absurd inside
@@ -110,11 +110,11 @@ same_ends d t h todo inside = by todo inside
     by Done inside = by_loops d.leaf.loops inside
     by (Do i rest) inside =
         let e : Doing = record d { leaf = record d.leaf { todo = rest } } in
-        quiet_ends e (record { old = t.old; there = t.there; slots = t.slots; phase = t.phase; hand = t.hand }) h i (quiet i inside.0)
+        quiet_ends e (record { old = t.old; there = t.there; slots = t.slots; phase = t.phase; current = t.current }) h i (quiet i inside.0)
     by (If arm other rest) inside = pop_ends (Same (links d.world)) d.leaf.operands _ (λ a below. gives _ Quiet (stands d u _ refl refl refl))
     by (Loop count body rest) inside = gives _ Quiet (stands d u _ refl refl refl)
 
-pub keeps_promises : (promised : ℕ → Option Kind) (d : Doing) → Takes d → IsLinkedWorld d.system d.world → KeepsPromises promised d
+pub keeps_promises : (promised : ℕ → Option Kind) (d : Doing) → TakesLeaf d → IsLinkedWorld d.system d.world → KeepsPromises promised d
 keeps_promises promised d t h w event inside e links buffers =
     let same = (same_ends d t h d.leaf.todo inside).holds w event e in
     let others = keeps_to_itself d w event inside e in

@@ -11,7 +11,7 @@ use Rattle.gq_model.specs.declared.program.Form.TheVariants.{Block, Slice, Space
 use Rattle.gq_model.specs.declared.fault.Rule.TheVariants.{OwnBankChanged, HeapInSession}
 use Rattle.gq_model.specs.texts.Operands.{is_slot}
 use Rattle.gq_model.specs.machine.Scenario.{System, Interface, interface_in, number_of}
-use Rattle.gq_model.specs.machine.World.{Slot, Empty, Bytes, Pool, Link, Waiting, Spot, In_session, Hand, Leaf, World, session_at, session_slot, slot_at}
+use Rattle.gq_model.specs.machine.World.{Slot, Empty, Bytes, Pool, Link, Waiting, Spot, In_session, Current, Leaf, World, session_at, session_slot, slot_at}
 use Rattle.gq_model.specs.machine.World.{with_slot, spot_of}
 use Rattle.gq_model.specs.machine.Doing.{Doing, Stepped, Quiet, standing, settled, fill}
 use Rattle.gq_model.specs.machine.Memory.{room, buffer_of, behind, bytes_spot, bytes_in, bytes_at, pool_in, pool_at, is_memory, shares_buffer, make, free}
@@ -21,8 +21,8 @@ use Rattle.gq_model.specs.rules.Rules.{is_empty_kind, is_memory_kind, is_later, 
 use Rattle.gq_model.specs.rules.Rules.{freed}
 use Rattle.gq_model.specs.rules.Rules.{fill as filled}
 use Rattle.gq_laws.specs.Shapes.{Each}
-use Rattle.gq_laws.specs.Typed.{AreBytes, IsEntry, IsKind, IsAtHand, HandMeets, IsLinkKind, Meets}
-use Rattle.gq_laws.specs.Statements.{IsSafe, Takes, Grants, StandsAt}
+use Rattle.gq_laws.specs.Typed.{AreBytes, IsEntry, IsKind, IsCurrent, CurrentMeets, IsLinkKind, Meets}
+use Rattle.gq_laws.specs.Statements.{IsSafe, TakesLeaf, Grants, StandsAt}
 use Rattle.gq_model.proofs.Small.{none_some, some_same}
 use Rattle.gq_laws.proofs.linking.Worlds.{leaf_keeps_slots}
 use Rattle.gq_laws.proofs.stating.Rules.{safe_gives, safe_tested, safe_need, safe_when, given_there}
@@ -68,7 +68,7 @@ spot_same system v w same (Some (Link k)) q = ap (λ o. behind system o k) (same
 -- the n bytes that a statement names
 pub record Reaches (d : Doing) (w : World) (place : Place) (n : ℕ) : Type 0 where
   pub by : Spot
-  pub named : spot_of d.x d.leaf.hand place ≡ Some by
+  pub named : spot_of d.x d.leaf.current place ≡ Some by
   pub q : Spot
   pub leads : bytes_spot d.system w (slot_at w by) by ≡ Some q
   pub form : Form
@@ -81,7 +81,7 @@ pub record Reaches (d : Doing) (w : World) (place : Place) (n : ℕ) : Type 0 wh
 -- the pool that a statement names
 pub record HasPool (d : Doing) (w : World) (place : Place) (n m : ℕ) : Type 0 where
   pub q : Spot
-  pub named : spot_of d.x d.leaf.hand place ≡ Some q
+  pub named : spot_of d.x d.leaf.current place ≡ Some q
   pub entries : List (Option (List ℕ))
   pub there : slot_at w q ≡ Some (Pool n entries)
   pub count : length entries ≡ m
@@ -91,21 +91,21 @@ module _ {P : World → Type 0} (d : Doing) (w : World) (place : Place) where
   pub safe_bytes : (n : ℕ) (r : Reaches d w place n) (go : List ℕ → (List ℕ → World) → Stepped)
       → IsSafe P (go r.bytes (λ new. with_slot w r.q (Bytes r.form r.size new))) → IsSafe P (bytes_at d w place go)
   safe_bytes n r go h =
-      safe_need (spot_of d.x d.leaf.hand place) _ _ r.by r.named (safe_need (bytes_spot d.system w (slot_at w r.by) r.by) _ _ r.q r.leads
+      safe_need (spot_of d.x d.leaf.current place) _ _ r.by r.named (safe_need (bytes_spot d.system w (slot_at w r.by) r.by) _ _ r.q r.leads
       (subst (λ o. IsSafe P (bytes_in w r.q o go)) (sym r.there) h))
 
   pub safe_pool : (n m : ℕ) (r : HasPool d w place n m) (go : ℕ → List (Option (List ℕ)) → (List (Option (List ℕ)) → World) → Stepped)
       → IsSafe P (go n r.entries (λ new. with_slot w r.q (Pool n new))) → IsSafe P (pool_at d w place go)
-  safe_pool n m r go h = safe_need (spot_of d.x d.leaf.hand place) _ _ r.q r.named (subst (λ o. IsSafe P (pool_in w r.q o go)) (sym r.there) h)
+  safe_pool n m r go h = safe_need (spot_of d.x d.leaf.current place) _ _ r.q r.named (subst (λ o. IsSafe P (pool_in w r.q o go)) (sym r.there) h)
 
 -- AT A STATE
 
-module _ (promised : ℕ → Option Kind) (c : Context) (d : Doing) (t : Takes d) (g : Grants promised c d) (state : State)
+module _ (promised : ℕ → Option Kind) (c : Context) (d : Doing) (t : TakesLeaf d) (g : Grants promised c d) (state : State)
     (h : Meets promised c state d.world d.leaf) where
-  pub finds : (place : Place) (kind : Kind) → kind_at c state place ≡ Some kind → Finds promised d.world d.x d.leaf.hand place kind
+  pub finds : (place : Place) (kind : Kind) → kind_at c state place ≡ Some kind → Finds promised d.world d.x d.leaf.current place kind
   finds = found promised c state d.world d.x d.leaf t.old t.there t.slots h
 
-  reaches_by : (place : Place) (kind : Kind) (n : ℕ) (q : Spot) → spot_of d.x d.leaf.hand place ≡ Some q → (slot : Slot) → slot_at d.world q ≡ Some slot
+  reaches_by : (place : Place) (kind : Kind) (n : ℕ) (q : Spot) → spot_of d.x d.leaf.current place ≡ Some q → (slot : Slot) → slot_at d.world q ≡ Some slot
       → IsKind promised slot kind → reach c (Some kind) ≡ Some n → Reaches d d.world place n
   reaches_by place kind n q named Empty there is e = absurd (none_some (ap (λ k. reach c (Some k)) (sym is) ∙ e))
   reaches_by place kind n q named (Bytes form m bytes) there is e =
@@ -172,7 +172,7 @@ module _ (promised : ℕ → Option Kind) (c : Context) (d : Doing) (t : Takes d
   pub reaches : (place : Place) (n : ℕ) → reach c (kind_at c state place) ≡ Some n → Reaches d d.world place n
   reaches place n e = reaches_in place n (kind_at c state place) refl e
 
-  pool_by : (place : Place) (kind : Kind) (p : ℕ × ℕ) (q : Spot) → spot_of d.x d.leaf.hand place ≡ Some q → (slot : Slot) → slot_at d.world q ≡ Some slot
+  pool_by : (place : Place) (kind : Kind) (p : ℕ × ℕ) (q : Spot) → spot_of d.x d.leaf.current place ≡ Some q → (slot : Slot) → slot_at d.world q ≡ Some slot
       → IsKind promised slot kind → pool_kind (Some kind) ≡ Some p → HasPool d d.world place p.0 p.1
   pool_by place kind p q named Empty there is e = absurd (none_some (ap (λ k. pool_kind (Some k)) (sym is) ∙ e))
   pool_by place kind p q named (Bytes form m bytes) there is e = absurd (none_some (ap (λ k. pool_kind (Some k)) (sym is.0) ∙ e))
@@ -197,22 +197,22 @@ module _ (promised : ℕ → Option Kind) (c : Context) (d : Doing) (t : Takes d
   pub slots_kept : (leaf : Leaf) → leaf.slots ≡ d.leaf.slots → (q : Spot) → slot_at (standing d leaf) q ≡ slot_at d.world q
   slots_kept leaf same q = leaf_keeps_slots d.world d.x t.old leaf t.there (same ∙ t.slots) q
 
-  put_named : (w : World) → StandsAt promised c state d w → (place : Place) (q : Spot) → is_slot place ≡ true → spot_of d.x d.leaf.hand place ≡ Some q
+  put_named : (w : World) → StandsAt promised c state d w → (place : Place) (q : Spot) → is_slot place ≡ true → spot_of d.x d.leaf.current place ≡ Some q
       → (slot : Slot) (kind : Kind) → IsKind promised slot kind → StandsAt promised c (with_kind state place kind) d (with_slot w q slot)
   put_named w s (Own i) q ranged named slot kind is = subst (λ q. StandsAt promised c (with_kind state (Own i) kind) d (with_slot w q slot)) (some_same named)
       (put_own promised c d state w s i slot kind is)
-  put_named w s (Shared i) q ranged named slot kind is = by d.leaf.hand refl named
+  put_named w s (Shared i) q ranged named slot kind is = by d.leaf.current refl named
     where
-      by : (hand : Option Hand) → d.leaf.hand ≡ hand → spot_of d.x hand (Shared i) ≡ Some q
+      by : (current : Option Current) → d.leaf.current ≡ current → spot_of d.x current (Shared i) ≡ Some q
           → StandsAt promised c (with_kind state (Shared i) kind) d (with_slot w q slot)
       by None at named = absurd (none_some named)
-      by (Some hand) at named = subst (λ q. StandsAt promised c (with_kind state (Shared i) kind) d (with_slot w q slot)) (some_same named)
-          (put_shared promised c d state w s hand i slot kind (s.hand ∙ at) is)
+      by (Some current) at named = subst (λ q. StandsAt promised c (with_kind state (Shared i) kind) d (with_slot w q slot)) (some_same named)
+          (put_shared promised c d state w s current i slot kind (s.current ∙ at) is)
   put_named w s Object q ranged named slot kind is = absurd (false≢true ranged)
 
   -- MADE
 
-  pub empty_by : (place : Place) (kind : Kind) (q : Spot) → spot_of d.x d.leaf.hand place ≡ Some q → (slot : Slot) → slot_at d.world q ≡ Some slot
+  pub empty_by : (place : Place) (kind : Kind) (q : Spot) → spot_of d.x d.leaf.current place ≡ Some q → (slot : Slot) → slot_at d.world q ≡ Some slot
       → IsKind promised slot kind → is_empty_kind kind ≡ true → slot ≡ Empty
   empty_by place kind q named Empty there is e = refl
   empty_by place kind q named (Bytes form m bytes) there is e = absurd (false≢true (ap is_empty_kind (sym is.0) ∙ e))
@@ -231,7 +231,7 @@ module _ (promised : ℕ → Option Kind) (c : Context) (d : Doing) (t : Takes d
       let none = empty_by place old.0 f.q f.named f.slot f.there f.is empty.0 in
       let there : slot_at (standing d d.leaf) f.q ≡ Some Empty = slots_kept d.leaf refl f.q ∙ (f.there ∙ ap Some none) in
       subst (λ new. IsSafe (StandsAt promised c new d) (make d place slot)) (ok_same fits.1)
-      (safe_need (spot_of d.x d.leaf.hand place) _ _ f.q f.named
+      (safe_need (spot_of d.x d.leaf.current place) _ _ f.q f.named
       (subst (λ o. IsSafe (StandsAt promised c (with_kind state place kind) d) (fill (standing d d.leaf) f.q o slot (settled d.system d.x))) (sym there)
       (safe_settled promised c d (with_kind state place kind) (with_slot (standing d d.leaf) f.q slot)
       (put_named (standing d d.leaf) stood place f.q ranged f.named slot kind is))))
@@ -244,7 +244,7 @@ module _ (promised : ℕ → Option Kind) (c : Context) (d : Doing) (t : Takes d
 
   -- FREED
 
-  memory_by : (place : Place) (kind : Kind) (q : Spot) → spot_of d.x d.leaf.hand place ≡ Some q → (slot : Slot) → slot_at d.world q ≡ Some slot
+  memory_by : (place : Place) (kind : Kind) (q : Spot) → spot_of d.x d.leaf.current place ≡ Some q → (slot : Slot) → slot_at d.world q ≡ Some slot
       → IsKind promised slot kind → is_memory_kind kind ≡ true → is_memory (Some slot) ≡ true
   memory_by place kind q named Empty there is e = absurd (false≢true (ap is_memory_kind (sym is) ∙ e))
   memory_by place kind q named (Bytes form m bytes) there is e = refl
@@ -252,18 +252,18 @@ module _ (promised : ℕ → Option Kind) (c : Context) (d : Doing) (t : Takes d
   memory_by place kind q named (Link k) there is e = absurd (link_not_memory kind (g.links q k kind there is) e)
   memory_by place kind q named (Waiting k) there is e = absurd (g.awake place q k named there)
 
-  kept_same : (place : Place) (hand : Option Hand) (q : Spot) → is_slot place ≡ true → d.leaf.hand ≡ hand → spot_of d.x hand place ≡ Some q
-      → is_kept_slot d hand place ≡ is_kept c place
+  kept_same : (place : Place) (current : Option Current) (q : Spot) → is_slot place ≡ true → d.leaf.current ≡ current → spot_of d.x current place ≡ Some q
+      → is_kept_slot d current place ≡ is_kept c place
   kept_same (Own i) None q ranged at named = refl
-  kept_same (Own i) (Some hand) q ranged at named = refl
-  kept_same Object hand q ranged at named = absurd (false≢true ranged)
+  kept_same (Own i) (Some current) q ranged at named = refl
+  kept_same Object current q ranged at named = absurd (false≢true ranged)
   kept_same (Shared i) None q ranged at named = absurd (none_some named)
-  kept_same (Shared i) (Some hand) q ranged at named =
-      let section = subst (IsAtHand c.section) at h.hand in
-      let bank = subst (HandMeets promised c state.bank d.world) at h.bank in
-      let later : is_later hand.section ≡ is_later c.section = ap is_later section.0 in
-      let shares : shares_buffer d.system (session_at d.world hand.session) ≡ nat_lt 0 (number_of c.subject.provided (λ i. i.buffer)) =
-      ap (shares_buffer d.system) bank.1 ∙ ap (λ (o : Option Interface). nat_lt 0 (number_of o (λ i. i.buffer))) (g.provided hand bank.0 at bank.1)
+  kept_same (Shared i) (Some current) q ranged at named =
+      let section = subst (IsCurrent c.section) at h.current in
+      let bank = subst (CurrentMeets promised c state.bank d.world) at h.bank in
+      let later : is_later current.section ≡ is_later c.section = ap is_later section.0 in
+      let shares : shares_buffer d.system (session_at d.world current.session) ≡ nat_lt 0 (number_of c.subject.provided (λ i. i.buffer)) =
+      ap (shares_buffer d.system) bank.1 ∙ ap (λ (o : Option Interface). nat_lt 0 (number_of o (λ i. i.buffer))) (g.provided current bank.0 at bank.1)
       in
       (λ j. i == 0 && later j && shares j)
 
@@ -277,10 +277,10 @@ module _ (promised : ℕ → Option Kind) (c : Context) (d : Doing) (t : Takes d
       let w = standing d d.leaf in
       let there : is_memory (slot_at w f.q) ≡ true = ap is_memory (slots_kept d.leaf refl f.q ∙ f.there)
       ∙ memory_by place old.0 f.q f.named f.slot f.there f.is memory.0 in
-      let kept : not (is_kept_slot d d.leaf.hand place) ≡ true = ap not (kept_same place d.leaf.hand f.q ranged refl f.named) ∙ stays.0 in
+      let kept : not (is_kept_slot d d.leaf.current place) ≡ true = ap not (kept_same place d.leaf.current f.q ranged refl f.named) ∙ stays.0 in
       subst (λ new. IsSafe (StandsAt promised c new d) (free d place)) (ok_same may.1)
-      (safe_need (spot_of d.x d.leaf.hand place) _ _ f.q f.named
-      (safe_when (is_memory (slot_at w f.q) && not (is_kept_slot d d.leaf.hand place)) _ _ (λ j. there j && kept j)
+      (safe_need (spot_of d.x d.leaf.current place) _ _ f.q f.named
+      (safe_when (is_memory (slot_at w f.q) && not (is_kept_slot d d.leaf.current place)) _ _ (λ j. there j && kept j)
       (safe_tested _ _ (safe_gives (with_slot w f.q Empty) Quiet (put_named w stood place f.q ranged f.named Empty Empty_kind refl)))))
 
 -- the same in a world of the same slots and sessions

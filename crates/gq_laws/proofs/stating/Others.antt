@@ -1,4 +1,4 @@
--- Statements on operands, locals and memory leave the other leaves, the requests and the sessions that are not at hand as they are.
+-- Statements on operands, locals and memory leave the other leaves, the requests and the sessions that are not current as they are.
 use Rattle.std.proofs.Common.{◌≡◌, ◌≢◌, ℕ, ◌+◌, ◌&&◌, inl, inr, Bool, true, false, cond, not, zero, suc, List, [], ◌∷◌, length, Option, Some, None, Ok, refl}
 use Rattle.std.proofs.Common.{ap, sym, ◌∙◌, subst}
 use Rattle.std.specs.Prelude.{nat_le, slice_get, slice_range, slice_set}
@@ -15,7 +15,7 @@ use Rattle.gq_model.specs.declared.program.Instruction.{Instruction}
 use Rattle.gq_model.specs.declared.program.Instruction.TheVariants.{Say, Make, MakePool, Load, Store, Free, Take, Give, Peek, Poke, Open, Upgrade, Call, Close}
 use Rattle.gq_model.specs.declared.fault.Wrong.TheVariants.{WrongKind, UnmappedByte, ExceededQuota}
 use Rattle.gq_model.specs.texts.Operands.{operands, in_range, is_slot}
-use Rattle.gq_model.specs.machine.World.{Slot, Empty, Bytes, Pool, Link, Waiting, Spot, In_leaf, In_session, In_object, Session, Hand, Round, Leaf, World}
+use Rattle.gq_model.specs.machine.World.{Slot, Empty, Bytes, Pool, Link, Waiting, Spot, In_leaf, In_session, In_object, Session, Current, Round, Leaf, World}
 use Rattle.gq_model.specs.machine.World.{session_at, slot_at, with_leaf, with_session, with_slot, put_leaf_slot, put_session_slot, put_object, spot_of}
 use Rattle.gq_model.specs.machine.Doing.{Doing, Stepped, Quiet, when, if_paid, standing, with_operands, on_stack, settled, fill}
 use Rattle.gq_model.specs.machine.Sums.{paid}
@@ -75,12 +75,12 @@ stay_buffer n old new h b = by old.slots new.slots h b.there refl
         let f = subst (λ s. StaysOfKind s t) (some_same e) h.0 in
         record { bytes = f.0; there = ap (λ l. slice_get l 0) same ∙ ap Some f.1; count = f.2 ∙ b.count; each = f.3 b.each }
 
-keeps_all : (hand : Option Hand) (k : ℕ) (s : Session) → KeepsSession hand k s s
-keeps_all hand k s = record { rest = refl; object = stays s.object; slots = λ e. stay s.slots }
+keeps_all : (current : Option Current) (k : ℕ) (s : Session) → KeepsSession current k s s
+keeps_all current k s = record { rest = refl; object = stays s.object; slots = λ e. stay s.slots }
 
-kept_in : (hand : Option Hand) (k : ℕ) (o : Option Session) → KeepsSessionIn hand k o o
-kept_in hand k None = refl
-kept_in hand k (Some s) = (s, refl, keeps_all hand k s)
+kept_in : (current : Option Current) (k : ℕ) (o : Option Session) → KeepsSessionIn current k o o
+kept_in current k None = refl
+kept_in current k (Some s) = (s, refl, keeps_all current k s)
 
 module _ (d : Doing) where
   -- no other leaf, no request and no session is changed
@@ -103,8 +103,8 @@ module _ (d : Doing) where
       record {
         leaves = h.leaves;
         requests = h.requests;
-        sessions = λ k. subst (λ (l : List (Option Session)). KeepsSessionIn d.leaf.hand k (session_at d.world k) (session_at (record w { sessions = l }) k))
-            (sym h.sessions) (kept_in d.leaf.hand k (session_at d.world k));
+        sessions = λ k. subst (λ (l : List (Option Session)). KeepsSessionIn d.leaf.current k (session_at d.world k) (session_at (record w { sessions = l }) k))
+            (sym h.sessions) (kept_in d.leaf.current k (session_at d.world k));
       }
 
   stood : (leaf : Leaf) → LeavesOthers d (standing d leaf)
@@ -114,16 +114,16 @@ module _ (d : Doing) where
   leaf_leaves w leaf h = record { leaves = λ y ne. set_else w.leaves d.x y leaf ne ∙ h.leaves y ne; requests = h.requests; sessions = h.sessions }
 
   -- a session is written
-  session_leaves : (w : World) (k : ℕ) (old new : Session) → Still w → session_at w k ≡ Some old → KeepsSession d.leaf.hand k old new
+  session_leaves : (w : World) (k : ℕ) (old new : Session) → Still w → session_at w k ≡ Some old → KeepsSession d.leaf.current k old new
       → LeavesOthers d (with_session w k new)
   session_leaves w k old new h there keeps =
       record {
         leaves = h.leaves;
         requests = h.requests;
         sessions = λ j. elim (eqb_tells j k) [
-          | inl e ↦ subst (λ j. KeepsSessionIn d.leaf.hand j (session_at d.world j) (session_at (with_session w k new) j))
+          | inl e ↦ subst (λ j. KeepsSessionIn d.leaf.current j (session_at d.world j) (session_at (with_session w k new) j))
               (sym e.1) here
-          | inr e ↦ subst (KeepsSessionIn d.leaf.hand j (session_at d.world j)) (sym (session_else w k j new e.1))
+          | inr e ↦ subst (KeepsSessionIn d.leaf.current j (session_at d.world j)) (sym (session_else w k j new e.1))
               ((still_leaves w h).sessions j)
         ];
       }
@@ -131,8 +131,8 @@ module _ (d : Doing) where
       was : session_at d.world k ≡ Some old
       was = ap (λ (l : List (Option Session)). session_at (record d.world { sessions = l }) k) (sym h.sessions) ∙ there
 
-      here : KeepsSessionIn d.leaf.hand k (session_at d.world k) (session_at (with_session w k new) k)
-      here = subst (λ o. KeepsSessionIn d.leaf.hand k o (session_at (with_session w k new) k)) (sym was) (new, session_here w k old new there, keeps)
+      here : KeepsSessionIn d.leaf.current k (session_at d.world k) (session_at (with_session w k new) k)
+      here = subst (λ o. KeepsSessionIn d.leaf.current k o (session_at (with_session w k new) k)) (sym was) (new, session_here w k old new there, keeps)
 
   -- a slot of the leaf's own
   own_leaves : (w : World) (i : ℕ) (slot : Slot) → Still w → LeavesOthers d (with_slot w (In_leaf d.x i) slot)
@@ -143,9 +143,9 @@ module _ (d : Doing) where
       by (Some leaf) = leaf_leaves w _ (still_leaves w h)
 
   -- a slot that the leaf names, whatever is written there
-  named_leaves : (w : World) (place : Place) (hand : Option Hand) (q : Spot) (slot : Slot) → Still w → is_slot place ≡ true → d.leaf.hand ≡ hand
-      → spot_of d.x hand place ≡ Some q → LeavesOthers d (with_slot w q slot)
-  named_leaves w (Own i) hand q slot h ranged at e = subst (λ q. LeavesOthers d (with_slot w q slot)) (some_same e) (own_leaves w i slot h)
+  named_leaves : (w : World) (place : Place) (current : Option Current) (q : Spot) (slot : Slot) → Still w → is_slot place ≡ true → d.leaf.current ≡ current
+      → spot_of d.x current place ≡ Some q → LeavesOthers d (with_slot w q slot)
+  named_leaves w (Own i) current q slot h ranged at e = subst (λ q. LeavesOthers d (with_slot w q slot)) (some_same e) (own_leaves w i slot h)
   named_leaves w (Shared i) None q slot h ranged at e = absurd (none_some e)
   named_leaves w (Shared i) (Some g) q slot h ranged at e = subst (λ q. LeavesOthers d (with_slot w q slot)) (some_same e) (by (session_at w g.session) refl)
     where
@@ -154,7 +154,7 @@ module _ (d : Doing) where
       by (Some s) there =
           session_leaves w g.session s (record s { slots = slice_set s.slots i slot }) h there
           (record { rest = refl; object = stays s.object; slots = λ other. absurd (subst (IsElse g.session) at other refl) })
-  named_leaves w Object hand q slot h ranged at e = absurd (false≢true ranged)
+  named_leaves w Object current q slot h ranged at e = absurd (false≢true ranged)
 
   -- no spot of another leaf
   IsMine : Spot → Type 0
@@ -162,9 +162,9 @@ module _ (d : Doing) where
   IsMine (In_session k i) = Unit {0}
   IsMine (In_object k) = Unit {0}
 
-  named_mine : (place : Place) (hand : Option Hand) (q : Spot) → spot_of d.x hand place ≡ Some q → IsMine q
+  named_mine : (place : Place) (current : Option Current) (q : Spot) → spot_of d.x current place ≡ Some q → IsMine q
   unfolding IsMine
-  named_mine (Own i) hand q e = subst IsMine (some_same e) refl
+  named_mine (Own i) current q e = subst IsMine (some_same e) refl
   named_mine (Shared i) None q e = absurd (none_some e)
   named_mine (Shared i) (Some g) q e = subst IsMine (some_same e) tt
   named_mine Object None q e = absurd (none_some e)
@@ -217,9 +217,10 @@ module _ (d : Doing) where
   settled_ends : (w : World) → Left w → Ends Left (settled d.system d.x w)
   settled_ends w h = need_ends Left (slice_get w.leaves d.x) _ _ (λ leaf. when_ends Left _ _ _ (gives _ _ (leaf_leaves w _ h)))
 
-  fill_ends : (place : Place) (slot : Slot) (w : World) (q : Spot) (o : Option Slot) → Still w → is_slot place ≡ true → spot_of d.x d.leaf.hand place ≡ Some q
+  fill_ends : (place : Place) (slot : Slot) (w : World) (q : Spot) (o : Option Slot) → Still w → is_slot place ≡ true
+      → spot_of d.x d.leaf.current place ≡ Some q
       → Ends Left (fill w q o slot (settled d.system d.x))
-  fill_ends place slot w q (Some Empty) h ranged e = settled_ends _ (named_leaves w place d.leaf.hand q slot h ranged refl e)
+  fill_ends place slot w q (Some Empty) h ranged e = settled_ends _ (named_leaves w place d.leaf.current q slot h ranged refl e)
   fill_ends place slot w q None h ranged e = fails WrongKind
   fill_ends place slot w q (Some (Bytes form n bytes)) h ranged e = fails WrongKind
   fill_ends place slot w q (Some (Pool n entries)) h ranged e = fails WrongKind
@@ -227,15 +228,15 @@ module _ (d : Doing) where
   fill_ends place slot w q (Some (Waiting k)) h ranged e = fails WrongKind
 
   make_ends : (place : Place) (slot : Slot) → is_slot place ≡ true → Ends Left (make d place slot)
-  make_ends place slot ranged = need_found Left (spot_of d.x d.leaf.hand place) _ _
+  make_ends place slot ranged = need_found Left (spot_of d.x d.leaf.current place) _ _
       (λ q e. fill_ends place slot (standing d d.leaf) q (slot_at (standing d d.leaf) q) (stands d.leaf) ranged e)
 
   free_ends : (place : Place) → is_slot place ≡ true → Ends Left (free d place)
-  free_ends place ranged = need_found Left (spot_of d.x d.leaf.hand place) _ _ (λ q e.
+  free_ends place ranged = need_found Left (spot_of d.x d.leaf.current place) _ _ (λ q e.
       let w = with_slot (standing d d.leaf) q Empty in
-      when_ends Left (is_memory (slot_at (standing d d.leaf) q) && not (is_kept d d.leaf.hand place)) WrongKind (if_paid d.system w Quiet)
+      when_ends Left (is_memory (slot_at (standing d d.leaf) q) && not (is_kept d d.leaf.current place)) WrongKind (if_paid d.system w Quiet)
       (when_ends Left (paid d.system w) ExceededQuota (Ok (w, Quiet))
-      (gives w Quiet (named_leaves (standing d d.leaf) place d.leaf.hand q Empty (stands d.leaf) ranged refl e))))
+      (gives w Quiet (named_leaves (standing d d.leaf) place d.leaf.current q Empty (stands d.leaf) ranged refl e))))
 
   bytes_ends : (w : World) (q : Spot) (o : Option Slot) (i v : ℕ) (width : Width) → Still w → IsMine q → slot_at w q ≡ o
       → Ends Left (bytes_in w q o (λ bytes put. when (nat_le (i + bytes_of width) (length bytes)) UnmappedByte
@@ -253,15 +254,15 @@ module _ (d : Doing) where
   store_ends : (width : Width) (place : Place) → Ends Left (store d width place)
   store_ends width place =
       pop_ends Left d.leaf.operands _ (λ v below. pop_ends Left below _ (λ i rest.
-      need_found Left (spot_of d.x d.leaf.hand place) _ _ (λ named e.
+      need_found Left (spot_of d.x d.leaf.current place) _ _ (λ named e.
       let w = standing d (with_operands d rest) in
       need_found Left (bytes_spot d.system w (slot_at w named) named) _ _ (λ q f.
       bytes_ends w q (slot_at w q) i v width (stands (with_operands d rest))
-      (bytes_mine w (slot_at w named) named q (named_mine place d.leaf.hand named e) f) refl))))
+      (bytes_mine w (slot_at w named) named q (named_mine place d.leaf.current named e) f) refl))))
 
   load_ends : (width : Width) (place : Place) → Ends Left (load d width place)
   load_ends width place =
-      pop_ends Left d.leaf.operands _ (λ i rest. need_ends Left (spot_of d.x d.leaf.hand place) _ _ (λ named.
+      pop_ends Left d.leaf.operands _ (λ i rest. need_ends Left (spot_of d.x d.leaf.current place) _ _ (λ named.
       need_ends Left (bytes_spot d.system d.world (slot_at d.world named) named) _ _ (λ q. by q (slot_at d.world q) i rest)))
     where
       by : (q : Spot) (o : Option Slot) (i : ℕ) (rest : List ℕ)
@@ -277,10 +278,10 @@ module _ (d : Doing) where
   pool_ends : (place : Place) (w : World) (go : ℕ → List (Option (List ℕ)) → (List (Option (List ℕ)) → World) → Stepped) → Still w → is_slot place ≡ true
       → ((n : ℕ) (entries : List (Option (List ℕ))) (put : List (Option (List ℕ)) → World) → ((new : List (Option (List ℕ))) → Left (put new))
       → Ends Left (go n entries put)) → Ends Left (pool_at d w place go)
-  pool_ends place w go h ranged k = need_found Left (spot_of d.x d.leaf.hand place) _ _ (λ q e. by q e (slot_at w q))
+  pool_ends place w go h ranged k = need_found Left (spot_of d.x d.leaf.current place) _ _ (λ q e. by q e (slot_at w q))
     where
-      by : (q : Spot) → spot_of d.x d.leaf.hand place ≡ Some q → (o : Option Slot) → Ends Left (pool_in w q o go)
-      by q e (Some (Pool n entries)) = k n entries _ (λ new. named_leaves w place d.leaf.hand q (Pool n new) h ranged refl e)
+      by : (q : Spot) → spot_of d.x d.leaf.current place ≡ Some q → (o : Option Slot) → Ends Left (pool_in w q o go)
+      by q e (Some (Pool n entries)) = k n entries _ (λ new. named_leaves w place d.leaf.current q (Pool n new) h ranged refl e)
       by q e None = fails WrongKind
       by q e (Some Empty) = fails WrongKind
       by q e (Some (Bytes form n bytes)) = fails WrongKind
@@ -314,16 +315,16 @@ module _ (d : Doing) where
 
 -- STEPS INSIDE A SECTION
 
-same_hand : (d e : Doing) (r : Stepped) → d.x ≡ e.x → d.world ≡ e.world → d.leaf.hand ≡ e.leaf.hand → Ends (LeavesOthers d) r → Ends (LeavesOthers e) r
-same_hand d e r x world hand h =
+same_current : (d e : Doing) (r : Stepped) → d.x ≡ e.x → d.world ≡ e.world → d.leaf.current ≡ e.leaf.current → Ends (LeavesOthers d) r → Ends (LeavesOthers e) r
+same_current d e r x world current h =
     record {
       holds = λ w event q.
           let o = h.holds w event q in
           record {
             leaves = λ y ne. o.leaves y (λ f. ne (f ∙ x)) ∙ ap (λ (v : World). slice_get v.leaves y) world;
             requests = o.requests ∙ ap (λ (v : World). v.requests) world;
-            sessions = λ k. subst (λ (v : World). KeepsSessionIn e.leaf.hand k (session_at v k) (session_at w k)) world
-                (subst (λ hand. KeepsSessionIn hand k (session_at d.world k) (session_at w k)) hand (o.sessions k));
+            sessions = λ k. subst (λ (v : World). KeepsSessionIn e.leaf.current k (session_at v k) (session_at w k)) world
+                (subst (λ current. KeepsSessionIn current k (session_at d.world k) (session_at w k)) current (o.sessions k));
           };
     }
 
@@ -334,7 +335,7 @@ perform_ends d Done inside = by d.leaf.loops inside
     by [] inside = absurd inside
     by (r ∷ loops) inside = gives _ Quiet (stood d _)
 perform_ends d (Do i rest) inside =
-    let e : Doing = record d { leaf = record d.leaf { todo = rest } } in same_hand e d (instruct e i) refl refl refl (own_ends e i inside.0 inside.1)
+    let e : Doing = record d { leaf = record d.leaf { todo = rest } } in same_current e d (instruct e i) refl refl refl (own_ends e i inside.0 inside.1)
 perform_ends d (If arm other rest) inside = pop_ends (LeavesOthers d) d.leaf.operands _ (λ a below. gives _ Quiet (stood d _))
 perform_ends d (Loop count body rest) inside = gives _ Quiet (stood d _)
 

@@ -6,13 +6,13 @@ use Rattle.gq_model.specs.declared.program.Place.{Place}
 use Rattle.gq_model.specs.declared.program.Place.TheVariants.{Own, Shared, Object}
 use Rattle.gq_model.specs.declared.program.Form.TheVariants.{Slice}
 use Rattle.gq_model.specs.machine.Scenario.{number_of}
-use Rattle.gq_model.specs.machine.World.{Slot, Spot, In_leaf, In_session, In_object, Session, Hand, Leaf, World, session_at, leaf_slot, session_slot}
+use Rattle.gq_model.specs.machine.World.{Slot, Spot, In_leaf, In_session, In_object, Session, Current, Leaf, World, session_at, leaf_slot, session_slot}
 use Rattle.gq_model.specs.machine.World.{session_object, slot_at, with_leaf, with_session, with_slot, put_leaf_slot, put_session_slot, put_object, spot_of}
 use Rattle.gq_model.specs.machine.Sums.{with_peaks}
 use Rattle.gq_model.specs.machine.Doing.{Doing, Quiet, settled}
 use Rattle.gq_model.specs.rules.Kinds.{Kind, Memory, State, Context, kind_at, with_kind}
 use Rattle.gq_laws.specs.Kept.{Under}
-use Rattle.gq_laws.specs.Typed.{IsKind, AreKinds, IsAtHand, BankMeets, HandMeets, Meets}
+use Rattle.gq_laws.specs.Typed.{IsKind, AreKinds, IsCurrent, BankMeets, CurrentMeets, Meets}
 use Rattle.gq_laws.specs.Statements.{IsSafe, StandsAt}
 use Rattle.gq_model.proofs.Small.{none_some, some_same}
 use Rattle.gq_laws.proofs.linking.Worlds.{set_here, set_else, session_here, session_else, leaf_there, session_there, object_there}
@@ -52,23 +52,24 @@ module _ (promised : ℕ → Option Kind) where
 -- WHAT IS FOUND
 
 -- the slot that a statement names
-pub record Finds (promised : ℕ → Option Kind) (w : World) (x : ℕ) (hand : Option Hand) (place : Place) (kind : Kind) : Type 0 where
+pub record Finds (promised : ℕ → Option Kind) (w : World) (x : ℕ) (current : Option Current) (place : Place) (kind : Kind) : Type 0 where
   pub q : Spot
-  pub named : spot_of x hand place ≡ Some q
+  pub named : spot_of x current place ≡ Some q
   pub slot : Slot
   pub there : slot_at w q ≡ Some slot
   pub is : IsKind promised slot kind
 
 module _ (promised : ℕ → Option Kind) (c : Context) (state : State) (w : World) (x : ℕ) where
-  shared_found : (i : ℕ) (kind : Kind) (hand : Option Hand) → IsAtHand c.section hand → HandMeets promised c state.bank w hand
-      → kind_at c state (Shared i) ≡ Some kind → Finds promised w x hand (Shared i) kind
+  shared_found : (i : ℕ) (kind : Kind) (current : Option Current) → IsCurrent c.section current → CurrentMeets promised c state.bank w current
+      → kind_at c state (Shared i) ≡ Some kind → Finds promised w x current (Shared i) kind
   shared_found i kind None at bank e = absurd (none_some (ap (λ b. cond b None (slice_get state.bank i)) (sym at) ∙ e))
   shared_found i kind (Some g) at bank e =
       let f = kinds_get promised bank.0.slots state.bank i kind bank.2.slots (ap (λ b. cond b None (slice_get state.bank i)) (sym at.1) ∙ e) in
       record { q = In_session g.session i; named = refl; slot = f.0; there = ap (λ o. session_slot o i) bank.1 ∙ f.1; is = f.2 }
 
-  object_found : (kind : Kind) (hand : Option Hand) → IsAtHand c.section hand → HandMeets promised c state.bank w hand → kind_at c state Object ≡ Some kind
-      → Finds promised w x hand Object kind
+  object_found : (kind : Kind) (current : Option Current) → IsCurrent c.section current → CurrentMeets promised c state.bank w current
+      → kind_at c state Object ≡ Some kind
+      → Finds promised w x current Object kind
   object_found kind None at bank e = absurd (none_some (ap (λ b. cond b None (Some (Memory Slice (number_of c.subject.provided (λ i. i.object))))) (sym at)
       ∙ e))
   object_found kind (Some g) at bank e =
@@ -82,43 +83,44 @@ module _ (promised : ℕ → Option Kind) (c : Context) (state : State) (w : Wor
       }
 
   pub found : (leaf old : Leaf) → slice_get w.leaves x ≡ Some old → leaf.slots ≡ old.slots → Meets promised c state w leaf → (place : Place) (kind : Kind)
-      → kind_at c state place ≡ Some kind → Finds promised w x leaf.hand place kind
+      → kind_at c state place ≡ Some kind → Finds promised w x leaf.current place kind
   found leaf old there slots h (Own i) kind e =
       let f = kinds_get promised leaf.slots state.own i kind h.own e in
       record { q = In_leaf x i; named = refl; slot = f.0; there = ap (λ o. leaf_slot o i) there ∙ (ap (λ l. slice_get l i) (sym slots) ∙ f.1); is = f.2 }
-  found leaf old there slots h (Shared i) kind e = shared_found i kind leaf.hand h.hand h.bank e
-  found leaf old there slots h Object kind e = object_found kind leaf.hand h.hand h.bank e
+  found leaf old there slots h (Shared i) kind e = shared_found i kind leaf.current h.current h.bank e
+  found leaf old there slots h Object kind e = object_found kind leaf.current h.current h.bank e
 
 -- WHERE THE LEAF STANDS
 
 module _ (promised : ℕ → Option Kind) (c : Context) where
-  hand_kept : (kinds : List Kind) (v w : World) (hand : Option Hand) → ((k : ℕ) → session_at v k ≡ session_at w k) → HandMeets promised c kinds w hand
-      → HandMeets promised c kinds v hand
-  hand_kept kinds v w None same h = tt
-  hand_kept kinds v w (Some g) same h = (h.0, same g.session ∙ h.1, h.2)
+  current_kept : (kinds : List Kind) (v w : World) (current : Option Current) → ((k : ℕ) → session_at v k ≡ session_at w k)
+      → CurrentMeets promised c kinds w current
+      → CurrentMeets promised c kinds v current
+  current_kept kinds v w None same h = tt
+  current_kept kinds v w (Some g) same h = (h.0, same g.session ∙ h.1, h.2)
 
   pub meets_kept : (state : State) (v w : World) (leaf : Leaf) → ((k : ℕ) → session_at v k ≡ session_at w k) → Meets promised c state w leaf
       → Meets promised c state v leaf
   meets_kept state v w leaf same h = record {
     own = h.own;
-    hand = h.hand;
-    bank = hand_kept state.bank v w leaf.hand same h.bank;
+    current = h.current;
+    bank = current_kept state.bank v w leaf.current same h.bank;
     operands = h.operands;
     locals = h.locals;
     loops = h.loops;
   }
 
-  -- another session in the place of one: what is at hand is as it was, if this is
-  bank_keeps : (state : State) (w : World) (k : ℕ) (t u : Session) → session_at w k ≡ Some t → (hand : Option Hand)
-      → (BankMeets promised c state.bank t → BankMeets promised c state.bank u) → HandMeets promised c state.bank w hand
-      → HandMeets promised c state.bank (with_session w k u) hand
+  -- another session in the place of one: what is current is as it was, if this is
+  bank_keeps : (state : State) (w : World) (k : ℕ) (t u : Session) → session_at w k ≡ Some t → (current : Option Current)
+      → (BankMeets promised c state.bank t → BankMeets promised c state.bank u) → CurrentMeets promised c state.bank w current
+      → CurrentMeets promised c state.bank (with_session w k u) current
   bank_keeps state w k t u there None keeps h = tt
   bank_keeps state w k t u there (Some g) keeps h = elim (eqb_tells g.session k) [
     | inl e ↦ here e.1
     | inr e ↦ (h.0, session_else w k g.session u e.1 ∙ h.1, h.2)
   ]
     where
-      here : g.session ≡ k → HandMeets promised c state.bank (with_session w k u) (Some g)
+      here : g.session ≡ k → CurrentMeets promised c state.bank (with_session w k u) (Some g)
       here e =
           let same : h.0 ≡ t = some_same (sym h.1 ∙ (ap (session_at w) e ∙ there)) in
           (u, ap (session_at (with_session w k u)) e ∙ session_here w k t u there, keeps (subst (BankMeets promised c state.bank) same h.2))
@@ -126,16 +128,16 @@ module _ (promised : ℕ → Option Kind) (c : Context) where
   module _ (d : Doing) where
     -- a leaf put into a world of the same sessions
     pub stands_with : (state : State) (w : World) (old leaf : Leaf) → slice_get w.leaves d.x ≡ Some old → Meets promised c state w leaf
-        → leaf.todo ≡ d.leaf.todo → leaf.loops ≡ d.leaf.loops → leaf.hand ≡ d.leaf.hand → leaf.phase ≡ d.leaf.phase
+        → leaf.todo ≡ d.leaf.todo → leaf.loops ≡ d.leaf.loops → leaf.current ≡ d.leaf.current → leaf.phase ≡ d.leaf.phase
         → StandsAt promised c state d (with_leaf w d.x leaf)
-    stands_with state w old leaf there h todo loops hand phase =
+    stands_with state w old leaf there h todo loops current phase =
         record {
           leaf = leaf;
           there = set_here w.leaves d.x leaf old there;
           meets = meets_kept state (with_leaf w d.x leaf) w leaf (λ k. refl) h;
           todo = todo;
           loops = loops;
-          hand = hand;
+          current = current;
           phase = phase;
         }
 
@@ -144,14 +146,14 @@ module _ (promised : ℕ → Option Kind) (c : Context) where
         let new = with_peaks w d.x s.leaf in
         let m : Meets promised c state w new = record {
           own = s.meets.own;
-          hand = s.meets.hand;
+          current = s.meets.current;
           bank = s.meets.bank;
           operands = s.meets.operands;
           locals = s.meets.locals;
           loops = s.meets.loops;
         } in
         safe_need (slice_get w.leaves d.x) _ _ s.leaf s.there
-        (safe_tested _ _ (safe_gives (with_leaf w d.x new) Quiet (stands_with state w s.leaf new s.there m s.todo s.loops s.hand s.phase)))
+        (safe_tested _ _ (safe_gives (with_leaf w d.x new) Quiet (stands_with state w s.leaf new s.there m s.todo s.loops s.current s.phase)))
 
     -- own slots written
     own_written : (state new : State) (w : World) (s : StandsAt promised c state d w) (i : ℕ) (slot : Slot)
@@ -162,19 +164,19 @@ module _ (promised : ℕ → Option Kind) (c : Context) where
         let m : Meets promised c new w leaf =
         record {
           own = own;
-          hand = s.meets.hand;
-          bank = subst (λ b. HandMeets promised c b w s.leaf.hand) (sym bank) s.meets.bank;
+          current = s.meets.current;
+          bank = subst (λ b. CurrentMeets promised c b w s.leaf.current) (sym bank) s.meets.bank;
           operands = subst (Under s.leaf.operands) (sym bounds) s.meets.operands;
           locals = s.meets.locals;
           loops = s.meets.loops;
         }
         in
         subst (λ o. StandsAt promised c new d (put_leaf_slot w o d.x i slot)) (sym s.there)
-        (stands_with new w s.leaf leaf s.there m s.todo s.loops s.hand s.phase)
+        (stands_with new w s.leaf leaf s.there m s.todo s.loops s.current s.phase)
 
-    -- a session written: the leaf stays, and what is at hand is given
+    -- a session written: the leaf stays, and what is current is given
     session_written : (state new : State) (w v : World) (s : StandsAt promised c state d w) → v.leaves ≡ w.leaves → new.own ≡ state.own
-        → new.bounds ≡ state.bounds → HandMeets promised c new.bank v s.leaf.hand → StandsAt promised c new d v
+        → new.bounds ≡ state.bounds → CurrentMeets promised c new.bank v s.leaf.current → StandsAt promised c new d v
     session_written state new w v s leaves own bounds bank =
         record {
           leaf = s.leaf;
@@ -182,7 +184,7 @@ module _ (promised : ℕ → Option Kind) (c : Context) where
           meets =
               record {
                 own = subst (AreKinds promised s.leaf.slots) (sym own) s.meets.own;
-                hand = s.meets.hand;
+                current = s.meets.current;
                 bank = bank;
                 operands = subst (Under s.leaf.operands) (sym bounds) s.meets.operands;
                 locals = s.meets.locals;
@@ -190,7 +192,7 @@ module _ (promised : ℕ → Option Kind) (c : Context) where
               };
           todo = s.todo;
           loops = s.loops;
-          hand = s.hand;
+          current = s.current;
           phase = s.phase;
         }
 
@@ -200,13 +202,13 @@ module _ (promised : ℕ → Option Kind) (c : Context) where
     put_own state w s i slot kind is = own_written state (with_kind state (Own i) kind) w s i slot
         (kinds_set promised s.leaf.slots state.own i slot kind s.meets.own is) refl refl
 
-    pub put_shared : (state : State) (w : World) (s : StandsAt promised c state d w) (g : Hand) (i : ℕ) (slot : Slot) (kind : Kind) → s.leaf.hand ≡ Some g
+    pub put_shared : (state : State) (w : World) (s : StandsAt promised c state d w) (g : Current) (i : ℕ) (slot : Slot) (kind : Kind) → s.leaf.current ≡ Some g
         → IsKind promised slot kind → StandsAt promised c (with_kind state (Shared i) kind) d (with_slot w (In_session g.session i) slot)
     put_shared state w s g i slot kind at is =
-        let bank = subst (HandMeets promised c state.bank w) at s.meets.bank in
+        let bank = subst (CurrentMeets promised c state.bank w) at s.meets.bank in
         let t : Session = record bank.0 { slots = slice_set bank.0.slots i slot } in
         let v = with_session w g.session t in
-        let h : HandMeets promised c (slice_set state.bank i kind) v (Some g) = (
+        let h : CurrentMeets promised c (slice_set state.bank i kind) v (Some g) = (
           t,
           session_here w g.session bank.0 t bank.1,
           record {
@@ -215,7 +217,8 @@ module _ (promised : ℕ → Option Kind) (c : Context) where
           },
         ) in
         subst (λ o. StandsAt promised c (with_kind state (Shared i) kind) d (put_session_slot w o g.session i slot)) (sym bank.1)
-        (session_written state (with_kind state (Shared i) kind) w v s refl refl refl (subst (HandMeets promised c (slice_set state.bank i kind) v) (sym at) h))
+        (session_written state (with_kind state (Shared i) kind) w v s refl refl refl
+        (subst (CurrentMeets promised c (slice_set state.bank i kind) v) (sym at) h))
 
     -- a slot is written that is of the kinds of the old one
     pub put_alike : (state : State) (w : World) (s : StandsAt promised c state d w) (q : Spot) (old slot : Slot) → slot_at w q ≡ Some old
@@ -239,7 +242,7 @@ module _ (promised : ℕ → Option Kind) (c : Context) where
               meets = meets_kept state (with_leaf w y leaf) w s.leaf (λ k. refl) s.meets;
               todo = s.todo;
               loops = s.loops;
-              hand = s.hand;
+              current = s.current;
               phase = s.phase;
             })
     put_alike state w s (In_session k i) old slot there alike =
@@ -247,14 +250,14 @@ module _ (promised : ℕ → Option Kind) (c : Context) where
         let t : Session = record f.0 { slots = slice_set f.0.slots i slot } in
         subst (λ o. StandsAt promised c state d (put_session_slot w o k i slot)) (sym f.1)
         (session_written state state w (with_session w k t) s refl refl refl
-        (bank_keeps state w k f.0 t f.1 s.leaf.hand (λ b.
+        (bank_keeps state w k f.0 t f.1 s.leaf.current (λ b.
         record { slots = kinds_keep promised f.0.slots state.bank i old slot b.slots f.2 alike; object = b.object }) s.meets.bank))
     put_alike state w s (In_object k) old slot there alike =
         let f = object_there w k old there in
         let t : Session = record f.0 { object = slot } in
         subst (λ o. StandsAt promised c state d (put_object w o k slot)) (sym f.1)
         (session_written state state w (with_session w k t) s refl refl refl
-        (bank_keeps state w k f.0 t f.1 s.leaf.hand (λ b.
+        (bank_keeps state w k f.0 t f.1 s.leaf.current (λ b.
         record {
           slots = b.slots;
           object = alike _ (subst

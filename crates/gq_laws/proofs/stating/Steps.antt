@@ -23,7 +23,7 @@ use Rattle.gq_model.specs.rules.Kinds.{Kind, Memory, Pool_kind, State, Context, 
 use Rattle.gq_model.specs.rules.Rules.{Judged, must, popped, pushed, pooled, reached, reach, pool_kind, bound_of, loaded_bound, judge}
 use Rattle.gq_laws.specs.Kept.{Under}
 use Rattle.gq_laws.specs.Typed.{AreBytes, IsEntry, Meets}
-use Rattle.gq_laws.specs.Statements.{IsSafe, IsOfOwn, Takes, Grants, StandsAt, GoesAsRuled}
+use Rattle.gq_laws.specs.Statements.{IsSafe, IsOfOwn, TakesLeaf, Grants, StandsAt, GoesAsRuled}
 use Rattle.gq_laws.proofs.stating.Rules.{safe_gives, safe_need, safe_when, safe_pop, safe_push, given_there, popped_there, pushed_there}
 use Rattle.gq_laws.proofs.stating.Rules.{judged_alone}
 use Rattle.gq_laws.proofs.stating.Numbers.{divided, remains, combines, each_set, each_get, under_length, under_top, under_index, under_set}
@@ -41,7 +41,7 @@ and_left false b e = e
 divides : (n high : ℕ) → (between 1 high n && true) ≡ true → 1 ≤ n
 divides n high e = leb-true 1 n (and_left (nat_le 1 n) (nat_le n high) (and_left (between 1 high n) true e))
 
-module _ (promised : ℕ → Option Kind) (c : Context) (d : Doing) (t : Takes d) (g : Grants promised c d) (state : State)
+module _ (promised : ℕ → Option Kind) (c : Context) (d : Doing) (t : TakesLeaf d) (g : Grants promised c d) (state : State)
     (h : Meets promised c state d.world d.leaf) where
   abbrev At : List ℕ → World → Type 0
   At bounds = StandsAt promised c (record state { bounds = bounds }) d
@@ -53,7 +53,7 @@ module _ (promised : ℕ → Option Kind) (c : Context) (d : Doing) (t : Takes d
   stands ops locs bounds u l =
       let leaf : Leaf = record d.leaf { operands = ops; locals = locs } in
       let m : Meets promised c (record state { bounds = bounds }) d.world leaf =
-      record { own = h.own; hand = h.hand; bank = h.bank; operands = u; locals = l; loops = h.loops } in
+      record { own = h.own; current = h.current; bank = h.bank; operands = u; locals = l; loops = h.loops } in
       stands_with promised c d (record state { bounds = bounds }) d.world t.old leaf t.there m refl refl refl refl
 
   Ends_at : State → Stepped → Type 0
@@ -333,6 +333,6 @@ module _ (promised : ℕ → Option Kind) (c : Context) (d : Doing) (t : Takes d
   goes new (Close place) own ranged e = absurd own
 
 -- each of them goes as the rules tell
-pub own_goes : (promised : ℕ → Option Kind) (c : Context) (d : Doing) → Takes d → Grants promised c d → GoesAsRuled promised c d
+pub own_goes : (promised : ℕ → Option Kind) (c : Context) (d : Doing) → TakesLeaf d → Grants promised c d → GoesAsRuled promised c d
 unfolding Ends_at
 own_goes promised c d t g state new i own ranged h allowed = goes promised c d t g state h new i own ranged (judged_alone c state i new allowed)

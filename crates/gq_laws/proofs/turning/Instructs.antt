@@ -9,7 +9,7 @@ use Rattle.gq_model.specs.declared.program.Section.TheVariants.{Main, Opening, U
 use Rattle.gq_model.specs.declared.phase.Phase.TheVariants.{Blocked}
 use Rattle.gq_model.specs.declared.fault.Wrong.TheVariants.{WrongKind, ExceededQuota, MissingSection}
 use Rattle.gq_model.specs.machine.Program.{section_in}
-use Rattle.gq_model.specs.machine.World.{Slot, Empty, Waiting, Link, Spot, Session, Ask, Ask_call, Request, Hand, World, session_at}
+use Rattle.gq_model.specs.machine.World.{Slot, Empty, Waiting, Link, Spot, Session, Ask, Ask_call, Request, Current, World, session_at}
 use Rattle.gq_model.specs.machine.World.{slot_at, spot_of, with_leaf, with_slot}
 use Rattle.gq_model.specs.machine.Sums.{paid}
 use Rattle.gq_model.specs.machine.Doing.{Doing, Quiet, standing, with_operands, settled}
@@ -65,7 +65,7 @@ module _ (d : Doing) (Q P : World → Type 0) (here : Q d.world) (writes : (w : 
   asked_by w spot k ask h = asked_with d.leaf.operands w spot k ask h
 
   call_ends : (place : Place) → Ends P (call d place)
-  call_ends place = pop_ends P _ _ (λ a rest. need_ends P (spot_of d.x d.leaf.hand place) WrongKind _
+  call_ends place = pop_ends P _ _ (λ a rest. need_ends P (spot_of d.x d.leaf.current place) WrongKind _
       (λ spot. link_in_ends P d.world (slot_at d.world spot) _ (λ k s. asked_with rest d.world spot k (Ask_call a) here)))
 
   stands : (w : World) (operands : List ℕ) → Q w → P (with_leaf w d.x (record d.leaf { operands = operands }))
@@ -140,9 +140,9 @@ module _ (d : Doing) (P : World → Type 0) (written : (w : World) (spot : Spot)
   reply_by k (Closing l) s = close_ends k s
 
   -- the end of a section, where the end of `main` is known
-  pub section_by : Ends P (main_ended d d.component.node.provides) → (hand : Option Hand) → Ends P (section_ended d hand)
+  pub section_by : Ends P (main_ended d d.component.node.provides) → (current : Option Current) → Ends P (section_ended d current)
   section_by main None = main
-  section_by main (Some hand) = need_ends P (session_at d.world hand.session) WrongKind _ (reply_by hand.session hand.section)
+  section_by main (Some current) = need_ends P (session_at d.world current.session) WrongKind _ (reply_by current.session current.section)
 
 -- REQUESTS THAT ARE ACCEPTED
 

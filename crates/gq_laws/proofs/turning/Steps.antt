@@ -6,7 +6,7 @@ use Rattle.std.proofs.lemmas.List.{length-map}
 use Rattle.gq_model.specs.machine.Program.{Statements, Done, Do, If, Loop}
 use Rattle.gq_model.specs.declared.program.Instruction.{Instruction}
 use Rattle.gq_model.specs.machine.Scenario.{System, Component}
-use Rattle.gq_model.specs.machine.World.{Slot, Spot, Request, Hand, Round, Leaf, World}
+use Rattle.gq_model.specs.machine.World.{Slot, Spot, Request, Current, Round, Leaf, World}
 use Rattle.gq_model.specs.machine.World.{with_leaf, with_slot}
 use Rattle.gq_model.specs.machine.Doing.{Doing, Event, Idle, Stepped, standing, settled}
 use Rattle.gq_model.specs.declared.phase.Phase.{Phase}
@@ -87,12 +87,12 @@ module _ (d : Doing) (steps : List ℕ) (up : slice_set (steps_of d.world) d.x d
       when_ends (Counted steps) _ _ _ (gives _ _ (same_released d.component.node.name d.system.components (standing d (exited d.leaf)).leaves
       ∙ stands (exited d.leaf) refl))
 
-  section_ends : (hand : Option Hand) → Ends (Counted steps) (section_ended d hand)
-  section_ends hand = section_by d (Counted steps) (same_slot steps) (stands (serving d.leaf) refl) (same_active steps) (λ w k h. h)
-      (main_ends d.component.node.provides) hand
+  section_ends : (current : Option Current) → Ends (Counted steps) (section_ended d current)
+  section_ends current = section_by d (Counted steps) (same_slot steps) (stands (serving d.leaf) refl) (same_active steps) (λ w k h. h)
+      (main_ends d.component.node.provides) current
 
   body_ends : (loops : List Round) → Ends (Counted steps) (body_ended d loops)
-  body_ends [] = section_ends d.leaf.hand
+  body_ends [] = section_ends d.leaf.current
   body_ends (r ∷ loops) = gives _ _ (stands _ (by_round (nat_lt (suc r.round) r.count)))
     where
       by_round : (b : Bool) → (cond b (record d.leaf { todo = r.body; loops = record r { round = suc r.round } ∷ loops })

@@ -13,7 +13,8 @@ use Rattle.gq_model.specs.machine.Amounts.{amount}
 use Rattle.gq_model.specs.machine.Scenario.{System, Component, interface_in, open_caps}
 use Rattle.gq_model.specs.machine.Routes.{server_of}
 use Rattle.gq_model.specs.machine.World.{Slot, Waiting, Spot, In_leaf, In_session, In_object, Session, Ask, Ask_open, Ask_upgrade, Ask_close, Ask_call}
-use Rattle.gq_model.specs.machine.World.{Request, Hand, Round, Leaf, World, start_leaves, start, joined, session_at, slot_at, spot_of, with_leaf, with_session}
+use Rattle.gq_model.specs.machine.World.{Request, Current, Round, Leaf, World, start_leaves, start, joined, session_at, slot_at, spot_of, with_leaf}
+use Rattle.gq_model.specs.machine.World.{with_session}
 use Rattle.gq_model.specs.machine.World.{with_slot, put_leaf_slot, put_session_slot, put_object}
 use Rattle.gq_model.specs.machine.Sums.{raised}
 use Rattle.gq_model.specs.machine.Doing.{Doing, Event, standing, settled}
@@ -152,7 +153,7 @@ module _ (d : Doing) (h : IsWholeWorld d.system d.world) (fits : IsWholeLeaf d.l
 
   open_ends : (place : Place) (service : List ℕ) (m : ℕ) → Ends P (open_session d place service m)
   open_ends place service m =
-      need_ends P (spot_of d.x d.leaf.hand place) WrongKind _
+      need_ends P (spot_of d.x d.leaf.current place) WrongKind _
       (λ spot. fill_ends P P (whole_slot d.system) d.world spot (slot_at d.world spot) (Waiting (free_place d.world.sessions)) _ h
       (λ w hw. need_found P (server_of d.system d.component service) WrongKind _ (λ server found.
       let session = new_session d.x spot server service (amount m (open_caps (interface_in service d.system.interfaces))) in
@@ -162,7 +163,7 @@ module _ (d : Doing) (h : IsWholeWorld d.system d.world) (fits : IsWholeLeaf d.l
 
   upgrade_ends : (place : Place) (m : ℕ) → Ends P (upgrade d place m)
   upgrade_ends place m =
-      need_ends P (spot_of d.x d.leaf.hand place) WrongKind _
+      need_ends P (spot_of d.x d.leaf.current place) WrongKind _
       (λ spot. link_in_found P d.world (slot_at d.world spot) _
       (λ k s there. asked_ends _ spot k Ask_upgrade (whole_session d.system d.world k _ h (session_of d.system d.world k s h there))))
 
@@ -186,17 +187,17 @@ module _ (d : Doing) (h : IsWholeWorld d.system d.world) (fits : IsWholeLeaf d.l
   main_ends (Some service) = gives _ _ (stands (serving d.leaf) fits)
   main_ends None = when_ends P _ _ _ (gives _ _ exit_ends)
 
-  section_ends : (hand : Option Hand) → Ends P (section_ended d hand)
-  section_ends hand = section_by d P (whole_slot d.system) (stands (serving d.leaf) fits) (whole_active d.system)
+  section_ends : (current : Option Current) → Ends P (section_ended d current)
+  section_ends current = section_by d P (whole_slot d.system) (stands (serving d.leaf) fits) (whole_active d.system)
       (λ w k hw. record {
         count = hw.count;
         leaves = hw.leaves;
         sessions = each_set (IsWholeSession (length d.system.components)) w.sessions k None hw.sessions tt;
       })
-      (main_ends d.component.node.provides) hand
+      (main_ends d.component.node.provides) current
 
   body_ends : (loops : List Round) → Ends P (body_ended d loops)
-  body_ends [] = section_ends d.leaf.hand
+  body_ends [] = section_ends d.leaf.current
   body_ends (r ∷ loops) = gives _ _ (stands _ (by_round (nat_lt (suc r.round) r.count)))
     where
       by_round : (b : Bool) → IsWholeLeaf (cond b (record d.leaf { todo = r.body; loops = record r { round = suc r.round } ∷ loops })

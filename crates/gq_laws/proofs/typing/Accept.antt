@@ -8,7 +8,7 @@ use Rattle.gq_model.specs.declared.program.Section.TheVariants.{Upgrading}
 use Rattle.gq_model.specs.declared.phase.Phase.TheVariants.{Serving}
 use Rattle.gq_model.specs.machine.Program.{Statements, section_in, body_of}
 use Rattle.gq_model.specs.machine.Scenario.{Interface, System, interface_in, number_of}
-use Rattle.gq_model.specs.machine.World.{Session, Ask, Ask_open, Ask_upgrade, Ask_close, Ask_call, Request, Hand, Leaf, World, session_at, with_session}
+use Rattle.gq_model.specs.machine.World.{Session, Ask, Ask_open, Ask_upgrade, Ask_close, Ask_call, Request, Current, Leaf, World, session_at, with_session}
 use Rattle.gq_model.specs.declared.fault.Wrong.{Wrong}
 use Rattle.gq_model.specs.machine.Doing.{Doing, Stepped, Quiet, need, standing}
 use Rattle.gq_model.specs.machine.Step.{oldest, section_for, first_operands, accepted_as, beginning, accept}
@@ -16,10 +16,10 @@ use Rattle.gq_model.specs.rules.Kinds.{Kind, Memory, State, Subject, no_kinds}
 use Rattle.gq_model.specs.rules.Flow.{flow, context, body, start_of, section_end, own_after, bank_at, bank_before}
 use Rattle.gq_model.specs.rules.Use.{subject}
 use Rattle.gq_model.specs.rules.Verdict.{is_wanted, program_fault}
-use Rattle.gq_laws.specs.Kept.{level_then, section_at_hand, section_if, kind_replied}
+use Rattle.gq_laws.specs.Kept.{level_then, current_section, section_if, kind_replied}
 use Rattle.gq_laws.specs.Links.{outline, outline_in, stance, links, requests_of, is_open, Stands, Fits, IsAsked, IsLinkedWorld}
 use Rattle.gq_laws.specs.Typed.{IsKind, AreKinds}
-use Rattle.gq_laws.specs.Statements.{IsSafe, Takes}
+use Rattle.gq_laws.specs.Statements.{IsSafe, TakesLeaf}
 use Rattle.gq_laws.specs.Sections.{HasObject, IsAtRest, Begins}
 use Rattle.gq_laws.specs.Typing.{Extra, StandsBy, RestsAt, FitsRequest, IsTypedBy}
 use Rattle.gq_laws.specs.internal.Carrying.{Carries}
@@ -94,8 +94,8 @@ object_rests promised n Ask_upgrade s e object = object e
 object_rests promised n Ask_close s e object = object e
 object_rests promised n (Ask_call value) s e object = object e
 
--- who serves has nothing at hand
-free_serving : (hand : Option Hand) → Fits Serving hand → hand ≡ None
+-- who serves has no current request
+free_serving : (current : Option Current) → Fits Serving current → current ≡ None
 free_serving None f = refl
 free_serving (Some g) f = absurd f
 
@@ -105,7 +105,7 @@ ends_need {P} o wrong go a e h = subst (λ o. Ends P (need o wrong go)) (sym e) 
 
 -- THE REQUEST THAT IS TAKEN UP
 
-module _ (promised : ℕ → Option Kind) (before after : Extra) (d : Doing) (carries : Carries d.x before after) (sure : IsSure d.system) (takes : Takes d)
+module _ (promised : ℕ → Option Kind) (before after : Extra) (d : Doing) (carries : Carries d.x before after) (sure : IsSure d.system) (takes : TakesLeaf d)
     (h : IsLinkedWorld d.system d.world) (t : IsTypedBy promised before d.system d.world) (at : slice_get d.system.components d.x ≡ Some d.component)
     (serves : d.leaf.phase ≡ Serving)
     (sections_there : (v : Subject) (i : Interface) (section : Section) → program_fault v ≡ None → v.provided ≡ Some i → length i.upgrades ≤ 3
@@ -136,15 +136,16 @@ module _ (promised : ℕ → Option Kind) (before after : Extra) (d : Doing) (ca
   found = oldest_found (FitsRequest d.system d.world) d.world d.x d.world.requests (r, rest) e
 
   accepted : old.accepted ≡ not (is_open r.ask)
-  accepted = asked_as d (record { old = takes.old; there = takes.there; slots = takes.slots; phase = takes.phase; hand = takes.hand }) h serves r rest
+  accepted = asked_as d (record { old = takes.old; there = takes.there; slots = takes.slots; phase = takes.phase; current = takes.current }) h serves r rest
       linked_found old there
 
   server : old.server ≡ d.x
-  server = server_is d (record { old = takes.old; there = takes.there; slots = takes.slots; phase = takes.phase; hand = takes.hand }) h serves r rest
+  server = server_is d (record { old = takes.old; there = takes.there; slots = takes.slots; phase = takes.phase; current = takes.current }) h serves r rest
       linked_found old there
 
-  free : takes.old.hand ≡ None
-  free = sym takes.hand ∙ free_serving d.leaf.hand (subst (λ p. Fits p d.leaf.hand) serves (h.fits d.x (stance d.leaf.phase d.leaf.hand) (stood d takes)))
+  free : takes.old.current ≡ None
+  free = sym takes.current
+      ∙ free_serving d.leaf.current (subst (λ p. Fits p d.leaf.current) serves (h.fits d.x (stance d.leaf.phase d.leaf.current) (stood d takes)))
 
   -- it is the one request of its session
   none_left : requests_of k rest ≡ 0
@@ -173,8 +174,8 @@ module _ (promised : ℕ → Option Kind) (before after : Extra) (d : Doing) (ca
   at_server = ap (slice_get d.system.components) server ∙ at
 
   rests : RestsAt promised d.system d.component old
-  rests = (t.sessions k old there).rests d.component at_server (ap (λ y. section_at_hand k (slice_get d.world.leaves y)) server
-      ∙ (ap (section_at_hand k) takes.there ∙ ap (section_if k) free))
+  rests = (t.sessions k old there).rests d.component at_server (ap (λ y. current_section k (slice_get d.world.leaves y)) server
+      ∙ (ap (current_section k) takes.there ∙ ap (section_if k) free))
 
   provided : interface_in old.service d.system.interfaces ≡ v.provided
   provided = let route = h.routed k (outline old) (ap outline_in there) in
@@ -259,7 +260,7 @@ module _ (promised : ℕ → Option Kind) (before after : Extra) (d : Doing) (ca
         short = begins_safe.short;
       }
 
-pub accept_typed : (promised : ℕ → Option Kind) (before after : Extra) (d : Doing) → Carries d.x before after → IsSure d.system → Takes d
+pub accept_typed : (promised : ℕ → Option Kind) (before after : Extra) (d : Doing) → Carries d.x before after → IsSure d.system → TakesLeaf d
     → IsLinkedWorld d.system d.world → IsTypedBy promised before d.system d.world
     → slice_get d.system.components d.x ≡ Some d.component → d.leaf.phase ≡ Serving
     → (sections_there : (v : Subject) (i : Interface) (section : Section) → program_fault v ≡ None → v.provided ≡ Some i → length i.upgrades ≤ 3

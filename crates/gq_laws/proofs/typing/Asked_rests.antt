@@ -1,4 +1,4 @@
--- Once a leaf has asked something of a session, sessions that are not at hand stand as they did, and each request is one that its service takes.
+-- Once a leaf has asked something of a session, sessions that are not current stand as they did, and each request is one that its service takes.
 use Rattle.std.proofs.Common.{◌≡◌, ◌≢◌, ℕ, zero, suc, replicate, ◌≤◌, length, inl, inr, cond, true, List, Option, Some, None, refl, ap, sym, ◌∙◌, subst}
 use Rattle.std.proofs.Common.{arith}
 use Rattle.std.specs.Prelude.{slice_get}
@@ -9,17 +9,17 @@ use Rattle.gq_model.specs.declared.program.Section.TheVariants.{Opening, Upgradi
 use Rattle.gq_model.specs.declared.program.Instruction.{Instruction}
 use Rattle.gq_model.specs.declared.program.Instruction.TheVariants.{Open, Upgrade, Call, Close}
 use Rattle.gq_model.specs.machine.Scenario.{Component, Interface, interface_in}
-use Rattle.gq_model.specs.machine.World.{Empty, Spot, Session, Ask, Request, Hand, Leaf, World, session_at}
+use Rattle.gq_model.specs.machine.World.{Empty, Spot, Session, Ask, Request, Current, Leaf, World, session_at}
 use Rattle.gq_model.specs.machine.Doing.{Doing}
 use Rattle.gq_model.specs.machine.Requests.{new_session}
 use Rattle.gq_model.specs.machine.Step.{section_for}
 use Rattle.gq_model.specs.rules.Kinds.{Kind, Empty_kind}
-use Rattle.gq_laws.specs.Kept.{level_then, section_if, section_at_hand, bank_kinds}
+use Rattle.gq_laws.specs.Kept.{level_then, section_if, current_section, bank_kinds}
 use Rattle.gq_model.specs.rules.Verdict.{is_wanted}
 use Rattle.gq_laws.specs.Shapes.{Each}
 use Rattle.gq_laws.specs.Links.{outline_in, stance, links, IsLinkedWorld}
 use Rattle.gq_laws.specs.Typed.{AreKinds}
-use Rattle.gq_laws.specs.Statements.{Takes}
+use Rattle.gq_laws.specs.Statements.{TakesLeaf}
 use Rattle.gq_laws.specs.Asking.{promised_anew, IsAsk, IsWithin}
 use Rattle.gq_laws.specs.Typing.{RestsAt, FitsService, FitsRequest}
 use Rattle.gq_model.proofs.Small.{some_same, none_some}
@@ -28,24 +28,25 @@ use Rattle.gq_laws.proofs.linking.Quiet.{stood}
 use Rattle.gq_laws.proofs.asking.Slots.{kind_anew, kinds_anew}
 use Rattle.gq_laws.proofs.typing.Asked_worlds.{Asked}
 use Rattle.gq_laws.proofs.typing.Asked_services.{KnowsService}
-use Rattle.gq_laws.proofs.typing.Asked_tells.{session_was, hands_same, none_at_hand}
-use Rattle.gq_laws.proofs.typing.Asked_stands.{not_at_hand, bank_free, object_free}
+use Rattle.gq_laws.proofs.typing.Asked_tells.{session_was, all_current_same, none_current}
+use Rattle.gq_laws.proofs.typing.Asked_stands.{not_current, bank_free, object_free}
 
 empty_kinds : (promised : ℕ → Option Kind) (n : ℕ) → AreKinds promised (replicate n Empty) (replicate n Empty_kind)
 empty_kinds promised zero = tt
 empty_kinds promised (suc n) = (refl, empty_kinds promised n)
 
--- what is at a leaf's hand
-hand_there : (j : ℕ) (o : Option Leaf) (leaf : Leaf) (g : Hand) → o ≡ Some leaf → leaf.hand ≡ Some g → g.session ≡ j → section_at_hand j o ≡ Some g.section
-hand_there j o leaf g e at same = ap (section_at_hand j) e
+-- what is current at a leaf
+current_there : (j : ℕ) (o : Option Leaf) (leaf : Leaf) (g : Current) → o ≡ Some leaf → leaf.current ≡ Some g → g.session ≡ j
+    → current_section j o ≡ Some g.section
+current_there j o leaf g e at same = ap (current_section j) e
     ∙ (ap (section_if j) at ∙ elim (eqb_tells g.session j) [ inl f ↦ ap (λ b. cond b (Some g.section) None) f.0 | inr f ↦ absurd (f.1 same) ])
 
-module _ (promised : ℕ → Option Kind) (kind : Kind) (d : Doing) (t : Takes d) (h : IsLinkedWorld d.system d.world) (i : Instruction) (k : ℕ) (s : Session)
+module _ (promised : ℕ → Option Kind) (kind : Kind) (d : Doing) (t : TakesLeaf d) (h : IsLinkedWorld d.system d.world) (i : Instruction) (k : ℕ) (s : Session)
     (w : World) (a : Asked d i k s w) where
   abbrev anew : ℕ → Option Kind
   anew = promised_anew promised k kind
 
-  rests_anew : (j : ℕ) (u : Session) → ((g : Hand) → d.leaf.hand ≡ Some g → g.session ≢ j) → session_at d.world j ≡ Some u → (server : Component)
+  rests_anew : (j : ℕ) (u : Session) → ((g : Current) → d.leaf.current ≡ Some g → g.session ≢ j) → session_at d.world j ≡ Some u → (server : Component)
       → RestsAt promised d.system server u → RestsAt anew d.system server u
   rests_anew j u else there server r =
       record {
@@ -53,15 +54,15 @@ module _ (promised : ℕ → Option Kind) (kind : Kind) (d : Doing) (t : Takes d
         object = λ yes. kind_anew promised k kind u.object _ (object_free promised kind d t h i k s w a j u there) (r.object yes);
       }
 
-  -- a session that is at no hand of its server is not at the leaf's hand
-  at_rest : (j : ℕ) (u : Session) → session_at d.world j ≡ Some u → section_at_hand j (slice_get d.world.leaves u.server) ≡ None → (g : Hand)
-      → d.leaf.hand ≡ Some g → g.session ≢ j
+  -- a session that is not current at its server is not current at the leaf
+  at_rest : (j : ℕ) (u : Session) → session_at d.world j ≡ Some u → current_section j (slice_get d.world.leaves u.server) ≡ None → (g : Current)
+      → d.leaf.current ≡ Some g → g.session ≢ j
   at_rest j u there none g handed same =
       let f = h.handles d.x d.leaf.phase g (stood d t ∙ ap (λ o. Some (stance d.leaf.phase o)) handed) in
       let server : u.server ≡ d.x = ap (λ (s : Session). s.server) (some_same (sym (ap outline_in there) ∙ (ap (links d.world).sessions (sym same) ∙ f.1)))
       ∙ f.2 in
-      none_some (sym none ∙ (ap (λ y. section_at_hand j (slice_get d.world.leaves y)) server
-      ∙ hand_there j (slice_get d.world.leaves d.x) t.old g t.there (sym t.hand ∙ handed) same))
+      none_some (sym none ∙ (ap (λ y. current_section j (slice_get d.world.leaves y)) server
+      ∙ current_there j (slice_get d.world.leaves d.x) t.old g t.there (sym t.current ∙ handed) same))
 
   fits_else : (j : ℕ) (u : Session) → j ≢ k → session_at w j ≡ Some u
       → ((v : Session) → session_at d.world j ≡ Some v → FitsService promised d.system d.world j v) → FitsService anew d.system w j u
@@ -76,7 +77,7 @@ module _ (promised : ℕ → Option Kind) (kind : Kind) (d : Doing) (t : Takes d
         known = ap (λ l. interface_in l d.system.interfaces) (sym service) ∙ f.known;
         level = subst (λ l. l ≤ length f.interface.upgrades) level f.level;
         rests = λ c of none. (
-            let before = ap (λ y. section_at_hand j (slice_get d.world.leaves y)) (sym server) ∙ (sym (hands_same d t i k s w a j u.server) ∙ none) in
+            let before = ap (λ y. current_section j (slice_get d.world.leaves y)) (sym server) ∙ (sym (all_current_same d t i k s w a j u.server) ∙ none) in
             let else = at_rest j r.old r.there before in
             subst (λ u. RestsAt anew d.system c u) (sym (r.same else))
             (rests_anew j r.old else r.there c (f.rests c (ap (slice_get d.system.components) (sym server) ∙ of) before)));
@@ -89,7 +90,7 @@ module _ (promised : ℕ → Option Kind) (kind : Kind) (d : Doing) (t : Takes d
         interface = f.interface;
         known = f.known;
         level = f.level;
-        rests = λ c of none. rests_anew k old (not_at_hand promised kind d t h i k s w a) there c (f.rests c of (none_at_hand d t i k s w a old.server));
+        rests = λ c of none. rests_anew k old (not_current promised kind d t h i k s w a) there c (f.rests c of (none_current d t i k s w a old.server));
       }
 
   given_fits : (old : Session) (more : Amount) → FitsService anew d.system w k old → FitsService anew d.system w k (record old { donation = more })
@@ -111,7 +112,7 @@ module _ (promised : ℕ → Option Kind) (kind : Kind) (d : Doing) (t : Takes d
         rests = λ c of none. record { bank = empty_kinds anew 8; object = λ yes. absurd (false≢true yes) };
       }
 
-module _ (promised : ℕ → Option Kind) (kind : Kind) (d : Doing) (t : Takes d) (h : IsLinkedWorld d.system d.world) (k : ℕ) (s : Session) (w : World) where
+module _ (promised : ℕ → Option Kind) (kind : Kind) (d : Doing) (t : TakesLeaf d) (h : IsLinkedWorld d.system d.world) (k : ℕ) (s : Session) (w : World) where
   fits_here : (i : Instruction) → Asked d i k s w → KnowsService d.system i s
       → ((v : Session) → session_at d.world k ≡ Some v → FitsService promised d.system d.world k v) → FitsService (promised_anew promised k kind) d.system w k s
   fits_here (Open place service n) a knows old =

@@ -14,7 +14,7 @@ use Rattle.gq_laws.specs.Kept.{level_then}
 use Rattle.gq_model.specs.rules.Kinds.{Kind, Link_kind, State, Context, kind_at}
 use Rattle.gq_model.specs.rules.Rules.{is_empty_kind, link_kind, may_change, called, judge, judged}
 use Rattle.gq_laws.specs.Typed.{IsKind, Meets}
-use Rattle.gq_laws.specs.Statements.{Takes, Grants}
+use Rattle.gq_laws.specs.Statements.{TakesLeaf, Grants}
 use Rattle.gq_laws.specs.Asking.{TellsLinks, while_waiting, IsAsk}
 use Rattle.gq_laws.specs.Replies.{once_replied}
 use Rattle.gq_model.proofs.Small.{some_same}
@@ -35,10 +35,11 @@ pub record KnowsService (system : System) (i : Instruction) (s : Session) : Type
   pub known : interface_in s.service system.interfaces ≡ Some interface
   pub next : HasNext i s.level interface
 
-module _ (promised : ℕ → Option Kind) (c : Context) (d : Doing) (t : Takes d) (tells : TellsLinks promised d.world) (g : Grants promised c d) (state : State)
+module _ (promised : ℕ → Option Kind) (c : Context) (d : Doing) (t : TakesLeaf d) (tells : TellsLinks promised d.world) (g : Grants promised c d)
+    (state : State)
     (m : Meets promised c state d.world d.leaf) where
   -- the link is of the session's service and level
-  pub linked_service : (place : Place) (q : Spot) (k : ℕ) (old : Session) → spot_of d.x d.leaf.hand place ≡ Some q → slot_at d.world q ≡ Some (Link k)
+  pub linked_service : (place : Place) (q : Spot) (k : ℕ) (old : Session) → spot_of d.x d.leaf.current place ≡ Some q → slot_at d.world q ≡ Some (Link k)
       → session_at d.world k ≡ Some old
       → (l : List ℕ × ℕ × Amount) → link_kind (kind_at c state place) ≡ Some l → (l.0 ≡ old.service) × (l.1 ≡ old.level)
   linked_service place q k old spot link there l e =
@@ -116,12 +117,12 @@ module _ (promised : ℕ → Option Kind) (c : Context) (d : Doing) (t : Takes d
       stands ∙ (ap (λ m. record taken { bounds = m ∷ p.1 }) reply ∙ (ap (after (Ask_call is.0)) (sym stands) ∙ ap (λ ask. after ask new) (sym is.1)))
   resumed_by _ ask is k s w new a e = absurd is
 
-pub knows_service : (promised : ℕ → Option Kind) (c : Context) (d : Doing) (i : Instruction) (state new : State) → Takes d → TellsLinks promised d.world
+pub knows_service : (promised : ℕ → Option Kind) (c : Context) (d : Doing) (i : Instruction) (state new : State) → TakesLeaf d → TellsLinks promised d.world
     → Grants promised c d → Meets promised c state d.world d.leaf → judged c state i ≡ Ok new
     → (k : ℕ) (s : Session) (w : World) → Asked d i k s w → KnowsService d.system i s
 knows_service promised c d i state new t tells g m e k s w a = knows_by promised c d t tells g state m i k s w new a (judged_alone c state i new e)
 
-pub resumes_at : (promised : ℕ → Option Kind) (c : Context) (d : Doing) (i : Instruction) (state new : State) → Takes d → TellsLinks promised d.world
+pub resumes_at : (promised : ℕ → Option Kind) (c : Context) (d : Doing) (i : Instruction) (state new : State) → TakesLeaf d → TellsLinks promised d.world
     → Grants promised c d → Meets promised c state d.world d.leaf → judged c state i ≡ Ok new
     → (k : ℕ) (s : Session) (w : World) (a : Asked d i k s w)
     → new ≡ once_replied (number_of (interface_in s.service d.system.interfaces) (λ i. i.reply)) (section_for a.ask (level_then a.ask s.level))

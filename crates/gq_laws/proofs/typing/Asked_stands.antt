@@ -7,7 +7,8 @@ use Rattle.gq_model.specs.declared.phase.Phase.TheVariants.{Blocked}
 use Rattle.gq_model.specs.declared.program.Instruction.{Instruction}
 use Rattle.gq_model.specs.machine.Program.{Statements, section_in}
 use Rattle.gq_model.specs.machine.Scenario.{Component, interface_in, number_of}
-use Rattle.gq_model.specs.machine.World.{Slot, Waiting, Spot, In_leaf, In_session, In_object, Session, Hand, Leaf, World, session_at, session_object, leaf_slot}
+use Rattle.gq_model.specs.machine.World.{Slot, Waiting, Spot, In_leaf, In_session, In_object, Session, Current, Leaf, World, session_at, session_object}
+use Rattle.gq_model.specs.machine.World.{leaf_slot}
 use Rattle.gq_model.specs.machine.World.{session_slot, slot_at, Round}
 use Rattle.gq_model.specs.machine.Doing.{Doing}
 use Rattle.gq_model.specs.machine.Step.{section_for}
@@ -17,34 +18,35 @@ use Rattle.gq_model.specs.rules.Use.{subject}
 use Rattle.gq_laws.specs.Kept.{level_then, section_asked, within, Continues}
 use Rattle.gq_laws.specs.Links.{naming_in, stance, stance_in, links, IsLinkedWorld}
 use Rattle.gq_laws.specs.Typed.{Meets}
-use Rattle.gq_laws.specs.Statements.{Takes}
+use Rattle.gq_laws.specs.Statements.{TakesLeaf}
 use Rattle.gq_laws.specs.Asking.{promised_anew, while_waiting, Awaits}
 use Rattle.gq_laws.specs.Replies.{once_replied}
 use Rattle.gq_laws.specs.Typing.{Extra, section_of, IsAwaited, IsInSection, StandsBy, StandAll}
 use Rattle.gq_laws.specs.internal.Carrying.{Carries}
 use Rattle.gq_model.proofs.Small.{some_same, none_some}
 use Rattle.gq_laws.proofs.linking.Quiet.{stood}
-use Rattle.gq_laws.proofs.asking.Slots.{Free, AreFree, kinds_anew, hand_anew}
+use Rattle.gq_laws.proofs.asking.Slots.{Free, AreFree, kinds_anew, current_anew}
 use Rattle.gq_laws.proofs.typing.Worlds.{stands_else}
 use Rattle.gq_laws.proofs.typing.Asked_worlds.{IsMine, Asked, then_else}
 use Rattle.gq_laws.proofs.typing.Asked_tells.{session_now, asked_else, asked_none, asked_here}
 use Rattle.gq_model.specs.declared.program.Section.{Section}
-use Rattle.gq_laws.proofs.typing.Inside.{hand_else as other_hand}
+use Rattle.gq_laws.proofs.typing.Inside.{current_else as other_current}
 
 -- SPOTS
 
 -- the leaf's spot is none of another leaf, of no other session, and no object
-pub mine_leaf : (x : ℕ) (hand : Option Hand) (q : Spot) → IsMine x hand q → (y i : ℕ) → y ≢ x → In_leaf y i ≢ q
-mine_leaf x hand q m y i ne e = ne (subst (IsMine x hand) (sym e) m)
+pub mine_leaf : (x : ℕ) (current : Option Current) (q : Spot) → IsMine x current q → (y i : ℕ) → y ≢ x → In_leaf y i ≢ q
+mine_leaf x current q m y i ne e = ne (subst (IsMine x current) (sym e) m)
 
-pub mine_session : (x : ℕ) (hand : Option Hand) (q : Spot) → IsMine x hand q → (j i : ℕ) → ((g : Hand) → hand ≡ Some g → g.session ≢ j) → In_session j i ≢ q
+pub mine_session : (x : ℕ) (current : Option Current) (q : Spot) → IsMine x current q → (j i : ℕ) → ((g : Current) → current ≡ Some g → g.session ≢ j)
+    → In_session j i ≢ q
 mine_session x None q m j i else e = subst (IsMine x None) (sym e) m
 mine_session x (Some g) q m j i else e = else g refl (sym (subst (IsMine x (Some g)) (sym e) m))
 
-pub mine_object : (x : ℕ) (hand : Option Hand) (q : Spot) → IsMine x hand q → (j : ℕ) → In_object j ≢ q
-mine_object x hand q m j e = subst (IsMine x hand) (sym e) m
+pub mine_object : (x : ℕ) (current : Option Current) (q : Spot) → IsMine x current q → (j : ℕ) → In_object j ≢ q
+mine_object x current q m j e = subst (IsMine x current) (sym e) m
 
-module _ (promised : ℕ → Option Kind) (kind : Kind) (d : Doing) (t : Takes d) (h : IsLinkedWorld d.system d.world) (i : Instruction) (k : ℕ) (s : Session)
+module _ (promised : ℕ → Option Kind) (kind : Kind) (d : Doing) (t : TakesLeaf d) (h : IsLinkedWorld d.system d.world) (i : Instruction) (k : ℕ) (s : Session)
     (w : World) (a : Asked d i k s w) where
   abbrev anew : ℕ → Option Kind
   anew = promised_anew promised k kind
@@ -53,43 +55,45 @@ module _ (promised : ℕ → Option Kind) (kind : Kind) (d : Doing) (t : Takes d
   pub spot_free : (r : Spot) (slot : Slot) → r ≢ a.q → slot_at d.world r ≡ Some slot → Free promised k kind slot
   spot_free r slot ne there n names = a.free.names r n ne (ap naming_in there ∙ names)
 
-  pub not_at_hand : (g : Hand) → d.leaf.hand ≡ Some g → g.session ≢ k
-  not_at_hand g e = a.free.no_hand d.x d.leaf.phase g (stood d t ∙ ap (λ o. Some (stance d.leaf.phase o)) e)
+  pub not_current : (g : Current) → d.leaf.current ≡ Some g → g.session ≢ k
+  not_current g e = a.free.no_current d.x d.leaf.phase g (stood d t ∙ ap (λ o. Some (stance d.leaf.phase o)) e)
 
-  -- a session that is not at the leaf's hand
-  pub bank_free : (j : ℕ) (u : Session) → ((g : Hand) → d.leaf.hand ≡ Some g → g.session ≢ j) → session_at d.world j ≡ Some u → AreFree promised k kind u.slots
-  bank_free j u else there n slot e = spot_free (In_session j n) slot (mine_session d.x d.leaf.hand a.q a.mine j n else) (ap (λ o. session_slot o n) there ∙ e)
+  -- a session that is not current at the leaf
+  pub bank_free : (j : ℕ) (u : Session) → ((g : Current) → d.leaf.current ≡ Some g → g.session ≢ j) → session_at d.world j ≡ Some u
+      → AreFree promised k kind u.slots
+  bank_free j u else there n slot e =
+      spot_free (In_session j n) slot (mine_session d.x d.leaf.current a.q a.mine j n else) (ap (λ o. session_slot o n) there ∙ e)
 
   pub object_free : (j : ℕ) (u : Session) → session_at d.world j ≡ Some u → Free promised k kind u.object
-  object_free j u there = spot_free (In_object j) u.object (mine_object d.x d.leaf.hand a.q a.mine j) (ap session_object there)
+  object_free j u there = spot_free (In_object j) u.object (mine_object d.x d.leaf.current a.q a.mine j) (ap session_object there)
 
   -- OTHER LEAVES
 
   module _ (y : ℕ) (leaf : Leaf) (ne : y ≢ d.x) (there : slice_get d.world.leaves y ≡ Some leaf) where
     own_free : AreFree promised k kind leaf.slots
-    own_free n slot e = spot_free (In_leaf y n) slot (mine_leaf d.x d.leaf.hand a.q a.mine y n ne) (ap (λ o. leaf_slot o n) there ∙ e)
+    own_free n slot e = spot_free (In_leaf y n) slot (mine_leaf d.x d.leaf.current a.q a.mine y n ne) (ap (λ o. leaf_slot o n) there ∙ e)
 
-    hand_stance : (b : Hand) → leaf.hand ≡ Some b → (links d.world).stances y ≡ Some (stance leaf.phase (Some b))
-    hand_stance b e = ap stance_in there ∙ ap (λ o. Some (stance leaf.phase o)) e
+    current_stance : (b : Current) → leaf.current ≡ Some b → (links d.world).stances y ≡ Some (stance leaf.phase (Some b))
+    current_stance b e = ap stance_in there ∙ ap (λ o. Some (stance leaf.phase o)) e
 
-    -- what is at its hand is another session
-    hand_else : (b : Hand) → leaf.hand ≡ Some b → (g : Hand) → d.leaf.hand ≡ Some g → g.session ≢ b.session
-    hand_else b at g handed = other_hand d t h y leaf ne there b at (Some g) handed
+    -- what is current at it is another session
+    current_else : (b : Current) → leaf.current ≡ Some b → (g : Current) → d.leaf.current ≡ Some g → g.session ≢ b.session
+    current_else b at g handed = other_current d t h y leaf ne there b at (Some g) handed
 
-    hand_stands : (b : Hand) (u : Session) → leaf.hand ≡ Some b → session_at d.world b.session ≡ Some u
+    current_stands : (b : Current) (u : Session) → leaf.current ≡ Some b → session_at d.world b.session ≡ Some u
         → (v : Session) × (session_at w b.session ≡ Some v) × (v.slots ≡ u.slots) × (v.object ≡ u.object) × AreFree promised k kind u.slots
         × Free promised k kind u.object
-    hand_stands b u at found =
-        let now = a.sessions b.session (a.free.no_hand y leaf.phase b (hand_stance b at))
-        ∙ (then_else d.x d.leaf.hand a.q (Waiting k) b.session (session_at d.world b.session) a.mine (hand_else b at) ∙ found) in
-        (u, now, refl, refl, bank_free b.session u (hand_else b at) found, object_free b.session u found)
+    current_stands b u at found =
+        let now = a.sessions b.session (a.free.no_current y leaf.phase b (current_stance b at))
+        ∙ (then_else d.x d.leaf.current a.q (Waiting k) b.session (session_at d.world b.session) a.mine (current_else b at) ∙ found) in
+        (u, now, refl, refl, bank_free b.session u (current_else b at) found, object_free b.session u found)
 
     meets_else : (e : Context) (state : State) → Meets promised e state d.world leaf → Meets anew e state w leaf
     meets_else e state m =
         record {
           own = kinds_anew promised k kind leaf.slots state.own own_free m.own;
-          hand = m.hand;
-          bank = hand_anew promised k kind e state.bank d.world w leaf.hand hand_stands m.bank;
+          current = m.current;
+          bank = current_anew promised k kind e state.bank d.world w leaf.current current_stands m.bank;
           operands = m.operands;
           locals = m.locals;
           loops = m.loops;
@@ -118,16 +122,17 @@ module _ (promised : ℕ → Option Kind) (kind : Kind) (d : Doing) (t : Takes d
 
 -- ALL LEAVES
 
-module _ (promised : ℕ → Option Kind) (before after : Extra) (d : Doing) (carries : Carries d.x before after) (t : Takes d) (h : IsLinkedWorld d.system d.world)
+module _ (promised : ℕ → Option Kind) (before after : Extra) (d : Doing) (carries : Carries d.x before after) (t : TakesLeaf d)
+    (h : IsLinkedWorld d.system d.world)
     (i : Instruction) (new end : State) (w : World)
-    (b : Awaits promised (within (context (subject d.system d.component) (section_of d.leaf.hand)) d.leaf.loops) new i d w) (a : Asked d i b.k b.session w)
-    (goes_on : Continues (context (subject d.system d.component) (section_of d.leaf.hand)) new d.leaf.todo d.leaf.loops end)
-    (whole : flow (context (subject d.system d.component) (section_of d.leaf.hand)) (start_of (subject d.system d.component) (section_of d.leaf.hand))
-    (body (subject d.system d.component) (section_of d.leaf.hand)) ≡ Ok end)
-    (listed : (list : Statements) × (section_in (section_of d.leaf.hand) d.component.node.program.sections ≡ Some list))
+    (b : Awaits promised (within (context (subject d.system d.component) (section_of d.leaf.current)) d.leaf.loops) new i d w) (a : Asked d i b.k b.session w)
+    (goes_on : Continues (context (subject d.system d.component) (section_of d.leaf.current)) new d.leaf.todo d.leaf.loops end)
+    (whole : flow (context (subject d.system d.component) (section_of d.leaf.current)) (start_of (subject d.system d.component) (section_of d.leaf.current))
+    (body (subject d.system d.component) (section_of d.leaf.current)) ≡ Ok end)
+    (listed : (list : Statements) × (section_in (section_of d.leaf.current) d.component.node.program.sections ≡ Some list))
     (resumes : new ≡ once_replied (number_of (interface_in b.session.service d.system.interfaces) (λ i. i.reply))
     (section_for a.ask (level_then a.ask b.session.level)) (while_waiting i new))
-    (also : after d.x (section_of d.leaf.hand) new d.leaf.todo d.leaf.loops) where
+    (also : after d.x (section_of d.leaf.current) new d.leaf.todo d.leaf.loops) where
   abbrev v : Subject
   v = subject d.system d.component
 
@@ -146,25 +151,25 @@ module _ (promised : ℕ → Option Kind) (before after : Extra) (d : Doing) (ca
         is = resumes;
       }
 
-  in_section : IsInSection p after d.system w d.x d.component b.leaf Blocked (section_of b.leaf.hand)
+  in_section : IsInSection p after d.system w d.x d.component b.leaf Blocked (section_of b.leaf.current)
   in_section =
-      let hand = sym b.hand in
+      let current = sym b.current in
       let todo = sym b.todo in
       let loops = sym b.loops in
       record {
         state = while_waiting i new;
         next = new;
         end = end;
-        meets = subst (λ c. Meets p c (while_waiting i new) w b.leaf) (λ n. within (context v (section_of (hand n))) (loops n)) b.meets;
+        meets = subst (λ c. Meets p c (while_waiting i new) w b.leaf) (λ n. within (context v (section_of (current n))) (loops n)) b.meets;
         from = awaits;
-        goes_on = subst (λ o. Continues (context v (section_of o)) new b.leaf.todo b.leaf.loops end) hand
-            (subst (λ o. Continues (context v (section_of d.leaf.hand)) new o b.leaf.loops end) todo
-            (subst (λ o. Continues (context v (section_of d.leaf.hand)) new d.leaf.todo o end) loops goes_on));
-        whole = subst (λ o. flow (context v (section_of o)) (start_of v (section_of o)) (body v (section_of o)) ≡ Ok end) hand whole;
-        listed = subst (λ o. (list : Statements) × (section_in (section_of o) d.component.node.program.sections ≡ Some list)) hand listed;
-        also = subst (λ o. after d.x (section_of o) new b.leaf.todo b.leaf.loops) hand
-            (subst (λ o. after d.x (section_of d.leaf.hand) new o b.leaf.loops) todo
-            (subst (λ o. after d.x (section_of d.leaf.hand) new d.leaf.todo o) loops also));
+        goes_on = subst (λ o. Continues (context v (section_of o)) new b.leaf.todo b.leaf.loops end) current
+            (subst (λ o. Continues (context v (section_of d.leaf.current)) new o b.leaf.loops end) todo
+            (subst (λ o. Continues (context v (section_of d.leaf.current)) new d.leaf.todo o end) loops goes_on));
+        whole = subst (λ o. flow (context v (section_of o)) (start_of v (section_of o)) (body v (section_of o)) ≡ Ok end) current whole;
+        listed = subst (λ o. (list : Statements) × (section_in (section_of o) d.component.node.program.sections ≡ Some list)) current listed;
+        also = subst (λ o. after d.x (section_of o) new b.leaf.todo b.leaf.loops) current
+            (subst (λ o. after d.x (section_of d.leaf.current) new o b.leaf.loops) todo
+            (subst (λ o. after d.x (section_of d.leaf.current) new d.leaf.todo o) loops also));
       }
 
   module _ (component : slice_get d.system.components d.x ≡ Some d.component) (stand : StandAll promised before d.system d.world) where

@@ -5,19 +5,19 @@ use Rattle.std.proofs.lemmas.Bool.Decides.{eqb_tells}
 use Rattle.gq_model.specs.machine.Lists.{or_first}
 use Rattle.gq_model.specs.declared.program.Section.{Section}
 use Rattle.gq_model.specs.declared.program.Instruction.{Instruction}
-use Rattle.gq_model.specs.machine.World.{Slot, Waiting, Spot, In_leaf, In_session, In_object, Session, Ask, Request, Hand, World, session_at}
+use Rattle.gq_model.specs.machine.World.{Slot, Waiting, Spot, In_leaf, In_session, In_object, Session, Ask, Request, Current, World, session_at}
 use Rattle.gq_model.specs.machine.Doing.{Doing}
 use Rattle.gq_model.specs.machine.Step.{section_for}
 use Rattle.gq_model.specs.rules.Kinds.{Kind}
-use Rattle.gq_laws.specs.Kept.{level_then, kind_replied, section_waiting, section_if, section_at_hand, section_asked}
+use Rattle.gq_laws.specs.Kept.{level_then, kind_replied, section_waiting, section_if, current_section, section_asked}
 use Rattle.gq_laws.specs.Links.{stance_in, requests_of}
-use Rattle.gq_laws.specs.Statements.{Takes}
+use Rattle.gq_laws.specs.Statements.{TakesLeaf}
 use Rattle.gq_laws.specs.Asking.{promised_anew}
 use Rattle.gq_laws.specs.Replies.{bank_then, session_then}
-use Rattle.gq_laws.specs.Typing.{kind_then, Tells}
+use Rattle.gq_laws.specs.Typing.{kind_then, PromisesSessions}
 use Rattle.gq_model.proofs.Small.{some_same, none_some}
-use Rattle.gq_laws.proofs.linking.Events.{one_one, no_hand_at}
-use Rattle.gq_laws.proofs.typing.Worlds.{kind_same, waiting_same, waiting_none, hand_none}
+use Rattle.gq_laws.proofs.linking.Events.{one_one, no_current_at}
+use Rattle.gq_laws.proofs.typing.Worlds.{kind_same, waiting_same, waiting_none, current_none}
 use Rattle.gq_laws.proofs.asking.Slots.{anew_here, anew_else}
 use Rattle.gq_laws.proofs.typing.Asked_worlds.{IsMine, Asked}
 
@@ -51,21 +51,21 @@ waiting_last k s ask = elim (eqb_tells k k) [ inl e ↦ ap (λ b. cond b (Some (
 
 -- OTHER SESSIONS
 
--- a session as it was: only where it is at the leaf's hand its slots may have changed
+-- a session as it was: only where it is current at the leaf its slots may have changed
 pub record Was (d : Doing) (j : ℕ) (s : Session) : Type 0 where
   pub old : Session
   pub there : session_at d.world j ≡ Some old
   pub slots : List Slot
   pub is : s ≡ record old { slots = slots }
-  pub same : ((g : Hand) → d.leaf.hand ≡ Some g → g.session ≢ j) → s ≡ old
+  pub same : ((g : Current) → d.leaf.current ≡ Some g → g.session ≢ j) → s ≡ old
 
-then_was : (d : Doing) (hand : Option Hand) → d.leaf.hand ≡ hand → (q : Spot) → IsMine d.x hand q → (slot : Slot) (j : ℕ) (s : Session)
+then_was : (d : Doing) (current : Option Current) → d.leaf.current ≡ current → (q : Spot) → IsMine d.x current q → (slot : Slot) (j : ℕ) (s : Session)
     → session_then q slot j (session_at d.world j) ≡ Some s → Was d j s
-then_was d hand handed (In_leaf y i) m slot j s e = record { old = s; there = e; slots = s.slots; is = refl; same = λ else. refl }
+then_was d current handed (In_leaf y i) m slot j s e = record { old = s; there = e; slots = s.slots; is = refl; same = λ else. refl }
 then_was d None handed (In_session n i) m slot j s e = absurd m
 then_was d (Some g) handed (In_session n i) m slot j s e =
     elim (eqb_tells j n) [
-      | inl f ↦ at_hand f.1 (session_at d.world j) refl (sym (ap (λ b. cond b (bank_then i slot (session_at d.world j)) (session_at d.world j)) f.0) ∙ e)
+      | inl f ↦ at_current f.1 (session_at d.world j) refl (sym (ap (λ b. cond b (bank_then i slot (session_at d.world j)) (session_at d.world j)) f.0) ∙ e)
       | inr f ↦ record {
         old = s;
         there = sym (ap (λ b. cond b (bank_then i slot (session_at d.world j)) (session_at d.world j)) f.0) ∙ e;
@@ -75,16 +75,16 @@ then_was d (Some g) handed (In_session n i) m slot j s e =
       }
     ]
   where
-    at_hand : j ≡ n → (o : Option Session) → session_at d.world j ≡ o → bank_then i slot o ≡ Some s → Was d j s
-    at_hand f None at e = absurd (none_some e)
-    at_hand f (Some old) at e = record {
+    at_current : j ≡ n → (o : Option Session) → session_at d.world j ≡ o → bank_then i slot o ≡ Some s → Was d j s
+    at_current f None at e = absurd (none_some e)
+    at_current f (Some old) at e = record {
       old = old;
       there = at;
       slots = slice_set old.slots i slot;
       is = sym (some_same e);
       same = λ else. absurd (else g handed (sym (f ∙ m)));
     }
-then_was d hand handed (In_object n) m slot j s e = absurd m
+then_was d current handed (In_object n) m slot j s e = absurd m
 
 -- a session that was there still is
 now_by : (q : Spot) (slot : Slot) (j : ℕ) (old : Session) → (slots : List Slot) × (session_then q slot j (Some old) ≡ Some (record old { slots = slots }))
@@ -96,51 +96,51 @@ now_by (In_session n i) slot j old =
       | inr f ↦ (old.slots, ap (λ b. cond b (bank_then i slot (Some old)) (Some old)) f.0)
     ]
 
-module _ (d : Doing) (t : Takes d) (i : Instruction) (k : ℕ) (s : Session) (w : World) (a : Asked d i k s w) where
+module _ (d : Doing) (t : TakesLeaf d) (i : Instruction) (k : ℕ) (s : Session) (w : World) (a : Asked d i k s w) where
   pub session_was : (j : ℕ) (u : Session) → j ≢ k → session_at w j ≡ Some u → Was d j u
-  session_was j u ne e = then_was d d.leaf.hand refl a.q a.mine (Waiting k) j u (sym (a.sessions j ne) ∙ e)
+  session_was j u ne e = then_was d d.leaf.current refl a.q a.mine (Waiting k) j u (sym (a.sessions j ne) ∙ e)
 
   pub session_now : (j : ℕ) (old : Session) → j ≢ k → session_at d.world j ≡ Some old
       → (slots : List Slot) × (session_at w j ≡ Some (record old { slots = slots }))
   session_now j old ne e = let n = now_by a.q (Waiting k) j old in (n.0, a.sessions j ne ∙ (ap (session_then a.q (Waiting k) j) e ∙ n.1))
 
-  -- what is at hands
-  pub hands_same : (j y : ℕ) → section_at_hand j (slice_get w.leaves y) ≡ section_at_hand j (slice_get d.world.leaves y)
-  hands_same j y =
+  -- what is current
+  pub all_current_same : (j y : ℕ) → current_section j (slice_get w.leaves y) ≡ current_section j (slice_get d.world.leaves y)
+  all_current_same j y =
       elim (eqb_tells y d.x) [
-        | inl e ↦ ap (λ y. section_at_hand j (slice_get w.leaves y)) e.1
-            ∙ (ap (section_at_hand j) a.there ∙ (ap (section_if j) (a.hand ∙ t.hand)
-            ∙ (sym (ap (section_at_hand j) t.there) ∙ ap (λ y. section_at_hand j (slice_get d.world.leaves y)) (sym e.1))))
-        | inr e ↦ ap (section_at_hand j) (a.leaves y e.1)
+        | inl e ↦ ap (λ y. current_section j (slice_get w.leaves y)) e.1
+            ∙ (ap (current_section j) a.there ∙ (ap (section_if j) (a.current ∙ t.current)
+            ∙ (sym (ap (current_section j) t.there) ∙ ap (λ y. current_section j (slice_get d.world.leaves y)) (sym e.1))))
+        | inr e ↦ ap (current_section j) (a.leaves y e.1)
       ]
 
-  -- no hand has the session
-  pub none_at_hand : (y : ℕ) → section_at_hand k (slice_get d.world.leaves y) ≡ None
-  none_at_hand y = hand_none k (slice_get d.world.leaves y) (no_hand_at k (stance_in (slice_get d.world.leaves y)) (λ g p e. a.free.no_hand y p g e))
+  -- no current request has the session
+  pub none_current : (y : ℕ) → current_section k (slice_get d.world.leaves y) ≡ None
+  none_current y = current_none k (slice_get d.world.leaves y) (no_current_at k (stance_in (slice_get d.world.leaves y)) (λ g p e. a.free.no_current y p g e))
 
   -- what others wait for
   pub asked_else : (j : ℕ) (old : Session) (slots : List Slot) → j ≢ k → section_asked w j (record old { slots = slots }) ≡ section_asked d.world j old
   asked_else j old slots ne =
       let u : Session = record old { slots = slots } in
       let requests = ap (section_waiting j u) a.requests ∙ (waiting_end j k u a.ask ne d.world.requests ∙ waiting_same j old u d.world.requests refl) in
-      let hands = hands_same j old.server in
-      (λ n. or_first (requests n) (hands n))
+      let all_current = all_current_same j old.server in
+      (λ n. or_first (requests n) (all_current n))
 
   -- what it waits for itself
   pub asked_none : (u : Session) → section_asked d.world k u ≡ None
   asked_none u =
       let requests = waiting_none k u d.world.requests a.free.no_request in
-      let hands = none_at_hand u.server in
-      (λ n. or_first (requests n) (hands n))
+      let all_current = none_current u.server in
+      (λ n. or_first (requests n) (all_current n))
 
   pub asked_here : section_asked w k s ≡ Some (section_for a.ask (level_then a.ask s.level))
   asked_here =
       let o = Some (section_for a.ask (level_then a.ask s.level)) in
-      ap (λ o. or_first o (section_at_hand k (slice_get w.leaves s.server))) (ap (section_waiting k s) a.requests
+      ap (λ o. or_first o (current_section k (slice_get w.leaves s.server))) (ap (section_waiting k s) a.requests
       ∙ waiting_by k s o d.world.requests a.free.no_request (record { session = k; ask = a.ask } ∷ []) (waiting_last k s a.ask))
 
   module _ (promised : ℕ → Option Kind) (kind : Kind) where
-    tells_else : Tells promised d.world → (j : ℕ) (u : Session) → j ≢ k → session_at w j ≡ Some u
+    tells_else : PromisesSessions promised d.world → (j : ℕ) (u : Session) → j ≢ k → session_at w j ≡ Some u
         → promised_anew promised k kind j ≡ Some (kind_then u (section_asked w j u))
     tells_else tells j u ne e =
         let r = session_was j u ne e in
@@ -153,7 +153,8 @@ module _ (d : Doing) (t : Takes d) (i : Instruction) (k : ℕ) (s : Session) (w 
         → promised_anew promised k kind k ≡ Some (kind_then s (section_asked w k s))
     tells_here promise = anew_here promised k kind ∙ (ap Some promise ∙ ap (λ o. Some (kind_then s o)) (sym asked_here))
 
-    pub asked_tells : kind ≡ kind_replied (section_for a.ask (level_then a.ask s.level)) s → Tells promised d.world → Tells (promised_anew promised k kind) w
+    pub asked_tells : kind ≡ kind_replied (section_for a.ask (level_then a.ask s.level)) s → PromisesSessions promised d.world
+        → PromisesSessions (promised_anew promised k kind) w
     asked_tells promise tells j u e =
         elim (eqb_tells j k) [
           | inl f ↦ (let same : s ≡ u = some_same (sym a.found ∙ (ap (session_at w) (sym f.1) ∙ e)) in

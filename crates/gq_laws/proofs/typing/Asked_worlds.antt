@@ -14,7 +14,8 @@ use Rattle.gq_model.specs.declared.fault.Wrong.TheVariants.{ExceededQuota}
 use Rattle.gq_model.specs.machine.Scenario.{interface_in, open_caps, upgrade_caps}
 use Rattle.gq_model.specs.machine.Routes.{server_of}
 use Rattle.gq_model.specs.machine.World.{Slot, Empty, Link, Waiting, Spot, In_leaf, In_session, In_object, Session, Ask, Ask_open, Ask_upgrade, Ask_close}
-use Rattle.gq_model.specs.machine.World.{Ask_call, Request, Hand, Leaf, World, session_at, with_leaf, with_session, leaf_slot, session_slot, slot_at, with_slot}
+use Rattle.gq_model.specs.machine.World.{Ask_call, Request, Current, Leaf, World, session_at, with_leaf, with_session, leaf_slot, session_slot, slot_at}
+use Rattle.gq_model.specs.machine.World.{with_slot}
 use Rattle.gq_model.specs.machine.World.{spot_of}
 use Rattle.gq_model.specs.machine.Doing.{Doing, Event, Quiet, with_operands}
 use Rattle.gq_model.specs.machine.Sums.{paid}
@@ -22,7 +23,7 @@ use Rattle.gq_model.specs.machine.Requests.{asked, new_session, free_place, open
 use Rattle.gq_model.specs.machine.Step.{instruct}
 use Rattle.gq_model.specs.rules.Kinds.{Kind, State, Context}
 use Rattle.gq_laws.specs.Links.{Naming, named, outline, stance, Links, links, requests_of, IsLinkedWorld}
-use Rattle.gq_laws.specs.Statements.{Takes}
+use Rattle.gq_laws.specs.Statements.{TakesLeaf}
 use Rattle.gq_laws.specs.Asking.{IsAsk, Awaits}
 use Rattle.gq_laws.specs.Replies.{own_then, bank_then, session_then}
 use Rattle.gq_laws.proofs.turning.Endings.{Ends, gives, need_found, when_ends, pop_ends}
@@ -33,19 +34,19 @@ use Rattle.gq_laws.proofs.linking.Requests.{Ready, link_found, link_ready, spot_
 use Rattle.gq_laws.proofs.linking.Opens.{free_at, fill_found, not_object, ready, added, added_else, added_here}
 use Rattle.gq_laws.proofs.replying.Worlds.{Goes, IsOf, written}
 
--- this spot is among the slots of the x-th leaf, or of the session at its hand
-abbrev pub IsMine : ℕ → Option Hand → Spot → Type 0
-IsMine x hand (In_leaf y i) = y ≡ x
+-- this spot is among the slots of the x-th leaf, or of the session current at it
+abbrev pub IsMine : ℕ → Option Current → Spot → Type 0
+IsMine x current (In_leaf y i) = y ≡ x
 IsMine x None (In_session j i) = ⊥
-IsMine x (Some hand) (In_session j i) = j ≡ hand.session
-IsMine x hand (In_object j) = ⊥
+IsMine x (Some current) (In_session j i) = j ≡ current.session
+IsMine x current (In_object j) = ⊥
 
 -- this is the spot that the statement names
 abbrev pub IsNamed : Doing → Instruction → Spot → Type 0
-IsNamed d (Open place service n) q = spot_of d.x d.leaf.hand place ≡ Some q
-IsNamed d (Upgrade place n) q = spot_of d.x d.leaf.hand place ≡ Some q
-IsNamed d (Call place) q = spot_of d.x d.leaf.hand place ≡ Some q
-IsNamed d (Close place) q = spot_of d.x d.leaf.hand place ≡ Some q
+IsNamed d (Open place service n) q = spot_of d.x d.leaf.current place ≡ Some q
+IsNamed d (Upgrade place n) q = spot_of d.x d.leaf.current place ≡ Some q
+IsNamed d (Call place) q = spot_of d.x d.leaf.current place ≡ Some q
+IsNamed d (Close place) q = spot_of d.x d.leaf.current place ≡ Some q
 IsNamed d i q = ⊥
 
 -- the session that is asked: a new one, or one to which the slot led
@@ -59,16 +60,16 @@ WasSession d (Call place) q k s = (session_at d.world k ≡ Some s) × (slot_at 
 WasSession d (Close place) q k s = (session_at d.world k ≡ Some s) × (slot_at d.world q ≡ Some (Link k))
 WasSession d i q k s = ⊥
 
--- the session has no request, neither one that waits nor one at a hand, and no slot but this names it
+-- the session has no request, neither one that waits nor one current, and no slot but this names it
 pub record IsFree (l : Links) (q : Spot) (k : ℕ) : Type 0 where
-  pub no_hand : (y : ℕ) (p : Phase) (g : Hand) → l.stances y ≡ Some (stance p (Some g)) → g.session ≢ k
+  pub no_current : (y : ℕ) (p : Phase) (g : Current) → l.stances y ≡ Some (stance p (Some g)) → g.session ≢ k
   pub no_request : requests_of k l.requests ≡ 0
   pub names : (r : Spot) (n : Naming) → r ≢ q → l.slots r ≡ Some n → named n ≢ k
 
 -- what was asked of session k: it stands as s, the slot waits for its reply, and the request is the last
 pub record Asked (d : Doing) (i : Instruction) (k : ℕ) (s : Session) (w : World) : Type 0 where
   pub q : Spot
-  pub mine : IsMine d.x d.leaf.hand q
+  pub mine : IsMine d.x d.leaf.current q
   pub spot : IsNamed d i q
   pub now : slot_at w q ≡ Some (Waiting k)
   pub was : WasSession d i q k s
@@ -79,7 +80,7 @@ pub record Asked (d : Doing) (i : Instruction) (k : ℕ) (s : Session) (w : Worl
   pub leaf : Leaf
   pub there : slice_get w.leaves d.x ≡ Some leaf
   pub slots : leaf.slots ≡ own_then q (Waiting k) d.leaf.slots
-  pub hand : leaf.hand ≡ d.leaf.hand
+  pub current : leaf.current ≡ d.leaf.current
   -- all else
   pub leaves : (y : ℕ) → y ≢ d.x → slice_get w.leaves y ≡ slice_get d.world.leaves y
   pub sessions : (j : ℕ) → j ≢ k → session_at w j ≡ session_then q (Waiting k) j (session_at d.world j)
@@ -95,7 +96,7 @@ HasAsked d i w = (k : ℕ) × (s : Session) × Asked d i k s w
 
 -- the session stands as it will, and all but the slot as before
 pub record IsReady (d : Doing) (i : Instruction) (q : Spot) (k : ℕ) (s : Session) (v : World) : Type 0 where
-  pub mine : IsMine d.x d.leaf.hand q
+  pub mine : IsMine d.x d.leaf.current q
   pub spot : IsNamed d i q
   pub slot : Slot
   pub was_there : slot_at d.world q ≡ Some slot
@@ -109,20 +110,20 @@ pub record IsReady (d : Doing) (i : Instruction) (q : Spot) (k : ℕ) (s : Sessi
   pub sessions : (j : ℕ) → j ≢ k → session_then q (Waiting k) j (session_at v j) ≡ session_then q (Waiting k) j (session_at d.world j)
   pub requests : v.requests ≡ d.world.requests
 
-mine_is : (x : ℕ) (hand : Option Hand) (q : Spot) → IsMine x hand q → IsOf x q
-mine_is x hand (In_leaf y i) m = m
+mine_is : (x : ℕ) (current : Option Current) (q : Spot) → IsMine x current q → IsOf x q
+mine_is x current (In_leaf y i) m = m
 mine_is x None (In_session j i) m = tt
 mine_is x (Some g) (In_session j i) m = tt
-mine_is x hand (In_object j) m = absurd m
+mine_is x current (In_object j) m = absurd m
 
--- a session that is not at hand stays as it is
-pub then_else : (x : ℕ) (hand : Option Hand) (q : Spot) (slot : Slot) (k : ℕ) (o : Option Session) → IsMine x hand q
-    → ((g : Hand) → hand ≡ Some g → g.session ≢ k) → session_then q slot k o ≡ o
-then_else x hand (In_leaf y i) slot k o m else = refl
+-- a session that is not current stays as it is
+pub then_else : (x : ℕ) (current : Option Current) (q : Spot) (slot : Slot) (k : ℕ) (o : Option Session) → IsMine x current q
+    → ((g : Current) → current ≡ Some g → g.session ≢ k) → session_then q slot k o ≡ o
+then_else x current (In_leaf y i) slot k o m else = refl
 then_else x None (In_session j i) slot k o m else = absurd m
 then_else x (Some g) (In_session j i) slot k o m else =
     elim (eqb_tells k j) [ inl e ↦ absurd (else g refl (sym (e.1 ∙ m))) | inr e ↦ ap (λ b. cond b (bank_then i slot o) o) e.0 ]
-then_else x hand (In_object j) slot k o m else = absurd m
+then_else x current (In_object j) slot k o m else = absurd m
 
 then_twice : (q : Spot) (slot : Slot) (j : ℕ) (o : Option Session) → session_then q slot j (session_then q slot j o) ≡ session_then q slot j o
 then_twice (In_leaf y i) slot j o = refl
@@ -140,11 +141,12 @@ then_twice (In_session m i) slot j o =
     twice (Some s) = ap (λ l. Some (record s { slots = l })) (set-set s.slots i slot slot)
 
 -- the slot that was there waits
-slot_waits : (d : Doing) → Takes d → (hand : Option Hand) (q : Spot) (k : ℕ) (slot : Slot) → IsMine d.x hand q → ((g : Hand) → hand ≡ Some g → g.session ≢ k)
+slot_waits : (d : Doing) → TakesLeaf d → (current : Option Current) (q : Spot) (k : ℕ) (slot : Slot) → IsMine d.x current q
+    → ((g : Current) → current ≡ Some g → g.session ≢ k)
     → slot_at d.world q ≡ Some slot
     → (w : World) (leaf : Leaf) → slice_get w.leaves d.x ≡ Some leaf → leaf.slots ≡ own_then q (Waiting k) d.leaf.slots
     → ((j : ℕ) → j ≢ k → session_at w j ≡ session_then q (Waiting k) j (session_at d.world j)) → slot_at w q ≡ Some (Waiting k)
-slot_waits d t hand (In_leaf y i) k slot m else was w leaf there slots sessions =
+slot_waits d t current (In_leaf y i) k slot m else was w leaf there slots sessions =
     let own : slice_get d.leaf.slots i ≡ Some slot = ap (λ l. slice_get l i) t.slots
     ∙ (sym (ap (λ o. leaf_slot o i) t.there) ∙ (ap (λ y. leaf_slot (slice_get d.world.leaves y) i) (sym m) ∙ was)) in
     ap (λ y. leaf_slot (slice_get w.leaves y) i) m ∙ (ap (λ o. leaf_slot o i) there
@@ -159,9 +161,9 @@ slot_waits d t (Some g) (In_session j i) k slot m else was w leaf there slots se
       | inr e ↦ absurd (e.1 refl)
     ] in
     ap (λ o. session_slot o i) (now ∙ ap (bank_then i (Waiting k)) f.1) ∙ set_here f.0.slots i (Waiting k) slot f.2
-slot_waits d t hand (In_object j) k slot m else was w leaf there slots sessions = absurd m
+slot_waits d t current (In_object j) k slot m else was w leaf there slots sessions = absurd m
 
-module _ (d : Doing) (t : Takes d) (i : Instruction) (q : Spot) (k : ℕ) (s : Session) (v : World) (r : IsReady d i q k s v) (ask : Ask) (is : IsAsk i ask)
+module _ (d : Doing) (t : TakesLeaf d) (i : Instruction) (q : Spot) (k : ℕ) (s : Session) (v : World) (r : IsReady d i q k s v) (ask : Ask) (is : IsAsk i ask)
     (ops : List ℕ) where
   abbrev blocked : Leaf
   blocked = record d.leaf { operands = ops; phase = Blocked }
@@ -179,10 +181,10 @@ module _ (d : Doing) (t : Takes d) (i : Instruction) (q : Spot) (k : ℕ) (s : S
   waits = record blocked { slots = own_then q (Waiting k) d.leaf.slots }
 
   goes : Goes blocking waiting d.x q (Waiting k) waits
-  goes = written blocking q (Waiting k) d.x blocked (set_here v.leaves d.x blocked r.old r.leaf) (mine_is d.x d.leaf.hand q r.mine)
+  goes = written blocking q (Waiting k) d.x blocked (set_here v.leaves d.x blocked r.old r.leaf) (mine_is d.x d.leaf.current q r.mine)
 
-  not_at_hand : (g : Hand) → d.leaf.hand ≡ Some g → g.session ≢ k
-  not_at_hand g e = r.free.no_hand d.x d.leaf.phase g (stood d t ∙ ap (λ o. Some (stance d.leaf.phase o)) e)
+  not_current : (g : Current) → d.leaf.current ≡ Some g → g.session ≢ k
+  not_current g e = r.free.no_current d.x d.leaf.phase g (stood d t ∙ ap (λ o. Some (stance d.leaf.phase o)) e)
 
   sessions_then : (j : ℕ) → j ≢ k → session_at after j ≡ session_then q (Waiting k) j (session_at d.world j)
   sessions_then j ne = goes.sessions j ∙ r.sessions j ne
@@ -193,15 +195,15 @@ module _ (d : Doing) (t : Takes d) (i : Instruction) (q : Spot) (k : ℕ) (s : S
         q = q;
         mine = r.mine;
         spot = r.spot;
-        now = slot_waits d t d.leaf.hand q k r.slot r.mine not_at_hand r.was_there after waits goes.there refl sessions_then;
+        now = slot_waits d t d.leaf.current q k r.slot r.mine not_current r.was_there after waits goes.there refl sessions_then;
         was = r.was;
         free = r.free;
-        found = goes.sessions k ∙ (then_else d.x d.leaf.hand q (Waiting k) k (session_at v k) r.mine not_at_hand ∙ r.found);
+        found = goes.sessions k ∙ (then_else d.x d.leaf.current q (Waiting k) k (session_at v k) r.mine not_current ∙ r.found);
         client = r.client;
         leaf = waits;
         there = goes.there;
         slots = refl;
-        hand = refl;
+        current = refl;
         leaves = λ y ne. goes.leaves y ne ∙ (set_else v.leaves d.x y blocked ne ∙ r.leaves y ne);
         sessions = sessions_then;
         ask = ask;
@@ -214,22 +216,22 @@ module _ (d : Doing) (t : Takes d) (i : Instruction) (q : Spot) (k : ℕ) (s : S
 
 -- REQUESTS
 
-mine_by : (x : ℕ) (hand : Option Hand) (place : Place) (q : Spot) → spot_of x hand place ≡ Some q → ((j : ℕ) → q ≢ In_object j) → IsMine x hand q
-mine_by x hand (Own i) q e other = subst (IsMine x hand) (some_same e) refl
+mine_by : (x : ℕ) (current : Option Current) (place : Place) (q : Spot) → spot_of x current place ≡ Some q → ((j : ℕ) → q ≢ In_object j) → IsMine x current q
+mine_by x current (Own i) q e other = subst (IsMine x current) (some_same e) refl
 mine_by x None (Shared i) q e other = absurd (none_some e)
 mine_by x (Some g) (Shared i) q e other = subst (IsMine x (Some g)) (some_same e) refl
 mine_by x None Object q e other = absurd (none_some e)
 mine_by x (Some g) Object q e other = absurd (other g.session (some_same (sym e)))
 
-module _ (d : Doing) (t : Takes d) (active : d.leaf.phase ≢ Blocked) (h : IsLinkedWorld d.system d.world) where
-  abbrev u : Takes d
+module _ (d : Doing) (t : TakesLeaf d) (active : d.leaf.phase ≢ Blocked) (h : IsLinkedWorld d.system d.world) where
+  abbrev u : TakesLeaf d
   u = t
 
   -- of a session behind a link
-  module _ (place : Place) (q : Spot) (at : spot_of d.x d.leaf.hand place ≡ Some q) (k : ℕ) (s : Session) (link : slot_at d.world q ≡ Some (Link k))
+  module _ (place : Place) (q : Spot) (at : spot_of d.x d.leaf.current place ≡ Some q) (k : ℕ) (s : Session) (link : slot_at d.world q ≡ Some (Link k))
       (there : session_at d.world k ≡ Some s) where
-    link_mine : IsMine d.x d.leaf.hand q
-    link_mine = mine_by d.x d.leaf.hand place q at (is_object d u active h place q at k s link there)
+    link_mine : IsMine d.x d.leaf.current q
+    link_mine = mine_by d.x d.leaf.current place q at (is_object d u active h place q at k s link there)
 
     spot_at : s.spot ≡ q
     spot_at = spot_is d u active h place q at k s link there
@@ -238,7 +240,7 @@ module _ (d : Doing) (t : Takes d) (active : d.leaf.phase ≢ Blocked) (h : IsLi
     is_ready = link_ready d u active h place q at k s link there s.donation Ask_close refl
 
     link_free : IsFree (links d.world) q k
-    link_free = record { no_hand = is_ready.no_hand; no_request = is_ready.no_request; names = λ r n ne. is_ready.names r n (λ e. ne (e ∙ spot_at)) }
+    link_free = record { no_current = is_ready.no_current; no_request = is_ready.no_request; names = λ r n ne. is_ready.names r n (λ e. ne (e ∙ spot_at)) }
 
     given_ready : (i : Instruction) → IsNamed d i q → (given : Amount) → WasSession d i q k (record s { donation = given })
         → IsReady d i q k (record s { donation = given }) (with_session d.world k (record s { donation = given }))
@@ -297,22 +299,22 @@ module _ (d : Doing) (t : Takes d) (active : d.leaf.phase ≢ Blocked) (h : IsLi
 
   module _ (component : slice_get d.system.components d.x ≡ Some d.component) where
     -- of a new session
-    new_ready : (place : Place) (service : List ℕ) (n : ℕ) (q : Spot) (at : spot_of d.x d.leaf.hand place ≡ Some q) (empty : slot_at d.world q ≡ Some Empty)
+    new_ready : (place : Place) (service : List ℕ) (n : ℕ) (q : Spot) (at : spot_of d.x d.leaf.current place ≡ Some q) (empty : slot_at d.world q ≡ Some Empty)
         (given : Amount) (server : ℕ) (found : server_of d.system d.component service ≡ Some server)
         → IsReady d (Open place service n) q (free_place d.world.sessions) (new_session d.x q server service given)
         (added d u active h component place q at empty service given server found)
     new_ready place service n q at empty given server found =
         let k = free_place d.world.sessions in
         let r = ready d u active h component place q at empty service given server found in
-        let mine = mine_by d.x d.leaf.hand place q at (not_object d u active h component place q at empty service given server found) in
-        let put = written d.world q (Waiting k) d.x t.old t.there (mine_is d.x d.leaf.hand q mine) in
+        let mine = mine_by d.x d.leaf.current place q at (not_object d u active h component place q at empty service given server found) in
+        let put = written d.world q (Waiting k) d.x t.old t.there (mine_is d.x d.leaf.current q mine) in
         record {
           mine = mine;
           spot = at;
           slot = Empty;
           was_there = empty;
           was = (server, given, free_at d.world.sessions, empty, found, refl);
-          free = record { no_hand = r.no_hand; no_request = r.no_request; names = r.names };
+          free = record { no_current = r.no_current; no_request = r.no_request; names = r.names };
           client = refl;
           old = _;
           leaf = put.there;
@@ -352,7 +354,7 @@ last_same (r ∷ rest) a b e = last_same rest a b (tail e)
     tail e = cc
 
 -- the session for whose reply the leaf waits is the one that was asked, and so is what it waits for
-pub asks_asked : (promised : ℕ → Option Kind) (c : Context) (d : Doing) (i : Instruction) (new : State) → Takes d → IsLinkedWorld d.system d.world
+pub asks_asked : (promised : ℕ → Option Kind) (c : Context) (d : Doing) (i : Instruction) (new : State) → TakesLeaf d → IsLinkedWorld d.system d.world
     → d.leaf.phase ≢ Blocked → slice_get d.system.components d.x ≡ Some d.component
     → (w : World) (event : Event) → instruct d i ≡ Ok (w, event) → (a : Awaits promised c new i d w) → (r : Asked d i a.k a.session w) × (r.ask ≡ a.ask)
 asks_asked promised c d i new t h active component w event e a =

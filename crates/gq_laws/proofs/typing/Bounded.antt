@@ -1,4 +1,4 @@
--- The world after a step is typed, and each leaf in a section is at one of the section's points with a covered session at its hand.
+-- The world after a step is typed, and each leaf in a section is at one of the section's points with a covered session current at it.
 use Rattle.std.proofs.Common.{◌≡◌, ◌≤◌, ℕ, false, List, [], Option, Some, Ok, refl, sym, ◌∙◌, subst, arith, None}
 use Rattle.std.specs.Prelude.{slice_get}
 use Rattle.gq_model.specs.declared.program.Instruction.{Instruction}
@@ -20,7 +20,7 @@ use Rattle.gq_laws.specs.Links.{IsLinkedWorld}
 use Rattle.gq_laws.specs.Typed.{Meets}
 use Rattle.gq_laws.specs.Moves.{Moves, Does, Chooses, Enters, Repeats, Leaves}
 use Rattle.gq_laws.specs.internal.Remaining.{left_points}
-use Rattle.gq_laws.specs.Statements.{Takes, LeadsOn, LeavesOthers}
+use Rattle.gq_laws.specs.Statements.{TakesLeaf, LeadsOn, LeavesOthers}
 use Rattle.gq_laws.specs.Asking.{IsServed, Awaits, promised_anew}
 use Rattle.gq_laws.specs.Typing.{no_extra, section_of, IsTypedBy}
 use Rattle.gq_laws.specs.internal.Carrying.{Carries}
@@ -77,13 +77,13 @@ bounded_start system x c section list there faultless listed d placed =
       λ inner. start_covers (subject system c) section list faultless listed inner,
     )
 
-module _ (promised : ℕ → Option Kind) (d : Doing) (sure : IsSure d.system) (takes : Takes d) (h : IsLinkedWorld d.system d.world)
+module _ (promised : ℕ → Option Kind) (d : Doing) (sure : IsSure d.system) (takes : TakesLeaf d) (h : IsLinkedWorld d.system d.world)
     (t : IsTypedBy promised (IsBounded d.system) d.system d.world) (at : slice_get d.system.components d.x ≡ Some d.component) (w : World) where
   abbrev v : Subject
   v = subject d.system d.component
 
   abbrev c : Context
-  c = context v (section_of d.leaf.hand)
+  c = context v (section_of d.leaf.current)
 
   same : Carries d.x (IsBounded d.system) (IsBounded d.system)
   same y section state todo loops ne b = b
@@ -92,7 +92,7 @@ module _ (promised : ℕ → Option Kind) (d : Doing) (sure : IsSure d.system) (
       → IsTypedBy promised (IsBounded d.system) d.system w
   goes_bounded a others leads =
       goes_typed promised (IsBounded d.system) d sure takes h t at (IsBounded d.system) same w a others leads
-      (bounded_moves d.system d.x d.component (section_of d.leaf.hand) a.state leads.state a.end d.leaf.todo leads.leaf.todo d.leaf.loops leads.leaf.loops at
+      (bounded_moves d.system d.x d.component (section_of d.leaf.current) a.state leads.state a.end d.leaf.todo leads.leaf.todo d.leaf.loops leads.leaf.loops at
       a.goes_on leads.moves a.also)
 
   pub asked_bounded : (a : Acts promised (IsBounded d.system) d) (i : Instruction) (rest : Statements) → d.leaf.todo ≡ Do i rest → IsServed (with_rest d rest) i
@@ -101,7 +101,7 @@ module _ (promised : ℕ → Option Kind) (d : Doing) (sure : IsSure d.system) (
       → IsTypedBy (promised_anew promised b.k b.kind) (IsBounded d.system) d.system w
   asked_bounded a i rest first served new judges goes_on event is b =
       asked_typed promised (IsBounded d.system) d sure takes h t at (IsBounded d.system) same w a i rest served new judges goes_on event is b
-      (bounded_moves d.system d.x d.component (section_of d.leaf.hand) a.state new a.end d.leaf.todo rest d.leaf.loops d.leaf.loops at a.goes_on
+      (bounded_moves d.system d.x d.component (section_of d.leaf.current) a.state new a.end d.leaf.todo rest d.leaf.loops d.leaf.loops at a.goes_on
       (Does i rest first judges refl refl) a.also)
 
   pub taken_bounded : d.leaf.phase ≡ Serving → (r : Request) (rest : List Request) → oldest d.world d.x d.world.requests ≡ Some (r, rest) → (event : Event)
@@ -114,7 +114,7 @@ module _ (promised : ℕ → Option Kind) (d : Doing) (sure : IsSure d.system) (
       bounded_start d.system d.x d.component (section_for r.ask (level_then r.ask old.level)) l.0 at (sure.faultless d.x d.component at) l.1)
 
   pub ended_bounded : (a : Acts promised (IsBounded d.system) d) (last : State) → Meets promised c a.end d.world d.leaf
-      → section_end v (section_of d.leaf.hand) a.end ≡ Ok last → (event : Event) → section_ended d d.leaf.hand ≡ Ok (w, event)
+      → section_end v (section_of d.leaf.current) a.end ≡ Ok last → (event : Event) → section_ended d d.leaf.current ≡ Ok (w, event)
       → IsTypedBy promised (IsBounded d.system) d.system w
   ended_bounded a last meets ends event is = ended_typed promised (IsBounded d.system) d sure takes h t at
-      (IsBounded d.system) same w d.leaf.hand refl a last meets ends event is
+      (IsBounded d.system) same w d.leaf.current refl a last meets ends event is

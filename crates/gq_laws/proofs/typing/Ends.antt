@@ -7,16 +7,16 @@ use Rattle.gq_model.specs.declared.program.Section.TheVariants.{Main}
 use Rattle.gq_model.specs.declared.phase.Phase.{Phase}
 use Rattle.gq_model.specs.declared.phase.Phase.TheVariants.{Pending, Running, Blocked, Serving, Handling, Exited}
 use Rattle.gq_model.specs.machine.Scenario.{System, Component}
-use Rattle.gq_model.specs.machine.World.{Session, Hand, Leaf, World, session_at, Round}
+use Rattle.gq_model.specs.machine.World.{Session, Current, Leaf, World, session_at, Round}
 use Rattle.gq_model.specs.machine.Doing.{Doing, Event, Quiet, Finished, standing}
 use Rattle.gq_model.specs.machine.Step.{is_named, released, all_released, exited, exit_of, serving, main_ended}
 use Rattle.gq_model.specs.rules.Kinds.{Kind, State, Context, Subject}
 use Rattle.gq_model.specs.rules.Flow.{flow, context, body, start_of, own_after}
 use Rattle.gq_model.specs.rules.Use.{subject}
-use Rattle.gq_laws.specs.Kept.{section_waiting, section_if, section_at_hand, section_asked}
+use Rattle.gq_laws.specs.Kept.{section_waiting, section_if, current_section, section_asked}
 use Rattle.gq_laws.specs.Shapes.{Each}
-use Rattle.gq_laws.specs.Typed.{AreKinds, HandMeets, Meets}
-use Rattle.gq_laws.specs.Statements.{Takes}
+use Rattle.gq_laws.specs.Typed.{AreKinds, CurrentMeets, Meets}
+use Rattle.gq_laws.specs.Statements.{TakesLeaf}
 use Rattle.gq_laws.specs.Typing.{Extra, kind_then, section_of, IsAwaited, IsInSection, StandsBy, StandAll, FitsService, FitsRequest, IsTypedBy}
 use Rattle.gq_laws.specs.internal.Carrying.{Carries}
 use Rattle.gq_laws.proofs.turning.Endings.{Ends, gives, when_ends}
@@ -30,16 +30,16 @@ use Rattle.gq_laws.proofs.verified.Programs.{own_main}
 
 -- WORLDS WITH THE SAME SESSIONS, REQUESTS AND HANDS
 
-pub record SameHands (v w : World) : Type 0 where
+pub record SameCurrent (v w : World) : Type 0 where
   pub sessions : (k : ℕ) → session_at w k ≡ session_at v k
   pub requests : w.requests ≡ v.requests
-  pub hands : (k y : ℕ) → section_at_hand k (slice_get w.leaves y) ≡ section_at_hand k (slice_get v.leaves y)
+  pub all_current : (k y : ℕ) → current_section k (slice_get w.leaves y) ≡ current_section k (slice_get v.leaves y)
 
-module _ (promised : ℕ → Option Kind) (system : System) (v w : World) (same : SameHands v w) where
+module _ (promised : ℕ → Option Kind) (system : System) (v w : World) (same : SameCurrent v w) where
   asked_same : (k : ℕ) (s : Session) → section_asked w k s ≡ section_asked v k s
   asked_same k s =
-      ap (λ rs. or_first (section_waiting k s rs) (section_at_hand k (slice_get w.leaves s.server))) same.requests
-      ∙ ap (or_first (section_waiting k s v.requests)) (same.hands k s.server)
+      ap (λ rs. or_first (section_waiting k s rs) (current_section k (slice_get w.leaves s.server))) same.requests
+      ∙ ap (or_first (section_waiting k s v.requests)) (same.all_current k s.server)
 
   awaited_same : (y : ℕ) (state next : State) → IsAwaited system v y state next → IsAwaited system w y state next
   awaited_same y state next u = record {
@@ -52,15 +52,15 @@ module _ (promised : ℕ → Option Kind) (system : System) (v w : World) (same 
     is = u.is;
   }
 
-  bank_same : (c : Context) (kinds : List Kind) (hand : Option Hand) → HandMeets promised c kinds v hand → HandMeets promised c kinds w hand
+  bank_same : (c : Context) (kinds : List Kind) (current : Option Current) → CurrentMeets promised c kinds v current → CurrentMeets promised c kinds w current
   bank_same c kinds None m = tt
   bank_same c kinds (Some g) m = (m.0, same.sessions g.session ∙ m.1, m.2)
 
   meets_same : (leaf : Leaf) (c : Context) (state : State) → Meets promised c state v leaf → Meets promised c state w leaf
   meets_same leaf c state m = record {
     own = m.own;
-    hand = m.hand;
-    bank = bank_same c state.bank leaf.hand m.bank;
+    current = m.current;
+    bank = bank_same c state.bank leaf.current m.bank;
     operands = m.operands;
     locals = m.locals;
     loops = m.loops;
@@ -80,7 +80,7 @@ module _ (promised : ℕ → Option Kind) (system : System) (v w : World) (same 
         interface = f.interface;
         known = f.known;
         level = f.level;
-        rests = λ server placed none. f.rests server placed (sym (same.hands k s.server) ∙ none);
+        rests = λ server placed none. f.rests server placed (sym (same.all_current k s.server) ∙ none);
       }
 
   -- where each leaf stands by the rules, the world is typed
@@ -96,12 +96,12 @@ module _ (promised : ℕ → Option Kind) (system : System) (v w : World) (same 
 
 -- LEAVES THAT ARE RELEASED
 
-released_hand : (name : List ℕ) (cs : List Component) (leaves : List Leaf) (k y : ℕ)
-    → section_at_hand k (slice_get (all_released name cs leaves) y) ≡ section_at_hand k (slice_get leaves y)
-released_hand name [] leaves k y = refl
-released_hand name (c ∷ cs) [] k y = refl
-released_hand name (c ∷ cs) (leaf ∷ leaves) k zero = refl
-released_hand name (c ∷ cs) (leaf ∷ leaves) k (suc y) = released_hand name cs leaves k y
+released_current : (name : List ℕ) (cs : List Component) (leaves : List Leaf) (k y : ℕ)
+    → current_section k (slice_get (all_released name cs leaves) y) ≡ current_section k (slice_get leaves y)
+released_current name [] leaves k y = refl
+released_current name (c ∷ cs) [] k y = refl
+released_current name (c ∷ cs) (leaf ∷ leaves) k zero = refl
+released_current name (c ∷ cs) (leaf ∷ leaves) k (suc y) = released_current name cs leaves k y
 
 -- a leaf that is there was there, in a phase from which it was released, if it waited for this name
 pub released_there : (name : List ℕ) (cs : List Component) (leaves : List Leaf) (y : ℕ) (c : Component) (leaf : Leaf) → slice_get cs y ≡ Some c
@@ -118,9 +118,9 @@ module _ (promised : ℕ → Option Kind) (extra : Extra) (system : System) (w :
   new = record old { phase = p }
 
   meets_new : (e : Context) (state : State) → Meets promised e state w old → Meets promised e state w new
-  meets_new e state m = record { own = m.own; hand = m.hand; bank = m.bank; operands = m.operands; locals = m.locals; loops = m.loops }
+  meets_new e state m = record { own = m.own; current = m.current; bank = m.bank; operands = m.operands; locals = m.locals; loops = m.loops }
 
-  pending_new : (b : Bool) → IsInSection promised extra system w y c old Pending (section_of old.hand)
+  pending_new : (b : Bool) → IsInSection promised extra system w y c old Pending (section_of old.current)
       → StandsBy promised extra system w y c new (cond b Running Pending)
   pending_new true h = record {
     state = h.state;
@@ -187,31 +187,32 @@ module _ (promised : ℕ → Option Kind) (extra : Extra) (system : System) (w :
 
 -- THE END OF `main`
 
-module _ (promised : ℕ → Option Kind) (before after : Extra) (d : Doing) (carries : Carries d.x before after) (takes : Takes d)
-    (t : IsTypedBy promised before d.system d.world) (at : slice_get d.system.components d.x ≡ Some d.component) (free : d.leaf.hand ≡ None) where
+module _ (promised : ℕ → Option Kind) (before after : Extra) (d : Doing) (carries : Carries d.x before after) (takes : TakesLeaf d)
+    (t : IsTypedBy promised before d.system d.world) (at : slice_get d.system.components d.x ≡ Some d.component) (free : d.leaf.current ≡ None) where
   abbrev v : Subject
   v = subject d.system d.component
 
-  -- the hands are the same, where the leaf's is
-  standing_hands : (leaf : Leaf) → leaf.hand ≡ None → (k y : ℕ)
-      → section_at_hand k (slice_get (standing d leaf).leaves y) ≡ section_at_hand k (slice_get d.world.leaves y)
-  standing_hands leaf none k y =
+  -- the current requests are the same, where the leaf's is
+  standing_current : (leaf : Leaf) → leaf.current ≡ None → (k y : ℕ)
+      → current_section k (slice_get (standing d leaf).leaves y) ≡ current_section k (slice_get d.world.leaves y)
+  standing_current leaf none k y =
       elim (eqb_tells y d.x) [
-        | inl f ↦ (ap (λ y. section_at_hand k (slice_get (standing d leaf).leaves y)) f.1
-            ∙ (ap (section_at_hand k) (set_here d.world.leaves d.x leaf takes.old takes.there)
-            ∙ (ap (section_if k) (none ∙ (sym free ∙ takes.hand))
-            ∙ (sym (ap (section_at_hand k) takes.there) ∙ ap (λ y. section_at_hand k (slice_get d.world.leaves y)) (sym f.1)))))
-        | inr f ↦ ap (section_at_hand k) (set_else d.world.leaves d.x y leaf f.1)
+        | inl f ↦ (ap (λ y. current_section k (slice_get (standing d leaf).leaves y)) f.1
+            ∙ (ap (current_section k) (set_here d.world.leaves d.x leaf takes.old takes.there)
+            ∙ (ap (section_if k) (none ∙ (sym free ∙ takes.current))
+            ∙ (sym (ap (current_section k) takes.there) ∙ ap (λ y. current_section k (slice_get d.world.leaves y)) (sym f.1)))))
+        | inr f ↦ ap (current_section k) (set_else d.world.leaves d.x y leaf f.1)
       ]
 
-  serving_same : SameHands d.world (standing d (serving d.leaf))
-  serving_same = record { sessions = λ k. refl; requests = refl; hands = standing_hands (serving d.leaf) refl }
+  serving_same : SameCurrent d.world (standing d (serving d.leaf))
+  serving_same = record { sessions = λ k. refl; requests = refl; all_current = standing_current (serving d.leaf) refl }
 
-  exit_same : SameHands d.world (exit_of d)
+  exit_same : SameCurrent d.world (exit_of d)
   exit_same = record {
     sessions = λ k. refl;
     requests = refl;
-    hands = λ k y. released_hand d.component.node.name d.system.components (standing d (exited d.leaf)).leaves k y ∙ standing_hands (exited d.leaf) free k y;
+    all_current = λ k y. released_current d.component.node.name d.system.components (standing d (exited d.leaf)).leaves k y
+        ∙ standing_current (exited d.leaf) free k y;
   }
 
   -- a fact of each leaf that is there then, where one leaf is anew
@@ -253,8 +254,8 @@ module _ (promised : ℕ → Option Kind) (before after : Extra) (d : Doing) (ca
   main_ends own None = when_ends (IsTypedBy promised after d.system) _ _ _
       (gives (exit_of d) Finished (same_typed promised d.system d.world (exit_of d) exit_same before after t exit_stands))
 
-pub main_typed : (promised : ℕ → Option Kind) (before after : Extra) (d : Doing) → Carries d.x before after → Takes d
-    → IsTypedBy promised before d.system d.world → slice_get d.system.components d.x ≡ Some d.component → d.leaf.hand ≡ None
+pub main_typed : (promised : ℕ → Option Kind) (before after : Extra) (d : Doing) → Carries d.x before after → TakesLeaf d
+    → IsTypedBy promised before d.system d.world → slice_get d.system.components d.x ≡ Some d.component → d.leaf.current ≡ None
     → (end : State) → Meets promised (context (subject d.system d.component) Main) end d.world d.leaf
     → flow (context (subject d.system d.component) Main) (start_of (subject d.system d.component) Main) (body (subject d.system d.component) Main) ≡ Ok end
     → (w : World) (event : Event) → main_ended d d.component.node.provides ≡ Ok (w, event) → IsTypedBy promised after d.system w

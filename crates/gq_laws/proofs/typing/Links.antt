@@ -1,4 +1,4 @@
--- What the statements' laws take for granted holds in a typed world: links are as promised, with their buffers, and the session at hand is of the leaf's
+-- What the statements' laws take for granted holds in a typed world: links are as promised, with their buffers, and the current session is of the leaf's
 -- service.
 use Rattle.std.proofs.Common.{◌≡◌, ◌≢◌, ℕ, inl, inr, cond, true, List, Option, Some, None, refl, ap, sym, ◌∙◌, subst, arith}
 use Rattle.std.specs.Prelude.{slice_get}
@@ -10,7 +10,7 @@ use Rattle.gq_model.specs.declared.program.Section.TheVariants.{Main, Opening, U
 use Rattle.gq_model.specs.declared.phase.Phase.{Phase}
 use Rattle.gq_model.specs.declared.phase.Phase.TheVariants.{Blocked}
 use Rattle.gq_model.specs.machine.Scenario.{System, Component, interface_in, number_of}
-use Rattle.gq_model.specs.machine.World.{Slot, Empty, Bytes, Pool, Link, Waiting, Spot, In_session, Session, Hand, World, session_at, slot_at, session_slot}
+use Rattle.gq_model.specs.machine.World.{Slot, Empty, Bytes, Pool, Link, Waiting, Spot, In_session, Session, Current, World, session_at, slot_at, session_slot}
 use Rattle.gq_model.specs.machine.Memory.{room, buffer_of}
 use Rattle.gq_model.specs.machine.Doing.{Doing}
 use Rattle.gq_model.specs.rules.Kinds.{Kind, Memory, Pool_kind, Link_kind, no_kinds}
@@ -19,13 +19,13 @@ use Rattle.gq_model.specs.rules.Use.{subject}
 use Rattle.gq_laws.specs.Kept.{section_asked}
 use Rattle.gq_laws.specs.Links.{Naming, Leads, Waits, named, naming_in, stance_in, stance, outline, outline_in, pending_of, links, IsLinkedWorld}
 use Rattle.gq_laws.specs.Typed.{IsKind, AreKinds, IsLinkKind, PromisesLinks, HasBuffer, SharesBuffers}
-use Rattle.gq_laws.specs.Statements.{Takes, Grants}
+use Rattle.gq_laws.specs.Statements.{TakesLeaf, Grants}
 use Rattle.gq_laws.specs.Asking.{TellsLinks}
-use Rattle.gq_laws.specs.Typing.{Extra, kind_then, Tells, IsTypedBy}
+use Rattle.gq_laws.specs.Typing.{Extra, kind_then, PromisesSessions, IsTypedBy}
 use Rattle.gq_model.proofs.Small.{some_same}
 use Rattle.gq_laws.proofs.stating.Slots.{kinds_get}
 use Rattle.gq_laws.proofs.stating.Awake.{is_awake}
-use Rattle.gq_laws.proofs.typing.Worlds.{none_asked, hand_none}
+use Rattle.gq_laws.proofs.typing.Worlds.{none_asked, current_none}
 use Rattle.gq_laws.proofs.verified.Programs.{buffer_at}
 use Rattle.gq_laws.proofs.verified.Sure.{IsSure}
 use Rattle.gq_laws.proofs.linking.Sections.{session_of_outline}
@@ -48,7 +48,7 @@ no_memory s (Some (Upgrading l)) = tt
 no_memory s (Some (Calling l)) = tt
 no_memory s (Some (Closing l)) = tt
 
-module _ (promised : ℕ → Option Kind) (system : System) (w : World) (h : IsLinkedWorld system w) (tells : Tells promised w) where
+module _ (promised : ℕ → Option Kind) (system : System) (w : World) (h : IsLinkedWorld system w) (tells : PromisesSessions promised w) where
   -- the session to which a link leads has no request
   pub record IsLed (q : Spot) (k : ℕ) : Type 0 where
     pub s : Session
@@ -125,12 +125,12 @@ module _ (promised : ℕ → Option Kind) (extra : Extra) (system : System) (sur
       let d = sure.server s.client s.server r.0 s.service r.1 r.2 in
       record { component = d.0; there = d.1; provides = sure.provides s.client s.server r.0 d.0 s.service r.1 r.2 d.1 }
 
-  -- what a leaf has at hand is of the service that it provides
-  pub provided_at_hand : (x : ℕ) (c : Component) (phase : Phase) (hand : Option Hand) → slice_get system.components x ≡ Some c
-      → (links w).stances x ≡ Some (stance phase hand)
-      → (g : Hand) (s : Session) → hand ≡ Some g → session_at w g.session ≡ Some s
+  -- the current request of a leaf is of the service that it provides
+  pub provided_current : (x : ℕ) (c : Component) (phase : Phase) (current : Option Current) → slice_get system.components x ≡ Some c
+      → (links w).stances x ≡ Some (stance phase current)
+      → (g : Current) (s : Session) → current ≡ Some g → session_at w g.session ≡ Some s
       → (s.server ≡ x) × (interface_in s.service system.interfaces ≡ (subject system c).provided)
-  provided_at_hand x c phase hand at stands g s is there =
+  provided_current x c phase current at stands g s is there =
       let f = h.handles x phase g (stands ∙ ap (λ o. Some (stance phase o)) is) in
       let same : f.0 ≡ outline s = some_same (sym f.1 ∙ ap outline_in there) in
       let server : s.server ≡ x = sym (ap (λ (s : Session). s.server) same) ∙ f.2 in
@@ -149,7 +149,7 @@ module _ (promised : ℕ → Option Kind) (extra : Extra) (system : System) (sur
       let known : (subject system v.component).provided ≡ Some f.interface = v.provides ∙ f.known in
       let buffer : buffer_of system service ≡ f.interface.buffer =
       ap (λ o. number_of o (λ i. i.buffer)) (ap (λ s. interface_in s system.interfaces) (sym is_service) ∙ f.known) in
-      let rests = f.rests v.component v.there (hand_none k (slice_get w.leaves l.s.server) (omega (arith, l.pending))) in
+      let rests = f.rests v.component v.there (current_none k (slice_get w.leaves l.s.server) (omega (arith, l.pending))) in
       let bank : AreKinds promised l.s.slots (bank_at (subject system v.component) l.s.level) =
       subst (λ b. AreKinds promised l.s.slots (cond b (bank_at (subject system v.component) l.s.level) no_kinds)) l.accepted rests.bank in
       let first = buffer_at (subject system v.component) f.interface l.s.level (sure.faultless l.s.server v.component v.there) known
@@ -163,19 +163,19 @@ module _ (promised : ℕ → Option Kind) (extra : Extra) (system : System) (sur
       parts e = (cc, cc)
 
 -- what the laws of statements take for granted of the leaf that takes a step
-pub stood : (d : Doing) → Takes d → (links d.world).stances d.x ≡ Some (stance d.leaf.phase d.leaf.hand)
-stood d takes = ap stance_in takes.there ∙ (ap (λ p. Some (stance p takes.old.hand)) (sym takes.phase)
-    ∙ ap (λ o. Some (stance d.leaf.phase o)) (sym takes.hand))
+pub stood : (d : Doing) → TakesLeaf d → (links d.world).stances d.x ≡ Some (stance d.leaf.phase d.leaf.current)
+stood d takes = ap stance_in takes.there ∙ (ap (λ p. Some (stance p takes.old.current)) (sym takes.phase)
+    ∙ ap (λ o. Some (stance d.leaf.phase o)) (sym takes.current))
 
 pub grants : (promised : ℕ → Option Kind) (extra : Extra) (d : Doing) → IsSure d.system → IsLinkedWorld d.system d.world
     → IsTypedBy promised extra d.system d.world
-    → (section : Section) (counts : List ℕ) → Takes d → d.leaf.phase ≢ Blocked → slice_get d.system.components d.x ≡ Some d.component
+    → (section : Section) (counts : List ℕ) → TakesLeaf d → d.leaf.phase ≢ Blocked → slice_get d.system.components d.x ≡ Some d.component
     → Grants promised (record { subject = subject d.system d.component; section = section; counts = counts }) d
 grants promised extra d sure h t section counts takes awake at =
     record {
       interfaces = refl;
-      provided = λ hand s is there. (provided_at_hand promised extra d.system sure d.world h t d.x d.component d.leaf.phase d.leaf.hand at
-          (stood d takes) hand s is there).1;
+      provided = λ current s is there. (provided_current promised extra d.system sure d.world h t d.x d.component d.leaf.phase d.leaf.current at
+          (stood d takes) current s is there).1;
       links = promises_links promised d.system d.world h t.tells;
       buffers = shares_buffers promised extra d.system sure d.world h t;
       awake = is_awake d takes h awake;

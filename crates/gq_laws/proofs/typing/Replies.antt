@@ -8,18 +8,18 @@ use Rattle.gq_model.specs.declared.program.Section.{Section}
 use Rattle.gq_model.specs.declared.program.Section.TheVariants.{Main, Opening, Upgrading, Calling, Closing}
 use Rattle.gq_model.specs.declared.phase.Phase.TheVariants.{Blocked, Handling}
 use Rattle.gq_model.specs.machine.Scenario.{Component, interface_in, number_of}
-use Rattle.gq_model.specs.machine.World.{Slot, Spot, In_leaf, In_session, In_object, Session, Request, Hand, Leaf, World, session_at}
+use Rattle.gq_model.specs.machine.World.{Slot, Spot, In_leaf, In_session, In_object, Session, Request, Current, Leaf, World, session_at}
 use Rattle.gq_model.specs.machine.Doing.{Doing, Event}
 use Rattle.gq_model.specs.machine.Step.{section_for, serving, resumed, section_ended}
 use Rattle.gq_model.specs.rules.Kinds.{Kind, Memory, Link_kind, State, Context, Subject, no_kinds}
 use Rattle.gq_model.specs.rules.Flow.{context, own_after, bank_at, section_end}
 use Rattle.gq_model.specs.rules.Use.{subject}
 use Rattle.gq_model.specs.rules.Verdict.{is_wanted}
-use Rattle.gq_laws.specs.Kept.{level_then, section_if, section_at_hand, section_asked, kind_replied, within, bank_kinds}
+use Rattle.gq_laws.specs.Kept.{level_then, section_if, current_section, section_asked, kind_replied, within, bank_kinds}
 use Rattle.gq_laws.specs.Shapes.{Each}
-use Rattle.gq_laws.specs.Links.{Waits, naming_in, one_if, requests_of, at_hand, IsAt, Handles, stance, outline, outline_in, Links, links, IsLinkedWorld}
+use Rattle.gq_laws.specs.Links.{Waits, naming_in, one_if, requests_of, at_current, IsAt, Handles, stance, outline, outline_in, Links, links, IsLinkedWorld}
 use Rattle.gq_laws.specs.Typed.{IsKind, AreKinds, Meets}
-use Rattle.gq_laws.specs.Statements.{Takes, bare}
+use Rattle.gq_laws.specs.Statements.{TakesLeaf, bare}
 use Rattle.gq_laws.specs.Asking.{IsWithin}
 use Rattle.gq_laws.specs.Replies.{HasEnded, Replies, Resumes, session_replied, bank_then, session_then, slot_replied, own_then, resuming, once_replied}
 use Rattle.gq_laws.specs.Typing.{Extra, kind_then, section_of, IsAwaited, IsInSection, StandsBy, RestsAt, FitsService, FitsRequest, IsTypedBy}
@@ -31,7 +31,7 @@ use Rattle.gq_laws.proofs.replying.Stands.{resumes_ruled}
 use Rattle.gq_laws.proofs.verified.Sure.{IsSure}
 use Rattle.gq_laws.proofs.typing.Worlds.{kind_same, asked_same, waiting_none, none_asked, if_here, stands_else}
 use Rattle.gq_laws.proofs.typing.Links.{stood}
-use Rattle.gq_laws.proofs.typing.Inside.{IsActive, stands_active, hand_else}
+use Rattle.gq_laws.proofs.typing.Inside.{IsActive, stands_active, current_else}
 
 -- a section of a session that stays open leaves its slots so at this level
 abbrev pub LeavesBank : Subject → Section → State → ℕ → Type 0
@@ -63,13 +63,13 @@ then_there (In_session k i) slot j old = by (j == k)
     by true = (record old { slots = slice_set old.slots i slot }, refl)
     by false = (old, refl)
 
-resumed_active : (o : Option Hand) → IsActive (resumed o)
+resumed_active : (o : Option Current) → IsActive (resumed o)
 resumed_active None = inl refl
 resumed_active (Some g) = inr refl
 
-module _ (promised : ℕ → Option Kind) (before : Extra) (d : Doing) (sure : IsSure d.system) (takes : Takes d) (h : IsLinkedWorld d.system d.world)
+module _ (promised : ℕ → Option Kind) (before : Extra) (d : Doing) (sure : IsSure d.system) (takes : TakesLeaf d) (h : IsLinkedWorld d.system d.world)
     (t : IsTypedBy promised before d.system d.world) (at : slice_get d.system.components d.x ≡ Some d.component) (handling : d.leaf.phase ≡ Handling)
-    (g : Hand) (s : Session) (mine : d.leaf.hand ≡ Some g) (found : session_at d.world g.session ≡ Some s) where
+    (g : Current) (s : Session) (mine : d.leaf.current ≡ Some g) (found : session_at d.world g.session ≡ Some s) where
   abbrev k : ℕ
   k = g.session
 
@@ -80,7 +80,7 @@ module _ (promised : ℕ → Option Kind) (before : Extra) (d : Doing) (sure : I
   L = links d.world
 
   stands_so : L.stances d.x ≡ Some (stance Handling (Some g))
-  stands_so = stood d takes ∙ (ap (λ p. Some (stance p d.leaf.hand)) handling ∙ ap (λ o. Some (stance Handling o)) mine)
+  stands_so = stood d takes ∙ (ap (λ p. Some (stance p d.leaf.current)) handling ∙ ap (λ o. Some (stance Handling o)) mine)
 
   handled : Handles L d.x g
   handled = h.handles d.x Handling g stands_so
@@ -97,38 +97,38 @@ module _ (promised : ℕ → Option Kind) (before : Extra) (d : Doing) (sure : I
   pub its_level : IsAt g.section s.level
   its_level = subst (λ (s : Session). IsAt g.section s.level) outlined handled.4
 
-  one_at_hand : at_hand k (L.stances s.server) ≡ 1
-  one_at_hand = ap (λ y. at_hand k (L.stances y)) its_server
-      ∙ (ap (at_hand k) stands_so ∙ elim (eqb_tells k k) [ inl f ↦ ap one_if f.0 | inr f ↦ absurd (f.1 refl) ])
+  one_current : at_current k (L.stances s.server) ≡ 1
+  one_current = ap (λ y. at_current k (L.stances y)) its_server
+      ∙ (ap (at_current k) stands_so ∙ elim (eqb_tells k k) [ inl f ↦ ap one_if f.0 | inr f ↦ absurd (f.1 refl) ])
 
   -- no other request of this session waits
   pub no_request : requests_of k d.world.requests ≡ 0
   no_request =
       elim (h.stands k (outline s) (ap outline_in found)) [
-        | inl f ↦ absurd (omega (arith, f.2, one_at_hand))
-        | inr f ↦ omega (arith, f.1, one_at_hand)
+        | inl f ↦ absurd (omega (arith, f.2, one_current))
+        | inr f ↦ omega (arith, f.1, one_current)
       ]
 
   here : section_if k (Some g) ≡ Some g.section
   here = elim (eqb_tells k k) [ inl f ↦ if_here k g f.0 | inr f ↦ absurd (f.1 refl) ]
 
-  old_hand : (j : ℕ) → section_at_hand j (slice_get d.world.leaves d.x) ≡ section_if j (Some g)
-  old_hand j = ap (section_at_hand j) takes.there ∙ ap (section_if j) (sym takes.hand ∙ mine)
+  old_current : (j : ℕ) → current_section j (slice_get d.world.leaves d.x) ≡ section_if j (Some g)
+  old_current j = ap (current_section j) takes.there ∙ ap (section_if j) (sym takes.current ∙ mine)
 
-  -- what it waits for is the section at hand
-  pub asked_at_hand : section_asked d.world k s ≡ Some g.section
-  asked_at_hand =
-      ap (λ o. or_first o (section_at_hand k (slice_get d.world.leaves s.server))) (waiting_none k s d.world.requests no_request)
-      ∙ (ap (λ y. section_at_hand k (slice_get d.world.leaves y)) its_server ∙ (old_hand k ∙ here))
+  -- what it waits for is the current section
+  pub asked_current : section_asked d.world k s ≡ Some g.section
+  asked_current =
+      ap (λ o. or_first o (current_section k (slice_get d.world.leaves s.server))) (waiting_none k s d.world.requests no_request)
+      ∙ (ap (λ y. current_section k (slice_get d.world.leaves y)) its_server ∙ (old_current k ∙ here))
 
   pub promise : promised k ≡ Some (kind_replied g.section s)
-  promise = t.tells k s found ∙ ap (λ o. Some (kind_then s o)) asked_at_hand
+  promise = t.tells k s found ∙ ap (λ o. Some (kind_then s o)) asked_current
 
   module _ (after : Extra) (carries : Carries d.x before after) (end last : State) (meets : Meets promised (context v g.section) end d.world d.leaf)
       (own : end.own ≡ own_after v) (bank : LeavesBank v g.section end s.level) (provided : v.provided ≡ interface_in s.service d.system.interfaces)
-      (ends : section_end v g.section end ≡ Ok last) (w : World) (event : Event) (is : section_ended d d.leaf.hand ≡ Ok (w, event)) where
+      (ends : section_end v g.section end ≡ Ok last) (w : World) (event : Event) (is : section_ended d d.leaf.current ≡ Ok (w, event)) where
     ended : HasEnded promised (context v g.section) end d g s w
-    ended = record { meets = meets; last = last; ends = ends; at_hand = mine; there = found; event = event; ended = is }
+    ended = record { meets = meets; last = last; ends = ends; at_current = mine; there = found; event = event; ended = is }
 
     r : Replies promised (context v g.section) end d g s w
     r = replies_ruled promised (context v g.section) d takes h handling end g s w ended
@@ -141,16 +141,17 @@ module _ (promised : ℕ → Option Kind) (before : Extra) (d : Doing) (sure : I
 
     -- HANDS AND REQUESTS
 
-    hand_same : (j y : ℕ) → j ≢ k → section_at_hand j (slice_get w.leaves y) ≡ section_at_hand j (slice_get d.world.leaves y)
-    hand_same j y ne =
+    current_same : (j y : ℕ) → j ≢ k → current_section j (slice_get w.leaves y) ≡ current_section j (slice_get d.world.leaves y)
+    current_same j y ne =
         elim (eqb_tells y d.x) [
-          | inl f ↦ (ap (λ y. section_at_hand j (slice_get w.leaves y)) f.1
-              ∙ (ap (section_at_hand j) r.server ∙ (sym (else j ne) ∙ (sym (old_hand j) ∙ ap (λ y. section_at_hand j (slice_get d.world.leaves y)) (sym f.1)))))
+          | inl f ↦ (ap (λ y. current_section j (slice_get w.leaves y)) f.1
+              ∙ (ap (current_section j) r.server
+              ∙ (sym (else j ne) ∙ (sym (old_current j) ∙ ap (λ y. current_section j (slice_get d.world.leaves y)) (sym f.1)))))
           | inr f ↦ elim (eqb_tells y s.client) [
-            | inl e ↦ (ap (λ y. section_at_hand j (slice_get w.leaves y)) e.1
-                ∙ (ap (section_at_hand j) r.goes_on ∙ (sym (ap (section_at_hand j) r.was)
-                ∙ ap (λ y. section_at_hand j (slice_get d.world.leaves y)) (sym e.1))))
-            | inr e ↦ ap (section_at_hand j) (r.leaves y f.1 e.1)
+            | inl e ↦ (ap (λ y. current_section j (slice_get w.leaves y)) e.1
+                ∙ (ap (current_section j) r.goes_on ∙ (sym (ap (current_section j) r.was)
+                ∙ ap (λ y. current_section j (slice_get d.world.leaves y)) (sym e.1))))
+            | inr e ↦ ap (current_section j) (r.leaves y f.1 e.1)
           ]
         ]
       where
@@ -168,7 +169,7 @@ module _ (promised : ℕ → Option Kind) (before : Extra) (d : Doing) (sure : I
         (f.0, now, (let b = back j f.0 ne now in b.2 ∙ ap bare (some_same (sym b.1 ∙ there))))
 
     asked : (j : ℕ) (old u : Session) → j ≢ k → bare u ≡ bare old → section_asked w j u ≡ section_asked d.world j old
-    asked j old u ne e = asked_same d.world w j old u (ap (λ u. u.level) e) (ap (λ u. u.server) e) r.requests (hand_same j old.server ne)
+    asked j old u ne e = asked_same d.world w j old u (ap (λ u. u.level) e) (ap (λ u. u.server) e) r.requests (current_same j old.server ne)
 
     -- the session itself, if it stays
     stays : (u : Session) → session_at w k ≡ Some u → (u ≡ s) × (kind_replied g.section s ≡ Link_kind s.service s.level s.donation)
@@ -185,8 +186,8 @@ module _ (promised : ℕ → Option Kind) (before : Extra) (d : Doing) (sure : I
 
     no_more : section_asked w k s ≡ None
     no_more =
-        ap (λ o. or_first o (section_at_hand k (slice_get w.leaves s.server))) (waiting_none k s w.requests (ap (requests_of k) r.requests ∙ no_request))
-        ∙ (ap (λ y. section_at_hand k (slice_get w.leaves y)) its_server ∙ ap (section_at_hand k) r.server)
+        ap (λ o. or_first o (current_section k (slice_get w.leaves s.server))) (waiting_none k s w.requests (ap (requests_of k) r.requests ∙ no_request))
+        ∙ (ap (λ y. current_section k (slice_get w.leaves y)) its_server ∙ ap (current_section k) r.server)
 
     told : (j : ℕ) (u : Session) → session_at w j ≡ Some u → promised j ≡ Some (kind_then u (section_asked w j u))
     told j u there =
@@ -230,26 +231,26 @@ module _ (promised : ℕ → Option Kind) (before : Extra) (d : Doing) (sure : I
         (ap naming_in r.waited) a.client in
         let session : a.session ≡ s = some_same (sym a.there ∙ (ap (session_at d.world) same ∙ found)) in
         let section : a.section ≡ g.section = some_same (sym a.asked
-        ∙ (ap (λ j. section_asked d.world j a.session) same ∙ (ap (section_asked d.world k) session ∙ asked_at_hand))) in
+        ∙ (ap (λ j. section_asked d.world j a.session) same ∙ (ap (section_asked d.world k) session ∙ asked_current))) in
         a.is ∙ (ap (λ (u : Session). once_replied (number_of (interface_in u.service d.system.interfaces) (λ i. i.reply)) a.section state) session
         ∙ ap (λ q. once_replied (number_of (interface_in s.service d.system.interfaces) (λ i. i.reply)) q state) section)
 
     client_stands : (c : Component) → slice_get d.system.components s.client ≡ Some c → (leaf : Leaf) → slice_get w.leaves s.client ≡ Some leaf
         → StandsBy promised after d.system w s.client c leaf leaf.phase
     client_stands c placed leaf there =
-        let i : IsInSection promised before d.system d.world s.client c r.client Blocked (section_of r.client.hand) =
+        let i : IsInSection promised before d.system d.world s.client c r.client Blocked (section_of r.client.current) =
         subst (StandsBy promised before d.system d.world s.client c r.client) r.blocked (t.leaves s.client c r.client placed r.was) in
         let new : Leaf = resuming r.client r.operands (own_then s.spot slot r.client.slots) in
-        let e : Context = within (context (subject d.system c) (section_of r.client.hand)) r.client.loops in
+        let e : Context = within (context (subject d.system c) (section_of r.client.current)) r.client.loops in
         let m = z.client e i.state r.client r.was i.meets in
         let is_new : m.0 ≡ new = some_same (sym m.1 ∙ r.goes_on) in
         let replied : once_replied (number_of v.provided (λ i. i.reply)) g.section i.state ≡ i.next =
         ap (λ o. once_replied (number_of o (λ i. i.reply)) g.section i.state) provided ∙ sym (waits_for i.state i.next i.from) in
         let meets_new : Meets promised e i.next w new = subst (λ l. Meets promised e i.next w l) is_new (subst (λ st. Meets promised e st w m.0) replied m.2) in
         subst (λ l. StandsBy promised after d.system w s.client c l l.phase) (some_same (sym r.goes_on ∙ there))
-        (stands_active promised after d.system s.client c w new (resumed r.client.hand)
-        (resumed_active r.client.hand) i.next i.end meets_new i.goes_on i.whole i.listed
-        (carries s.client (section_of r.client.hand) i.next r.client.todo r.client.loops r.other i.also))
+        (stands_active promised after d.system s.client c w new (resumed r.client.current)
+        (resumed_active r.client.current) i.next i.end meets_new i.goes_on i.whole i.listed
+        (carries s.client (section_of r.client.current) i.next r.client.todo r.client.loops r.other i.also))
 
     leaf_stands : (y : ℕ) (c : Component) (leaf : Leaf) → slice_get d.system.components y ≡ Some c → slice_get w.leaves y ≡ Some leaf
         → StandsBy promised after d.system w y c leaf leaf.phase
@@ -275,7 +276,7 @@ module _ (promised : ℕ → Option Kind) (before : Extra) (d : Doing) (sure : I
         else ne not_client =
             let was = sym (r.leaves y ne not_client) ∙ there in
             stands_else promised promised before after d.system d.world w y c leaf
-            (λ e state m. z.others e state leaf (λ b is. hand_else d takes h y leaf ne was b is d.leaf.hand refl) m) (λ ks a. a) (awaited y not_client)
+            (λ e state m. z.others e state leaf (λ b is. current_else d takes h y leaf ne was b is d.leaf.current refl) m) (λ ks a. a) (awaited y not_client)
             (λ section state todo loops. carries y section state todo loops ne) leaf.phase (t.leaves y c leaf placed was)
 
     -- SESSIONS AND REQUESTS
@@ -311,7 +312,7 @@ module _ (promised : ℕ → Option Kind) (before : Extra) (d : Doing) (sure : I
               known = subst (λ u. interface_in u.service d.system.interfaces ≡ Some f.interface) (sym b.2) f.known;
               level = subst (λ u. u.level ≤ length f.interface.upgrades) (sym b.2) f.level;
               rests = λ server placed none.
-                  let was = sym (hand_same j b.0.server ne) ∙ (ap (λ u. section_at_hand j (slice_get w.leaves u.server)) (sym b.2) ∙ none) in
+                  let was = sym (current_same j b.0.server ne) ∙ (ap (λ u. current_section j (slice_get w.leaves u.server)) (sym b.2) ∙ none) in
                   let o = f.rests server (ap (λ u. slice_get d.system.components u.server) (sym b.2) ∙ placed) was in
                   let n = z.sessions j b.0 (bank_kinds d.system server b.0) ne b.1 o.bank in
                   record {

@@ -16,7 +16,7 @@ use Rattle.gq_laws.specs.Reached.{IsReached}
 use Rattle.gq_laws.specs.Links.{IsLinkedWorld}
 use Rattle.gq_laws.specs.Sound.{IsSound}
 use Rattle.gq_laws.specs.internal.Left.{AreLeft, IsGood}
-use Rattle.gq_laws.specs.Statements.{IsSafe, Takes}
+use Rattle.gq_laws.specs.Statements.{IsSafe, TakesLeaf}
 use Rattle.gq_laws.specs.Typing.{Extra, no_extra, section_of, IsInSection, StandsBy, IsTyped}
 use Rattle.gq_laws.proofs.gathering.Reaching.{in_reached}
 use Rattle.gq_laws.proofs.linking.Linked_worlds.{kept_linked, start_linked}
@@ -31,8 +31,8 @@ use Rattle.gq_model.proofs.Rules_laws.{section_flows}
 
 -- a leaf whose step is counted stands where it stood
 in_section_counted : (promised : ℕ → Option Kind) (extra : Extra) (system : System) (w : World) (x : ℕ) (c : Component) (leaf : Leaf) (n : ℕ) (phase : Phase)
-    → IsInSection promised extra system w x c leaf phase (section_of leaf.hand)
-    → IsInSection promised extra system w x c (record leaf { steps = n }) phase (section_of leaf.hand)
+    → IsInSection promised extra system w x c leaf phase (section_of leaf.current)
+    → IsInSection promised extra system w x c (record leaf { steps = n }) phase (section_of leaf.current)
 in_section_counted promised extra system w x c leaf n phase s =
     record {
       state = s.state;
@@ -40,7 +40,7 @@ in_section_counted promised extra system w x c leaf n phase s =
       end = s.end;
       meets = record {
         own = s.meets.own;
-        hand = s.meets.hand;
+        current = s.meets.current;
         bank = s.meets.bank;
         operands = s.meets.operands;
         locals = s.meets.locals;
@@ -73,7 +73,7 @@ next_typed system sure w h left t x = by (slice_get system.components x) refl (s
     by (Some c) e None f = safe_gives w Idle t
     by (Some c) e (Some leaf) f =
         let d : Doing = record { system = system; world = w; x = x; component = c; leaf = record leaf { steps = suc leaf.steps } } in
-        let taken : Takes d = record { old = leaf; there = f; slots = refl; phase = refl; hand = refl } in
+        let taken : TakesLeaf d = record { old = leaf; there = f; slots = refl; phase = refl; current = refl } in
         let o = outcome t.0 no_extra d sure taken h t.1 e (left x c leaf e f).todo
         (counted t.0 no_extra system w x c leaf (suc leaf.steps) leaf.phase (t.1.leaves x c leaf e f)) in
         record { ends = λ new event g. outcome_typed t.0 no_extra d sure taken h t.1 e new (o.ends new event g); short = o.short }

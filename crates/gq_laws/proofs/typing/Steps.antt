@@ -9,7 +9,7 @@ use Rattle.gq_model.specs.declared.phase.Phase.{Phase}
 use Rattle.gq_model.specs.declared.phase.Phase.TheVariants.{Pending, Running, Blocked, Serving, Handling, Exited}
 use Rattle.gq_model.specs.machine.Program.{Statements, Done, Do, If, Loop, section_in}
 use Rattle.gq_model.specs.texts.Code.{is_section}
-use Rattle.gq_model.specs.machine.World.{Request, Hand, Round, session_at, Session, World}
+use Rattle.gq_model.specs.machine.World.{Request, Current, Round, session_at, Session, World}
 use Rattle.gq_model.specs.machine.Doing.{Doing, Idle, Stepped, Event}
 use Rattle.gq_model.specs.machine.Step.{oldest, perform, section_ended, body_ended, accept_oldest, step_in, accept, instruct, section_for}
 use Rattle.gq_model.specs.rules.Kinds.{Kind, State, Context, Subject}
@@ -17,9 +17,9 @@ use Rattle.gq_model.specs.rules.Flow.{Flowed, flow, context, body, start_of, ban
 use Rattle.gq_model.specs.rules.Use.{subject}
 use Rattle.gq_laws.specs.Kept.{counts_of, within, After, Continues, level_then}
 use Rattle.gq_laws.specs.Links.{IsAt, Fits, stance, IsLinkedWorld}
-use Rattle.gq_laws.specs.Typed.{IsAtHand, Meets}
+use Rattle.gq_laws.specs.Typed.{IsCurrent, Meets}
 use Rattle.gq_laws.specs.internal.Left.{AllAre, IsGood}
-use Rattle.gq_laws.specs.Statements.{IsSafe, IsInside, Takes, LeadsOn, LeavesOthers}
+use Rattle.gq_laws.specs.Statements.{IsSafe, IsInside, TakesLeaf, LeadsOn, LeavesOthers}
 use Rattle.gq_laws.specs.Asking.{IsServed, Awaits, promised_anew}
 use Rattle.gq_laws.specs.Typing.{section_of, StandsBy, IsTypedBy, IsTyped, Extra, no_extra, IsInSection}
 use Rattle.gq_laws.specs.internal.Carrying.{Carries}
@@ -33,7 +33,7 @@ use Rattle.gq_laws.proofs.stating.Loops.{do_ok}
 use Rattle.gq_laws.proofs.typing.Asked_typed.{after_typed}
 use Rattle.gq_laws.proofs.typing.Accept.{accept_typed}
 use Rattle.gq_laws.proofs.typing.Ends.{main_typed, stands_same, same_typed}
-use Rattle.gq_laws.proofs.typing.Links.{stood, grants, provided_at_hand, tells_links}
+use Rattle.gq_laws.proofs.typing.Links.{stood, grants, provided_current, tells_links}
 use Rattle.gq_laws.proofs.linking.Sections.{session_of_outline}
 use Rattle.gq_laws.proofs.typing.Inside.{IsActive, typed_inside, active_awake}
 use Rattle.gq_laws.proofs.typing.Replies.{LeavesBank, its_level, replied_typed}
@@ -90,12 +90,12 @@ pub record Acts (promised : ℕ → Option Kind) (before : Extra) (d : Doing) : 
   pub good : AllAre (IsGood d.system d.component) d.leaf.todo
   pub state : State
   pub end : State
-  pub meets : Meets promised (within (context (subject d.system d.component) (section_of d.leaf.hand)) d.leaf.loops) state d.world d.leaf
-  pub goes_on : Continues (context (subject d.system d.component) (section_of d.leaf.hand)) state d.leaf.todo d.leaf.loops end
-  pub whole : flow (context (subject d.system d.component) (section_of d.leaf.hand)) (start_of (subject d.system d.component) (section_of d.leaf.hand))
-      (body (subject d.system d.component) (section_of d.leaf.hand)) ≡ Ok end
-  pub listed : (list : Statements) × (section_in (section_of d.leaf.hand) d.component.node.program.sections ≡ Some list)
-  pub also : before d.x (section_of d.leaf.hand) state d.leaf.todo d.leaf.loops
+  pub meets : Meets promised (within (context (subject d.system d.component) (section_of d.leaf.current)) d.leaf.loops) state d.world d.leaf
+  pub goes_on : Continues (context (subject d.system d.component) (section_of d.leaf.current)) state d.leaf.todo d.leaf.loops end
+  pub whole : flow (context (subject d.system d.component) (section_of d.leaf.current)) (start_of (subject d.system d.component) (section_of d.leaf.current))
+      (body (subject d.system d.component) (section_of d.leaf.current)) ≡ Ok end
+  pub listed : (list : Statements) × (section_in (section_of d.leaf.current) d.component.node.program.sections ≡ Some list)
+  pub also : before d.x (section_of d.leaf.current) state d.leaf.todo d.leaf.loops
 
 -- the same step once the statement is taken from the leaf
 abbrev pub with_rest : Doing → Statements → Doing
@@ -105,28 +105,28 @@ with_rest d rest = record d { leaf = record d.leaf { todo = rest } }
 pub data Outcome (promised : ℕ → Option Kind) (before : Extra) (d : Doing) (w : World) : Type 0 where
   Idles : (same : w ≡ d.world) → Outcome promised before d w
   Goes_on : (a : Acts promised before d) (inside : IsInside d.leaf.todo d.leaf.loops) (others : LeavesOthers d w)
-      (leads : LeadsOn promised (context (subject d.system d.component) (section_of d.leaf.hand)) a.state a.end d w) (event : Event)
+      (leads : LeadsOn promised (context (subject d.system d.component) (section_of d.leaf.current)) a.state a.end d w) (event : Event)
       (is : perform d d.leaf.todo ≡ Ok (w, event)) → Outcome promised before d w
   Has_asked : (a : Acts promised before d) (i : Instruction) (rest : Statements) (first : d.leaf.todo ≡ Do i rest) (served : IsServed (with_rest d rest) i)
-      (new : State) (judges : judged (within (context (subject d.system d.component) (section_of d.leaf.hand)) d.leaf.loops) a.state i ≡ Ok new)
-      (goes_on : Continues (context (subject d.system d.component) (section_of d.leaf.hand)) new rest d.leaf.loops a.end) (event : Event)
+      (new : State) (judges : judged (within (context (subject d.system d.component) (section_of d.leaf.current)) d.leaf.loops) a.state i ≡ Ok new)
+      (goes_on : Continues (context (subject d.system d.component) (section_of d.leaf.current)) new rest d.leaf.loops a.end) (event : Event)
       (is : instruct (with_rest d rest) i ≡ Ok (w, event))
-      (awaits : Awaits promised (within (context (subject d.system d.component) (section_of d.leaf.hand)) d.leaf.loops) new i (with_rest d rest) w)
+      (awaits : Awaits promised (within (context (subject d.system d.component) (section_of d.leaf.current)) d.leaf.loops) new i (with_rest d rest) w)
       → Outcome promised before d w
   Has_taken : (serves : d.leaf.phase ≡ Serving) (r : Request) (rest : List Request) (first : oldest d.world d.x d.world.requests ≡ Some (r, rest))
       (event : Event) (is : accept d r rest ≡ Ok (w, event)) → Outcome promised before d w
   Has_ended : (a : Acts promised before d) (done : d.leaf.todo ≡ Done) (out : d.leaf.loops ≡ []) (last : State)
-      (meets : Meets promised (context (subject d.system d.component) (section_of d.leaf.hand)) a.end d.world d.leaf)
-      (ends : section_end (subject d.system d.component) (section_of d.leaf.hand) a.end ≡ Ok last) (event : Event)
-      (is : section_ended d d.leaf.hand ≡ Ok (w, event)) → Outcome promised before d w
+      (meets : Meets promised (context (subject d.system d.component) (section_of d.leaf.current)) a.end d.world d.leaf)
+      (ends : section_end (subject d.system d.component) (section_of d.leaf.current) a.end ≡ Ok last) (event : Event)
+      (is : section_ended d d.leaf.current ≡ Ok (w, event)) → Outcome promised before d w
 
-module _ (promised : ℕ → Option Kind) (before : Extra) (d : Doing) (sure : IsSure d.system) (takes : Takes d) (h : IsLinkedWorld d.system d.world)
+module _ (promised : ℕ → Option Kind) (before : Extra) (d : Doing) (sure : IsSure d.system) (takes : TakesLeaf d) (h : IsLinkedWorld d.system d.world)
     (t : IsTypedBy promised before d.system d.world) (at : slice_get d.system.components d.x ≡ Some d.component) where
   abbrev v : Subject
   v = subject d.system d.component
 
   abbrev c : Context
-  c = context v (section_of d.leaf.hand)
+  c = context v (section_of d.leaf.current)
 
   abbrev Safe : Stepped → Type 0
   Safe r = IsSafe (Outcome promised before d) r
@@ -134,18 +134,18 @@ module _ (promised : ℕ → Option Kind) (before : Extra) (d : Doing) (sure : I
   idle : Safe (Ok (d.world, Idle))
   idle = safe_gives d.world Idle (Idles refl)
 
-  pub fits : (hand : Option Hand) → d.leaf.hand ≡ hand → Fits d.leaf.phase hand
-  fits hand mine = subst (Fits d.leaf.phase) mine (h.fits d.x (stance d.leaf.phase d.leaf.hand) (stood d takes))
+  pub fits : (current : Option Current) → d.leaf.current ≡ current → Fits d.leaf.phase current
+  fits current mine = subst (Fits d.leaf.phase) mine (h.fits d.x (stance d.leaf.phase d.leaf.current) (stood d takes))
 
   pub not_blocked : IsActive d.leaf.phase → d.leaf.phase ≢ Blocked
   not_blocked active = active_awake d.leaf.phase active
 
-  -- a leaf with nothing at hand runs, another handles what it has
-  pub running : d.leaf.hand ≡ None → IsActive d.leaf.phase → d.leaf.phase ≡ Running
+  -- a leaf with no current request runs, another handles what it has
+  pub running : d.leaf.current ≡ None → IsActive d.leaf.phase → d.leaf.phase ≡ Running
   running mine (inl e) = e
   running mine (inr e) = absurd (subst (λ p. Fits p None) e (fits None mine))
 
-  pub handling : (g : Hand) → d.leaf.hand ≡ Some g → IsActive d.leaf.phase → d.leaf.phase ≡ Handling
+  pub handling : (g : Current) → d.leaf.current ≡ Some g → IsActive d.leaf.phase → d.leaf.phase ≡ Handling
   handling g mine (inl e) = absurd (subst (λ p. Fits p (Some g)) e (fits (Some g) mine))
   handling g mine (inr e) = e
 
@@ -154,7 +154,7 @@ module _ (promised : ℕ → Option Kind) (before : Extra) (d : Doing) (sure : I
   module _ (a : Acts promised before d) where
     inside_safe : IsInside d.leaf.todo d.leaf.loops → Safe (perform d d.leaf.todo)
     inside_safe inside =
-        let leads = leads_on promised c d takes (grants promised before d sure h t (section_of d.leaf.hand) [] takes (not_blocked a.active) at) a.state a.end
+        let leads = leads_on promised c d takes (grants promised before d sure h t (section_of d.leaf.current) [] takes (not_blocked a.active) at) a.state a.end
         inside a.meets a.goes_on in
         record {
           ends = λ w event e. Goes_on a inside (keeps_to_itself d w event inside e) (leads.ends w event e) event e;
@@ -166,21 +166,23 @@ module _ (promised : ℕ → Option Kind) (before : Extra) (d : Doing) (sure : I
         let at_end = at_its_end c a.state a.end d.leaf.todo d.leaf.loops done out a.goes_on in
         let m : Meets promised c a.end d.world d.leaf = subst (λ s. Meets promised c s d.world d.leaf) at_end
         (subst (λ l. Meets promised (within c l) a.state d.world d.leaf) out a.meets) in
-        let f = section_flows v (section_of d.leaf.hand) a.listed.0 (sure.faultless d.x d.component at) a.listed.1 in
-        let ends : section_end v (section_of d.leaf.hand) a.end ≡ Ok f.1 = ap (section_end v (section_of d.leaf.hand)) (same_state (sym a.whole ∙ f.2)) ∙ f.3 in
+        let f = section_flows v (section_of d.leaf.current) a.listed.0 (sure.faultless d.x d.component at) a.listed.1 in
+        let ends : section_end v (section_of d.leaf.current) a.end ≡ Ok f.1 =
+        ap (section_end v (section_of d.leaf.current)) (same_state (sym a.whole ∙ f.2)) ∙ f.3 in
         subst (λ todo. Safe (perform d todo)) (sym done) (subst (λ l. Safe (body_ended d l)) (sym out) (record {
           ends = λ w event e. Has_ended a done out f.1 m ends event e;
-          short = λ wrong e. ends_ruled promised c d takes (grants promised before d sure h t (section_of d.leaf.hand) [] takes (not_blocked a.active) at) refl
+          short = λ wrong e. ends_ruled promised c d takes
+              (grants promised before d sure h t (section_of d.leaf.current) [] takes (not_blocked a.active) at) refl
               a.end f.1 wrong m ends e;
         }))
 
-    taken : (rest : Statements) → Takes (with_rest d rest)
-    taken rest = record { old = takes.old; there = takes.there; slots = takes.slots; phase = takes.phase; hand = takes.hand }
+    taken : (rest : Statements) → TakesLeaf (with_rest d rest)
+    taken rest = record { old = takes.old; there = takes.there; slots = takes.slots; phase = takes.phase; current = takes.current }
 
     meets_rest : (rest : Statements) → Meets promised (within c d.leaf.loops) a.state d.world (record d.leaf { todo = rest })
     meets_rest rest = record {
       own = a.meets.own;
-      hand = a.meets.hand;
+      current = a.meets.current;
       bank = a.meets.bank;
       operands = a.meets.operands;
       locals = a.meets.locals;
@@ -190,7 +192,8 @@ module _ (promised : ℕ → Option Kind) (before : Extra) (d : Doing) (sure : I
     ask_safe : (i : Instruction) (rest : Statements) → d.leaf.todo ≡ Do i rest → IsServed (with_rest d rest) i → Safe (perform d d.leaf.todo)
     ask_safe i rest is served =
         let s = do_ok c a.state a.end i rest d.leaf.loops (subst (λ todo. Continues c a.state todo d.leaf.loops a.end) is a.goes_on) in
-        let g = grants promised before (with_rest d rest) sure h t (section_of d.leaf.hand) (counts_of d.leaf.loops) (taken rest) (not_blocked a.active) at in
+        let g = grants promised before (with_rest d rest) sure h t (section_of d.leaf.current) (counts_of d.leaf.loops) (taken rest)
+        (not_blocked a.active) at in
         let r = asks_ruled promised (within c d.leaf.loops) (with_rest d rest) (taken rest) h
         (tells_links promised d.system d.world h t.tells) g a.state s.0 i served (meets_rest rest) s.1 in
         subst (λ todo. Safe (perform d todo)) (sym is) (record {
@@ -220,7 +223,7 @@ module _ (promised : ℕ → Option Kind) (before : Extra) (d : Doing) (sure : I
       }
 
   acting : AllAre (IsGood d.system d.component) d.leaf.todo → IsActive d.leaf.phase → (phase : Phase)
-      → (s : IsInSection promised before d.system d.world d.x d.component d.leaf phase (section_of d.leaf.hand)) → s.next ≡ s.state
+      → (s : IsInSection promised before d.system d.world d.x d.component d.leaf phase (section_of d.leaf.current)) → s.next ≡ s.state
       → Safe (perform d d.leaf.todo)
   acting good active phase s from =
       performs (record {
@@ -232,7 +235,7 @@ module _ (promised : ℕ → Option Kind) (before : Extra) (d : Doing) (sure : I
         goes_on = subst (λ st. Continues c st d.leaf.todo d.leaf.loops s.end) from s.goes_on;
         whole = s.whole;
         listed = s.listed;
-        also = subst (λ st. before d.x (section_of d.leaf.hand) st d.leaf.todo d.leaf.loops) from s.also;
+        also = subst (λ st. before d.x (section_of d.leaf.current) st d.leaf.todo d.leaf.loops) from s.also;
       })
 
   pub outcome : AllAre (IsGood d.system d.component) d.leaf.todo → StandsBy promised before d.system d.world d.x d.component d.leaf d.leaf.phase
@@ -251,17 +254,18 @@ module _ (promised : ℕ → Option Kind) (before : Extra) (d : Doing) (sure : I
 
   module _ (after : Extra) (carries : Carries d.x before after) (w : World) where
     pub goes_typed : (a : Acts promised before d) → LeavesOthers d w → (leads : LeadsOn promised c a.state a.end d w)
-        → after d.x (section_of d.leaf.hand) leads.state leads.leaf.todo leads.leaf.loops → IsTypedBy promised after d.system w
+        → after d.x (section_of d.leaf.current) leads.state leads.leaf.todo leads.leaf.loops → IsTypedBy promised after d.system w
     goes_typed a others leads also = typed_inside promised before after d carries takes h t at a.active w others a.state a.end leads a.whole a.listed also
 
     pub asked_typed : (a : Acts promised before d) (i : Instruction) (rest : Statements) → IsServed (with_rest d rest) i → (new : State)
         → judged (within c d.leaf.loops) a.state i ≡ Ok new → Continues c new rest d.leaf.loops a.end
         → (event : Event) → instruct (with_rest d rest) i ≡ Ok (w, event) → (b : Awaits promised (within c d.leaf.loops) new i (with_rest d rest) w)
-        → after d.x (section_of d.leaf.hand) new rest d.leaf.loops → IsTypedBy (promised_anew promised b.k b.kind) after d.system w
+        → after d.x (section_of d.leaf.current) new rest d.leaf.loops → IsTypedBy (promised_anew promised b.k b.kind) after d.system w
     asked_typed a i rest served new judges goes_on event is b also =
         after_typed promised before after (with_rest d rest) carries i a.state new a.end (taken a rest) h (not_blocked a.active) at t
         (tells_links promised d.system d.world h t.tells)
-        (grants promised before (with_rest d rest) sure h t (section_of d.leaf.hand) (counts_of d.leaf.loops) (taken a rest) (not_blocked a.active) at) served
+        (grants promised before (with_rest d rest) sure h t (section_of d.leaf.current) (counts_of d.leaf.loops) (taken a rest) (not_blocked a.active) at)
+        served
         (meets_rest a rest) judges goes_on a.whole a.listed also w event is b
 
     pub taken_typed : d.leaf.phase ≡ Serving → (r : Request) (rest : List Request) → oldest d.world d.x d.world.requests ≡ Some (r, rest) → (event : Event)
@@ -272,8 +276,9 @@ module _ (promised : ℕ → Option Kind) (before : Extra) (d : Doing) (sure : I
     taken_typed serves r rest first event is also = (accept_typed promised before after d carries sure takes h t at serves section_there section_flows r rest
         first also).ends w event is
 
-    pub ended_typed : (hand : Option Hand) → d.leaf.hand ≡ hand → (a : Acts promised before d) (last : State) → Meets promised c a.end d.world d.leaf
-        → section_end v (section_of d.leaf.hand) a.end ≡ Ok last → (event : Event) → section_ended d d.leaf.hand ≡ Ok (w, event)
+    pub ended_typed : (current : Option Current) → d.leaf.current ≡ current → (a : Acts promised before d) (last : State)
+        → Meets promised c a.end d.world d.leaf
+        → section_end v (section_of d.leaf.current) a.end ≡ Ok last → (event : Event) → section_ended d d.leaf.current ≡ Ok (w, event)
         → IsTypedBy promised after d.system w
     ended_typed None mine a last meets ends event is =
         main_typed promised before after d carries takes t at mine a.end
@@ -290,10 +295,10 @@ module _ (promised : ℕ → Option Kind) (before : Extra) (d : Doing) (sure : I
         subst (λ o. flow (context v (section_of o)) (start_of v (section_of o)) (body v (section_of o)) ≡ Ok a.end) mine a.whole in
         let listed = subst (λ o. (list : Statements) × (section_in (section_of o) d.component.node.program.sections ≡ Some list)) mine a.listed in
         let last_is = subst (λ o. section_end v (section_of o) a.end ≡ Ok last) mine ends in
-        let own = own_section v g.section a.end (subst (IsAtHand g.section) mine m.hand).1 whole in
+        let own = own_section v g.section a.end (subst (IsCurrent g.section) mine m.current).1 whole in
         let bank = leaves_bank v g.section a.end last s.0.level (sure.sections d.x d.component g.section listed.0 at listed.1)
         (its_level promised before d sure takes h t at handles g s.0 mine s.1) whole last_is in
-        let provided = sym (provided_at_hand promised before d.system sure d.world h t d.x d.component d.leaf.phase d.leaf.hand at
+        let provided = sym (provided_current promised before d.system sure d.world h t d.x d.component d.leaf.phase d.leaf.current at
         (stood d takes) g s.0 mine s.1).1 in
         replied_typed promised before d sure takes h t at handles g s.0 mine s.1 after carries a.end last m own bank provided last_is w event is
 
@@ -308,13 +313,13 @@ module _ (promised : ℕ → Option Kind) (before : Extra) (d : Doing) (sure : I
       by (Idles same) = (
         promised,
         subst (IsTypedBy promised no_extra d.system) (sym same)
-            (same_typed promised d.system d.world d.world (record { sessions = λ k. refl; requests = refl; hands = λ k y. refl }) before no_extra t
+            (same_typed promised d.system d.world d.world (record { sessions = λ k. refl; requests = refl; all_current = λ k y. refl }) before no_extra t
             (λ x c leaf placed there. stands_same promised d.system d.world d.world
-            (record { sessions = λ k. refl; requests = refl; hands = λ k y. refl }) x c leaf leaf.phase before no_extra (λ section state todo loops b. tt)
+            (record { sessions = λ k. refl; requests = refl; all_current = λ k y. refl }) x c leaf leaf.phase before no_extra (λ section state todo loops b. tt)
             (t.leaves x c leaf placed there))),
       )
       by (Goes_on a inside others leads event is) = (promised, goes_typed no_extra none w a others leads tt)
       by (Has_asked a i rest first served new judges goes_on event is awaits) =
           (promised_anew promised awaits.k awaits.kind, asked_typed no_extra none w a i rest served new judges goes_on event is awaits tt)
       by (Has_taken serves r rest first event is) = (promised, taken_typed no_extra none w serves r rest first event is (λ old there. tt))
-      by (Has_ended a done out last meets ends event is) = (promised, ended_typed no_extra none w d.leaf.hand refl a last meets ends event is)
+      by (Has_ended a done out last meets ends event is) = (promised, ended_typed no_extra none w d.leaf.current refl a last meets ends event is)

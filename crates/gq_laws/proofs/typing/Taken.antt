@@ -6,16 +6,16 @@ use Rattle.gq_model.specs.machine.Lists.{or_first}
 use Rattle.gq_model.specs.declared.program.Section.{Section}
 use Rattle.gq_model.specs.machine.Program.{Statements, section_in}
 use Rattle.gq_model.specs.machine.Scenario.{Interface, Component, interface_in, number_of}
-use Rattle.gq_model.specs.machine.World.{Session, Request, Hand, Leaf, World, session_at}
+use Rattle.gq_model.specs.machine.World.{Session, Request, Current, Leaf, World, session_at}
 use Rattle.gq_model.specs.machine.Doing.{Doing}
 use Rattle.gq_model.specs.rules.Kinds.{Kind, State, Context, Subject}
 use Rattle.gq_model.specs.rules.Flow.{flow, context, body, start_of}
 use Rattle.gq_model.specs.rules.Use.{subject}
-use Rattle.gq_laws.specs.Kept.{section_waiting, section_if, section_at_hand, section_asked, kind_replied, within, Continues}
+use Rattle.gq_laws.specs.Kept.{section_waiting, section_if, current_section, section_asked, kind_replied, within, Continues}
 use Rattle.gq_laws.specs.Shapes.{Each}
 use Rattle.gq_laws.specs.Links.{stance_in, stance, outline, outline_in, links, IsLinkedWorld}
-use Rattle.gq_laws.specs.Typed.{HandMeets, Meets}
-use Rattle.gq_laws.specs.Statements.{Takes}
+use Rattle.gq_laws.specs.Typed.{CurrentMeets, Meets}
+use Rattle.gq_laws.specs.Statements.{TakesLeaf}
 use Rattle.gq_laws.specs.Sections.{Begins}
 use Rattle.gq_laws.specs.Replies.{once_replied}
 use Rattle.gq_laws.specs.Typing.{Extra, kind_then, section_of, IsAwaited, StandsBy, FitsService, FitsRequest, IsTypedBy}
@@ -25,18 +25,18 @@ use Rattle.gq_laws.proofs.linking.Events.{each_map}
 use Rattle.gq_laws.proofs.typing.Worlds.{if_here, stands_else}
 use Rattle.gq_laws.proofs.typing.Inside.{stands_active}
 
--- the oldest request to a leaf with nothing at hand is of this session, whose first it is, and of other sessions the same requests are left
-pub record IsNext (d : Doing) (takes : Takes d) (k : ℕ) (section : Section) (old : Session) (rest : List Request) : Type 0 where
+-- the oldest request to a leaf with no current request is of this session, whose first it is, and of other sessions the same requests are left
+pub record IsNext (d : Doing) (takes : TakesLeaf d) (k : ℕ) (section : Section) (old : Session) (rest : List Request) : Type 0 where
   pub was : session_at d.world k ≡ Some old
   pub at : slice_get d.system.components d.x ≡ Some d.component
   pub server : old.server ≡ d.x
-  pub free : takes.old.hand ≡ None
+  pub free : takes.old.current ≡ None
   pub first : section_waiting k old d.world.requests ≡ Some section
   pub none : (s : Session) → section_waiting k s rest ≡ None
   pub left : (j : ℕ) (s : Session) → j ≢ k → section_waiting j s rest ≡ section_waiting j s d.world.requests
   pub fits : Each (λ r. FitsRequest d.system d.world r × (r.session ≢ k)) rest
 
--- the leaf is at the start of the section, with the session at hand, whose client, server and service stay; all others are left alone
+-- the leaf is at the start of the section, with the current session, whose client, server and service stay; all others are left alone
 pub record HasTaken (promised : ℕ → Option Kind) (d : Doing) (r : Request) (section : Section) (old new : Session) (rest : List Request)
     (w : World) : Type 0 where
   pub begins : Begins promised (subject d.system d.component) section d r w
@@ -58,10 +58,10 @@ record CarriesOn (v w : World) (k : ℕ) (old new : Session) : Type 0 where
   asked : section_asked w k new ≡ section_asked v k old
   kind : kind_then new (section_asked w k new) ≡ kind_then old (section_asked v k old)
 
-if_else : (k : ℕ) (hand : Hand) → hand.session ≢ k → section_if k (Some hand) ≡ None
-if_else k hand ne = elim (eqb_tells hand.session k) [ inl f ↦ absurd (ne f.1) | inr f ↦ ap (λ b. cond b (Some hand.section) None) f.0 ]
+if_else : (k : ℕ) (current : Current) → current.session ≢ k → section_if k (Some current) ≡ None
+if_else k current ne = elim (eqb_tells current.session k) [ inl f ↦ absurd (ne f.1) | inr f ↦ ap (λ b. cond b (Some current.section) None) f.0 ]
 
-module _ (promised : ℕ → Option Kind) (before : Extra) (d : Doing) (takes : Takes d) (h : IsLinkedWorld d.system d.world)
+module _ (promised : ℕ → Option Kind) (before : Extra) (d : Doing) (takes : TakesLeaf d) (h : IsLinkedWorld d.system d.world)
     (t : IsTypedBy promised before d.system d.world) (r : Request) (section : Section) (old new : Session) (rest : List Request)
     (n : IsNext d takes r.session section old rest) (w : World) (a : HasTaken promised d r section old new rest w) where
   abbrev k : ℕ
@@ -70,39 +70,39 @@ module _ (promised : ℕ → Option Kind) (before : Extra) (d : Doing) (takes : 
   abbrev v : Subject
   v = subject d.system d.component
 
-  hand_now : (j : ℕ) → section_at_hand j (slice_get w.leaves d.x) ≡ section_if j (Some (record { session = k; section = section }))
-  hand_now j = ap (section_at_hand j) a.begins.there ∙ ap (section_if j) a.begins.hand
+  current_now : (j : ℕ) → current_section j (slice_get w.leaves d.x) ≡ section_if j (Some (record { session = k; section = section }))
+  current_now j = ap (current_section j) a.begins.there ∙ ap (section_if j) a.begins.current
 
-  hand_then : (j : ℕ) → section_at_hand j (slice_get d.world.leaves d.x) ≡ None
-  hand_then j = ap (section_at_hand j) takes.there ∙ ap (section_if j) n.free
+  current_then : (j : ℕ) → current_section j (slice_get d.world.leaves d.x) ≡ None
+  current_then j = ap (current_section j) takes.there ∙ ap (section_if j) n.free
 
-  -- another session is at the hand at which it was
-  hand_same : (j y : ℕ) → j ≢ k → section_at_hand j (slice_get w.leaves y) ≡ section_at_hand j (slice_get d.world.leaves y)
-  hand_same j y ne =
+  -- another session is current where it was
+  current_same : (j y : ℕ) → j ≢ k → current_section j (slice_get w.leaves y) ≡ current_section j (slice_get d.world.leaves y)
+  current_same j y ne =
       elim (eqb_tells y d.x) [
-        | inl f ↦ (ap (λ y. section_at_hand j (slice_get w.leaves y)) f.1
-            ∙ (hand_now j ∙ (if_else j (record { session = k; section = section }) (λ e. ne (sym e))
-            ∙ (sym (hand_then j) ∙ ap (λ y. section_at_hand j (slice_get d.world.leaves y)) (sym f.1)))))
-        | inr f ↦ ap (section_at_hand j) (a.leaves y f.1)
+        | inl f ↦ (ap (λ y. current_section j (slice_get w.leaves y)) f.1
+            ∙ (current_now j ∙ (if_else j (record { session = k; section = section }) (λ e. ne (sym e))
+            ∙ (sym (current_then j) ∙ ap (λ y. current_section j (slice_get d.world.leaves y)) (sym f.1)))))
+        | inr f ↦ ap (current_section j) (a.leaves y f.1)
       ]
 
   asked_else : (j : ℕ) (s : Session) → j ≢ k → section_asked w j s ≡ section_asked d.world j s
   asked_else j s ne =
-      ap (λ o. or_first o (section_at_hand j (slice_get w.leaves s.server))) (ap (section_waiting j s) a.requests ∙ n.left j s ne)
-      ∙ ap (or_first (section_waiting j s d.world.requests)) (hand_same j s.server ne)
+      ap (λ o. or_first o (current_section j (slice_get w.leaves s.server))) (ap (section_waiting j s) a.requests ∙ n.left j s ne)
+      ∙ ap (or_first (section_waiting j s d.world.requests)) (current_same j s.server ne)
 
-  -- its own section was asked for first, and is at hand now
+  -- its own section was asked for first, and is current now
   asked_then : section_asked d.world k old ≡ Some section
-  asked_then = ap (λ o. or_first o (section_at_hand k (slice_get d.world.leaves old.server))) n.first
+  asked_then = ap (λ o. or_first o (current_section k (slice_get d.world.leaves old.server))) n.first
 
-  at_hand_now : section_at_hand k (slice_get w.leaves new.server) ≡ Some section
-  at_hand_now = ap (λ y. section_at_hand k (slice_get w.leaves y)) (a.server ∙ n.server) ∙ (hand_now k ∙ if_same)
+  current_now : current_section k (slice_get w.leaves new.server) ≡ Some section
+  current_now = ap (λ y. current_section k (slice_get w.leaves y)) (a.server ∙ n.server) ∙ (current_now k ∙ if_same)
     where
       if_same : section_if k (Some (record { session = k; section = section })) ≡ Some section
       if_same = elim (eqb_tells k k) [ inl f ↦ if_here k (record { session = k; section = section }) f.0 | inr f ↦ absurd (f.1 refl) ]
 
   asked_now : section_asked w k new ≡ Some section
-  asked_now = ap (λ o. or_first o (section_at_hand k (slice_get w.leaves new.server))) (ap (section_waiting k new) a.requests ∙ n.none new) ∙ at_hand_now
+  asked_now = ap (λ o. or_first o (current_section k (slice_get w.leaves new.server))) (ap (section_waiting k new) a.requests ∙ n.none new) ∙ current_now
 
   carries_own : CarriesOn d.world w k old new
   carries_own =
@@ -160,15 +160,16 @@ module _ (promised : ℕ → Option Kind) (before : Extra) (d : Doing) (takes : 
             (sym f.2.service) u.is;
       }
 
-  -- what is at another leaf's hand is another session
-  other_hand : (y : ℕ) (leaf : Leaf) → y ≢ d.x → slice_get d.world.leaves y ≡ Some leaf → (g : Hand) → leaf.hand ≡ Some g → g.session ≢ k
-  other_hand y leaf ne there g is same =
+  -- what is current at another leaf is another session
+  other_current : (y : ℕ) (leaf : Leaf) → y ≢ d.x → slice_get d.world.leaves y ≡ Some leaf → (g : Current) → leaf.current ≡ Some g → g.session ≢ k
+  other_current y leaf ne there g is same =
       let f = h.handles y leaf.phase g (ap stance_in there ∙ ap (λ o. Some (stance leaf.phase o)) is) in
       let u : f.0 ≡ outline old = some_same (sym f.1 ∙ (ap (links d.world).sessions same ∙ ap outline_in n.was)) in
       ne (sym f.2 ∙ (ap (λ (s : Session). s.server) u ∙ n.server))
 
-  other_bank : (c : Context) (kinds : List Kind) (hand : Option Hand) → ((g : Hand) → hand ≡ Some g → g.session ≢ k) → HandMeets promised c kinds d.world hand
-      → HandMeets promised c kinds w hand
+  other_bank : (c : Context) (kinds : List Kind) (current : Option Current) → ((g : Current) → current ≡ Some g → g.session ≢ k)
+      → CurrentMeets promised c kinds d.world current
+      → CurrentMeets promised c kinds w current
   other_bank c kinds None ne m = tt
   other_bank c kinds (Some g) ne m = (m.0, a.sessions g.session (ne g refl) ∙ m.1, m.2)
 
@@ -177,8 +178,8 @@ module _ (promised : ℕ → Option Kind) (before : Extra) (d : Doing) (takes : 
   other_meets y leaf ne there c state m =
       record {
         own = m.own;
-        hand = m.hand;
-        bank = other_bank c state.bank leaf.hand (other_hand y leaf ne there) m.bank;
+        current = m.current;
+        bank = other_bank c state.bank leaf.current (other_current y leaf ne there) m.bank;
         operands = m.operands;
         locals = m.locals;
         loops = m.loops;
@@ -190,7 +191,7 @@ module _ (promised : ℕ → Option Kind) (before : Extra) (d : Doing) (takes : 
     its : StandsBy promised after d.system w d.x d.component a.begins.leaf a.begins.leaf.phase
     its =
         let leaf = a.begins.leaf in
-        let same : section ≡ section_of leaf.hand = ap section_of (sym a.begins.hand) in
+        let same : section ≡ section_of leaf.current = ap section_of (sym a.begins.current) in
         stands_active promised after d.system d.x d.component w leaf leaf.phase (inr a.begins.phase) (start_of v section) end
         (subst (λ s. Meets promised (within (context v s) leaf.loops) (start_of v section) w leaf) same
         (subst (λ l. Meets promised (within (context v section) l) (start_of v section) w leaf) (sym a.begins.loops) a.begins.meets))
@@ -230,7 +231,7 @@ module _ (promised : ℕ → Option Kind) (before : Extra) (d : Doing) (takes : 
           interface = f.interface;
           known = ap (λ service. interface_in service d.system.interfaces) a.service ∙ f.known;
           level = a.level f.interface f.known;
-          rests = λ server placed none. absurd (none_some (sym none ∙ at_hand_now));
+          rests = λ server placed none. absurd (none_some (sym none ∙ current_now));
         }
 
     else_fits : (j : ℕ) (s : Session) → j ≢ k → session_at d.world j ≡ Some s → FitsService promised d.system w j s
@@ -240,7 +241,7 @@ module _ (promised : ℕ → Option Kind) (before : Extra) (d : Doing) (takes : 
           interface = f.interface;
           known = f.known;
           level = f.level;
-          rests = λ server placed none. f.rests server placed (sym (hand_same j s.server ne) ∙ none);
+          rests = λ server placed none. f.rests server placed (sym (current_same j s.server ne) ∙ none);
         }
 
     session_fits : (j : ℕ) (s : Session) → session_at w j ≡ Some s → FitsService promised d.system w j s

@@ -8,13 +8,13 @@ use Rattle.gq_model.specs.declared.phase.Phase.{Phase}
 use Rattle.gq_model.specs.declared.phase.Phase.TheVariants.{Pending, Running, Blocked, Serving, Handling, Exited}
 use Rattle.gq_model.specs.machine.Program.{Statements}
 use Rattle.gq_model.specs.machine.Scenario.{System, Component}
-use Rattle.gq_model.specs.machine.World.{Session, Request, Hand, Round, Leaf, World}
+use Rattle.gq_model.specs.machine.World.{Session, Request, Current, Round, Leaf, World}
 use Rattle.gq_model.specs.machine.Step.{section_for}
 use Rattle.gq_model.specs.rules.Kinds.{Kind, State, Context}
 use Rattle.gq_model.specs.rules.Flow.{own_after}
 use Rattle.gq_model.specs.rules.Use.{subject}
-use Rattle.gq_laws.specs.Kept.{level_then, section_waiting, section_if, section_at_hand, section_asked}
-use Rattle.gq_laws.specs.Links.{one_if, requests_of, by_hand, at_hand, stance_in, links, pending_of}
+use Rattle.gq_laws.specs.Kept.{level_then, section_waiting, section_if, current_section, section_asked}
+use Rattle.gq_laws.specs.Links.{one_if, requests_of, by_current, at_current, stance_in, links, pending_of}
 use Rattle.gq_laws.specs.Typed.{AreKinds, Meets}
 use Rattle.gq_laws.specs.Statements.{bare}
 use Rattle.gq_laws.specs.Typing.{Extra, kind_then, section_of, IsAwaited, GoesOnFrom, IsInSection, StandsBy}
@@ -41,12 +41,12 @@ waiting_same k s t (r ∷ rs) e =
     ap (λ l. cond (r.session == k) (Some (section_for r.ask (level_then r.ask l))) (section_waiting k t rs)) e
     ∙ ap (cond (r.session == k) (Some (section_for r.ask (level_then r.ask s.level)))) (waiting_same k s t rs e)
 
--- the same requests and the same section at the server's hand ask for the same section
+-- the same requests and the same section current at the server ask for the same section
 pub asked_same : (v w : World) (k : ℕ) (s t : Session) → t.level ≡ s.level → t.server ≡ s.server → w.requests ≡ v.requests
-    → section_at_hand k (slice_get w.leaves s.server) ≡ section_at_hand k (slice_get v.leaves s.server) → section_asked w k t ≡ section_asked v k s
-asked_same v w k s t level server requests hand =
-    ap (λ o. or_first o (section_at_hand k (slice_get w.leaves t.server))) (waiting_same k s t w.requests level ∙ ap (section_waiting k s) requests)
-    ∙ ap (or_first (section_waiting k s v.requests)) (ap (λ y. section_at_hand k (slice_get w.leaves y)) server ∙ hand)
+    → current_section k (slice_get w.leaves s.server) ≡ current_section k (slice_get v.leaves s.server) → section_asked w k t ≡ section_asked v k s
+asked_same v w k s t level server requests current =
+    ap (λ o. or_first o (current_section k (slice_get w.leaves t.server))) (waiting_same k s t w.requests level ∙ ap (section_waiting k s) requests)
+    ∙ ap (or_first (section_waiting k s v.requests)) (ap (λ y. current_section k (slice_get w.leaves y)) server ∙ current)
 
 pub waiting_none : (k : ℕ) (s : Session) (rs : List Request) → requests_of k rs ≡ 0 → section_waiting k s rs ≡ None
 waiting_none k s [] e = refl
@@ -57,26 +57,26 @@ waiting_none k s (r ∷ rs) e = by (r.session == k) e (λ f. waiting_none k s rs
     by true f further = absurd (omega (arith, f))
     by false f further = further (omega (arith, f))
 
-if_none : (k : ℕ) (hand : Option Hand) → by_hand k hand ≡ 0 → section_if k hand ≡ None
+if_none : (k : ℕ) (current : Option Current) → by_current k current ≡ 0 → section_if k current ≡ None
 if_none k None e = refl
-if_none k (Some hand) e = by (hand.session == k) e
+if_none k (Some current) e = by (current.session == k) e
   where
-    by : (b : Bool) → one_if b ≡ 0 → cond b (Some hand.section) None ≡ None
+    by : (b : Bool) → one_if b ≡ 0 → cond b (Some current.section) None ≡ None
     by true f = absurd (omega (arith, f))
     by false f = refl
 
-pub hand_none : (k : ℕ) (o : Option Leaf) → at_hand k (stance_in o) ≡ 0 → section_at_hand k o ≡ None
-hand_none k None e = refl
-hand_none k (Some leaf) e = if_none k leaf.hand e
+pub current_none : (k : ℕ) (o : Option Leaf) → at_current k (stance_in o) ≡ 0 → current_section k o ≡ None
+current_none k None e = refl
+current_none k (Some leaf) e = if_none k leaf.current e
 
 -- a session without request is asked for nothing
 pub none_asked : (w : World) (k : ℕ) (s : Session) → pending_of (links w) k s ≡ 0 → section_asked w k s ≡ None
 none_asked w k s e =
-    ap (λ o. or_first o (section_at_hand k (slice_get w.leaves s.server))) (waiting_none k s w.requests (omega (arith, e)))
-    ∙ hand_none k (slice_get w.leaves s.server) (omega (arith, e))
+    ap (λ o. or_first o (current_section k (slice_get w.leaves s.server))) (waiting_none k s w.requests (omega (arith, e)))
+    ∙ current_none k (slice_get w.leaves s.server) (omega (arith, e))
 
-pub if_here : (k : ℕ) (hand : Hand) → (hand.session == k) ≡ true → section_if k (Some hand) ≡ Some hand.section
-if_here k hand e = ap (λ b. cond b (Some hand.section) None) e
+pub if_here : (k : ℕ) (current : Current) → (current.session == k) ≡ true → section_if k (Some current) ≡ Some current.section
+if_here k current e = ap (λ b. cond b (Some current.section) None) e
 
 -- LEAVES THAT STAND ELSEWHERE
 
@@ -109,11 +109,11 @@ module _ (p q : ℕ → Option Kind) (before after : Extra) (system : System) (v
         also = carries section h.next leaf.todo leaf.loops h.also;
       }
 
-  -- a leaf stands in another world where it stood, if its slots and the session at its hand do
+  -- a leaf stands in another world where it stood, if its slots and the session current at it do
   pub stands_else : (phase : Phase) → StandsBy p before system v x c leaf phase → StandsBy q after system w x c leaf phase
-  stands_else Pending h = in_section_else Pending (section_of leaf.hand) h
-  stands_else Running h = in_section_else Running (section_of leaf.hand) h
-  stands_else Blocked h = in_section_else Blocked (section_of leaf.hand) h
+  stands_else Pending h = in_section_else Pending (section_of leaf.current) h
+  stands_else Running h = in_section_else Running (section_of leaf.current) h
+  stands_else Blocked h = in_section_else Blocked (section_of leaf.current) h
   stands_else Serving h = kinds (own_after (subject system c)) h
-  stands_else Handling h = in_section_else Handling (section_of leaf.hand) h
+  stands_else Handling h = in_section_else Handling (section_of leaf.current) h
   stands_else Exited h = h

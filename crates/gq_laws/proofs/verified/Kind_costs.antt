@@ -19,7 +19,7 @@ use Rattle.gq_laws.specs.Shapes.{Each}
 use Rattle.gq_laws.specs.Links.{Leads, Waits, naming_in, IsLinkedWorld}
 use Rattle.gq_laws.specs.internal.Lending.{given_by, slot_given}
 use Rattle.gq_laws.specs.Typed.{IsKind, AreKinds}
-use Rattle.gq_laws.specs.Typing.{kind_then, Tells}
+use Rattle.gq_laws.specs.Typing.{kind_then, PromisesSessions}
 use Rattle.gq_model.proofs.Small.{some_same}
 use Rattle.gq_laws.proofs.typing.Worlds.{none_asked}
 use Rattle.gq_laws.proofs.typing.Links.{is_led}
@@ -75,7 +75,7 @@ linked_named system w h q (Waiting k) there =
     let n = h.named q (Waits k) (ap naming_in there) in let u = session_of_outline (session_at w k) n.0 n.1 in (u.0, u.1)
 
 -- and nothing is asked of the session of a link
-pub linked_no_close : (promised : ℕ → Option Kind) (system : System) (w : World) → IsLinkedWorld system w → Tells promised w → (q : Spot) (k : ℕ)
+pub linked_no_close : (promised : ℕ → Option Kind) (system : System) (w : World) → IsLinkedWorld system w → PromisesSessions promised w → (q : Spot) (k : ℕ)
     → slot_at w q ≡ Some (Link k) → NoClose w (Link k)
 linked_no_close promised system w h tells q k there =
     let l = is_led promised system w h tells q k there in (l.s, l.there, subst StaysOpen (sym (none_asked w k l.s l.pending)) tt)
@@ -124,7 +124,7 @@ module _ (r : Resource) where
   lent_then s (Some (Calling l)) h = refl
   lent_then s (Some (Closing l)) h = absurd h
 
-  module _ (promised : ℕ → Option Kind) (w : World) (tells : Tells promised w) where
+  module _ (promised : ℕ → Option Kind) (w : World) (tells : PromisesSessions promised w) where
     -- the kind of a slot that names this session
     kind_is : (k : ℕ) (s : Session) (kind : Kind) → session_at w k ≡ Some s → promised k ≡ Some kind → kind ≡ kind_then s (section_asked w k s)
     kind_is k s kind there is = some_same (sym is ∙ tells k s there)

@@ -28,7 +28,7 @@ Covers v level bank = (i : Interface) → v.provided ≡ Some i → EachOf i.cou
 abbrev pub main_points : Subject → List State
 main_points v = points (context v Main) (start_of v Main) (body v Main)
 
--- a leaf in a section is at one of the section's points, as far as any number tells, and a session at its hand is covered
+-- a leaf in a section is at one of the section's points, as far as any number tells, and a session current at it is covered
 abbrev pub IsBounded : System → Extra
 IsBounded system x section state todo loops =
     (c : Component) → slice_get system.components x ≡ Some c

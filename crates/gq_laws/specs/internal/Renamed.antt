@@ -1,6 +1,6 @@
 -- The same world with other numbers of sessions, as far as a group of leaves goes.
 use Rattle.std.specs.Prelude.{◌≡◌, ℕ, Bool, true, List, map, Option, Some, option_map, slice_get}
-use Rattle.gq_model.specs.machine.World.{Slot, Empty, Bytes, Pool, Link, Waiting, Spot, In_leaf, In_session, In_object, Session, Request, Hand, Leaf, World}
+use Rattle.gq_model.specs.machine.World.{Slot, Empty, Bytes, Pool, Link, Waiting, Spot, In_leaf, In_session, In_object, Session, Request, Current, Leaf, World}
 use Rattle.gq_model.specs.machine.World.{joined}
 use Rattle.gq_laws.specs.Separation.{own_session, own_requests}
 
@@ -18,11 +18,11 @@ renamed_spot f (In_leaf x i) = In_leaf x i
 renamed_spot f (In_session k i) = In_session (f k) i
 renamed_spot f (In_object k) = In_object (f k)
 
-abbrev pub renamed_hand : (ℕ → ℕ) → Hand → Hand
-renamed_hand f hand = record { session = f hand.session; section = hand.section }
+abbrev pub renamed_current : (ℕ → ℕ) → Current → Current
+renamed_current f current = record { session = f current.session; section = current.section }
 
 abbrev pub renamed_leaf : (ℕ → ℕ) → Leaf → Leaf
-renamed_leaf f leaf = record leaf { hand = option_map (renamed_hand f) leaf.hand; slots = map (renamed_slot f) leaf.slots }
+renamed_leaf f leaf = record leaf { current = option_map (renamed_current f) leaf.current; slots = map (renamed_slot f) leaf.slots }
 
 abbrev pub renamed_session : (ℕ → ℕ) → Session → Session
 renamed_session f s =

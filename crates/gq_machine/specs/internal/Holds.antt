@@ -89,7 +89,7 @@ ProvidesOne (Some c) = (service : List ℕ) × (c.node.provides ≡ Some service
 
 -- the leaf is in `main`, and provides a service
 pub record Provides (f : Fixed) (m : State) (x : ℕ) : Type 0 where
-  pub main : OfLeaf (λ l. l.state.hand ≡ None) (slice_get m.leaves.items x)
+  pub main : OfLeaf (λ l. l.state.current ≡ None) (slice_get m.leaves.items x)
   pub provides : ProvidesOne (slice_get (components f.table) x)
 
 abbrev pub ProvidesNone : Option Component → Type 0
@@ -98,5 +98,5 @@ ProvidesNone (Some c) = c.node.provides ≡ None
 
 -- the leaf is in `main`, and provides nothing
 pub record EndsMain (f : Fixed) (m : State) (x : ℕ) : Type 0 where
-  pub main : OfLeaf (λ l. l.state.hand ≡ None) (slice_get m.leaves.items x)
+  pub main : OfLeaf (λ l. l.state.current ≡ None) (slice_get m.leaves.items x)
   pub provides : ProvidesNone (slice_get (components f.table) x)

@@ -47,7 +47,7 @@ abbrev pub open_session : Doing → Place → List ℕ → ℕ → Stepped
 open_session d place service n =
     let k = free_place d.world.sessions in
     let donation = amount n (open_caps (interface_in service d.system.interfaces)) in
-    need (spot_of d.x d.leaf.hand place) WrongKind (λ spot. fill d.world spot (slot_at d.world spot) (Waiting k) (λ w.
+    need (spot_of d.x d.leaf.current place) WrongKind (λ spot. fill d.world spot (slot_at d.world spot) (Waiting k) (λ w.
     need (server_of d.system d.component service) WrongKind (λ server.
     asked d (record w { sessions = add_session (new_session d.x spot server service donation) w.sessions }) spot k Ask_open)))
 
@@ -58,7 +58,7 @@ link_in w _ go = Err WrongKind
 
 -- the slot, the number and the session of the link that an operand names
 abbrev pub link_at : Doing → Place → (Spot → ℕ → Session → Stepped) → Stepped
-link_at d place go = need (spot_of d.x d.leaf.hand place) WrongKind (λ spot. link_in d.world (slot_at d.world spot) (go spot))
+link_at d place go = need (spot_of d.x d.leaf.current place) WrongKind (λ spot. link_in d.world (slot_at d.world spot) (go spot))
 
 -- an upgrade gives n bytes more, and the capabilities of the next level
 abbrev pub upgrade : Doing → Place → ℕ → Stepped

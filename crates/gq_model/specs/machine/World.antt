@@ -40,8 +40,8 @@ pub record Request : Type 0 where
   pub session : ℕ
   pub ask : Ask
 
--- the session and the section at hand
-pub record Hand : Type 0 where
+-- the current session and section
+pub record Current : Type 0 where
   pub session : ℕ
   pub section : Section
 
@@ -54,7 +54,7 @@ pub record Round : Type 0 where
 
 pub record Leaf : Type 0 where
   pub phase : Phase
-  pub hand : Option Hand
+  pub current : Option Current
   pub todo : Statements
   pub loops : List Round
   pub operands : List ℕ
@@ -79,7 +79,7 @@ abbrev pub start_leaf : Component → Leaf
 start_leaf c =
     record {
       phase = first_phase c.node.after;
-      hand = None;
+      current = None;
       todo = body_of (section_in Main c.node.program.sections);
       loops = [];
       operands = [];
@@ -145,9 +145,9 @@ with_slot w (In_session k i) slot = put_session_slot w (session_at w k) k i slot
 with_slot w (In_object k) slot = put_object w (session_at w k) k slot
 
 -- where an operand's slot stands, if it is there: a session's only outside `main`
-abbrev pub spot_of : ℕ → Option Hand → Place → Option Spot
-spot_of x hand (Own i) = Some (In_leaf x i)
+abbrev pub spot_of : ℕ → Option Current → Place → Option Spot
+spot_of x current (Own i) = Some (In_leaf x i)
 spot_of x None (Shared i) = None
 spot_of x None Object = None
-spot_of x (Some hand) (Shared i) = Some (In_session hand.session i)
-spot_of x (Some hand) Object = Some (In_object hand.session)
+spot_of x (Some current) (Shared i) = Some (In_session current.session i)
+spot_of x (Some current) Object = Some (In_object current.session)

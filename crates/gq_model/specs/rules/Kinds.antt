@@ -41,7 +41,7 @@ abbrev pub in_main : Section → Bool
 in_main Main = true
 in_main _ = false
 
--- the level of the session at hand
+-- the level of the current session
 abbrev pub level_of : Section → ℕ
 level_of Main = 0
 level_of Opening = 0

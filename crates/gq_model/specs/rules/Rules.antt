@@ -209,7 +209,7 @@ covered [] i level s = Ok s
 covered (r ∷ resources) i level s =
     must (nat_le (session_cost r i s.bank) (part r (need_of i level))) (over r) (covered resources i level s)
 
--- so it is where a session is at hand
+-- so it is where a session is current
 abbrev pub within_need : Section → Option Interface → State → Judged
 within_need Main provided s = Ok s
 within_need section None s = Ok s

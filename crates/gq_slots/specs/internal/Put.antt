@@ -1,9 +1,9 @@
--- Another thing in a slot, and another memory and heap.
+-- Another content in a slot, and another memory and heap.
 use Rattle.std.specs.Prelude.{ℕ, List, [], Option, None, Some, get_or, slice_get, slice_set}
 use Rattle.gq_model.specs.machine.World as world
 use Rattle.gq_heap.specs.declared.heap.Heap.{Heap}
 use Rattle.gq_trade.specs.Stores.{Memory}
-use Rattle.gq_contents.specs.declared.thing.Thing.{Thing}
+use Rattle.gq_contents.specs.declared.content.Content.{Content}
 use Rattle.gq_trade.specs.declared.session.Session.{Session}
 use Rattle.gq_trade.specs.declared.session.Spot.{Spot}
 use Rattle.gq_trade.specs.declared.session.Spot.TheVariants.{InLeaf, InSession, InObject}
@@ -12,7 +12,7 @@ use Rattle.gq_trade.specs.Trades.{with_trading}
 use Rattle.gq_slots.specs.Slots.{Slots}
 
 -- a session with another object
-abbrev pub with_object : Session → Thing → Session
+abbrev pub with_object : Session → Content → Session
 with_object s t = record {
   client = s.client;
   spot = s.spot;
@@ -25,17 +25,17 @@ with_object s t = record {
   slots = s.slots;
 }
 
-abbrev pub put_trading : Trading → Spot → Thing → Trading
+abbrev pub put_trading : Trading → Spot → Content → Trading
 put_trading w (InLeaf x i) t = w
 put_trading w (InSession k i) t = with_session w k (with_slot (session_at w k) i t)
 put_trading w (InObject k) t = with_session w k (with_object (session_at w k) t)
 
-abbrev pub put_own : List (List Thing) → Spot → Thing → List (List Thing)
+abbrev pub put_own : List (List Content) → Spot → Content → List (List Content)
 put_own own (InLeaf x i) t = slice_set own x (slice_set (get_or own x []) i t)
 put_own own (InSession k i) t = own
 put_own own (InObject k) t = own
 
-abbrev pub put : Slots → Spot → Thing → Slots
+abbrev pub put : Slots → Spot → Content → Slots
 put s p t = record { trades = with_trading s.trades (put_trading s.trades.trading p t); own = put_own s.own p t; heaps = s.heaps }
 
 -- another memory, and another heap of the leaf x

@@ -12,9 +12,9 @@ use Rattle.gq_store.specs.Store.{Store}
 use Rattle.gq_trade.specs.Numbers.{IsTaken, free_number}
 use Rattle.gq_trade.specs.declared.requests.Request.{Request}
 use Rattle.gq_trade.specs.Seen_requests.{request_seen}
-use Rattle.gq_contents.specs.declared.thing.Thing.{Thing}
-use Rattle.gq_contents.specs.declared.thing.Thing.TheVariants as thing
-use Rattle.gq_contents.specs.Things.{seen}
+use Rattle.gq_contents.specs.declared.content.Content.{Content}
+use Rattle.gq_contents.specs.declared.content.Content.TheVariants as content
+use Rattle.gq_contents.specs.Contents.{seen}
 use Rattle.gq_trade.specs.declared.session.Session.{Session}
 use Rattle.gq_trade.specs.Seen.{seen_in}
 use Rattle.gq_trade.specs.Trading.{AreBetween, AreOf, account_of, its_account, server_of, session_at, session_in}
@@ -116,14 +116,14 @@ objects_at (Some q ∷ ss) zero o t = o.0
 objects_at (Some q ∷ ss) (suc k) o t = objects_at ss k o.1 t
 
 -- an object is a slice, which costs a page at least
-object_price : (st : Store) (t : Thing) → IsObject t → IsBytes (shape (seen st t)) → 4096 ≤ slot_price Ram (seen st t)
-object_price st thing.Empty o b = absurd b
-object_price st (thing.Block p n) o b = absurd o
-object_price st (thing.Slice k n) o b = omega arith
-object_price st (thing.Space k n) o b = absurd o
-object_price st (thing.Pool p) o b = absurd o
-object_price st (thing.Link k) o b = absurd o
-object_price st (thing.Waiting k) o b = absurd o
+object_price : (st : Store) (t : Content) → IsObject t → IsBytes (shape (seen st t)) → 4096 ≤ slot_price Ram (seen st t)
+object_price st content.Empty o b = absurd b
+object_price st (content.Block p n) o b = absurd o
+object_price st (content.Slice k n) o b = omega arith
+object_price st (content.Space k n) o b = absurd o
+object_price st (content.Pool p) o b = absurd o
+object_price st (content.Link k) o b = absurd o
+object_price st (content.Waiting k) o b = absurd o
 
 module _ (f : Frame) (s : Slots) (x : ℕ) where
   -- a leaf holds a page at least for each accepted session to it

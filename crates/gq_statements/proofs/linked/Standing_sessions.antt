@@ -5,35 +5,36 @@ use Rattle.gq_model.specs.declared.phase.Phase.TheVariants.{Blocked}
 use Rattle.gq_model.specs.machine.Scenario.{System}
 use Rattle.gq_model.specs.machine.World as world
 use Rattle.gq_model.proofs.Small.{not_both, some_same}
-use Rattle.gq_laws.specs.Links.{Belongs, IsLinkedWorld, Leads, Links, Naming, Stance, Stands, Waits, at_hand, by_hand, links, named, naming, naming_in, outline}
+use Rattle.gq_laws.specs.Links.{Belongs, IsLinkedWorld, Leads, Links, Naming, Stance, Stands, Waits, at_current, by_current, links, named, naming, naming_in}
+use Rattle.gq_laws.specs.Links.{outline}
 use Rattle.gq_laws.specs.Links.{pending_of, requests_of, stance}
 use Rattle.gq_trade.specs.Numbers.{IsTaken}
 use Rattle.gq_trade.specs.Seen_requests.{request_seen}
-use Rattle.gq_contents.specs.declared.thing.Thing.TheVariants as thing
-use Rattle.gq_contents.specs.Things.{seen}
+use Rattle.gq_contents.specs.declared.content.Content.TheVariants as content
+use Rattle.gq_contents.specs.Contents.{seen}
 use Rattle.gq_trade.specs.declared.session.Spot.{Spot}
 use Rattle.gq_trade.specs.declared.session.Spot.TheVariants.{InLeaf, InSession, InObject}
 use Rattle.gq_trade.specs.Seen.{spot_seen}
 use Rattle.gq_trade.specs.Trading.{client_of, server_of, session_at}
 use Rattle.gq_trade.proofs.Sessions_kept.{between_at}
-use Rattle.gq_slots.specs.Slots.{AreLong, Frame, IsMark, IsSlot, IsSpot, Slots, holder, memory_of, slot_of, thing_at, world_seen}
+use Rattle.gq_slots.specs.Slots.{AreLong, Frame, IsMark, IsSlot, IsSpot, Slots, holder, memory_of, slot_of, content_at, world_seen}
 use Rattle.gq_statements.specs.Systems.{AreLawful}
-use Rattle.gq_statements.specs.Linked.{IsAtRest, IsAwaited, IsInSlot, IsOfOther, IsSlotOf, Names, Tells}
+use Rattle.gq_statements.specs.Linked.{IsAtRest, IsAwaited, IsInSlot, IsOfOther, IsSlotOf, Names, ShowsSession}
 use Rattle.gq_statements.proofs.linked.Stored.{link_is, none_of, of_none, same_spots, says_stored, seen_at, session_has, session_is, spot_says, stance_is}
 use Rattle.gq_statements.proofs.linked.Stored.{waiting_is}
 
 -- HANDS
 
-other_hand : (k : ℕ) (hand : Option world.Hand) → by_hand k hand ≡ 0 → IsOfOther k hand
-other_hand k None e = tt
-other_hand k (Some hand) e = elim (eqb_tells hand.session k) [
+other_current : (k : ℕ) (current : Option world.Current) → by_current k current ≡ 0 → IsOfOther k current
+other_current k None e = tt
+other_current k (Some current) e = elim (eqb_tells current.session k) [
   | inl t ↦ absurd (let g : 1 ≡ 0 = rw t.0 at e in omega (arith, g))
   | inr n ↦ n.1
 ]
 
-no_hand : (k : ℕ) (hand : Option world.Hand) → IsOfOther k hand → by_hand k hand ≡ 0
-no_hand k None o = refl
-no_hand k (Some hand) o = elim (eqb_tells hand.session k) [ inl t ↦ absurd (o t.1) | inr n ↦ rw n.0 refl ]
+no_current : (k : ℕ) (current : Option world.Current) → IsOfOther k current → by_current k current ≡ 0
+no_current k None o = refl
+no_current k (Some current) o = elim (eqb_tells current.session k) [ inl t ↦ absurd (o t.1) | inr n ↦ rw n.0 refl ]
 
 module _ (system : System) (f : Frame) (s : Slots) (l : AreLawful s) (h : IsLinkedWorld system (world_seen f s)) where
   abbrev all : Links
@@ -64,7 +65,7 @@ module _ (system : System) (f : Frame) (s : Slots) (l : AreLawful s) (h : IsLink
         slot = own.1;
       }
 
-  pub slot_of_session : (p : Spot) (k : ℕ) → IsSpot s p → Names (thing_at s p) k → IsSlotOf s p k
+  pub slot_of_session : (p : Spot) (k : ℕ) → IsSpot s p → Names (content_at s p) k → IsSlotOf s p k
   slot_of_session p k there (inl e) =
       named_is p (Leads k) (says p there ∙ ap (λ t. naming (seen (memory_of s (holder s p)) t)) e)
   slot_of_session p k there (inr e) =
@@ -85,36 +86,36 @@ module _ (system : System) (f : Frame) (s : Slots) (l : AreLawful s) (h : IsLink
       omega (arith, b.client, l.count)
 
   module _ (k : ℕ) (there : IsTaken s.trades.trading.sessions k) where
-    -- the requests of the session that wait, and the one at its server's hand
+    -- the requests of the session that wait, and the one current at its server
     abbrev pub pending : ℕ
-    pending = requests_of k (map request_seen s.trades.trading.requests) + by_hand k (f.leaf (server_of s.trades.trading k)).hand
+    pending = requests_of k (map request_seen s.trades.trading.requests) + by_current k (f.leaf (server_of s.trades.trading k)).current
 
     pending_is : pending_of all k (outline (seen_at f s k)) ≡ pending
     pending_is =
-        ap (λ o. requests_of k (map request_seen s.trades.trading.requests) + at_hand k o)
+        ap (λ o. requests_of k (map request_seen s.trades.trading.requests) + at_current k o)
         (stance_is f s (server_of s.trades.trading k) l (server_below k there))
 
     rests : (session_at s.trades.trading k).accepted ≡ true → pending ≡ 0 → IsAtRest f s k
     rests accepted none = record {
       accepted = accepted;
       none_waits = none_of k s.trades.trading.requests (omega (arith, none));
-      not_at_hand = other_hand k (f.leaf (server_of s.trades.trading k)).hand (omega (arith, none));
+      not_current = other_current k (f.leaf (server_of s.trades.trading k)).current (omega (arith, none));
     }
 
     no_rest : pending ≡ 1 → IsAtRest f s k → ⊥
     no_rest one r =
         let a = of_none k s.trades.trading.requests r.none_waits in
-        let b = no_hand k (f.leaf (server_of s.trades.trading k)).hand r.not_at_hand in
+        let b = no_current k (f.leaf (server_of s.trades.trading k)).current r.not_current in
         omega (arith, one, a, b)
 
-    -- a session that is not accepted is at no hand, and so a request of it waits
-    fresh_hand : (session_at s.trades.trading k).accepted ≡ false → (o : Option world.Hand) → (f.leaf (server_of s.trades.trading k)).hand ≡ o
-        → by_hand k o ≡ 0
-    fresh_hand fresh None e = refl
-    fresh_hand fresh (Some g) e = elim (eqb_tells g.session k) [ inl t ↦ absurd (at_hand_of t.1) | inr n ↦ rw n.0 refl ]
+    -- a session that is not accepted is not current anywhere, and so a request of it waits
+    fresh_current : (session_at s.trades.trading k).accepted ≡ false → (o : Option world.Current) → (f.leaf (server_of s.trades.trading k)).current ≡ o
+        → by_current k o ≡ 0
+    fresh_current fresh None e = refl
+    fresh_current fresh (Some g) e = elim (eqb_tells g.session k) [ inl t ↦ absurd (current_of t.1) | inr n ↦ rw n.0 refl ]
       where
-        at_hand_of : g.session ≡ k → ⊥
-        at_hand_of same =
+        current_of : g.session ≡ k → ⊥
+        current_of same =
             let x = server_of s.trades.trading k in
             let a = h.handles x (f.leaf x).phase g (stance_is f s x l (server_below k there) ∙ ap (λ o. Some (stance (f.leaf x).phase o)) e) in
             let b = session_is f s g.session a.0 a.1 in
@@ -127,7 +128,7 @@ module _ (system : System) (f : Frame) (s : Slots) (l : AreLawful s) (h : IsLink
         go : Stands all k (outline (seen_at f s k)) → 1 ≤ requests_of k (map request_seen s.trades.trading.requests)
         go (inl a) = absurd (not_both (session_at s.trades.trading k).accepted a.1 fresh)
         go (inr a) =
-            let none = fresh_hand fresh (f.leaf (server_of s.trades.trading k)).hand refl in
+            let none = fresh_current fresh (f.leaf (server_of s.trades.trading k)).current refl in
             let one : pending ≡ 1 = sym pending_is ∙ a.1 in
             omega (arith, one, none)
 
@@ -138,20 +139,20 @@ module _ (system : System) (f : Frame) (s : Slots) (l : AreLawful s) (h : IsLink
         ap (λ (t : Stance). t.phase) (some_same (sym b ∙ a.1))
 
     -- a session is at rest and its slot leads to it, or it has one request and is awaited
-    pub stands_as : (IsAtRest f s k × (thing_at s (session_at s.trades.trading k).spot ≡ thing.Link k)) ⊎ (IsAwaited f s k × (pending ≡ 1))
+    pub stands_as : (IsAtRest f s k × (content_at s (session_at s.trades.trading k).spot ≡ content.Link k)) ⊎ (IsAwaited f s k × (pending ≡ 1))
     stands_as = go (h.stands k (outline (seen_at f s k)) (session_has f s k there))
       where
         go : Stands all k (outline (seen_at f s k))
-            → (IsAtRest f s k × (thing_at s (session_at s.trades.trading k).spot ≡ thing.Link k)) ⊎ (IsAwaited f s k × (pending ≡ 1))
+            → (IsAtRest f s k × (content_at s (session_at s.trades.trading k).spot ≡ content.Link k)) ⊎ (IsAwaited f s k × (pending ≡ 1))
         go (inl a) =
             let p = (session_at s.trades.trading k).spot in
-            inl (rests a.1 (sym pending_is ∙ a.2), link_is (memory_of s (holder s p)) (thing_at s p) k (says_stored f s p (Leads k) a.0))
+            inl (rests a.1 (sym pending_is ∙ a.2), link_is (memory_of s (holder s p)) (content_at s p) k (says_stored f s p (Leads k) a.0))
         go (inr a) =
             let p = (session_at s.trades.trading k).spot in
             inr (
               record {
                 there = there;
-                waits = waiting_is (memory_of s (holder s p)) (thing_at s p) k (says_stored f s p (Waits k) a.0);
+                waits = waiting_is (memory_of s (holder s p)) (content_at s p) k (says_stored f s p (Waits k) a.0);
                 blocked = blocked_is a.0;
               },
               sym pending_is ∙ a.1,
@@ -161,11 +162,11 @@ module _ (system : System) (f : Frame) (s : Slots) (l : AreLawful s) (h : IsLink
     pub awaited : 1 ≤ pending → IsAwaited f s k × (pending ≡ 1)
     awaited some = go stands_as
       where
-        go : (IsAtRest f s k × (thing_at s (session_at s.trades.trading k).spot ≡ thing.Link k)) ⊎ (IsAwaited f s k × (pending ≡ 1))
+        go : (IsAtRest f s k × (content_at s (session_at s.trades.trading k).spot ≡ content.Link k)) ⊎ (IsAwaited f s k × (pending ≡ 1))
             → IsAwaited f s k × (pending ≡ 1)
         go (inl a) =
             let b = of_none k s.trades.trading.requests a.0.none_waits in
-            let c = no_hand k (f.leaf (server_of s.trades.trading k)).hand a.0.not_at_hand in
+            let c = no_current k (f.leaf (server_of s.trades.trading k)).current a.0.not_current in
             absurd (omega (arith, some, b, c))
         go (inr a) = a
 
@@ -179,26 +180,26 @@ module _ (system : System) (f : Frame) (s : Slots) (l : AreLawful s) (h : IsLink
     pub in_slot : AreLong s → IsInSlot f s k
     in_slot long = go stands_as
       where
-        of_thing : Names (thing_at s (session_at s.trades.trading k).spot) k → Tells f s k (thing_at s (session_at s.trades.trading k).spot)
-            → IsMark (thing_at s (session_at s.trades.trading k).spot) → IsInSlot f s k
-        of_thing names tells mark =
+        of_content : Names (content_at s (session_at s.trades.trading k).spot) k → ShowsSession f s k (content_at s (session_at s.trades.trading k).spot)
+            → IsMark (content_at s (session_at s.trades.trading k).spot) → IsInSlot f s k
+        of_content names tells mark =
             let is = slot_of_session (session_at s.trades.trading k).spot k (spot_there long) names in
             record { there = spot_there long; slot = is.slot; holder_is = sym is.client; tells = tells; mark = mark }
 
-        go : (IsAtRest f s k × (thing_at s (session_at s.trades.trading k).spot ≡ thing.Link k)) ⊎ (IsAwaited f s k × (pending ≡ 1)) → IsInSlot f s k
-        go (inl a) = of_thing (inl a.1) (inl a) (subst IsMark (sym a.1) tt)
-        go (inr a) = of_thing (inr a.0.waits) (inr (no_rest a.1, a.0.waits)) (subst IsMark (sym a.0.waits) tt)
+        go : (IsAtRest f s k × (content_at s (session_at s.trades.trading k).spot ≡ content.Link k)) ⊎ (IsAwaited f s k × (pending ≡ 1)) → IsInSlot f s k
+        go (inl a) = of_content (inl a.1) (inl a) (subst IsMark (sym a.1) tt)
+        go (inr a) = of_content (inr a.0.waits) (inr (no_rest a.1, a.0.waits)) (subst IsMark (sym a.0.waits) tt)
 
   -- a slot that waits is of a session that is awaited
-  pub awaited_at : (p : Spot) (k : ℕ) → IsSpot s p → thing_at s p ≡ thing.Waiting k → IsAwaited f s k
+  pub awaited_at : (p : Spot) (k : ℕ) → IsSpot s p → content_at s p ≡ content.Waiting k → IsAwaited f s k
   awaited_at p k is e = go (stands_as k there)
     where
       there : IsTaken s.trades.trading.sessions k
       there = (slot_of_session p k is (inr e)).there
 
-      apart : thing.Link k ≡ thing.Waiting k → ⊥
+      apart : content.Link k ≡ content.Waiting k → ⊥
       apart q = cc
 
-      go : (IsAtRest f s k × (thing_at s (session_at s.trades.trading k).spot ≡ thing.Link k)) ⊎ (IsAwaited f s k × (pending k there ≡ 1)) → IsAwaited f s k
-      go (inl a) = absurd (apart (sym a.1 ∙ ap (thing_at s) (slot_of_session p k is (inr e)).spot ∙ e))
+      go : (IsAtRest f s k × (content_at s (session_at s.trades.trading k).spot ≡ content.Link k)) ⊎ (IsAwaited f s k × (pending k there ≡ 1)) → IsAwaited f s k
+      go (inl a) = absurd (apart (sym a.1 ∙ ap (content_at s) (slot_of_session p k is (inr e)).spot ∙ e))
       go (inr a) = a.0

@@ -11,9 +11,9 @@ use Rattle.gq_heap.specs.declared.heap.Heap.{Heap}
 use Rattle.gq_trade.specs.Numbers.{IsTaken}
 use Rattle.gq_trade.specs.declared.requests.Request.{Request}
 use Rattle.gq_trade.specs.Seen_requests.{request_seen}
-use Rattle.gq_contents.specs.declared.thing.Thing.{Thing}
-use Rattle.gq_contents.specs.declared.thing.Thing.TheVariants as thing
-use Rattle.gq_contents.specs.Things.{seen}
+use Rattle.gq_contents.specs.declared.content.Content.{Content}
+use Rattle.gq_contents.specs.declared.content.Content.TheVariants as content
+use Rattle.gq_contents.specs.Contents.{seen}
 use Rattle.gq_trade.specs.declared.session.Session.{Session}
 use Rattle.gq_trade.specs.declared.session.Spot.{Spot}
 use Rattle.gq_trade.specs.declared.session.Spot.TheVariants.{InLeaf, InSession, InObject}
@@ -57,23 +57,23 @@ session_is f s k z e =
 
 -- SLOTS
 
-pub link_is : (st : Store) (t : Thing) (k : ℕ) → naming (seen st t) ≡ Some (Leads k) → t ≡ thing.Link k
-link_is st thing.Empty k e = absurd (none_some e)
-link_is st (thing.Block p n) k e = absurd (none_some e)
-link_is st (thing.Slice c n) k e = absurd (none_some e)
-link_is st (thing.Space c n) k e = absurd (none_some e)
-link_is st (thing.Pool p) k e = absurd (none_some e)
-link_is st (thing.Link j) k e = ap (λ n. thing.Link (named n)) (some_same e)
-link_is st (thing.Waiting j) k e = cc
+pub link_is : (st : Store) (t : Content) (k : ℕ) → naming (seen st t) ≡ Some (Leads k) → t ≡ content.Link k
+link_is st content.Empty k e = absurd (none_some e)
+link_is st (content.Block p n) k e = absurd (none_some e)
+link_is st (content.Slice c n) k e = absurd (none_some e)
+link_is st (content.Space c n) k e = absurd (none_some e)
+link_is st (content.Pool p) k e = absurd (none_some e)
+link_is st (content.Link j) k e = ap (λ n. content.Link (named n)) (some_same e)
+link_is st (content.Waiting j) k e = cc
 
-pub waiting_is : (st : Store) (t : Thing) (k : ℕ) → naming (seen st t) ≡ Some (Waits k) → t ≡ thing.Waiting k
-waiting_is st thing.Empty k e = absurd (none_some e)
-waiting_is st (thing.Block p n) k e = absurd (none_some e)
-waiting_is st (thing.Slice c n) k e = absurd (none_some e)
-waiting_is st (thing.Space c n) k e = absurd (none_some e)
-waiting_is st (thing.Pool p) k e = absurd (none_some e)
-waiting_is st (thing.Link j) k e = cc
-waiting_is st (thing.Waiting j) k e = ap (λ n. thing.Waiting (named n)) (some_same e)
+pub waiting_is : (st : Store) (t : Content) (k : ℕ) → naming (seen st t) ≡ Some (Waits k) → t ≡ content.Waiting k
+waiting_is st content.Empty k e = absurd (none_some e)
+waiting_is st (content.Block p n) k e = absurd (none_some e)
+waiting_is st (content.Slice c n) k e = absurd (none_some e)
+waiting_is st (content.Space c n) k e = absurd (none_some e)
+waiting_is st (content.Pool p) k e = absurd (none_some e)
+waiting_is st (content.Link j) k e = cc
+waiting_is st (content.Waiting j) k e = ap (λ n. content.Waiting (named n)) (some_same e)
 
 -- a slot's place, by how the machine's world has it
 abbrev spot_back : world.Spot → Spot
@@ -95,7 +95,7 @@ in_leaf : (o : Option world.Leaf) (i : ℕ) (v : world.Slot) → world.leaf_slot
 in_leaf None i v e = absurd (none_some e)
 in_leaf (Some leaf) i v e = (leaf, refl, e)
 
-own_seen : (leaf : ℕ → world.Leaf) (st : ℕ → Store) (own : List (List Thing)) (hs : List Heap) (x : ℕ) (l : world.Leaf)
+own_seen : (leaf : ℕ → world.Leaf) (st : ℕ → Store) (own : List (List Content)) (hs : List Heap) (x : ℕ) (l : world.Leaf)
     → slice_get (leaves_seen leaf st own hs) x ≡ Some l → l.slots ≡ map (seen (st x)) (get_or own x [])
 own_seen leaf st [] hs x l e = absurd (none_some e)
 own_seen leaf st (ts ∷ own) [] x l e = absurd (none_some e)
@@ -146,7 +146,7 @@ slot_is : (f : Frame) (s : Slots) (p : Spot) (v : world.Slot) → world.slot_at 
 slot_is f s (InLeaf x i) v e =
     let h = in_leaf (slice_get (world_seen f s).leaves x) i v e in
     let same = own_seen f.leaf (memory_of s) s.own s.heaps x h.0 h.1 in
-    mapped_is (seen (memory_of s x)) (get_or s.own x []) i thing.Empty v (sym (ap (λ ts. slice_get ts i) same) ∙ h.2)
+    mapped_is (seen (memory_of s x)) (get_or s.own x []) i content.Empty v (sym (ap (λ ts. slice_get ts i) same) ∙ h.2)
 slot_is f s (InSession k i) v e =
     go (get_or s.trades.trading.sessions k None) refl
     (ap (λ o. world.session_slot o i) (sym (reads_as (stored_as f s) s.trades.trading.sessions k)) ∙ e)
@@ -155,8 +155,8 @@ slot_is f s (InSession k i) v e =
         → v ≡ slot_of s (InSession k i)
     go None h e = absurd (none_some e)
     go (Some q) h e =
-        mapped_is (seen (memory_of s q.server)) q.slots i thing.Empty v e
-        ∙ ap (λ o. seen (memory_of s (found o).server) (get_or (found o).slots i thing.Empty)) (sym h)
+        mapped_is (seen (memory_of s q.server)) q.slots i content.Empty v e
+        ∙ ap (λ o. seen (memory_of s (found o).server) (get_or (found o).slots i content.Empty)) (sym h)
 slot_is f s (InObject k) v e =
     go (get_or s.trades.trading.sessions k None) refl (ap world.session_object (sym (reads_as (stored_as f s) s.trades.trading.sessions k)) ∙ e)
   where
@@ -183,21 +183,21 @@ spot_says f s p n long e = go (world.slot_at (world_seen f s) (spot_seen p)) ref
 
 -- LEAVES
 
-hand_seen : (leaf : ℕ → world.Leaf) (st : ℕ → Store) (own : List (List Thing)) (hs : List Heap) (x : ℕ) (l : world.Leaf)
-    → slice_get (leaves_seen leaf st own hs) x ≡ Some l → l.hand ≡ (leaf x).hand
-hand_seen leaf st [] hs x l e = absurd (none_some e)
-hand_seen leaf st (ts ∷ own) [] x l e = absurd (none_some e)
-hand_seen leaf st (ts ∷ own) (h ∷ hs) zero l e = ap (λ (y : world.Leaf). y.hand) (sym (some_same e))
-hand_seen leaf st (ts ∷ own) (h ∷ hs) (suc x) l e = hand_seen (λ y. leaf (suc y)) (λ y. st (suc y)) own hs x l e
+current_seen : (leaf : ℕ → world.Leaf) (st : ℕ → Store) (own : List (List Content)) (hs : List Heap) (x : ℕ) (l : world.Leaf)
+    → slice_get (leaves_seen leaf st own hs) x ≡ Some l → l.current ≡ (leaf x).current
+current_seen leaf st [] hs x l e = absurd (none_some e)
+current_seen leaf st (ts ∷ own) [] x l e = absurd (none_some e)
+current_seen leaf st (ts ∷ own) (h ∷ hs) zero l e = ap (λ (y : world.Leaf). y.current) (sym (some_same e))
+current_seen leaf st (ts ∷ own) (h ∷ hs) (suc x) l e = current_seen (λ y. leaf (suc y)) (λ y. st (suc y)) own hs x l e
 
 abbrev pub stance_at : Frame → ℕ → Stance
-stance_at f x = stance (f.leaf x).phase (f.leaf x).hand
+stance_at f x = stance (f.leaf x).phase (f.leaf x).current
 
 pub stance_is : (f : Frame) (s : Slots) (x : ℕ) → AreLawful s → x < length s.own → (links (world_seen f s)).stances x ≡ Some (stance_at f x)
 stance_is f s x l lt =
     let a = leaf_found f s l x lt in
     let p = phase_seen f.leaf (memory_of s) s.own s.heaps x a.0 a.1 in
-    let h = hand_seen f.leaf (memory_of s) s.own s.heaps x a.0 a.1 in
+    let h = current_seen f.leaf (memory_of s) s.own s.heaps x a.0 a.1 in
     ap stance_in a.1 ∙ (λ i. Some (stance (p i) (h i)))
 
 -- REQUESTS

@@ -1,11 +1,11 @@
--- Requests that wait, and what is at a leaf's hand: whose they are, and who waits for the reply.
+-- Requests that wait, and what is current at a leaf: whose they are, and who waits for the reply.
 use Rattle.std.proofs.Common.{◌≡◌, ℕ, ◌+◌, ◌<◌, ◌≤◌, inl, inr, true, not, List, [], ◌∷◌, length, map, Option, Some, None, refl, sym, ap, subst, ◌∙◌, arith}
 use Rattle.std.proofs.lemmas.Bool.Decides.{eqb_tells}
 use Rattle.gq_model.specs.declared.phase.Phase.TheVariants.{Blocked}
 use Rattle.gq_model.specs.machine.Scenario.{System}
 use Rattle.gq_model.specs.machine.World as world
 use Rattle.gq_model.proofs.Small.{equal_self, some_same, none_some}
-use Rattle.gq_laws.specs.Links.{IsBytes, IsLinkedWorld, Links, by_hand, is_open, links, one_if, outline, requests_of, shape, stance}
+use Rattle.gq_laws.specs.Links.{IsBytes, IsLinkedWorld, Links, by_current, is_open, links, one_if, outline, requests_of, shape, stance}
 use Rattle.gq_laws.specs.Links as linked
 use Rattle.gq_laws.specs.Shapes.{Each}
 use Rattle.gq_store.specs.Store.{Store}
@@ -16,9 +16,9 @@ use Rattle.gq_trade.specs.declared.requests.Ask.TheVariants.{Open, Upgrade, Clos
 use Rattle.gq_trade.specs.declared.requests.Request.{Request}
 use Rattle.gq_trade.specs.Queues.{kept_before, oldest_to}
 use Rattle.gq_trade.specs.Seen_requests.{ask_seen, request_seen}
-use Rattle.gq_contents.specs.declared.thing.Thing.{Thing}
-use Rattle.gq_contents.specs.declared.thing.Thing.TheVariants as thing
-use Rattle.gq_contents.specs.Things.{seen}
+use Rattle.gq_contents.specs.declared.content.Content.{Content}
+use Rattle.gq_contents.specs.declared.content.Content.TheVariants as content
+use Rattle.gq_contents.specs.Contents.{seen}
 use Rattle.gq_trade.specs.declared.session.Session.{Session}
 use Rattle.gq_trade.specs.Trading.{AreOf, server_of, session_at}
 use Rattle.gq_trade.proofs.Sessions_kept.{taken_from}
@@ -62,17 +62,17 @@ each_seen : (P : world.Request → Type 0) (rs : List Request) → Each P (map r
 each_seen P [] h = tt
 each_seen P (r ∷ rs) h = (h.0, each_seen P rs h.1)
 
-session_for : (a : Ask) (q : Session) → q.accepted ≡ not (is_open (ask_seen a)) → (a ≡ Open → q.object ≡ thing.Empty) → IsFor a q
+session_for : (a : Ask) (q : Session) → q.accepted ≡ not (is_open (ask_seen a)) → (a ≡ Open → q.object ≡ content.Empty) → IsFor a q
 session_for Open q e empty = (e, empty refl)
 session_for Upgrade q e empty = e
 session_for Close q e empty = e
 session_for (Call n) q e empty = e
 
 -- what is bytes is there, and no pool
-not_empty : (st : Store) (t : Thing) → IsBytes (shape (seen st t)) → t ≡ thing.Empty → ⊥
+not_empty : (st : Store) (t : Content) → IsBytes (shape (seen st t)) → t ≡ content.Empty → ⊥
 not_empty st t b e = subst (λ u. IsBytes (shape (seen st u))) e b
 
-not_pool : (st : Store) (t : Thing) → IsBytes (shape (seen st t)) → (p : Pool) → t ≡ thing.Pool p → ⊥
+not_pool : (st : Store) (t : Content) → IsBytes (shape (seen st t)) → (p : Pool) → t ≡ content.Pool p → ⊥
 not_pool st t b p e = subst (λ u. IsBytes (shape (seen st u))) e b
 
 module _ (system : System) (f : Frame) (s : Slots) (l : AreLawful s) (h : IsLinkedWorld system (world_seen f s)) where
@@ -120,18 +120,18 @@ module _ (system : System) (f : Frame) (s : Slots) (l : AreLawful s) (h : IsLink
 
   -- HANDS
 
-  pub handled : (x : ℕ) (hand : world.Hand) → x < length s.own → (f.leaf x).hand ≡ Some hand → IsHandled f s x hand
-  handled x hand lt e =
-      let k = hand.session in
+  pub handled : (x : ℕ) (current : world.Current) → x < length s.own → (f.leaf x).current ≡ Some current → IsHandled f s x current
+  handled x current lt e =
+      let k = current.session in
       let t = s.trades.trading in
-      let its = h.handles x (f.leaf x).phase hand (stance_is f s x l lt ∙ ap (λ o. Some (stance (f.leaf x).phase o)) e) in
+      let its = h.handles x (f.leaf x).phase current (stance_is f s x l lt ∙ ap (λ o. Some (stance (f.leaf x).phase o)) e) in
       let is = session_is f s k its.0 its.1 in
       let server : server_of t k ≡ x = sym (ap (λ (z : world.Session). z.server) is.1) ∙ its.2 in
-      let at : by_hand k (f.leaf (server_of t k)).hand ≡ 1 =
-      ap (λ y. by_hand k (f.leaf y).hand) server ∙ ap (by_hand k) e ∙ ap one_if (equal_self k) in
+      let at : by_current k (f.leaf (server_of t k)).current ≡ 1 =
+      ap (λ y. by_current k (f.leaf y).current) server ∙ ap (by_current k) e ∙ ap one_if (equal_self k) in
       let waits = awaited system f s l h k is.0 (omega (arith, at)) in
       let object = subst IsBytes (ap (λ (z : world.Session). z.object) is.1) (h.objects k its.0 its.1 its.3) in
-      let one : requests_of k (map request_seen t.requests) + by_hand k (f.leaf (server_of t k)).hand ≡ 1 = waits.1 in
+      let one : requests_of k (map request_seen t.requests) + by_current k (f.leaf (server_of t k)).current ≡ 1 = waits.1 in
       record {
         awaited = waits.0;
         server = server;

@@ -6,15 +6,15 @@ use Rattle.gq_model.specs.machine.World as world
 use Rattle.gq_model.specs.machine.Doing.{Doing, Stepped}
 use Rattle.gq_model.specs.declared.fault.Wrong.TheVariants.{WrongKind}
 use Rattle.gq_model.specs.machine.Memory.{bytes_at, pool_at}
-use Rattle.gq_contents.specs.declared.thing.Thing.{Thing}
-use Rattle.gq_contents.specs.declared.thing.Thing.TheVariants.{Empty, Block, Slice, Space, Pool, Link, Waiting}
-use Rattle.gq_contents.specs.Things.{bytes_in}
+use Rattle.gq_contents.specs.declared.content.Content.{Content}
+use Rattle.gq_contents.specs.declared.content.Content.TheVariants.{Empty, Block, Slice, Space, Pool, Link, Waiting}
+use Rattle.gq_contents.specs.Contents.{bytes_in}
 use Rattle.gq_trade.specs.declared.session.Spot.{Spot}
 use Rattle.gq_trade.specs.Seen.{spot_seen}
 use Rattle.gq_slots.specs.Slots.{Slots, slot_of}
 
 -- how many bytes it has, if it is one of bytes
-abbrev pub byte_count : Thing → Option ℕ
+abbrev pub byte_count : Content → Option ℕ
 byte_count Empty = None
 byte_count (Block p n) = Some n
 byte_count (Slice k n) = Some n

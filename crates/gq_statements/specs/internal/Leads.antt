@@ -5,16 +5,16 @@ use Rattle.gq_model.specs.machine.Doing.{Doing, Stepped, fill, need}
 use Rattle.gq_model.specs.declared.fault.Wrong.TheVariants.{WrongKind}
 use Rattle.gq_model.specs.machine.World as world
 use Rattle.gq_trade.specs.Numbers.{IsTaken}
-use Rattle.gq_contents.specs.declared.thing.Thing.{Thing}
-use Rattle.gq_contents.specs.declared.thing.Thing.TheVariants.{Empty, Block, Slice, Space, Pool, Link, Waiting}
+use Rattle.gq_contents.specs.declared.content.Content.{Content}
+use Rattle.gq_contents.specs.declared.content.Content.TheVariants.{Empty, Block, Slice, Space, Pool, Link, Waiting}
 use Rattle.gq_trade.specs.Seen.{spot_seen}
 use Rattle.gq_trade.specs.Trading.{client_of}
 use Rattle.gq_trade.specs.declared.session.Spot.{Spot}
-use Rattle.gq_slots.specs.Slots.{IsSlot, IsSpot, Slots, thing_at}
+use Rattle.gq_slots.specs.Slots.{IsSlot, IsSpot, Slots, content_at}
 use Rattle.gq_statements.specs.Requests.{session_named}
 
--- the session to which a thing leads
-abbrev pub link_of : Thing → Option ℕ
+-- the session to which a content leads
+abbrev pub link_of : Content → Option ℕ
 link_of Empty = None
 link_of (Block p n) = None
 link_of (Slice k n) = None
@@ -27,23 +27,23 @@ link_of (Waiting k) = None
 pub record IsLink (s : Slots) (x : ℕ) (p : Spot) (k : ℕ) : Type 0 where
   pub there : IsSpot s p
   pub slot : IsSlot p
-  pub thing : thing_at s p ≡ Link k
+  pub content : content_at s p ≡ Link k
   pub taken : IsTaken s.trades.trading.sessions k
   pub client : client_of s.trades.trading k ≡ x
 
 -- the link that the operand of a step names stands in this slot, and leads to this session; or none is named
 abbrev pub IsLinkedAt : Doing → Place → Option (Spot × ℕ) → Type 0
 IsLinkedAt d place None = session_named d place ≡ None
-IsLinkedAt d place (Some f) = (world.spot_of d.x d.leaf.hand place ≡ Some (spot_seen f.0)) × (world.slot_at d.world (spot_seen f.0) ≡ Some (world.Link f.1))
+IsLinkedAt d place (Some f) = (world.spot_of d.x d.leaf.current place ≡ Some (spot_seen f.0)) × (world.slot_at d.world (spot_seen f.0) ≡ Some (world.Link f.1))
 
 -- nothing is in the slot p
 pub record IsVacant (s : Slots) (p : Spot) : Type 0 where
   pub there : IsSpot s p
   pub slot : IsSlot p
-  pub thing : thing_at s p ≡ Empty
+  pub content : content_at s p ≡ Empty
 
 -- the empty slot that the operand of a step names is this one; or none is named, and no step goes on that fills it
 abbrev pub IsRoomAt : Doing → Place → Option Spot → Type 0
 IsRoomAt d place None = (slot : world.Slot) (go : world.Spot → world.World → Stepped)
-    → need (world.spot_of d.x d.leaf.hand place) WrongKind (λ p. fill d.world p (world.slot_at d.world p) slot (go p)) ≡ Err WrongKind
-IsRoomAt d place (Some p) = (world.spot_of d.x d.leaf.hand place ≡ Some (spot_seen p)) × (world.slot_at d.world (spot_seen p) ≡ Some world.Empty)
+    → need (world.spot_of d.x d.leaf.current place) WrongKind (λ p. fill d.world p (world.slot_at d.world p) slot (go p)) ≡ Err WrongKind
+IsRoomAt d place (Some p) = (world.spot_of d.x d.leaf.current place ≡ Some (spot_seen p)) × (world.slot_at d.world (spot_seen p) ≡ Some world.Empty)

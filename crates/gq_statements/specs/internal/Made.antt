@@ -13,7 +13,7 @@ use Rattle.gq_statements.specs.Systems.{IsOf}
 
 -- a step goes on with something new in the slot that it names
 abbrev pub filling : Doing → world.World → Place → world.Slot → (world.World → Stepped) → Stepped
-filling d w place slot go = need (world.spot_of d.x d.leaf.hand place) WrongKind (λ spot. fill w spot (world.slot_at w spot) slot go)
+filling d w place slot go = need (world.spot_of d.x d.leaf.current place) WrongKind (λ spot. fill w spot (world.slot_at w spot) slot go)
 
 -- It goes on with this slot, which is empty in the world w, or none that is empty is named.
 abbrev pub IsFilled : Doing → world.World → Place → Option Spot → Type 0

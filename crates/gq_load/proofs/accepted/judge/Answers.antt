@@ -2,7 +2,7 @@ use Rattle.std.proofs.Common.{◌≡◌, ◌∙◌, None, ap, length, refl}
 use Rattle.std.proofs.lemmas.Result.{err_from_is_err_and}
 use Rattle.gq_model.specs.machine.Scenario.{system}
 use Rattle.gq_load.specs.internal.Budgets.{kept_from, budget_refusal}
-use Rattle.gq_load.specs.Faults.{Gives}
+use Rattle.gq_load.specs.Faults.{PrintsFault}
 use Rattle.gq_load.specs.internal.Judged.{first_refusal}
 use Rattle.gq_load.specs.Load.{refused}
 use Rattle.gq_load.specs.declared.fault.LoadError.TheVariants as error
@@ -31,7 +31,7 @@ returns-in_err-check_budgets-clause-refused c =
     let none = of_scenario s s.interfaces c.args.components.now (λ i cs. first_refusal i cs ≡ None) refl c.requires.components c.requires.right in
     let bs = c.as_slice-2.ensures.value ∙ c.in_ok-budgets.ensures in
     let h = of_kept s c.args.components.now c.as_slice-2.result.now
-    (λ cs bs. Gives e (refused (budget_refusal cs bs))) c.requires.components bs c.in_err-check_budgets.ensures.refused in
+    (λ cs bs. PrintsFault e (refused (budget_refusal cs bs))) c.requires.components bs c.in_err-check_budgets.ensures.refused in
     rw (p.1, p.2) (for_budgets s e none c.in_ok-routes.ensures.fault h)
 
 pub returns-clause-budgets : goal.returns-clause-budgets

@@ -3,7 +3,7 @@ use Rattle.std.proofs.lemmas.Result.{err_from_is_err_and}
 use Rattle.gq_model.specs.machine.Lists.{or_first}
 use Rattle.gq_model.specs.machine.Scenario.{components, system}
 use Rattle.gq_model.proofs.Component_laws.{budgets_count}
-use Rattle.gq_load.specs.Faults.{Gives}
+use Rattle.gq_load.specs.Faults.{PrintsFault}
 use Rattle.gq_load.specs.internal.Judged.{first_refusal}
 use Rattle.gq_load.specs.Load.{refused, sources_fault}
 use Rattle.gq_load.proofs.Refusals.{for_survey, of_scenario}
@@ -14,7 +14,7 @@ returns-in_err-surveys-clause-refused c =
     let s = c.args.scenario.now in
     let e = c.in_err-surveys.field-0.0 in
     let p = err_from_is_err_and c.from_residual-in_err-surveys.result c.from_residual-in_err-surveys.ensures.1 in
-    let h = of_scenario s c.interfaces.result.now c.as_slice.result.now (λ i cs. Gives e (or_first (sources_fault cs) (refused (first_refusal i cs))))
+    let h = of_scenario s c.interfaces.result.now c.as_slice.result.now (λ i cs. PrintsFault e (or_first (sources_fault cs) (refused (first_refusal i cs))))
     c.interfaces.ensures (c.as_slice.ensures.value ∙ c.in_ok-components.ensures) c.in_err-surveys.ensures.refused in
     rw (p.1, p.2) (for_survey s e h)
 

@@ -2,7 +2,7 @@ use Rattle.std.proofs.Common.{subst}
 use Rattle.std.proofs.lemmas.Result.{err_from_is_err_and}
 use Rattle.gq_model.specs.machine.Scenario.{LeafNode}
 use Rattle.gq_load.specs.Load.{source_fault}
-use Rattle.gq_load.specs.Faults.{Gives}
+use Rattle.gq_load.specs.Faults.{PrintsFault}
 use Rattle.gq_load.proofs.Loads.{refused_here}
 use Rattle.gq_load.proofs.programs.check_programs.Goals as goal
 
@@ -11,6 +11,6 @@ returns-in_err-_program-clause-refused c =
     let l = c.loop-component in
     let e = c.in_err-_program.field-0.0 in
     let p = err_from_is_err_and c.from_residual.result c.from_residual.ensures.1 in
-    let h = subst (λ (n : LeafNode). Gives e (source_fault n.name n.source)) c.leaf.ensures c.in_err-_program.ensures.refused in
+    let h = subst (λ (n : LeafNode). PrintsFault e (source_fault n.name n.source)) c.leaf.ensures c.in_err-_program.ensures.refused in
     rw (p.1, p.2) (refused_here c.args.components.now l.component-index c.component-item.result e c.loop-component-test.true c.component-item.is h
     l.invariant)

@@ -11,13 +11,13 @@ use Rattle.gq_model.specs.texts.Operands.{is_slot}
 use Rattle.gq_model.proofs.Small.{none_some, some_same}
 use Rattle.gq_bytecode.specs.Nexts.{Active}
 use Rattle.gq_bytecode.specs.declared.operation.Operation.TheVariants as operation
-use Rattle.gq_statements.specs.Statements.{IsAtHand, hand_seen}
+use Rattle.gq_statements.specs.Statements.{IsCurrent, current_seen}
 use Rattle.gq_leaf.specs.Coded.{Coded, operation_of}
 use Rattle.gq_leaf.specs.Steps.{session_of}
 use Rattle.gq_machine.specs.Worlds.{frame_of, world_of}
 use Rattle.gq_machine.specs.internal.Gifts.{IsGiftOf}
 use Rattle.gq_machine.specs.internal.Holds.{OfLeaf}
-use Rattle.gq_machine.proofs.Standing.{active_live, at_hand, item_there, live, of_leaf, own_links}
+use Rattle.gq_machine.proofs.Standing.{active_live, at_current, item_there, live, of_leaf, own_links}
 use Rattle.gq_machine.proofs.asking.gift.Goals as goal
 use Rattle.gq_machine.proofs.asking.gift.Goals.{in-None, in-Some}
 
@@ -32,13 +32,13 @@ link-requires-clause-live c =
     (active_live can.leaf.state.phase (of_leaf (λ l. Active l.state.phase) (slice_get m.leaves.items c.args.number) can.leaf can.leaf_is
     c.requires.next.active))
 
-pub link-requires-clause-hand : goal.link-requires-clause-hand
-link-requires-clause-hand c =
+pub link-requires-clause-current : goal.link-requires-clause-current
+link-requires-clause-current c =
     let can = c.requires.can in
     let m = c.args.state.now in
     let there = item_there m.leaves.items c.args.number can.leaf c.index-leaf.result.now can.leaf_is c.index-leaf.ensures in
-    subst (IsAtHand m.slots c.args.number) (sym c.hand.ensures)
-    (at_hand c.args.fixed.now m can.holds c.lawful.ensures c.args.number can.component c.index-leaf.result.now can.component_is there)
+    subst (IsCurrent m.slots c.args.number) (sym c.current.ensures)
+    (at_current c.args.fixed.now m can.holds c.lawful.ensures c.args.number can.component c.index-leaf.result.now can.component_is there)
 
 pub link-requires-clause-linked : goal.link-requires-clause-linked
 link-requires-clause-linked c = own_links c.args.fixed.now c.args.state.now c.requires.can.holds c.lawful.ensures c.args.number
@@ -70,10 +70,10 @@ returns-clause-gift c =
       world = w;
       x = c.args.number;
       component = can.component;
-      leaf = record Rattle.gq_machine.specs.Worlds.no_leaf { hand = hand_seen old.state.hand };
+      leaf = record Rattle.gq_machine.specs.Worlds.no_leaf { current = current_seen old.state.current };
     } in
-    let by : Rattle.gq_statements.specs.Statements.IsBy d (record { leaf = c.args.number; hand = c.hand.result }) =
-    record { leaf = refl; hand = ap hand_seen (sym c.hand.ensures) } in
+    let by : Rattle.gq_statements.specs.Statements.IsBy d (record { leaf = c.args.number; current = c.current.result }) =
+    record { leaf = refl; current = ap current_seen (sym c.current.ensures) } in
     let named = c.link.ensures.is (frame_of s m.leaves.items) d by refl in
     of_there (IsGiftOf f m c.args.number c.args.place c.args.bytes _) (slice_get m.leaves.items c.args.number) old there (λ k q at is.
     elim c.match-link.branch [

@@ -22,7 +22,7 @@ use Rattle.gq_machine.proofs.Giving.{no_open_caps, uncounted}
 use Rattle.gq_machine.proofs.Kept.{kept_one}
 use Rattle.gq_machine.proofs.Opens.{opening_at, prepared_at}
 use Rattle.gq_machine.proofs.Servers.{apart, few_there, server_live}
-use Rattle.gq_machine.proofs.Standing.{active_awake, active_live, at_hand, is_idle, item_there, live, of_leaf, on_ok, own_links, service_count, standing}
+use Rattle.gq_machine.proofs.Standing.{active_awake, active_live, at_current, is_idle, item_there, live, of_leaf, on_ok, own_links, service_count, standing}
 use Rattle.gq_machine.proofs.Standing.{waits_to}
 use Rattle.gq_machine.proofs.Scenes.{scene_asked}
 use Rattle.gq_machine.proofs.asking.open.Goals as goal
@@ -99,13 +99,13 @@ open-done-requires-clause-live c =
     (active_live can.leaf.state.phase (of_leaf (λ l. Active l.state.phase) (slice_get m.leaves.items c.args.number) can.leaf can.leaf_is
     c.requires.next.active))
 
-pub open-done-requires-clause-hand : goal.open-done-requires-clause-hand
-open-done-requires-clause-hand c =
+pub open-done-requires-clause-current : goal.open-done-requires-clause-current
+open-done-requires-clause-current c =
     let can = c.requires.can in
     let m = c.args.state.now in
     let old = c.index_mut-leaf.result.now in
     let there = item_there m.leaves.items c.args.number can.leaf old can.leaf_is c.index_mut-leaf.ensures.value in
-    at_hand c.args.fixed.now m can.holds c.lawful.ensures c.args.number can.component old can.component_is there
+    at_current c.args.fixed.now m can.holds c.lawful.ensures c.args.number can.component old can.component_is there
 
 pub open-done-requires-clause-server : goal.open-done-requires-clause-server
 open-done-requires-clause-server c =

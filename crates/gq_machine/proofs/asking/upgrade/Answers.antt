@@ -15,16 +15,16 @@ use Rattle.gq_machine.specs.Worlds.{frame_of, world_of}
 use Rattle.gq_machine.specs.internal.Gifts.{IsGiftOf}
 use Rattle.gq_machine.proofs.Frames.{elsewhere, leaf_set}
 use Rattle.gq_machine.proofs.Kept.{kept_one}
-use Rattle.gq_machine.proofs.Standing.{active_awake, active_live, at_hand, is_idle, item_there, live, of_leaf, on_ok, own_links, standing, waits_to}
+use Rattle.gq_machine.proofs.Standing.{active_awake, active_live, at_current, is_idle, item_there, live, of_leaf, on_ok, own_links, standing, waits_to}
 use Rattle.gq_machine.proofs.Scenes.{scene_asked}
 use Rattle.gq_machine.proofs.asking.upgrade.Goals as goal
 
-pub upgrade-done-requires-clause-hand : goal.upgrade-done-requires-clause-hand
-upgrade-done-requires-clause-hand c =
+pub upgrade-done-requires-clause-current : goal.upgrade-done-requires-clause-current
+upgrade-done-requires-clause-current c =
     let can = c.requires.can in
     let m = c.args.state.now in
     let there = item_there m.leaves.items c.args.number can.leaf c.index_mut-leaf.result.now can.leaf_is c.index_mut-leaf.ensures.value in
-    at_hand c.args.fixed.now m can.holds c.lawful.ensures c.args.number can.component c.index_mut-leaf.result.now can.component_is there
+    at_current c.args.fixed.now m can.holds c.lawful.ensures c.args.number can.component c.index_mut-leaf.result.now can.component_is there
 
 pub upgrade-done-requires-clause-idle : goal.upgrade-done-requires-clause-idle
 upgrade-done-requires-clause-idle c =

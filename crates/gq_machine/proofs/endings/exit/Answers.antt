@@ -19,7 +19,7 @@ use Rattle.gq_prepared.specs.Nodes.{AreNodesOf}
 use Rattle.gq_trade.specs.Trades.{IsLive}
 use Rattle.gq_statements.specs.Serving.{IsAloneWithoutLinks, IsReleased, finished}
 use Rattle.gq_prepared.proofs.endings.Endings.{nodes_then, of_then}
-use Rattle.gq_statements.specs.Statements.{hand_seen}
+use Rattle.gq_statements.specs.Statements.{current_seen}
 use Rattle.gq_leaf.specs.Leaves.{leaf_of}
 use Rattle.gq_leaf.specs.Coded.{Coded, operation_of}
 use Rattle.gq_leaf.specs.Sections.{IsGone}
@@ -60,8 +60,8 @@ module _ (f : Fixed) (m : State) (x : ℕ) (can : CanStep f m x) (goes : IsNext 
   end : operation_of leaf ≡ Some operation.End
   end = of_leaf (λ l. operation_of l ≡ Some operation.End) (slice_get ls x) leaf can.leaf_is goes.next
 
-  hand : leaf.state.hand ≡ None
-  hand = of_leaf (λ l. l.state.hand ≡ None) (slice_get ls x) leaf can.leaf_is ends.main
+  current : leaf.state.current ≡ None
+  current = of_leaf (λ l. l.state.current ≡ None) (slice_get ls x) leaf can.leaf_is ends.main
 
   provides : own.node.provides ≡ None
   provides = none_provided (slice_get (components f.table) x) own can.component_is ends.provides
@@ -73,8 +73,8 @@ module _ (f : Fixed) (m : State) (x : ℕ) (can : CanStep f m x) (goes : IsNext 
   running =
       let fits = can.holds.linked.fits x _ (stance_is frame m.slots x l (below f m can.holds l x own can.component_is)) in
       let now = ap (λ (y : world.Leaf). y.phase) at in
-      sym now ∙ runs (frame.leaf x).phase (frame.leaf x).hand (subst Active (sym now) active) fits
-      (ap (λ (y : world.Leaf). y.hand) at ∙ ap hand_seen hand)
+      sym now ∙ runs (frame.leaf x).phase (frame.leaf x).current (subst Active (sym now) active) fits
+      (ap (λ (y : world.Leaf). y.current) at ∙ ap current_seen current)
 
   pub is_live : IsLive m.slots.trades x
   is_live = live f m can.holds l x own leaf can.component_is can.leaf_is (active_live leaf.state.phase active)
@@ -93,7 +93,7 @@ module _ (f : Fixed) (m : State) (x : ℕ) (can : CanStep f m x) (goes : IsNext 
       let bs = f.services.buffers in
       let st = standing f m can.holds l x own leaf can.component_is can.leaf_is in
       let d = first (system f.table) frame m.slots x own leaf.state bs l st.stands in
-      end_is (system f.table) frame m.slots x own leaf bs l st active end ∙ ap (λ o. section_ended d (hand_seen o)) hand ∙ ap (main_ended d) provides
+      end_is (system f.table) frame m.slots x own leaf bs l st active end ∙ ap (λ o. section_ended d (current_seen o)) current ∙ ap (main_ended d) provides
       ∙ ended g d refl (exits (system f.table) frame m.slots x own leaf bs l st running g gone.names (sym st.stands.of.count) gone.exits gone.others)
 
   -- the frame in which it has exited, if it has

@@ -18,12 +18,12 @@ returns-in-None-clause-step c =
     let f = c.args.fixed.now in
     let m = c.args.state.now in
     let x = c.args.number in
-    let hand = c.args.hand in
+    let current = c.args.current in
     let y = c.client_at-client.result in
     let e = c.client_at-client.ensures.end in
-    let none = at_item (λ l. l.state.registers.operands ≡ []) m.leaves.items x (server f m x y hand e) c.index-leaf.result.now (server_is f m x y hand e)
+    let none = at_item (λ l. l.state.registers.operands ≡ []) m.leaves.items x (server f m x y current e) c.index-leaf.result.now (server_is f m x y current e)
     c.index-leaf.ensures c.in-None.ensures in
-    none_to f m x y hand e c.requires.section.0 c.requires.section.1 none
+    none_to f m x y current e c.requires.section.0 c.requires.section.1 none
 
 pub go_on_with-requires-clause-room : goal.go_on_with-requires-clause-room
 go_on_with-requires-clause-room c =
@@ -34,16 +34,16 @@ returns-in-Some-clause-step c =
     let f = c.args.fixed.now in
     let m = c.args.state.now in
     let x = c.args.number in
-    let hand = c.args.hand in
+    let current = c.args.current in
     let y = c.client_at-client.result in
     let e = c.client_at-client.ensures.end in
     let a = c.in-Some.value in
-    let rest = drop 1 (server f m x y hand e).state.registers.operands in
-    let top = at_item (λ l. l.state.registers.operands ≡ a ∷ drop 1 l.state.registers.operands) m.leaves.items x (server f m x y hand e)
-    c.index-leaf.result.now (server_is f m x y hand e) c.index-leaf.ensures c.in-Some.ensures in
-    goes_to f m x y hand e (a ∷ had f m x y hand e) c.go_on_with.new.leaves.items c.reply.new.slots (Ok tt)
-    (c.go_on_with.ensures (server f m x y hand e) (client f m x y hand e) (server_is f m x y hand e) (client_is f m x y hand e))
-    (replied_to f m x y hand e (section.Calling c.requires.section.0) (a ∷ had f m x y hand e) (λ operands. a ∷ operands) c.reply.new.slots
+    let rest = drop 1 (server f m x y current e).state.registers.operands in
+    let top = at_item (λ l. l.state.registers.operands ≡ a ∷ drop 1 l.state.registers.operands) m.leaves.items x (server f m x y current e)
+    c.index-leaf.result.now (server_is f m x y current e) c.index-leaf.ensures c.in-Some.ensures in
+    goes_to f m x y current e (a ∷ had f m x y current e) c.go_on_with.new.leaves.items c.reply.new.slots (Ok tt)
+    (c.go_on_with.ensures (server f m x y current e) (client f m x y current e) (server_is f m x y current e) (client_is f m x y current e))
+    (replied_to f m x y current e (section.Calling c.requires.section.0) (a ∷ had f m x y current e) (λ operands. a ∷ operands) c.reply.new.slots
     c.requires.section.1 refl (λ g j q at have goes. c.reply.ensures.called g j q c.requires.section.0 a rest at (have ∙ top) goes))
 
 pub returns-in-Some-clause-holds : goal.returns-in-Some-clause-holds
@@ -51,9 +51,9 @@ returns-in-Some-clause-holds c =
     let f = c.args.fixed.now in
     let m = c.args.state.now in
     let x = c.args.number in
-    let hand = c.args.hand in
+    let current = c.args.current in
     let y = c.client_at-client.result in
     let e = c.client_at-client.ensures.end in
-    kept_two f m x y hand e (c.in-Some.value ∷ had f m x y hand e) _
-    (c.go_on_with.ensures (server f m x y hand e) (client f m x y hand e) (server_is f m x y hand e) (client_is f m x y hand e))
+    kept_two f m x y current e (c.in-Some.value ∷ had f m x y current e) _
+    (c.go_on_with.ensures (server f m x y current e) (client f m x y current e) (server_is f m x y current e) (client_is f m x y current e))
     c.lawful.ensures (scene_beside m.slots c.reply.new.slots c.reply.ensures.beside) (returns-in-Some-clause-step c)

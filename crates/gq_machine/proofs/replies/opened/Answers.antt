@@ -11,33 +11,33 @@ returns-in-Err-clause-step c =
     let f = c.args.fixed.now in
     let m = c.args.state.now in
     let x = c.args.number in
-    let hand = c.args.hand in
+    let current = c.args.current in
     let y = c.client_at-client.result in
     let e = c.client_at-client.ensures.end in
-    opened_to f m x y hand e c.reply_open.result c.addresses.result.now c.reply_open.new.slots c.addresses.ensures c.requires.section
-    c.reply_open.ensures.opened ∙ ap (λ r. done r (world_of f.table (after f m x y hand e (had f m x y hand e)) c.reply_open.new.slots)) c.in-Err.is
+    opened_to f m x y current e c.reply_open.result c.addresses.result.now c.reply_open.new.slots c.addresses.ensures c.requires.section
+    c.reply_open.ensures.opened ∙ ap (λ r. done r (world_of f.table (after f m x y current e (had f m x y current e)) c.reply_open.new.slots)) c.in-Err.is
 
 pub returns-in-Ok-clause-step : goal.returns-in-Ok-clause-step
 returns-in-Ok-clause-step c =
     let f = c.args.fixed.now in
     let m = c.args.state.now in
     let x = c.args.number in
-    let hand = c.args.hand in
+    let current = c.args.current in
     let y = c.client_at-client.result in
     let e = c.client_at-client.ensures.end in
-    goes_to f m x y hand e (had f m x y hand e) c.go_on.new.leaves.items c.reply_open.new.slots (Ok tt)
-    (c.go_on.ensures (server f m x y hand e) (client f m x y hand e) (server_is f m x y hand e) (client_is f m x y hand e))
-    (opened_to f m x y hand e c.reply_open.result c.addresses.result.now c.reply_open.new.slots c.addresses.ensures c.requires.section
-    c.reply_open.ensures.opened ∙ ap (λ r. done r (world_of f.table (after f m x y hand e (had f m x y hand e)) c.reply_open.new.slots)) c.in-Ok.is)
+    goes_to f m x y current e (had f m x y current e) c.go_on.new.leaves.items c.reply_open.new.slots (Ok tt)
+    (c.go_on.ensures (server f m x y current e) (client f m x y current e) (server_is f m x y current e) (client_is f m x y current e))
+    (opened_to f m x y current e c.reply_open.result c.addresses.result.now c.reply_open.new.slots c.addresses.ensures c.requires.section
+    c.reply_open.ensures.opened ∙ ap (λ r. done r (world_of f.table (after f m x y current e (had f m x y current e)) c.reply_open.new.slots)) c.in-Ok.is)
 
 pub returns-in-Ok-clause-holds : goal.returns-in-Ok-clause-holds
 returns-in-Ok-clause-holds c =
     let f = c.args.fixed.now in
     let m = c.args.state.now in
     let x = c.args.number in
-    let hand = c.args.hand in
+    let current = c.args.current in
     let y = c.client_at-client.result in
     let e = c.client_at-client.ensures.end in
-    kept_two f m x y hand e (had f m x y hand e) _
-    (c.go_on.ensures (server f m x y hand e) (client f m x y hand e) (server_is f m x y hand e) (client_is f m x y hand e))
+    kept_two f m x y current e (had f m x y current e) _
+    (c.go_on.ensures (server f m x y current e) (client f m x y current e) (server_is f m x y current e) (client_is f m x y current e))
     c.lawful.ensures (scene_beside m.slots c.reply_open.new.slots c.reply_open.ensures.beside) (returns-in-Ok-clause-step c)

@@ -10,12 +10,12 @@ returns-clause-step c =
     let f = c.args.fixed.now in
     let m = c.args.state.now in
     let x = c.args.number in
-    let hand = c.args.hand in
+    let current = c.args.current in
     let y = c.client_at-client.result in
     let e = c.client_at-client.ensures.end in
-    goes_to f m x y hand e (had f m x y hand e) c.go_on.new.leaves.items c.reply.new.slots (Ok tt)
-    (c.go_on.ensures (server f m x y hand e) (client f m x y hand e) (server_is f m x y hand e) (client_is f m x y hand e))
-    (replied_to f m x y hand e (section.Upgrading c.requires.section.0) (had f m x y hand e) (λ operands. operands) c.reply.new.slots
+    goes_to f m x y current e (had f m x y current e) c.go_on.new.leaves.items c.reply.new.slots (Ok tt)
+    (c.go_on.ensures (server f m x y current e) (client f m x y current e) (server_is f m x y current e) (client_is f m x y current e))
+    (replied_to f m x y current e (section.Upgrading c.requires.section.0) (had f m x y current e) (λ operands. operands) c.reply.new.slots
     c.requires.section.1 refl (λ g j q at have goes. c.reply.ensures.upgraded g j q c.requires.section.0 at goes))
 
 pub returns-clause-holds : goal.returns-clause-holds
@@ -23,9 +23,9 @@ returns-clause-holds c =
     let f = c.args.fixed.now in
     let m = c.args.state.now in
     let x = c.args.number in
-    let hand = c.args.hand in
+    let current = c.args.current in
     let y = c.client_at-client.result in
     let e = c.client_at-client.ensures.end in
-    kept_two f m x y hand e (had f m x y hand e) _
-    (c.go_on.ensures (server f m x y hand e) (client f m x y hand e) (server_is f m x y hand e) (client_is f m x y hand e))
+    kept_two f m x y current e (had f m x y current e) _
+    (c.go_on.ensures (server f m x y current e) (client f m x y current e) (server_is f m x y current e) (client_is f m x y current e))
     c.lawful.ensures (scene_beside m.slots c.reply.new.slots c.reply.ensures.beside) (returns-clause-step c)

@@ -20,7 +20,7 @@ use Rattle.gq_machine.specs.Worlds.{frame_of, world_of}
 use Rattle.gq_machine.specs.internal.Holds.{OfLeaf}
 use Rattle.gq_machine.proofs.Frames.{elsewhere, leaf_set}
 use Rattle.gq_machine.proofs.Kept.{kept_one}
-use Rattle.gq_machine.proofs.Standing.{active_live, at_hand, item_there, links, live, of_leaf, on_ok, standing}
+use Rattle.gq_machine.proofs.Standing.{active_live, at_current, item_there, links, live, of_leaf, on_ok, standing}
 use Rattle.gq_machine.proofs.Scenes.{scene_beside}
 use Rattle.gq_machine.proofs.statements.memory.Goals as goal
 
@@ -31,11 +31,11 @@ still_pays s t x b paid =
     let node : node_of t.trades.trading x ≡ node_of s.trades.trading x = ap (λ ns. get_or ns x 0) a.leaves in
     a.payer ∙ paid ∙ sym (λ i. record { 0 = number (a.tree i) (node i) })
 
-pub memory-done-requires-clause-hand : goal.memory-done-requires-clause-hand
-memory-done-requires-clause-hand c =
+pub memory-done-requires-clause-current : goal.memory-done-requires-clause-current
+memory-done-requires-clause-current c =
     let can = c.requires.can in
     let there = item_there c.args.state.now.leaves.items c.args.number can.leaf c.index_mut-leaf.result.now can.leaf_is c.index_mut-leaf.ensures.value in
-    at_hand c.args.fixed.now c.args.state.now can.holds c.lawful.ensures c.args.number can.component c.index_mut-leaf.result.now can.component_is there
+    at_current c.args.fixed.now c.args.state.now can.holds c.lawful.ensures c.args.number can.component c.index_mut-leaf.result.now can.component_is there
 
 pub memory-done-requires-clause-linked : goal.memory-done-requires-clause-linked
 memory-done-requires-clause-linked c = links c.args.fixed.now c.args.state.now c.requires.can.holds c.lawful.ensures

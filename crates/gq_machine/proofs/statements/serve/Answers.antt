@@ -37,7 +37,7 @@ returns-clause-step c =
     (standing f m can.holds c.lawful.ensures x can.component old can.component_is there)
     (of_leaf (λ l. Active l.state.phase) (slice_get ls x) old there c.requires.next.active)
     (of_leaf (λ l. operation_of l ≡ Some operation.End) (slice_get ls x) old there c.requires.next.next) (frame_of f.table (slice_set ls x new)) service.0
-    (of_leaf (λ l. l.state.hand ≡ None) (slice_get ls x) old there c.requires.provides.main) service.1 (elsewhere f.table ls x new)
+    (of_leaf (λ l. l.state.current ≡ None) (slice_get ls x) old there c.requires.provides.main) service.1 (elsewhere f.table ls x new)
     (leaf_set f.table ls x can.component old new can.component_is there
     ∙ ap (λ (l : Coded). leaf_of can.component.node.program l.state) c.serve.ensures)
 

@@ -4,7 +4,7 @@ use Rattle.gq_model.specs.machine.Scenario.{Scenario}
 use Rattle.gq_scenario.specs.Document.{keys_of, walk_fault, document_fault}
 use Rattle.gq_scenario.specs.Made.{IsScenario}
 use Rattle.gq_reader.specs.internal.Parts.{interfaces_at, parts_fault}
-use Rattle.gq_scenario.specs.Words.{Tells}
+use Rattle.gq_scenario.specs.Words.{SameFault}
 use Rattle.gq_reader.proofs.Described.{fault_read}
 use Rattle.gq_reader.proofs.Faults.{tells_none}
 use Rattle.gq_reader.proofs.Documents.{many_interfaces, parts_left, is_scenario}
@@ -22,7 +22,7 @@ returns-in-Some-2 c =
     let top = table_view c.args.top in
     let walked = tells_none (walk_fault top) (rw c.in_default.is at c.walk_fault.ensures) in
     let few : length (keys_of (interfaces_at top)) ≤ 64 = omega (arith, c.interface_count.ensures) in
-    let Q : Scenario → Type 0 = λ s. Tells c.in_ok-fault.field-0 (parts_fault s.default_routes s.nodes) in
+    let Q : Scenario → Type 0 = λ s. SameFault c.in_ok-fault.field-0 (parts_fault s.default_routes s.nodes) in
     let told = rw c.in-Some-2.is at (subst Q c.in_ok-parts.ensures (rw c.told.ensures at c.in_ok-fault.ensures)) in
     fault_read top c.in-Some-2.fault (document_fault top) (rw (parts_left top walked few) told)
 
@@ -31,7 +31,7 @@ new-requires c =
     let top = table_view c.args.top in
     let walked = tells_none (walk_fault top) (rw c.in_default.is at c.walk_fault.ensures) in
     let few : length (keys_of (interfaces_at top)) ≤ 64 = omega (arith, c.interface_count.ensures) in
-    let Q : Scenario → Type 0 = λ s. Tells c.in_ok-fault.field-0 (parts_fault s.default_routes s.nodes) in
+    let Q : Scenario → Type 0 = λ s. SameFault c.in_ok-fault.field-0 (parts_fault s.default_routes s.nodes) in
     let told = rw c.in-None.is at (subst Q c.in_ok-parts.ensures (rw c.told.ensures at c.in_ok-fault.ensures)) in
     subst IsScenario (sym c.in_ok-parts.ensures) (is_scenario top walked few (tells_none _ told))
 
@@ -40,6 +40,6 @@ returns-in-None c =
     let top = table_view c.args.top in
     let walked = tells_none (walk_fault top) (rw c.in_default.is at c.walk_fault.ensures) in
     let few : length (keys_of (interfaces_at top)) ≤ 64 = omega (arith, c.interface_count.ensures) in
-    let Q : Scenario → Type 0 = λ s. Tells c.in_ok-fault.field-0 (parts_fault s.default_routes s.nodes) in
+    let Q : Scenario → Type 0 = λ s. SameFault c.in_ok-fault.field-0 (parts_fault s.default_routes s.nodes) in
     let told = rw c.in-None.is at (subst Q c.in_ok-parts.ensures (rw c.told.ensures at c.in_ok-fault.ensures)) in
     rw (parts_left top walked few, tells_none _ told) (ap Ok (sym (c.new.ensures ∙ c.in_ok-parts.ensures)))

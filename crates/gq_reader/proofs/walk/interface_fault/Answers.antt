@@ -3,7 +3,7 @@ use Rattle.toml.specs.View.{table_view}
 use Rattle.gq_scenario.specs.Keys.{KeyRule, table_fault}
 use Rattle.gq_reader.specs.Rules.{rule_of}
 use Rattle.gq_scenario.specs.Tables.{interface_keys}
-use Rattle.gq_scenario.specs.Words.{Tells}
+use Rattle.gq_scenario.specs.Words.{SameFault}
 use Rattle.gq_reader.proofs.walk.interface_fault.Goals as goal
 
 pub returns-in-Two : goal.returns-in-Two
@@ -22,5 +22,5 @@ returns-in-Two c =
       c.count_at-count.ensures,
       c.optional-buffer.ensures,
     ) refl in
-    let P : List KeyRule → Type 0 = λ rules. Tells c.table_fault-in-Two.result (table_fault rules entries) in
+    let P : List KeyRule → Type 0 = λ rules. SameFault c.table_fault-in-Two.result (table_fault rules entries) in
     rw c.in-Two.is (subst P same c.table_fault-in-Two.ensures)

@@ -7,7 +7,7 @@ use Rattle.gq_scenario.specs.Keys.{table_fault}
 use Rattle.gq_scenario.specs.Trees.{version_number}
 use Rattle.gq_scenario.specs.Document.{keys_of}
 use Rattle.gq_scenario.specs.Tables.{leaf_keys}
-use Rattle.gq_scenario.specs.Words.{Tells}
+use Rattle.gq_scenario.specs.Words.{SameFault}
 use Rattle.gq_reader.specs.Rules.{entries_or_none, rule_of}
 use Rattle.gq_reader.proofs.walk.leaf_fault.Goals as goal
 
@@ -19,8 +19,8 @@ returns-in-One c =
     ∷ c.optional-provides.result ∷ c.optional-after.result ∷ c.either-program.result ∷ c.other-code.result ∷ []) in
     let same : rules ≡ leaf_keys 1 names = λ i. c.required-name.ensures i ∷ c.required-quantum.ensures i ∷ c.optional-routes.ensures i
     ∷ c.optional-provides.ensures i ∷ c.optional-after.ensures i ∷ c.either-program.ensures i ∷ c.other-code.ensures i ∷ [] in
-    subst (λ (v : Version). Tells c.table_fault.result (table_fault (leaf_keys (version_number v) names) table)) (sym c.in-One.is)
-    (subst (λ (ks : List keys.KeyRule). Tells c.table_fault.result (table_fault ks table)) same c.table_fault.ensures)
+    subst (λ (v : Version). SameFault c.table_fault.result (table_fault (leaf_keys (version_number v) names) table)) (sym c.in-One.is)
+    (subst (λ (ks : List keys.KeyRule). SameFault c.table_fault.result (table_fault ks table)) same c.table_fault.ensures)
 
 pub returns-in-Two : goal.returns-in-Two
 returns-in-Two c =
@@ -31,5 +31,5 @@ returns-in-Two c =
     let same : rules ≡ leaf_keys 2 names = λ i. c.required-name.ensures i ∷ c.required-quantum.ensures i ∷ c.required-caps.ensures i
     ∷ c.optional-routes.ensures i ∷ c.optional-provides.ensures i ∷ c.optional-after.ensures i ∷ c.either-program.ensures i
     ∷ c.other-code.ensures i ∷ [] in
-    subst (λ (v : Version). Tells c.table_fault-in-Two.result (table_fault (leaf_keys (version_number v) names) table)) (sym c.in-Two.is)
-    (subst (λ (ks : List keys.KeyRule). Tells c.table_fault-in-Two.result (table_fault ks table)) same c.table_fault-in-Two.ensures)
+    subst (λ (v : Version). SameFault c.table_fault-in-Two.result (table_fault (leaf_keys (version_number v) names) table)) (sym c.in-Two.is)
+    (subst (λ (ks : List keys.KeyRule). SameFault c.table_fault-in-Two.result (table_fault ks table)) same c.table_fault-in-Two.ensures)

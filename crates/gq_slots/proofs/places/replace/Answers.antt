@@ -1,7 +1,7 @@
 use Rattle.std.proofs.Common.{[], ap, subst, sym, ◌∙◌}
-use Rattle.gq_contents.specs.declared.thing.Thing.TheVariants.{Empty}
+use Rattle.gq_contents.specs.declared.content.Content.TheVariants.{Empty}
 use Rattle.gq_trade.specs.Trades.{with_trading}
-use Rattle.gq_slots.specs.Slots.{Slots, IsSpot, thing_at}
+use Rattle.gq_slots.specs.Slots.{Slots, IsSpot, content_at}
 use Rattle.gq_slots.specs.internal.Put.{put_own, put_trading}
 use Rattle.gq_slots.proofs.Again.{cleared, emptied, put_again}
 use Rattle.gq_slots.proofs.Answering.{of_parts}
@@ -19,7 +19,7 @@ pub fill-requires-clause-empty : goal.fill-requires-clause-empty
 fill-requires-clause-empty c =
     let s : Slots = of_parts c.args.trades.now c.args.own.now.items [] in
     let p = c.args.spot in
-    ap (λ y. thing_at y p) (emptied c.args.trades.now c.clear.new.trades c.args.own.now.items c.clear.new.own.items p c.clear.ensures.trades
+    ap (λ y. content_at y p) (emptied c.args.trades.now c.clear.new.trades c.args.own.now.items c.clear.new.own.items p c.clear.ensures.trades
     c.clear.ensures.own) ∙ cleared s p c.requires.slot c.requires.there
 
 pub returns-clause-trades : goal.returns-clause-trades

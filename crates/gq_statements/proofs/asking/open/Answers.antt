@@ -1,13 +1,13 @@
 use Rattle.std.proofs.Common.{◌≡◌, ◌<◌, length, IfSome, sym, subst, ap, ◌∙◌, arith}
 use Rattle.gq_model.specs.machine.Requests.{free_place, new_session}
 use Rattle.gq_model.specs.machine.Sums.{paid}
-use Rattle.gq_contents.specs.declared.thing.Thing.TheVariants.{Empty}
+use Rattle.gq_contents.specs.declared.content.Content.TheVariants.{Empty}
 use Rattle.gq_trade.specs.Seen.{spot_seen}
 use Rattle.gq_trade.specs.Trading.{fresh}
 use Rattle.gq_trade.specs.Trades.{IsLive}
 use Rattle.gq_slots.specs.Slots.{IsMark, Slots, world_seen}
 use Rattle.gq_slots.specs.Session_calls.{opening}
-use Rattle.gq_statements.proofs.Kept.{carries_asked, free_seen, paid_then, reads_thing, same_spot, same_thing, stays_asked, stays_then, unpaid_open}
+use Rattle.gq_statements.proofs.Kept.{carries_asked, free_seen, paid_then, reads_content, same_spot, same_content, stays_asked, stays_then, unpaid_open}
 use Rattle.gq_statements.proofs.Opens.{open_nowhere, open_some, open_unpaid}
 use Rattle.gq_statements.proofs.asking.open.Goals as goal
 
@@ -21,8 +21,8 @@ pub mark-requires-clause-free : goal.mark-requires-clause-free
 mark-requires-clause-free c =
     let s : Slots = c.args.slots.now in
     let q = fresh c.args.actor.leaf c.in-Some.spot c.in-Some-server.server c.args.service c.args.donation in
-    let same = same_thing s _ (carries_asked s.trades.trading q) c.ask.new.slots c.in-Some.spot c.in-Ok.ensures.asked c.in-Some.ensures.is.there in
-    subst IsMark (sym (same ∙ c.in-Some.ensures.is.thing)) tt
+    let same = same_content s _ (carries_asked s.trades.trading q) c.ask.new.slots c.in-Some.spot c.in-Ok.ensures.asked c.in-Some.ensures.is.there in
+    subst IsMark (sym (same ∙ c.in-Some.ensures.is.content)) tt
 
 pub returns-in_default-clause-step : goal.returns-in_default-clause-step
 returns-in_default-clause-step c before after d name n h o b named server gift =
@@ -38,7 +38,7 @@ returns-in-Err-clause-step c before after d name n h o b named server gift =
     let sv = subst (λ z. IfSome z (λ k. IsLive s.trades k × (x ≡ k → ⊥))) c.in-Some-server.is c.requires.server in
     let below : x < length s.own = omega (arith, c.requires.live.there, c.lawful.ensures.count) in
     open_unpaid d c.args.place name n p (c.in-Some.ensures.found before d h b.world_before) y (server ∙ c.in-Some-server.is) c.args.donation gift before after s
-    b (reads_thing after s p Empty c.lawful.ensures is.there is.thing)
+    b (reads_content after s p Empty c.lawful.ensures is.there is.content)
     ((λ j. paid d.system (opening (world_seen after s) (new_session (h.leaf j) (spot_seen p) y name c.args.donation)))
     ∙ unpaid_open d.system after s (new_session x (spot_seen p) y name c.args.donation) c.lawful.ensures o below sv.1 c.requires.counted c.in-Err.ensures.only)
 

@@ -1,8 +1,9 @@
 use Rattle.std.proofs.Common.{sym, subst, ◌∙◌}
-use Rattle.gq_contents.specs.declared.thing.Thing.TheVariants.{Link}
+use Rattle.gq_contents.specs.declared.content.Content.TheVariants.{Link}
 use Rattle.gq_slots.specs.Slots.{IsMark, Slots}
 use Rattle.gq_statements.proofs.Asks.{upgrade_none, upgrade_some, upgrade_unpaid}
-use Rattle.gq_statements.proofs.Kept.{carries_upgraded, its_session, paid_then, reads_thing, same_spot, same_thing, session_found, stays_then, stays_upgraded}
+use Rattle.gq_statements.proofs.Kept.{carries_upgraded, its_session, paid_then, reads_content, same_spot, same_content, session_found, stays_then}
+use Rattle.gq_statements.proofs.Kept.{stays_upgraded}
 use Rattle.gq_statements.proofs.Kept.{unpaid_upgrade}
 use Rattle.gq_statements.proofs.asking.upgrade.Goals as goal
 
@@ -17,9 +18,9 @@ pub mark-requires-clause-free : goal.mark-requires-clause-free
 mark-requires-clause-free c =
     let s : Slots = c.args.slots.now in
     let k = c.in-Some.session in
-    let same = same_thing s _ (carries_upgraded s.trades.trading k c.args.donation c.in-Some.ensures.is.taken) c.upgrade.new.slots c.in-Some.spot
+    let same = same_content s _ (carries_upgraded s.trades.trading k c.args.donation c.in-Some.ensures.is.taken) c.upgrade.new.slots c.in-Some.spot
     c.in-Ok.ensures.upgraded c.in-Some.ensures.is.there in
-    subst IsMark (sym (same ∙ c.in-Some.ensures.is.thing)) tt
+    subst IsMark (sym (same ∙ c.in-Some.ensures.is.content)) tt
 
 pub returns-in_default-clause-step : goal.returns-in_default-clause-step
 returns-in_default-clause-step c before after d n h o b next = upgrade_none d c.args.place n (c.in_default.ensures.found before d h b.world_before)
@@ -32,7 +33,7 @@ returns-in-Err-clause-step c before after d n h o b next =
     let is = c.in-Some.ensures.is in
     upgrade_unpaid d c.args.place p k (c.in-Some.ensures.found before d h b.world_before) before after s (its_session before s k)
     (session_found before s k is.taken) b n c.args.donation next (its_session after s k) (session_found after s k is.taken)
-    (reads_thing after s p (Link k) c.lawful.ensures is.there is.thing)
+    (reads_content after s p (Link k) c.lawful.ensures is.there is.content)
     (unpaid_upgrade d.system after s k c.args.donation c.lawful.ensures o is.taken c.requires.counted c.in-Err.ensures.only)
 
 pub returns-in-Ok-clause-step : goal.returns-in-Ok-clause-step

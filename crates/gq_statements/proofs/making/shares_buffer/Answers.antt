@@ -12,5 +12,5 @@ returns c f system a =
     let s : Slots = c.args.slots.now in
     let w : IsTrading s.trades.trading = subst (λ (y : Trades). IsTrading y.trading) c.trades.ensures c.laws.ensures.trading in
     ap (nat_lt 0) (c.buffer.ensures ∙ ap (λ (q : Session). get_or c.args.addresses.now q.service 0)
-    (c.session.ensures ∙ ap (λ (y : Trades). session_at y.trading c.args.hand.session) c.trades-2.ensures))
-    ∙ buffer_is f system c.args.addresses.now s c.args.hand.session w c.requires a
+    (c.session.ensures ∙ ap (λ (y : Trades). session_at y.trading c.args.current.session) c.trades-2.ensures))
+    ∙ buffer_is f system c.args.addresses.now s c.args.current.session w c.requires a

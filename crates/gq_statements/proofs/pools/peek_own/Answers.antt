@@ -1,18 +1,18 @@
 use Rattle.std.proofs.Common.{arith, refl, ◌∙◌}
 use Rattle.gq_model.specs.declared.program.Place.TheVariants.{Own}
 use Rattle.gq_trade.specs.declared.session.Spot.TheVariants.{InLeaf}
-use Rattle.gq_contents.specs.Things.{entry_count, entry_size}
-use Rattle.gq_slots.specs.Slots.{IsSpot, Slots, thing_at, world_seen}
+use Rattle.gq_contents.specs.Contents.{entry_count, entry_size}
+use Rattle.gq_slots.specs.Slots.{IsSpot, Slots, content_at, world_seen}
 use Rattle.gq_statements.proofs.Entries.{own_pool, peek_some, test_true}
 use Rattle.gq_statements.proofs.pools.peek_own.Goals as goal
 
 pub returns-in-Some-clause-step : goal.returns-in-Some-clause-step
-returns-in-Some-clause-step c f d rest hand h we e =
+returns-in-Some-clause-step c f d rest current h we e =
     let s : Slots = c.args.slots.now in
     let p = InLeaf c.args.leaf c.args.slot in
-    let t = thing_at s p in
+    let t = content_at s p in
     let spot : IsSpot s p = (omega (arith, c.laws.ensures.leaves, c.requires.live.there), c.requires.slot) in
     let inside = c.in-Some.ensures.inside in
     peek_some d (Own c.args.slot) s p (entry_size t) (entry_count t) refl (world_seen f s)
-    (own_pool d c.args.leaf c.args.slot hand f s c.args.index h spot c.laws.ensures.reads inside.0) c.args.offset c.args.index rest we e c.from.result
+    (own_pool d c.args.leaf c.args.slot current f s c.args.index h spot c.laws.ensures.reads inside.0) c.args.offset c.args.index rest we e c.from.result
     inside.0 (test_true c.args.offset (entry_size t) inside.1) (c.from.ensures ∙ c.in-Some.ensures.read)

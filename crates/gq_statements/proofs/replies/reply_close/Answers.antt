@@ -3,8 +3,8 @@ use Rattle.gq_model.specs.machine.World as world
 use Rattle.gq_trade.specs.Trading.{bytes_then, caps_then, session_at}
 use Rattle.gq_trade.specs.Trades.{Trades}
 use Rattle.gq_slots.specs.Addresses.{slot_for}
-use Rattle.gq_slots.specs.Slots.{IsMark, IsSpot, thing_at}
-use Rattle.gq_slots.specs.Calls.{Puts}
+use Rattle.gq_slots.specs.Slots.{IsMark, IsSpot, content_at}
+use Rattle.gq_slots.specs.Calls.{PutsSlot}
 use Rattle.gq_slots.specs.Session_calls.{EndsSession}
 use Rattle.gq_statements.specs.internal.Tests.{are_empty}
 use Rattle.gq_statements.proofs.Closed.{awaited_beside, close_done, close_refused, close_wrong, still_mark}
@@ -83,7 +83,7 @@ mark-requires-clause-free c =
     c.trades-in-Ok.ensures c.laws-in-Ok-3.ensures c.accounts-in-Ok.ensures c.memory-in-Ok.ensures
     c.trades-in-Ok-2.ensures in
     let ends = from_ok (EndsSession s m k) c.closed.result _ c.in-Ok.is c.closed.ensures.ends in
-    subst (λ y. IsMark (thing_at m y.spot)) (sym is) (still_mark s m k l lm c.requires.awaited ends)
+    subst (λ y. IsMark (content_at m y.spot)) (sym is) (still_mark s m k l lm c.requires.awaited ends)
 
 pub returns-in-Ok-clause-closed : goal.returns-in-Ok-clause-closed
 returns-in-Ok-clause-closed c f d q level at o h =
@@ -103,7 +103,7 @@ returns-in-Ok-clause-closed c f d q level at o h =
     c.trades-in-Ok.ensures c.laws-in-Ok-3.ensures c.accounts-in-Ok.ensures c.memory-in-Ok.ensures
     c.trades-in-Ok-2.ensures in
     let ends = from_ok (EndsSession s m k) c.closed.result _ c.in-Ok.is c.closed.ensures.ends in
-    let puts = subst (λ y. Puts m c.mark.new.self y.spot world.Empty) is c.mark.ensures in
+    let puts = subst (λ y. PutsSlot m c.mark.new.self y.spot world.Empty) is c.mark.ensures in
     close_done f d s k q at h l c.requires.awaited e m c.mark.new.self o lm ends puts
 
 pub returns-in-Ok-clause-ends : goal.returns-in-Ok-clause-ends
@@ -119,5 +119,5 @@ returns-in-Ok-clause-ends c =
     c.trades-in-Ok.ensures c.laws-in-Ok-3.ensures c.accounts-in-Ok.ensures c.memory-in-Ok.ensures
     c.trades-in-Ok-2.ensures in
     let ends = from_ok (EndsSession s m k) c.closed.result _ c.in-Ok.is c.closed.ensures.ends in
-    let puts = subst (λ y. Puts m c.mark.new.self y.spot world.Empty) is c.mark.ensures in
+    let puts = subst (λ y. PutsSlot m c.mark.new.self y.spot world.Empty) is c.mark.ensures in
     record { between = m; ends = ends; puts = puts }

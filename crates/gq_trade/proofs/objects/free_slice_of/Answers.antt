@@ -1,7 +1,7 @@
 use Rattle.std.proofs.Common.{sym, ap, subst}
 use Rattle.gq_ram.specs.Entries.{IsOpen}
 use Rattle.gq_trade.specs.Stores.{Memory}
-use Rattle.gq_contents.specs.declared.thing.Thing.TheVariants as thing
+use Rattle.gq_contents.specs.declared.content.Content.TheVariants as content
 use Rattle.gq_trade.proofs.Paying.{changes_for}
 use Rattle.gq_trade.proofs.objects.free_slice_of.Goals as goal
 
@@ -13,4 +13,4 @@ pay_by-requires-2 c =
 pub returns-clause-changes : goal.returns-clause-changes
 returns-clause-changes c =
     changes_for c.args.memory.now.ledger c.args.account c.pay_by.new.self c.free_slice.new.store c.pay_by-2.new.self.ledger c.pay_by.ensures
-    c.free_slice.ensures.rest (ap (λ (x : Memory). x.ledger) c.pay_by-2.ensures) c.args.slice thing.Empty c.free_slice.ensures.changes
+    c.free_slice.ensures.rest (ap (λ (x : Memory). x.ledger) c.pay_by-2.ensures) c.args.slice content.Empty c.free_slice.ensures.changes

@@ -9,6 +9,6 @@ invariant_of-self c =
     let i = c.self.inside in
     record {
       code = c.self.invariant.code;
-      inside = first_inside i.code c.args.hand.section c.begin.new.self.position c.self.invariant.code (ap (λ (r : Core). r.position) c.begin.ensures);
+      inside = first_inside i.code c.args.current.section c.begin.new.self.position c.self.invariant.code (ap (λ (r : Core). r.position) c.begin.ensures);
       placed = c.place-self-inside.ensures;
     }

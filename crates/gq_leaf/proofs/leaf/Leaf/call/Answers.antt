@@ -19,21 +19,21 @@ no_end p e = cc
 pub call-requires-clause-place : goal.call-requires-clause-place
 call-requires-clause-place c =
     let i = c.self.inside in
-    let v : Coded = record { state = record { phase = i.phase; hand = i.hand; registers = i.registers; steps = i.steps }; code = i.code } in
+    let v : Coded = record { state = record { phase = i.phase; current = i.current; registers = i.registers; steps = i.steps }; code = i.code } in
     slot_next v (operation.Call c.args.place) c.self.invariant.code (ap operation_of c.self.view_is ∙ c.requires.next) (no_end c.args.place)
     (instruction.Call c.args.place) refl c.args.place refl
 
 pub advance-requires : goal.advance-requires
 advance-requires c =
     let i = c.self.inside in
-    let v : Coded = record { state = record { phase = i.phase; hand = i.hand; registers = i.registers; steps = i.steps }; code = i.code } in
+    let v : Coded = record { state = record { phase = i.phase; current = i.current; registers = i.registers; steps = i.steps }; code = i.code } in
     small_then v (operation.Call c.args.place) c.self.invariant.code (ap operation_of c.self.view_is ∙ c.requires.next) (no_end c.args.place)
     c.pop-value.new.self c.pop-value.ensures.stays
 
 pub invariant_of-self : goal.invariant_of-self
 invariant_of-self c =
     let i = c.self.inside in
-    let v : Coded = record { state = record { phase = i.phase; hand = i.hand; registers = i.registers; steps = i.steps }; code = i.code } in
+    let v : Coded = record { state = record { phase = i.phase; current = i.current; registers = i.registers; steps = i.steps }; code = i.code } in
     record {
       code = c.self.invariant.code;
       inside = inside_then v (operation.Call c.args.place) c.self.invariant.code (ap operation_of c.self.view_is ∙ c.requires.next) (no_end c.args.place)
@@ -45,7 +45,7 @@ invariant_of-self c =
 pub returns-in_default-clause-step : goal.returns-in_default-clause-step
 returns-in_default-clause-step c bs =
     let i = c.self.inside in
-    let v : Coded = record { state = record { phase = i.phase; hand = i.hand; registers = i.registers; steps = i.steps }; code = i.code } in
+    let v : Coded = record { state = record { phase = i.phase; current = i.current; registers = i.registers; steps = i.steps }; code = i.code } in
     let P : Coded → Type 0 = λ o. LeadsTo c.args.number bs o o c.args.slots.now c.args.slots.now
     (done (Err Rattle.gq_model.specs.declared.fault.Wrong.TheVariants.MissingOperand)) in
     subst P c.self.view_is (call_missing v c.self.invariant.code c.args.place (ap operation_of c.self.view_is ∙ c.requires.next) c.in_default.ensures
@@ -54,7 +54,7 @@ returns-in_default-clause-step c bs =
 pub returns-in-Err-clause-step : goal.returns-in-Err-clause-step
 returns-in-Err-clause-step c bs =
     let i = c.self.inside in
-    let v : Coded = record { state = record { phase = i.phase; hand = i.hand; registers = i.registers; steps = i.steps }; code = i.code } in
+    let v : Coded = record { state = record { phase = i.phase; current = i.current; registers = i.registers; steps = i.steps }; code = i.code } in
     let rest = drop 1 i.registers.operands in
     let P : Coded → Type 0 = λ o. LeadsTo c.args.number bs o o c.args.slots.now c.call.new.slots (done (Err c.in-Err.wrong)) in
     subst P c.self.view_is
@@ -66,9 +66,10 @@ returns-in-Err-clause-step c bs =
 pub returns-in-Ok-clause-step : goal.returns-in-Ok-clause-step
 returns-in-Ok-clause-step c bs =
     let i = c.self.inside in
-    let v : Coded = record { state = record { phase = i.phase; hand = i.hand; registers = i.registers; steps = i.steps }; code = i.code } in
+    let v : Coded = record { state = record { phase = i.phase; current = i.current; registers = i.registers; steps = i.steps }; code = i.code } in
     let rest = drop 1 i.registers.operands in
-    let n : Coded = record { state = record { phase = phase.Blocked; hand = i.hand; registers = c.advance.new.self; steps = i.steps + 1 }; code = i.code } in
+    let n : Coded = record { state = record { phase = phase.Blocked; current = i.current; registers = c.advance.new.self; steps = i.steps + 1 }; code = i.code }
+    in
     let left : c.pop-value.new.self.operands ≡ rest =
     below_top c.pop-value.result i.registers.operands rest c.pop-value.new.self.operands c.in-Some.value c.pop-value.ensures.popped c.in-Some.ensures in
     let moved : c.advance.new.self ≡ record i.registers { position = i.registers.position + 1; operands = rest } =

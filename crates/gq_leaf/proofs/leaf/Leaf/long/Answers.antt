@@ -13,6 +13,6 @@ pub long-requires : goal.long-requires
 long-requires c =
     let i = c.self.inside in
     let n = c.args.number in
-    let v : Coded = record { state = record { phase = i.phase; hand = i.hand; registers = i.registers; steps = i.steps }; code = i.code } in
+    let v : Coded = record { state = record { phase = i.phase; current = i.current; registers = i.registers; steps = i.steps }; code = i.code } in
     let at = section v (operation.Long n) c.self.invariant.code (ap operation_of c.self.view_is ∙ c.requires) (no_end n) in
-    (c.self.invariant.code (section_at i.hand) at.ops at.found).listed i.registers.position n at.at
+    (c.self.invariant.code (section_at i.current) at.ops at.found).listed i.registers.position n at.at

@@ -18,14 +18,14 @@ use Rattle.gq_leaf.proofs.leaf.Leaf.memory.Goals as goal
 pub do_memory-requires-clause-ranged : goal.do_memory-requires-clause-ranged
 do_memory-requires-clause-ranged c =
     let i = c.self.inside in
-    let v : Coded = record { state = record { phase = i.phase; hand = i.hand; registers = i.registers; steps = i.steps }; code = i.code } in
+    let v : Coded = record { state = record { phase = i.phase; current = i.current; registers = i.registers; steps = i.steps }; code = i.code } in
     let does = c.args.operation in
     ranged_next v does c.self.invariant.code (ap operation_of c.self.view_is ∙ c.requires.next) (not_end does c.requires.memory) c.requires.memory
 
 pub advance-requires : goal.advance-requires
 advance-requires c =
     let i = c.self.inside in
-    let v : Coded = record { state = record { phase = i.phase; hand = i.hand; registers = i.registers; steps = i.steps }; code = i.code } in
+    let v : Coded = record { state = record { phase = i.phase; current = i.current; registers = i.registers; steps = i.steps }; code = i.code } in
     let does = c.args.operation in
     let same : c.do_memory.new.registers.position ≡ i.registers.position = ap (λ (r : Core). r.position) c.do_memory.ensures.registers in
     let P : ℕ → Type 0 = λ n. n < 2 ^ 32 in
@@ -35,11 +35,11 @@ advance-requires c =
 pub invariant_of-self-in-Ok : goal.invariant_of-self-in-Ok
 invariant_of-self-in-Ok c =
     let i = c.self.inside in
-    let v : Coded = record { state = record { phase = i.phase; hand = i.hand; registers = i.registers; steps = i.steps }; code = i.code } in
+    let v : Coded = record { state = record { phase = i.phase; current = i.current; registers = i.registers; steps = i.steps }; code = i.code } in
     let does = c.args.operation in
     let after : c.advance.new.self.position ≡ i.registers.position + 1 =
     ap (λ (r : Core). r.position) c.advance.ensures ∙ ap (λ (r : Core). r.position + 1) c.do_memory.ensures.registers in
-    let P : ℕ → Type 0 = λ n. IsInside (code_in (section_at i.hand) i.code.sections) n in
+    let P : ℕ → Type 0 = λ n. IsInside (code_in (section_at i.current) i.code.sections) n in
     record {
       code = c.self.invariant.code;
       inside = subst P (sym after) (inside_after v does c.self.invariant.code (ap operation_of c.self.view_is ∙ c.requires.next)
@@ -50,12 +50,12 @@ invariant_of-self-in-Ok c =
 pub returns-in-Err-clause-step : goal.returns-in-Err-clause-step
 returns-in-Err-clause-step c =
     let i = c.self.inside in
-    let v : Coded = record { state = record { phase = i.phase; hand = i.hand; registers = i.registers; steps = i.steps }; code = i.code } in
-    let n : Coded = record { state = record { phase = i.phase; hand = i.hand; registers = c.do_memory.new.registers; steps = i.steps }; code = i.code } in
+    let v : Coded = record { state = record { phase = i.phase; current = i.current; registers = i.registers; steps = i.steps }; code = i.code } in
+    let n : Coded = record { state = record { phase = i.phase; current = i.current; registers = c.do_memory.new.registers; steps = i.steps }; code = i.code } in
     let does = c.args.operation in
     let x = c.args.number in
     let bs = c.args.addresses.now in
-    let a : Actor = record { leaf = x; hand = i.hand } in
+    let a : Actor = record { leaf = x; current = i.current } in
     let wrong = c.in-Err.wrong in
     let m = memory_instruction i.code.longs does c.requires.memory in
     let R : Result (Unit {0}) Wrong → Type 0 = λ r. Does a bs m.0 i.registers c.do_memory.new.registers c.args.slots.now c.do_memory.new.slots r in
@@ -69,12 +69,12 @@ returns-in-Err-clause-step c =
 pub returns-in-Ok-clause-step : goal.returns-in-Ok-clause-step
 returns-in-Ok-clause-step c =
     let i = c.self.inside in
-    let v : Coded = record { state = record { phase = i.phase; hand = i.hand; registers = i.registers; steps = i.steps }; code = i.code } in
-    let n : Coded = record { state = record { phase = i.phase; hand = i.hand; registers = c.advance.new.self; steps = i.steps + 1 }; code = i.code } in
+    let v : Coded = record { state = record { phase = i.phase; current = i.current; registers = i.registers; steps = i.steps }; code = i.code } in
+    let n : Coded = record { state = record { phase = i.phase; current = i.current; registers = c.advance.new.self; steps = i.steps + 1 }; code = i.code } in
     let does = c.args.operation in
     let x = c.args.number in
     let bs = c.args.addresses.now in
-    let a : Actor = record { leaf = x; hand = i.hand } in
+    let a : Actor = record { leaf = x; current = i.current } in
     let m = memory_instruction i.code.longs does c.requires.memory in
     let R : Result (Unit {0}) Wrong → Type 0 = λ r. Does a bs m.0 i.registers c.do_memory.new.registers c.args.slots.now c.do_memory.new.slots r in
     let did = subst R c.in-Ok.is (c.do_memory.ensures.does i.code.longs m.0 m.1) in

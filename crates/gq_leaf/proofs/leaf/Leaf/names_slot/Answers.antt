@@ -8,6 +8,6 @@ use Rattle.gq_leaf.proofs.leaf.Leaf.names_slot.Goals as goal
 pub returns : goal.returns
 returns c instruction place stands named =
     let i = c.self.inside in
-    let v : Coded = record { state = record { phase = i.phase; hand = i.hand; registers = i.registers; steps = i.steps }; code = i.code } in
+    let v : Coded = record { state = record { phase = i.phase; current = i.current; registers = i.registers; steps = i.steps }; code = i.code } in
     slot_next v c.args.fetched c.self.invariant.code (ap operation_of c.self.view_is ∙ c.requires.next) c.requires.more instruction
     (ap (λ (o : Coded). instruction_in o.code.longs c.args.fetched) c.self.view_is ∙ stands) place named

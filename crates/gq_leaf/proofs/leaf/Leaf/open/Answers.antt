@@ -17,14 +17,14 @@ no_end n e = cc
 pub advance-requires : goal.advance-requires
 advance-requires c =
     let i = c.self.inside in
-    let v : Coded = record { state = record { phase = i.phase; hand = i.hand; registers = i.registers; steps = i.steps }; code = i.code } in
+    let v : Coded = record { state = record { phase = i.phase; current = i.current; registers = i.registers; steps = i.steps }; code = i.code } in
     small_then v (operation.Long c.args.statement) c.self.invariant.code (ap operation_of c.self.view_is ∙ c.requires.next) (no_end c.args.statement)
     i.registers refl
 
 pub invariant_of-self : goal.invariant_of-self
 invariant_of-self c =
     let i = c.self.inside in
-    let v : Coded = record { state = record { phase = i.phase; hand = i.hand; registers = i.registers; steps = i.steps }; code = i.code } in
+    let v : Coded = record { state = record { phase = i.phase; current = i.current; registers = i.registers; steps = i.steps }; code = i.code } in
     record {
       code = c.self.invariant.code;
       inside = inside_then v (operation.Long c.args.statement) c.self.invariant.code (ap operation_of c.self.view_is ∙ c.requires.next)
@@ -36,7 +36,7 @@ invariant_of-self c =
 pub returns-in-Err-clause-step : goal.returns-in-Err-clause-step
 returns-in-Err-clause-step c name n bs stands =
     let i = c.self.inside in
-    let v : Coded = record { state = record { phase = i.phase; hand = i.hand; registers = i.registers; steps = i.steps }; code = i.code } in
+    let v : Coded = record { state = record { phase = i.phase; current = i.current; registers = i.registers; steps = i.steps }; code = i.code } in
     let P : Coded → Type 0 = λ o. OpensTo c.args.number bs name n c.args.server c.args.service c.args.donation o o c.args.slots.now c.open.new.slots
     (done (Err c.in-Err.wrong)) in
     subst P c.self.view_is
@@ -48,8 +48,9 @@ returns-in-Err-clause-step c name n bs stands =
 pub returns-in-Ok-clause-step : goal.returns-in-Ok-clause-step
 returns-in-Ok-clause-step c name number bs stands =
     let i = c.self.inside in
-    let v : Coded = record { state = record { phase = i.phase; hand = i.hand; registers = i.registers; steps = i.steps }; code = i.code } in
-    let n : Coded = record { state = record { phase = phase.Blocked; hand = i.hand; registers = c.advance.new.self; steps = i.steps + 1 }; code = i.code } in
+    let v : Coded = record { state = record { phase = i.phase; current = i.current; registers = i.registers; steps = i.steps }; code = i.code } in
+    let n : Coded = record { state = record { phase = phase.Blocked; current = i.current; registers = c.advance.new.self; steps = i.steps + 1 }; code = i.code }
+    in
     let to : n.state ≡ record (stepped v.state i.registers.operands) { phase = phase.Blocked } =
     ap (λ (r : Core). record n.state { registers = r }) c.advance.ensures
     ∙ ap (λ k. record (stepped v.state i.registers.operands) { phase = phase.Blocked; steps = k }) (omega arith) in

@@ -9,7 +9,7 @@ use Rattle.gq_leaf.proofs.leaf.Leaf.opens_nowhere.Goals as goal
 pub returns : goal.returns
 returns c place name n x bs s stands =
     let i = c.self.inside in
-    let v : Coded = record { state = record { phase = i.phase; hand = i.hand; registers = i.registers; steps = i.steps }; code = i.code } in
+    let v : Coded = record { state = record { phase = i.phase; current = i.current; registers = i.registers; steps = i.steps }; code = i.code } in
     let P : Coded → Type 0 = λ o. OpensNowhere x bs name o s in
     subst P c.self.view_is
     (opens_nowhere v c.self.invariant.code c.args.number place name n (ap operation_of c.self.view_is ∙ c.requires)

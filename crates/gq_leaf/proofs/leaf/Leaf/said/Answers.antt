@@ -15,13 +15,13 @@ no_end n e = cc
 pub advance-requires : goal.advance-requires
 advance-requires c =
     let i = c.self.inside in
-    let v : Coded = record { state = record { phase = i.phase; hand = i.hand; registers = i.registers; steps = i.steps }; code = i.code } in
+    let v : Coded = record { state = record { phase = i.phase; current = i.current; registers = i.registers; steps = i.steps }; code = i.code } in
     small_then v (operation.Long c.args.number) c.self.invariant.code (ap operation_of c.self.view_is ∙ c.requires.next) (no_end c.args.number) i.registers refl
 
 pub invariant_of-self : goal.invariant_of-self
 invariant_of-self c =
     let i = c.self.inside in
-    let v : Coded = record { state = record { phase = i.phase; hand = i.hand; registers = i.registers; steps = i.steps }; code = i.code } in
+    let v : Coded = record { state = record { phase = i.phase; current = i.current; registers = i.registers; steps = i.steps }; code = i.code } in
     record {
       code = c.self.invariant.code;
       inside = inside_then v (operation.Long c.args.number) c.self.invariant.code (ap operation_of c.self.view_is ∙ c.requires.next) (no_end c.args.number)
@@ -32,8 +32,8 @@ invariant_of-self c =
 pub returns-clause-step : goal.returns-clause-step
 returns-clause-step c text x bs s stands =
     let i = c.self.inside in
-    let v : Coded = record { state = record { phase = i.phase; hand = i.hand; registers = i.registers; steps = i.steps }; code = i.code } in
-    let n : Coded = record { state = record { phase = i.phase; hand = i.hand; registers = c.advance.new.self; steps = i.steps + 1 }; code = i.code } in
+    let v : Coded = record { state = record { phase = i.phase; current = i.current; registers = i.registers; steps = i.steps }; code = i.code } in
+    let n : Coded = record { state = record { phase = i.phase; current = i.current; registers = c.advance.new.self; steps = i.steps + 1 }; code = i.code } in
     let on : n.state ≡ stepped v.state i.registers.operands =
     ap (λ (r : Core). record v.state { registers = r; steps = i.steps + 1 }) c.advance.ensures
     ∙ ap (λ k. record (stepped v.state i.registers.operands) { steps = k }) (omega arith) in

@@ -1,7 +1,7 @@
 use Rattle.std.proofs.Common.{◌/◌, Some, refl, subst, sym, arith}
 use Rattle.gq_trade.specs.Trading.{IsTrading}
 use Rattle.gq_trade.specs.Trades.{IsTrades, Trades}
-use Rattle.gq_slots.specs.Slots.{Slots, thing_at, world_seen}
+use Rattle.gq_slots.specs.Slots.{Slots, content_at, world_seen}
 use Rattle.gq_slots.specs.Addresses.{offset, slot_under}
 use Rattle.gq_slots.proofs.Founds.{found_none, found_short, found_some}
 use Rattle.gq_slots.proofs.Payers.{place_live}
@@ -18,19 +18,19 @@ returns-then-from-size-clause-live c l =
     let s : Slots = c.args.slots.now in
     let t : IsTrades s.trades = subst IsTrades c.trades.ensures c.laws.ensures.trades in
     let w : IsTrading s.trades.trading = subst (λ (y : Trades). IsTrading y.trading) c.trades.ensures c.laws.ensures.trading in
-    place_live c.args.self.now s (thing_at s (slot_under c.args.leaf c.args.address)) c.args.leaf (c.args.address / 67108864) c.in_ok-spot.spot t w l
+    place_live c.args.self.now s (content_at s (slot_under c.args.leaf c.args.address)) c.args.leaf (c.args.address / 67108864) c.in_ok-spot.spot t w l
     c.requires.linked (sym c.in_ok-spot.ensures.is)
 
 pub returns-then-from-size-clause-world : goal.returns-then-from-size-clause-world
 returns-then-from-size-clause-world c f system b =
     let s : Slots = c.args.slots.now in
     let p = c.in_ok-spot.spot in
-    found_some system (world_seen f s) s (slot_under c.args.leaf c.args.address) (offset c.args.address) c.args.count (Some p) p c.thing.result refl
-    (c.in_ok-spot.ensures.world f system b) c.thing.ensures.is (c.thing.ensures.reads f) (omega (arith, c.if-from-size.true))
+    found_some system (world_seen f s) s (slot_under c.args.leaf c.args.address) (offset c.args.address) c.args.count (Some p) p c.content.result refl
+    (c.in_ok-spot.ensures.world f system b) c.content.ensures.is (c.content.ensures.reads f) (omega (arith, c.if-from-size.true))
 
 pub returns-else-from-size-clause-world : goal.returns-else-from-size-clause-world
 returns-else-from-size-clause-world c f system b =
     let s : Slots = c.args.slots.now in
     let p = c.in_ok-spot.spot in
-    found_short system (world_seen f s) s (slot_under c.args.leaf c.args.address) (offset c.args.address) c.args.count (Some p) p c.thing.result refl
-    (c.in_ok-spot.ensures.world f system b) c.thing.ensures.is (c.thing.ensures.reads f) (omega (arith, c.if-from-size.false))
+    found_short system (world_seen f s) s (slot_under c.args.leaf c.args.address) (offset c.args.address) c.args.count (Some p) p c.content.result refl
+    (c.in_ok-spot.ensures.world f system b) c.content.ensures.is (c.content.ensures.reads f) (omega (arith, c.if-from-size.false))

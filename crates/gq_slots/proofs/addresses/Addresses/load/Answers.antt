@@ -1,6 +1,6 @@
 use Rattle.std.proofs.Common.{◌≡◌, ◌∙◌, Some, ap, refl, subst}
 use Rattle.std.specs.Prelude.{slice_index}
-use Rattle.gq_contents.specs.Things.{bytes_in}
+use Rattle.gq_contents.specs.Contents.{bytes_in}
 use Rattle.gq_slots.specs.Slots.{Slots, slot_of, world_seen}
 use Rattle.gq_slots.specs.Addresses.{offset, slot_under}
 use Rattle.gq_slots.proofs.Founds.{loaded}

@@ -1,7 +1,7 @@
 use Rattle.std.proofs.Common.{[], ◌∷◌, Some, refl, subst}
-use Rattle.gq_contents.specs.Things.{put_in}
+use Rattle.gq_contents.specs.Contents.{put_in}
 use Rattle.gq_slots.specs.Slots.{Slots, slot_of, world_seen}
-use Rattle.gq_slots.specs.Calls.{Puts}
+use Rattle.gq_slots.specs.Calls.{PutsSlot}
 use Rattle.gq_slots.specs.Addresses.{offset, slot_under}
 use Rattle.gq_slots.proofs.Founds.{fits, stored}
 use Rattle.gq_slots.proofs.addresses.Addresses.store.Goals as goal
@@ -18,5 +18,5 @@ returns-then-is_own_space-clause-world c f system b t =
     let own = slot_under c.args.leaf c.args.address in
     stored system (world_seen f s) s own (offset c.args.address) 1 f c.store.new.self (c.args.value ∷ []) (Some (own, offset c.args.address)) refl
     (c.if-is_own_space.ensures.world refl f system b)
-    (subst (λ q. Puts s c.store.new.self q (put_in (offset c.args.address) (c.args.value ∷ []) (slot_of s q))) c.own_slot.ensures
+    (subst (λ q. PutsSlot s c.store.new.self q (put_in (offset c.args.address) (c.args.value ∷ []) (slot_of s q))) c.own_slot.ensures
     c.store.ensures) t

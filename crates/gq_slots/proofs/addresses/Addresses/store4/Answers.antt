@@ -1,8 +1,8 @@
 use Rattle.std.proofs.Common.{Some, refl, subst}
 use Rattle.gq_model.specs.machine.Program.{spelled}
-use Rattle.gq_contents.specs.Things.{put_in}
+use Rattle.gq_contents.specs.Contents.{put_in}
 use Rattle.gq_slots.specs.Slots.{Slots, slot_of, world_seen}
-use Rattle.gq_slots.specs.Calls.{Puts}
+use Rattle.gq_slots.specs.Calls.{PutsSlot}
 use Rattle.gq_slots.specs.Addresses.{offset, slot_under}
 use Rattle.gq_slots.proofs.Founds.{fits, stored}
 use Rattle.gq_slots.proofs.addresses.Addresses.store4.Goals as goal
@@ -19,5 +19,5 @@ returns-then-is_own_space-clause-world c f system b t =
     let own = slot_under c.args.leaf c.args.address in
     stored system (world_seen f s) s own (offset c.args.address) 4 f c.store4.new.self (spelled 4 c.args.value) (Some (own, offset c.args.address)) refl
     (c.if-is_own_space.ensures.world refl f system b)
-    (subst (λ q. Puts s c.store4.new.self q (put_in (offset c.args.address) (spelled 4 c.args.value) (slot_of s q))) c.own_slot.ensures
+    (subst (λ q. PutsSlot s c.store4.new.self q (put_in (offset c.args.address) (spelled 4 c.args.value) (slot_of s q))) c.own_slot.ensures
     c.store4.ensures) t

@@ -1,5 +1,5 @@
 use Rattle.std.proofs.Common.{[], ◌∷◌, Some, refl}
-use Rattle.gq_contents.specs.Things.{put_in}
+use Rattle.gq_contents.specs.Contents.{put_in}
 use Rattle.gq_slots.specs.Slots.{Slots, world_seen}
 use Rattle.gq_slots.specs.Addresses.{bytes_at, offset, slot_under}
 use Rattle.gq_slots.proofs.Founds.{fits, stored}

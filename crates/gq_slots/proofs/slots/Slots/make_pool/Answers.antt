@@ -1,7 +1,7 @@
 use Rattle.std.proofs.Common.{replicate, None, sym}
 use Rattle.gq_slots.proofs.Facts.{pool_none}
 use Rattle.gq_model.specs.machine.World as world
-use Rattle.gq_contents.specs.declared.thing.Thing.TheVariants as thing
+use Rattle.gq_contents.specs.declared.content.Content.TheVariants as content
 use Rattle.gq_slots.specs.Slots.{Slots}
 use Rattle.gq_slots.proofs.Answering.{at_inside, makes_beside}
 use Rattle.gq_slots.proofs.Inside.{slots_of}
@@ -10,10 +10,10 @@ use Rattle.gq_slots.proofs.slots.Slots.make_pool.Goals as goal
 pub invariant_of-self-2 : goal.invariant_of-self-2
 invariant_of-self-2 c =
     let s : Slots = slots_of c.self.inside in
-    let a = at_inside c.args.self.now s c.args.spot c.index-heap.result.now thing.Empty c.holder-holder.result c.self.view_is c.self.invariant
+    let a = at_inside c.args.self.now s c.args.spot c.index-heap.result.now content.Empty c.holder-holder.result c.self.view_is c.self.invariant
     c.requires.there c.holder-holder.ensures.is c.holder-holder.ensures.there (sym c.requires.empty) c.index-heap.ensures c.requires.paid in
     let e = c.in_ok-made.ensures in
-    (makes_beside c.args.self.now s c.make_pool.new.store c.fill.new.trades c.fill.new.own.items c.args.spot c.index-heap.result.now thing.Empty
+    (makes_beside c.args.self.now s c.make_pool.new.store c.fill.new.trades c.fill.new.own.items c.args.spot c.index-heap.result.now content.Empty
     c.in_ok-made.made (world.Pool c.args.size (replicate c.args.count None)) c.self.view_is a c.laws.ensures.trading c.requires.slot c.make_pool.ensures.rest
     (e.changes c.index-heap.result.now) e.seen (e.pays c.index-heap.result.now) (λ k. pool_none k c.args.size c.args.count) c.fill.ensures.trades
     c.fill.ensures.own).0
@@ -21,10 +21,10 @@ invariant_of-self-2 c =
 pub returns-clause-made : goal.returns-clause-made
 returns-clause-made c =
     let s : Slots = slots_of c.self.inside in
-    let a = at_inside c.args.self.now s c.args.spot c.index-heap.result.now thing.Empty c.holder-holder.result c.self.view_is c.self.invariant
+    let a = at_inside c.args.self.now s c.args.spot c.index-heap.result.now content.Empty c.holder-holder.result c.self.view_is c.self.invariant
     c.requires.there c.holder-holder.ensures.is c.holder-holder.ensures.there (sym c.requires.empty) c.index-heap.ensures c.requires.paid in
     let e = c.in_ok-made.ensures in
-    (makes_beside c.args.self.now s c.make_pool.new.store c.fill.new.trades c.fill.new.own.items c.args.spot c.index-heap.result.now thing.Empty
+    (makes_beside c.args.self.now s c.make_pool.new.store c.fill.new.trades c.fill.new.own.items c.args.spot c.index-heap.result.now content.Empty
     c.in_ok-made.made (world.Pool c.args.size (replicate c.args.count None)) c.self.view_is a c.laws.ensures.trading c.requires.slot c.make_pool.ensures.rest
     (e.changes c.index-heap.result.now) e.seen (e.pays c.index-heap.result.now) (λ k. pool_none k c.args.size c.args.count) c.fill.ensures.trades
     c.fill.ensures.own).1

@@ -1,5 +1,5 @@
 use Rattle.std.proofs.Common.{◌≡◌, length, replicate, subst, ap, ◌∙◌, arith}
-use Rattle.gq_contents.specs.declared.thing.Thing.TheVariants.{Empty}
+use Rattle.gq_contents.specs.declared.content.Content.TheVariants.{Empty}
 use Rattle.gq_slots.specs.Slots.{AreNew}
 use Rattle.gq_slots.proofs.First.{first_slots}
 use Rattle.gq_slots.proofs.slots.Slots.new.Goals as goal

@@ -1,5 +1,5 @@
 use Rattle.std.proofs.Common.{refl, sym, ◌∙◌}
-use Rattle.gq_contents.specs.declared.thing.Thing.TheVariants.{Pool}
+use Rattle.gq_contents.specs.declared.content.Content.TheVariants.{Pool}
 use Rattle.gq_trade.specs.declared.session.Spot.TheVariants.{InLeaf}
 use Rattle.gq_slots.specs.Slots.{Slots}
 use Rattle.gq_slots.proofs.Answering.{at_inside, is_among}
@@ -12,5 +12,5 @@ peek-requires-clause-kept c =
     let p = InLeaf c.args.leaf c.args.slot in
     let t = Pool c.in-Pool.pool in
     let a = at_inside c.args.self.now s p c.index.result.now t c.args.leaf c.self.view_is c.self.invariant c.requires.there refl
-    c.requires.there.0 (sym c.in-Pool.is ∙ c.own_thing-thing.ensures) c.index.ensures c.requires.paid in
+    c.requires.there.0 (sym c.in-Pool.is ∙ c.own_content-content.ensures) c.index.ensures c.requires.paid in
     is_among s p c.index.result.now t a

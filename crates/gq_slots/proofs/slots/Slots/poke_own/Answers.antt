@@ -1,7 +1,7 @@
 use Rattle.std.proofs.Common.{refl, sym, ◌∙◌}
 use Rattle.gq_model.specs.machine.Memory.{entry_with}
-use Rattle.gq_contents.specs.Things.{with_entry}
-use Rattle.gq_contents.specs.declared.thing.Thing.TheVariants.{Pool}
+use Rattle.gq_contents.specs.Contents.{with_entry}
+use Rattle.gq_contents.specs.declared.content.Content.TheVariants.{Pool}
 use Rattle.gq_trade.specs.declared.session.Spot.TheVariants.{InLeaf}
 use Rattle.gq_slots.specs.Slots.{Slots}
 use Rattle.gq_slots.proofs.Facts.{entry_same, places_entry, price_entry}
@@ -15,7 +15,7 @@ poke-requires-clause-kept c =
     let p = InLeaf c.args.leaf c.args.slot in
     let t = Pool c.in-Pool.pool in
     let a = at_inside c.args.self.now s p c.index.result.now t c.args.leaf c.self.view_is c.self.invariant c.requires.there refl
-    c.requires.there.0 (sym c.in-Pool.is ∙ c.own_thing-thing.ensures) c.index.ensures c.requires.paid in
+    c.requires.there.0 (sym c.in-Pool.is ∙ c.own_content-content.ensures) c.index.ensures c.requires.paid in
     is_among s p c.index.result.now t a
 
 pub invariant_of-self : goal.invariant_of-self
@@ -24,7 +24,7 @@ invariant_of-self c =
     let p = InLeaf c.args.leaf c.args.slot in
     let t = Pool c.in-Pool.pool in
     let a = at_inside c.args.self.now s p c.index.result.now t c.args.leaf c.self.view_is c.self.invariant c.requires.there refl
-    c.requires.there.0 (sym c.in-Pool.is ∙ c.own_thing-thing.ensures) c.index.ensures c.requires.paid in
+    c.requires.there.0 (sym c.in-Pool.is ∙ c.own_content-content.ensures) c.index.ensures c.requires.paid in
     let e = c.poke.ensures in
     (stays c.args.self.now s c.poke.new.store p c.index.result.now t
     (with_entry c.args.index (λ n. entry_with c.args.offset c.args.value)) c.self.view_is a
@@ -37,7 +37,7 @@ returns-clause-put c so =
     let p = InLeaf c.args.leaf c.args.slot in
     let t = Pool c.in-Pool.pool in
     let a = at_inside c.args.self.now s p c.index.result.now t c.args.leaf c.self.view_is c.self.invariant c.requires.there refl
-    c.requires.there.0 (sym c.in-Pool.is ∙ c.own_thing-thing.ensures) c.index.ensures c.requires.paid in
+    c.requires.there.0 (sym c.in-Pool.is ∙ c.own_content-content.ensures) c.index.ensures c.requires.paid in
     let e = c.poke.ensures in
     (stays c.args.self.now s c.poke.new.store p c.index.result.now t
     (with_entry c.args.index (λ n. entry_with c.args.offset c.args.value)) c.self.view_is a

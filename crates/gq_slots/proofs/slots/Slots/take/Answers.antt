@@ -6,24 +6,24 @@ use Rattle.gq_slots.proofs.slots.Slots.take.Goals as goal
 pub take-requires-clause-kept : goal.take-requires-clause-kept
 take-requires-clause-kept c =
     let s : Slots = slots_of c.self.inside in
-    let a = at_inside c.args.self.now s c.args.spot c.index_mut.result.now c.thing-thing.result c.holder-holder.result c.self.view_is c.self.invariant
-    c.requires.there c.holder-holder.ensures.is c.holder-holder.ensures.there c.thing-thing.ensures.is c.index_mut.ensures.value c.requires.paid in
-    is_among s c.args.spot c.index_mut.result.now c.thing-thing.result a
+    let a = at_inside c.args.self.now s c.args.spot c.index_mut.result.now c.content-content.result c.holder-holder.result c.self.view_is c.self.invariant
+    c.requires.there c.holder-holder.ensures.is c.holder-holder.ensures.there c.content-content.ensures.is c.index_mut.ensures.value c.requires.paid in
+    is_among s c.args.spot c.index_mut.result.now c.content-content.result a
 
 pub invariant_of-self : goal.invariant_of-self
 invariant_of-self c =
     let s : Slots = slots_of c.self.inside in
-    let a = at_inside c.args.self.now s c.args.spot c.index_mut.result.now c.thing-thing.result c.holder-holder.result c.self.view_is c.self.invariant
-    c.requires.there c.holder-holder.ensures.is c.holder-holder.ensures.there c.thing-thing.ensures.is c.index_mut.ensures.value c.requires.paid in
+    let a = at_inside c.args.self.now s c.args.spot c.index_mut.result.now c.content-content.result c.holder-holder.result c.self.view_is c.self.invariant
+    c.requires.there c.holder-holder.ensures.is c.holder-holder.ensures.there c.content-content.ensures.is c.index_mut.ensures.value c.requires.paid in
     let e = c.take.ensures in
-    (takes c.args.self.now s c.take.new.store c.args.spot c.index_mut.result.now c.take.new.heap c.thing-thing.result c.args.index c.holder-holder.result
+    (takes c.args.self.now s c.take.new.store c.args.spot c.index_mut.result.now c.take.new.heap c.content-content.result c.args.index c.holder-holder.result
     c.take.result c.self.view_is a c.laws.ensures.trading c.holder-holder.ensures.is e.rest e.changes e.seen e.added e.pays e.raises e.there e.err).0
 
 pub returns-clause-taken : goal.returns-clause-taken
 returns-clause-taken c =
     let s : Slots = slots_of c.self.inside in
-    let a = at_inside c.args.self.now s c.args.spot c.index_mut.result.now c.thing-thing.result c.holder-holder.result c.self.view_is c.self.invariant
-    c.requires.there c.holder-holder.ensures.is c.holder-holder.ensures.there c.thing-thing.ensures.is c.index_mut.ensures.value c.requires.paid in
+    let a = at_inside c.args.self.now s c.args.spot c.index_mut.result.now c.content-content.result c.holder-holder.result c.self.view_is c.self.invariant
+    c.requires.there c.holder-holder.ensures.is c.holder-holder.ensures.there c.content-content.ensures.is c.index_mut.ensures.value c.requires.paid in
     let e = c.take.ensures in
-    (takes c.args.self.now s c.take.new.store c.args.spot c.index_mut.result.now c.take.new.heap c.thing-thing.result c.args.index c.holder-holder.result
+    (takes c.args.self.now s c.take.new.store c.args.spot c.index_mut.result.now c.take.new.heap c.content-content.result c.args.index c.holder-holder.result
     c.take.result c.self.view_is a c.laws.ensures.trading c.holder-holder.ensures.is e.rest e.changes e.seen e.added e.pays e.raises e.there e.err).1

@@ -1,7 +1,7 @@
 use Rattle.std.proofs.Common.{◌<◌, length, sym, subst, arith}
 use Rattle.gq_trade.specs.Trading.{IsTrading}
 use Rattle.gq_trade.specs.Trades.{IsLive, IsTrades, Trades}
-use Rattle.gq_slots.specs.Slots.{Slots, thing_at, world_seen}
+use Rattle.gq_slots.specs.Slots.{Slots, content_at, world_seen}
 use Rattle.gq_statements.specs.internal.Found.{IsFound}
 use Rattle.gq_statements.proofs.Founds.{found_bytes, found_others}
 use Rattle.gq_statements.proofs.Spots.{place_live}
@@ -11,13 +11,13 @@ pub bytes_spot-requires-clause-linked : goal.bytes_spot-requires-clause-linked
 bytes_spot-requires-clause-linked c =
     let s : Slots = c.args.slots.now in
     let lt : c.args.self.leaf < length s.own = omega (arith, c.laws.ensures.leaves, c.requires.live.there) in
-    c.requires.linked c.in_ok-named.named (c.in_ok-named.ensures.there s lt c.requires.place c.requires.hand).0
+    c.requires.linked c.in_ok-named.named (c.in_ok-named.ensures.there s lt c.requires.place c.requires.current).0
 
 pub returns-in_err-count-clause-found : goal.returns-in_err-count-clause-found
 returns-in_err-count-clause-found c f d h b =
     subst (λ o. IsFound d (world_seen f c.args.slots.now) c.args.place c.args.slots.now o) (sym c.from_residual-in_err-count.ensures)
-    (found_others d c.args.self f c.args.slots.now c.args.addresses.now c.args.place h b c.in_ok-named.named c.in_ok-spot.spot c.thing.result
-    c.byte_count.result c.in_ok-named.ensures.is c.in_ok-spot.ensures.world c.thing.ensures.reads c.byte_count.ensures c.in_err-count.was)
+    (found_others d c.args.self f c.args.slots.now c.args.addresses.now c.args.place h b c.in_ok-named.named c.in_ok-spot.spot c.content.result
+    c.byte_count.result c.in_ok-named.ensures.is c.in_ok-spot.ensures.world c.content.ensures.reads c.byte_count.ensures c.in_err-count.was)
 
 pub returns-clause-live : goal.returns-clause-live
 returns-clause-live c =
@@ -26,11 +26,11 @@ returns-clause-live c =
     let w : IsTrading s.trades.trading = subst (λ (y : Trades). IsTrading y.trading) c.trades.ensures c.laws-2.ensures.trading in
     let lt : c.args.self.leaf < length s.own = omega (arith, c.laws.ensures.leaves, c.requires.live.there) in
     let named = c.in_ok-named.named in
-    let at = c.in_ok-named.ensures.there s lt c.requires.place c.requires.hand in
-    place_live c.args.addresses.now s (thing_at s named) named c.in_ok-spot.spot t w (subst (IsLive s.trades) (sym at.1) c.requires.live)
+    let at = c.in_ok-named.ensures.there s lt c.requires.place c.requires.current in
+    place_live c.args.addresses.now s (content_at s named) named c.in_ok-spot.spot t w (subst (IsLive s.trades) (sym at.1) c.requires.live)
     (c.requires.linked named at.0) (sym c.in_ok-spot.ensures.is)
 
 pub returns-clause-found : goal.returns-clause-found
 returns-clause-found c f d h b =
-    found_bytes d c.args.self f c.args.slots.now c.args.addresses.now c.args.place h b c.in_ok-named.named c.in_ok-spot.spot c.thing.result
-    c.in_ok-count.count c.in_ok-named.ensures.is c.in_ok-spot.ensures.world c.thing.ensures.reads c.thing.ensures.is c.in_ok-count.ensures
+    found_bytes d c.args.self f c.args.slots.now c.args.addresses.now c.args.place h b c.in_ok-named.named c.in_ok-spot.spot c.content.result
+    c.in_ok-count.count c.in_ok-named.ensures.is c.in_ok-spot.ensures.world c.content.ensures.reads c.content.ensures.is c.in_ok-count.ensures

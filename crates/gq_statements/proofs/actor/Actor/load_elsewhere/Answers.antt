@@ -1,7 +1,7 @@
 use Rattle.std.proofs.Common.{◌+◌, sym, ap, ◌∙◌}
 use Rattle.std.specs.Prelude.{slice_range}
 use Rattle.gq_model.specs.machine.Program.{bytes_of, little}
-use Rattle.gq_contents.specs.Things.{bytes_in}
+use Rattle.gq_contents.specs.Contents.{bytes_in}
 use Rattle.gq_slots.specs.Slots.{Slots, world_seen}
 use Rattle.gq_slots.proofs.Payers.{slot_then}
 use Rattle.gq_statements.proofs.Moves.{load_none, load_short, load_some}

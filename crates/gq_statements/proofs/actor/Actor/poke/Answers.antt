@@ -1,8 +1,8 @@
 use Rattle.std.proofs.Common.{refl, subst}
 use Rattle.gq_model.specs.machine.Memory.{entry_with}
-use Rattle.gq_contents.specs.Things.{with_entry}
+use Rattle.gq_contents.specs.Contents.{with_entry}
 use Rattle.gq_slots.specs.Slots.{Slots, slot_of, world_seen}
-use Rattle.gq_slots.specs.Calls.{Puts}
+use Rattle.gq_slots.specs.Calls.{PutsSlot}
 use Rattle.gq_statements.proofs.Entries.{low_byte, poke_none, poke_past, poke_short, poke_some, test_false, test_true}
 use Rattle.gq_statements.proofs.actor.Actor.poke.Goals as goal
 
@@ -26,8 +26,8 @@ pub returns-clause-step : goal.returns-clause-step
 returns-clause-step c f d rest h we e =
     let s : Slots = c.args.slots.now in
     let p = c.in-Some.spot in
-    let puts : Puts s c.poke.new.self p (with_entry c.args.index (λ n. entry_with c.args.offset c.args.value) (slot_of s p)) =
-    subst (Puts s c.poke.new.self p) (low_byte c.args.value c.args.offset c.args.index (slot_of s p)) c.poke.ensures in
+    let puts : PutsSlot s c.poke.new.self p (with_entry c.args.index (λ n. entry_with c.args.offset c.args.value) (slot_of s p)) =
+    subst (PutsSlot s c.poke.new.self p) (low_byte c.args.value c.args.offset c.args.index (slot_of s p)) c.poke.ensures in
     poke_some d c.args.place s p c.in-Some.size c.in-Some.count c.in-Some.ensures.count (world_seen f s)
     (c.in-Some.ensures.found f d h) c.args.value c.args.offset c.args.index rest we e f c.poke.new.self c.if-index-count.false
     (test_true c.args.offset c.in-Some.size c.if-offset-size.false) refl c.in-Some.ensures.slot puts

@@ -1,6 +1,6 @@
 use Rattle.std.proofs.Common.{◌≡◌, Some, sym, subst, ap, ◌∙◌}
 use Rattle.gq_model.specs.machine.World.{Pool}
-use Rattle.gq_contents.specs.Things.{seen}
+use Rattle.gq_contents.specs.Contents.{seen}
 use Rattle.gq_slots.specs.Slots.{Slots, holder, memory_of, world_seen}
 use Rattle.gq_statements.specs.internal.Found.{IsPool, entries_in}
 use Rattle.gq_statements.proofs.Entries.{pool_others, pool_seen, pool_some}
@@ -10,23 +10,23 @@ pub returns-in_err-size-clause-found : goal.returns-in_err-size-clause-found
 returns-in_err-size-clause-found c f d h =
     let s : Slots = c.args.slots.now in
     subst (λ o. IsPool d (world_seen f s) c.args.place s o) (sym c.from_residual-in_err-size.ensures)
-    (pool_others d c.args.self (world_seen f s) c.args.place s h c.in_ok-spot.spot c.thing.result c.in_ok-spot.ensures.is (c.thing.ensures.reads f)
+    (pool_others d c.args.self (world_seen f s) c.args.place s h c.in_ok-spot.spot c.content.result c.in_ok-spot.ensures.is (c.content.ensures.reads f)
     (sym c.in_err-size.was ∙ c.entries.ensures))
 
 pub returns-clause-reads : goal.returns-clause-reads
 returns-clause-reads c f =
     let s : Slots = c.args.slots.now in
-    c.thing.ensures.reads f ∙ ap (λ t. Some (seen (memory_of s (holder s c.in_ok-spot.spot)) t)) c.thing.ensures.is
+    c.content.ensures.reads f ∙ ap (λ t. Some (seen (memory_of s (holder s c.in_ok-spot.spot)) t)) c.content.ensures.is
 
 pub returns-clause-slot : goal.returns-clause-slot
 returns-clause-slot c =
     let s : Slots = c.args.slots.now in
     let st = memory_of s (holder s c.in_ok-spot.spot) in
-    subst (λ t. seen st t ≡ Pool c.in_ok-size.size (entries_in (seen st t))) c.thing.ensures.is
-    (pool_seen st c.thing.result c.in_ok-size.size c.in_ok-size.count c.in_ok-size.ensures)
+    subst (λ t. seen st t ≡ Pool c.in_ok-size.size (entries_in (seen st t))) c.content.ensures.is
+    (pool_seen st c.content.result c.in_ok-size.size c.in_ok-size.count c.in_ok-size.ensures)
 
 pub returns-clause-found : goal.returns-clause-found
 returns-clause-found c f d h =
     let s : Slots = c.args.slots.now in
-    pool_some d c.args.self (world_seen f s) c.args.place s h c.in_ok-spot.spot c.thing.result c.in_ok-size.size c.in_ok-size.count c.in_ok-spot.ensures.is
-    (c.thing.ensures.reads f) c.thing.ensures.is c.in_ok-size.ensures
+    pool_some d c.args.self (world_seen f s) c.args.place s h c.in_ok-spot.spot c.content.result c.in_ok-size.size c.in_ok-size.count c.in_ok-spot.ensures.is
+    (c.content.ensures.reads f) c.content.ensures.is c.in_ok-size.ensures

@@ -1,8 +1,8 @@
 use Rattle.std.proofs.Common.{refl, sym, ◌∙◌}
 use Rattle.gq_model.specs.machine.Program.{bytes_of, spelled}
-use Rattle.gq_contents.specs.Things.{put_in}
+use Rattle.gq_contents.specs.Contents.{put_in}
 use Rattle.gq_slots.specs.Slots.{Slots, slot_of, world_seen}
-use Rattle.gq_slots.specs.Calls.{Puts}
+use Rattle.gq_slots.specs.Calls.{PutsSlot}
 use Rattle.gq_slots.proofs.Payers.{changed}
 use Rattle.gq_statements.proofs.Moves.{store_none, store_short, store_some}
 use Rattle.gq_statements.proofs.actor.Actor.store_elsewhere.Goals as goal
@@ -22,7 +22,7 @@ pub returns-clause-step : goal.returns-clause-step
 returns-clause-step c f d rest h b we e =
     let s : Slots = c.args.slots.now in
     let p = c.in-Some.spot in
-    let puts : Puts s c.pay_by-2.new.self p (put_in c.args.index (spelled (bytes_of c.args.width) c.args.value) (slot_of s p)) =
+    let puts : PutsSlot s c.pay_by-2.new.self p (put_in c.args.index (spelled (bytes_of c.args.width) c.args.value) (slot_of s p)) =
     changed s c.pay_by.new.self c.write_number.new.slots c.pay_by-2.new.self c.holder-payer.result c.args.self.leaf p
     (put_in c.args.index (spelled (bytes_of c.args.width) c.args.value)) c.requires.paid c.pay_by.ensures c.write_number.ensures c.pay_by-2.ensures in
     store_some d c.args.width c.args.place s (world_seen f s) c.args.value c.args.index rest we e f c.pay_by-2.new.self p c.in-Some.count refl
@@ -32,7 +32,7 @@ pub returns-clause-beside : goal.returns-clause-beside
 returns-clause-beside c =
     let s : Slots = c.args.slots.now in
     let p = c.in-Some.spot in
-    let puts : Puts s c.pay_by-2.new.self p (put_in c.args.index (spelled (bytes_of c.args.width) c.args.value) (slot_of s p)) =
+    let puts : PutsSlot s c.pay_by-2.new.self p (put_in c.args.index (spelled (bytes_of c.args.width) c.args.value) (slot_of s p)) =
     changed s c.pay_by.new.self c.write_number.new.slots c.pay_by-2.new.self c.holder-payer.result c.args.self.leaf p
     (put_in c.args.index (spelled (bytes_of c.args.width) c.args.value)) c.requires.paid c.pay_by.ensures c.write_number.ensures c.pay_by-2.ensures in
     puts.rest

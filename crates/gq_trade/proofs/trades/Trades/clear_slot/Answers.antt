@@ -1,7 +1,7 @@
 use Rattle.std.proofs.Common.{◌≡◌, sym, subst}
 use Rattle.gq_trade.specs.Trades.{Trades}
 use Rattle.gq_trade.proofs.Inside.{trades_of}
-use Rattle.gq_contents.specs.declared.thing.Thing.TheVariants.{Empty}
+use Rattle.gq_contents.specs.declared.content.Content.TheVariants.{Empty}
 use Rattle.gq_trade.specs.Numbers.{IsTaken}
 use Rattle.gq_trade.proofs.Kept.{slot_kept}
 use Rattle.gq_trade.proofs.trades.Trades.clear_slot.Goals as goal

@@ -3,7 +3,7 @@ use Rattle.std.proofs.Common.{◌-◌, [], Result, Ok, Err, refl, ap, sym, subst
 use Rattle.std.specs.Io.KnownBytes.{Appends}
 use Rattle.std.proofs.lemmas.Result.{err_from_is_err_and}
 use Rattle.gq_model.specs.declared.fault.Wrong.{Wrong}
-use Rattle.gq_machine.specs.Bursts.{Tells, lines_of, told_to}
+use Rattle.gq_machine.specs.Bursts.{OutputsLines, lines_of, output_to}
 use Rattle.gq_machine.specs.declared.event.Event.{Event}
 use Rattle.gq_machine.specs.declared.event.Event.TheVariants as events
 use Rattle.gq_machine.proofs.Resting.{no_line_in}
@@ -26,9 +26,9 @@ unreachable-requires g c =
     let n = c.args.count - t.result.1 in
     let lines = t.new.lines.bytes in
     let wrong = c.in-Err.field-0 in
-    let told = subst (λ (r : Result Event Wrong). Tells m.scenario x n m.world t.new.self.world r lines) c.in-Err.is t.ensures.told in
+    let told = subst (λ (r : Result Event Wrong). OutputsLines m.scenario x n m.world t.new.self.world r lines) c.in-Err.is t.ensures.told in
     never_wrong c.accepted_laws.ensures.promises c.accepted_laws.ensures.kept m.scenario m.world x n
-    (told_to x (Err wrong) lines t.new.self.world []) (x, wrong) (told []) refl c.self.invariant.stands
+    (output_to x (Err wrong) lines t.new.self.world []) (x, wrong) (told []) refl c.self.invariant.stands
 
 pub invariant_of-self : goal.invariant_of-self
 invariant_of-self g c =
@@ -39,7 +39,7 @@ invariant_of-self g c =
     let lines = t.new.lines.bytes in
     kept_told c.accepted_laws.ensures.promises c.accepted_laws.ensures.kept m.scenario t.new.self.scenario m.world t.new.self.world
     c.self.inside.budgets.items x n c.in-Ok.event lines t.ensures.scenario
-    (subst (λ (r : Result Event Wrong). Tells m.scenario x n m.world t.new.self.world r lines) c.in-Ok.is t.ensures.told) c.self.invariant
+    (subst (λ (r : Result Event Wrong). OutputsLines m.scenario x n m.world t.new.self.world r lines) c.in-Ok.is t.ensures.told) c.self.invariant
 
 pub invariant_of-self-in-Idle : goal.invariant_of-self-in-Idle
 invariant_of-self-in-Idle g c =
@@ -50,7 +50,7 @@ invariant_of-self-in-Idle g c =
     let lines = t.new.lines.bytes in
     kept_told c.accepted_laws.ensures.promises c.accepted_laws.ensures.kept m.scenario t.new.self.scenario m.world t.new.self.world
     c.self.inside.budgets.items x n c.in-Ok.event lines t.ensures.scenario
-    (subst (λ (r : Result Event Wrong). Tells m.scenario x n m.world t.new.self.world r lines) c.in-Ok.is t.ensures.told) c.self.invariant
+    (subst (λ (r : Result Event Wrong). OutputsLines m.scenario x n m.world t.new.self.world r lines) c.in-Ok.is t.ensures.told) c.self.invariant
 
 pub returns-in_err-write_lines-in-Line-clause-cut : goal.returns-in_err-write_lines-in-Line-clause-cut
 returns-in_err-write_lines-in-Line-clause-cut g c =
@@ -63,8 +63,8 @@ returns-in_err-write_lines-in-Line-clause-cut g c =
     let lines = t.new.lines.bytes in
     let a = g.W.Write.contents c.args.out.now.writer in
     let b = g.W.Write.contents w.new.out.writer in
-    let one = subst (λ (r : Result Event Wrong). Tells m.scenario x n m.world t.new.self.world r lines) c.in-Ok.is t.ensures.told in
-    let told = subst (λ (e : Event). Tells m.scenario x n m.world t.new.self.world (Ok e) lines) c.in-Line.is one in
+    let one = subst (λ (r : Result Event Wrong). OutputsLines m.scenario x n m.world t.new.self.world r lines) c.in-Ok.is t.ensures.told in
+    let told = subst (λ (e : Event). OutputsLines m.scenario x n m.world t.new.self.world (Ok e) lines) c.in-Line.is one in
     let seen = told_seen m.scenario m.world t.new.self.world w.new.self.world old x n events.Line lines (ap (λ z. z.scenario) c.self.view_is)
     (ap (λ z. z.world) c.self.view_is) w.ensures.world told in
     let p = err_from_is_err_and c.from_residual.result c.from_residual.ensures.1 in
@@ -82,7 +82,7 @@ returns-in-Idle g c =
     let same = ap (λ w. w.scenario) c.self.view_is in
     let event = c.in-Ok.event in
     let new : World = record { scenario = t.new.self.scenario; world = t.new.self.world; stopped = c.self.inside.stopped } in
-    let told = subst (λ (r : Result Event Wrong). Tells m.scenario x n m.world t.new.self.world r lines) c.in-Ok.is t.ensures.told in
+    let told = subst (λ (r : Result Event Wrong). OutputsLines m.scenario x n m.world t.new.self.world r lines) c.in-Ok.is t.ensures.told in
     let seen = told_seen m.scenario m.world t.new.self.world t.new.self.world old x n event lines same (ap (λ w. w.world) c.self.view_is) refl told in
     let nothing = subst (Appends a a) (sym (no_lines event lines (no_line_in event c.in-Idle.is))) (appends_nothing a) in
     record {

@@ -1,0 +1,378 @@
+// What a slot holds.
+ghost use Rattle.std.specs.Prelude.{◌≡◌, ◌<◌, ◌≤◌, ◌*◌};
+ghost use Rattle.gq_tariff.specs.Prices.{up};
+
+use gq_heap::{Heap, Place};
+use gq_pool::Pool;
+use gq_sliced::{SliceNo, Sliced};
+use gq_store::{ByteStore, ChunkNo, GrowFault};
+use gq_tariff::price::PAGE;
+use gq_tariff::round_up;
+
+/// What a slot holds: nothing, memory with where it lies and its size in bytes, or the number of a session, which is no memory.
+#[derive(Clone, Copy)]
+pub enum Content {
+    /// Nothing.
+    Empty,
+    /// A block of the heap.
+    Block(Place, u32),
+    /// A slice.
+    Slice(SliceNo, u32),
+    /// A space: a chunk of its own.
+    Space(ChunkNo, u32),
+    /// A pool.
+    Pool(Pool),
+    /// A session that is open.
+    Link(u32),
+    /// A session of which a reply is awaited.
+    Waiting(u32),
+}
+
+impl Content {
+    ghost use Rattle.std.specs.Prelude.{◌≡◌, ◌<◌, ◌≤◌, ◌+◌, ◌*◌, ◌↔◌, [], ◌∷◌, Some, None, IfOk, OnErr, IsErrOf, IsTrue, false, replicate};
+    ghost use Rattle.std.specs.Prelude.{slice_index, slice_range};
+    ghost use Rattle.gq_tariff.specs.Prices.{up};
+    ghost use Rattle.gq_model.specs.declared.program.Form.TheVariants as form;
+    ghost use Rattle.gq_model.specs.machine.World as world;
+    ghost use Rattle.gq_model.specs.machine.Program.{little, spelled};
+    ghost use Rattle.gq_heap.specs.Heap.{rise, peaks};
+    ghost use Rattle.gq_store.specs.Store.{one_more};
+    ghost use Rattle.gq_contents.specs.declared.content.Content.TheVariants as content;
+    ghost use Rattle.gq_contents.specs.Contents.{IsSlice, seen, shape_of, size_of, bytes_in, put_in, entry_count, entry_size, entry_in, with_entry, added};
+    ghost use Rattle.gq_contents.specs.Contents.{removed};
+    ghost use Rattle.gq_model.specs.machine.Memory.{entry_byte, entry_with};
+    ghost use Rattle.gq_contents.specs.Kept.{IsAmong, Changes};
+    ghost use Rattle.gq_contents.specs.Paid.{Pays, Raises};
+
+    /// Whether it is nothing.
+    pub fn is_empty(&self) -> bool
+        ensures { IsTrue result ↔ (self.now ≡ content.Empty) }
+    {
+        match *self {
+            Content::Empty => true,
+            Content::Block(_, _)
+            | Content::Slice(_, _)
+            | Content::Space(_, _)
+            | Content::Pool(_)
+            | Content::Link(_)
+            | Content::Waiting(_) => false,
+        }
+    }
+
+    /// How many bytes it has that can be read and written: of a space those of its whole pages.
+    pub fn size(&self) -> u64
+        ensures { result ≡ size_of self.now }
+    {
+        match *self {
+            Content::Block(_, size) | Content::Slice(_, size) => u64::from(size),
+            Content::Space(_, size) => round_up(u64::from(size)),
+            Content::Empty | Content::Pool(_) | Content::Link(_) | Content::Waiting(_) => 0,
+        }
+    }
+
+    /// The bytes of an entry and how many entries there are, where it is a pool.
+    pub fn entries(&self) -> Option<(u32, u32)>
+        ensures { result ≡ shape_of self.now }
+    {
+        match *self {
+            Content::Pool(pool) => Some((pool.size(), pool.count())),
+            Content::Empty
+            | Content::Block(_, _)
+            | Content::Slice(_, _)
+            | Content::Space(_, _)
+            | Content::Link(_)
+            | Content::Waiting(_) => None,
+        }
+    }
+
+    /// The byte at an index.
+    #[inline(always)]
+    pub fn load<S: ByteStore>(&self, store: &S, heap: &Heap, index: u32) -> u8
+        requires kept { IsAmong heap.now (S.state store.now) self.now }
+        requires inside { index < size_of self.now }
+        ensures { result ≡ slice_index (bytes_in (seen (S.state store.now) self.now)) index }
+    {
+        match *self {
+            Content::Block(place, _) => heap.load(store, place, index),
+            Content::Slice(slice, _) => Sliced.load(store, slice, index),
+            Content::Space(chunk, _) => store.load(chunk, index),
+            Content::Empty | Content::Pool(_) | Content::Link(_) | Content::Waiting(_) =>
+                unreachable!(),
+        }
+    }
+
+    /// The number in the four bytes from an index on, the lowest first.
+    #[inline(always)]
+    pub fn load4<S: ByteStore>(&self, store: &S, heap: &Heap, index: u32) -> u32
+        requires kept { IsAmong heap.now (S.state store.now) self.now }
+        requires inside { index + 4 ≤ size_of self.now }
+        ensures { result ≡ little (slice_range (bytes_in (seen (S.state store.now) self.now)) index (index + 4)) }
+    {
+        match *self {
+            Content::Block(place, _) => heap.load4(store, place, index),
+            Content::Slice(slice, _) => Sliced.load4(store, slice, index),
+            Content::Space(chunk, _) => store.load4(chunk, index),
+            Content::Empty | Content::Pool(_) | Content::Link(_) | Content::Waiting(_) =>
+                unreachable!(),
+        }
+    }
+
+    /// Sets the byte at an index.
+    #[inline(always)]
+    pub fn store<S: ByteStore>(&self, store: &mut S, heap: &Heap, index: u32, value: u8)
+        requires kept { IsAmong heap.now (S.state store.old) self.now }
+        requires inside { index < size_of self.now }
+        ensures changes { Changes heap.now heap.now (S.state store.old) (S.state store.new) self.now self.now }
+        ensures seen { seen (S.state store.new) self.now ≡ put_in index (value ∷ []) (seen (S.state store.old) self.now) }
+        ensures left { (S.state store.new).left ≡ (S.state store.old).left }
+        ensures caps { (S.state store.new).caps ≡ (S.state store.old).caps }
+        ensures rest { S.same_rest store.old store.new }
+    {
+        match *self {
+            Content::Block(place, _) => heap.store(store, place, index, value),
+            Content::Slice(slice, _) => Sliced.store(store, slice, index, value),
+            Content::Space(chunk, _) => store.store(chunk, index, value),
+            Content::Empty | Content::Pool(_) | Content::Link(_) | Content::Waiting(_) =>
+                unreachable!(),
+        }
+    }
+
+    /// Writes a number to the four bytes from an index on, the lowest first.
+    #[inline(always)]
+    pub fn store4<S: ByteStore>(&self, store: &mut S, heap: &Heap, index: u32, value: u32)
+        requires kept { IsAmong heap.now (S.state store.old) self.now }
+        requires inside { index + 4 ≤ size_of self.now }
+        ensures changes { Changes heap.now heap.now (S.state store.old) (S.state store.new) self.now self.now }
+        ensures seen { seen (S.state store.new) self.now ≡ put_in index (spelled 4 value) (seen (S.state store.old) self.now) }
+        ensures left { (S.state store.new).left ≡ (S.state store.old).left }
+        ensures caps { (S.state store.new).caps ≡ (S.state store.old).caps }
+        ensures rest { S.same_rest store.old store.new }
+    {
+        match *self {
+            Content::Block(place, _) => heap.store4(store, place, index, value),
+            Content::Slice(slice, _) => Sliced.store4(store, slice, index, value),
+            Content::Space(chunk, _) => store.store4(chunk, index, value),
+            Content::Empty | Content::Pool(_) | Content::Link(_) | Content::Waiting(_) =>
+                unreachable!(),
+        }
+    }
+
+    /// A new slice of `size` bytes, which read 0.
+    ///
+    /// Refused as `Exceeded` where the bytes of its pages can't be paid, else as `CapsExceeded` where there is no capability left; then nothing has
+    /// changed.
+    pub fn make_slice<S: ByteStore>(store: &mut S, size: u32) -> Result<Content, GrowFault>
+        requires { size ≤ 67108864 }
+        ensures changes { IfOk result (λ t. (heap : Heap) → Changes heap heap (S.state store.old) (S.state store.new) content.Empty t) }
+        ensures seen { IfOk result (λ t. seen (S.state store.new) t ≡ world.Bytes form.Slice size (replicate size 0)) }
+        ensures size { IfOk result (λ t. size_of t ≡ size) }
+        ensures pays { IfOk result (λ t. (heap : Heap) → Pays heap heap (S.state store.old) (S.state store.new) content.Empty t) }
+        ensures exceeded { IsErrOf result GrowFault.Exceeded ↔ ((S.state store.old).left < up (size + 32)) }
+        ensures none { IsErrOf result GrowFault.CapsExceeded ↔ ((up (size + 32) ≤ (S.state store.old).left) × ((S.state store.old).caps ≡ Some 0)) }
+        ensures err { OnErr result (store.new ≡ store.old) }
+        ensures rest { S.same_rest store.old store.new }
+    {
+        let slice = Sliced.alloc(store, size)?;
+        Ok(Content::Slice(slice, size))
+    }
+
+    /// A new space of `size` bytes in whole pages, which read 0.
+    ///
+    /// Refused as `Exceeded` where the bytes of its pages can't be paid, else as `CapsExceeded` where there is no capability left; then nothing has
+    /// changed.
+    pub fn make_space<S: ByteStore>(store: &mut S, size: u32) -> Result<Content, GrowFault>
+        requires { (1 ≤ size) × (size ≤ 67108864) }
+        ensures changes { IfOk result (λ t. (heap : Heap) → Changes heap heap (S.state store.old) (S.state store.new) content.Empty t) }
+        ensures seen { IfOk result (λ t. seen (S.state store.new) t ≡ world.Bytes form.Space size (replicate (up size) 0)) }
+        ensures size { IfOk result (λ t. size_of t ≡ up size) }
+        ensures pays { IfOk result (λ t. (heap : Heap) → Pays heap heap (S.state store.old) (S.state store.new) content.Empty t) }
+        ensures exceeded { IsErrOf result GrowFault.Exceeded ↔ ((S.state store.old).left < up size) }
+        ensures none { IsErrOf result GrowFault.CapsExceeded ↔ ((up size ≤ (S.state store.old).left) × ((S.state store.old).caps ≡ Some 0)) }
+        ensures err { OnErr result (store.new ≡ store.old) }
+        ensures rest { S.same_rest store.old store.new }
+    {
+        let chunk = store.grow(pages_of(size))?;
+        Ok(Content::Space(chunk, size))
+    }
+
+    /// A new block of `size` bytes, which read 0.
+    ///
+    /// Refused as `Exceeded` where the price of the heap must rise by more than can be paid, else as `CapsExceeded` where it must rise and there is no
+    /// capability left; then nothing has changed.
+    pub fn make_block<S: ByteStore>(
+        store: &mut S,
+        heap: &mut Heap,
+        size: u32,
+    ) -> Result<Content, GrowFault>
+        requires size { (1 ≤ size) × (size ≤ 67108864) }
+        requires kept { IsAmong heap.old (S.state store.old) content.Empty }
+        ensures changes { IfOk result (λ t. Changes heap.old heap.new (S.state store.old) (S.state store.new) content.Empty t) }
+        ensures seen { IfOk result (λ t. seen (S.state store.new) t ≡ world.Bytes form.Block size (replicate size 0)) }
+        ensures size { IfOk result (λ t. size_of t ≡ size) }
+        ensures pays { IfOk result (λ t. Pays heap.old heap.new (S.state store.old) (S.state store.new) content.Empty t) }
+        ensures paid { IfOk result (λ t. (S.state store.new).left + rise heap.old size ≡ (S.state store.old).left) }
+        ensures raises { IfOk result (λ t. Raises heap.old heap.new (S.state store.old) (S.state store.new) content.Empty t) }
+        ensures exceeded { IsErrOf result GrowFault.Exceeded ↔ ((S.state store.old).left < rise heap.old size) }
+        ensures none { IsErrOf result GrowFault.CapsExceeded
+            ↔ ((0 < rise heap.old size) × (rise heap.old size ≤ (S.state store.old).left) × ((S.state store.old).caps ≡ Some 0)) }
+        ensures err { OnErr result ((heap.new ≡ heap.old) × (store.new ≡ store.old)) }
+        ensures rest { S.same_rest store.old store.new }
+    {
+        let place = heap.alloc(store, size)?;
+        Ok(Content::Block(place, size))
+    }
+
+    /// A new pool of `count` entries of `size` bytes, each absent.
+    ///
+    /// Refused as `Exceeded` where the bytes of its table can't be paid, else as `CapsExceeded` where there is no capability left; then nothing has
+    /// changed.
+    pub fn make_pool<S: ByteStore>(
+        store: &mut S,
+        size: u32,
+        count: u32,
+    ) -> Result<Content, GrowFault>
+        requires size { (1 ≤ size) × (size ≤ 2048) }
+        requires count { (1 ≤ count) × (count ≤ 1024) }
+        ensures changes { IfOk result (λ t. (heap : Heap) → Changes heap heap (S.state store.old) (S.state store.new) content.Empty t) }
+        ensures seen { IfOk result (λ t. seen (S.state store.new) t ≡ world.Pool size (replicate count None)) }
+        ensures entries { IfOk result (λ t. (entry_count t ≡ count) × (entry_size t ≡ size)) }
+        ensures pays { IfOk result (λ t. (heap : Heap) → Pays heap heap (S.state store.old) (S.state store.new) content.Empty t) }
+        ensures exceeded { IsErrOf result GrowFault.Exceeded ↔ ((S.state store.old).left < up (4 * count)) }
+        ensures none { IsErrOf result GrowFault.CapsExceeded ↔ ((up (4 * count) ≤ (S.state store.old).left) × ((S.state store.old).caps ≡ Some 0)) }
+        ensures err { OnErr result (store.new ≡ store.old) }
+        ensures rest { S.same_rest store.old store.new }
+    {
+        let pool = Pool::new(store, size, count)?;
+        Ok(Content::Pool(pool))
+    }
+
+    /// Adds an entry of a pool, whose bytes read 0, and says whether it did: not where it was there.
+    ///
+    /// Refused as `Exceeded` where the price of the heap must rise by more than can be paid, else as `CapsExceeded` where it must rise and there is no
+    /// capability left; then nothing has changed.
+    pub fn take<S: ByteStore>(
+        &self,
+        store: &mut S,
+        heap: &mut Heap,
+        index: u32,
+    ) -> Result<bool, GrowFault>
+        requires kept { IsAmong heap.old (S.state store.old) self.now }
+        requires inside { index < entry_count self.now }
+        ensures changes { IfOk result (λ b. Changes heap.old heap.new (S.state store.old) (S.state store.new) self.now self.now) }
+        ensures seen { IfOk result (λ b. seen (S.state store.new) self.now ≡ with_entry index added (seen (S.state store.old) self.now)) }
+        ensures added { IfOk result (λ b. IsTrue b ↔ (entry_in index (seen (S.state store.old) self.now) ≡ None)) }
+        ensures pays { IfOk result (λ b. Pays heap.old heap.new (S.state store.old) (S.state store.new) self.now self.now) }
+        ensures raises { IfOk result (λ b. entry_in index (seen (S.state store.old) self.now) ≡ None
+            → Raises heap.old heap.new (S.state store.old) (S.state store.new) self.now self.now) }
+        ensures there { IfOk result (λ b. b ≡ false → (heap.new ≡ heap.old) × (S.state store.new ≡ S.state store.old)) }
+        ensures exceeded { IsErrOf result GrowFault.Exceeded
+            ↔ ((entry_in index (seen (S.state store.old) self.now) ≡ None) × ((S.state store.old).left < rise heap.old (entry_size self.now))) }
+        ensures none { IsErrOf result GrowFault.CapsExceeded
+            ↔ ((entry_in index (seen (S.state store.old) self.now) ≡ None) × (0 < rise heap.old (entry_size self.now))
+            × (rise heap.old (entry_size self.now) ≤ (S.state store.old).left) × ((S.state store.old).caps ≡ Some 0)) }
+        ensures err { OnErr result ((heap.new ≡ heap.old) × (store.new ≡ store.old)) }
+        ensures rest { S.same_rest store.old store.new }
+    {
+        let pool = self.pool();
+        pool.take(store, heap, index)
+    }
+
+    /// Removes an entry of a pool, and says whether it did: not where it was absent. Its place is free again, and its page stays the heap's, and paid.
+    #[inline(always)]
+    pub fn give<S: ByteStore>(&self, store: &mut S, heap: &mut Heap, index: u32) -> bool
+        requires kept { IsAmong heap.old (S.state store.old) self.now }
+        requires inside { index < entry_count self.now }
+        ensures changes { Changes heap.old heap.new (S.state store.old) (S.state store.new) self.now self.now }
+        ensures seen { seen (S.state store.new) self.now ≡ with_entry index removed (seen (S.state store.old) self.now) }
+        ensures absent { (result ≡ false) ↔ (entry_in index (seen (S.state store.old) self.now) ≡ None) }
+        ensures pays { Pays heap.old heap.new (S.state store.old) (S.state store.new) self.now self.now }
+        ensures peaks { peaks heap.new ≡ peaks heap.old }
+        ensures rest { S.same_rest store.old store.new }
+    {
+        let pool = self.pool();
+        pool.give(store, heap, index)
+    }
+
+    /// The byte of an entry of a pool, 0 where the entry is absent.
+    #[inline(always)]
+    pub fn peek<S: ByteStore>(&self, store: &S, heap: &Heap, index: u32, offset: u32) -> u8
+        requires kept { IsAmong heap.now (S.state store.now) self.now }
+        requires inside { (index < entry_count self.now) × (offset < entry_size self.now) }
+        ensures { result ≡ entry_byte (entry_in index (seen (S.state store.now) self.now)) offset }
+    {
+        let pool = self.pool();
+        pool.load(store, heap, index, offset)
+    }
+
+    /// Sets the byte of an entry of a pool; where the entry is absent nothing is done.
+    #[inline(always)]
+    pub fn poke<S: ByteStore>(&self, store: &mut S, heap: &Heap, index: u32, offset: u32, value: u8)
+        requires kept { IsAmong heap.now (S.state store.old) self.now }
+        requires inside { (index < entry_count self.now) × (offset < entry_size self.now) }
+        ensures changes { Changes heap.now heap.now (S.state store.old) (S.state store.new) self.now self.now }
+        ensures seen { seen (S.state store.new) self.now ≡ with_entry index (λ n. entry_with offset value) (seen (S.state store.old) self.now) }
+        ensures left { (S.state store.new).left ≡ (S.state store.old).left }
+        ensures caps { (S.state store.new).caps ≡ (S.state store.old).caps }
+        ensures rest { S.same_rest store.old store.new }
+    {
+        let pool = self.pool();
+        pool.store(store, heap, index, offset, value);
+    }
+
+    // The pool that it is.
+    fn pool(&self) -> Pool
+        requires { 0 < entry_count self.now }
+        ensures { self.now ≡ content.Pool result }
+    {
+        match *self {
+            Content::Pool(pool) => pool,
+            Content::Empty
+            | Content::Block(_, _)
+            | Content::Slice(_, _)
+            | Content::Space(_, _)
+            | Content::Link(_)
+            | Content::Waiting(_) => unreachable!(),
+        }
+    }
+
+    /// Makes the memory of a slice free, which lies in no heap.
+    pub fn free_slice<S: ByteStore>(&self, store: &mut S)
+        requires { IsSlice (S.state store.old) self.now }
+        ensures changes { (heap : Heap) → Changes heap heap (S.state store.old) (S.state store.new) self.now content.Empty }
+        ensures pays { (heap : Heap) → Pays heap heap (S.state store.old) (S.state store.new) self.now content.Empty }
+        ensures back { (S.state store.new).left ≡ (S.state store.old).left + up (size_of self.now + 32) }
+        ensures caps { (S.state store.new).caps ≡ one_more (S.state store.old).caps }
+        ensures rest { S.same_rest store.old store.new }
+    {
+        let Content::Slice(slice, _) = *self else {
+            unreachable!();
+        };
+        Sliced.free(store, slice);
+    }
+
+    /// Makes its memory free. Pages of classes stay the heap's, and paid.
+    pub fn free<S: ByteStore>(&self, store: &mut S, heap: &mut Heap)
+        requires kept { IsAmong heap.old (S.state store.old) self.now }
+        ensures changes { Changes heap.old heap.new (S.state store.old) (S.state store.new) self.now content.Empty }
+        ensures pays { Pays heap.old heap.new (S.state store.old) (S.state store.new) self.now content.Empty }
+        ensures peaks { peaks heap.new ≡ peaks heap.old }
+        ensures rest { S.same_rest store.old store.new }
+    {
+        match *self {
+            Content::Empty | Content::Link(_) | Content::Waiting(_) => {}
+            Content::Block(place, _) => heap.free(store, place),
+            Content::Slice(slice, _) => Sliced.free(store, slice),
+            Content::Space(chunk, _) => store.shrink(chunk),
+            Content::Pool(pool) => pool.end(store, heap),
+        }
+    }
+}
+
+/// How many pages a space takes.
+fn pages_of(size: u32) -> u32
+    requires { (1 ≤ size) × (size ≤ 67108864) }
+    ensures price { result * 4096 ≡ up size }
+    ensures few { (0 < result) × (result ≤ 16384) }
+{
+    size.div_ceil(PAGE as u32)
+}
