@@ -1,0 +1,286 @@
+// What is known of a document: a tree of keys, elements and tables, each with its places.
+use std::alloc::{AllocError, Global};
+use std::collections::BTreeMap;
+
+/// One step of a path into a document: to a key of a table, or to an element of an array, numbered from 0.
+#[derive(Clone, Copy, Debug, PartialEq, Eq, Drop)]
+pub enum Step<'p> {
+    Key(&'p str),
+    Index(usize),
+}
+
+/// The number of the document's own table.
+pub(crate) const ROOT: usize = 0;
+
+/// Where something stands, as offsets into the text.
+#[derive(Clone, Copy, Debug, PartialEq, Eq)]
+pub(crate) struct Spot {
+    /// Its key, where that is written first; of an element where this begins.
+    pub key: usize,
+    /// Its value; of a table or an element of an array of tables the header.
+    pub value: usize,
+}
+
+// A key, an element or a table, and what stands below it.
+#[derive(Drop)]
+struct Node {
+    spot: Spot,
+    below: Below,
+}
+
+#[derive(Drop)]
+enum Below {
+    Nothing,
+    /// The keys of a table, with the numbers of their nodes.
+    Keys(BTreeMap<String, usize>),
+    /// The elements of an array that are tables or arrays, in order, with their numbers.
+    Elements(Vec<Element>),
+}
+
+#[derive(Clone, Copy, Drop)]
+struct Element {
+    index: usize,
+    node: usize,
+}
+
+/// What a new node holds.
+#[derive(Clone, Copy, PartialEq, Eq)]
+pub(crate) enum Kind {
+    Scalar,
+    Table,
+    Array,
+}
+
+/// What a value belongs to: a key of a table, with its name and its offset, or an element of an array.
+#[derive(Drop)]
+pub(crate) enum Owner {
+    Key(usize, String, usize),
+    Element(usize, usize),
+}
+
+/// The nodes of a document, each by its number, the document's own table first.
+#[derive(Drop)]
+pub(crate) struct Tree {
+    alloc: Global,
+    nodes: Vec<Node>,
+}
+
+impl Tree {
+    /// A document without keys.
+    pub fn new(alloc: Global) -> Result<Tree, AllocError> {
+        let mut tree = Tree {
+            alloc,
+            nodes: Vec::new(alloc),
+        };
+        tree.add(Kind::Table, Spot { key: 0, value: 0 })?;
+        Ok(tree)
+    }
+
+    // A node that nothing leads to yet.
+    fn add(&mut self, kind: Kind, spot: Spot) -> Result<usize, AllocError> {
+        let number = self.nodes.len();
+        let below = match kind {
+            Kind::Scalar => Below::Nothing,
+            Kind::Table => Below::Keys(BTreeMap::new(self.alloc)),
+            Kind::Array => Below::Elements(Vec::new(self.alloc)),
+        };
+        self.nodes.push(Node { spot, below })?;
+        Ok(number)
+    }
+
+    // A new key of a table. In what is no table nothing leads to it.
+    fn add_key(
+        &mut self,
+        table: usize,
+        name: String,
+        kind: Kind,
+        spot: Spot,
+    ) -> Result<usize, AllocError> {
+        let number = self.add(kind, spot)?;
+        if let Some(
+            Node {
+                below: Below::Keys(keys),
+                ..
+            },
+        ) = self.nodes.get_mut(table)
+        {
+            keys.insert(name, number)?;
+        }
+        Ok(number)
+    }
+
+    // A new element of an array, after those that it has.
+    fn add_element(
+        &mut self,
+        array: usize,
+        index: usize,
+        kind: Kind,
+        spot: Spot,
+    ) -> Result<usize, AllocError> {
+        let number = self.add(kind, spot)?;
+        if let Some(
+            Node {
+                below: Below::Elements(elements),
+                ..
+            },
+        ) = self.nodes.get_mut(array)
+        {
+            elements.push(Element {
+                index,
+                node: number,
+            })?;
+        }
+        Ok(number)
+    }
+
+    /// The table of a key that a header or a dotted key goes through, made where there is none.
+    pub fn through(&mut self, table: usize, name: String, spot: Spot) -> Result<usize, AllocError> {
+        match self.key(table, name.as_str()) {
+            Some(node) => Ok(self.last_of(node)),
+            None => self.add_key(table, name, Kind::Table, spot),
+        }
+    }
+
+    /// The table of a header in brackets, which may have been gone through before.
+    pub fn own_header(
+        &mut self,
+        table: usize,
+        name: String,
+        spot: Spot,
+    ) -> Result<usize, AllocError> {
+        match self.key(table, name.as_str()) {
+            Some(node) => {
+                self.set_value(node, spot.value);
+                Ok(node)
+            }
+            None => self.add_key(table, name, Kind::Table, spot),
+        }
+    }
+
+    /// The table of a header in double brackets: one more element of its array.
+    pub fn next_element(
+        &mut self,
+        table: usize,
+        name: String,
+        spot: Spot,
+    ) -> Result<usize, AllocError> {
+        let array = match self.key(table, name.as_str()) {
+            Some(node) => node,
+            None => self.add_key(table, name, Kind::Array, spot)?,
+        };
+        let index = self.count(array);
+        self.add_element(array, index, Kind::Table, spot)
+    }
+
+    /// Notes where a value stands. An element that is neither a table nor an array is not noted.
+    pub fn note(&mut self, owner: Owner, kind: Kind, at: usize) -> Result<usize, AllocError> {
+        match owner {
+            Owner::Key(table, name, key) => self.add_key(
+                table,
+                name,
+                kind,
+                Spot { key, value: at },
+            ),
+            Owner::Element(array, _) if kind == Kind::Scalar => Ok(array),
+            Owner::Element(array, index) => self.add_element(
+                array,
+                index,
+                kind,
+                Spot { key: at, value: at },
+            ),
+        }
+    }
+
+    // A table that was only gone through gets a header of its own.
+    fn set_value(&mut self, number: usize, value: usize) {
+        if let Some(node) = self.nodes.get_mut(number) {
+            node.spot.value = value;
+        }
+    }
+
+    /// Where a node stands.
+    pub fn spot(&self, number: usize) -> Spot {
+        match self.nodes.get(number) {
+            Some(node) => node.spot,
+            None => Spot { key: 0, value: 0 },
+        }
+    }
+
+    /// Whether a node is a table.
+    pub fn is_table(&self, number: usize) -> bool {
+        match self.nodes.get(number) {
+            Some(node) => matches!(node.below, Below::Keys(_)),
+            None => false,
+        }
+    }
+
+    // The node of a key in a table.
+    fn key(&self, table: usize, name: &str) -> Option<usize> {
+        match self.nodes.get(table) {
+            Some(
+                Node {
+                    below: Below::Keys(keys),
+                    ..
+                },
+            ) => keys.get(name).copied(),
+            _ => None,
+        }
+    }
+
+    // The node of an element of an array.
+    fn element(&self, array: usize, index: usize) -> Option<usize> {
+        let Some(
+            Node {
+                below: Below::Elements(elements),
+                ..
+            },
+        ) = self.nodes.get(array)
+        else {
+            return None;
+        };
+        match elements
+            .as_slice()
+            .binary_search_by_key(&index, |element| element.index)
+        {
+            Ok(place) => elements.get(place).map(|element| element.node),
+            Err(_) => None,
+        }
+    }
+
+    // How many elements of an array are known.
+    fn count(&self, array: usize) -> usize {
+        match self.nodes.get(array) {
+            Some(
+                Node {
+                    below: Below::Elements(elements),
+                    ..
+                },
+            ) => elements.len(),
+            _ => 0,
+        }
+    }
+
+    /// The node that a step leads to.
+    pub fn below(&self, number: usize, step: Step<'_>) -> Option<usize> {
+        match step {
+            Step::Key(name) => self.key(number, name),
+            Step::Index(index) => self.element(number, index),
+        }
+    }
+
+    // The table that a header goes on from: the last element of an array of tables, and any other node itself.
+    fn last_of(&self, number: usize) -> usize {
+        match self.nodes.get(number) {
+            Some(
+                Node {
+                    below: Below::Elements(elements),
+                    ..
+                },
+            ) => match elements.last() {
+                Some(element) => element.node,
+                None => number,
+            },
+            _ => number,
+        }
+    }
+}
