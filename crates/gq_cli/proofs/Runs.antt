@@ -11,13 +11,13 @@ use Rattle.gq_model.specs.texts.Turns.{turned}
 use Rattle.gq_init.specs.TurnReading.{Reading, answer}
 use Rattle.gq_load.specs.Load.{loaded}
 use Rattle.gq_world.specs.Headline.{Upholding, WritesPromised}
-use Rattle.gq_world.specs.Whole.{refused_with, run_written, turn_fault_text, whole_of, with_scenario, written_turns}
+use Rattle.gq_world.specs.Whole.{refused_with, run_written, turn_fault_text, with_scenario, written_turns}
 use Rattle.gq_world.specs.internal.Going.{turns_written}
 use Rattle.gq_model.specs.declared.fault.TurnFault.{TurnFault}
 use Rattle.gq_world.specs.Outcomes.{GivesOf, run_fault_text}
 use Rattle.gq_world.specs.declared.fault.RunFault.{RunFault}
 use Rattle.gq_world.specs.declared.fault.RunFault.TheVariants as faults
-use Rattle.gq_world.proofs.Whole.{load_is, promised, written_is}
+use Rattle.gq_world.proofs.Whole.{load_is, promised}
 use Rattle.gq_cli.specs.Ends.{Ended, IsKnown, IsUnread}
 use Rattle.gq_cli.specs.Executed.{ReadsText, Run_of}
 use Rattle.gq_cli.specs.declared.execute.Fault.{Fault}
@@ -97,11 +97,7 @@ module _ (scenario : List ℕ) (s : Scenario) (load : loaded scenario ≡ Ok s) 
 
   pub ended_as : {A : Type 0} (text : List ℕ) (r : Result A Fault) (before after : Option (List ℕ)) → EndsAs s text r before after
       → Ended r before after (Run_of scenario text)
-  ended_as text (Ok u) before after h = record {
-    text = whole_of s h.taken;
-    given = written_is scenario text s s h.taken load refl h.reads;
-    written = h.written;
-  }
+  ended_as text (Ok u) before after h = record { text = h.text; given = runs text ∙ h.given; written = h.written }
   ended_as text (Err (Refused line)) before after h = runs text ∙ h
   ended_as text (Err Memory) before after h = absurd h
   ended_as text (Err Read) before after h = absurd h
@@ -110,5 +106,5 @@ module _ (scenario : List ℕ) (s : Scenario) (load : loaded scenario ≡ Ok s) 
   pub promised_as : {A : Type 0} (r : Result A Fault) (old new before after : Option (List ℕ)) → IsAccepted s → Upholding s
       → (IsKnown r → ReadsText old new (λ text. EndsAs s text r before after)) → OnOk r (ReadsText old new (λ text. WritesPromised scenario text before after))
   promised_as (Ok u) old new before after accepted upheld h =
-      reads_by old new (λ text w. promised scenario text s s w.taken before after load refl w.reads accepted upheld w.written) (h (tt {0}))
+      reads_by old new (λ text w. promised scenario text s before after load accepted upheld w) (h (tt {0}))
   promised_as (Err f) old new before after accepted upheld h = tt

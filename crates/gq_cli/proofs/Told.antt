@@ -1,14 +1,16 @@
 -- Why a command was not done, by why what it calls was not.
-use Rattle.std.proofs.Common.{◌≡◌, ◌≢◌, ◌∙◌, List, ℕ, Option, Err, refl, ap, sym, subst}
+use Rattle.std.proofs.Common.{◌≡◌, ◌≢◌, ◌∙◌, List, ℕ, Option, Result, Err, refl, ap, sym, subst}
 use Rattle.std.specs.Prelude.{string_bytes}
 use Rattle.gq_model.specs.declared.fault.TurnFault.{TurnFault}
 use Rattle.gq_model.specs.machine.Scenario.{Scenario, components}
 use Rattle.gq_model.specs.texts.Turns.{turned}
-use Rattle.gq_world.specs.Outcomes.{GivesOf, IsBefore, IsCutShort, IsFaultOf, run_fault_text}
+use Rattle.gq_init.specs.declared.counted.Counted.{Counted}
+use Rattle.gq_init.specs.Counts.{written_to}
+use Rattle.gq_world.specs.Outcomes.{GivesOf, IsBefore, IsCutShort, IsFaultOf, WritesAs, run_fault_text}
 use Rattle.gq_world.specs.Whole.{Written, refused_with, run_written}
 use Rattle.gq_world.specs.declared.fault.RunFault.{RunFault}
 use Rattle.gq_world.specs.declared.fault.RunFault.TheVariants as faults
-use Rattle.gq_cli.specs.Ends.{Ended, IsKnown, IsSilent, IsToldAs}
+use Rattle.gq_cli.specs.Ends.{Ended, IsKnown, IsSilent, IsToldAs, LeavesWriter}
 use Rattle.gq_cli.specs.Executed.{Asked, ReadsText, Asm_of, Check_of, IsRefusedBy, Run_of, Text_of, written_of}
 use Rattle.gq_cli.specs.declared.execute.Fault.{Fault}
 use Rattle.gq_cli.specs.declared.execute.Fault.TheVariants.{Refused, Memory, Read, Write}
@@ -29,13 +31,16 @@ refused_as (Run_of scenario turns) line e = e
 refused_as (Asm_of scenario leaf) line e = e
 refused_as (Text_of text) line e = cc e
 
-pub told_ends : (asked : Asked) (before after : Option (List ℕ)) (f : RunFault) (r : Fault) → IsToldAs f r → IsFaultOf f (written_of asked)
+ends : (asked : Asked) (before after : Option (List ℕ)) (f : RunFault) (r : Fault) → IsToldAs f r → IsFaultOf f (written_of asked)
     → (f ≡ faults.Write → IsCutShort (written_of asked) before after) → IsKnown {A = Unit {0}} (Err r) → Ended {A = Unit {0}} (Err r) before after asked
-told_ends asked before after f (Refused line) told h cut known =
+ends asked before after f (Refused line) told h cut known =
     refused_as asked (string_bytes line) (refused_line (written_of asked) f (string_bytes line) h told.0 told.1 told.2)
-told_ends asked before after f Memory told h cut known = absurd known
-told_ends asked before after f Read told h cut known = absurd known
-told_ends asked before after f Write told h cut known = cut told
+ends asked before after f Memory told h cut known = absurd known
+ends asked before after f Read told h cut known = absurd known
+ends asked before after f Write told h cut known = cut told
+
+same_fault : (a b : Fault) → ◌≡◌ {A = Result (Unit {0}) Fault} (Err a) (Err b) → a ≡ b
+same_fault a b e = cc
 
 before : (f : RunFault) → f ≢ faults.Write → IsBefore f
 before (faults.Load f) u = tt {0}
@@ -44,14 +49,29 @@ before (faults.Turns f k) u = tt {0}
 before faults.Memory u = tt {0}
 before faults.Write u = absurd (u refl)
 
-pub told_silent : (f : RunFault) (r : Fault) → IsToldAs f r → IsSilent r → IsBefore f
+told_silent : (f : RunFault) (r : Fault) → IsToldAs f r → IsSilent r → IsBefore f
 told_silent f (Refused line) told silent = before f told.1
 told_silent f Memory told silent = before f told
 told_silent f Read told silent = absurd told
 told_silent f Write told silent = absurd silent
 
-pub told_written : (f : RunFault) (r : Fault) → IsToldAs f r → r ≡ Write → f ≡ faults.Write
+told_written : (f : RunFault) (r : Fault) → IsToldAs f r → r ≡ Write → f ≡ faults.Write
 told_written f r told e = subst (IsToldAs f) e told
+
+-- what is called was not done
+
+module _ {W : Type 0} (contents : W → Option (List ℕ)) (asked : Asked) (old new : Counted W) (f : RunFault) (r : Fault) (told : IsToldAs f r)
+    (h : WritesAs {A = Unit {0}} contents (written_of asked) old new (Err f)) where
+  pub told_ends : IsKnown {A = Unit {0}} (Err r) → Ended {A = Unit {0}} (Err r) (written_to contents old) (written_to contents new) asked
+  told_ends = ends asked (written_to contents old) (written_to contents new) f r told h.refused (λ e. h.cut (ap Err e))
+
+  pub told_leaves : LeavesWriter {A = Unit {0}} old new (Err r)
+  told_leaves =
+      record {
+        counted = tt;
+        silent = λ s. h.silent (told_silent f r told s);
+        raised = λ e. h.raised (ap Err (told_written f r told (same_fault r Write e)));
+      }
 
 -- a scenario that is refused, and turns that are
 

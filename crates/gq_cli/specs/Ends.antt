@@ -1,5 +1,8 @@
 -- How a command ends before anything is told of it.
-use Rattle.std.specs.Prelude.{◌≡◌, ◌≢◌, ℕ, List, Option, Result, Ok, Err, string_bytes}
+use Rattle.std.specs.Prelude.{◌≡◌, ◌≢◌, ℕ, List, Option, Result, Ok, Err, OnOk, IfErr, string_bytes}
+use Rattle.gq_init.specs.declared.counted.Counted.{Counted}
+use Rattle.gq_init.specs.Counts.{failures_of}
+use Rattle.gq_init.specs.Writes.{IsRaised}
 use Rattle.gq_world.specs.Outcomes.{IsCutShort, IsWhole, run_fault_text}
 use Rattle.gq_world.specs.Whole.{refused_with}
 use Rattle.gq_world.specs.declared.fault.RunFault.{RunFault}
@@ -37,6 +40,12 @@ IsSilent (Refused line) = Unit {0}
 IsSilent Memory = Unit {0}
 IsSilent Read = Unit {0}
 IsSilent Write = ⊥
+
+-- what a command leaves of its writer: no failure where it was done, nothing written where no write failed, and else a failure that was counted
+pub record LeavesWriter {W A : Type 0} (old new : Counted W) (result : Result A Fault) : Type 0 where
+  pub counted : OnOk result (failures_of new ≡ failures_of old)
+  pub silent : IfErr result (λ f. IsSilent f → new ≡ old)
+  pub raised : result ≡ Err Write → IsRaised (failures_of old) (failures_of new)
 
 -- reading failed
 abbrev pub IsUnread : Fault → Type 0

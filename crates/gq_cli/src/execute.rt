@@ -6,7 +6,7 @@ ghost use Rattle.gq_world.specs.Outcomes.{GivesOf, IsCutShort, IsWhole};
 ghost use Rattle.gq_world.specs.Whole.{run_written};
 ghost use Rattle.gq_world.specs.Headline.{WritesPromised};
 ghost use Rattle.gq_command.specs.Input.{GivesAtMost};
-ghost use Rattle.gq_cli.specs.Ends.{Ended, IsKnown, IsSilent, IsToldAs};
+ghost use Rattle.gq_cli.specs.Ends.{Ended, IsKnown, IsSilent, IsToldAs, LeavesWriter};
 ghost use Rattle.gq_cli.specs.internal.Running.{RefusesAs};
 ghost use Rattle.gq_cli.specs.Executed.{Executes, IsRefusal, IsTold, IsUpheldBy, ReadsScenario, ReadsText, RunsFiles, RunsStored};
 ghost use Rattle.gq_cli.specs.Executed.{Asm_of, Check_of, Run_of, Text_of};
@@ -168,9 +168,7 @@ fn perform<R: Read, T: Read, W: Write>(
         (Ended result (written_to W.contents out.old) (written_to W.contents out.new)) }
     ensures upheld { OnOk result (Executes command.now (R.remaining scenario.old) (R.remaining scenario.new) (T.remaining turns.old) (T.remaining turns.new)
         (λ asked. IsUpheldBy asked (written_to W.contents out.old) (written_to W.contents out.new))) }
-    ensures counted { OnOk result (failures_of out.new ≡ failures_of out.old) }
-    ensures silent { IfErr result (λ f. IsSilent f → out.new ≡ out.old) }
-    ensures raised { result ≡ Err fault.Write → IsRaised (failures_of out.old) (failures_of out.new) }
+    ensures leaves { LeavesWriter out.old out.new result }
     ensures help { reads_scenario command.now ≡ false → IfErr result (λ f. f ≡ fault.Write) }
     ensures scenario_unread { reads_scenario command.now ≡ false → scenario.new ≡ scenario.old }
     ensures turns_unread { reads_turns command.now ≡ false → turns.new ≡ turns.old }
@@ -197,9 +195,7 @@ fn run_files<R: Read, T: Read, W: Write>(
         (Ended result (written_to W.contents out.old) (written_to W.contents out.new)) }
     ensures upheld { OnOk result (RunsFiles (R.remaining scenario.old) (R.remaining scenario.new) (T.remaining turns.old) (T.remaining turns.new)
         (λ asked. IsUpheldBy asked (written_to W.contents out.old) (written_to W.contents out.new))) }
-    ensures counted { OnOk result (failures_of out.new ≡ failures_of out.old) }
-    ensures silent { IfErr result (λ f. IsSilent f → out.new ≡ out.old) }
-    ensures raised { result ≡ Err fault.Write → IsRaised (failures_of out.old) (failures_of out.new) }
+    ensures leaves { LeavesWriter out.old out.new result }
     ensures scenario_most { GivesAtMost 18874369 (R.remaining scenario.old) (R.remaining scenario.new) }
     ensures turns_most { GivesAtMost 18874369 (T.remaining turns.old) (T.remaining turns.new) }
 {
@@ -218,9 +214,7 @@ fn run_reader<T: Read, W: Write>(
         Ended result (written_to W.contents out.old) (written_to W.contents out.new) (Run_of scenario.now text)) }
     ensures upheld { OnOk result (ReadsText (T.remaining turns.old) (T.remaining turns.new) (λ text.
         WritesPromised scenario.now text (written_to W.contents out.old) (written_to W.contents out.new))) }
-    ensures counted { OnOk result (failures_of out.new ≡ failures_of out.old) }
-    ensures silent { IfErr result (λ f. IsSilent f → out.new ≡ out.old) }
-    ensures raised { result ≡ Err fault.Write → IsRaised (failures_of out.old) (failures_of out.new) }
+    ensures leaves { LeavesWriter out.old out.new result }
     ensures most { GivesAtMost 18874369 (T.remaining turns.old) (T.remaining turns.new) }
 {
     match World::load(alloc, scenario) {
@@ -273,9 +267,7 @@ fn run_stored<R: Read, W: Write>(
         (Ended result (written_to W.contents out.old) (written_to W.contents out.new)) }
     ensures upheld { OnOk result (RunsStored (R.remaining stored.old) (R.remaining stored.new)
         (λ asked. IsUpheldBy asked (written_to W.contents out.old) (written_to W.contents out.new))) }
-    ensures counted { OnOk result (failures_of out.new ≡ failures_of out.old) }
-    ensures silent { IfErr result (λ f. IsSilent f → out.new ≡ out.old) }
-    ensures raised { result ≡ Err fault.Write → IsRaised (failures_of out.old) (failures_of out.new) }
+    ensures leaves { LeavesWriter out.old out.new result }
     ensures most { GivesAtMost 18874369 (R.remaining stored.old) (R.remaining stored.new) }
 {
     let input = read_input(alloc, stored)?;
@@ -292,9 +284,7 @@ fn run_texts<W: Write>(
 ) -> Result<(), Fault>
     ensures ended { IsKnown result → Ended result (written_to W.contents out.old) (written_to W.contents out.new) (Run_of scenario.now turns.now) }
     ensures upheld { OnOk result (WritesPromised scenario.now turns.now (written_to W.contents out.old) (written_to W.contents out.new)) }
-    ensures counted { OnOk result (failures_of out.new ≡ failures_of out.old) }
-    ensures silent { IfErr result (λ f. IsSilent f → out.new ≡ out.old) }
-    ensures raised { result ≡ Err fault.Write → IsRaised (failures_of out.old) (failures_of out.new) }
+    ensures leaves { LeavesWriter out.old out.new result }
 {
     match run(alloc, scenario, turns, out) {
         Ok(()) => Ok(()),
@@ -311,9 +301,7 @@ fn write_code<R: Read, W: Write>(
 ) -> Result<(), Fault>
     ensures ended { IsKnown result → ReadsScenario (R.remaining scenario.old) (R.remaining scenario.new) (λ text. Asm_of text leaf.now)
         (Ended result (written_to W.contents out.old) (written_to W.contents out.new)) }
-    ensures counted { OnOk result (failures_of out.new ≡ failures_of out.old) }
-    ensures silent { IfErr result (λ f. IsSilent f → out.new ≡ out.old) }
-    ensures raised { result ≡ Err fault.Write → IsRaised (failures_of out.old) (failures_of out.new) }
+    ensures leaves { LeavesWriter out.old out.new result }
     ensures most { GivesAtMost 18874369 (R.remaining scenario.old) (R.remaining scenario.new) }
 {
     let input = read_input(alloc, scenario)?;
@@ -328,9 +316,7 @@ fn write_code_of<W: Write>(
     out: &mut Counted<W>,
 ) -> Result<(), Fault>
     ensures ended { IsKnown result → Ended result (written_to W.contents out.old) (written_to W.contents out.new) (Asm_of scenario.now leaf.now) }
-    ensures counted { OnOk result (failures_of out.new ≡ failures_of out.old) }
-    ensures silent { IfErr result (λ f. IsSilent f → out.new ≡ out.old) }
-    ensures raised { result ≡ Err fault.Write → IsRaised (failures_of out.old) (failures_of out.new) }
+    ensures leaves { LeavesWriter out.old out.new result }
 {
     match asm(alloc, scenario, leaf, out) {
         Ok(()) => Ok(()),
@@ -346,9 +332,7 @@ fn write_budgets<R: Read, W: Write>(
 ) -> Result<(), Fault>
     ensures ended { IsKnown result → ReadsScenario (R.remaining scenario.old) (R.remaining scenario.new) Check_of
         (Ended result (written_to W.contents out.old) (written_to W.contents out.new)) }
-    ensures counted { OnOk result (failures_of out.new ≡ failures_of out.old) }
-    ensures silent { IfErr result (λ f. IsSilent f → out.new ≡ out.old) }
-    ensures raised { result ≡ Err fault.Write → IsRaised (failures_of out.old) (failures_of out.new) }
+    ensures leaves { LeavesWriter out.old out.new result }
     ensures most { GivesAtMost 18874369 (R.remaining scenario.old) (R.remaining scenario.new) }
 {
     let input = read_input(alloc, scenario)?;
@@ -362,9 +346,7 @@ fn write_budgets_of<W: Write>(
     out: &mut Counted<W>,
 ) -> Result<(), Fault>
     ensures ended { IsKnown result → Ended result (written_to W.contents out.old) (written_to W.contents out.new) (Check_of scenario.now) }
-    ensures counted { OnOk result (failures_of out.new ≡ failures_of out.old) }
-    ensures silent { IfErr result (λ f. IsSilent f → out.new ≡ out.old) }
-    ensures raised { result ≡ Err fault.Write → IsRaised (failures_of out.old) (failures_of out.new) }
+    ensures leaves { LeavesWriter out.old out.new result }
 {
     match check(alloc, scenario, out) {
         Ok(()) => Ok(()),
@@ -375,9 +357,8 @@ fn write_budgets_of<W: Write>(
 // Writes a text whole.
 fn show<W: Write>(text: &str, out: &mut Counted<W>) -> Result<(), Fault>
     ensures ended { Ended result (written_to W.contents out.old) (written_to W.contents out.new) (Text_of text.now) }
-    ensures counted { OnOk result (failures_of out.new ≡ failures_of out.old) }
     ensures fault { IfErr result (λ f. f ≡ fault.Write) }
-    ensures raised { result ≡ Err fault.Write → IsRaised (failures_of out.old) (failures_of out.new) }
+    ensures leaves { LeavesWriter out.old out.new result }
 {
     match put(out, text.as_bytes()) {
         Ok(()) => Ok(()),

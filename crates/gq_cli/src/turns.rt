@@ -1,15 +1,13 @@
 // A run over the turns of a reader, which are read piece by piece.
-ghost use Rattle.std.specs.Prelude.{◌≡◌, ◌++◌, ◌+◌, ◌^◌, ◌<◌, ◌≤◌, ℕ, List, length, false, Err, IfErr, IfOk, OnOk};
+ghost use Rattle.std.specs.Prelude.{◌≡◌, ◌++◌, ◌+◌, ◌^◌, ◌<◌, ◌≤◌, ℕ, List, length, false, IfErr, IfOk, OnOk};
 ghost use Rattle.std.specs.Io.KnownBytes.{IsAtEnd};
 ghost use Rattle.gq_model.specs.machine.Scenario.{components, system};
 ghost use Rattle.gq_model.specs.machine.World.{start};
 ghost use Rattle.gq_init.specs.TurnReading.{answer};
-ghost use Rattle.gq_init.specs.Counts.{written_to, failures_of};
-ghost use Rattle.gq_init.specs.Writes.{IsRaised};
+ghost use Rattle.gq_init.specs.Counts.{written_to};
 ghost use Rattle.gq_command.specs.Input.{GivesAtMost};
 ghost use Rattle.gq_cli.specs.Executed.{ReadsText};
-ghost use Rattle.gq_cli.specs.Ends.{IsKnown, IsSilent, IsUnread};
-ghost use Rattle.gq_cli.specs.declared.execute.Fault.TheVariants as fault;
+ghost use Rattle.gq_cli.specs.Ends.{IsKnown, IsSilent, IsUnread, LeavesWriter};
 ghost use Rattle.gq_cli.specs.internal.Running.{EndsAs, HasCome, ReadsTurns};
 
 use crate::execute::{Fault, told};
@@ -35,9 +33,7 @@ pub(crate) fn run_loaded<T: Read, W: Write>(
     requires running { world.old.stopped ≡ false }
     ensures ended { IsKnown result → ReadsText (T.remaining turns.old) (T.remaining turns.new) (λ text.
         EndsAs world.old.scenario text result (written_to W.contents out.old) (written_to W.contents out.new)) }
-    ensures counted { OnOk result (failures_of out.new ≡ failures_of out.old) }
-    ensures silent { IfErr result (λ f. IsSilent f → out.new ≡ out.old) }
-    ensures raised { result ≡ Err fault.Write → IsRaised (failures_of out.old) (failures_of out.new) }
+    ensures leaves { LeavesWriter out.old out.new result }
     ensures most { GivesAtMost 18874369 (T.remaining turns.old) (T.remaining turns.new) }
 {
     let items = read_turns(alloc, turns, world.table())?;

@@ -2,8 +2,8 @@
 ghost use Rattle.std.specs.Prelude.{◌≡◌, ◌+◌, ◌-◌, ◌^◌, ◌<◌, ◌≤◌, ℕ, length, min, IfOk, IfErr, OnOk, OnErr, MatchResult};
 ghost use Rattle.std.specs.Io.{WritesAtMost};
 ghost use Rattle.std.specs.Io.KnownBytes.{WriteAppends, Keeps, Appends};
-ghost use Rattle.gq_init.specs.Counts.{writer_of, written_to, failures_of};
-ghost use Rattle.gq_init.specs.Writes.{failures_after, IsFront, IsRaised};
+ghost use Rattle.gq_init.specs.Counts.{Writes, writer_of, written_to, failures_of};
+ghost use Rattle.gq_init.specs.Writes.{failures_after};
 
 use std::io;
 use std::io::Write;
@@ -69,10 +69,7 @@ pub struct WriteFault;
 
 /// Writes these bytes, in as many writes as it takes, up to the first that fails. Then a front of them went out.
 pub fn put<W: Write>(out: &mut Counted<W>, bytes: &[u8]) -> Result<(), WriteFault>
-    ensures written { OnOk result (Appends (written_to W.contents out.old) (written_to W.contents out.new) bytes.now) }
-    ensures counted { OnOk result (failures_of out.new ≡ failures_of out.old) }
-    ensures front { OnErr result (IsFront (written_to W.contents out.old) (written_to W.contents out.new) bytes.now) }
-    ensures raised { OnErr result (IsRaised (failures_of out.old) (failures_of out.new)) }
+    ensures { Writes W.contents out.old out.new bytes.now result }
 {
     let mut done = 0;
     while done < bytes.len() {

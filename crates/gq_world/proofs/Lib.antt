@@ -7,3 +7,4 @@ pub mod Whole
 pub mod Hexadecimal
 pub mod Free
 pub mod Checked
+pub mod Commands

@@ -12,10 +12,9 @@ use Rattle.gq_init.specs.Writes.{IsFront}
 use Rattle.gq_world.specs.Worlds.{World}
 use Rattle.gq_world.specs.internal.Going.{going, HasRun, IsCut}
 use Rattle.gq_world.specs.Lines.{accounts_by, all_accounts, accounts_text}
-use Rattle.gq_model.specs.machine.Accounts.{whole}
 use Rattle.gq_model.specs.declared.fault.TurnFault.{TurnFault}
 use Rattle.gq_model.specs.rules.Accept.{IsAccepted}
-use Rattle.gq_model.specs.texts.Turns.{turned}
+use Rattle.gq_model.specs.texts.Turns.{Turned, turned}
 use Rattle.gq_load.specs.Load.{Fault, loaded}
 use Rattle.gq_load.specs.Faults.{load_fault_text, Refuses}
 use Rattle.gq_load.specs.declared.fault.LoadFault.{LoadFault}
@@ -23,9 +22,9 @@ use Rattle.gq_load.specs.declared.fault.LoadError.TheVariants as error
 use Rattle.gq_world.specs.declared.fault.RunFault.{RunFault}
 use Rattle.gq_world.specs.declared.fault.RunFault.TheVariants.{Load, NoComponent, Turns, Memory, Write}
 use Rattle.gq_world.specs.Headline.{Upholding, WritesPromised}
-use Rattle.gq_world.specs.Outcomes.{IsFaultOf, GivesOf}
+use Rattle.gq_world.specs.Outcomes.{IsFaultOf, IsWhole, GivesOf}
 use Rattle.gq_world.specs.Whole.{Written, whole_of, refused_with, turn_fault_text, with_scenario, written_turns, run_written}
-use Rattle.gq_world.specs.internal.Going.{AreBelow}
+use Rattle.gq_world.specs.internal.Going.{AreBelow, turns_written}
 use Rattle.gq_world.proofs.Below.{AreBelowIn, turned_below}
 use Rattle.gq_init.proofs.Known.{appends_both}
 use Rattle.gq_world.proofs.Fronts.{front_by, front_after}
@@ -78,20 +77,6 @@ pub below_of : (s t : Scenario) (text : List ℕ) (turns : List (ℕ × ℕ)) �
 below_of s t text turns same e = subst (λ r. AreBelow (length (components r)) turns) same
     (subst (AreBelowIn (length (components t))) e (turned_below (components t) text))
 
--- what is written of them
-pub written_is : (scenario text : List ℕ) (s t : Scenario) (turns : List (ℕ × ℕ)) → loaded scenario ≡ Ok s → t ≡ s → turned (components t) text ≡ Ok turns
-    → run_written scenario text ≡ Ok (whole_of s turns)
-written_is scenario text s t turns load same e =
-    ap (λ l. with_scenario l (λ r. written_turns r (turned (components r) text))) load
-    ∙ (ap (λ r. written_turns s (turned (components r) text)) (sym same) ∙ ap (written_turns s) e)
-
--- turns that are refused
-pub refused_is : (scenario text : List ℕ) (s t : Scenario) (fault : TurnFault × ℕ) → loaded scenario ≡ Ok s → t ≡ s → turned (components t) text ≡ Err fault
-    → run_written scenario text ≡ Err (refused_with (turn_fault_text fault.0 fault.1))
-refused_is scenario text s t fault load same e =
-    ap (λ l. with_scenario l (λ r. written_turns r (turned (components r) text))) load
-    ∙ (ap (λ r. written_turns s (turned (components r) text)) (sym same) ∙ ap (written_turns s) e)
-
 load_by : (fault : LoadFault) (l : Result Scenario Fault) (go : Scenario → Written) → Refuses (error.Fault fault) l
     → with_scenario l go ≡ Err (refused_with (load_fault_text fault))
 load_by fault (Ok s) go h = absurd h
@@ -105,27 +90,32 @@ load_is (Turns fault line) scenario text h = absurd h
 load_is Memory scenario text h = tt
 load_is Write scenario text h = absurd h
 
--- it is no failed write
-pub not_write : (fault : RunFault) (scenario : List ℕ) → GivesOf fault scenario → fault ≡ Write → ⊥
-not_write fault scenario h e = subst (λ f. GivesOf f scenario) e h
-
 -- THE PROMISE
 
+ok_same : (a b : List ℕ) → ◌≡◌ {A = Written} (Ok a) (Ok b) → a ≡ b
+ok_same a b e = cc
+
+-- turns that were read, and what they write
+taken_of : (s : Scenario) (r : Turned) (text : List ℕ) → written_turns s r ≡ Ok text → (taken : List (ℕ × ℕ)) × (r ≡ Ok taken) × (whole_of s taken ≡ text)
+taken_of s (Ok taken) text e = (taken, refl, ok_same (whole_of s taken) text e)
+taken_of s (Err fault) text e = cc e
+
 -- what was written is promised
-pub promised : (scenario text : List ℕ) (s t : Scenario) (turns : List (ℕ × ℕ)) (before after : Option (List ℕ)) → loaded scenario ≡ Ok s → t ≡ s
-    → turned (components t) text ≡ Ok turns → IsAccepted s → Upholding s → Appends before after (whole_of s turns) → WritesPromised scenario text before after
+pub promised : (scenario text : List ℕ) (s : Scenario) (before after : Option (List ℕ)) → loaded scenario ≡ Ok s → IsAccepted s → Upholding s
+    → IsWhole (turns_written s text) before after → WritesPromised scenario text before after
 unfolding whole_of
-promised scenario text s t turns before after load same e accepted upholds written =
+promised scenario text s before after load accepted upholds w =
+    let t = taken_of s (turned (components s) text) w.text w.given in
     record {
-      text = whole s (step_budgets (budgets s)) turns;
+      text = w.text;
       promised = record {
         accepted = s;
         loads = load;
         is_accepted = accepted;
-        taken = turns;
-        reads = ap (λ r. turned (components r) text) (sym same) ∙ e;
-        writes = refl;
+        taken = t.0;
+        reads = t.1;
+        writes = sym t.2;
         upholds = upholds;
       };
-      written = written;
+      written = w.written;
     }

@@ -1,5 +1,5 @@
 -- How a command ends, by what the definition says of its texts.
-use Rattle.std.specs.Prelude.{◌≡◌, ℕ, List, ◌++◌, Option, Ok, Err, codes}
+use Rattle.std.specs.Prelude.{◌≡◌, ℕ, List, ◌++◌, Option, Result, Ok, Err, OnOk, IfErr, codes}
 use Rattle.std.specs.Io.KnownBytes.{Appends}
 use Rattle.gq_load.specs.Load.{loaded}
 use Rattle.gq_load.specs.Faults.{load_fault_text, Refuses}
@@ -7,7 +7,9 @@ use Rattle.gq_load.specs.declared.fault.LoadError.{LoadError}
 use Rattle.gq_load.specs.declared.fault.LoadError.TheVariants as error
 use Rattle.gq_world.specs.declared.fault.RunFault.{RunFault}
 use Rattle.gq_world.specs.declared.fault.RunFault.TheVariants.{Load, NoComponent, Turns, Memory, Write}
-use Rattle.gq_init.specs.Writes.{IsFront}
+use Rattle.gq_init.specs.declared.counted.Counted.{Counted}
+use Rattle.gq_init.specs.Counts.{written_to, failures_of}
+use Rattle.gq_init.specs.Writes.{IsFront, IsRaised}
 use Rattle.gq_world.specs.Whole.{Written, refused_with, turn_fault_text}
 
 -- the line that a fault prints
@@ -50,6 +52,18 @@ IsBefore (NoComponent name) = Unit {0}
 IsBefore (Turns fault line) = Unit {0}
 IsBefore Memory = Unit {0}
 IsBefore Write = ⊥
+
+-- a command writes its text as the definition says
+pub record WritesAs {W A : Type 0} (contents : W → Option (List ℕ)) (w : Written) (old new : Counted W) (result : Result A RunFault) : Type 0 where
+  -- the text of the definition was written whole, and nothing else
+  pub written : OnOk result (IsWhole w (written_to contents old) (written_to contents new))
+  pub counted : OnOk result (failures_of new ≡ failures_of old)
+  -- the fault is that of the definition; then nothing was written
+  pub refused : IfErr result (λ fault. IsFaultOf fault w)
+  pub silent : IfErr result (λ fault. IsBefore fault → new ≡ old)
+  -- a write failed, which was counted, and a front of the text was written
+  pub cut : result ≡ Err Write → IsCutShort w (written_to contents old) (written_to contents new)
+  pub raised : result ≡ Err Write → IsRaised (failures_of old) (failures_of new)
 
 -- why a scenario is not run: it is refused
 abbrev pub GivesOf : RunFault → List ℕ → Type 0

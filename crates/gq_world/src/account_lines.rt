@@ -1,12 +1,10 @@
 // The lines of all accounts.
-ghost use Rattle.std.specs.Prelude.{◌≡◌, ◌<◌, ◌≤◌, length, slice_get, IfSome, OnOk, OnErr};
-ghost use Rattle.std.specs.Io.KnownBytes.{Appends};
+ghost use Rattle.std.specs.Prelude.{◌≡◌, ◌<◌, ◌≤◌, length, slice_get, IfSome};
 ghost use Rattle.gq_model.specs.machine.Accounts.{account_line, account_lines};
 ghost use Rattle.gq_model.specs.machine.Scenario.{components};
 ghost use Rattle.gq_model.specs.rules.Accept.{step_budgets};
 ghost use Rattle.gq_resolve.specs.NodeTables.{node_rows};
-ghost use Rattle.gq_init.specs.Counts.{written_to, failures_of};
-ghost use Rattle.gq_init.specs.Writes.{IsFront, IsRaised};
+ghost use Rattle.gq_init.specs.Counts.{Writes};
 ghost use Rattle.gq_world.specs.Lines.{accounts_by};
 
 use crate::node_accounts::account_of;
@@ -48,12 +46,8 @@ pub fn write_accounts<W: Write>(
     out: &mut Counted<W>,
 ) -> Result<(), WriteFault>
     requires { length machine.now.world.leaves ≡ length (components machine.now.scenario) }
-    ensures written { OnOk result (Appends (written_to W.contents out.old) (written_to W.contents out.new)
-        (account_lines machine.now.scenario.version (accounts_by machine.now.scenario machine.now.world (step_budgets budgets.now)))) }
-    ensures counted { OnOk result (failures_of out.new ≡ failures_of out.old) }
-    ensures front { OnErr result (IsFront (written_to W.contents out.old) (written_to W.contents out.new)
-        (account_lines machine.now.scenario.version (accounts_by machine.now.scenario machine.now.world (step_budgets budgets.now)))) }
-    ensures raised { OnErr result (IsRaised (failures_of out.old) (failures_of out.new)) }
+    ensures { Writes W.contents out.old out.new
+        (account_lines machine.now.scenario.version (accounts_by machine.now.scenario machine.now.world (step_budgets budgets.now))) result }
 {
     for number in 0..account_count(machine, budgets) {
         let line = line_of(machine, budgets, NodeNo::new(number as u32));

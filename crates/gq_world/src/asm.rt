@@ -1,13 +1,10 @@
 // The code of a leaf's program.
-ghost use Rattle.std.specs.Prelude.{◌≡◌, ◌∷◌, ◌++◌, [], Ok, Err, IfOk, IfErr, None, OnOk, string_bytes};
+ghost use Rattle.std.specs.Prelude.{◌≡◌, ◌∷◌, ◌++◌, [], Ok, Err, IfOk, IfErr, None, string_bytes};
 ghost use Rattle.gq_model.specs.texts.Code.{code_of, hex_of};
 ghost use Rattle.gq_load.specs.Faults.{PrintsFault};
 ghost use Rattle.gq_load.specs.Load.{source_fault};
-ghost use Rattle.gq_init.specs.Counts.{written_to, failures_of};
-ghost use Rattle.gq_world.specs.Outcomes.{IsBefore, IsCutShort, IsFaultOf, IsWhole};
+ghost use Rattle.gq_world.specs.Outcomes.{IsBefore, IsFaultOf, WritesAs};
 ghost use Rattle.gq_world.specs.Whole.{asm_from, asm_written};
-ghost use Rattle.gq_init.specs.Writes.{IsRaised};
-ghost use Rattle.gq_world.specs.declared.fault.RunFault.TheVariants as fault;
 
 use crate::fault::RunFault;
 use gq_code::program_code::encode;
@@ -68,17 +65,7 @@ pub fn asm<'a, W: Write>(
     name: &'a str,
     out: &mut Counted<W>,
 ) -> Result<(), RunFault<'a>>
-    // The line of the definition was written whole, and nothing else.
-    ensures written { OnOk result (IsWhole (asm_written scenario.now name.now) (written_to W.contents out.old) (written_to W.contents out.new)) }
-    ensures counted { OnOk result (failures_of out.new ≡ failures_of out.old) }
-
-    // The fault is that of the definition; then nothing was written.
-    ensures refused { IfErr result (λ f. IsFaultOf f (asm_written scenario.now name.now)) }
-    ensures silent { IfErr result (λ f. IsBefore f → out.new ≡ out.old) }
-
-    // A write failed, and was counted; a front of the line went out.
-    ensures cut { result ≡ Err fault.Write → IsCutShort (asm_written scenario.now name.now) (written_to W.contents out.old) (written_to W.contents out.new) }
-    ensures raised { result ≡ Err fault.Write → IsRaised (failures_of out.old) (failures_of out.new) }
+    ensures { WritesAs W.contents (asm_written scenario.now name.now) out.old out.new result }
 {
     let scenario = match read_scenario(alloc, scenario) {
         Ok(scenario) => scenario,

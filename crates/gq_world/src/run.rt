@@ -1,15 +1,13 @@
 // Turns, one after the other.
-ghost use Rattle.std.specs.Prelude.{◌≡◌, ◌<◌, true, false, length, Err, OnOk, OnErr, IfErr};
+ghost use Rattle.std.specs.Prelude.{◌≡◌, ◌<◌, false, length, OnOk};
 ghost use Rattle.gq_model.specs.machine.Scenario.{components, system};
 ghost use Rattle.gq_model.specs.machine.Run.{turns_of, run_on};
-ghost use Rattle.std.specs.Io.KnownBytes.{Appends};
 ghost use Rattle.gq_model.specs.machine.World.{start};
-ghost use Rattle.gq_init.specs.Counts.{written_to, failures_of};
-ghost use Rattle.gq_init.specs.Writes.{IsFront, IsRaised};
-ghost use Rattle.gq_world.specs.internal.Going.{AreBelow, HasRun, HasWritten, IsCut, turns_written};
+ghost use Rattle.gq_init.specs.Counts.{Writes, written_to};
+ghost use Rattle.gq_world.specs.internal.Going.{AreBelow, RunsThrough, turns_written};
 ghost use Rattle.gq_world.specs.Whole.{run_written, whole_of};
 ghost use Rattle.gq_world.specs.Headline.{WritesPromised};
-ghost use Rattle.gq_world.specs.Outcomes.{IsBefore, IsCutShort, IsFaultOf, IsWhole};
+ghost use Rattle.gq_world.specs.Outcomes.{WritesAs};
 
 use crate::fault::RunFault;
 use crate::world::World;
@@ -31,13 +29,7 @@ pub(crate) fn take_turns<W: Write>(
 ) -> Result<(), WriteFault>
     requires leaf { leaf < length (components world.old.scenario) }
     requires running { world.old.stopped ≡ false }
-    ensures scenario { world.new.scenario ≡ world.old.scenario }
-    ensures ran { OnOk result (HasRun (turns_of (system world.old.scenario) leaf count) world.old world.new (written_to W.contents out.old)
-        (written_to W.contents out.new)) }
-    ensures counted { OnOk result (failures_of out.new ≡ failures_of out.old) }
-    ensures cut { OnErr result (IsCut (turns_of (system world.old.scenario) leaf count) world.old (written_to W.contents out.old)
-        (written_to W.contents out.new)) }
-    ensures raised { OnErr result (IsRaised (failures_of out.old) (failures_of out.new)) }
+    ensures { RunsThrough W.contents (turns_of (system world.old.scenario) leaf count) world.old world.new out.old out.new result }
 {
     let mut left = count;
     while left > 0 {
@@ -55,13 +47,7 @@ pub(crate) fn take_all<W: Write>(
 ) -> Result<(), WriteFault>
     requires leaves { AreBelow (length (components world.old.scenario)) turns.now }
     requires running { world.old.stopped ≡ false }
-    ensures scenario { world.new.scenario ≡ world.old.scenario }
-    ensures ran { OnOk result (HasRun (run_on (system world.old.scenario) turns.now) world.old world.new (written_to W.contents out.old)
-        (written_to W.contents out.new)) }
-    ensures counted { OnOk result (failures_of out.new ≡ failures_of out.old) }
-    ensures cut { OnErr result (IsCut (run_on (system world.old.scenario) turns.now) world.old (written_to W.contents out.old)
-        (written_to W.contents out.new)) }
-    ensures raised { OnErr result (IsRaised (failures_of out.old) (failures_of out.new)) }
+    ensures { RunsThrough W.contents (run_on (system world.old.scenario) turns.now) world.old world.new out.old out.new result }
 {
     for item in turns {
         take_turns(world, item.leaf(), item.count(), lines, out)?;
@@ -79,10 +65,7 @@ pub fn run_world<W: Write>(
     requires start { world.old.world ≡ start (system world.old.scenario) }
     requires leaves { AreBelow (length (components world.old.scenario)) turns.now }
     requires running { world.old.stopped ≡ false }
-    ensures written { OnOk result (Appends (written_to W.contents out.old) (written_to W.contents out.new) (whole_of world.old.scenario turns.now)) }
-    ensures counted { OnOk result (failures_of out.new ≡ failures_of out.old) }
-    ensures front { OnErr result (IsFront (written_to W.contents out.old) (written_to W.contents out.new) (whole_of world.old.scenario turns.now)) }
-    ensures raised { OnErr result (IsRaised (failures_of out.old) (failures_of out.new)) }
+    ensures { Writes W.contents out.old out.new (whole_of world.old.scenario turns.now) result }
 {
     let mut lines = Lines::new();
     take_all(world, turns, &mut lines, out)?;
@@ -98,13 +81,7 @@ fn run_turns<W: Write>(
 ) -> Result<(), RunFault<'static>>
     requires start { world.old.world ≡ start (system world.old.scenario) }
     requires running { world.old.stopped ≡ false }
-    ensures written { OnOk result (HasWritten world.old.scenario turns.now (written_to W.contents out.old) (written_to W.contents out.new)) }
-    ensures counted { OnOk result (failures_of out.new ≡ failures_of out.old) }
-    ensures refused { IfErr result (λ fault. IsFaultOf fault (turns_written world.old.scenario turns.now)) }
-    ensures silent { IfErr result (λ fault. IsBefore fault → out.new ≡ out.old) }
-    ensures cut { result ≡ Err RunFault.Write → IsCutShort (turns_written world.old.scenario turns.now) (written_to W.contents out.old)
-        (written_to W.contents out.new) }
-    ensures raised { result ≡ Err RunFault.Write → IsRaised (failures_of out.old) (failures_of out.new) }
+    ensures { WritesAs W.contents (turns_written world.old.scenario turns.now) out.old out.new result }
 {
     let turns = match read_items(alloc, turns, world.table()) {
         Ok(turns) => turns,
@@ -126,22 +103,11 @@ pub fn run<W: Write>(
     turns: &[u8],
     out: &mut Counted<W>,
 ) -> Result<(), RunFault<'static>>
-    // The whole text of the definition was written, and nothing else.
-    ensures written { OnOk result (IsWhole (run_written scenario.now turns.now) (written_to W.contents out.old) (written_to W.contents out.new)) }
+    ensures writes { WritesAs W.contents (run_written scenario.now turns.now) out.old out.new result }
 
-    // It is the text of a run that never came to a wrong step and kept every budget, and whose quotas sum to the total, as every run of the
+    // What was written is the text of a run that never came to a wrong step and kept every budget, and whose quotas sum to the total, as every run of the
     // scenario over any turns.
     ensures promised { OnOk result (WritesPromised scenario.now turns.now (written_to W.contents out.old) (written_to W.contents out.new)) }
-    ensures counted { OnOk result (failures_of out.new ≡ failures_of out.old) }
-
-    // The fault is that of the definition.
-    ensures refused { IfErr result (λ fault. IsFaultOf fault (run_written scenario.now turns.now)) }
-    ensures silent { IfErr result (λ fault. IsBefore fault → out.new ≡ out.old) }
-
-    // A write failed: a front of the text was written.
-    ensures cut { result ≡ Err RunFault.Write → IsCutShort (run_written scenario.now turns.now) (written_to W.contents out.old)
-        (written_to W.contents out.new) }
-    ensures raised { result ≡ Err RunFault.Write → IsRaised (failures_of out.old) (failures_of out.new) }
 {
     let mut world = World::load(alloc, scenario)?;
     let ran = run_turns(alloc, &mut world, turns, out);

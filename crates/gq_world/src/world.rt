@@ -1,7 +1,6 @@
 // A world: an accepted scenario that runs.
 ghost use Rattle.std.specs.Prelude.{ℕ, ◌≡◌, ◌↔◌, ◌<◌, ◌≤◌, ◌+◌, ◌-◌, ◌*◌, true, false, length, slice_get, Some, Ok, Err, IfOk, IfErr, IfSome};
 ghost use Rattle.std.specs.Prelude.{IsOk, OnOk, OnErr};
-ghost use Rattle.std.specs.Io.KnownBytes.{Appends};
 ghost use Rattle.gq_model.specs.machine.Amounts.{Ram};
 ghost use Rattle.gq_model.specs.machine.Routes.{numbered};
 ghost use Rattle.gq_model.specs.machine.Scenario.{components, system};
@@ -12,13 +11,13 @@ ghost use Rattle.gq_model.specs.rules.Accept as accept;
 ghost use Rattle.gq_resolve.specs.NodeTables.{IsNodeOf, node_rows};
 ghost use Rattle.gq_laws.specs.Stands.{Stands};
 ghost use Rattle.gq_prepared.specs.Held.{held_by_all};
-ghost use Rattle.gq_init.specs.Counts.{written_to, failures_of};
+ghost use Rattle.gq_init.specs.Counts.{Writes, written_to, failures_of};
 ghost use Rattle.gq_world.specs.Headline.{Upheld};
 ghost use Rattle.gq_init.specs.Told.{told_of};
 ghost use Rattle.gq_world.specs.Lines.{all_accounts, accounts_text};
 ghost use Rattle.gq_world.specs.Worlds.{IsTurn, StopsWriting, line_told};
 ghost use Rattle.gq_world.specs.internal.Going.{HasRun, IsCut};
-ghost use Rattle.gq_init.specs.Writes.{IsFront, IsRaised};
+ghost use Rattle.gq_init.specs.Writes.{IsRaised};
 
 use crate::account_lines::write_accounts;
 use crate::leaf_lines::write_line;
@@ -150,10 +149,7 @@ impl World {
 
     // Writes the lines of the accounts of all nodes in preorder, up to the first that is not written whole. They take no host memory.
     pub(crate) fn write_accounts<W: Write>(&self, out: &mut Counted<W>) -> Result<(), WriteFault>
-        ensures written { OnOk result (Appends (written_to W.contents out.old) (written_to W.contents out.new) (accounts_text self.now)) }
-        ensures counted { OnOk result (failures_of out.new ≡ failures_of out.old) }
-        ensures front { OnErr result (IsFront (written_to W.contents out.old) (written_to W.contents out.new) (accounts_text self.now)) }
-        ensures raised { OnErr result (IsRaised (failures_of out.old) (failures_of out.new)) }
+        ensures { Writes W.contents out.old out.new (accounts_text self.now) result }
     {
         write_accounts(&self.machine, self.budgets.as_slice(), out)
     }
@@ -254,12 +250,9 @@ impl World {
     ) -> Result<(), WriteFault>
         ensures scenario { self.new.scenario ≡ self.old.scenario }
         ensures world { self.new.world ≡ self.old.world }
-        ensures written { OnOk result (Appends (written_to W.contents out.old) (written_to W.contents out.new) lines.now.bytes) }
+        ensures writes { Writes W.contents out.old out.new lines.now.bytes result }
         ensures running { OnOk result (self.new.stopped ≡ self.old.stopped) }
-        ensures counted { OnOk result (failures_of out.new ≡ failures_of out.old) }
-        ensures front { OnErr result (IsFront (written_to W.contents out.old) (written_to W.contents out.new) lines.now.bytes) }
         ensures stopped { OnErr result (self.new.stopped ≡ true) }
-        ensures raised { OnErr result (IsRaised (failures_of out.old) (failures_of out.new)) }
     {
         match put(out, lines.as_bytes()) {
             Ok(()) => Ok(()),
@@ -281,14 +274,9 @@ impl World {
         requires text { length text.now ≤ 64 }
         ensures scenario { self.new.scenario ≡ self.old.scenario }
         ensures world { self.new.world ≡ self.old.world }
-        ensures written { OnOk result (Appends (written_to W.contents out.old) (written_to W.contents out.new)
-            (line_told self.old.scenario leaf (Line text.now))) }
+        ensures writes { Writes W.contents out.old out.new (line_told self.old.scenario leaf (Line text.now)) result }
         ensures running { OnOk result (self.new.stopped ≡ self.old.stopped) }
-        ensures counted { OnOk result (failures_of out.new ≡ failures_of out.old) }
-        ensures front { OnErr result (IsFront (written_to W.contents out.old) (written_to W.contents out.new)
-            (line_told self.old.scenario leaf (Line text.now))) }
         ensures stopped { OnErr result (self.new.stopped ≡ true) }
-        ensures raised { OnErr result (IsRaised (failures_of out.old) (failures_of out.new)) }
     {
         match write_line(self.machine.table(), leaf, text, out) {
             Ok(()) => Ok(()),

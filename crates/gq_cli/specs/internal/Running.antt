@@ -5,9 +5,9 @@ use Rattle.std.specs.declared.alloc.Global.{Global}
 use Rattle.gq_model.specs.machine.Scenario.{Component, Scenario, components}
 use Rattle.gq_model.specs.texts.Turns.{turned}
 use Rattle.gq_init.specs.TurnReading.{Reading, answer}
-use Rattle.gq_world.specs.Outcomes.{IsCutShort}
+use Rattle.gq_world.specs.Outcomes.{IsCutShort, IsWhole}
 use Rattle.gq_world.specs.Whole.{Written}
-use Rattle.gq_world.specs.internal.Going.{HasWritten, turns_written}
+use Rattle.gq_world.specs.internal.Going.{turns_written}
 use Rattle.gq_cli.specs.Executed.{ReadsText}
 use Rattle.gq_cli.specs.declared.execute.Fault.{Fault}
 use Rattle.gq_cli.specs.declared.execute.Fault.TheVariants.{Refused, Memory, Read, Write}
@@ -29,7 +29,7 @@ pub record HasCome (components : List Component) (old new : Option (List ℕ)) (
 
 -- how a run by the turns of this text ends
 abbrev pub EndsAs : Scenario → List ℕ → {A : Type 0} → Result A Fault → (before after : Option (List ℕ)) → Type 0
-EndsAs s text (Ok u) before after = HasWritten s text before after
+EndsAs s text (Ok u) before after = IsWhole (turns_written s text) before after
 EndsAs s text (Err (Refused line)) before after = turns_written s text ≡ Err (string_bytes line)
 EndsAs s text (Err Memory) before after = ⊥
 EndsAs s text (Err Read) before after = ⊥

@@ -217,8 +217,8 @@ module _ (system : System) (l m : Links) (h : AreLinked system l) (a : Is_calm l
   calm_current : (y : ℕ) (p : Phase) (g : Current) → m.stances y ≡ Some (stance p (Some g)) → l.stances y ≡ Some (stance p (Some g))
   calm_current y p g at = elim (a.stances y) [ inl e ↦ sym e ∙ at | inr e ↦ absurd (none_some (same_current (sym e.stands ∙ at))) ]
 
-  calm_current : (k y : ℕ) → at_current k (m.stances y) ≡ at_current k (l.stances y)
-  calm_current k y = elim (a.stances y) [ inl e ↦ ap (at_current k) e | inr e ↦ ap (at_current k) e.stands ∙ sym (ap (at_current k) e.stood) ]
+  calm_at : (k y : ℕ) → at_current k (m.stances y) ≡ at_current k (l.stances y)
+  calm_at k y = elim (a.stances y) [ inl e ↦ ap (at_current k) e | inr e ↦ ap (at_current k) e.stands ∙ sym (ap (at_current k) e.stood) ]
 
   calm_blocked : (y : ℕ) (g : Option Current) → m.stances y ≡ Some (stance Blocked g) → l.stances y ≡ Some (stance Blocked g)
   calm_blocked y g at = elim (a.stances y) [ inl e ↦ sym e ∙ at | inr e ↦ absurd (e.new_ne (same_phase (sym e.stands ∙ at))) ]
@@ -232,9 +232,9 @@ module _ (system : System) (l m : Links) (h : AreLinked system l) (a : Is_calm l
   calm_belongs (In_object j) x b = b
 
   calm_stands : (k : ℕ) (s : Session) → Stands l k s → Stands m k s
-  calm_stands k s (inl u) = let all : pending_of m k s ≡ pending_of l k s = (λ i. requests_of k (a.requests i) + calm_current k s.server i) in
+  calm_stands k s (inl u) = let all : pending_of m k s ≡ pending_of l k s = (λ i. requests_of k (a.requests i) + calm_at k s.server i) in
       inl (a.slots s.spot ∙ u.0, u.1, all ∙ u.2)
-  calm_stands k s (inr u) = let all : pending_of m k s ≡ pending_of l k s = (λ i. requests_of k (a.requests i) + calm_current k s.server i) in
+  calm_stands k s (inr u) = let all : pending_of m k s ≡ pending_of l k s = (λ i. requests_of k (a.requests i) + calm_at k s.server i) in
       inr (a.slots s.spot ∙ u.0, all ∙ u.1)
 
   pub calm_linked : AreLinked system m

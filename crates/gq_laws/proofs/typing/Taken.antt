@@ -95,14 +95,14 @@ module _ (promised : ℕ → Option Kind) (before : Extra) (d : Doing) (takes : 
   asked_then : section_asked d.world k old ≡ Some section
   asked_then = ap (λ o. or_first o (current_section k (slice_get d.world.leaves old.server))) n.first
 
-  current_now : current_section k (slice_get w.leaves new.server) ≡ Some section
-  current_now = ap (λ y. current_section k (slice_get w.leaves y)) (a.server ∙ n.server) ∙ (current_now k ∙ if_same)
+  current_own : current_section k (slice_get w.leaves new.server) ≡ Some section
+  current_own = ap (λ y. current_section k (slice_get w.leaves y)) (a.server ∙ n.server) ∙ (current_now k ∙ if_same)
     where
       if_same : section_if k (Some (record { session = k; section = section })) ≡ Some section
       if_same = elim (eqb_tells k k) [ inl f ↦ if_here k (record { session = k; section = section }) f.0 | inr f ↦ absurd (f.1 refl) ]
 
   asked_now : section_asked w k new ≡ Some section
-  asked_now = ap (λ o. or_first o (current_section k (slice_get w.leaves new.server))) (ap (section_waiting k new) a.requests ∙ n.none new) ∙ current_now
+  asked_now = ap (λ o. or_first o (current_section k (slice_get w.leaves new.server))) (ap (section_waiting k new) a.requests ∙ n.none new) ∙ current_own
 
   carries_own : CarriesOn d.world w k old new
   carries_own =
@@ -231,7 +231,7 @@ module _ (promised : ℕ → Option Kind) (before : Extra) (d : Doing) (takes : 
           interface = f.interface;
           known = ap (λ service. interface_in service d.system.interfaces) a.service ∙ f.known;
           level = a.level f.interface f.known;
-          rests = λ server placed none. absurd (none_some (sym none ∙ current_now));
+          rests = λ server placed none. absurd (none_some (sym none ∙ current_own));
         }
 
     else_fits : (j : ℕ) (s : Session) → j ≢ k → session_at d.world j ≡ Some s → FitsService promised d.system w j s

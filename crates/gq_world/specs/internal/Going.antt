@@ -1,11 +1,14 @@
 -- What turns do to a world, and what they write.
-use Rattle.std.specs.Prelude.{◌≡◌, ℕ, false, List, ◌++◌, Option, None, Ok}
+use Rattle.std.specs.Prelude.{◌≡◌, ℕ, false, List, ◌++◌, Option, None, Result, OnOk, OnErr}
 use Rattle.std.specs.Io.KnownBytes.{Appends}
 use Rattle.gq_model.specs.machine.World as model
 use Rattle.gq_model.specs.machine.Run.{Ran}
 use Rattle.gq_model.specs.machine.Scenario.{Scenario, components}
 use Rattle.gq_model.specs.texts.Turns.{turned}
-use Rattle.gq_world.specs.Whole.{Written, whole_of, written_turns}
+use Rattle.gq_init.specs.declared.counted.Counted.{Counted}
+use Rattle.gq_init.specs.Counts.{written_to, failures_of}
+use Rattle.gq_init.specs.Writes.{IsRaised}
+use Rattle.gq_world.specs.Whole.{Written, written_turns}
 use Rattle.gq_world.specs.Worlds.{World}
 pub use Rattle.gq_world.specs.Worlds.{AreBelow}
 
@@ -34,12 +37,15 @@ pub record IsCut (turns : Ran → Ran) (old : World) (before after : Option (Lis
   pub written : Appends before after text
   pub front : (front : List ℕ) → (turns (going old.world front)).text ≡ front ++ text ++ more front
 
+-- a world runs through turns, and what they write is written; or a write fails, which is counted, and a front of it was written
+pub record RunsThrough {W A E : Type 0} (contents : W → Option (List ℕ)) (turns : Ran → Ran) (old new : World) (before after : Counted W)
+    (result : Result A E) : Type 0 where
+  pub scenario : new.scenario ≡ old.scenario
+  pub ran : OnOk result (HasRun turns old new (written_to contents before) (written_to contents after))
+  pub counted : OnOk result (failures_of after ≡ failures_of before)
+  pub cut : OnErr result (IsCut turns old (written_to contents before) (written_to contents after))
+  pub raised : OnErr result (IsRaised (failures_of before) (failures_of after))
+
 -- what a run of this scenario by a text of turns writes, or the first fault of the turns
 abbrev pub turns_written : Scenario → List ℕ → Written
 turns_written s text = written_turns s (turned (components s) text)
-
--- the turns of the text were taken, and what they write and the accounts were written
-pub record HasWritten (s : Scenario) (text : List ℕ) (before after : Option (List ℕ)) : Type 0 where
-  pub taken : List (ℕ × ℕ)
-  pub reads : turned (components s) text ≡ Ok taken
-  pub written : Appends before after (whole_of s taken)

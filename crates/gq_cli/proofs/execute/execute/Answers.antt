@@ -10,7 +10,7 @@ returns-in-Err-Write-clause-cut g c same =
       cut_short (Unit {0}) (Executes c.args.command.now (g.R.Read.remaining c.args.scenario.now) (g.R.Read.remaining c.perform.new.scenario)
           (g.T.Read.remaining c.args.turns.now) (g.T.Read.remaining c.perform.new.turns)) c.in-Err-Write.field-0 (g.W.Write.contents c.args.out.now.writer)
           (g.W.Write.contents c.perform.new.out.writer) c.in-Err-Write.field-0-is c.in-Err-Write.ensures.ended,
-      c.perform.ensures.raised (c.in-Err-Write.is ∙ ap Err c.in-Err-Write.field-0-is),
+      c.perform.ensures.leaves.raised (c.in-Err-Write.is ∙ ap Err c.in-Err-Write.field-0-is),
     )
 
 pub returns-in-Err-Refused-clause-refused : goal.returns-in-Err-Refused-clause-refused

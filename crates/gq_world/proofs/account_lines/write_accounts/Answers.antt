@@ -5,7 +5,7 @@ use Rattle.std.specs.Io.KnownBytes.{Appends}
 use Rattle.gq_model.specs.machine.Accounts.{account_line, account_lines}
 use Rattle.gq_model.specs.rules.Accept.{step_budgets}
 use Rattle.gq_world.specs.Lines.{accounts_by}
-use Rattle.gq_init.specs.Writes.{IsFront}
+use Rattle.gq_init.specs.Writes.{IsFront, IsRaised}
 use Rattle.gq_init.proofs.Known.{appends_nothing}
 use Rattle.gq_world.proofs.Fronts.{next_line, next_front, all_lines}
 use Rattle.gq_world.proofs.account_lines.write_accounts.Goals as goal
@@ -16,8 +16,8 @@ loop-number-init g c = record { written = appends_nothing (g.W.Write.contents c.
 pub line_of-line-requires-clause-node : goal.line_of-line-requires-clause-node
 line_of-line-requires-clause-node g c = omega (arith, c.new.ensures, c.account_count-number-end.ensures.nodes, c.loop-number-test.true)
 
-pub returns-in_err-put-clause-front : goal.returns-in_err-put-clause-front
-returns-in_err-put-clause-front g c =
+pub returns-in_err-put : goal.returns-in_err-put
+returns-in_err-put g c =
     let m = c.args.machine.now in
     let all = accounts_by m.scenario m.world (step_budgets c.args.budgets.now) in
     let l = c.loop-number in
@@ -29,7 +29,12 @@ returns-in_err-put-clause-front g c =
     let less : l.number < length all = omega (arith, c.account_count-number-end.ensures.accounts, c.loop-number-test.true) in
     let here = subst (λ (n : ℕ). IfSome (slice_get all n) (λ r. line ≡ account_line m.scenario.version r)) c.new.ensures c.line_of-line.ensures in
     let h = subst (λ (t : List ℕ). IsFront b d t) c.as_slice.ensures.value c.in_err-put.ensures.front in
-    rw (p.1) (next_front m.scenario.version l.number all line less here a b d l.invariant.written h)
+    rw (p.1) (record {
+      written = tt;
+      counted = tt;
+      front = next_front m.scenario.version l.number all line less here a b d l.invariant.written h;
+      raised = subst (λ n. IsRaised n c.put.new.out.failures) l.invariant.counted c.in_err-put.ensures.raised;
+    })
 
 pub loop-number-preserved : goal.loop-number-preserved
 loop-number-preserved g c =
@@ -49,12 +54,17 @@ loop-number-preserved g c =
       counted = c.in_ok-put.ensures.counted ∙ l.invariant.counted;
     }
 
-pub returns-clause-written : goal.returns-clause-written
-returns-clause-written g c =
+pub returns : goal.returns
+returns g c =
     let m = c.args.machine.now in
     let all = accounts_by m.scenario m.world (step_budgets c.args.budgets.now) in
     let l = c.loop-number in
     let a = g.W.Write.contents c.args.out.now.writer in
     let b = g.W.Write.contents l.out.writer in
-    subst (Appends a b) (all_lines m.scenario.version l.number all
-    (omega (arith, c.account_count-number-end.ensures.accounts, c.loop-number-test.false, l.auto.number-end))) l.invariant.written
+    record {
+      written = subst (Appends a b) (all_lines m.scenario.version l.number all
+          (omega (arith, c.account_count-number-end.ensures.accounts, c.loop-number-test.false, l.auto.number-end))) l.invariant.written;
+      counted = l.invariant.counted;
+      front = tt;
+      raised = tt;
+    }

@@ -1,17 +1,17 @@
 use Rattle.std.proofs.Common.{◌≡◌, ◌∙◌, List, ℕ, Option, IfSome, ap, sym, subst}
-use Rattle.std.specs.Prelude.{slice_get, OnErr}
+use Rattle.std.specs.Prelude.{slice_get}
 use Rattle.gq_model.specs.machine.Doing as doing
 use Rattle.gq_model.specs.machine.Run.{line_of}
 use Rattle.gq_model.specs.machine.Scenario.{Component, components}
 use Rattle.gq_resolve.specs.NodeTables.{node_rows}
 use Rattle.gq_resolve.proofs.Rows.{leaf_at, label_of_node}
-use Rattle.gq_init.specs.Writes.{IsFront}
+use Rattle.gq_init.specs.Counts.{Writes}
 use Rattle.gq_world.specs.Worlds.{line_told}
 use Rattle.gq_world.proofs.Turns.{label_told}
 use Rattle.gq_world.proofs.leaf_lines.write_line.Goals as goal
 
-pub returns-clause-front : goal.returns-clause-front
-returns-clause-front g c =
+pub returns : goal.returns
+returns g c =
     let t = c.args.table.now in
     let x = c.args.leaf in
     let text = c.args.text.now in
@@ -22,6 +22,4 @@ returns-clause-front g c =
     let same = label_told (components t) x c.label.result.now c.requires.leaf told in
     let line : c.text_line-line.result.items ≡ line_told t x (doing.Line text) =
     c.text_line-line.ensures ∙ ap (λ l. line_of l (doing.Line text)) same in
-    let a = g.W.Write.contents c.args.out.now.writer in
-    let b = g.W.Write.contents c.put.new.out.writer in
-    subst (λ (l : List ℕ). OnErr c.put.result (IsFront a b l)) (c.as_slice.ensures.value ∙ line) c.put.ensures.front
+    subst (λ l. Writes g.W.Write.contents c.args.out.now c.put.new.out l c.put.result) (c.as_slice.ensures.value ∙ line) c.put.ensures

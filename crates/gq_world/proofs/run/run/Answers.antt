@@ -1,12 +1,12 @@
-use Rattle.std.proofs.Common.{◌≡◌, ap, sym, subst, refl, List, ℕ, Result, Ok, Err, ◌∙◌}
-use Rattle.std.specs.Prelude.{IfErr, OnOk}
+use Rattle.std.proofs.Common.{◌≡◌, ap, sym, subst, List, ℕ, Result, Ok, Err}
+use Rattle.std.specs.Prelude.{OnOk}
 use Rattle.gq_model.specs.machine.Scenario.{Scenario, components}
 use Rattle.gq_model.specs.texts.Turns.{turned}
 use Rattle.gq_load.specs.Load.{loaded}
 use Rattle.gq_world.specs.Headline.{WritesPromised}
-use Rattle.gq_world.specs.Outcomes.{IsFaultOf, IsWhole}
-use Rattle.gq_world.specs.internal.Going.{HasWritten, turns_written}
-use Rattle.gq_world.specs.Whole.{run_written, with_scenario, whole_of, written_turns}
+use Rattle.gq_world.specs.Outcomes.{IsWhole, WritesAs}
+use Rattle.gq_world.specs.internal.Going.{turns_written}
+use Rattle.gq_world.specs.Whole.{run_written, with_scenario, written_turns}
 use Rattle.gq_world.proofs.Whole.{promised}
 use Rattle.gq_world.proofs.run.run.Goals as goal
 
@@ -18,19 +18,10 @@ on_ok_then : {A B : Type 0} (r : Result A B) (P Q : Type 0) → (P → Q) → On
 on_ok_then (Ok a) P Q f h = f h
 on_ok_then (Err b) P Q f h = h
 
-pub returns-clause-written : goal.returns-clause-written
-returns-clause-written g c =
-    let s = c.in_ok-world.world.scenario in
-    let scenario = c.args.scenario.now in
-    let text = c.args.turns.now in
-    let a = g.W.Write.contents c.args.out.now.writer in
-    let b = g.W.Write.contents c.run_turns-ran.new.out.writer in
-    on_ok_then c.run_turns-ran.result (HasWritten s text a b) (IsWhole (run_written scenario text) a b)
-    (λ h. record {
-      text = whole_of s h.taken;
-      given = runs scenario text s c.in_ok-world.ensures.loaded ∙ ap (written_turns s) h.reads;
-      written = h.written;
-    }) c.run_turns-ran.ensures.written
+pub returns-clause-writes : goal.returns-clause-writes
+returns-clause-writes g c =
+    let same = runs c.args.scenario.now c.args.turns.now c.in_ok-world.world.scenario c.in_ok-world.ensures.loaded in
+    subst (λ w. WritesAs g.W.Write.contents w c.args.out.now c.run_turns-ran.new.out c.run_turns-ran.result) (sym same) c.run_turns-ran.ensures
 
 pub returns-clause-promised : goal.returns-clause-promised
 returns-clause-promised g c =
@@ -39,11 +30,5 @@ returns-clause-promised g c =
     let text = c.args.turns.now in
     let a = g.W.Write.contents c.args.out.now.writer in
     let b = g.W.Write.contents c.run_turns-ran.new.out.writer in
-    on_ok_then c.run_turns-ran.result (HasWritten s text a b) (WritesPromised scenario text a b)
-    (λ h. promised scenario text s s h.taken a b c.in_ok-world.ensures.loaded refl h.reads c.in_ok-world.ensures.accepted c.in_ok-world.ensures.upheld
-    h.written) c.run_turns-ran.ensures.written
-
-pub returns-clause-refused : goal.returns-clause-refused
-returns-clause-refused g c =
-    let same = runs c.args.scenario.now c.args.turns.now c.in_ok-world.world.scenario c.in_ok-world.ensures.loaded in
-    subst (λ w. IfErr c.run_turns-ran.result (λ fault. IsFaultOf fault w)) (sym same) c.run_turns-ran.ensures.refused
+    on_ok_then c.run_turns-ran.result (IsWhole (turns_written s text) a b) (WritesPromised scenario text a b)
+    (promised scenario text s a b c.in_ok-world.ensures.loaded c.in_ok-world.ensures.accepted c.in_ok-world.ensures.upheld) c.run_turns-ran.ensures.written

@@ -1,9 +1,9 @@
 use Rattle.std.proofs.Common.{◌≡◌, sym, ap, subst, length, ℕ, List, Ok, ◌∙◌}
-use Rattle.std.specs.Io.KnownBytes.{Appends}
 use Rattle.gq_model.specs.machine.Scenario.{Scenario, components}
 use Rattle.gq_model.specs.texts.Turns.{turned}
-use Rattle.gq_world.specs.internal.Going.{AreBelow}
+use Rattle.gq_world.specs.internal.Going.{AreBelow, turns_written}
 use Rattle.gq_world.specs.Whole.{whole_of, written_turns}
+use Rattle.gq_world.proofs.Commands.{all_written, cut_short}
 use Rattle.gq_world.proofs.Whole.{below_of}
 use Rattle.gq_world.proofs.run.run_turns.Goals as goal
 
@@ -17,21 +17,21 @@ run_world-requires-clause-leaves g c =
     subst (λ (t : List (ℕ × ℕ)). AreBelow (length (components s)) t) (sym c.as_slice.ensures.value)
     (below_of s c.table.result.now c.args.turns.now c.in-Ok.turns.items c.table.ensures c.in-Ok.ensures)
 
-pub returns-in-Ok-run_world-clause-written : goal.returns-in-Ok-run_world-clause-written
-returns-in-Ok-run_world-clause-written g c =
-    let s = c.args.world.now.scenario in
-    let a = g.W.Write.contents c.args.out.now.writer in
-    let b = g.W.Write.contents c.run_world.new.out.writer in
-    record {
-      taken = c.in-Ok.turns.items;
-      reads = read_by s c.table.result.now c.args.turns.now c.in-Ok.turns.items c.table.ensures c.in-Ok.ensures;
-      written = subst (λ (t : List (ℕ × ℕ)). Appends a b (whole_of s t)) c.as_slice.ensures.value c.in-Ok-run_world.ensures.written;
-    }
+-- what they write
+module _ (s t : Scenario) (text : List ℕ) (turns slice : List (ℕ × ℕ)) (same : t ≡ s) (reads : turned (components t) text ≡ Ok turns) (is : slice ≡ turns) where
+  pub given : turns_written s text ≡ Ok (whole_of s slice)
+  given = ap (written_turns s) (read_by s t text turns same reads) ∙ sym (ap (λ l. Ok (whole_of s l)) is)
 
-pub returns-clause-refused : goal.returns-clause-refused
-returns-clause-refused g c =
+pub returns-in-Ok-run_world : goal.returns-in-Ok-run_world
+returns-in-Ok-run_world g c =
     let s = c.args.world.now.scenario in
-    let turns = c.in-Ok.turns.items in (
-      whole_of s turns,
-      ap (written_turns s) (read_by s c.table.result.now c.args.turns.now turns c.table.ensures c.in-Ok.ensures),
-    )
+    let e = given s c.table.result.now c.args.turns.now c.in-Ok.turns.items c.as_slice.result.now c.table.ensures c.in-Ok.ensures c.as_slice.ensures.value in
+    all_written g.W.Write.contents (turns_written s c.args.turns.now) (whole_of s c.as_slice.result.now) e _ _ c.run_world.result _ _ c.in-Ok-run_world.is
+    c.run_world.ensures
+
+pub returns : goal.returns
+returns g c =
+    let s = c.args.world.now.scenario in
+    let e = given s c.table.result.now c.args.turns.now c.in-Ok.turns.items c.as_slice.result.now c.table.ensures c.in-Ok.ensures c.as_slice.ensures.value in
+    cut_short g.W.Write.contents (turns_written s c.args.turns.now) (whole_of s c.as_slice.result.now) e _ _ c.run_world.result _ c.in-Err.is
+    c.run_world.ensures

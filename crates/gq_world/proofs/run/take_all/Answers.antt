@@ -1,11 +1,12 @@
-use Rattle.std.proofs.Common.{◌∙◌, length}
+use Rattle.std.proofs.Common.{◌∙◌, length, subst}
 use Rattle.std.proofs.lemmas.Result.{err_from_is_err_and}
+use Rattle.gq_init.specs.Writes.{IsRaised}
 use Rattle.gq_model.specs.machine.Scenario.{components}
 use Rattle.gq_world.proofs.Going.{here_is, below_at, goes_on_all, cut_all}
 use Rattle.gq_world.proofs.run.take_all.Goals as goal
 
-pub returns-in_err-take_turns-clause-cut : goal.returns-in_err-take_turns-clause-cut
-returns-in_err-take_turns-clause-cut g c =
+pub returns-in_err-take_turns : goal.returns-in_err-take_turns
+returns-in_err-take_turns g c =
     let l = c.loop-item in
     let t = c.item-item.result in
     let a = g.W.Write.contents c.args.out.now.writer in
@@ -14,8 +15,14 @@ returns-in_err-take_turns-clause-cut g c =
     let p = err_from_is_err_and c.from_residual.result c.from_residual.ensures.1 in
     let here = here_is c.args.turns.now l.item-index t c.loop-item-test.true c.item-item.is in
     let cut = rw (c.leaf.ensures, c.count.ensures) at c.in_err-take_turns.ensures.cut in
-    rw (p.1) (cut_all c.args.world.now.scenario c.args.turns.now l.item-index t here c.args.world.now l.world c.take_turns.new.world l.invariant.scenario a b d
-    l.invariant.left cut)
+    rw (p.1) (record {
+      scenario = c.take_turns.ensures.scenario ∙ l.invariant.scenario;
+      ran = tt;
+      counted = tt;
+      cut = cut_all c.args.world.now.scenario c.args.turns.now l.item-index t here c.args.world.now l.world c.take_turns.new.world l.invariant.scenario a b d
+          l.invariant.left cut;
+      raised = subst (λ n. IsRaised n c.take_turns.new.out.failures) l.invariant.counted c.in_err-take_turns.ensures.raised;
+    })
 
 pub loop-item-preserved : goal.loop-item-preserved
 loop-item-preserved g c =

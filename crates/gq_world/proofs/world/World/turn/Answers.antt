@@ -68,7 +68,7 @@ returns-in-Ok-clause-turned g c =
           (ap (λ w. w.world) c.self.view_is) c.tell.ensures.world c.in-Line.ensures.stepped;
       told = refl;
       written = told_in (Appends a b) c.step.new.self.scenario old c.args.leaf text c.as_slice.result.now (c.in-Line.ensures.scenario ∙ same)
-          c.as_slice.ensures.value c.in-Ok.ensures.written;
+          c.as_slice.ensures.value c.in-Ok.ensures.writes.written;
     }
 
 pub returns-in-Err-clause-stops : goal.returns-in-Err-clause-stops
@@ -79,7 +79,7 @@ returns-in-Err-clause-stops g c e =
     let b = g.W.Write.contents c.tell.new.out.writer in
     let text = c.step.new.line.items in
     let same : m.scenario ≡ old.scenario = ap (λ w. w.scenario) c.self.view_is in
-    let front = c.in-Err.ensures.front in
+    let front = c.in-Err.ensures.writes.front in
     record {
       step = doing.Line text;
       next = stepped m.scenario m.world c.step.new.self.world c.tell.new.self.world old c.args.leaf (doing.Line text) same

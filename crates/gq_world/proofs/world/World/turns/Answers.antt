@@ -68,7 +68,7 @@ returns-in_err-write_lines-in-Line-clause-cut g c =
     let seen = told_seen m.scenario m.world t.new.self.world w.new.self.world old x n events.Line lines (ap (λ z. z.scenario) c.self.view_is)
     (ap (λ z. z.world) c.self.view_is) w.ensures.world told in
     let p = err_from_is_err_and c.from_residual.result c.from_residual.ensures.1 in
-    rw (p.1) (is_cut old.scenario x c.args.count t.result.1 t.ensures.left old w.new.self lines seen a b c.in_err-write_lines-in-Line.ensures.front)
+    rw (p.1) (is_cut old.scenario x c.args.count t.result.1 t.ensures.left old w.new.self lines seen a b c.in_err-write_lines-in-Line.ensures.writes.front)
 
 pub returns-in-Idle : goal.returns-in-Idle
 returns-in-Idle g c =

@@ -1,0 +1,71 @@
+-- How a command ends that writes a text, by how the writing of it ended.
+use Rattle.std.proofs.Common.{◌≡◌, ◌∙◌, ℕ, List, Option, Result, Ok, Err, refl, subst}
+use Rattle.std.specs.Io.KnownBytes.{Appends}
+use Rattle.gq_init.specs.declared.counted.Counted.{Counted}
+use Rattle.gq_init.specs.Counts.{Writes, failures_of, written_to}
+use Rattle.gq_init.specs.Writes.{IsFront, IsRaised}
+use Rattle.gq_world.specs.declared.fault.RunFault.{RunFault}
+use Rattle.gq_world.specs.declared.fault.RunFault.TheVariants.{Load, NoComponent, Turns, Memory, Write}
+use Rattle.gq_world.specs.Outcomes.{IsBefore, IsFaultOf, WritesAs}
+use Rattle.gq_world.specs.Whole.{Written}
+
+never_both : {A : Type 0} (a : A) (fault : RunFault) → ◌≡◌ {A = Result A RunFault} (Ok a) (Err fault) → ⊥
+never_both a fault e = cc
+
+same_fault : {A : Type 0} (f g : RunFault) → ◌≡◌ {A = Result A RunFault} (Err f) (Err g) → f ≡ g
+same_fault f g e = cc
+
+module _ {W A B E : Type 0} (contents : W → Option (List ℕ)) (w : Written) (text : List ℕ) (given : w ≡ Ok text) (old new : Counted W) where
+  whole : (a : A) (b : B) → Writes {E = E} contents old new text (Ok a) → WritesAs contents w old new (Ok b)
+  whole a b h =
+      record {
+        written = record { text = text; given = given; written = h.written };
+        counted = h.counted;
+        refused = tt;
+        silent = tt;
+        cut = λ e. absurd (never_both b Write e);
+        raised = λ e. absurd (never_both b Write e);
+      }
+
+  cut : (e : E) → Writes {A = A} contents old new text (Err e) → WritesAs {A = B} contents w old new (Err Write)
+  cut e h =
+      record {
+        written = tt;
+        counted = tt;
+        refused = (text, given);
+        silent = λ before. absurd before;
+        cut = λ same. record { text = text; given = given; written = h.front };
+        raised = λ same. h.raised;
+      }
+
+  -- all of the text was written
+  pub all_written : (r : Result A E) (a : A) (b : B) → r ≡ Ok a → Writes contents old new text r → WritesAs contents w old new (Ok b)
+  all_written r a b is h = whole a b (subst (Writes contents old new text) is h)
+
+  -- a front of it was written
+  pub cut_short : (r : Result A E) (e : E) → r ≡ Err e → Writes contents old new text r → WritesAs {A = B} contents w old new (Err Write)
+  cut_short r e is h = cut e (subst (Writes contents old new text) is h)
+
+-- nothing was to be written
+pub nothing_written : {W A : Type 0} (contents : W → Option (List ℕ)) (w : Written) (old : Counted W) (fault : RunFault) → IsBefore fault → IsFaultOf fault w
+    → WritesAs {A = A} contents w old old (Err fault)
+nothing_written {A = A} contents w old fault before refused =
+    let never : ◌≡◌ {A = Result A RunFault} (Err fault) (Err Write) → ⊥ = λ e. subst IsBefore (same_fault fault Write e) before in
+    record {
+      written = tt;
+      counted = tt;
+      refused = refused;
+      silent = λ h. refl;
+      cut = λ e. absurd (never e);
+      raised = λ e. absurd (never e);
+    }
+
+-- what was written after a writer had failed no more often is written of more
+pub since : {W A E : Type 0} (contents : W → Option (List ℕ)) (old between new : Counted W) (last whole : List ℕ) (r : Result A E)
+    → failures_of between ≡ failures_of old → (Appends (written_to contents between) (written_to contents new) last
+    → Appends (written_to contents old) (written_to contents new) whole) → (IsFront (written_to contents between) (written_to contents new) last
+    → IsFront (written_to contents old) (written_to contents new) whole) → Writes contents between new last r → Writes contents old new whole r
+since contents old between new last whole (Ok a) same all front h =
+    record { written = all h.written; counted = h.counted ∙ same; front = tt; raised = tt }
+since contents old between new last whole (Err e) same all front h =
+    record { written = tt; counted = tt; front = front h.front; raised = subst (λ n. IsRaised n (failures_of new)) same h.raised }
