@@ -1,5 +1,5 @@
 // Statements that ask something of others: the leaf is blocked until the reply.
-ghost use Rattle.std.specs.Prelude.{◌≡◌, ℕ, ◌+◌, ◌<◌, ◌^◌, ◌∷◌, List, IsTrue, OnErr, OnOk, Some, drop, length, slice_get};
+ghost use Rattle.std.specs.Prelude.{◌≡◌, ℕ, List, IsTrue, Some, drop, slice_get};
 ghost use Rattle.gq_model.specs.declared.program.Instruction.TheVariants as instruction;
 ghost use Rattle.gq_model.specs.declared.program.Instruction.{Instruction};
 ghost use Rattle.gq_model.specs.declared.program.Place.{Place};
@@ -7,13 +7,10 @@ ghost use Rattle.gq_model.specs.texts.Operands.{is_slot};
 ghost use Rattle.gq_bytecode.specs.Layout.{instruction_in};
 ghost use Rattle.gq_leaf.specs.Statements.{slot_named};
 ghost use Rattle.gq_bytecode.specs.declared.operation.Operation.TheVariants as operation;
-ghost use Rattle.gq_trade.specs.Numbers.{free_number};
-ghost use Rattle.gq_trade.specs.Trades.{IsLive};
-ghost use Rattle.gq_trade.specs.Waiting.{IsIdle};
-ghost use Rattle.gq_statements.specs.Statements.{IsCurrent, done};
-ghost use Rattle.gq_statements.specs.Requests.{OwnsLinks, Stays};
-ghost use Rattle.gq_leaf.specs.Coded.{operation_of};
-ghost use Rattle.gq_leaf.specs.Steps.{LeadsTo, OpensTo, UpgradesTo, blocked_on};
+ghost use Rattle.gq_statements.specs.Statements.{done};
+ghost use Rattle.gq_statements.specs.Requests.{CanAsk, CanOpen, OwnsLinks};
+ghost use Rattle.gq_leaf.specs.Coded.{IsDue, operation_of};
+ghost use Rattle.gq_leaf.specs.Steps.{BlocksWith, LeadsTo, OpensTo, UpgradesTo};
 
 use crate::leaf::Leaf;
 use gq_bytecode::Operation;
@@ -38,17 +35,11 @@ impl Leaf {
 
     /// Asks for the end of the session of a link, and waits for the reply. Wrong as `gq_statements::close` says; then nothing changes.
     pub fn close(&mut self, place: Place, number: usize, slots: &mut Slots) -> Result<(), Wrong>
-        requires next { operation_of self.old ≡ Some (operation.Close place) }
-        requires countable { self.old.state.steps + 1 < 2 ^ 64 }
-        requires live { IsLive slots.old.trades number }
-        requires current { IsCurrent slots.old number self.old.state.current }
-        requires idle { IsIdle slots.old.trades.trading number }
+        requires due { IsDue self.old (operation.Close place) }
+        requires asks { CanAsk slots.old (record { leaf = number; current = self.old.state.current }) }
         requires linked { OwnsLinks slots.old number }
         ensures step { (bs : List ℕ) → LeadsTo number bs self.old self.new slots.old slots.new (done result) }
-        ensures waits { OnOk result (self.new ≡ blocked_on self.old self.old.state.registers.operands) }
-        ensures stays { Stays slots.old slots.new }
-        ensures unchanged { OnErr result (slots.new ≡ slots.old) }
-        ensures same { OnErr result (self.new ≡ self.old) }
+        ensures waits { BlocksWith result self.old self.new slots.old slots.new self.old.state.registers.operands }
     {
         let actor = Actor {
             leaf: number,
@@ -68,17 +59,11 @@ impl Leaf {
     /// Calls the service of a link with the top operand, and waits for the reply. `MissingOperand` where there is none; else wrong as
     /// `gq_statements::call` says. Then nothing changes.
     pub fn call(&mut self, place: Place, number: usize, slots: &mut Slots) -> Result<(), Wrong>
-        requires next { operation_of self.old ≡ Some (operation.Call place) }
-        requires countable { self.old.state.steps + 1 < 2 ^ 64 }
-        requires live { IsLive slots.old.trades number }
-        requires current { IsCurrent slots.old number self.old.state.current }
-        requires idle { IsIdle slots.old.trades.trading number }
+        requires due { IsDue self.old (operation.Call place) }
+        requires asks { CanAsk slots.old (record { leaf = number; current = self.old.state.current }) }
         requires linked { OwnsLinks slots.old number }
         ensures step { (bs : List ℕ) → LeadsTo number bs self.old self.new slots.old slots.new (done result) }
-        ensures waits { OnOk result (self.new ≡ blocked_on self.old (drop 1 self.old.state.registers.operands)) }
-        ensures stays { Stays slots.old slots.new }
-        ensures unchanged { OnErr result (slots.new ≡ slots.old) }
-        ensures same { OnErr result (self.new ≡ self.old) }
+        ensures waits { BlocksWith result self.old self.new slots.old slots.new (drop 1 self.old.state.registers.operands) }
     {
         let Some(value) = self.registers.top() else {
             return Err(Wrong::MissingOperand);
@@ -109,18 +94,12 @@ impl Leaf {
         number: usize,
         slots: &mut Slots,
     ) -> Result<(), Wrong>
-        requires next { operation_of self.old ≡ Some (operation.Upgrade place bytes) }
-        requires countable { self.old.state.steps + 1 < 2 ^ 64 }
-        requires live { IsLive slots.old.trades number }
-        requires current { IsCurrent slots.old number self.old.state.current }
-        requires idle { IsIdle slots.old.trades.trading number }
+        requires due { IsDue self.old (operation.Upgrade place bytes) }
+        requires asks { CanAsk slots.old (record { leaf = number; current = self.old.state.current }) }
         requires linked { OwnsLinks slots.old number }
         requires counted { slots.old.trades.trading.memory.ledger.price ≡ 0 → donation.caps ≡ 0 }
         ensures step { (bs : List ℕ) → UpgradesTo number bs place bytes donation self.old self.new slots.old slots.new (done result) }
-        ensures waits { OnOk result (self.new ≡ blocked_on self.old self.old.state.registers.operands) }
-        ensures stays { Stays slots.old slots.new }
-        ensures unchanged { OnErr result (slots.new ≡ slots.old) }
-        ensures same { OnErr result (self.new ≡ self.old) }
+        ensures waits { BlocksWith result self.old self.new slots.old slots.new self.old.state.registers.operands }
     {
         let _bytes = bytes;
         let actor = Actor {
@@ -150,23 +129,13 @@ impl Leaf {
         number: usize,
         slots: &mut Slots,
     ) -> Result<(), Wrong>
-        requires next { operation_of self.old ≡ Some (operation.Long statement) }
+        requires due { IsDue self.old (operation.Long statement) }
         requires place { IsTrue (is_slot place) }
-        requires countable { self.old.state.steps + 1 < 2 ^ 64 }
-        requires live { IsLive slots.old.trades number }
-        requires current { IsCurrent slots.old number self.old.state.current }
-        requires server { IsLive slots.old.trades server × (number ≡ server → ⊥) }
-        requires service { service < length slots.old.trades.trading.objects }
-        requires counted { slots.old.trades.trading.memory.ledger.price ≡ 0 → donation.caps ≡ 0 }
-        requires room { free_number slots.old.trades.trading.sessions < slots.old.trades.trading.room }
-        requires small { free_number slots.old.trades.trading.sessions < 4294967296 }
-        requires idle { IsIdle slots.old.trades.trading number }
+        requires asks { CanAsk slots.old (record { leaf = number; current = self.old.state.current }) }
+        requires opens { CanOpen slots.old number (Some server) service donation }
         ensures step { (name : List ℕ) (n : ℕ) (bs : List ℕ) → slice_get self.old.code.longs statement ≡ Some (instruction.Open place name n)
             → OpensTo number bs name n server service donation self.old self.new slots.old slots.new (done result) }
-        ensures waits { OnOk result (self.new ≡ blocked_on self.old self.old.state.registers.operands) }
-        ensures stays { Stays slots.old slots.new }
-        ensures unchanged { OnErr result (slots.new ≡ slots.old) }
-        ensures same { OnErr result (self.new ≡ self.old) }
+        ensures waits { BlocksWith result self.old self.new slots.old slots.new self.old.state.registers.operands }
     {
         let _statement = statement;
         let actor = Actor {

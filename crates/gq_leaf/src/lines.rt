@@ -1,10 +1,10 @@
 // Statements that give a line.
-ghost use Rattle.std.specs.Prelude.{◌≡◌, ℕ, ◌+◌, ◌<◌, ◌^◌, ◌∷◌, List, decimal, drop, slice_get, IfErr, IfOk, OnErr, Err, Some};
+ghost use Rattle.std.specs.Prelude.{◌≡◌, ℕ, List, decimal, drop, slice_get, IfErr, IfOk, OnErr, Err, Some};
 ghost use Rattle.gq_model.specs.declared.program.Instruction.TheVariants as instruction;
 ghost use Rattle.gq_bytecode.specs.declared.operation.Operation.TheVariants as operation;
 ghost use Rattle.gq_slots.specs.Slots.{Slots};
 ghost use Rattle.gq_statements.specs.Statements.{done};
-ghost use Rattle.gq_leaf.specs.Coded.{operation_of};
+ghost use Rattle.gq_leaf.specs.Coded.{IsDue, operation_of};
 ghost use Rattle.gq_leaf.specs.Steps.{LeadsTo, OpensNowhere, on, shows};
 ghost use Rattle.gq_model.specs.declared.program.Place.{Place};
 
@@ -15,8 +15,7 @@ use gq_model::program::Instruction;
 impl Leaf {
     /// Takes the top operand, which is to be written in decimal, and goes on at the next place. `MissingOperand` where there is none; then nothing changes.
     pub fn show(&mut self) -> Result<u32, Wrong>
-        requires next { operation_of self.old ≡ Some operation.Out }
-        requires countable { self.old.state.steps + 1 < 2 ^ 64 }
+        requires due { IsDue self.old operation.Out }
         ensures step { IfOk result (λ n. (x : ℕ) (bs : List ℕ) (s : Slots) → LeadsTo x bs self.old self.new s s (shows (decimal n))) }
         ensures stays { IfOk result (λ n. self.new ≡ on self.old (drop 1 self.old.state.registers.operands)) }
         ensures wrong { IfErr result (λ wrong. (x : ℕ) (bs : List ℕ) (s : Slots) → LeadsTo x bs self.old self.old s s (done (Err wrong))) }
@@ -52,8 +51,7 @@ impl Leaf {
 
     /// Goes on at the next place, once the text of the statement at its place is said.
     pub fn said(&mut self, number: u32)
-        requires next { operation_of self.old ≡ Some (operation.Long number) }
-        requires countable { self.old.state.steps + 1 < 2 ^ 64 }
+        requires due { IsDue self.old (operation.Long number) }
         ensures step { (text : List ℕ) (x : ℕ) (bs : List ℕ) (s : Slots) → slice_get self.old.code.longs number ≡ Some (instruction.Say text)
             → LeadsTo x bs self.old self.new s s (shows text) }
         ensures stays { self.new ≡ on self.old self.old.state.registers.operands }

@@ -1,5 +1,5 @@
 // What a leaf asks of others with something given: an upgrade, and a session that is opened.
-ghost use Rattle.std.specs.Prelude.{◌≡◌, ℕ, List, IfSome, OnErr, OnOk, slice_get};
+ghost use Rattle.std.specs.Prelude.{◌≡◌, ℕ, List, IfSome, slice_get};
 ghost use Rattle.gq_model.specs.declared.program.Instruction.TheVariants as instruction;
 ghost use Rattle.gq_model.specs.declared.program.Place.{Place};
 ghost use Rattle.gq_model.specs.machine.Scenario.{components, interface_in, upgrade_caps};
@@ -8,7 +8,7 @@ ghost use Rattle.gq_bytecode.specs.declared.operation.Operation.TheVariants as o
 ghost use Rattle.gq_trade.specs.Numbers.{IsTaken};
 ghost use Rattle.gq_statements.specs.Statements.{done};
 ghost use Rattle.gq_machine.specs.Worlds.{world_of};
-ghost use Rattle.gq_machine.specs.internal.Holds.{CanStep, Goes, Holds, IsLong, IsNext};
+ghost use Rattle.gq_machine.specs.internal.Holds.{CanDo, Goes, Holds, IsLong, LeavesState};
 ghost use Rattle.gq_machine.specs.internal.Gifts.{IsGift, LeadsBy, Opens, OpensAt};
 
 use crate::state::{Fixed, State};
@@ -22,8 +22,7 @@ use gq_tariff::Amount;
 
 // What is given with an upgrade: so many bytes, and the capabilities that the session's service asks for its next level.
 fn gift(fixed: &Fixed, state: &State, number: usize, place: Place, bytes: u32) -> Amount
-    requires can { CanStep fixed.now state.now number }
-    requires next { IsNext state.now number (operation.Upgrade place bytes) }
+    requires does { CanDo fixed.now state.now number (operation.Upgrade place bytes) }
     ensures gift { IsGift fixed.now state.now number place bytes result }
     ensures counted { state.now.slots.trades.trading.memory.ledger.price ≡ 0 → result.caps ≡ 0 }
 {
@@ -69,12 +68,9 @@ pub fn upgrade(
     place: Place,
     bytes: u32,
 ) -> Result<(), Wrong>
-    requires can { CanStep fixed.now state.old number }
-    requires next { IsNext state.old number (operation.Upgrade place bytes) }
+    requires does { CanDo fixed.now state.old number (operation.Upgrade place bytes) }
     ensures step { Goes fixed.now number state.old state.new (done result) }
-    ensures holds { OnOk result (Holds fixed.now state.new) }
-    ensures leaves { OnErr result (state.new.leaves.items ≡ state.old.leaves.items) }
-    ensures slots { OnErr result (state.new.slots ≡ state.old.slots) }
+    ensures leaves { LeavesState result fixed.now state.old state.new }
 {
     let _table = &fixed.table;
     let donation = gift(fixed, state, number, place, bytes);
@@ -87,8 +83,7 @@ pub fn upgrade(
 
 // Where the `open` at a leaf's place leads.
 fn opening(fixed: &Fixed, state: &State, number: usize, statement: u32) -> Opening
-    requires can { CanStep fixed.now state.now number }
-    requires next { IsNext state.now number (operation.Long statement) }
+    requires does { CanDo fixed.now state.now number (operation.Long statement) }
     requires opens { Opens state.now number statement }
     ensures { (place : Place) (name : List ℕ) (n : ℕ) → IsLong state.now number statement (instruction.Open place name n)
         → LeadsBy fixed.now.table (slice_get (components fixed.now.table) number) name result }
@@ -107,13 +102,10 @@ pub fn open(
     place: Place,
     bytes: u32,
 ) -> Result<(), Wrong>
-    requires can { CanStep fixed.now state.old number }
-    requires next { IsNext state.old number (operation.Long statement) }
+    requires does { CanDo fixed.now state.old number (operation.Long statement) }
     requires opens { OpensAt state.old number statement place bytes }
     ensures step { Goes fixed.now number state.old state.new (done result) }
-    ensures holds { OnOk result (Holds fixed.now state.new) }
-    ensures leaves { OnErr result (state.new.leaves.items ≡ state.old.leaves.items) }
-    ensures slots { OnErr result (state.new.slots ≡ state.old.slots) }
+    ensures leaves { LeavesState result fixed.now state.old state.new }
 {
     let _table = &fixed.table;
     let opening = opening(fixed, state, number, statement);

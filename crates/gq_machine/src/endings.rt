@@ -1,10 +1,10 @@
 // The end of `main` of a leaf that provides nothing.
-ghost use Rattle.std.specs.Prelude.{◌≡◌, ℕ, ◌+◌, ◌<◌, ◌^◌, List, length, slice_get, Err, Ok, OnErr, OnOk};
+ghost use Rattle.std.specs.Prelude.{◌≡◌, ◌+◌, ◌<◌, ◌^◌, length, slice_get, Err, Ok};
 ghost use Rattle.gq_model.specs.machine.Scenario.{components};
 ghost use Rattle.gq_bytecode.specs.declared.operation.Operation.TheVariants as operation;
 ghost use Rattle.gq_statements.specs.Serving.{finished};
 ghost use Rattle.gq_machine.specs.internal.Endings.{AreGone, AreReleased, follows, released_if};
-ghost use Rattle.gq_machine.specs.internal.Holds.{CanStep, EndsMain, Goes, Holds, IsNext, OfLeaf};
+ghost use Rattle.gq_machine.specs.internal.Holds.{CanDo, EndsMain, Goes, LeavesState, OfLeaf};
 
 use crate::state::{Fixed, State};
 use gq_leaf::Leaf;
@@ -16,13 +16,10 @@ use gq_statements::laws::lawful;
 
 // At the end of `main` of a leaf that provides nothing it exits, if it has closed its sessions, and who starts after it runs.
 pub fn exit(fixed: &Fixed, state: &mut State, number: usize) -> Result<(), Wrong>
-    requires can { CanStep fixed.now state.old number }
-    requires next { IsNext state.old number operation.End }
+    requires does { CanDo fixed.now state.old number operation.End }
     requires ends { EndsMain fixed.now state.old number }
     ensures step { Goes fixed.now number state.old state.new (finished result) }
-    ensures holds { OnOk result (Holds fixed.now state.new) }
-    ensures leaves { OnErr result (state.new.leaves.items ≡ state.old.leaves.items) }
-    ensures slots { OnErr result (state.new.slots ≡ state.old.slots) }
+    ensures leaves { LeavesState result fixed.now state.old state.new }
 {
     lawful(&state.slots);
     state.slots.laws();

@@ -1,12 +1,12 @@
 // A step in which others have a part: a statement, or the end of a section.
-ghost use Rattle.std.specs.Prelude.{◌≡◌, ◌<◌, ◌≤◌, ℕ, List, [], IfOk, IfSome, IsTrue, OnErr, OnOk, Err, is_some, length, slice_get};
+ghost use Rattle.std.specs.Prelude.{◌≡◌, ◌<◌, ◌≤◌, ℕ, List, [], IfOk, IfSome, IsTrue, Err, is_some, length, slice_get};
 ghost use Rattle.gq_model.specs.machine.Scenario.{components};
 ghost use Rattle.gq_bytecode.specs.Cores.{is_shared};
 ghost use Rattle.gq_bytecode.specs.declared.operation.Operation.TheVariants as operation;
 ghost use Rattle.gq_laws.specs.Ready.{IsReady};
 ghost use Rattle.gq_statements.specs.Statements.{done};
 ghost use Rattle.gq_machine.specs.declared.event.Event.TheVariants as event;
-ghost use Rattle.gq_machine.specs.internal.Holds.{CanStep, Goes, Holds, IsNext};
+ghost use Rattle.gq_machine.specs.internal.Holds.{CanDo, Goes, LeavesState};
 ghost use Rattle.gq_machine.specs.internal.Kinds.{is_quiet};
 ghost use Rattle.gq_machine.specs.Shows.{StepShows};
 
@@ -28,13 +28,10 @@ pub const LINE: usize = 64;
 
 // A statement that shows nothing.
 fn quiet(fixed: &Fixed, state: &mut State, number: usize, operation: Operation) -> Result<(), Wrong>
-    requires can { CanStep fixed.now state.old number }
-    requires next { IsNext state.old number operation }
+    requires does { CanDo fixed.now state.old number operation }
     requires quiet { IsTrue (is_quiet operation) }
     ensures step { Goes fixed.now number state.old state.new (done result) }
-    ensures holds { OnOk result (Holds fixed.now state.new) }
-    ensures leaves { OnErr result (state.new.leaves.items ≡ state.old.leaves.items) }
-    ensures slots { OnErr result (state.new.slots ≡ state.old.slots) }
+    ensures leaves { LeavesState result fixed.now state.old state.new }
 {
     match operation {
         Operation::Upgrade(place, bytes) => upgrade(fixed, state, number, place, bytes),
@@ -63,14 +60,11 @@ pub(crate) fn out(
     number: usize,
     line: &mut ArrayVec<u8, LINE>,
 ) -> Result<Event, Wrong>
-    requires can { CanStep fixed.now state.old number }
-    requires next { IsNext state.old number operation.Out }
+    requires does { CanDo fixed.now state.old number operation.Out }
     requires empty { line.old.items ≡ [] }
     ensures step { StepShows fixed.now number state.old state.new line.new.items result }
     ensures no_line { IfOk result (λ e. (e ≡ event.Line → ⊥) → line.new.items ≡ []) }
-    ensures holds { OnOk result (Holds fixed.now state.new) }
-    ensures leaves { OnErr result (state.new.leaves.items ≡ state.old.leaves.items) }
-    ensures slots { OnErr result (state.new.slots ≡ state.old.slots) }
+    ensures leaves { LeavesState result fixed.now state.old state.new }
 {
     match show(fixed, state, number) {
         Err(wrong) => Err(wrong),
@@ -89,14 +83,11 @@ fn long(
     statement: u32,
     line: &mut ArrayVec<u8, LINE>,
 ) -> Result<Event, Wrong>
-    requires can { CanStep fixed.now state.old number }
-    requires next { IsNext state.old number (operation.Long statement) }
+    requires does { CanDo fixed.now state.old number (operation.Long statement) }
     requires empty { line.old.items ≡ [] }
     ensures step { StepShows fixed.now number state.old state.new line.new.items result }
     ensures no_line { IfOk result (λ e. (e ≡ event.Line → ⊥) → line.new.items ≡ []) }
-    ensures holds { OnOk result (Holds fixed.now state.new) }
-    ensures leaves { OnErr result (state.new.leaves.items ≡ state.old.leaves.items) }
-    ensures slots { OnErr result (state.new.slots ≡ state.old.slots) }
+    ensures leaves { LeavesState result fixed.now state.old state.new }
 {
     let _table = &fixed.table;
     let leaf = &state.leaves[number];
@@ -129,13 +120,10 @@ fn provides(fixed: &Fixed, leaf: usize) -> bool
 
 // The end of a section: a reply, or at the end of `main` a leaf that serves from now on or exits.
 fn end(fixed: &Fixed, state: &mut State, number: usize) -> Result<Event, Wrong>
-    requires can { CanStep fixed.now state.old number }
-    requires next { IsNext state.old number operation.End }
+    requires does { CanDo fixed.now state.old number operation.End }
     ensures step { (text : List ℕ) → StepShows fixed.now number state.old state.new text result }
     ensures no_line { IfOk result (λ e. e ≡ event.Line → ⊥) }
-    ensures holds { OnOk result (Holds fixed.now state.new) }
-    ensures leaves { OnErr result (state.new.leaves.items ≡ state.old.leaves.items) }
-    ensures slots { OnErr result (state.new.slots ≡ state.old.slots) }
+    ensures leaves { LeavesState result fixed.now state.old state.new }
 {
     let _table = &fixed.table;
     let current = state.leaves[number].current();
@@ -166,15 +154,12 @@ pub(crate) fn shared(
     operation: Operation,
     line: &mut ArrayVec<u8, LINE>,
 ) -> Result<Event, Wrong>
-    requires can { CanStep fixed.now state.old number }
-    requires next { IsNext state.old number operation }
+    requires does { CanDo fixed.now state.old number operation }
     requires shared { IsTrue (is_shared operation) }
     requires empty { line.old.items ≡ [] }
     ensures step { StepShows fixed.now number state.old state.new line.new.items result }
     ensures no_line { IfOk result (λ e. (e ≡ event.Line → ⊥) → line.new.items ≡ []) }
-    ensures holds { OnOk result (Holds fixed.now state.new) }
-    ensures leaves { OnErr result (state.new.leaves.items ≡ state.old.leaves.items) }
-    ensures slots { OnErr result (state.new.slots ≡ state.old.slots) }
+    ensures leaves { LeavesState result fixed.now state.old state.new }
 {
     match operation {
         Operation::End => end(fixed, state, number),

@@ -1,16 +1,10 @@
 // At the end of a section for a session its server replies.
-ghost use Rattle.std.specs.Prelude.{◌≡◌, ℕ, ◌+◌, ◌<◌, ◌^◌, ◌∷◌, OnErr, OnOk, Some, length, slice_get};
+ghost use Rattle.std.specs.Prelude.{◌≡◌, ℕ, ◌+◌, ◌<◌, ◌^◌, ◌∷◌, Some, length, slice_get};
 ghost use Rattle.gq_model.specs.declared.program.Section.TheVariants as section;
-ghost use Rattle.gq_bytecode.specs.declared.operation.Operation.TheVariants as operation;
-ghost use Rattle.gq_contents.specs.declared.content.Content.TheVariants as content;
-ghost use Rattle.gq_trade.specs.declared.session.Spot.TheVariants.{InObject};
-ghost use Rattle.gq_trade.specs.Trading.{AreOfOthers};
-ghost use Rattle.gq_slots.specs.Slots.{content_at};
-ghost use Rattle.gq_statements.specs.Serving.{IsAwaited};
 ghost use Rattle.gq_statements.specs.Statements.{done};
 ghost use Rattle.gq_leaf.specs.Coded.{Coded};
-ghost use Rattle.gq_machine.specs.internal.Holds.{CanStep, Goes, Holds, IsNext, OfLeaf};
-ghost use Rattle.gq_machine.specs.internal.Replies.{IsEnd, replied};
+ghost use Rattle.gq_machine.specs.internal.Holds.{EndsSection, Goes, LeavesState, OfLeaf};
+ghost use Rattle.gq_machine.specs.internal.Replies.{HasClient, replied};
 
 use crate::state::{Fixed, State};
 use gq_leaf::Leaf;
@@ -22,19 +16,8 @@ use gq_statements::replies::{reply_close, reply_open};
 
 // The client of the current session, which waits for the reply.
 fn client_at(fixed: &Fixed, state: &State, number: usize, current: Current) -> usize
-    requires can { CanStep fixed.now state.now number }
-    requires next { IsNext state.now number operation.End }
-    requires current { OfLeaf (λ l. l.state.current ≡ Some current) (slice_get state.now.leaves.items number) }
-    ensures end { IsEnd fixed.now state.now number result current }
-    ensures there { result < length state.now.leaves.items }
-    ensures apart { result ≡ number → ⊥ }
-    ensures countable { OfLeaf (λ l. l.state.steps + 1 < 2 ^ 64) (slice_get state.now.leaves.items number) }
-    ensures room { (level : ℕ) → current.section ≡ section.Calling level
-        → OfLeaf (λ l. length l.state.registers.operands < 16) (slice_get state.now.leaves.items result) }
-    ensures awaited { IsAwaited state.now.slots current.session }
-    ensures small { current.session < 4294967296 }
-    ensures object { content_at state.now.slots (InObject current.session) ≡ content.Empty → ⊥ }
-    ensures none_waits { AreOfOthers current.session state.now.slots.trades.trading.requests }
+    requires ends { EndsSection fixed.now state.now number current }
+    ensures client { HasClient fixed.now state.now number result current }
 {
     let _table = &fixed.table;
     let _number = number;
@@ -73,14 +56,10 @@ fn go_on_with(leaves: &mut Vec<Leaf>, server: usize, client: usize, value: u32)
 
 // The reply to a request to open the session.
 fn opened(fixed: &Fixed, state: &mut State, number: usize, current: Current) -> Result<(), Wrong>
-    requires can { CanStep fixed.now state.old number }
-    requires next { IsNext state.old number operation.End }
-    requires current { OfLeaf (λ l. l.state.current ≡ Some current) (slice_get state.old.leaves.items number) }
+    requires ends { EndsSection fixed.now state.old number current }
     requires section { current.section ≡ section.Opening }
     ensures step { Goes fixed.now number state.old state.new (done result) }
-    ensures holds { OnOk result (Holds fixed.now state.new) }
-    ensures leaves { OnErr result (state.new.leaves.items ≡ state.old.leaves.items) }
-    ensures slots { OnErr result (state.new.slots ≡ state.old.slots) }
+    ensures leaves { LeavesState result fixed.now state.old state.new }
 {
     let client = client_at(fixed, state, number, current);
     match reply_open(
@@ -99,14 +78,10 @@ fn opened(fixed: &Fixed, state: &mut State, number: usize, current: Current) -> 
 
 // The reply to a request for the next level of the session.
 fn upgraded(fixed: &Fixed, state: &mut State, number: usize, current: Current) -> Result<(), Wrong>
-    requires can { CanStep fixed.now state.old number }
-    requires next { IsNext state.old number operation.End }
-    requires current { OfLeaf (λ l. l.state.current ≡ Some current) (slice_get state.old.leaves.items number) }
+    requires ends { EndsSection fixed.now state.old number current }
     requires section { (level : ℕ) × (current.section ≡ section.Upgrading level) }
     ensures step { Goes fixed.now number state.old state.new (done result) }
-    ensures holds { OnOk result (Holds fixed.now state.new) }
-    ensures leaves { OnErr result (state.new.leaves.items ≡ state.old.leaves.items) }
-    ensures slots { OnErr result (state.new.slots ≡ state.old.slots) }
+    ensures leaves { LeavesState result fixed.now state.old state.new }
 {
     let client = client_at(fixed, state, number, current);
     gq_statements::replies::reply(&mut state.slots, current.session);
@@ -117,14 +92,10 @@ fn upgraded(fixed: &Fixed, state: &mut State, number: usize, current: Current) -
 
 // The reply to a call: the top operand is its result. `MissingOperand` where there is none.
 fn called(fixed: &Fixed, state: &mut State, number: usize, current: Current) -> Result<(), Wrong>
-    requires can { CanStep fixed.now state.old number }
-    requires next { IsNext state.old number operation.End }
-    requires current { OfLeaf (λ l. l.state.current ≡ Some current) (slice_get state.old.leaves.items number) }
+    requires ends { EndsSection fixed.now state.old number current }
     requires section { (level : ℕ) × (current.section ≡ section.Calling level) }
     ensures step { Goes fixed.now number state.old state.new (done result) }
-    ensures holds { OnOk result (Holds fixed.now state.new) }
-    ensures leaves { OnErr result (state.new.leaves.items ≡ state.old.leaves.items) }
-    ensures slots { OnErr result (state.new.slots ≡ state.old.slots) }
+    ensures leaves { LeavesState result fixed.now state.old state.new }
 {
     let client = client_at(fixed, state, number, current);
     let leaf = &state.leaves[number];
@@ -141,14 +112,10 @@ fn called(fixed: &Fixed, state: &mut State, number: usize, current: Current) -> 
 
 // The reply to a request to close the session.
 fn closed(fixed: &Fixed, state: &mut State, number: usize, current: Current) -> Result<(), Wrong>
-    requires can { CanStep fixed.now state.old number }
-    requires next { IsNext state.old number operation.End }
-    requires current { OfLeaf (λ l. l.state.current ≡ Some current) (slice_get state.old.leaves.items number) }
+    requires ends { EndsSection fixed.now state.old number current }
     requires section { (level : ℕ) × (current.section ≡ section.Closing level) }
     ensures step { Goes fixed.now number state.old state.new (done result) }
-    ensures holds { OnOk result (Holds fixed.now state.new) }
-    ensures leaves { OnErr result (state.new.leaves.items ≡ state.old.leaves.items) }
-    ensures slots { OnErr result (state.new.slots ≡ state.old.slots) }
+    ensures leaves { LeavesState result fixed.now state.old state.new }
 {
     let client = client_at(fixed, state, number, current);
     match reply_close(&mut state.slots, current.session) {
@@ -163,13 +130,9 @@ fn closed(fixed: &Fixed, state: &mut State, number: usize, current: Current) -> 
 
 // At the end of a section for a session its server replies: it waits for requests, and the session's client goes on.
 pub fn reply(fixed: &Fixed, state: &mut State, number: usize, current: Current) -> Result<(), Wrong>
-    requires can { CanStep fixed.now state.old number }
-    requires next { IsNext state.old number operation.End }
-    requires current { OfLeaf (λ l. l.state.current ≡ Some current) (slice_get state.old.leaves.items number) }
+    requires ends { EndsSection fixed.now state.old number current }
     ensures step { Goes fixed.now number state.old state.new (done result) }
-    ensures holds { OnOk result (Holds fixed.now state.new) }
-    ensures leaves { OnErr result (state.new.leaves.items ≡ state.old.leaves.items) }
-    ensures slots { OnErr result (state.new.slots ≡ state.old.slots) }
+    ensures leaves { LeavesState result fixed.now state.old state.new }
 {
     match current.section {
         Section::Main => {

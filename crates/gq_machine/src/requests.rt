@@ -1,18 +1,15 @@
 // Requests that a leaf takes.
-ghost use Rattle.std.specs.Prelude.{◌≡◌, ◌+◌, ◌<◌, ◌≤◌, ◌^◌, false, true, not, nat_eq, length, slice_get, IfErr, IfOk, IfSome, IsTrue, OnErr, OnOk, Err};
-ghost use Rattle.gq_model.specs.declared.phase.Phase.TheVariants as phase;
+ghost use Rattle.std.specs.Prelude.{◌≡◌, ◌+◌, ◌<◌, ◌≤◌, ◌^◌, false, true, not, nat_eq, length, slice_get, IfErr, IfOk, IfSome, IsTrue, OnOk, Err};
 ghost use Rattle.gq_model.specs.machine.Scenario.{components};
 ghost use Rattle.gq_model.specs.texts.Code.{IsProgram};
 ghost use Rattle.gq_program.specs.Interfaces.{are_interfaces};
 ghost use Rattle.gq_trade.specs.Numbers.{IsTaken};
 ghost use Rattle.gq_trade.specs.declared.requests.Ask.TheVariants as asks;
-ghost use Rattle.gq_trade.specs.Queues.{IsOldest};
 ghost use Rattle.gq_trade.specs.Seen_requests.{request_seen};
-ghost use Rattle.gq_trade.specs.Trading.{object_size, server_of, session_at};
-ghost use Rattle.gq_statements.specs.Serving.{AreSections};
+ghost use Rattle.gq_statements.specs.Serving.{AreSections, KnowsService};
 ghost use Rattle.gq_statements.specs.Statements.{done};
-ghost use Rattle.gq_machine.specs.internal.Holds.{CanStep, Goes, Holds, OfLeaf};
-ghost use Rattle.gq_machine.specs.internal.Requests.{begun_for, takes};
+ghost use Rattle.gq_machine.specs.internal.Holds.{CanServe, Goes, Holds, LeavesState};
+ghost use Rattle.gq_machine.specs.internal.Requests.{IsFirst, begun_for, takes};
 
 use crate::state::{Fixed, State};
 use gq_leaf::Leaf;
@@ -51,9 +48,7 @@ fn provider<'a>(fixed: &'a Fixed, state: &State, number: usize, session: usize) 
     requires number { number < length (components fixed.now.table) }
     requires session { IsTaken state.now.slots.trades.trading.sessions session }
     ensures sections { IfSome (slice_get (components fixed.now.table) number) (λ c. AreSections result.sections.now c) }
-    ensures object { object_size state.now.slots.trades.trading session ≡ result.object }
-    ensures size { result.object ≤ 67108864 }
-    ensures counted { result.counts_caps ≡ not (nat_eq state.now.slots.trades.trading.memory.ledger.price 0) }
+    ensures knows { KnowsService state.now.slots session result.object result.counts_caps }
 {
     lawful(&state.slots);
     let service = state.slots.trades().session(session).service;
@@ -114,19 +109,11 @@ fn take(
     request: Request,
     level: u8,
 ) -> Result<(), Wrong>
-    requires can { CanStep fixed.now state.old number }
-    requires serves { OfLeaf (λ l. l.state.phase ≡ phase.Serving) (slice_get state.old.leaves.items number) }
-    requires oldest { IsOldest number state.old.slots.trades.trading.requests request }
-    requires taken { IsTaken state.old.slots.trades.trading.sessions request.session }
-    requires its { server_of state.old.slots.trades.trading request.session ≡ number }
-    requires level { level ≡ (session_at state.old.slots.trades.trading request.session).level }
-    requires low { level ≤ 3 }
-    requires within { request.ask ≡ asks.Upgrade → level < 3 }
+    requires serves { CanServe fixed.now state.old number }
+    requires first { IsFirst state.old.slots number request level }
     ensures step { OnOk result (Goes fixed.now number state.old state.new (takes true)) }
     ensures wrong { IfErr result (λ wrong. Goes fixed.now number state.old state.new (done (Err wrong))) }
-    ensures holds { OnOk result (Holds fixed.now state.new) }
-    ensures leaves { OnErr result (state.new.leaves.items ≡ state.old.leaves.items) }
-    ensures slots { OnErr result (state.new.slots ≡ state.old.slots) }
+    ensures leaves { LeavesState result fixed.now state.old state.new }
 {
     lawful(&state.slots);
     scenario_laws(fixed, number);
@@ -144,15 +131,12 @@ fn take(
 
 // A leaf that serves takes the oldest request to it, if there is one. It tells whether one was taken.
 pub fn accept(fixed: &Fixed, state: &mut State, number: usize) -> Result<bool, Wrong>
-    requires can { CanStep fixed.now state.old number }
-    requires serves { OfLeaf (λ l. l.state.phase ≡ phase.Serving) (slice_get state.old.leaves.items number) }
+    requires serves { CanServe fixed.now state.old number }
     ensures step { IfOk result (λ was. Goes fixed.now number state.old state.new (takes was)) }
     ensures wrong { IfErr result (λ wrong. Goes fixed.now number state.old state.new (done (Err wrong))) }
-    ensures holds { OnOk result (Holds fixed.now state.new) }
+    ensures leaves { LeavesState result fixed.now state.old state.new }
     ensures none { IfOk result (λ was. was ≡ false → state.new.leaves.items ≡ state.old.leaves.items) }
     ensures same { IfOk result (λ was. was ≡ false → state.new.slots ≡ state.old.slots) }
-    ensures leaves { OnErr result (state.new.leaves.items ≡ state.old.leaves.items) }
-    ensures slots { OnErr result (state.new.slots ≡ state.old.slots) }
 {
     lawful(&state.slots);
     let Some(request) = state.slots.trades().waiting(number) else {

@@ -1,11 +1,10 @@
 // Statements of a leaf.
 ghost use Rattle.std.specs.Prelude.{◌≡◌, ℕ, List, IfErr, IfOk, IsTrue, OnErr, OnOk, Err, Ok, decimal};
 ghost use Rattle.gq_statements.specs.Statements.{done};
-ghost use Rattle.gq_statements.specs.Systems.{AreLawful};
 ghost use Rattle.gq_bytecode.specs.declared.operation.Operation.TheVariants as operation;
 ghost use Rattle.gq_leaf.specs.Operations.{is_on_memory};
 ghost use Rattle.gq_leaf.specs.Steps.{shows};
-ghost use Rattle.gq_machine.specs.internal.Holds.{ActsOn, CanStep, Goes, Holds, IsLong, IsNext, Provides};
+ghost use Rattle.gq_machine.specs.internal.Holds.{ActsOn, CanDo, Goes, Holds, IsLong, LeavesState, Provides};
 ghost use Rattle.gq_model.specs.declared.program.Instruction.TheVariants as instruction;
 
 use crate::state::{Fixed, State};
@@ -22,14 +21,11 @@ pub fn memory(
     number: usize,
     operation: Operation,
 ) -> Result<(), Wrong>
-    requires can { CanStep fixed.now state.old number }
-    requires next { IsNext state.old number operation }
+    requires does { CanDo fixed.now state.old number operation }
     requires memory { IsTrue (is_on_memory operation) }
     ensures step { Goes fixed.now number state.old state.new (done result) }
-    ensures holds { OnOk result (Holds fixed.now state.new) }
+    ensures leaves { LeavesState result fixed.now state.old state.new }
     ensures acts { OnOk result (ActsOn state.old state.new number) }
-    ensures leaves { OnErr result (state.new.leaves.items ≡ state.old.leaves.items) }
-    ensures slots { OnErr result (state.new.slots ≡ state.old.slots) }
 {
     lawful(&state.slots);
     let leaf = &mut state.leaves[number];
@@ -45,12 +41,9 @@ pub fn memory(
 
 // Asks for the end of a session.
 pub fn close(fixed: &Fixed, state: &mut State, number: usize, place: Place) -> Result<(), Wrong>
-    requires can { CanStep fixed.now state.old number }
-    requires next { IsNext state.old number (operation.Close place) }
+    requires does { CanDo fixed.now state.old number (operation.Close place) }
     ensures step { Goes fixed.now number state.old state.new (done result) }
-    ensures holds { OnOk result (Holds fixed.now state.new) }
-    ensures leaves { OnErr result (state.new.leaves.items ≡ state.old.leaves.items) }
-    ensures slots { OnErr result (state.new.slots ≡ state.old.slots) }
+    ensures leaves { LeavesState result fixed.now state.old state.new }
 {
     let _table = &fixed.table;
     lawful(&state.slots);
@@ -62,12 +55,9 @@ pub fn close(fixed: &Fixed, state: &mut State, number: usize, place: Place) -> R
 
 // Calls the service of a session.
 pub fn call(fixed: &Fixed, state: &mut State, number: usize, place: Place) -> Result<(), Wrong>
-    requires can { CanStep fixed.now state.old number }
-    requires next { IsNext state.old number (operation.Call place) }
+    requires does { CanDo fixed.now state.old number (operation.Call place) }
     ensures step { Goes fixed.now number state.old state.new (done result) }
-    ensures holds { OnOk result (Holds fixed.now state.new) }
-    ensures leaves { OnErr result (state.new.leaves.items ≡ state.old.leaves.items) }
-    ensures slots { OnErr result (state.new.slots ≡ state.old.slots) }
+    ensures leaves { LeavesState result fixed.now state.old state.new }
 {
     let _table = &fixed.table;
     lawful(&state.slots);
@@ -79,8 +69,7 @@ pub fn call(fixed: &Fixed, state: &mut State, number: usize, place: Place) -> Re
 
 // Takes the top operand, which is to be written.
 pub fn show(fixed: &Fixed, state: &mut State, number: usize) -> Result<u32, Wrong>
-    requires can { CanStep fixed.now state.old number }
-    requires next { IsNext state.old number operation.Out }
+    requires does { CanDo fixed.now state.old number operation.Out }
     ensures step { IfOk result (λ n. Goes fixed.now number state.old state.new (shows (decimal n))) }
     ensures wrong { IfErr result (λ wrong. Goes fixed.now number state.old state.new (done (Err wrong))) }
     ensures holds { OnOk result (Holds fixed.now state.new) }
@@ -95,8 +84,7 @@ pub fn show(fixed: &Fixed, state: &mut State, number: usize) -> Result<u32, Wron
 
 // Goes on once a text is said.
 pub fn say(fixed: &Fixed, state: &mut State, number: usize, statement: u32)
-    requires can { CanStep fixed.now state.old number }
-    requires next { IsNext state.old number (operation.Long statement) }
+    requires does { CanDo fixed.now state.old number (operation.Long statement) }
     ensures step { (text : List ℕ) → IsLong state.old number statement (instruction.Say text) → Goes fixed.now number state.old state.new (shows text) }
     ensures holds { (text : List ℕ) → IsLong state.old number statement (instruction.Say text) → Holds fixed.now state.new }
     ensures slots { state.new.slots ≡ state.old.slots }
@@ -109,8 +97,7 @@ pub fn say(fixed: &Fixed, state: &mut State, number: usize, statement: u32)
 
 // A provider waits for requests at the end of `main`.
 pub fn serve(fixed: &Fixed, state: &mut State, number: usize)
-    requires can { CanStep fixed.now state.old number }
-    requires next { IsNext state.old number operation.End }
+    requires does { CanDo fixed.now state.old number operation.End }
     requires provides { Provides fixed.now state.old number }
     ensures step { Goes fixed.now number state.old state.new (done (Ok tt)) }
     ensures holds { Holds fixed.now state.new }

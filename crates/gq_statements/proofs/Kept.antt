@@ -156,6 +156,21 @@ stays_upgraded s u k n there e =
       holders = holders s v c;
     })
 
+-- slots that are as before
+pub stays_same : (s u : Slots) → u ≡ s → Stays s u
+stays_same s u e =
+    subst (Stays s) (sym e) (record {
+      nodes = refl;
+      tree = refl;
+      leaves = refl;
+      objects = refl;
+      room = refl;
+      payer = refl;
+      price = refl;
+      spots = λ q there. there;
+      holders = λ q there. refl;
+    })
+
 pub stays_then : (s u t : Slots) → Stays s u → SameBeside u t → Stays s t
 stays_then s u t a b = record {
   nodes = b.nodes ∙ a.nodes;

@@ -1,22 +1,43 @@
 -- What a leaf that asks for something makes of the slots and of the machine's world.
-use Rattle.std.specs.Prelude.{◌≡◌, ℕ, Option, Some, None}
+use Rattle.std.specs.Prelude.{◌≡◌, ℕ, ◌<◌, length, Option, Some, None, IfSome, OnErr, Result}
 use Rattle.gq_tariff.specs.declared.amount.Amount.{Amount}
+use Rattle.gq_model.specs.declared.fault.Wrong.{Wrong}
 use Rattle.gq_model.specs.declared.phase.Phase.TheVariants as phase
 use Rattle.gq_model.specs.declared.program.Place.{Place}
 use Rattle.gq_model.specs.machine.Amounts.{amount}
 use Rattle.gq_model.specs.machine.Doing.{Doing, standing}
 use Rattle.gq_model.specs.machine.Scenario.{interface_in, upgrade_caps}
 use Rattle.gq_model.specs.machine.World as world
-use Rattle.gq_trade.specs.Numbers.{IsTaken}
+use Rattle.gq_trade.specs.Numbers.{IsTaken, free_number}
+use Rattle.gq_trade.specs.Trades.{IsLive}
+use Rattle.gq_trade.specs.Waiting.{IsIdle}
 use Rattle.gq_contents.specs.declared.content.Content.TheVariants.{Link}
 use Rattle.gq_trade.specs.Trading.{client_of}
 use Rattle.gq_trade.specs.declared.session.Spot.{Spot}
 use Rattle.gq_slots.specs.Slots.{Frame, IsSpot, Slots, holder, content_at, world_seen}
+use Rattle.gq_statements.specs.Statements.{IsCurrent}
+use Rattle.gq_statements.specs.declared.actor.Actor.{Actor}
 
 -- each link in a slot that the leaf x pays for leads to a session that is there, and whose client is x
 abbrev pub OwnsLinks : Slots → ℕ → Type 0
 OwnsLinks s x = (p : Spot) → IsSpot s p → holder s p ≡ x → (k : ℕ) → content_at s p ≡ Link k
     → IsTaken s.trades.trading.sessions k × (client_of s.trades.trading k ≡ x)
+
+-- WHO ASKS, AND WHAT IT LEAVES
+
+-- a live leaf that can ask, with its current request: no request of its own waits
+pub record CanAsk (s : Slots) (a : Actor) : Type 0 where
+  pub live : IsLive s.trades a.leaf
+  pub current : IsCurrent s a.leaf a.current
+  pub idle : IsIdle s.trades.trading a.leaf
+
+-- The leaf x can ask this server, if there is one, for a session of this service with this donation: it is another leaf, and a session more has a number.
+pub record CanOpen (s : Slots) (x : ℕ) (to : Option ℕ) (number : ℕ) (donation : Amount) : Type 0 where
+  pub server : IfSome to (λ y. IsLive s.trades y × (x ≡ y → ⊥))
+  pub service : number < length s.trades.trading.objects
+  pub counted : s.trades.trading.memory.ledger.price ≡ 0 → donation.caps ≡ 0
+  pub room : free_number s.trades.trading.sessions < s.trades.trading.room
+  pub small : free_number s.trades.trading.sessions < 4294967296
 
 -- WHICH SESSION A STATEMENT NAMES
 
@@ -57,3 +78,8 @@ pub record Stays (old new : Slots) : Type 0 where
   -- each slot stays, and is paid for by the same leaf
   pub spots : (q : Spot) → IsSpot old q → IsSpot new q
   pub holders : (q : Spot) → IsSpot old q → holder new q ≡ holder old q
+
+-- what a leaf that asks leaves: all but a session, requests and quotas, and these, too, where it is wrong
+pub record LeavesNodes {A : Type 0} (result : Result A Wrong) (old new : Slots) : Type 0 where
+  pub stays : Stays old new
+  pub unchanged : OnErr result (new ≡ old)

@@ -1,5 +1,6 @@
 -- Requests that are taken and replied to, and leaves that end.
-use Rattle.std.specs.Prelude.{◌≡◌, ℕ, ◌<◌, ◌≤◌, ◌+◌, Bool, false, List, [], get_or, is_some, length, replicate, Option, Some, None, Result, Ok, Err}
+use Rattle.std.specs.Prelude.{◌≡◌, ℕ, ◌<◌, ◌≤◌, ◌+◌, Bool, false, List, [], get_or, is_some, length, nat_eq, not}
+use Rattle.std.specs.Prelude.{replicate, Option, Some, None, Result, Ok, Err}
 use Rattle.gq_model.specs.machine.World as world
 use Rattle.gq_model.specs.machine.Doing.{Doing, Finished, Idle, Quiet, Stepped, standing}
 use Rattle.gq_model.specs.machine.Step.{accepted_as, all_released, beginning, first_operands, oldest, section_for, serving, unblocked}
@@ -17,7 +18,9 @@ use Rattle.gq_trade.specs.declared.session.Spot.TheVariants.{InLeaf}
 use Rattle.gq_trade.specs.declared.requests.Request.{Request}
 use Rattle.gq_trade.specs.Seen_requests.{request_seen}
 use Rattle.gq_statements.specs.Systems.{IsOf}
-use Rattle.gq_trade.specs.Trading.{client_of}
+use Rattle.gq_trade.specs.Queues.{IsOldest}
+use Rattle.gq_trade.specs.Trading.{client_of, object_size, server_of, session_at}
+use Rattle.gq_trade.specs.declared.requests.Ask.TheVariants.{Upgrade}
 use Rattle.gq_slots.specs.Slots.{Frame, IsSlot, IsSpot, Slots, holder, content_at, world_seen}
 use Rattle.gq_slots.specs.Calls.{PutsSlot}
 use Rattle.gq_slots.specs.Session_calls.{EndsSession}
@@ -52,6 +55,19 @@ IsSection Opening = Unit {0}
 IsSection (Upgrading level) = (1 ≤ level) × (level ≤ 3)
 IsSection (Calling level) = level ≤ 3
 IsSection (Closing level) = level ≤ 3
+
+-- The oldest request to the leaf x: it is of a session to x that is there, and for a level that there is.
+pub record IsNextRequest (s : Slots) (x : ℕ) (r : Request) : Type 0 where
+  pub oldest : IsOldest x s.trades.trading.requests r
+  pub there : IsTaken s.trades.trading.sessions r.session
+  pub its : server_of s.trades.trading r.session ≡ x
+  pub level : r.ask ≡ Upgrade → (session_at s.trades.trading r.session).level < 3
+
+-- the service of the session k has objects of so many bytes, and this says whether capabilities are counted
+pub record KnowsService (s : Slots) (k size : ℕ) (counts : Bool) : Type 0 where
+  pub object : object_size s.trades.trading k ≡ size
+  pub small : size ≤ 67108864
+  pub counted : counts ≡ not (nat_eq s.trades.trading.memory.ledger.price 0)
 
 -- the place of a section among all
 abbrev pub place : Section → ℕ

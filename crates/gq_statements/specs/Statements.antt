@@ -1,5 +1,5 @@
 -- What a statement of a leaf on slots makes of the machine's world.
-use Rattle.std.specs.Prelude.{◌≡◌, ℕ, if◌then◌else◌, Bool, List, ◌∷◌, Option, Some, None, Result, Ok, Err}
+use Rattle.std.specs.Prelude.{◌≡◌, ℕ, if◌then◌else◌, Bool, false, List, ◌∷◌, Option, Some, None, Result, Ok, Err, OnErr}
 use Rattle.gq_tariff.specs.Prices.{up}
 use Rattle.gq_model.specs.machine.World as world
 use Rattle.gq_model.specs.machine.Doing.{Doing, Quiet, Stepped, on_stack, standing, with_operands}
@@ -10,7 +10,9 @@ use Rattle.gq_trade.specs.declared.session.Spot.{Spot}
 use Rattle.gq_trade.specs.declared.session.Spot.TheVariants.{InLeaf}
 use Rattle.gq_contents.specs.declared.content.Content.{Content}
 use Rattle.gq_contents.specs.declared.content.Content.TheVariants as content
-use Rattle.gq_slots.specs.Slots.{Frame, IsSpot, Slots, content_at, world_seen}
+use Rattle.gq_trade.specs.Trades.{IsLive}
+use Rattle.gq_slots.specs.Slots.{Frame, IsPaidBy, IsSpot, Slots, content_at, world_seen}
+use Rattle.gq_slots.specs.Calls.{SameBeside}
 use Rattle.gq_slots.specs.Addresses.{IsLinked}
 use Rattle.gq_statements.specs.declared.actor.Current.{Current}
 use Rattle.gq_statements.specs.declared.actor.Actor.{Actor}
@@ -24,6 +26,32 @@ current_seen (Some h) = Some (record { session = h.session; section = h.section 
 abbrev pub IsCurrent : Slots → ℕ → Option Current → Type 0
 IsCurrent s x None = Unit {0}
 IsCurrent s x (Some h) = IsTaken s.trades.trading.sessions h.session × (server_of s.trades.trading h.session ≡ x)
+
+-- a live leaf with its current request
+pub record IsActor (s : Slots) (a : Actor) : Type 0 where
+  pub live : IsLive s.trades a.leaf
+  pub current : IsCurrent s a.leaf a.current
+
+-- a live leaf that pays, with its current request
+pub record Acting (s : Slots) (a : Actor) : Type 0 where
+  pub live : IsLive s.trades a.leaf
+  pub paid : IsPaidBy s a.leaf
+  pub current : IsCurrent s a.leaf a.current
+
+-- a live leaf that pays, whatever its current request
+pub record IsPaying (s : Slots) (x : ℕ) : Type 0 where
+  pub live : IsLive s.trades x
+  pub paid : IsPaidBy s x
+
+-- What a statement leaves: all beside the contents of slots, and the contents, too, where it is wrong.
+pub record LeavesRest {A : Type 0} (result : Result A Wrong) (old new : Slots) : Type 0 where
+  pub beside : SameBeside old new
+  pub unchanged : OnErr result (new ≡ old)
+
+-- the same of one that tells whether it was done
+pub record LeavesRestIf (done : Bool) (old new : Slots) : Type 0 where
+  pub beside : SameBeside old new
+  pub unchanged : done ≡ false → new ≡ old
 
 -- each link that is in a slot leads to a session that is there
 abbrev pub AreLinked : Slots → Type 0

@@ -1,19 +1,17 @@
 // Requests of a leaf: its slot waits, and the request is behind all others.
-ghost use Rattle.std.specs.Prelude.{◌≡◌, ℕ, ◌<◌, List, [], ◌∷◌, get_or, length, IfSome, IsTrue, OnErr};
+ghost use Rattle.std.specs.Prelude.{◌≡◌, ℕ, List, [], ◌∷◌, get_or, IfSome, IsTrue};
 ghost use Rattle.gq_model.specs.machine.Amounts.{amount};
 ghost use Rattle.gq_model.specs.machine.Doing.{Doing, with_operands};
 ghost use Rattle.gq_model.specs.machine.Requests as requests;
 ghost use Rattle.gq_model.specs.machine.Routes.{server_of};
 ghost use Rattle.gq_model.specs.machine.Scenario.{interface_in, open_caps};
 ghost use Rattle.gq_model.specs.texts.Operands.{is_slot};
-ghost use Rattle.gq_trade.specs.Numbers.{IsTaken, free_number};
+ghost use Rattle.gq_trade.specs.Numbers.{IsTaken};
 ghost use Rattle.gq_trade.specs.Trading.{client_of};
-ghost use Rattle.gq_trade.specs.Trades.{IsLive};
-ghost use Rattle.gq_trade.specs.Waiting.{IsIdle};
 ghost use Rattle.gq_slots.specs.Slots.{Frame, world_seen};
-ghost use Rattle.gq_statements.specs.Statements.{IsCurrent, IsBy, done};
-ghost use Rattle.gq_statements.specs.Systems.{AreLawful, IsOf};
-ghost use Rattle.gq_statements.specs.Requests.{Blocks, IsNextLevel, OwnsLinks, Stays, session_named};
+ghost use Rattle.gq_statements.specs.Statements.{IsActor, IsBy, done};
+ghost use Rattle.gq_statements.specs.Systems.{IsOf};
+ghost use Rattle.gq_statements.specs.Requests.{Blocks, CanAsk, CanOpen, IsNextLevel, LeavesNodes, OwnsLinks, session_named};
 ghost use Rattle.gq_statements.specs.internal.Leads.{IsLink, IsLinkedAt, IsRoomAt, IsVacant, link_of};
 
 use crate::actor::Actor;
@@ -43,8 +41,7 @@ fn link_of(content: Content) -> Option<u32>
 // Where the link stands that a statement names, and the session to which it leads. `None` where it names no link.
 fn linked(actor: Actor, slots: &Slots, place: Place) -> Option<(Spot, u32)>
     requires place { IsTrue (is_slot place) }
-    requires live { IsLive slots.now.trades actor.leaf }
-    requires current { IsCurrent slots.now actor.leaf actor.current }
+    requires actor { IsActor slots.now actor }
     requires linked { OwnsLinks slots.now actor.leaf }
     ensures is { IfSome result (λ f. IsLink slots.now actor.leaf f.0 f.1) }
     ensures found { (f : Frame) (d : Doing) → IsBy d actor → d.world ≡ world_seen f slots.now → IsLinkedAt d place result }
@@ -58,8 +55,7 @@ fn linked(actor: Actor, slots: &Slots, place: Place) -> Option<(Spot, u32)>
 /// The session to which the slot leads that a statement names. `None` where the slot is not there or is no link.
 pub fn link(actor: Actor, slots: &Slots, place: Place) -> Option<usize>
     requires place { IsTrue (is_slot place) }
-    requires live { IsLive slots.now.trades actor.leaf }
-    requires current { IsCurrent slots.now actor.leaf actor.current }
+    requires actor { IsActor slots.now actor }
     requires linked { OwnsLinks slots.now actor.leaf }
     ensures is { (f : Frame) (d : Doing) → IsBy d actor → d.world ≡ world_seen f slots.now → result ≡ session_named d place }
     ensures taken { IfSome result (λ k. IsTaken slots.now.trades.trading.sessions k) }
@@ -74,14 +70,11 @@ pub fn link(actor: Actor, slots: &Slots, place: Place) -> Option<usize>
 /// `WrongKind` where the slot is not there or is no link; then nothing changes. It costs nothing.
 pub fn close(actor: Actor, slots: &mut Slots, place: Place) -> Result<(), Wrong>
     requires place { IsTrue (is_slot place) }
-    requires live { IsLive slots.old.trades actor.leaf }
-    requires current { IsCurrent slots.old actor.leaf actor.current }
-    requires idle { IsIdle slots.old.trades.trading actor.leaf }
+    requires asks { CanAsk slots.old actor }
     requires linked { OwnsLinks slots.old actor.leaf }
     ensures step { (before after : Frame) (d : Doing) → IsBy d actor → IsOf d.system after slots.old → Blocks d d.leaf before after slots.old
         → requests.close d place ≡ done result (world_seen after slots.new) }
-    ensures stays { Stays slots.old slots.new }
-    ensures unchanged { OnErr result (slots.new ≡ slots.old) }
+    ensures leaves { LeavesNodes result slots.old slots.new }
 {
     let Some((spot, session)) = linked(actor, slots, place) else {
         return Err(Wrong::WrongKind);
@@ -97,15 +90,12 @@ pub fn close(actor: Actor, slots: &mut Slots, place: Place) -> Result<(), Wrong>
 /// as in `close`; then nothing changes.
 pub fn call(actor: Actor, slots: &mut Slots, place: Place, value: u32) -> Result<(), Wrong>
     requires place { IsTrue (is_slot place) }
-    requires live { IsLive slots.old.trades actor.leaf }
-    requires current { IsCurrent slots.old actor.leaf actor.current }
-    requires idle { IsIdle slots.old.trades.trading actor.leaf }
+    requires asks { CanAsk slots.old actor }
     requires linked { OwnsLinks slots.old actor.leaf }
     ensures step { (before after : Frame) (d : Doing) (rest : List ℕ) → IsBy d actor → IsOf d.system after slots.old
         → Blocks d (with_operands d rest) before after slots.old → d.leaf.operands ≡ value ∷ rest
         → requests.call d place ≡ done result (world_seen after slots.new) }
-    ensures stays { Stays slots.old slots.new }
-    ensures unchanged { OnErr result (slots.new ≡ slots.old) }
+    ensures leaves { LeavesNodes result slots.old slots.new }
 {
     let Some((spot, session)) = linked(actor, slots, place) else {
         return Err(Wrong::WrongKind);
@@ -123,15 +113,12 @@ pub fn call(actor: Actor, slots: &mut Slots, place: Place, value: u32) -> Result
 /// `WrongKind` as in `close`, else `ExceededQuota` where the leaf has too little that is not used; then nothing changes.
 pub fn upgrade(actor: Actor, slots: &mut Slots, place: Place, donation: Amount) -> Result<(), Wrong>
     requires place { IsTrue (is_slot place) }
-    requires live { IsLive slots.old.trades actor.leaf }
-    requires current { IsCurrent slots.old actor.leaf actor.current }
-    requires idle { IsIdle slots.old.trades.trading actor.leaf }
+    requires asks { CanAsk slots.old actor }
     requires linked { OwnsLinks slots.old actor.leaf }
     requires counted { slots.old.trades.trading.memory.ledger.price ≡ 0 → donation.caps ≡ 0 }
     ensures step { (before after : Frame) (d : Doing) (n : ℕ) → IsBy d actor → IsOf d.system after slots.old → Blocks d d.leaf before after slots.old
         → IsNextLevel d place n donation → requests.upgrade d place n ≡ done result (world_seen after slots.new) }
-    ensures stays { Stays slots.old slots.new }
-    ensures unchanged { OnErr result (slots.new ≡ slots.old) }
+    ensures leaves { LeavesNodes result slots.old slots.new }
 {
     let Some((spot, session)) = linked(actor, slots, place) else {
         return Err(Wrong::WrongKind);
@@ -150,8 +137,7 @@ pub fn upgrade(actor: Actor, slots: &mut Slots, place: Place, donation: Amount) 
 // The slot that a statement names, if it is there and empty.
 fn vacant(actor: Actor, slots: &Slots, place: Place) -> Option<Spot>
     requires place { IsTrue (is_slot place) }
-    requires live { IsLive slots.now.trades actor.leaf }
-    requires current { IsCurrent slots.now actor.leaf actor.current }
+    requires actor { IsActor slots.now actor }
     ensures is { IfSome result (λ p. IsVacant slots.now p) }
     ensures found { (f : Frame) (d : Doing) → IsBy d actor → d.world ≡ world_seen f slots.now → IsRoomAt d place result }
 {
@@ -178,20 +164,13 @@ pub fn open(
     donation: Amount,
 ) -> Result<(), Wrong>
     requires place { IsTrue (is_slot place) }
-    requires live { IsLive slots.old.trades actor.leaf }
-    requires current { IsCurrent slots.old actor.leaf actor.current }
-    requires server { IfSome server (λ y. IsLive slots.old.trades y × (actor.leaf ≡ y → ⊥)) }
-    requires service { service < length slots.old.trades.trading.objects }
-    requires counted { slots.old.trades.trading.memory.ledger.price ≡ 0 → donation.caps ≡ 0 }
-    requires room { free_number slots.old.trades.trading.sessions < slots.old.trades.trading.room }
-    requires small { free_number slots.old.trades.trading.sessions < 4294967296 }
-    requires idle { IsIdle slots.old.trades.trading actor.leaf }
+    requires asks { CanAsk slots.old actor }
+    requires opens { CanOpen slots.old actor.leaf server service donation }
     ensures step { (before after : Frame) (d : Doing) (name : List ℕ) (n : ℕ) → IsBy d actor → IsOf d.system after slots.old
         → Blocks d d.leaf before after slots.old → name ≡ get_or after.names service [] → server_of d.system d.component name ≡ server
         → donation ≡ amount n (open_caps (interface_in name d.system.interfaces))
         → requests.open_session d place name n ≡ done result (world_seen after slots.new) }
-    ensures stays { Stays slots.old slots.new }
-    ensures unchanged { OnErr result (slots.new ≡ slots.old) }
+    ensures leaves { LeavesNodes result slots.old slots.new }
 {
     let Some(spot) = vacant(actor, slots, place) else {
         return Err(Wrong::WrongKind);

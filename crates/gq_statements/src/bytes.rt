@@ -1,5 +1,5 @@
 // Statements that read and write bytes.
-ghost use Rattle.std.specs.Prelude.{◌≡◌, ◌+◌, ◌<◌, ◌≤◌, ◌∷◌, List, ℕ, nat_le, slice_range, IfSome, IsTrue, OnErr, Ok, Option, Some, None, false, true};
+ghost use Rattle.std.specs.Prelude.{◌≡◌, ◌+◌, ◌<◌, ◌≤◌, ◌∷◌, List, ℕ, nat_le, slice_range, IfSome, IsTrue, Ok, Option, Some, None, false, true};
 ghost use Rattle.gq_model.specs.declared.program.Place.TheVariants.{Own};
 ghost use Rattle.gq_statements.specs.declared.actor.Current.{Current};
 ghost use Rattle.gq_model.specs.machine.Doing.{Doing, standing, with_operands};
@@ -7,13 +7,13 @@ ghost use Rattle.gq_model.specs.machine.Memory as memory;
 ghost use Rattle.gq_model.specs.texts.Operands.{is_slot_or_object};
 ghost use Rattle.gq_trade.specs.Trades.{IsLive};
 ghost use Rattle.gq_slots.specs.Slots.{Frame, IsPaidBy, IsSpot, holder, slot_of, content_at, world_seen};
-ghost use Rattle.gq_slots.specs.Calls.{PutsSlot, SameBeside};
+ghost use Rattle.gq_slots.specs.Calls.{PutsSlot};
 ghost use Rattle.gq_contents.specs.Contents.{size_of};
 ghost use Rattle.gq_slots.specs.Addresses.{AreBuffers};
-ghost use Rattle.gq_statements.specs.Statements.{AreLinked, IsCurrent, IsBy, done, read, space_in};
+ghost use Rattle.gq_statements.specs.Statements.{Acting, AreLinked, IsActor, IsBy, IsPaying, LeavesRest, LeavesRestIf, done, read, space_in};
 ghost use Rattle.gq_model.specs.machine.Program.{bytes_of, little, spelled};
 ghost use Rattle.gq_contents.specs.Contents.{bytes_in, put_in};
-ghost use Rattle.gq_statements.specs.internal.Found.{IsFound, byte_count};
+ghost use Rattle.gq_statements.specs.internal.Found.{AreBytes, AreOwnBytes, IsFound, byte_count};
 
 use crate::actor::Actor;
 use gq_contents::Content;
@@ -37,12 +37,9 @@ impl Actor {
     #[inline(always)]
     fn bytes(self, addresses: &Addresses, slots: &Slots, place: Place) -> Option<(Spot, u64)>
         requires place { IsTrue (is_slot_or_object place) }
-        requires live { IsLive slots.now.trades self.leaf }
-        requires current { IsCurrent slots.now self.leaf self.current }
+        requires actor { IsActor slots.now self }
         requires linked { AreLinked slots.now }
-        ensures there { IfSome result (λ f. IsSpot slots.now f.0) }
-        ensures live { IfSome result (λ f. IsLive slots.now.trades (holder slots.now f.0)) }
-        ensures size { IfSome result (λ f. f.1 ≡ size_of (content_at slots.now f.0)) }
+        ensures is { IfSome result (λ f. AreBytes slots.now f.0 f.1) }
         ensures found { (f : Frame) (d : Doing) → IsBy d self → AreBuffers d.system f slots.now addresses.now
             → IsFound d (world_seen f slots.now) place slots.now result }
     {
@@ -58,11 +55,8 @@ impl Actor {
     #[inline(always)]
     fn own_bytes(self, slots: &Slots, place: Place) -> Option<(Spot, u64)>
         requires place { IsTrue (is_slot_or_object place) }
-        requires live { IsLive slots.now.trades self.leaf }
-        requires current { IsCurrent slots.now self.leaf self.current }
-        ensures there { IfSome result (λ f. IsSpot slots.now f.0) }
-        ensures own { IfSome result (λ f. holder slots.now f.0 ≡ self.leaf) }
-        ensures size { IfSome result (λ f. f.1 ≡ size_of (content_at slots.now f.0)) }
+        requires actor { IsActor slots.now self }
+        ensures is { IfSome result (λ f. AreOwnBytes slots.now self.leaf f.0 f.1) }
         ensures found { IfSome result (λ o. (f : Frame) (d : Doing) (bs : List ℕ) → IsBy d self → AreBuffers d.system f slots.now bs
             → IsFound d (world_seen f slots.now) place slots.now (Some o)) }
     {
@@ -91,9 +85,7 @@ impl Actor {
         index: u32,
     ) -> Result<u32, Wrong>
         requires place { IsTrue (is_slot_or_object place) }
-        requires live { IsLive slots.old.trades self.leaf }
-        requires paid { IsPaidBy slots.old self.leaf }
-        requires current { IsCurrent slots.old self.leaf self.current }
+        requires acting { Acting slots.old self }
         requires linked { AreLinked slots.old }
         ensures step { (f : Frame) (d : Doing) (rest : List ℕ) → IsBy d self → AreBuffers d.system f slots.old addresses.now → d.world ≡ world_seen f slots.old
             → d.leaf.operands ≡ index ∷ rest → memory.load d width place ≡ read d rest result }
@@ -128,9 +120,7 @@ impl Actor {
         index: u32,
     ) -> Result<u32, Wrong>
         requires place { IsTrue (is_slot_or_object place) }
-        requires live { IsLive slots.old.trades self.leaf }
-        requires paid { IsPaidBy slots.old self.leaf }
-        requires current { IsCurrent slots.old self.leaf self.current }
+        requires acting { Acting slots.old self }
         requires linked { AreLinked slots.old }
         ensures step { (f : Frame) (d : Doing) (rest : List ℕ) → IsBy d self → AreBuffers d.system f slots.old addresses.now → d.world ≡ world_seen f slots.old
             → d.leaf.operands ≡ index ∷ rest → memory.load d width place ≡ read d rest result }
@@ -162,15 +152,12 @@ impl Actor {
         value: u32,
     ) -> Result<(), Wrong>
         requires place { IsTrue (is_slot_or_object place) }
-        requires live { IsLive slots.old.trades self.leaf }
-        requires paid { IsPaidBy slots.old self.leaf }
-        requires current { IsCurrent slots.old self.leaf self.current }
+        requires acting { Acting slots.old self }
         requires linked { AreLinked slots.old }
         ensures step { (f : Frame) (d : Doing) (rest : List ℕ) → IsBy d self → AreBuffers d.system f slots.old addresses.now
             → standing d (with_operands d rest) ≡ world_seen f slots.old → d.leaf.operands ≡ value ∷ index ∷ rest
             → memory.store d width place ≡ done result (world_seen f slots.new) }
-        ensures beside { SameBeside slots.old slots.new }
-        ensures unchanged { OnErr result (slots.new ≡ slots.old) }
+        ensures leaves { LeavesRest result slots.old slots.new }
     {
         match self.own_bytes(slots, place) {
             None => {
@@ -203,15 +190,12 @@ impl Actor {
         value: u32,
     ) -> Result<(), Wrong>
         requires place { IsTrue (is_slot_or_object place) }
-        requires live { IsLive slots.old.trades self.leaf }
-        requires paid { IsPaidBy slots.old self.leaf }
-        requires current { IsCurrent slots.old self.leaf self.current }
+        requires acting { Acting slots.old self }
         requires linked { AreLinked slots.old }
         ensures step { (f : Frame) (d : Doing) (rest : List ℕ) → IsBy d self → AreBuffers d.system f slots.old addresses.now
             → standing d (with_operands d rest) ≡ world_seen f slots.old → d.leaf.operands ≡ value ∷ index ∷ rest
             → memory.store d width place ≡ done result (world_seen f slots.new) }
-        ensures beside { SameBeside slots.old slots.new }
-        ensures unchanged { OnErr result (slots.new ≡ slots.old) }
+        ensures leaves { LeavesRest result slots.old slots.new }
     {
         let Some((spot, count)) = self.bytes(addresses, slots, place) else {
             return Err(Wrong::WrongKind);
@@ -232,9 +216,7 @@ impl Actor {
 fn own_space(leaf: usize, slots: &Slots, slot: u8) -> Option<(Spot, u64)>
     requires slot { slot < 64 }
     requires live { IsLive slots.now.trades leaf }
-    ensures there { IfSome result (λ f. IsSpot slots.now f.0) }
-    ensures own { IfSome result (λ f. holder slots.now f.0 ≡ leaf) }
-    ensures size { IfSome result (λ f. f.1 ≡ size_of (content_at slots.now f.0)) }
+    ensures is { IfSome result (λ f. AreOwnBytes slots.now leaf f.0 f.1) }
     ensures found { IfSome result (λ o. (f : Frame) (d : Doing) (bs : List ℕ) (current : Option Current) → IsBy d (record { leaf = leaf; current = current })
         → AreBuffers d.system f slots.now bs → IsFound d (world_seen f slots.now) (Own slot) slots.now (Some o)) }
     ensures space { IfSome result (λ f. space_in slots.now leaf slot ≡ Some f.1) }
@@ -254,8 +236,7 @@ fn own_space(leaf: usize, slots: &Slots, slot: u8) -> Option<(Spot, u64)>
 #[inline(always)]
 pub fn load_own(leaf: usize, slots: &Slots, width: Width, slot: u8, index: u32) -> Option<u32>
     requires slot { slot < 64 }
-    requires live { IsLive slots.now.trades leaf }
-    requires paid { IsPaidBy slots.now leaf }
+    requires paying { IsPaying slots.now leaf }
     ensures step { IfSome result
         (λ n. (f : Frame) (d : Doing) (rest bs : List ℕ) (current : Option Current) → IsBy d (record { leaf = leaf; current = current })
         → AreBuffers d.system f slots.now bs → d.world ≡ world_seen f slots.now → d.leaf.operands ≡ index ∷ rest
@@ -283,13 +264,11 @@ pub fn store_own(
     value: u32,
 ) -> bool
     requires slot { slot < 64 }
-    requires live { IsLive slots.old.trades leaf }
-    requires paid { IsPaidBy slots.old leaf }
+    requires paying { IsPaying slots.old leaf }
     ensures step { result ≡ true → (f : Frame) (d : Doing) (rest bs : List ℕ) (current : Option Current) → IsBy d (record { leaf = leaf; current = current })
         → AreBuffers d.system f slots.old bs → standing d (with_operands d rest) ≡ world_seen f slots.old → d.leaf.operands ≡ value ∷ index ∷ rest
         → memory.store d width (Own slot) ≡ done (Ok tt) (world_seen f slots.new) }
-    ensures beside { SameBeside slots.old slots.new }
-    ensures unchanged { result ≡ false → slots.new ≡ slots.old }
+    ensures leaves { LeavesRestIf result slots.old slots.new }
     ensures short { result ≡ false → (n : ℕ) → space_in slots.old leaf slot ≡ Some n → n < index + bytes_of width }
 {
     let Some((here, count)) = own_space(leaf, slots, slot) else {

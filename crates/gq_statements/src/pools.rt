@@ -1,19 +1,16 @@
 // Statements on the entries of pools.
-ghost use Rattle.std.specs.Prelude.{◌≡◌, ◌<◌, ◌≤◌, ◌∷◌, ◌⊎◌, List, ℕ, IfNone, IfSome, IsTrue, OnErr, Ok, Option, Some, false, true};
+ghost use Rattle.std.specs.Prelude.{◌≡◌, ◌<◌, ◌≤◌, ◌∷◌, ◌⊎◌, List, ℕ, IfNone, IfSome, IsTrue, Ok, Option, false, true};
 ghost use Rattle.gq_model.specs.declared.program.Place.TheVariants.{Own};
 ghost use Rattle.gq_model.specs.machine.Doing.{Doing, standing, with_operands};
 ghost use Rattle.gq_model.specs.machine.Memory as memory;
-ghost use Rattle.gq_model.specs.machine.World.{Pool, slot_at};
 ghost use Rattle.gq_model.specs.texts.Operands.{is_slot};
-ghost use Rattle.gq_trade.specs.Trades.{IsLive};
-ghost use Rattle.gq_slots.specs.Slots.{Frame, IsPaidBy, IsSlot, IsSpot, holder, slot_of, content_at, world_seen};
-ghost use Rattle.gq_trade.specs.Seen.{spot_seen};
+ghost use Rattle.gq_slots.specs.Slots.{Frame, content_at, world_seen};
 ghost use Rattle.gq_trade.specs.declared.session.Spot.TheVariants.{InLeaf};
 ghost use Rattle.gq_slots.specs.Calls.{SameBeside};
 ghost use Rattle.gq_contents.specs.Contents.{entry_count, entry_size};
 ghost use Rattle.gq_statements.specs.declared.actor.Current.{Current};
-ghost use Rattle.gq_statements.specs.Statements.{IsCurrent, IsBy, Pushes, done, read, told};
-ghost use Rattle.gq_statements.specs.internal.Found.{IsPool, entries_in};
+ghost use Rattle.gq_statements.specs.Statements.{Acting, IsActor, IsBy, IsPaying, LeavesRest, LeavesRestIf, Pushes, done, read, told};
+ghost use Rattle.gq_statements.specs.internal.Found.{IsOwnPool, IsPool};
 
 use crate::actor::Actor;
 use gq_model::fault::Wrong;
@@ -25,15 +22,8 @@ impl Actor {
     // The pool that a statement names: where it stands, the bytes of an entry, and how many entries there are. `None` where it names none.
     pub(crate) fn pool(self, slots: &Slots, place: Place) -> Option<(Spot, u32, u32)>
         requires place { IsTrue (is_slot place) }
-        requires live { IsLive slots.now.trades self.leaf }
-        requires current { IsCurrent slots.now self.leaf self.current }
-        ensures there { IfSome result (λ p. IsSpot slots.now p.0) }
-        ensures kind { IfSome result (λ p. IsSlot p.0) }
-        ensures holder { IfSome result (λ p. holder slots.now p.0 ≡ self.leaf) }
-        ensures size { IfSome result (λ p. p.1 ≡ entry_size (content_at slots.now p.0)) }
-        ensures count { IfSome result (λ p. p.2 ≡ entry_count (content_at slots.now p.0)) }
-        ensures reads { IfSome result (λ p. (f : Frame) → slot_at (world_seen f slots.now) (spot_seen p.0) ≡ Some (slot_of slots.now p.0)) }
-        ensures slot { IfSome result (λ p. slot_of slots.now p.0 ≡ Pool p.1 (entries_in (slot_of slots.now p.0))) }
+        requires actor { IsActor slots.now self }
+        ensures is { IfSome result (λ p. IsOwnPool slots.now self.leaf p.0 p.1 p.2) }
         ensures found { (f : Frame) (d : Doing) → IsBy d self → IsPool d (world_seen f slots.now) place slots.now result }
     {
         slots.laws();
@@ -48,9 +38,7 @@ impl Actor {
     /// byte.
     pub fn peek(self, slots: &Slots, place: Place, index: u32, offset: u32) -> Result<u32, Wrong>
         requires place { IsTrue (is_slot place) }
-        requires live { IsLive slots.now.trades self.leaf }
-        requires paid { IsPaidBy slots.now self.leaf }
-        requires current { IsCurrent slots.now self.leaf self.current }
+        requires acting { Acting slots.now self }
         ensures step { (f : Frame) (d : Doing) (rest : List ℕ) → IsBy d self → d.world ≡ world_seen f slots.now
             → d.leaf.operands ≡ offset ∷ index ∷ rest → memory.peek d place ≡ read d rest result }
     {
@@ -77,13 +65,10 @@ impl Actor {
         value: u32,
     ) -> Result<(), Wrong>
         requires place { IsTrue (is_slot place) }
-        requires live { IsLive slots.old.trades self.leaf }
-        requires paid { IsPaidBy slots.old self.leaf }
-        requires current { IsCurrent slots.old self.leaf self.current }
+        requires acting { Acting slots.old self }
         ensures step { (f : Frame) (d : Doing) (rest : List ℕ) → IsBy d self → standing d (with_operands d rest) ≡ world_seen f slots.old
             → d.leaf.operands ≡ value ∷ offset ∷ index ∷ rest → memory.poke d place ≡ done result (world_seen f slots.new) }
-        ensures beside { SameBeside slots.old slots.new }
-        ensures unchanged { OnErr result (slots.new ≡ slots.old) }
+        ensures leaves { LeavesRest result slots.old slots.new }
     {
         let Some((spot, size, count)) = self.pool(slots, place) else {
             return Err(Wrong::WrongKind);
@@ -102,13 +87,10 @@ impl Actor {
     /// such entry; then nothing changes.
     pub fn give(self, slots: &mut Slots, place: Place, index: u32) -> Result<bool, Wrong>
         requires place { IsTrue (is_slot place) }
-        requires live { IsLive slots.old.trades self.leaf }
-        requires paid { IsPaidBy slots.old self.leaf }
-        requires current { IsCurrent slots.old self.leaf self.current }
+        requires acting { Acting slots.old self }
         ensures step { (f : ℕ → Frame) (d : Doing) (rest : List ℕ) → IsBy d self → Pushes d rest f slots.old
             → memory.give_entry d rest place index ≡ told f slots.new result }
-        ensures beside { SameBeside slots.old slots.new }
-        ensures unchanged { OnErr result (slots.new ≡ slots.old) }
+        ensures leaves { LeavesRest result slots.old slots.new }
     {
         let Some((spot, _size, count)) = self.pool(slots, place) else {
             return Err(Wrong::WrongKind);
@@ -126,8 +108,7 @@ impl Actor {
 #[inline(always)]
 pub fn peek_own(leaf: usize, slots: &Slots, slot: u8, index: u32, offset: u32) -> Option<u32>
     requires slot { slot < 64 }
-    requires live { IsLive slots.now.trades leaf }
-    requires paid { IsPaidBy slots.now leaf }
+    requires paying { IsPaying slots.now leaf }
     ensures step { IfSome result (λ n. (f : Frame) (d : Doing) (rest : List ℕ) (current : Option Current) → IsBy d (record { leaf = leaf; current = current })
         → d.world ≡ world_seen f slots.now → d.leaf.operands ≡ offset ∷ index ∷ rest → memory.peek d (Own slot) ≡ read d rest (Ok n)) }
     ensures short { IfNone result ((entry_count (content_at slots.now (InLeaf leaf slot)) ≤ index)
@@ -152,13 +133,11 @@ pub fn poke_own(
     value: u32,
 ) -> bool
     requires slot { slot < 64 }
-    requires live { IsLive slots.old.trades leaf }
-    requires paid { IsPaidBy slots.old leaf }
+    requires paying { IsPaying slots.old leaf }
     ensures step { result ≡ true → (f : Frame) (d : Doing) (rest : List ℕ) (current : Option Current) → IsBy d (record { leaf = leaf; current = current })
         → standing d (with_operands d rest) ≡ world_seen f slots.old → d.leaf.operands ≡ value ∷ offset ∷ index ∷ rest
         → memory.poke d (Own slot) ≡ done (Ok tt) (world_seen f slots.new) }
-    ensures beside { SameBeside slots.old slots.new }
-    ensures unchanged { result ≡ false → slots.new ≡ slots.old }
+    ensures leaves { LeavesRestIf result slots.old slots.new }
     ensures short { result ≡ false → (entry_count (content_at slots.old (InLeaf leaf slot)) ≤ index)
         ⊎ (entry_size (content_at slots.old (InLeaf leaf slot)) ≤ offset) }
 {
@@ -171,8 +150,7 @@ pub fn poke_own(
 #[inline(always)]
 pub fn give_own(leaf: usize, slots: &mut Slots, slot: u8, index: u32) -> Option<bool>
     requires slot { slot < 64 }
-    requires live { IsLive slots.old.trades leaf }
-    requires paid { IsPaidBy slots.old leaf }
+    requires paying { IsPaying slots.old leaf }
     ensures step { IfSome result
         (λ b. (f : ℕ → Frame) (d : Doing) (rest : List ℕ) (current : Option Current) → IsBy d (record { leaf = leaf; current = current })
         → Pushes d rest f slots.old → memory.give_entry d rest (Own slot) index ≡ told f slots.new (Ok b)) }

@@ -10,11 +10,12 @@ ghost use Rattle.gq_contents.specs.declared.content.Content.TheVariants as conte
 ghost use Rattle.gq_slots.specs.Slots.{Frame, content_at, world_seen};
 ghost use Rattle.gq_slots.specs.Calls.{SameBeside};
 ghost use Rattle.gq_slots.specs.Addresses.{AreBuffers};
-ghost use Rattle.gq_statements.specs.Statements.{done};
+ghost use Rattle.gq_statements.specs.Statements.{LeavesRest, done};
 ghost use Rattle.gq_statements.specs.Systems.{IsOf};
 ghost use Rattle.gq_statements.specs.Serving.{Closes, GoesOn, IsAwaited};
 ghost use Rattle.gq_statements.specs.internal.Tests.{are_empty, fits, is_empty, is_space_of};
 
+use crate::laws::lawful;
 use gq_contents::Content;
 use gq_model::fault::Wrong;
 use gq_slots::{Addresses, Slots, sessions};
@@ -47,8 +48,7 @@ pub fn reply_open(addresses: &Addresses, slots: &mut Slots, session: usize) -> R
     requires small { session < 4294967296 }
     ensures opened { (f : Frame) (d : Doing) (q : world.Session) → world.session_at d.world session ≡ Some q → AreBuffers d.system f slots.old addresses.now
         → GoesOn d q (λ operands. operands) f slots.old → step.reply d session section.Opening q ≡ done result (world_seen f slots.new) }
-    ensures beside { SameBeside slots.old slots.new }
-    ensures unchanged { OnErr result (slots.new ≡ slots.old) }
+    ensures leaves { LeavesRest result slots.old slots.new }
 {
     slots.trades().laws();
     let service = slots.trades().session(session).service;
@@ -96,9 +96,8 @@ pub fn reply_close(slots: &mut Slots, session: usize) -> Result<(), Wrong>
     ensures ends { OnOk result (Closes slots.old slots.new session) }
     ensures unchanged { OnErr result (slots.new ≡ slots.old) }
 {
+    lawful(slots);
     slots.laws();
-    slots.trades().laws();
-    slots.trades().memory().accounts().laws();
     let Session {
         spot,
         slots: bank,
@@ -110,9 +109,7 @@ pub fn reply_close(slots: &mut Slots, session: usize) -> Result<(), Wrong>
     match sessions::closed(slots, session) {
         Err(_) => Err(Wrong::ExceededQuota),
         Ok(()) => {
-            slots.laws();
-            slots.trades().laws();
-            slots.trades().memory().accounts().laws();
+            lawful(slots);
             slots.mark(spot, Content::Empty);
             Ok(())
         }

@@ -4,17 +4,15 @@ ghost use Rattle.gq_model.specs.machine.World as world;
 ghost use Rattle.gq_model.specs.machine.Doing.{Doing};
 ghost use Rattle.gq_model.specs.machine.Step as step;
 ghost use Rattle.gq_trade.specs.declared.requests.Ask.TheVariants as asks;
-ghost use Rattle.gq_trade.specs.Queues.{IsOldest};
-ghost use Rattle.gq_trade.specs.Numbers.{IsTaken};
-ghost use Rattle.gq_trade.specs.Trading.{object_size, server_of, session_at};
-ghost use Rattle.gq_trade.specs.Trades.{IsLive};
 ghost use Rattle.gq_slots.specs.Slots.{Frame, IsPaidBy, memory_of, world_seen};
 ghost use Rattle.gq_slots.specs.Session_calls.{TakesOldest};
-ghost use Rattle.gq_statements.specs.Serving.{AreSections, Begins, IsSection, found, place, taken};
+ghost use Rattle.gq_statements.specs.Serving.{AreSections, Begins, IsNextRequest, IsSection, KnowsService, found, place, taken};
+ghost use Rattle.gq_statements.specs.Statements.{IsPaying};
 ghost use Rattle.gq_statements.specs.internal.Beginning.{can_pay, has_some, section_of};
 ghost use Rattle.gq_trade.specs.Stores.{store_of};
 ghost use Rattle.gq_model.specs.declared.fault.Wrong.TheVariants as wrong;
 
+use crate::laws::lawful;
 use gq_model::fault::Wrong;
 use gq_model::program::Section;
 use gq_slots::{Slots, sessions};
@@ -121,24 +119,17 @@ pub fn accept(
     server: usize,
     request: Request,
 ) -> Result<(), Wrong>
-    requires live { IsLive slots.old.trades server }
-    requires paid { IsPaidBy slots.old server }
-    requires oldest { IsOldest server slots.old.trades.trading.requests request }
-    requires there { IsTaken slots.old.trades.trading.sessions request.session }
-    requires its { server_of slots.old.trades.trading request.session ≡ server }
-    requires level { request.ask ≡ asks.Upgrade → (session_at slots.old.trades.trading request.session).level < 3 }
-    requires object { object_size slots.old.trades.trading request.session ≡ provider.now.object }
-    requires size { provider.now.object ≤ 67108864 }
-    requires counted { provider.now.counts_caps ≡ not (nat_eq slots.old.trades.trading.memory.ledger.price 0) }
+    requires paying { IsPaying slots.old server }
+    requires first { IsNextRequest slots.old server request }
+    requires knows { KnowsService slots.old request.session provider.now.object provider.now.counts_caps }
     ensures step { (e : Frame) (f : world.Request → Frame) (d : Doing) → d.x ≡ server → d.world ≡ world_seen e slots.old
         → AreSections provider.now.sections.now d.component → Begins d f slots.old
         → step.accept_oldest d (step.oldest d.world d.x d.world.requests) ≡ taken d f slots.new (found request result) }
     ensures takes { OnOk result (TakesOldest slots.old slots.new server request) }
     ensures unchanged { OnErr result (slots.new ≡ slots.old) }
 {
+    lawful(slots);
     slots.laws();
-    slots.trades().laws();
-    slots.trades().memory().accounts().laws();
     let level = slots.trades().level(request.session);
     let section = section_of(request.ask, level);
     if !provider.has(section) {
@@ -147,9 +138,7 @@ pub fn accept(
     match sessions::accept(slots, server) {
         Err(_) => Err(Wrong::ExceededQuota),
         Ok(_) => {
-            slots.laws();
-            slots.trades().laws();
-            slots.trades().memory().accounts().laws();
+            lawful(slots);
             Ok(())
         }
     }

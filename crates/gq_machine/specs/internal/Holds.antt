@@ -1,6 +1,8 @@
 -- What holds of a machine between two steps.
-use Rattle.std.specs.Prelude.{◌≡◌, ℕ, ◌+◌, ◌<◌, ◌^◌, List, length, slice_get, Option, Some, None}
+use Rattle.std.specs.Prelude.{◌≡◌, ℕ, ◌+◌, ◌<◌, ◌^◌, List, length, slice_get, Option, Some, None, Result, OnErr, OnOk}
 use Rattle.gq_model.specs.declared.program.Instruction.{Instruction}
+use Rattle.gq_model.specs.declared.fault.Wrong.{Wrong}
+use Rattle.gq_model.specs.declared.phase.Phase.TheVariants.{Serving}
 use Rattle.gq_model.specs.machine.Doing.{Stepped}
 use Rattle.gq_model.specs.machine.Scenario.{Scenario, Component, components, system}
 use Rattle.gq_model.specs.machine.Step.{next}
@@ -8,16 +10,19 @@ use Rattle.gq_model.specs.machine.World as world
 use Rattle.gq_bytecode.specs.Nexts.{Active}
 use Rattle.gq_bytecode.specs.Programs.{IsCodeOfProgram}
 use Rattle.gq_bytecode.specs.declared.operation.Operation.{Operation}
+use Rattle.gq_bytecode.specs.declared.operation.Operation.TheVariants.{End}
 use Rattle.gq_laws.specs.Links.{IsLinkedWorld}
 use Rattle.gq_laws.specs.Room.{IsRoomy}
 use Rattle.gq_laws.specs.Phases.{AreReady}
 use Rattle.gq_slots.specs.Slots.{IsPaidBy}
 use Rattle.gq_statements.specs.Systems.{IsOf}
 use Rattle.gq_statements.specs.Serving.{AreSections}
+use Rattle.gq_statements.specs.declared.actor.Current.{Current}
 use Rattle.gq_laws.specs.Ready.{IsReady}
 use Rattle.gq_prepared.specs.Nodes.{AreNodesOf}
 use Rattle.gq_prepared.specs.Prepared.{AreOpenings, AreServices}
 use Rattle.gq_leaf.specs.Coded.{Coded, operation_of}
+use Rattle.gq_machine.specs.Countable.{AreCountable}
 use Rattle.gq_machine.specs.Worlds.{frame_of, world_of}
 use Rattle.gq_machine.specs.declared.state.Fixed.{Fixed}
 use Rattle.gq_machine.specs.declared.state.Prepared.{Prepared}
@@ -66,6 +71,45 @@ OfLeaf P (Some l) = P l
 pub record IsNext (m : State) (x : ℕ) (does : Operation) : Type 0 where
   pub active : OfLeaf (λ l. Active l.state.phase) (slice_get m.leaves.items x)
   pub next : OfLeaf (λ l. operation_of l ≡ Some does) (slice_get m.leaves.items x)
+
+-- a leaf that takes a step and pays, of which this operation is next
+pub record CanDo (f : Fixed) (m : State) (x : ℕ) (does : Operation) : Type 0 where
+  pub can : CanStep f m x
+  pub next : IsNext m x does
+
+-- a leaf that takes a step of its own, and pays
+pub record CanAct (f : Fixed) (m : State) (x : ℕ) : Type 0 where
+  pub can : CanStep f m x
+  pub active : OfLeaf (λ l. Active l.state.phase) (slice_get m.leaves.items x)
+
+-- the same, where so many steps can be counted
+pub record CanGoOn (f : Fixed) (m : State) (x turns : ℕ) : Type 0 where
+  pub can : CanStep f m x
+  pub active : OfLeaf (λ l. Active l.state.phase) (slice_get m.leaves.items x)
+  pub countable : OfLeaf (λ l. l.state.steps + turns < 2 ^ 64) (slice_get m.leaves.items x)
+
+-- a leaf that waits for a request, and pays
+pub record CanServe (f : Fixed) (m : State) (x : ℕ) : Type 0 where
+  pub can : CanStep f m x
+  pub serves : OfLeaf (λ l. l.state.phase ≡ Serving) (slice_get m.leaves.items x)
+
+-- a leaf at the end of a section for its current request, which pays
+pub record EndsSection (f : Fixed) (m : State) (x : ℕ) (current : Current) : Type 0 where
+  pub can : CanStep f m x
+  pub next : IsNext m x End
+  pub at_current : OfLeaf (λ l. l.state.current ≡ Some current) (slice_get m.leaves.items x)
+
+-- a leaf of a machine that holds, whatever it does, of whose turns so many can be counted
+pub record CanTakeTurns (f : Fixed) (m : State) (x turns : ℕ) : Type 0 where
+  pub holds : Holds f m
+  pub leaf : x < length (components f.table)
+  pub countable : AreCountable (world_of f.table m.leaves.items m.slots) x turns
+
+-- What a step leaves: what is kept between two steps holds still; and where it is wrong, nothing changes.
+pub record LeavesState {A : Type 0} (result : Result A Wrong) (f : Fixed) (old new : State) : Type 0 where
+  pub holds : OnOk result (Holds f new)
+  pub leaves : OnErr result (new.leaves.items ≡ old.leaves.items)
+  pub slots : OnErr result (new.slots ≡ old.slots)
 
 -- after a step the leaf takes steps of its own as before, of which one more is counted, and it still pays
 pub record ActsOn (old new : State) (x : ℕ) : Type 0 where

@@ -8,10 +8,11 @@ use Rattle.gq_model.specs.declared.fault.Wrong.TheVariants.{WrongKind}
 use Rattle.gq_model.specs.machine.Memory.{bytes_at, pool_at}
 use Rattle.gq_contents.specs.declared.content.Content.{Content}
 use Rattle.gq_contents.specs.declared.content.Content.TheVariants.{Empty, Block, Slice, Space, Pool, Link, Waiting}
-use Rattle.gq_contents.specs.Contents.{bytes_in}
+use Rattle.gq_contents.specs.Contents.{bytes_in, entry_count, entry_size, size_of}
 use Rattle.gq_trade.specs.declared.session.Spot.{Spot}
 use Rattle.gq_trade.specs.Seen.{spot_seen}
-use Rattle.gq_slots.specs.Slots.{Slots, slot_of}
+use Rattle.gq_trade.specs.Trades.{IsLive}
+use Rattle.gq_slots.specs.Slots.{Frame, IsSlot, IsSpot, Slots, content_at, holder, slot_of, world_seen}
 
 -- how many bytes it has, if it is one of bytes
 abbrev pub byte_count : Content → Option ℕ
@@ -31,6 +32,18 @@ with_bytes new (world.Pool n entries) = world.Pool n entries
 with_bytes new (world.Link k) = world.Link k
 with_bytes new (world.Waiting k) = world.Waiting k
 
+-- n bytes in a slot that is there, of a leaf that is live
+pub record AreBytes (s : Slots) (p : Spot) (n : ℕ) : Type 0 where
+  pub there : IsSpot s p
+  pub live : IsLive s.trades (holder s p)
+  pub size : n ≡ size_of (content_at s p)
+
+-- n bytes in a slot that is there, which the leaf x pays for
+pub record AreOwnBytes (s : Slots) (x : ℕ) (p : Spot) (n : ℕ) : Type 0 where
+  pub there : IsSpot s p
+  pub own : holder s p ≡ x
+  pub size : n ≡ size_of (content_at s p)
+
 -- A step goes on with the bytes of this slot in the world w, or none are named.
 abbrev pub IsFound : Doing → world.World → Place → Slots → Option (Spot × ℕ) → Type 0
 IsFound d w place s None = (go : List ℕ → (List ℕ → world.World) → Stepped) → bytes_at d w place go ≡ Err WrongKind
@@ -44,6 +57,16 @@ entries_in (world.Bytes f n bytes) = []
 entries_in (world.Pool n entries) = entries
 entries_in (world.Link k) = []
 entries_in (world.Waiting k) = []
+
+-- a pool of m entries of n bytes in a slot that is there, which the leaf x pays for
+pub record IsOwnPool (s : Slots) (x : ℕ) (p : Spot) (n m : ℕ) : Type 0 where
+  pub there : IsSpot s p
+  pub kind : IsSlot p
+  pub holder_is : holder s p ≡ x
+  pub size : n ≡ entry_size (content_at s p)
+  pub count : m ≡ entry_count (content_at s p)
+  pub reads : (f : Frame) → world.slot_at (world_seen f s) (spot_seen p) ≡ Some (slot_of s p)
+  pub slot : slot_of s p ≡ world.Pool n (entries_in (slot_of s p))
 
 -- A step goes on with the pool of this slot in the world w, whose entries have so many bytes, or none is named.
 abbrev pub IsPool : Doing → world.World → Place → Slots → Option (Spot × ℕ × ℕ) → Type 0

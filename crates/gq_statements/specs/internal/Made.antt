@@ -1,5 +1,5 @@
 -- Memory that a statement makes.
-use Rattle.std.specs.Prelude.{◌≡◌, false, Option, Some, None, Err}
+use Rattle.std.specs.Prelude.{◌≡◌, ◌<◌, length, false, Option, Some, None, Result, Err, OnErr, OnOk}
 use Rattle.gq_model.specs.declared.program.Place.{Place}
 use Rattle.gq_model.specs.machine.Scenario.{System}
 use Rattle.gq_model.specs.machine.World as world
@@ -8,7 +8,8 @@ use Rattle.gq_model.specs.machine.Doing.{Doing, Stepped, fill, need}
 use Rattle.gq_model.specs.declared.fault.Wrong.TheVariants.{WrongKind}
 use Rattle.gq_trade.specs.declared.session.Spot.{Spot}
 use Rattle.gq_trade.specs.Seen.{spot_seen}
-use Rattle.gq_slots.specs.Slots.{Frame, Slots, holder, settled_in, world_seen}
+use Rattle.gq_slots.specs.Slots.{Frame, IsPaidBy, IsSlot, IsSpot, Slots, holder, settled_in, world_seen}
+use Rattle.gq_slots.specs.Calls.{Settles}
 use Rattle.gq_statements.specs.Systems.{IsOf}
 
 -- a step goes on with something new in the slot that it names
@@ -24,3 +25,16 @@ IsFilled d w place (Some p) = (slot : world.Slot) (go : world.World → Stepped)
 abbrev pub IsUnpaid : Slots → Spot → world.Slot → Type 0
 IsUnpaid s p slot = (system : System) (f : Frame) → IsOf system f s
     → paid system (settled_in (holder s p) (world.with_slot (world_seen f s) (spot_seen p) slot)) ≡ false
+
+-- a slot in which something can be made: it is there, and its leaf pays
+pub record IsPayable (s : Slots) (p : Spot) : Type 0 where
+  pub slot : IsSlot p
+  pub there : IsSpot s p
+  pub paid : IsPaidBy s (holder s p)
+  pub below : holder s p < length s.own
+
+-- This is made in the slot p; or nothing changes, and it could not be paid.
+pub record IsMade {A E : Type 0} (result : Result A E) (old new : Slots) (p : Spot) (slot : world.Slot) : Type 0 where
+  pub settles : OnOk result (Settles old new p slot)
+  pub unchanged : OnErr result (new ≡ old)
+  pub unpaid : OnErr result (IsUnpaid old p slot)

@@ -24,24 +24,23 @@ use Rattle.gq_machine.proofs.asking.gift.Goals.{in-None, in-Some}
 pub link-requires-clause-place : goal.link-requires-clause-place
 link-requires-clause-place c = c.names_slot.ensures (instruction.Upgrade c.args.place c.args.bytes) c.args.place refl refl
 
-pub link-requires-clause-live : goal.link-requires-clause-live
-link-requires-clause-live c =
-    let can = c.requires.can in
+pub link-requires-clause-actor : goal.link-requires-clause-actor
+link-requires-clause-actor c =
+    let can = c.requires.does.can in
     let m = c.args.state.now in
-    live c.args.fixed.now m can.holds c.lawful.ensures c.args.number can.component can.leaf can.component_is can.leaf_is
-    (active_live can.leaf.state.phase (of_leaf (λ l. Active l.state.phase) (slice_get m.leaves.items c.args.number) can.leaf can.leaf_is
-    c.requires.next.active))
-
-pub link-requires-clause-current : goal.link-requires-clause-current
-link-requires-clause-current c =
-    let can = c.requires.can in
-    let m = c.args.state.now in
-    let there = item_there m.leaves.items c.args.number can.leaf c.index-leaf.result.now can.leaf_is c.index-leaf.ensures in
-    subst (IsCurrent m.slots c.args.number) (sym c.current.ensures)
-    (at_current c.args.fixed.now m can.holds c.lawful.ensures c.args.number can.component c.index-leaf.result.now can.component_is there)
+    record {
+      live =
+          live c.args.fixed.now m can.holds c.lawful.ensures c.args.number can.component can.leaf can.component_is can.leaf_is
+          (active_live can.leaf.state.phase (of_leaf (λ l. Active l.state.phase) (slice_get m.leaves.items c.args.number) can.leaf can.leaf_is
+          c.requires.does.next.active));
+      current =
+          let there = item_there m.leaves.items c.args.number can.leaf c.index-leaf.result.now can.leaf_is c.index-leaf.ensures in
+          subst (IsCurrent m.slots c.args.number) (sym c.current.ensures)
+          (at_current c.args.fixed.now m can.holds c.lawful.ensures c.args.number can.component c.index-leaf.result.now can.component_is there);
+    }
 
 pub link-requires-clause-linked : goal.link-requires-clause-linked
-link-requires-clause-linked c = own_links c.args.fixed.now c.args.state.now c.requires.can.holds c.lawful.ensures c.args.number
+link-requires-clause-linked c = own_links c.args.fixed.now c.args.state.now c.requires.does.can.holds c.lawful.ensures c.args.number
 
 of_there : (P : Coded → Type 0) (o : Option Coded) (l : Coded) → o ≡ Some l → P l → OfLeaf P o
 of_there P o l e h = subst (OfLeaf P) (sym e) h
@@ -58,7 +57,7 @@ gives n bytes caps more e h = λ i. record { ram = e i; caps = h i }
 
 pub returns-clause-gift : goal.returns-clause-gift
 returns-clause-gift c =
-    let can = c.requires.can in
+    let can = c.requires.does.can in
     let f = c.args.fixed.now in
     let m = c.args.state.now in
     let s = f.table in

@@ -1,5 +1,5 @@
 -- A session that is opened.
-use Rattle.std.proofs.Common.{◌≡◌, ◌<◌, ◌+◌, ◌^◌, ℕ, List, [], Option, Some, None, get_or, length, refl, sym, ap, subst, ◌∙◌, arith}
+use Rattle.std.proofs.Common.{◌≡◌, ◌<◌, ◌+◌, ◌^◌, ℕ, List, [], Option, Some, None, get_or, length, refl, sym, ap, subst, ◌∙◌, arith, rules}
 use Rattle.std.specs.Prelude.{slice_get, slice_set}
 use Rattle.std.proofs.lemmas.Result.{on_err_weaker}
 use Rattle.gq_model.specs.declared.program.Instruction.TheVariants as instruction
@@ -32,7 +32,7 @@ led s o c name p there h = subst (λ d. LeadsBy s d name p) there h
 
 pub returns-in_default-clause-step : goal.returns-in_default-clause-step
 returns-in_default-clause-step c =
-    let can = c.requires.can in
+    let can = c.requires.does.can in
     let f = c.args.fixed.now in
     let m = c.args.state.now in
     let ls = m.leaves.items in
@@ -46,35 +46,27 @@ returns-in_default-clause-step c =
     (c.opening-opening.ensures c.args.place opens.0 c.args.bytes opens.1) in
     c.opens_nowhere.ensures c.args.place opens.0 c.args.bytes x f.services.buffers m.slots long (system f.table) (frame_of f.table ls) can.component
     c.lawful.ensures (standing f m can.holds c.lawful.ensures x can.component old can.component_is there)
-    (of_leaf (λ l. Active l.state.phase) (slice_get ls x) old there c.requires.next.active) (is.server ∙ c.in_default.is)
+    (of_leaf (λ l. Active l.state.phase) (slice_get ls x) old there c.requires.does.next.active) (is.server ∙ c.in_default.is)
 
 pub names_slot-requires-clause-next : goal.names_slot-requires-clause-next
 names_slot-requires-clause-next c =
-    let can = c.requires.can in
+    let can = c.requires.does.can in
     let m = c.args.state.now in
     let old = c.index_mut-leaf.result.now in
     let there = item_there m.leaves.items c.args.number can.leaf old can.leaf_is c.index_mut-leaf.ensures.value in
-    of_leaf (λ l. operation_of l ≡ Some (Long c.args.statement)) (slice_get m.leaves.items c.args.number) old there c.requires.next.next
+    of_leaf (λ l. operation_of l ≡ Some (Long c.args.statement)) (slice_get m.leaves.items c.args.number) old there c.requires.does.next.next
 
 pub opens_nowhere-requires : goal.opens_nowhere-requires
 opens_nowhere-requires c =
-    let can = c.requires.can in
+    let can = c.requires.does.can in
     let m = c.args.state.now in
     let old = c.index_mut-leaf.result.now in
     let there = item_there m.leaves.items c.args.number can.leaf old can.leaf_is c.index_mut-leaf.ensures.value in
-    of_leaf (λ l. operation_of l ≡ Some (Long c.args.statement)) (slice_get m.leaves.items c.args.number) old there c.requires.next.next
-
-pub open-done-requires-clause-next : goal.open-done-requires-clause-next
-open-done-requires-clause-next c =
-    let can = c.requires.can in
-    let m = c.args.state.now in
-    let old = c.index_mut-leaf.result.now in
-    let there = item_there m.leaves.items c.args.number can.leaf old can.leaf_is c.index_mut-leaf.ensures.value in
-    of_leaf (λ l. operation_of l ≡ Some (Long c.args.statement)) (slice_get m.leaves.items c.args.number) old there c.requires.next.next
+    of_leaf (λ l. operation_of l ≡ Some (Long c.args.statement)) (slice_get m.leaves.items c.args.number) old there c.requires.does.next.next
 
 pub open-done-requires-clause-place : goal.open-done-requires-clause-place
 open-done-requires-clause-place c =
-    let can = c.requires.can in
+    let can = c.requires.does.can in
     let m = c.args.state.now in
     let old = c.index_mut-leaf.result.now in
     let there = item_there m.leaves.items c.args.number can.leaf old can.leaf_is c.index_mut-leaf.ensures.value in
@@ -83,92 +75,80 @@ open-done-requires-clause-place c =
     c.names_slot.ensures i c.args.place
     (of_leaf (λ l. slice_get l.code.longs c.args.statement ≡ Some i) (slice_get m.leaves.items c.args.number) old there opens.1) refl
 
-pub open-done-requires-clause-countable : goal.open-done-requires-clause-countable
-open-done-requires-clause-countable c =
-    let can = c.requires.can in
+pub open-done-requires-clause-due : goal.open-done-requires-clause-due
+open-done-requires-clause-due c =
+    let can = c.requires.does.can in
     let m = c.args.state.now in
     let old = c.index_mut-leaf.result.now in
     let there = item_there m.leaves.items c.args.number can.leaf old can.leaf_is c.index_mut-leaf.ensures.value in
-    subst (λ (l : Coded). l.state.steps + 1 < 2 ^ 64) (Rattle.gq_model.proofs.Small.some_same (sym can.leaf_is ∙ there)) can.countable
+    record {
+      next =
+          of_leaf (λ l. operation_of l ≡ Some (Long c.args.statement)) (slice_get m.leaves.items c.args.number) old there c.requires.does.next.next;
+      countable =
+          subst (λ (l : Coded). l.state.steps + 1 < 2 ^ 64) (Rattle.gq_model.proofs.Small.some_same (sym can.leaf_is ∙ there)) can.countable;
+    }
 
-pub open-done-requires-clause-live : goal.open-done-requires-clause-live
-open-done-requires-clause-live c =
-    let can = c.requires.can in
-    let m = c.args.state.now in
-    live c.args.fixed.now m can.holds c.lawful.ensures c.args.number can.component can.leaf can.component_is can.leaf_is
-    (active_live can.leaf.state.phase (of_leaf (λ l. Active l.state.phase) (slice_get m.leaves.items c.args.number) can.leaf can.leaf_is
-    c.requires.next.active))
+pub open-done-requires-clause-opens : goal.open-done-requires-clause-opens
+open-done-requires-clause-opens c =
+    let can = c.requires.does.can in
+    let f = c.args.fixed.now in
+    let opens = c.requires.opens in
+    record {
+      server =
+          let m = c.args.state.now in
+          let x = c.args.number in
+          let ls = m.leaves.items in
+          let is = led f.table (slice_get (components f.table) x) can.component opens.0 c.opening-opening.result can.component_is
+          (c.opening-opening.ensures c.args.place opens.0 c.args.bytes opens.1) in
+          let p = prepared_at f m can.holds x can.component can.leaf can.component_is can.leaf_is in
+          let next = of_leaf (λ l. operation_of l ≡ Some (Long c.args.statement)) (slice_get ls x) can.leaf can.leaf_is c.requires.does.next.next in
+          let long = of_leaf (λ l. slice_get l.code.longs c.args.statement ≡ Some (instruction.Open c.args.place opens.0 c.args.bytes)) (slice_get ls x)
+          can.leaf
+          can.leaf_is opens.1 in
+          let o = opening_at f can.component can.leaf p.has p.is c.args.statement next c.args.place opens.0 c.args.bytes long in
+          let routed = is.server ∙ c.in-Some.is in (
+            server_live f m can.holds c.lawful.ensures x c.in-Some.server can.component opens.0 can.component_is routed,
+            apart f.table can.holds.ready x c.in-Some.server can.component opens.0 can.component_is o.used routed,
+          );
+      service =
+          let is = led f.table (slice_get (components f.table) c.args.number) can.component opens.0 c.opening-opening.result can.component_is
+          (c.opening-opening.ensures c.args.place opens.0 c.args.bytes opens.1) in
+          let less = (is.service c.in-Some.server c.in-Some.is).0 in
+          let count = service_count f c.args.state.now can.holds c.lawful.ensures in
+          omega (arith, less, count);
+      counted = λ none.
+          let is = led f.table (slice_get (components f.table) c.args.number) can.component opens.0 c.opening-opening.result can.component_is
+          (c.opening-opening.ensures c.args.place opens.0 c.args.bytes opens.1) in
+          is.caps ∙ no_open_caps f.table (uncounted f c.args.state.now can.holds none) opens.0;
+      room =
+          let few = few_there c.args.fixed.now c.args.state.now c.requires.does.can.holds c.lawful.ensures c.laws.ensures.sound in
+          let room = c.requires.does.can.holds.room_is in
+          omega (arith, few, room);
+      small =
+          let few = few_there c.args.fixed.now c.args.state.now c.requires.does.can.holds c.lawful.ensures c.laws.ensures.sound in omega (arith, few);
+    }
 
-pub open-done-requires-clause-current : goal.open-done-requires-clause-current
-open-done-requires-clause-current c =
-    let can = c.requires.can in
+pub open-done-requires-clause-asks : goal.open-done-requires-clause-asks
+open-done-requires-clause-asks c =
+    let can = c.requires.does.can in
     let m = c.args.state.now in
     let old = c.index_mut-leaf.result.now in
     let there = item_there m.leaves.items c.args.number can.leaf old can.leaf_is c.index_mut-leaf.ensures.value in
-    at_current c.args.fixed.now m can.holds c.lawful.ensures c.args.number can.component old can.component_is there
-
-pub open-done-requires-clause-server : goal.open-done-requires-clause-server
-open-done-requires-clause-server c =
-    let can = c.requires.can in
-    let f = c.args.fixed.now in
-    let m = c.args.state.now in
-    let x = c.args.number in
-    let ls = m.leaves.items in
-    let opens = c.requires.opens in
-    let is = led f.table (slice_get (components f.table) x) can.component opens.0 c.opening-opening.result can.component_is
-    (c.opening-opening.ensures c.args.place opens.0 c.args.bytes opens.1) in
-    let p = prepared_at f m can.holds x can.component can.leaf can.component_is can.leaf_is in
-    let next = of_leaf (λ l. operation_of l ≡ Some (Long c.args.statement)) (slice_get ls x) can.leaf can.leaf_is c.requires.next.next in
-    let long = of_leaf (λ l. slice_get l.code.longs c.args.statement ≡ Some (instruction.Open c.args.place opens.0 c.args.bytes)) (slice_get ls x) can.leaf
-    can.leaf_is opens.1 in
-    let o = opening_at f can.component can.leaf p.has p.is c.args.statement next c.args.place opens.0 c.args.bytes long in
-    let routed = is.server ∙ c.in-Some.is in (
-      server_live f m can.holds c.lawful.ensures x c.in-Some.server can.component opens.0 can.component_is routed,
-      apart f.table can.holds.ready x c.in-Some.server can.component opens.0 can.component_is o.used routed,
-    )
-
-pub open-done-requires-clause-service : goal.open-done-requires-clause-service
-open-done-requires-clause-service c =
-    let can = c.requires.can in
-    let f = c.args.fixed.now in
-    let opens = c.requires.opens in
-    let is = led f.table (slice_get (components f.table) c.args.number) can.component opens.0 c.opening-opening.result can.component_is
-    (c.opening-opening.ensures c.args.place opens.0 c.args.bytes opens.1) in
-    let less = (is.service c.in-Some.server c.in-Some.is).0 in
-    let count = service_count f c.args.state.now can.holds c.lawful.ensures in
-    omega (arith, less, count)
-
-pub open-done-requires-clause-counted : goal.open-done-requires-clause-counted
-open-done-requires-clause-counted c none =
-    let can = c.requires.can in
-    let f = c.args.fixed.now in
-    let opens = c.requires.opens in
-    let is = led f.table (slice_get (components f.table) c.args.number) can.component opens.0 c.opening-opening.result can.component_is
-    (c.opening-opening.ensures c.args.place opens.0 c.args.bytes opens.1) in
-    is.caps ∙ no_open_caps f.table (uncounted f c.args.state.now can.holds none) opens.0
-
-pub open-done-requires-clause-room : goal.open-done-requires-clause-room
-open-done-requires-clause-room c =
-    let few = few_there c.args.fixed.now c.args.state.now c.requires.can.holds c.lawful.ensures c.laws.ensures.sound in
-    let room = c.requires.can.holds.room_is in
-    omega (arith, few, room)
-
-pub open-done-requires-clause-small : goal.open-done-requires-clause-small
-open-done-requires-clause-small c =
-    let few = few_there c.args.fixed.now c.args.state.now c.requires.can.holds c.lawful.ensures c.laws.ensures.sound in omega (arith, few)
-
-pub open-done-requires-clause-idle : goal.open-done-requires-clause-idle
-open-done-requires-clause-idle c =
-    let can = c.requires.can in
-    let m = c.args.state.now in
-    let old = c.index_mut-leaf.result.now in
-    let there = item_there m.leaves.items c.args.number can.leaf old can.leaf_is c.index_mut-leaf.ensures.value in
-    is_idle c.args.fixed.now m can.holds c.lawful.ensures c.args.number can.component old can.component_is there
-    (active_awake old.state.phase (of_leaf (λ l. Active l.state.phase) (slice_get m.leaves.items c.args.number) old there c.requires.next.active))
+    record {
+      live =
+          live c.args.fixed.now m can.holds c.lawful.ensures c.args.number can.component can.leaf can.component_is can.leaf_is
+          (active_live can.leaf.state.phase (of_leaf (λ l. Active l.state.phase) (slice_get m.leaves.items c.args.number) can.leaf can.leaf_is
+          c.requires.does.next.active));
+      current =
+          at_current c.args.fixed.now m can.holds c.lawful.ensures c.args.number can.component old can.component_is there;
+      idle =
+          is_idle c.args.fixed.now m can.holds c.lawful.ensures c.args.number can.component old can.component_is there
+          (active_awake old.state.phase (of_leaf (λ l. Active l.state.phase) (slice_get m.leaves.items c.args.number) old there c.requires.does.next.active));
+    }
 
 pub returns-clause-step : goal.returns-clause-step
 returns-clause-step c =
-    let can = c.requires.can in
+    let can = c.requires.does.can in
     let f = c.args.fixed.now in
     let m = c.args.state.now in
     let ls = m.leaves.items in
@@ -183,42 +163,43 @@ returns-clause-step c =
     (c.opening-opening.ensures c.args.place opens.0 c.args.bytes opens.1) in
     c.open-done.ensures.step opens.0 c.args.bytes f.services.buffers long (system f.table) (frame_of f.table ls) (frame_of f.table (slice_set ls x new))
     can.component c.lawful.ensures (standing f m can.holds c.lawful.ensures x can.component old can.component_is there)
-    (of_leaf (λ l. Active l.state.phase) (slice_get ls x) old there c.requires.next.active) (elsewhere f.table ls x new)
+    (of_leaf (λ l. Active l.state.phase) (slice_get ls x) old there c.requires.does.next.active) (elsewhere f.table ls x new)
     (leaf_set f.table ls x can.component old new can.component_is there) (sym (is.service c.in-Some.server c.in-Some.is).1) (is.server ∙ c.in-Some.is)
     (λ i. record { ram = c.from.ensures i; caps = is.caps i })
 
-pub returns-clause-holds : goal.returns-clause-holds
-returns-clause-holds c = on_ok c.open-done.result _ (λ e.
-    let can = c.requires.can in
-    let f = c.args.fixed.now in
-    let m = c.args.state.now in
-    let x = c.args.number in
-    let old = c.index_mut-leaf.result.now in
-    let new = c.open-done.new.self in
-    let there = item_there m.leaves.items x can.leaf old can.leaf_is c.index_mut-leaf.ensures.value in
-    let active = of_leaf (λ l. Active l.state.phase) (slice_get m.leaves.items x) old there c.requires.next.active in
-    let to = waits_to c.open-done.result _ e c.open-done.ensures.waits in
-    kept_one f m _ x can.component old new Quiet can.holds c.lawful.ensures c.lawful-2.ensures can.component_is there refl
-    (ap (λ (l : Coded). l.code) to) (ap (λ (l : Coded). stage_in l.state.phase) to ∙ active_stage old.state.phase active)
-    (scene_asked m.slots c.open-done.new.slots c.open-done.ensures.stays)
-    (returns-clause-step c ∙ ap (λ r. done r (world_of f.table (slice_set m.leaves.items x new) c.open-done.new.slots)) e))
-
 pub returns-clause-leaves : goal.returns-clause-leaves
 returns-clause-leaves c =
-    let can = c.requires.can in
+    let can = c.requires.does.can in
     let m = c.args.state.now in
     let old = c.index_mut-leaf.result.now in
-    let there = item_there m.leaves.items c.args.number can.leaf old can.leaf_is c.index_mut-leaf.ensures.value in
-    on_err_weaker c.open-done.result (λ same. ap (slice_set m.leaves.items c.args.number) same ∙ set_there m.leaves.items c.args.number old there)
-    c.open-done.ensures.same
-
-pub returns-clause-slots : goal.returns-clause-slots
-returns-clause-slots c = c.open-done.ensures.unchanged
+    record {
+      holds = on_ok c.open-done.result _ (λ e.
+          let f = c.args.fixed.now in
+          let x = c.args.number in
+          let new = c.open-done.new.self in
+          let there = item_there m.leaves.items x can.leaf old can.leaf_is c.index_mut-leaf.ensures.value in
+          let active = of_leaf (λ l. Active l.state.phase) (slice_get m.leaves.items x) old there c.requires.does.next.active in
+          let to = waits_to c.open-done.result _ e c.open-done.ensures.waits.waits in
+          kept_one f m _ x can.component old new Quiet can.holds c.lawful.ensures c.lawful-2.ensures can.component_is there refl
+          (ap (λ (l : Coded). l.code) to) (ap (λ (l : Coded). stage_in l.state.phase) to ∙ active_stage old.state.phase active)
+          (scene_asked m.slots c.open-done.new.slots c.open-done.ensures.waits.stays)
+          (returns-clause-step c ∙ ap (λ r. done r (world_of f.table (slice_set m.leaves.items x new) c.open-done.new.slots)) e));
+      leaves =
+          let there = item_there m.leaves.items c.args.number can.leaf old can.leaf_is c.index_mut-leaf.ensures.value in
+          on_err_weaker c.open-done.result (λ same. ap (slice_set m.leaves.items c.args.number) same ∙ set_there m.leaves.items c.args.number old there)
+          c.open-done.ensures.waits.same;
+      slots = c.open-done.ensures.waits.unchanged;
+    }
 
 pub returns-in_default-clause-leaves : goal.returns-in_default-clause-leaves
 returns-in_default-clause-leaves c =
-    let can = c.requires.can in
-    let m = c.args.state.now in
-    let old = c.index_mut-leaf.result.now in
-    let there = item_there m.leaves.items c.args.number can.leaf old can.leaf_is c.index_mut-leaf.ensures.value in
-    set_there m.leaves.items c.args.number old there
+    record {
+      holds = search rules;
+      leaves =
+          let can = c.requires.does.can in
+          let m = c.args.state.now in
+          let old = c.index_mut-leaf.result.now in
+          let there = item_there m.leaves.items c.args.number can.leaf old can.leaf_is c.index_mut-leaf.ensures.value in
+          set_there m.leaves.items c.args.number old there;
+      slots = search rules;
+    }

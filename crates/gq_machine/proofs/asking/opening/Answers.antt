@@ -20,13 +20,13 @@ pub bounds-openings-statement : goal.bounds-openings-statement
 bounds-openings-statement c =
     let f = c.args.fixed.now in
     let m = c.args.state.now in
-    let can = c.requires.can in
+    let can = c.requires.does.can in
     let x = c.args.number in
     let ls = m.leaves.items in
     let p = prepared_at f m can.holds x can.component can.leaf can.component_is can.leaf_is in
     let here = item_there f.prepared.items x p.has c.index.result.now p.there c.index.ensures in
     let same : p.has ≡ c.index.result.now = some_same (sym p.there ∙ here) in
-    let next = of_leaf (λ l. operation_of l ≡ Some (Long c.args.statement)) (slice_get ls x) can.leaf can.leaf_is c.requires.next.next in
+    let next = of_leaf (λ l. operation_of l ≡ Some (Long c.args.statement)) (slice_get ls x) can.leaf can.leaf_is c.requires.does.next.next in
     let opens = c.requires.opens in
     let long = of_leaf (λ l. slice_get l.code.longs c.args.statement ≡ Some (instruction.Open opens.0 opens.2.0 opens.1)) (slice_get ls x) can.leaf can.leaf_is
     opens.2.1 in
@@ -47,13 +47,13 @@ pub returns : goal.returns
 returns c place name n opens =
     let f = c.args.fixed.now in
     let m = c.args.state.now in
-    let can = c.requires.can in
+    let can = c.requires.does.can in
     let x = c.args.number in
     let ls = m.leaves.items in
     let p = prepared_at f m can.holds x can.component can.leaf can.component_is can.leaf_is in
     let here = item_there f.prepared.items x p.has c.index.result.now p.there c.index.ensures in
     let same : p.has ≡ c.index.result.now = some_same (sym p.there ∙ here) in
-    let next = of_leaf (λ l. operation_of l ≡ Some (Long c.args.statement)) (slice_get ls x) can.leaf can.leaf_is c.requires.next.next in
+    let next = of_leaf (λ l. operation_of l ≡ Some (Long c.args.statement)) (slice_get ls x) can.leaf can.leaf_is c.requires.does.next.next in
     let long = of_leaf (λ l. slice_get l.code.longs c.args.statement ≡ Some (instruction.Open place name n)) (slice_get ls x) can.leaf can.leaf_is opens in
     let o = opening_at f can.component can.leaf p.has p.is c.args.statement next place name n long in
     let there = ap (λ xs. slice_get xs c.args.statement) (c.as_slice-openings.ensures.value ∙ ap (λ (q : Prepared). q.openings.items) (sym same)) ∙ o.there in

@@ -19,28 +19,12 @@ use Rattle.gq_machine.proofs.Standing.{active_awake, active_live, at_current, is
 use Rattle.gq_machine.proofs.Scenes.{scene_asked}
 use Rattle.gq_machine.proofs.asking.upgrade.Goals as goal
 
-pub upgrade-done-requires-clause-current : goal.upgrade-done-requires-clause-current
-upgrade-done-requires-clause-current c =
-    let can = c.requires.can in
-    let m = c.args.state.now in
-    let there = item_there m.leaves.items c.args.number can.leaf c.index_mut-leaf.result.now can.leaf_is c.index_mut-leaf.ensures.value in
-    at_current c.args.fixed.now m can.holds c.lawful.ensures c.args.number can.component c.index_mut-leaf.result.now can.component_is there
-
-pub upgrade-done-requires-clause-idle : goal.upgrade-done-requires-clause-idle
-upgrade-done-requires-clause-idle c =
-    let can = c.requires.can in
-    let m = c.args.state.now in
-    let old = c.index_mut-leaf.result.now in
-    let there = item_there m.leaves.items c.args.number can.leaf old can.leaf_is c.index_mut-leaf.ensures.value in
-    is_idle c.args.fixed.now m can.holds c.lawful.ensures c.args.number can.component old can.component_is there
-    (active_awake old.state.phase (of_leaf (λ l. Active l.state.phase) (slice_get m.leaves.items c.args.number) old there c.requires.next.active))
-
 pub upgrade-done-requires-clause-linked : goal.upgrade-done-requires-clause-linked
-upgrade-done-requires-clause-linked c = own_links c.args.fixed.now c.args.state.now c.requires.can.holds c.lawful.ensures c.args.number
+upgrade-done-requires-clause-linked c = own_links c.args.fixed.now c.args.state.now c.requires.does.can.holds c.lawful.ensures c.args.number
 
 pub returns-clause-step : goal.returns-clause-step
 returns-clause-step c =
-    let can = c.requires.can in
+    let can = c.requires.does.can in
     let f = c.args.fixed.now in
     let m = c.args.state.now in
     let ls = m.leaves.items in
@@ -50,58 +34,63 @@ returns-clause-step c =
     let there = item_there ls x can.leaf old can.leaf_is c.index_mut-leaf.ensures.value in
     c.upgrade-done.ensures.step f.services.buffers (system f.table) (frame_of f.table ls) (frame_of f.table (slice_set ls x new)) can.component
     c.lawful.ensures (standing f m can.holds c.lawful.ensures x can.component old can.component_is there)
-    (of_leaf (λ l. Active l.state.phase) (slice_get ls x) old there c.requires.next.active) (elsewhere f.table ls x new)
+    (of_leaf (λ l. Active l.state.phase) (slice_get ls x) old there c.requires.does.next.active) (elsewhere f.table ls x new)
     (leaf_set f.table ls x can.component old new can.component_is there)
     (of_leaf (IsGiftOf f m x c.args.place c.args.bytes c.gift-donation.result) (slice_get ls x) old there c.gift-donation.ensures.gift)
 
-pub returns-clause-holds : goal.returns-clause-holds
-returns-clause-holds c = on_ok c.upgrade-done.result _ (λ e.
-    let can = c.requires.can in
-    let f = c.args.fixed.now in
-    let m = c.args.state.now in
-    let x = c.args.number in
-    let old = c.index_mut-leaf.result.now in
-    let new = c.upgrade-done.new.self in
-    let there = item_there m.leaves.items x can.leaf old can.leaf_is c.index_mut-leaf.ensures.value in
-    let active = of_leaf (λ l. Active l.state.phase) (slice_get m.leaves.items x) old there c.requires.next.active in
-    let to = waits_to c.upgrade-done.result _ e c.upgrade-done.ensures.waits in
-    kept_one f m _ x can.component old new Quiet can.holds c.lawful.ensures c.lawful-2.ensures can.component_is there refl
-    (ap (λ (l : Coded). l.code) to) (ap (λ (l : Coded). stage_in l.state.phase) to ∙ active_stage old.state.phase active)
-    (scene_asked m.slots c.upgrade-done.new.slots c.upgrade-done.ensures.stays)
-    (returns-clause-step c ∙ ap (λ r. done r (world_of f.table (slice_set m.leaves.items x new) c.upgrade-done.new.slots)) e))
-
-pub upgrade-done-requires-clause-next : goal.upgrade-done-requires-clause-next
-upgrade-done-requires-clause-next c =
-    let can = c.requires.can in
+pub upgrade-done-requires-clause-due : goal.upgrade-done-requires-clause-due
+upgrade-done-requires-clause-due c =
+    let can = c.requires.does.can in
     let m = c.args.state.now in
     let old = c.index_mut-leaf.result.now in
     let there = item_there m.leaves.items c.args.number can.leaf old can.leaf_is c.index_mut-leaf.ensures.value in
-    of_leaf (λ l. operation_of l ≡ Some (operation.Upgrade c.args.place c.args.bytes)) (slice_get m.leaves.items c.args.number) old there c.requires.next.next
+    record {
+      next =
+          of_leaf (λ l. operation_of l ≡ Some (operation.Upgrade c.args.place c.args.bytes)) (slice_get m.leaves.items c.args.number) old there
+          c.requires.does.next.next;
+      countable =
+          subst (λ (l : Coded). l.state.steps + 1 < 2 ^ 64) (some_same (sym can.leaf_is ∙ there)) can.countable;
+    }
 
-pub upgrade-done-requires-clause-countable : goal.upgrade-done-requires-clause-countable
-upgrade-done-requires-clause-countable c =
-    let can = c.requires.can in
+pub upgrade-done-requires-clause-asks : goal.upgrade-done-requires-clause-asks
+upgrade-done-requires-clause-asks c =
+    let can = c.requires.does.can in
     let m = c.args.state.now in
-    let old = c.index_mut-leaf.result.now in
-    let there = item_there m.leaves.items c.args.number can.leaf old can.leaf_is c.index_mut-leaf.ensures.value in
-    subst (λ (l : Coded). l.state.steps + 1 < 2 ^ 64) (some_same (sym can.leaf_is ∙ there)) can.countable
-
-pub upgrade-done-requires-clause-live : goal.upgrade-done-requires-clause-live
-upgrade-done-requires-clause-live c =
-    let can = c.requires.can in
-    let m = c.args.state.now in
-    live c.args.fixed.now m can.holds c.lawful.ensures c.args.number can.component can.leaf can.component_is can.leaf_is
-    (active_live can.leaf.state.phase (of_leaf (λ l. Active l.state.phase) (slice_get m.leaves.items c.args.number) can.leaf can.leaf_is
-    c.requires.next.active))
+    record {
+      live =
+          live c.args.fixed.now m can.holds c.lawful.ensures c.args.number can.component can.leaf can.component_is can.leaf_is
+          (active_live can.leaf.state.phase (of_leaf (λ l. Active l.state.phase) (slice_get m.leaves.items c.args.number) can.leaf can.leaf_is
+          c.requires.does.next.active));
+      current =
+          let there = item_there m.leaves.items c.args.number can.leaf c.index_mut-leaf.result.now can.leaf_is c.index_mut-leaf.ensures.value in
+          at_current c.args.fixed.now m can.holds c.lawful.ensures c.args.number can.component c.index_mut-leaf.result.now can.component_is there;
+      idle =
+          let old = c.index_mut-leaf.result.now in
+          let there = item_there m.leaves.items c.args.number can.leaf old can.leaf_is c.index_mut-leaf.ensures.value in
+          is_idle c.args.fixed.now m can.holds c.lawful.ensures c.args.number can.component old can.component_is there
+          (active_awake old.state.phase (of_leaf (λ l. Active l.state.phase) (slice_get m.leaves.items c.args.number) old there c.requires.does.next.active));
+    }
 
 pub returns-clause-leaves : goal.returns-clause-leaves
 returns-clause-leaves c =
-    let can = c.requires.can in
+    let can = c.requires.does.can in
     let m = c.args.state.now in
     let old = c.index_mut-leaf.result.now in
-    let there = item_there m.leaves.items c.args.number can.leaf old can.leaf_is c.index_mut-leaf.ensures.value in
-    on_err_weaker c.upgrade-done.result (λ same. ap (slice_set m.leaves.items c.args.number) same ∙ set_there m.leaves.items c.args.number old there)
-    c.upgrade-done.ensures.same
-
-pub returns-clause-slots : goal.returns-clause-slots
-returns-clause-slots c = c.upgrade-done.ensures.unchanged
+    record {
+      holds = on_ok c.upgrade-done.result _ (λ e.
+          let f = c.args.fixed.now in
+          let x = c.args.number in
+          let new = c.upgrade-done.new.self in
+          let there = item_there m.leaves.items x can.leaf old can.leaf_is c.index_mut-leaf.ensures.value in
+          let active = of_leaf (λ l. Active l.state.phase) (slice_get m.leaves.items x) old there c.requires.does.next.active in
+          let to = waits_to c.upgrade-done.result _ e c.upgrade-done.ensures.waits.waits in
+          kept_one f m _ x can.component old new Quiet can.holds c.lawful.ensures c.lawful-2.ensures can.component_is there refl
+          (ap (λ (l : Coded). l.code) to) (ap (λ (l : Coded). stage_in l.state.phase) to ∙ active_stage old.state.phase active)
+          (scene_asked m.slots c.upgrade-done.new.slots c.upgrade-done.ensures.waits.stays)
+          (returns-clause-step c ∙ ap (λ r. done r (world_of f.table (slice_set m.leaves.items x new) c.upgrade-done.new.slots)) e));
+      leaves =
+          let there = item_there m.leaves.items c.args.number can.leaf old can.leaf_is c.index_mut-leaf.ensures.value in
+          on_err_weaker c.upgrade-done.result (λ same. ap (slice_set m.leaves.items c.args.number) same ∙ set_there m.leaves.items c.args.number old there)
+          c.upgrade-done.ensures.waits.same;
+      slots = c.upgrade-done.ensures.waits.unchanged;
+    }

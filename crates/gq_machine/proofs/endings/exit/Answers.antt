@@ -1,5 +1,5 @@
 -- The end of `main` of a leaf that provides nothing.
-use Rattle.std.proofs.Common.{◌≡◌, ◌+◌, ◌<◌, ◌^◌, ℕ, List, Option, Some, None, refl, sym, ap, subst, ◌∙◌}
+use Rattle.std.proofs.Common.{◌≡◌, ◌+◌, ◌<◌, ◌^◌, ℕ, List, Option, Some, None, refl, sym, ap, subst, ◌∙◌, rules}
 use Rattle.std.specs.Prelude.{Err, Ok, Result, slice_get}
 use Rattle.gq_model.specs.declared.fault.Wrong.{Wrong}
 use Rattle.gq_model.specs.declared.phase.Phase.TheVariants as phase
@@ -136,29 +136,37 @@ module _ (f : Fixed) (m : State) (x : ℕ) (can : CanStep f m x) (goes : IsNext 
       (room_then m.slots n.slots x left ∙ can.holds.room_is) (exited_of n.leaves.items n.slots gone after left) step
 
 pub exit-requires-clause-live : goal.exit-requires-clause-live
-exit-requires-clause-live c = is_live c.args.fixed.now c.args.state.now c.args.number c.requires.can c.requires.next c.requires.ends c.lawful.ensures
+exit-requires-clause-live c = is_live c.args.fixed.now c.args.state.now c.args.number c.requires.does.can c.requires.does.next c.requires.ends c.lawful.ensures
 
 pub exit-requires-clause-alone : goal.exit-requires-clause-alone
 exit-requires-clause-alone c =
-    alone c.args.fixed.now c.args.state.now c.args.number c.requires.can c.requires.next c.requires.ends c.lawful.ensures c.laws.ensures.long
+    alone c.args.fixed.now c.args.state.now c.args.number c.requires.does.can c.requires.does.next c.requires.ends c.lawful.ensures c.laws.ensures.long
 
 pub leave-requires-clause-count : goal.leave-requires-clause-count
-leave-requires-clause-count c = c.requires.can.holds.count
+leave-requires-clause-count c = c.requires.does.can.holds.count
 
 pub leave-requires-clause-countable : goal.leave-requires-clause-countable
-leave-requires-clause-countable c = subst (OfLeaf (λ l. l.state.steps + 1 < 2 ^ 64)) (sym c.requires.can.leaf_is) c.requires.can.countable
+leave-requires-clause-countable c = subst (OfLeaf (λ l. l.state.steps + 1 < 2 ^ 64)) (sym c.requires.does.can.leaf_is) c.requires.does.can.countable
 
 pub returns-in-Err-clause-step : goal.returns-in-Err-clause-step
 returns-in-Err-clause-step c =
-    fails c.args.fixed.now c.args.state.now c.args.number c.requires.can c.requires.next c.requires.ends c.lawful.ensures c.in-Err.wrong c.exit.new.slots
+    fails c.args.fixed.now c.args.state.now c.args.number c.requires.does.can c.requires.does.next c.requires.ends c.lawful.ensures c.in-Err.wrong
+    c.exit.new.slots
     c.in-Err.ensures.ended
 
 pub returns-in-Ok-clause-step : goal.returns-in-Ok-clause-step
 returns-in-Ok-clause-step c =
-    exited_step c.args.fixed.now c.args.state.now c.args.number c.requires.can c.requires.next c.requires.ends c.lawful.ensures c.leave.new.leaves.items
+    exited_step c.args.fixed.now c.args.state.now c.args.number c.requires.does.can c.requires.does.next c.requires.ends c.lawful.ensures
+    c.leave.new.leaves.items
     c.exit.new.slots c.leave.ensures c.in-Ok.ensures.ended
 
-pub returns-in-Ok-clause-holds : goal.returns-in-Ok-clause-holds
-returns-in-Ok-clause-holds c =
-    exited_holds c.args.fixed.now c.args.state.now c.args.number c.requires.can c.requires.next c.requires.ends c.lawful.ensures _ c.leave.ensures
-    c.lawful-in-Ok.ensures c.in-Ok.ensures.ends (returns-in-Ok-clause-step c)
+pub returns-in-Ok-clause-leaves : goal.returns-in-Ok-clause-leaves
+returns-in-Ok-clause-leaves c =
+    record {
+      holds =
+          exited_holds c.args.fixed.now c.args.state.now c.args.number c.requires.does.can c.requires.does.next c.requires.ends c.lawful.ensures _
+          c.leave.ensures
+          c.lawful-in-Ok.ensures c.in-Ok.ensures.ends (returns-in-Ok-clause-step c);
+      leaves = search rules;
+      slots = search rules;
+    }

@@ -1,5 +1,5 @@
 -- A statement that does not fit into eight bytes.
-use Rattle.std.proofs.Common.{◌≡◌, ℕ, List, Some, Ok, refl, sym, ap, subst, ◌∙◌}
+use Rattle.std.proofs.Common.{◌≡◌, ℕ, List, Some, Ok, refl, sym, ap, subst, ◌∙◌, rules}
 use Rattle.std.specs.Prelude.{slice_get}
 use Rattle.gq_model.specs.declared.program.Instruction.{Instruction}
 use Rattle.gq_model.specs.declared.program.Instruction.TheVariants.{Open, Say}
@@ -23,14 +23,14 @@ none_else _ h says opens = absurd h
 
 pub unreachable-requires : goal.unreachable-requires
 unreachable-requires c =
-    let can = c.requires.can in
+    let can = c.requires.does.can in
     let f = c.args.fixed.now in
     let m = c.args.state.now in
     let x = c.args.number in
     let old = c.index-leaf.result.now in
     let there = item_there m.leaves.items x can.leaf old can.leaf_is c.index-leaf.ensures in
     let p = prepared_at f m can.holds x can.component old can.component_is there in
-    let next = of_leaf (λ l. operation_of l ≡ Some (Long c.args.statement)) (slice_get m.leaves.items x) old there c.requires.next.next in
+    let next = of_leaf (λ l. operation_of l ≡ Some (Long c.args.statement)) (slice_get m.leaves.items x) old there c.requires.does.next.next in
     none_else c.long.result.now (long_is f can.component old p.has p.is c.args.statement next c.long.result.now c.long.ensures) c.in_default.not-Say
     c.in_default.not-Open
 
@@ -40,7 +40,7 @@ is_long m x statement i l there e = subst (OfLeaf (λ (k : Coded). slice_get k.c
 
 pub returns-in-Say-clause-step : goal.returns-in-Say-clause-step
 returns-in-Say-clause-step c =
-    let can = c.requires.can in
+    let can = c.requires.does.can in
     let f = c.args.fixed.now in
     let m = c.args.state.now in
     let there = item_there m.leaves.items c.args.number can.leaf c.index-leaf.result.now can.leaf_is c.index-leaf.ensures in
@@ -49,10 +49,15 @@ returns-in-Say-clause-step c =
     c.say.ensures.step c.in-Say.text long
     ∙ ap (λ text. Ok (world_of f.table c.say.new.state.leaves.items c.say.new.state.slots, Line text)) (sym (c.write_line.ensures ∙ c.as_bytes.ensures.bytes))
 
-pub returns-in-Say-clause-holds : goal.returns-in-Say-clause-holds
-returns-in-Say-clause-holds c =
-    let can = c.requires.can in
-    let m = c.args.state.now in
-    let there = item_there m.leaves.items c.args.number can.leaf c.index-leaf.result.now can.leaf_is c.index-leaf.ensures in
-    c.say.ensures.holds c.in-Say.text
-    (is_long m c.args.number c.args.statement (Say c.in-Say.text) c.index-leaf.result.now there (c.long.ensures ∙ ap (λ i. Some i) c.in-Say.is))
+pub returns-in-Say-clause-leaves : goal.returns-in-Say-clause-leaves
+returns-in-Say-clause-leaves c =
+    record {
+      holds =
+          let can = c.requires.does.can in
+          let m = c.args.state.now in
+          let there = item_there m.leaves.items c.args.number can.leaf c.index-leaf.result.now can.leaf_is c.index-leaf.ensures in
+          c.say.ensures.holds c.in-Say.text
+          (is_long m c.args.number c.args.statement (Say c.in-Say.text) c.index-leaf.result.now there (c.long.ensures ∙ ap (λ i. Some i) c.in-Say.is));
+      leaves = search rules;
+      slots = search rules;
+    }

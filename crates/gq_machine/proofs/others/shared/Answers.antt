@@ -15,8 +15,7 @@ quiet_else _ h out long end = h
 
 pub quiet-requires : goal.quiet-requires
 quiet-requires c = record {
-  can = c.requires.can;
-  next = c.requires.next;
+  does = c.requires.does;
   quiet = quiet_else c.args.operation c.requires.shared c.in_default.not-Out c.in_default.not-Long c.in_default.not-End;
 }
 

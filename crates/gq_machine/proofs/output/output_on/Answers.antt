@@ -20,7 +20,7 @@ returns-clause-said c =
     let bytes : c.say.new.self.bytes ≡ line_with (label f x) text =
     one_line c.begin.new.lines.bytes c.say.new.self.bytes c.begin.new.lines.label (label f x) text
     (ap (λ (q : Lines). q.bytes) c.say.ensures) empty c.begin.ensures.label in
-    subst (λ b. Says f x (c.args.turns - s.result) m s.new.state b s.new.lines.bytes) bytes s.ensures.said
+    subst (λ b. Says f x (c.args.turns - s.result) m s.new.state b s.new.lines.bytes) bytes s.ensures.says.said
 
 -- a line has bytes
 line_some : (was bytes speaker text : List ℕ) → bytes ≡ was ++ line_with speaker text → 0 < length bytes
@@ -33,5 +33,5 @@ line_some was bytes speaker text e =
 pub returns-clause-some : goal.returns-clause-some
 returns-clause-some c =
     let some = line_some c.begin.new.lines.bytes c.say.new.self.bytes c.begin.new.lines.label c.args.text.now (ap (λ (q : Lines). q.bytes) c.say.ensures) in
-    let longer = c.show_all.ensures.longer in
+    let longer = c.show_all.ensures.says.longer in
     omega (arith, some, longer)

@@ -19,25 +19,30 @@ joined turns rest left less le = omega (arith, less, le)
 all_of : (turns rest : ℕ) → rest ≤ turns → turns ≡ (turns - rest) + rest
 all_of turns rest less = omega (arith, less)
 
-pub output_on-left-requires-clause-countable : goal.output_on-left-requires-clause-countable
-output_on-left-requires-clause-countable c =
-    let f = c.args.fixed.now in
-    let x = c.args.number in
-    let m = c.args.state.now in
-    let t = c.take_turns-last in
-    let o = t.new.state in
-    let text = t.new.line.items in
-    let rest = t.result.1 in
-    let one = subst (λ (r : Result Event Wrong). IsBurst f x (c.args.turns - rest) m o text r) c.in-Ok.is t.ensures.took in
-    let took = subst (λ (e : Event). IsBurst f x (c.args.turns - rest) m o text (Ok e)) c.in-Line.is one in
-    countable_said f x (c.args.turns - rest) rest m o _ _ (says_line f x (c.args.turns - rest) m o [] text took)
-    (subst (AreCountable (world_of f.table m.leaves.items m.slots) x) (all_of c.args.turns rest t.ensures.left) c.requires.countable)
+pub output_on-left-requires-clause-can : goal.output_on-left-requires-clause-can
+output_on-left-requires-clause-can c =
+    record {
+      holds = c.take_turns-last.ensures.holds;
+      leaf = c.requires.can.leaf;
+      countable =
+          let f = c.args.fixed.now in
+          let x = c.args.number in
+          let m = c.args.state.now in
+          let t = c.take_turns-last in
+          let o = t.new.state in
+          let text = t.new.line.items in
+          let rest = t.result.1 in
+          let one = subst (λ (r : Result Event Wrong). IsBurst f x (c.args.turns - rest) m o text r) c.in-Ok.is t.ensures.took.took in
+          let took = subst (λ (e : Event). IsBurst f x (c.args.turns - rest) m o text (Ok e)) c.in-Line.is one in
+          countable_said f x (c.args.turns - rest) rest m o _ _ (says_line f x (c.args.turns - rest) m o [] text took)
+          (subst (AreCountable (world_of f.table m.leaves.items m.slots) x) (all_of c.args.turns rest t.ensures.left) c.requires.can.countable);
+    }
 
 pub returns-in-Err-clause-told : goal.returns-in-Err-clause-told
 returns-in-Err-clause-told c =
     let t = c.take_turns-last in
     subst (λ (r : Result Event Wrong). IsBurst c.args.fixed.now c.args.number (c.args.turns - t.result.1) c.args.state.now t.new.state t.new.line.items r)
-    c.in-Err.is t.ensures.took
+    c.in-Err.is t.ensures.took.took
 
 pub returns-in-Line-clause-told : goal.returns-in-Line-clause-told
 returns-in-Line-clause-told c =
@@ -51,7 +56,7 @@ returns-in-Line-clause-told c =
     let s = c.output_on-left in
     let o = s.new.state in
     let lines = s.new.lines.bytes in
-    let one = subst (λ (r : Result Event Wrong). IsBurst f x (c.args.turns - rest) m k text r) c.in-Ok.is t.ensures.took in
+    let one = subst (λ (r : Result Event Wrong). IsBurst f x (c.args.turns - rest) m k text r) c.in-Ok.is t.ensures.took.took in
     let took = subst (λ (e : Event). IsBurst f x (c.args.turns - rest) m k text (Ok e)) c.in-Line.is one in
     let more = subst (λ b. Says f x (rest - s.result) k o (line_with (label f x) b) lines) c.as_slice.ensures.value s.ensures.said in
     subst (λ n. IsOutput f x n m o (Ok event.Line) lines) (joined c.args.turns rest s.result s.ensures.left t.ensures.left)
@@ -66,7 +71,7 @@ returns-in-Idle-clause-told c =
     let o = t.new.state in
     let n = c.args.turns - t.result.1 in
     let text = t.new.line.items in
-    let took = subst (λ (r : Result Event Wrong). IsBurst f x n m o text r) c.in-Ok.is t.ensures.took in
+    let took = subst (λ (r : Result Event Wrong). IsBurst f x n m o text r) c.in-Ok.is t.ensures.took.took in
     told_none f x n m o c.in-Ok.event text c.args.lines.now.bytes (no_line_in c.in-Ok.event c.in-Idle.is) took
 
 not_empty : (bytes : List ℕ) → 0 < length bytes → bytes ≡ [] → ⊥

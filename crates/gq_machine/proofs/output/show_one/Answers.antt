@@ -24,34 +24,34 @@ pay-requires-clause-countable c =
     let m = c.args.state.now in
     let x = c.args.number in
     one_less (slice_get m.leaves.items x) c.args.turns c.requires.some
-    (counted_there f m c.requires.holds c.lawful.ensures x c.args.turns c.requires.leaf c.requires.countable)
+    (counted_there f m c.requires.can.holds c.lawful.ensures x c.args.turns c.requires.can.leaf c.requires.can.countable)
 
 pub pay-requires-clause-starts : goal.pay-requires-clause-starts
 pay-requires-clause-starts c =
     let m = c.args.state.now in
     let x = c.args.number in
-    let less = c.requires.leaf in
-    let count = c.requires.holds.count in
+    let less = c.requires.can.leaf in
+    let count = c.requires.can.holds.count in
     let leaf = get_within m.leaves.items x (omega (arith, less, count)) in
     let there = item_there m.leaves.items x leaf.0 c.index.result.now leaf.1 c.index.ensures in
     subst (OfLeaf (λ (l : Coded). stage_in l.state.phase ≡ Live)) (sym there)
     (subst (λ (p : Phase). stage_in p ≡ Live) c.phase.ensures (active_live c.phase.result (acts c.phase.result c.in-Running.is)))
 
-pub show_next-requires-clause-countable : goal.show_next-requires-clause-countable
-show_next-requires-clause-countable c =
-    let f = c.args.fixed.now in
+pub show_next-requires-clause-goes : goal.show_next-requires-clause-goes
+show_next-requires-clause-goes c =
     let m = c.args.state.now in
     let x = c.args.number in
-    subst (λ ls. OfLeaf (λ (l : Coded). l.state.steps + c.args.turns < 2 ^ 64) (slice_get ls x)) (sym c.pay.ensures.leaves)
-    (counted_there f m c.requires.holds c.lawful.ensures x c.args.turns c.requires.leaf c.requires.countable)
-
-pub show_next-requires-clause-active : goal.show_next-requires-clause-active
-show_next-requires-clause-active c =
-    let m = c.args.state.now in
-    let x = c.args.number in
-    let less = c.requires.leaf in
-    let count = c.requires.holds.count in
-    let leaf = get_within m.leaves.items x (omega (arith, less, count)) in
-    let there = item_there m.leaves.items x leaf.0 c.index.result.now leaf.1 c.index.ensures in
-    subst (λ ls. OfLeaf (λ (l : Coded). Active l.state.phase) (slice_get ls x)) (sym c.pay.ensures.leaves)
-    (subst (OfLeaf (λ (l : Coded). Active l.state.phase)) (sym there) (subst Active c.phase.ensures (acts c.phase.result c.in-Running.is)))
+    record {
+      can = c.pay.ensures.can;
+      active =
+          let less = c.requires.can.leaf in
+          let count = c.requires.can.holds.count in
+          let leaf = get_within m.leaves.items x (omega (arith, less, count)) in
+          let there = item_there m.leaves.items x leaf.0 c.index.result.now leaf.1 c.index.ensures in
+          subst (λ ls. OfLeaf (λ (l : Coded). Active l.state.phase) (slice_get ls x)) (sym c.pay.ensures.leaves)
+          (subst (OfLeaf (λ (l : Coded). Active l.state.phase)) (sym there) (subst Active c.phase.ensures (acts c.phase.result c.in-Running.is)));
+      countable =
+          let f = c.args.fixed.now in
+          subst (λ ls. OfLeaf (λ (l : Coded). l.state.steps + c.args.turns < 2 ^ 64) (slice_get ls x)) (sym c.pay.ensures.leaves)
+          (counted_there f m c.requires.can.holds c.lawful.ensures x c.args.turns c.requires.can.leaf c.requires.can.countable);
+    }

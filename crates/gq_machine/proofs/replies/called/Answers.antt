@@ -1,5 +1,5 @@
 -- The reply to a call.
-use Rattle.std.proofs.Common.{◌≡◌, ℕ, List, [], ◌∷◌, Some, Ok, drop, get_or, refl, sym, subst, ◌∙◌}
+use Rattle.std.proofs.Common.{◌≡◌, ℕ, List, [], ◌∷◌, Some, Ok, drop, get_or, refl, sym, subst, ◌∙◌, rules}
 use Rattle.std.specs.Prelude.{slice_get}
 use Rattle.gq_model.specs.declared.program.Section.TheVariants as section
 use Rattle.gq_model.proofs.Small.{some_same}
@@ -20,14 +20,14 @@ returns-in-None-clause-step c =
     let x = c.args.number in
     let current = c.args.current in
     let y = c.client_at-client.result in
-    let e = c.client_at-client.ensures.end in
+    let e = c.client_at-client.ensures.client.end in
     let none = at_item (λ l. l.state.registers.operands ≡ []) m.leaves.items x (server f m x y current e) c.index-leaf.result.now (server_is f m x y current e)
     c.index-leaf.ensures c.in-None.ensures in
     none_to f m x y current e c.requires.section.0 c.requires.section.1 none
 
 pub go_on_with-requires-clause-room : goal.go_on_with-requires-clause-room
 go_on_with-requires-clause-room c =
-    c.client_at-client.ensures.room c.requires.section.0 c.requires.section.1
+    c.client_at-client.ensures.client.room c.requires.section.0 c.requires.section.1
 
 pub returns-in-Some-clause-step : goal.returns-in-Some-clause-step
 returns-in-Some-clause-step c =
@@ -36,7 +36,7 @@ returns-in-Some-clause-step c =
     let x = c.args.number in
     let current = c.args.current in
     let y = c.client_at-client.result in
-    let e = c.client_at-client.ensures.end in
+    let e = c.client_at-client.ensures.client.end in
     let a = c.in-Some.value in
     let rest = drop 1 (server f m x y current e).state.registers.operands in
     let top = at_item (λ l. l.state.registers.operands ≡ a ∷ drop 1 l.state.registers.operands) m.leaves.items x (server f m x y current e)
@@ -46,14 +46,19 @@ returns-in-Some-clause-step c =
     (replied_to f m x y current e (section.Calling c.requires.section.0) (a ∷ had f m x y current e) (λ operands. a ∷ operands) c.reply.new.slots
     c.requires.section.1 refl (λ g j q at have goes. c.reply.ensures.called g j q c.requires.section.0 a rest at (have ∙ top) goes))
 
-pub returns-in-Some-clause-holds : goal.returns-in-Some-clause-holds
-returns-in-Some-clause-holds c =
-    let f = c.args.fixed.now in
-    let m = c.args.state.now in
-    let x = c.args.number in
-    let current = c.args.current in
-    let y = c.client_at-client.result in
-    let e = c.client_at-client.ensures.end in
-    kept_two f m x y current e (c.in-Some.value ∷ had f m x y current e) _
-    (c.go_on_with.ensures (server f m x y current e) (client f m x y current e) (server_is f m x y current e) (client_is f m x y current e))
-    c.lawful.ensures (scene_beside m.slots c.reply.new.slots c.reply.ensures.beside) (returns-in-Some-clause-step c)
+pub returns-in-Some-clause-leaves : goal.returns-in-Some-clause-leaves
+returns-in-Some-clause-leaves c =
+    record {
+      holds =
+          let f = c.args.fixed.now in
+          let m = c.args.state.now in
+          let x = c.args.number in
+          let current = c.args.current in
+          let y = c.client_at-client.result in
+          let e = c.client_at-client.ensures.client.end in
+          kept_two f m x y current e (c.in-Some.value ∷ had f m x y current e) _
+          (c.go_on_with.ensures (server f m x y current e) (client f m x y current e) (server_is f m x y current e) (client_is f m x y current e))
+          c.lawful.ensures (scene_beside m.slots c.reply.new.slots c.reply.ensures.beside) (returns-in-Some-clause-step c);
+      leaves = search rules;
+      slots = search rules;
+    }

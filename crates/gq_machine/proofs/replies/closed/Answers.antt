@@ -1,5 +1,5 @@
 -- The reply to a request to close.
-use Rattle.std.proofs.Common.{ℕ, Ok, ap, ◌∙◌}
+use Rattle.std.proofs.Common.{ℕ, Ok, ap, ◌∙◌, rules}
 use Rattle.gq_statements.specs.Statements.{done}
 use Rattle.gq_machine.specs.Worlds.{world_of}
 use Rattle.gq_slots.specs.Slots.{Slots}
@@ -19,7 +19,7 @@ returns-in-Err-clause-step c =
     let x = c.args.number in
     let current = c.args.current in
     let y = c.client_at-client.result in
-    let e = c.client_at-client.ensures.end in
+    let e = c.client_at-client.ensures.client.end in
     closed_to f m x y current e c.requires.section.0 c.reply_close.result c.reply_close.new.slots c.requires.section.1
     c.reply_close.ensures.closed ∙ ap (λ r. done r (world_of f.table (after f m x y current e (had f m x y current e)) c.reply_close.new.slots)) c.in-Err.is
 
@@ -30,20 +30,25 @@ returns-in-Ok-clause-step c =
     let x = c.args.number in
     let current = c.args.current in
     let y = c.client_at-client.result in
-    let e = c.client_at-client.ensures.end in
+    let e = c.client_at-client.ensures.client.end in
     goes_to f m x y current e (had f m x y current e) c.go_on.new.leaves.items c.reply_close.new.slots (Ok tt)
     (c.go_on.ensures (server f m x y current e) (client f m x y current e) (server_is f m x y current e) (client_is f m x y current e))
     (closed_to f m x y current e c.requires.section.0 c.reply_close.result c.reply_close.new.slots c.requires.section.1
     c.reply_close.ensures.closed ∙ ap (λ r. done r (world_of f.table (after f m x y current e (had f m x y current e)) c.reply_close.new.slots)) c.in-Ok.is)
 
-pub returns-in-Ok-clause-holds : goal.returns-in-Ok-clause-holds
-returns-in-Ok-clause-holds c =
-    let f = c.args.fixed.now in
-    let m = c.args.state.now in
-    let x = c.args.number in
-    let current = c.args.current in
-    let y = c.client_at-client.result in
-    let e = c.client_at-client.ensures.end in
-    kept_two f m x y current e (had f m x y current e) _
-    (c.go_on.ensures (server f m x y current e) (client f m x y current e) (server_is f m x y current e) (client_is f m x y current e))
-    c.lawful.ensures (scene_closed m.slots c.reply_close.new.slots current.session c.in-Ok.ensures.ends) (returns-in-Ok-clause-step c)
+pub returns-in-Ok-clause-leaves : goal.returns-in-Ok-clause-leaves
+returns-in-Ok-clause-leaves c =
+    record {
+      holds =
+          let f = c.args.fixed.now in
+          let m = c.args.state.now in
+          let x = c.args.number in
+          let current = c.args.current in
+          let y = c.client_at-client.result in
+          let e = c.client_at-client.ensures.client.end in
+          kept_two f m x y current e (had f m x y current e) _
+          (c.go_on.ensures (server f m x y current e) (client f m x y current e) (server_is f m x y current e) (client_is f m x y current e))
+          c.lawful.ensures (scene_closed m.slots c.reply_close.new.slots current.session c.in-Ok.ensures.ends) (returns-in-Ok-clause-step c);
+      leaves = search rules;
+      slots = search rules;
+    }

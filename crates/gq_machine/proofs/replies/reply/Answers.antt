@@ -8,7 +8,7 @@ returns-in-Main-clause-step c =
     let m = c.args.state.now in
     let x = c.args.number in
     let current = c.args.current in
-    main_wrong f m x c.client_at-client.result current c.client_at-client.ensures.end c.in-Main.is
+    main_wrong f m x c.client_at-client.result current c.client_at-client.ensures.client.end c.in-Main.is
 
 pub upgraded-requires-clause-section : goal.upgraded-requires-clause-section
 upgraded-requires-clause-section c =

@@ -16,26 +16,26 @@ use Rattle.gq_machine.proofs.requests.accept.Goals as goal
 
 pub returns-in_default-clause-step : goal.returns-in_default-clause-step
 returns-in_default-clause-step c =
-    let can = c.requires.can in
+    let can = c.requires.serves.can in
     let f = c.args.fixed.now in
     let m = c.args.state.now in
     let x = c.args.number in
-    let serves = of_leaf (λ y. y.state.phase ≡ phase.Serving) (slice_get m.leaves.items x) can.leaf can.leaf_is c.requires.serves in
+    let serves = of_leaf (λ y. y.state.phase ≡ phase.Serving) (slice_get m.leaves.items x) can.leaf can.leaf_is c.requires.serves.serves in
     none_waits f m can.holds c.lawful.ensures x can.component can.leaf can.component_is can.leaf_is serves
     (ap (λ (w : Trades). oldest_to x w.trading.requests) (sym c.trades.ensures) ∙ c.in_default.ensures.none)
 
 pub scenario_laws-requires : goal.scenario_laws-requires
 scenario_laws-requires c =
-    let can = c.requires.can in slice_get_within (components c.args.fixed.now.table) c.args.number can.component can.component_is
+    let can = c.requires.serves.can in slice_get_within (components c.args.fixed.now.table) c.args.number can.component can.component_is
 
 pub returns-then-is_beyond-clause-wrong : goal.returns-then-is_beyond-clause-wrong
 returns-then-is_beyond-clause-wrong c =
-    let can = c.requires.can in
+    let can = c.requires.serves.can in
     let f = c.args.fixed.now in
     let m = c.args.state.now in
     let x = c.args.number in
     let r = c.in-Some.request in
-    let serves = of_leaf (λ y. y.state.phase ≡ phase.Serving) (slice_get m.leaves.items x) can.leaf can.leaf_is c.requires.serves in
+    let serves = of_leaf (λ y. y.state.phase ≡ phase.Serving) (slice_get m.leaves.items x) can.leaf can.leaf_is c.requires.serves.serves in
     let program = from_some (λ (d : Component). IsProgram d.node.program) (slice_get (components f.table) x) can.component can.component_is
     c.scenario_laws.ensures.program in
     let first = c.in-Some.ensures.some in

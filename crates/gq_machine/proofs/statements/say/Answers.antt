@@ -18,7 +18,7 @@ use Rattle.gq_machine.proofs.statements.say.Goals as goal
 
 pub returns-clause-step : goal.returns-clause-step
 returns-clause-step c text said =
-    let can = c.requires.can in
+    let can = c.requires.does.can in
     let f = c.args.fixed.now in
     let m = c.args.state.now in
     let ls = m.leaves.items in
@@ -30,12 +30,12 @@ returns-clause-step c text said =
     (of_leaf (λ l. slice_get l.code.longs c.args.statement ≡ Some (instruction.Say text)) (slice_get ls x) old there said) (system f.table)
     (frame_of f.table ls) (frame_of f.table (slice_set ls x new)) can.component c.lawful.ensures
     (standing f m can.holds c.lawful.ensures x can.component old can.component_is there)
-    (of_leaf (λ l. Active l.state.phase) (slice_get ls x) old there c.requires.next.active) (elsewhere f.table ls x new)
+    (of_leaf (λ l. Active l.state.phase) (slice_get ls x) old there c.requires.does.next.active) (elsewhere f.table ls x new)
     (leaf_set f.table ls x can.component old new can.component_is there)
 
 pub returns-clause-holds : goal.returns-clause-holds
 returns-clause-holds c text said =
-    let can = c.requires.can in
+    let can = c.requires.does.can in
     let f = c.args.fixed.now in
     let m = c.args.state.now in
     let x = c.args.number in
@@ -46,18 +46,17 @@ returns-clause-holds c text said =
     (ap (λ (l : Coded). l.code) c.said.ensures.stays) (ap (λ (l : Coded). stage_in l.state.phase) c.said.ensures.stays) (scene_self m.slots)
     (returns-clause-step c text said)
 
-pub said-requires-clause-next : goal.said-requires-clause-next
-said-requires-clause-next c =
-    let can = c.requires.can in
+pub said-requires : goal.said-requires
+said-requires c =
+    let can = c.requires.does.can in
     let m = c.args.state.now in
     let old = c.index_mut-leaf.result.now in
     let there = item_there m.leaves.items c.args.number can.leaf old can.leaf_is c.index_mut-leaf.ensures.value in
-    of_leaf (λ l. operation_of l ≡ Some (operation.Long c.args.statement)) (slice_get m.leaves.items c.args.number) old there c.requires.next.next
-
-pub said-requires-clause-countable : goal.said-requires-clause-countable
-said-requires-clause-countable c =
-    let can = c.requires.can in
-    let m = c.args.state.now in
-    let old = c.index_mut-leaf.result.now in
-    let there = item_there m.leaves.items c.args.number can.leaf old can.leaf_is c.index_mut-leaf.ensures.value in
-    subst (λ (l : Coded). l.state.steps + 1 < 2 ^ 64) (some_same (sym can.leaf_is ∙ there)) can.countable
+    record {
+      due = record {
+        next =
+            of_leaf (λ l. operation_of l ≡ Some (operation.Long c.args.statement)) (slice_get m.leaves.items c.args.number) old there c.requires.does.next.next;
+        countable =
+            subst (λ (l : Coded). l.state.steps + 1 < 2 ^ 64) (some_same (sym can.leaf_is ∙ there)) can.countable;
+      };
+    }

@@ -24,7 +24,7 @@ provided (Some d) c e h = (h.0, ap (λ (b : Component). b.node.provides) (sym (s
 
 pub returns-clause-step : goal.returns-clause-step
 returns-clause-step c =
-    let can = c.requires.can in
+    let can = c.requires.does.can in
     let f = c.args.fixed.now in
     let m = c.args.state.now in
     let ls = m.leaves.items in
@@ -35,22 +35,22 @@ returns-clause-step c =
     let service = provided (slice_get (components f.table) x) can.component can.component_is c.requires.provides.provides in
     main_serves (system f.table) (frame_of f.table ls) m.slots x can.component old f.services.buffers c.lawful.ensures
     (standing f m can.holds c.lawful.ensures x can.component old can.component_is there)
-    (of_leaf (λ l. Active l.state.phase) (slice_get ls x) old there c.requires.next.active)
-    (of_leaf (λ l. operation_of l ≡ Some operation.End) (slice_get ls x) old there c.requires.next.next) (frame_of f.table (slice_set ls x new)) service.0
+    (of_leaf (λ l. Active l.state.phase) (slice_get ls x) old there c.requires.does.next.active)
+    (of_leaf (λ l. operation_of l ≡ Some operation.End) (slice_get ls x) old there c.requires.does.next.next) (frame_of f.table (slice_set ls x new)) service.0
     (of_leaf (λ l. l.state.current ≡ None) (slice_get ls x) old there c.requires.provides.main) service.1 (elsewhere f.table ls x new)
     (leaf_set f.table ls x can.component old new can.component_is there
     ∙ ap (λ (l : Coded). leaf_of can.component.node.program l.state) c.serve.ensures)
 
 pub returns-clause-holds : goal.returns-clause-holds
 returns-clause-holds c =
-    let can = c.requires.can in
+    let can = c.requires.does.can in
     let f = c.args.fixed.now in
     let m = c.args.state.now in
     let x = c.args.number in
     let old = c.index_mut-leaf.result.now in
     let new = c.serve.new.self in
     let there = item_there m.leaves.items x can.leaf old can.leaf_is c.index_mut-leaf.ensures.value in
-    let active = of_leaf (λ l. Active l.state.phase) (slice_get m.leaves.items x) old there c.requires.next.active in
+    let active = of_leaf (λ l. Active l.state.phase) (slice_get m.leaves.items x) old there c.requires.does.next.active in
     kept_one f m _ x can.component old new Quiet can.holds c.lawful.ensures c.lawful.ensures can.component_is there refl
     (ap (λ (l : Coded). l.code) c.serve.ensures)
     (ap (λ (l : Coded). stage_in l.state.phase) c.serve.ensures ∙ sym (active_live old.state.phase active)) (scene_self m.slots) (returns-clause-step c)

@@ -18,7 +18,7 @@ use Rattle.gq_machine.proofs.statements.show.Goals as goal
 
 pub returns-clause-step : goal.returns-clause-step
 returns-clause-step c =
-    let can = c.requires.can in
+    let can = c.requires.does.can in
     let f = c.args.fixed.now in
     let m = c.args.state.now in
     let ls = m.leaves.items in
@@ -28,12 +28,12 @@ returns-clause-step c =
     let there = item_there ls x can.leaf old can.leaf_is c.index_mut-leaf.ensures.value in
     if_ok c.show.result _ _ (λ n led. led x f.services.buffers m.slots (system f.table) (frame_of f.table ls) (frame_of f.table (slice_set ls x new))
     can.component c.lawful.ensures (standing f m can.holds c.lawful.ensures x can.component old can.component_is there)
-    (of_leaf (λ l. Active l.state.phase) (slice_get ls x) old there c.requires.next.active) (elsewhere f.table ls x new)
+    (of_leaf (λ l. Active l.state.phase) (slice_get ls x) old there c.requires.does.next.active) (elsewhere f.table ls x new)
     (leaf_set f.table ls x can.component old new can.component_is there)) c.show.ensures.step
 
 pub returns-clause-wrong : goal.returns-clause-wrong
 returns-clause-wrong c =
-    let can = c.requires.can in
+    let can = c.requires.does.can in
     let f = c.args.fixed.now in
     let m = c.args.state.now in
     let ls = m.leaves.items in
@@ -42,12 +42,12 @@ returns-clause-wrong c =
     let there = item_there ls x can.leaf old can.leaf_is c.index_mut-leaf.ensures.value in
     if_err c.show.result _ _ (λ w led. led x f.services.buffers m.slots (system f.table) (frame_of f.table ls) (frame_of f.table (slice_set ls x old))
     can.component c.lawful.ensures (standing f m can.holds c.lawful.ensures x can.component old can.component_is there)
-    (of_leaf (λ l. Active l.state.phase) (slice_get ls x) old there c.requires.next.active) (elsewhere f.table ls x old)
+    (of_leaf (λ l. Active l.state.phase) (slice_get ls x) old there c.requires.does.next.active) (elsewhere f.table ls x old)
     (leaf_set f.table ls x can.component old old can.component_is there)) c.show.ensures.wrong
 
 pub returns-clause-holds : goal.returns-clause-holds
 returns-clause-holds c =
-    let can = c.requires.can in
+    let can = c.requires.does.can in
     let f = c.args.fixed.now in
     let m = c.args.state.now in
     let x = c.args.number in
@@ -59,25 +59,24 @@ returns-clause-holds c =
     (ap (λ (l : Coded). l.code) both.1) (ap (λ (l : Coded). stage_in l.state.phase) both.1) (scene_self m.slots) both.0)
     (if_both c.show.result _ _ (returns-clause-step c) c.show.ensures.stays)
 
-pub show-requires-clause-next : goal.show-requires-clause-next
-show-requires-clause-next c =
-    let can = c.requires.can in
+pub show-requires : goal.show-requires
+show-requires c =
+    let can = c.requires.does.can in
     let m = c.args.state.now in
     let old = c.index_mut-leaf.result.now in
     let there = item_there m.leaves.items c.args.number can.leaf old can.leaf_is c.index_mut-leaf.ensures.value in
-    of_leaf (λ l. operation_of l ≡ Some (operation.Out)) (slice_get m.leaves.items c.args.number) old there c.requires.next.next
-
-pub show-requires-clause-countable : goal.show-requires-clause-countable
-show-requires-clause-countable c =
-    let can = c.requires.can in
-    let m = c.args.state.now in
-    let old = c.index_mut-leaf.result.now in
-    let there = item_there m.leaves.items c.args.number can.leaf old can.leaf_is c.index_mut-leaf.ensures.value in
-    subst (λ (l : Coded). l.state.steps + 1 < 2 ^ 64) (some_same (sym can.leaf_is ∙ there)) can.countable
+    record {
+      due = record {
+        next =
+            of_leaf (λ l. operation_of l ≡ Some (operation.Out)) (slice_get m.leaves.items c.args.number) old there c.requires.does.next.next;
+        countable =
+            subst (λ (l : Coded). l.state.steps + 1 < 2 ^ 64) (some_same (sym can.leaf_is ∙ there)) can.countable;
+      };
+    }
 
 pub returns-clause-leaves : goal.returns-clause-leaves
 returns-clause-leaves c =
-    let can = c.requires.can in
+    let can = c.requires.does.can in
     let m = c.args.state.now in
     let old = c.index_mut-leaf.result.now in
     let there = item_there m.leaves.items c.args.number can.leaf old can.leaf_is c.index_mut-leaf.ensures.value in

@@ -25,10 +25,11 @@ returns-then-left-eq0-clause-taken c taken =
     let m = c.args.state.now in
     let x = c.args.number in
     let old = c.index_mut-leaf.result.now in
-    let there = item_there m.leaves.items x c.requires.can.leaf old c.requires.can.leaf_is c.index_mut-leaf.ensures.value in
+    let there = item_there m.leaves.items x c.requires.acts.can.leaf old c.requires.acts.can.leaf_is c.index_mut-leaf.ensures.value in
     let n : State = record { leaves = with_item m.leaves x c.run-pause.new.self; slots = m.slots } in
-    let active = of_leaf (λ l. Active l.state.phase) (slice_get m.leaves.items x) old there c.requires.active in
-    took f m n x c.requires.can c.lawful.ensures old c.run-pause.new.self there active refl refl (1 - c.run-pause.result.1) c.run-pause.ensures.stays
+    let active = of_leaf (λ l. Active l.state.phase) (slice_get m.leaves.items x) old there c.requires.acts.active in
+    took f m n x c.requires.acts.can c.lawful.ensures old c.run-pause.new.self there active refl refl (1 - c.run-pause.result.1)
+    c.run-pause.ensures.counts.stays
     (λ bs. c.run-pause.ensures.one (left_none c.run-pause.result.1 c.if-left-eq0.true) x bs m.slots)
 
 pub returns-then-left-eq0-clause-holds : goal.returns-then-left-eq0-clause-holds
@@ -37,10 +38,11 @@ returns-then-left-eq0-clause-holds c =
     let m = c.args.state.now in
     let x = c.args.number in
     let old = c.index_mut-leaf.result.now in
-    let there = item_there m.leaves.items x c.requires.can.leaf old c.requires.can.leaf_is c.index_mut-leaf.ensures.value in
+    let there = item_there m.leaves.items x c.requires.acts.can.leaf old c.requires.acts.can.leaf_is c.index_mut-leaf.ensures.value in
     let n : State = record { leaves = with_item m.leaves x c.run-pause.new.self; slots = m.slots } in
-    let active = of_leaf (λ l. Active l.state.phase) (slice_get m.leaves.items x) old there c.requires.active in
-    took_holds f m n x c.requires.can c.lawful.ensures old c.run-pause.new.self there active refl refl (1 - c.run-pause.result.1) c.run-pause.ensures.stays
+    let active = of_leaf (λ l. Active l.state.phase) (slice_get m.leaves.items x) old there c.requires.acts.active in
+    took_holds f m n x c.requires.acts.can c.lawful.ensures old c.run-pause.new.self there active refl refl (1 - c.run-pause.result.1)
+    c.run-pause.ensures.counts.stays
     (λ bs. c.run-pause.ensures.one (left_none c.run-pause.result.1 c.if-left-eq0.true) x bs m.slots)
 
 pub returns-then-left-eq0-clause-active : goal.returns-then-left-eq0-clause-active
@@ -49,10 +51,11 @@ returns-then-left-eq0-clause-active c =
     let m = c.args.state.now in
     let x = c.args.number in
     let old = c.index_mut-leaf.result.now in
-    let there = item_there m.leaves.items x c.requires.can.leaf old c.requires.can.leaf_is c.index_mut-leaf.ensures.value in
+    let there = item_there m.leaves.items x c.requires.acts.can.leaf old c.requires.acts.can.leaf_is c.index_mut-leaf.ensures.value in
     let n : State = record { leaves = with_item m.leaves x c.run-pause.new.self; slots = m.slots } in
-    let active = of_leaf (λ l. Active l.state.phase) (slice_get m.leaves.items x) old there c.requires.active in
-    still_active f m n x c.requires.can c.lawful.ensures old c.run-pause.new.self there active refl refl (1 - c.run-pause.result.1) c.run-pause.ensures.stays
+    let active = of_leaf (λ l. Active l.state.phase) (slice_get m.leaves.items x) old there c.requires.acts.active in
+    still_active f m n x c.requires.acts.can c.lawful.ensures old c.run-pause.new.self there active refl refl (1 - c.run-pause.result.1)
+    c.run-pause.ensures.counts.stays
 
 pub returns-in-Missing-clause-holds : goal.returns-in-Missing-clause-holds
 returns-in-Missing-clause-holds c =
@@ -60,11 +63,12 @@ returns-in-Missing-clause-holds c =
     let m = c.args.state.now in
     let x = c.args.number in
     let old = c.index_mut-leaf.result.now in
-    let there = item_there m.leaves.items x c.requires.can.leaf old c.requires.can.leaf_is c.index_mut-leaf.ensures.value in
+    let there = item_there m.leaves.items x c.requires.acts.can.leaf old c.requires.acts.can.leaf_is c.index_mut-leaf.ensures.value in
     let n : State = record { leaves = with_item m.leaves x c.run-pause.new.self; slots = m.slots } in
-    let active = of_leaf (λ l. Active l.state.phase) (slice_get m.leaves.items x) old there c.requires.active in
-    still_holds f m n x c.requires.can c.lawful.ensures old c.run-pause.new.self there active refl refl (1 - c.run-pause.result.1) c.run-pause.ensures.stays
-    (one_left c.run-pause.result.1 c.if-left-eq0.false c.run-pause.ensures.left) c.run-pause.ensures.ran
+    let active = of_leaf (λ l. Active l.state.phase) (slice_get m.leaves.items x) old there c.requires.acts.active in
+    still_holds f m n x c.requires.acts.can c.lawful.ensures old c.run-pause.new.self there active refl refl (1 - c.run-pause.result.1)
+    c.run-pause.ensures.counts.stays
+    (one_left c.run-pause.result.1 c.if-left-eq0.false c.run-pause.ensures.counts.within) c.run-pause.ensures.ran
 
 pub returns-in-Missing-clause-stays : goal.returns-in-Missing-clause-stays
 returns-in-Missing-clause-stays c other =
@@ -72,11 +76,12 @@ returns-in-Missing-clause-stays c other =
     let m = c.args.state.now in
     let x = c.args.number in
     let old = c.index_mut-leaf.result.now in
-    let there = item_there m.leaves.items x c.requires.can.leaf old c.requires.can.leaf_is c.index_mut-leaf.ensures.value in
+    let there = item_there m.leaves.items x c.requires.acts.can.leaf old c.requires.acts.can.leaf_is c.index_mut-leaf.ensures.value in
     let n : State = record { leaves = with_item m.leaves x c.run-pause.new.self; slots = m.slots } in
-    let active = of_leaf (λ l. Active l.state.phase) (slice_get m.leaves.items x) old there c.requires.active in
-    still f m n x c.requires.can c.lawful.ensures old c.run-pause.new.self there active refl refl (1 - c.run-pause.result.1) c.run-pause.ensures.stays
-    (one_left c.run-pause.result.1 c.if-left-eq0.false c.run-pause.ensures.left) c.run-pause.ensures.ran
+    let active = of_leaf (λ l. Active l.state.phase) (slice_get m.leaves.items x) old there c.requires.acts.active in
+    still f m n x c.requires.acts.can c.lawful.ensures old c.run-pause.new.self there active refl refl (1 - c.run-pause.result.1)
+    c.run-pause.ensures.counts.stays
+    (one_left c.run-pause.result.1 c.if-left-eq0.false c.run-pause.ensures.counts.within) c.run-pause.ensures.ran
 
 pub returns-in-Missing-clause-can : goal.returns-in-Missing-clause-can
 returns-in-Missing-clause-can c other =
@@ -84,11 +89,12 @@ returns-in-Missing-clause-can c other =
     let m = c.args.state.now in
     let x = c.args.number in
     let old = c.index_mut-leaf.result.now in
-    let there = item_there m.leaves.items x c.requires.can.leaf old c.requires.can.leaf_is c.index_mut-leaf.ensures.value in
+    let there = item_there m.leaves.items x c.requires.acts.can.leaf old c.requires.acts.can.leaf_is c.index_mut-leaf.ensures.value in
     let n : State = record { leaves = with_item m.leaves x c.run-pause.new.self; slots = m.slots } in
-    let active = of_leaf (λ l. Active l.state.phase) (slice_get m.leaves.items x) old there c.requires.active in
-    still_can f m n x c.requires.can c.lawful.ensures old c.run-pause.new.self there active refl refl (1 - c.run-pause.result.1) c.run-pause.ensures.stays
-    (one_left c.run-pause.result.1 c.if-left-eq0.false c.run-pause.ensures.left) c.run-pause.ensures.ran c.requires.can.paid
+    let active = of_leaf (λ l. Active l.state.phase) (slice_get m.leaves.items x) old there c.requires.acts.active in
+    still_can f m n x c.requires.acts.can c.lawful.ensures old c.run-pause.new.self there active refl refl (1 - c.run-pause.result.1)
+    c.run-pause.ensures.counts.stays
+    (one_left c.run-pause.result.1 c.if-left-eq0.false c.run-pause.ensures.counts.within) c.run-pause.ensures.ran c.requires.acts.can.paid
 
 pub returns-in-Missing-clause-active : goal.returns-in-Missing-clause-active
 returns-in-Missing-clause-active c =
@@ -96,10 +102,11 @@ returns-in-Missing-clause-active c =
     let m = c.args.state.now in
     let x = c.args.number in
     let old = c.index_mut-leaf.result.now in
-    let there = item_there m.leaves.items x c.requires.can.leaf old c.requires.can.leaf_is c.index_mut-leaf.ensures.value in
+    let there = item_there m.leaves.items x c.requires.acts.can.leaf old c.requires.acts.can.leaf_is c.index_mut-leaf.ensures.value in
     let n : State = record { leaves = with_item m.leaves x c.run-pause.new.self; slots = m.slots } in
-    let active = of_leaf (λ l. Active l.state.phase) (slice_get m.leaves.items x) old there c.requires.active in
-    still_active f m n x c.requires.can c.lawful.ensures old c.run-pause.new.self there active refl refl (1 - c.run-pause.result.1) c.run-pause.ensures.stays
+    let active = of_leaf (λ l. Active l.state.phase) (slice_get m.leaves.items x) old there c.requires.acts.active in
+    still_active f m n x c.requires.acts.can c.lawful.ensures old c.run-pause.new.self there active refl refl (1 - c.run-pause.result.1)
+    c.run-pause.ensures.counts.stays
 
 pub returns-in-Missing-clause-missing : goal.returns-in-Missing-clause-missing
 returns-in-Missing-clause-missing c is =
@@ -107,11 +114,13 @@ returns-in-Missing-clause-missing c is =
     let m = c.args.state.now in
     let x = c.args.number in
     let old = c.index_mut-leaf.result.now in
-    let there = item_there m.leaves.items x c.requires.can.leaf old c.requires.can.leaf_is c.index_mut-leaf.ensures.value in
+    let there = item_there m.leaves.items x c.requires.acts.can.leaf old c.requires.acts.can.leaf_is c.index_mut-leaf.ensures.value in
     let n : State = record { leaves = with_item m.leaves x c.run-pause.new.self; slots = m.slots } in
-    let active = of_leaf (λ l. Active l.state.phase) (slice_get m.leaves.items x) old there c.requires.active in
-    still_missing f m n x c.requires.can c.lawful.ensures old c.run-pause.new.self there active refl refl (1 - c.run-pause.result.1) c.run-pause.ensures.stays
-    (one_left c.run-pause.result.1 c.if-left-eq0.false c.run-pause.ensures.left) c.run-pause.ensures.ran (c.run-pause.ensures.missing c.in-Missing.is)
+    let active = of_leaf (λ l. Active l.state.phase) (slice_get m.leaves.items x) old there c.requires.acts.active in
+    still_missing f m n x c.requires.acts.can c.lawful.ensures old c.run-pause.new.self there active refl refl (1 - c.run-pause.result.1)
+    c.run-pause.ensures.counts.stays
+    (one_left c.run-pause.result.1 c.if-left-eq0.false c.run-pause.ensures.counts.within) c.run-pause.ensures.ran
+    (c.run-pause.ensures.reached.missing c.in-Missing.is)
 
 pub returns-in-Shared-clause-holds : goal.returns-in-Shared-clause-holds
 returns-in-Shared-clause-holds c =
@@ -119,11 +128,12 @@ returns-in-Shared-clause-holds c =
     let m = c.args.state.now in
     let x = c.args.number in
     let old = c.index_mut-leaf.result.now in
-    let there = item_there m.leaves.items x c.requires.can.leaf old c.requires.can.leaf_is c.index_mut-leaf.ensures.value in
+    let there = item_there m.leaves.items x c.requires.acts.can.leaf old c.requires.acts.can.leaf_is c.index_mut-leaf.ensures.value in
     let n : State = record { leaves = with_item m.leaves x c.run-pause.new.self; slots = m.slots } in
-    let active = of_leaf (λ l. Active l.state.phase) (slice_get m.leaves.items x) old there c.requires.active in
-    still_holds f m n x c.requires.can c.lawful.ensures old c.run-pause.new.self there active refl refl (1 - c.run-pause.result.1) c.run-pause.ensures.stays
-    (one_left c.run-pause.result.1 c.if-left-eq0.false c.run-pause.ensures.left) c.run-pause.ensures.ran
+    let active = of_leaf (λ l. Active l.state.phase) (slice_get m.leaves.items x) old there c.requires.acts.active in
+    still_holds f m n x c.requires.acts.can c.lawful.ensures old c.run-pause.new.self there active refl refl (1 - c.run-pause.result.1)
+    c.run-pause.ensures.counts.stays
+    (one_left c.run-pause.result.1 c.if-left-eq0.false c.run-pause.ensures.counts.within) c.run-pause.ensures.ran
 
 pub returns-in-Shared-clause-stays : goal.returns-in-Shared-clause-stays
 returns-in-Shared-clause-stays c other =
@@ -131,11 +141,12 @@ returns-in-Shared-clause-stays c other =
     let m = c.args.state.now in
     let x = c.args.number in
     let old = c.index_mut-leaf.result.now in
-    let there = item_there m.leaves.items x c.requires.can.leaf old c.requires.can.leaf_is c.index_mut-leaf.ensures.value in
+    let there = item_there m.leaves.items x c.requires.acts.can.leaf old c.requires.acts.can.leaf_is c.index_mut-leaf.ensures.value in
     let n : State = record { leaves = with_item m.leaves x c.run-pause.new.self; slots = m.slots } in
-    let active = of_leaf (λ l. Active l.state.phase) (slice_get m.leaves.items x) old there c.requires.active in
-    still f m n x c.requires.can c.lawful.ensures old c.run-pause.new.self there active refl refl (1 - c.run-pause.result.1) c.run-pause.ensures.stays
-    (one_left c.run-pause.result.1 c.if-left-eq0.false c.run-pause.ensures.left) c.run-pause.ensures.ran
+    let active = of_leaf (λ l. Active l.state.phase) (slice_get m.leaves.items x) old there c.requires.acts.active in
+    still f m n x c.requires.acts.can c.lawful.ensures old c.run-pause.new.self there active refl refl (1 - c.run-pause.result.1)
+    c.run-pause.ensures.counts.stays
+    (one_left c.run-pause.result.1 c.if-left-eq0.false c.run-pause.ensures.counts.within) c.run-pause.ensures.ran
 
 pub returns-in-Shared-clause-can : goal.returns-in-Shared-clause-can
 returns-in-Shared-clause-can c other =
@@ -143,11 +154,12 @@ returns-in-Shared-clause-can c other =
     let m = c.args.state.now in
     let x = c.args.number in
     let old = c.index_mut-leaf.result.now in
-    let there = item_there m.leaves.items x c.requires.can.leaf old c.requires.can.leaf_is c.index_mut-leaf.ensures.value in
+    let there = item_there m.leaves.items x c.requires.acts.can.leaf old c.requires.acts.can.leaf_is c.index_mut-leaf.ensures.value in
     let n : State = record { leaves = with_item m.leaves x c.run-pause.new.self; slots = m.slots } in
-    let active = of_leaf (λ l. Active l.state.phase) (slice_get m.leaves.items x) old there c.requires.active in
-    still_can f m n x c.requires.can c.lawful.ensures old c.run-pause.new.self there active refl refl (1 - c.run-pause.result.1) c.run-pause.ensures.stays
-    (one_left c.run-pause.result.1 c.if-left-eq0.false c.run-pause.ensures.left) c.run-pause.ensures.ran c.requires.can.paid
+    let active = of_leaf (λ l. Active l.state.phase) (slice_get m.leaves.items x) old there c.requires.acts.active in
+    still_can f m n x c.requires.acts.can c.lawful.ensures old c.run-pause.new.self there active refl refl (1 - c.run-pause.result.1)
+    c.run-pause.ensures.counts.stays
+    (one_left c.run-pause.result.1 c.if-left-eq0.false c.run-pause.ensures.counts.within) c.run-pause.ensures.ran c.requires.acts.can.paid
 
 pub returns-in-Shared-clause-active : goal.returns-in-Shared-clause-active
 returns-in-Shared-clause-active c =
@@ -155,10 +167,11 @@ returns-in-Shared-clause-active c =
     let m = c.args.state.now in
     let x = c.args.number in
     let old = c.index_mut-leaf.result.now in
-    let there = item_there m.leaves.items x c.requires.can.leaf old c.requires.can.leaf_is c.index_mut-leaf.ensures.value in
+    let there = item_there m.leaves.items x c.requires.acts.can.leaf old c.requires.acts.can.leaf_is c.index_mut-leaf.ensures.value in
     let n : State = record { leaves = with_item m.leaves x c.run-pause.new.self; slots = m.slots } in
-    let active = of_leaf (λ l. Active l.state.phase) (slice_get m.leaves.items x) old there c.requires.active in
-    still_active f m n x c.requires.can c.lawful.ensures old c.run-pause.new.self there active refl refl (1 - c.run-pause.result.1) c.run-pause.ensures.stays
+    let active = of_leaf (λ l. Active l.state.phase) (slice_get m.leaves.items x) old there c.requires.acts.active in
+    still_active f m n x c.requires.acts.can c.lawful.ensures old c.run-pause.new.self there active refl refl (1 - c.run-pause.result.1)
+    c.run-pause.ensures.counts.stays
 
 is_too : (r : Reached) (a b : Operation) → r ≡ reached.Shared a → Shared a ≡ Shared b → r ≡ reached.Shared b
 is_too r a b is same = is ∙ cc
@@ -166,7 +179,7 @@ is_too r a b is same = is ∙ cc
 pub returns-in-Shared-clause-shared : goal.returns-in-Shared-clause-shared
 returns-in-Shared-clause-shared c does same =
     let is = is_too c.run-pause.result.0 c.in-Shared.operation does c.in-Shared.is same in
-    c.run-pause.ensures.shared does is does (c.run-pause.ensures.next does is)
+    c.run-pause.ensures.reached.shared does is does (c.run-pause.ensures.reached.next does is)
 
 pub returns-in-Shared-clause-next : goal.returns-in-Shared-clause-next
 returns-in-Shared-clause-next c does same =
@@ -174,9 +187,10 @@ returns-in-Shared-clause-next c does same =
     let m = c.args.state.now in
     let x = c.args.number in
     let old = c.index_mut-leaf.result.now in
-    let there = item_there m.leaves.items x c.requires.can.leaf old c.requires.can.leaf_is c.index_mut-leaf.ensures.value in
+    let there = item_there m.leaves.items x c.requires.acts.can.leaf old c.requires.acts.can.leaf_is c.index_mut-leaf.ensures.value in
     let n : State = record { leaves = with_item m.leaves x c.run-pause.new.self; slots = m.slots } in
-    let active = of_leaf (λ l. Active l.state.phase) (slice_get m.leaves.items x) old there c.requires.active in
-    still_next f m n x c.requires.can c.lawful.ensures old c.run-pause.new.self there active refl refl (1 - c.run-pause.result.1) c.run-pause.ensures.stays
-    (one_left c.run-pause.result.1 c.if-left-eq0.false c.run-pause.ensures.left) c.run-pause.ensures.ran
-    does (c.run-pause.ensures.next does (is_too c.run-pause.result.0 c.in-Shared.operation does c.in-Shared.is same))
+    let active = of_leaf (λ l. Active l.state.phase) (slice_get m.leaves.items x) old there c.requires.acts.active in
+    still_next f m n x c.requires.acts.can c.lawful.ensures old c.run-pause.new.self there active refl refl (1 - c.run-pause.result.1)
+    c.run-pause.ensures.counts.stays
+    (one_left c.run-pause.result.1 c.if-left-eq0.false c.run-pause.ensures.counts.within) c.run-pause.ensures.ran
+    does (c.run-pause.ensures.reached.next does (is_too c.run-pause.result.0 c.in-Shared.operation does c.in-Shared.is same))

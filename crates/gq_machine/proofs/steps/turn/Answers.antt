@@ -35,7 +35,7 @@ returns-in-Pending-clause-step c =
 pub returns-in-Err-clause-holds : goal.returns-in-Err-clause-holds
 returns-in-Err-clause-holds c =
     let f = c.args.fixed.now in
-    from_err c.accept.result (Holds f c.accept.new.state) _ _ c.accept.ensures.holds c.accept.ensures.leaves c.accept.ensures.slots (λ e g.
+    from_err c.accept.result (Holds f c.accept.new.state) _ _ c.accept.ensures.leaves.holds c.accept.ensures.leaves.leaves c.accept.ensures.leaves.slots (λ e g.
     holds_same f c.pay.new.state c.accept.new.state e g c.pay.ensures.can.holds)
 
 pub pay-requires-clause-starts : goal.pay-requires-clause-starts
@@ -62,34 +62,38 @@ pay-requires-in-Running-clause-starts c =
     subst (OfLeaf (λ (l : Coded). stage_in l.state.phase ≡ Live)) (sym there)
     (subst (λ (p : Phase). stage_in p ≡ Live) c.phase.ensures (active_live c.phase.result (acts c.phase.result c.in-Running.is)))
 
-pub accept-requires-clause-can : goal.accept-requires-clause-can
-accept-requires-clause-can c =
-    c.pay.ensures.can
+pub accept-requires : goal.accept-requires
+accept-requires c =
+    record {
+      serves = record {
+        can =
+            c.pay.ensures.can;
+        serves =
+            let f = c.args.fixed.now in
+            let m = c.args.state.now in
+            let x = c.args.number in
+            let less = c.requires.leaf in
+            let count = c.requires.holds.count in
+            let leaf = get_within m.leaves.items x (omega (arith, less, count)) in
+            let there = item_there m.leaves.items x leaf.0 c.index.result.now leaf.1 c.index.ensures in
+            subst (λ ls. OfLeaf (λ (l : Coded). l.state.phase ≡ phase.Serving) (slice_get ls x)) (sym c.pay.ensures.leaves)
+            (subst (OfLeaf (λ (l : Coded). l.state.phase ≡ phase.Serving)) (sym there) (sym c.phase.ensures ∙ c.in-Serving.is));
+      };
+    }
 
-pub accept-requires-clause-serves : goal.accept-requires-clause-serves
-accept-requires-clause-serves c =
-    let f = c.args.fixed.now in
-    let m = c.args.state.now in
-    let x = c.args.number in
-    let less = c.requires.leaf in
-    let count = c.requires.holds.count in
-    let leaf = get_within m.leaves.items x (omega (arith, less, count)) in
-    let there = item_there m.leaves.items x leaf.0 c.index.result.now leaf.1 c.index.ensures in
-    subst (λ ls. OfLeaf (λ (l : Coded). l.state.phase ≡ phase.Serving) (slice_get ls x)) (sym c.pay.ensures.leaves)
-    (subst (OfLeaf (λ (l : Coded). l.state.phase ≡ phase.Serving)) (sym there) (sym c.phase.ensures ∙ c.in-Serving.is))
-
-pub act-requires-clause-can : goal.act-requires-clause-can
-act-requires-clause-can c =
-    c.pay-in-Running.ensures.can
-
-pub act-requires-clause-active : goal.act-requires-clause-active
-act-requires-clause-active c =
-    let f = c.args.fixed.now in
-    let m = c.args.state.now in
-    let x = c.args.number in
-    let less = c.requires.leaf in
-    let count = c.requires.holds.count in
-    let leaf = get_within m.leaves.items x (omega (arith, less, count)) in
-    let there = item_there m.leaves.items x leaf.0 c.index.result.now leaf.1 c.index.ensures in
-    subst (λ ls. OfLeaf (λ (l : Coded). Active l.state.phase) (slice_get ls x)) (sym c.pay-in-Running.ensures.leaves)
-    (subst (OfLeaf (λ (l : Coded). Active l.state.phase)) (sym there) (subst Active c.phase.ensures (acts c.phase.result c.in-Running.is)))
+pub act-requires-clause-acts : goal.act-requires-clause-acts
+act-requires-clause-acts c =
+    record {
+      can =
+          c.pay-in-Running.ensures.can;
+      active =
+          let f = c.args.fixed.now in
+          let m = c.args.state.now in
+          let x = c.args.number in
+          let less = c.requires.leaf in
+          let count = c.requires.holds.count in
+          let leaf = get_within m.leaves.items x (omega (arith, less, count)) in
+          let there = item_there m.leaves.items x leaf.0 c.index.result.now leaf.1 c.index.ensures in
+          subst (λ ls. OfLeaf (λ (l : Coded). Active l.state.phase) (slice_get ls x)) (sym c.pay-in-Running.ensures.leaves)
+          (subst (OfLeaf (λ (l : Coded). Active l.state.phase)) (sym there) (subst Active c.phase.ensures (acts c.phase.result c.in-Running.is)));
+    }

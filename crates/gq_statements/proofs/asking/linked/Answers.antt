@@ -16,8 +16,8 @@ returns-clause-is c =
     let s : Slots = c.args.slots.now in
     let p = c.in_ok-spot.spot in
     let k = c.in_ok-session.session in
-    let leaf : c.args.actor.leaf < length s.own = omega (arith, c.requires.live.there, c.laws.ensures.leaves) in
-    let at = c.in_ok-spot.ensures.there s leaf (slot_or_object c.args.place c.requires.place) c.requires.current in
+    let leaf : c.args.actor.leaf < length s.own = omega (arith, c.requires.actor.live.there, c.laws.ensures.leaves) in
+    let at = c.in_ok-spot.ensures.there s leaf (slot_or_object c.args.place c.requires.place) c.requires.actor.current in
     let content = sym c.content.ensures.is ∙ link_content c.content.result k c.in_ok-session.ensures in
     let l = c.requires.linked p at.0 at.1 k content in
     record {

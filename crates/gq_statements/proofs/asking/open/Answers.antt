@@ -1,4 +1,4 @@
-use Rattle.std.proofs.Common.{◌≡◌, ◌<◌, length, IfSome, sym, subst, ap, ◌∙◌, arith}
+use Rattle.std.proofs.Common.{◌≡◌, ◌<◌, length, IfSome, sym, subst, ap, ◌∙◌, arith, rules}
 use Rattle.gq_model.specs.machine.Requests.{free_place, new_session}
 use Rattle.gq_model.specs.machine.Sums.{paid}
 use Rattle.gq_contents.specs.declared.content.Content.TheVariants.{Empty}
@@ -7,7 +7,8 @@ use Rattle.gq_trade.specs.Trading.{fresh}
 use Rattle.gq_trade.specs.Trades.{IsLive}
 use Rattle.gq_slots.specs.Slots.{IsMark, Slots, world_seen}
 use Rattle.gq_slots.specs.Session_calls.{opening}
-use Rattle.gq_statements.proofs.Kept.{carries_asked, free_seen, paid_then, reads_content, same_spot, same_content, stays_asked, stays_then, unpaid_open}
+use Rattle.gq_statements.proofs.Kept.{carries_asked, free_seen, paid_then, reads_content, same_content, same_spot}
+use Rattle.gq_statements.proofs.Kept.{stays_asked, stays_same, stays_then, unpaid_open}
 use Rattle.gq_statements.proofs.Opens.{open_nowhere, open_some, open_unpaid}
 use Rattle.gq_statements.proofs.asking.open.Goals as goal
 
@@ -35,12 +36,19 @@ returns-in-Err-clause-step c before after d name n h o b named server gift =
     let x = c.args.actor.leaf in
     let y = c.in-Some-server.server in
     let is = c.in-Some.ensures.is in
-    let sv = subst (λ z. IfSome z (λ k. IsLive s.trades k × (x ≡ k → ⊥))) c.in-Some-server.is c.requires.server in
-    let below : x < length s.own = omega (arith, c.requires.live.there, c.lawful.ensures.count) in
+    let sv = subst (λ z. IfSome z (λ k. IsLive s.trades k × (x ≡ k → ⊥))) c.in-Some-server.is c.requires.opens.server in
+    let below : x < length s.own = omega (arith, c.requires.asks.live.there, c.lawful.ensures.count) in
     open_unpaid d c.args.place name n p (c.in-Some.ensures.found before d h b.world_before) y (server ∙ c.in-Some-server.is) c.args.donation gift before after s
     b (reads_content after s p Empty c.lawful.ensures is.there is.content)
     ((λ j. paid d.system (opening (world_seen after s) (new_session (h.leaf j) (spot_seen p) y name c.args.donation)))
-    ∙ unpaid_open d.system after s (new_session x (spot_seen p) y name c.args.donation) c.lawful.ensures o below sv.1 c.requires.counted c.in-Err.ensures.only)
+    ∙ unpaid_open d.system after s (new_session x (spot_seen p) y name c.args.donation) c.lawful.ensures o below sv.1 c.requires.opens.counted
+    c.in-Err.ensures.only)
+
+pub returns-in-Err-clause-leaves : goal.returns-in-Err-clause-leaves
+returns-in-Err-clause-leaves c = record {
+  stays = stays_same c.args.slots.now c.ask.new.slots c.in-Err.ensures.unchanged;
+  unchanged = c.in-Err.ensures.unchanged;
+}
 
 pub returns-in-Ok-clause-step : goal.returns-in-Ok-clause-step
 returns-in-Ok-clause-step c before after d name n h o b named server gift =
@@ -58,9 +66,12 @@ returns-in-Ok-clause-step c before after d name n h o b named server gift =
     (c.in-Ok.ensures.number ∙ (sym (free_seen before s) ∙ ap (λ w. free_place w.sessions) (sym b.world_before))) c.mark.ensures
     (paid_then d.system after s t c.lawful.ensures c.lawful-in-Ok.ensures stays o)
 
-pub returns-in-Ok-clause-stays : goal.returns-in-Ok-clause-stays
-returns-in-Ok-clause-stays c =
+pub returns-in-Ok-clause-leaves : goal.returns-in-Ok-clause-leaves
+returns-in-Ok-clause-leaves c =
     let s : Slots = c.args.slots.now in
     let u : Slots = c.ask.new.slots in
     let q = fresh c.args.actor.leaf c.in-Some.spot c.in-Some-server.server c.args.service c.args.donation in
-    stays_then s u c.mark.new.self (stays_asked s u q c.in-Ok.ensures.asked) c.mark.ensures.rest
+    record {
+      stays = stays_then s u c.mark.new.self (stays_asked s u q c.in-Ok.ensures.asked) c.mark.ensures.rest;
+      unchanged = search rules;
+    }

@@ -1,4 +1,4 @@
-use Rattle.std.proofs.Common.{sym, subst, ◌∙◌}
+use Rattle.std.proofs.Common.{sym, subst, ◌∙◌, rules}
 use Rattle.gq_contents.specs.declared.content.Content.TheVariants.{Link}
 use Rattle.gq_slots.specs.Slots.{IsMark, Slots}
 use Rattle.gq_statements.proofs.Asks.{upgrade_none, upgrade_some, upgrade_unpaid}
@@ -49,9 +49,12 @@ returns-in-Ok-clause-step c before after d n h o b next =
     (session_found before s k is.taken) b n c.args.donation next u t (c.in-Ok.ensures.world after) c.mark.ensures
     (paid_then d.system after s t c.lawful.ensures c.lawful-in-Ok.ensures stays o)
 
-pub returns-in-Ok-clause-stays : goal.returns-in-Ok-clause-stays
-returns-in-Ok-clause-stays c =
+pub returns-in-Ok-clause-leaves : goal.returns-in-Ok-clause-leaves
+returns-in-Ok-clause-leaves c =
     let s : Slots = c.args.slots.now in
     let u : Slots = c.upgrade.new.slots in
-    stays_then s u c.mark.new.self (stays_upgraded s u c.in-Some.session c.args.donation c.in-Some.ensures.is.taken c.in-Ok.ensures.upgraded)
-    c.mark.ensures.rest
+    record {
+      stays = stays_then s u c.mark.new.self (stays_upgraded s u c.in-Some.session c.args.donation c.in-Some.ensures.is.taken c.in-Ok.ensures.upgraded)
+          c.mark.ensures.rest;
+      unchanged = search rules;
+    }

@@ -8,5 +8,5 @@ pub returns-clause-step : goal.returns-clause-step
 returns-clause-step c f d rest bs current h b we e =
     let s : Slots = c.args.slots.now in
     load_some d c.args.width (Own c.args.slot) s (world_seen f s) c.args.index rest we e c.in-Some.spot c.in-Some.count c.read_number.result
-    (c.in-Some.ensures.found f d bs current h b) c.in-Some.ensures.size (sym c.is_inside.ensures ∙ c.if-not-is_inside.false)
+    (c.in-Some.ensures.found f d bs current h b) c.in-Some.ensures.is.size (sym c.is_inside.ensures ∙ c.if-not-is_inside.false)
     c.read_number.ensures

@@ -8,5 +8,5 @@ pub returns-clause-step : goal.returns-clause-step
 returns-clause-step c so f d rest bs current h b we e =
     let s : Slots = c.args.slots.now in
     store_some d c.args.width (Own c.args.slot) s (world_seen f s) c.args.value c.args.index rest we e f c.write_number.new.slots c.in-Some.here
-    c.in-Some.count refl (c.in-Some.ensures.found f d bs current h b) c.in-Some.ensures.size (sym c.is_inside.ensures ∙ c.if-not-is_inside.false)
+    c.in-Some.count refl (c.in-Some.ensures.found f d bs current h b) c.in-Some.ensures.is.size (sym c.is_inside.ensures ∙ c.if-not-is_inside.false)
     c.write_number.ensures

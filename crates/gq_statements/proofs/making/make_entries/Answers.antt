@@ -1,4 +1,4 @@
-use Rattle.std.proofs.Common.{◌≡◌, ◌*◌, length, replicate, List, Option, None, ℕ, ap, arith}
+use Rattle.std.proofs.Common.{◌≡◌, ◌*◌, length, replicate, List, Option, None, ℕ, ap, arith, rules}
 use Rattle.std.proofs.lemmas.List.{length-replicate}
 use Rattle.gq_tariff.specs.Prices.{up}
 use Rattle.gq_model.specs.machine.World as world
@@ -6,12 +6,20 @@ use Rattle.gq_slots.specs.Slots.{Slots}
 use Rattle.gq_statements.proofs.Refusals.{refused}
 use Rattle.gq_statements.proofs.making.make_entries.Goals as goal
 
-pub returns-clause-unpaid : goal.returns-clause-unpaid
-returns-clause-unpaid c =
+pub returns : goal.returns
+returns c =
     let s : Slots = c.args.slots.now in
     let none : Option (List ℕ) = None in
     let long : length (replicate c.args.count none) ≡ c.args.count = length-replicate c.args.count none in
     let price = ap (λ m. up (4 * m)) long in
-    refused s c.args.spot (world.Pool c.args.size (replicate c.args.count None)) c.make_pool.result c.lawful.ensures c.requires.there c.requires.slot
-    c.requires.empty c.requires.below (λ e. let lt = c.make_pool.ensures.exceeded.0 e in omega (arith, lt, price))
-    (λ e. ((c.make_pool.ensures.caps_exceeded.0 e).1, omega arith))
+    record {
+      made = record {
+        settles = search rules;
+        unchanged = search rules;
+        unpaid =
+            refused s c.args.spot (world.Pool c.args.size (replicate c.args.count None)) c.make_pool.result c.lawful.ensures c.requires.payable.there
+            c.requires.payable.slot
+            c.requires.empty c.requires.payable.below (λ e. let lt = c.make_pool.ensures.exceeded.0 e in omega (arith, lt, price))
+            (λ e. ((c.make_pool.ensures.caps_exceeded.0 e).1, omega arith));
+      };
+    }

@@ -7,6 +7,6 @@ use Rattle.gq_statements.proofs.pools.give_own.Goals as goal
 pub returns-clause-step : goal.returns-clause-step
 returns-clause-step c =
     let s : Slots = c.args.slots.now in
-    let spot : IsSpot s (InLeaf c.args.leaf c.args.slot) = (omega (arith, c.laws.ensures.leaves, c.requires.live.there), c.requires.slot) in
+    let spot : IsSpot s (InLeaf c.args.leaf c.args.slot) = (omega (arith, c.laws.ensures.leaves, c.requires.paying.live.there), c.requires.slot) in
     let e = c.give_own.ensures in
     own_given c.give_own.result s c.give_own.new.self c.args.leaf c.args.slot c.args.index spot c.laws.ensures.reads e.inside e.given e.absent

@@ -11,7 +11,7 @@ returns-in-Some-clause-step c f d rest current h we e =
     let s : Slots = c.args.slots.now in
     let p = InLeaf c.args.leaf c.args.slot in
     let t = content_at s p in
-    let spot : IsSpot s p = (omega (arith, c.laws.ensures.leaves, c.requires.live.there), c.requires.slot) in
+    let spot : IsSpot s p = (omega (arith, c.laws.ensures.leaves, c.requires.paying.live.there), c.requires.slot) in
     let inside = c.in-Some.ensures.inside in
     peek_some d (Own c.args.slot) s p (entry_size t) (entry_count t) refl (world_seen f s)
     (own_pool d c.args.leaf c.args.slot current f s c.args.index h spot c.laws.ensures.reads inside.0) c.args.offset c.args.index rest we e c.from.result

@@ -13,7 +13,7 @@ returns-clause-step c so f d rest current h we e =
     let s : Slots = c.args.slots.now in
     let p = InLeaf c.args.leaf c.args.slot in
     let t = content_at s p in
-    let spot : IsSpot s p = (omega (arith, c.laws.ensures.leaves, c.requires.live.there), c.requires.slot) in
+    let spot : IsSpot s p = (omega (arith, c.laws.ensures.leaves, c.requires.paying.live.there), c.requires.slot) in
     let inside = c.poke_own.ensures.inside so in
     let puts : PutsSlot s c.poke_own.new.self p (with_entry c.args.index (λ n. entry_with c.args.offset c.args.value) (slot_of s p)) =
     subst (PutsSlot s c.poke_own.new.self p) (low_byte c.args.value c.args.offset c.args.index (slot_of s p)) (c.poke_own.ensures.put so) in

@@ -16,11 +16,8 @@ pub returns-then-not-are_empty-clause-closed : goal.returns-then-not-are_empty-c
 returns-then-not-are_empty-clause-closed c f d q level at o h =
     let s = c.args.slots.now in
     let k = c.args.session in
-    let is = c.session-spot.ensures ∙ ap (λ (w : Trades). session_at w.trading k) c.trades-3.ensures in
-    let l = lawful s c.trades.result.now c.trades-2.result.now c.memory.result.now c.accounts.result.now c.laws.ensures.trades c.laws.ensures.leaves
-    c.laws.ensures.held c.laws.ensures.reads c.laws.ensures.rises c.laws.ensures.entries
-    c.laws-2.ensures.trading c.trades.ensures c.laws-3.ensures c.accounts.ensures c.memory.ensures
-    c.trades-2.ensures in
+    let is = c.session-spot.ensures ∙ ap (λ (w : Trades). session_at w.trading k) c.trades.ensures in
+    let l = c.lawful.ensures in
     let e = ap (λ y. are_empty y.slots) (sym is) ∙ (sym c.are_empty.ensures ∙ c.if-not-are_empty.true) in
     close_wrong f d s k q at h l c.requires.awaited e
 
@@ -28,7 +25,7 @@ pub closed-requires-clause-empty : goal.closed-requires-clause-empty
 closed-requires-clause-empty c i lt =
     let s = c.args.slots.now in
     let k = c.args.session in
-    let is = c.session-spot.ensures ∙ ap (λ (w : Trades). session_at w.trading k) c.trades-3.ensures in
+    let is = c.session-spot.ensures ∙ ap (λ (w : Trades). session_at w.trading k) c.trades.ensures in
     let e = ap (λ y. are_empty y.slots) (sym is) ∙ (sym c.are_empty.ensures ∙ c.if-not-are_empty.false) in
     empty_each (session_at s.trades.trading k).slots e i
 
@@ -36,11 +33,8 @@ pub returns-in-Err-clause-closed : goal.returns-in-Err-clause-closed
 returns-in-Err-clause-closed c f d q level at o h =
     let s = c.args.slots.now in
     let k = c.args.session in
-    let is = c.session-spot.ensures ∙ ap (λ (w : Trades). session_at w.trading k) c.trades-3.ensures in
-    let l = lawful s c.trades.result.now c.trades-2.result.now c.memory.result.now c.accounts.result.now c.laws.ensures.trades c.laws.ensures.leaves
-    c.laws.ensures.held c.laws.ensures.reads c.laws.ensures.rises c.laws.ensures.entries
-    c.laws-2.ensures.trading c.trades.ensures c.laws-3.ensures c.accounts.ensures c.memory.ensures
-    c.trades-2.ensures in
+    let is = c.session-spot.ensures ∙ ap (λ (w : Trades). session_at w.trading k) c.trades.ensures in
+    let l = c.lawful.ensures in
     let e = ap (λ y. are_empty y.slots) (sym is) ∙ (sym c.are_empty.ensures ∙ c.if-not-are_empty.false) in
     let t = s.trades.trading in
     let only = from_err ((session_at t k).donation.ram ≤ bytes_then t k → caps_then t k < (session_at t k).donation.caps) c.closed.result _ c.in-Err.is
@@ -51,18 +45,10 @@ pub mark-requires-clause-there : goal.mark-requires-clause-there
 mark-requires-clause-there c =
     let s = c.args.slots.now in
     let k = c.args.session in
-    let is = c.session-spot.ensures ∙ ap (λ (w : Trades). session_at w.trading k) c.trades-3.ensures in
-    let l = lawful s c.trades.result.now c.trades-2.result.now c.memory.result.now c.accounts.result.now c.laws.ensures.trades c.laws.ensures.leaves
-    c.laws.ensures.held c.laws.ensures.reads c.laws.ensures.rises c.laws.ensures.entries
-    c.laws-2.ensures.trading c.trades.ensures c.laws-3.ensures c.accounts.ensures c.memory.ensures
-    c.trades-2.ensures in
+    let is = c.session-spot.ensures ∙ ap (λ (w : Trades). session_at w.trading k) c.trades.ensures in
+    let l = c.lawful.ensures in
     let m = c.closed.new.slots in
-    let lm = lawful m c.trades-in-Ok.result.now c.trades-in-Ok-2.result.now c.memory-in-Ok.result.now c.accounts-in-Ok.result.now
-    c.laws-in-Ok.ensures.trades c.laws-in-Ok.ensures.leaves c.laws-in-Ok.ensures.held c.laws-in-Ok.ensures.reads
-    c.laws-in-Ok.ensures.rises c.laws-in-Ok.ensures.entries
-    c.laws-in-Ok-2.ensures.trading
-    c.trades-in-Ok.ensures c.laws-in-Ok-3.ensures c.accounts-in-Ok.ensures c.memory-in-Ok.ensures
-    c.trades-in-Ok-2.ensures in
+    let lm = c.lawful-in-Ok.ensures in
     let ends = from_ok (EndsSession s m k) c.closed.result _ c.in-Ok.is c.closed.ensures.ends in
     subst (λ y. IsSpot m y.spot) (sym is) (ends.spots (slot_for s k) (awaited_beside s k l.trading c.requires.awaited) c.requires.awaited.spot)
 
@@ -70,18 +56,10 @@ pub mark-requires-clause-free : goal.mark-requires-clause-free
 mark-requires-clause-free c =
     let s = c.args.slots.now in
     let k = c.args.session in
-    let is = c.session-spot.ensures ∙ ap (λ (w : Trades). session_at w.trading k) c.trades-3.ensures in
-    let l = lawful s c.trades.result.now c.trades-2.result.now c.memory.result.now c.accounts.result.now c.laws.ensures.trades c.laws.ensures.leaves
-    c.laws.ensures.held c.laws.ensures.reads c.laws.ensures.rises c.laws.ensures.entries
-    c.laws-2.ensures.trading c.trades.ensures c.laws-3.ensures c.accounts.ensures c.memory.ensures
-    c.trades-2.ensures in
+    let is = c.session-spot.ensures ∙ ap (λ (w : Trades). session_at w.trading k) c.trades.ensures in
+    let l = c.lawful.ensures in
     let m = c.closed.new.slots in
-    let lm = lawful m c.trades-in-Ok.result.now c.trades-in-Ok-2.result.now c.memory-in-Ok.result.now c.accounts-in-Ok.result.now
-    c.laws-in-Ok.ensures.trades c.laws-in-Ok.ensures.leaves c.laws-in-Ok.ensures.held c.laws-in-Ok.ensures.reads
-    c.laws-in-Ok.ensures.rises c.laws-in-Ok.ensures.entries
-    c.laws-in-Ok-2.ensures.trading
-    c.trades-in-Ok.ensures c.laws-in-Ok-3.ensures c.accounts-in-Ok.ensures c.memory-in-Ok.ensures
-    c.trades-in-Ok-2.ensures in
+    let lm = c.lawful-in-Ok.ensures in
     let ends = from_ok (EndsSession s m k) c.closed.result _ c.in-Ok.is c.closed.ensures.ends in
     subst (λ y. IsMark (content_at m y.spot)) (sym is) (still_mark s m k l lm c.requires.awaited ends)
 
@@ -89,19 +67,11 @@ pub returns-in-Ok-clause-closed : goal.returns-in-Ok-clause-closed
 returns-in-Ok-clause-closed c f d q level at o h =
     let s = c.args.slots.now in
     let k = c.args.session in
-    let is = c.session-spot.ensures ∙ ap (λ (w : Trades). session_at w.trading k) c.trades-3.ensures in
-    let l = lawful s c.trades.result.now c.trades-2.result.now c.memory.result.now c.accounts.result.now c.laws.ensures.trades c.laws.ensures.leaves
-    c.laws.ensures.held c.laws.ensures.reads c.laws.ensures.rises c.laws.ensures.entries
-    c.laws-2.ensures.trading c.trades.ensures c.laws-3.ensures c.accounts.ensures c.memory.ensures
-    c.trades-2.ensures in
+    let is = c.session-spot.ensures ∙ ap (λ (w : Trades). session_at w.trading k) c.trades.ensures in
+    let l = c.lawful.ensures in
     let e = ap (λ y. are_empty y.slots) (sym is) ∙ (sym c.are_empty.ensures ∙ c.if-not-are_empty.false) in
     let m = c.closed.new.slots in
-    let lm = lawful m c.trades-in-Ok.result.now c.trades-in-Ok-2.result.now c.memory-in-Ok.result.now c.accounts-in-Ok.result.now
-    c.laws-in-Ok.ensures.trades c.laws-in-Ok.ensures.leaves c.laws-in-Ok.ensures.held c.laws-in-Ok.ensures.reads
-    c.laws-in-Ok.ensures.rises c.laws-in-Ok.ensures.entries
-    c.laws-in-Ok-2.ensures.trading
-    c.trades-in-Ok.ensures c.laws-in-Ok-3.ensures c.accounts-in-Ok.ensures c.memory-in-Ok.ensures
-    c.trades-in-Ok-2.ensures in
+    let lm = c.lawful-in-Ok.ensures in
     let ends = from_ok (EndsSession s m k) c.closed.result _ c.in-Ok.is c.closed.ensures.ends in
     let puts = subst (λ y. PutsSlot m c.mark.new.self y.spot world.Empty) is c.mark.ensures in
     close_done f d s k q at h l c.requires.awaited e m c.mark.new.self o lm ends puts
@@ -110,14 +80,9 @@ pub returns-in-Ok-clause-ends : goal.returns-in-Ok-clause-ends
 returns-in-Ok-clause-ends c =
     let s = c.args.slots.now in
     let k = c.args.session in
-    let is = c.session-spot.ensures ∙ ap (λ (w : Trades). session_at w.trading k) c.trades-3.ensures in
+    let is = c.session-spot.ensures ∙ ap (λ (w : Trades). session_at w.trading k) c.trades.ensures in
     let m = c.closed.new.slots in
-    let lm = lawful m c.trades-in-Ok.result.now c.trades-in-Ok-2.result.now c.memory-in-Ok.result.now c.accounts-in-Ok.result.now
-    c.laws-in-Ok.ensures.trades c.laws-in-Ok.ensures.leaves c.laws-in-Ok.ensures.held c.laws-in-Ok.ensures.reads
-    c.laws-in-Ok.ensures.rises c.laws-in-Ok.ensures.entries
-    c.laws-in-Ok-2.ensures.trading
-    c.trades-in-Ok.ensures c.laws-in-Ok-3.ensures c.accounts-in-Ok.ensures c.memory-in-Ok.ensures
-    c.trades-in-Ok-2.ensures in
+    let lm = c.lawful-in-Ok.ensures in
     let ends = from_ok (EndsSession s m k) c.closed.result _ c.in-Ok.is c.closed.ensures.ends in
     let puts = subst (λ y. PutsSlot m c.mark.new.self y.spot world.Empty) is c.mark.ensures in
     record { between = m; ends = ends; puts = puts }

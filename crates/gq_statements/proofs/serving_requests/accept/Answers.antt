@@ -12,28 +12,23 @@ pub returns-then-not-has-clause-step : goal.returns-then-not-has-clause-step
 returns-then-not-has-clause-step c e f d is same sections begins =
     let s = c.args.slots.now in
     let x = c.args.server in
-    let l = lawful s c.trades.result.now c.trades-2.result.now c.memory.result.now c.accounts.result.now c.laws.ensures.trades c.laws.ensures.leaves
-    c.laws.ensures.held c.laws.ensures.reads c.laws.ensures.rises c.laws.ensures.entries
-    c.laws-2.ensures.trading c.trades.ensures c.laws-3.ensures c.accounts.ensures c.memory.ensures
-    c.trades-2.ensures in
+    let l = c.lawful.ensures in
     let r = c.args.request in
-    let first = c.requires.oldest in
-    let level = c.level-level.ensures ∙ ap (λ (w : Trades). (session_at w.trading r.session).level) c.trades-3.ensures in
+    let first = c.requires.first.oldest in
+    let level = c.level-level.ensures ∙ ap (λ (w : Trades). (session_at w.trading r.session).level) c.trades.ensures in
     let has = has_is d c.args.provider.now.sections.now s r c.section_of-section.result c.level-level.result c.has.result sections
     c.section_of-section.ensures.section c.section_of-section.ensures.is level c.has.ensures ∙ c.if-not-has.true in
-    without d e s x is same l c.laws.ensures.sound r first.rest first.is c.requires.there f begins c.args.provider.now.object c.wrong_without.result has
-    c.requires.its c.requires.object c.wrong_without.ensures
+    without d e s x is same l c.laws.ensures.sound r first.rest first.is c.requires.first.there f begins c.args.provider.now.object c.wrong_without.result has
+    c.requires.first.its c.requires.knows.object c.wrong_without.ensures
 
 pub returns-in-Err-clause-step : goal.returns-in-Err-clause-step
 returns-in-Err-clause-step c e f d is same sections begins =
     let s = c.args.slots.now in
     let x = c.args.server in
-    let l = lawful s c.trades.result.now c.trades-2.result.now c.memory.result.now c.accounts.result.now c.laws.ensures.trades c.laws.ensures.leaves
-    c.laws.ensures.held c.laws.ensures.reads c.laws.ensures.rises c.laws.ensures.entries
-    c.laws-2.ensures.trading c.trades.ensures c.laws-3.ensures c.accounts.ensures c.memory.ensures
-    c.trades-2.ensures in
-    let first = c.requires.oldest in
-    refusal d e s x is same l c.laws.ensures.sound c.args.request first.rest first.is c.requires.there f begins c.accept.result c.in-Err.field-0 c.in-Err.is
+    let l = c.lawful.ensures in
+    let first = c.requires.first.oldest in
+    refusal d e s x is same l c.laws.ensures.sound c.args.request first.rest first.is c.requires.first.there f begins c.accept.result c.in-Err.field-0
+    c.in-Err.is
     c.accept.ensures.exceeded c.accept.ensures.caps_exceeded
 
 pub returns-in-Ok-clause-takes : goal.returns-in-Ok-clause-takes
@@ -44,24 +39,18 @@ returns-in-Ok-clause-takes c =
     let none = if_ok (λ o. IfNone o ((oldest_to x s.trades.trading.requests ≡ None) × (t ≡ s))) c.accept.result c.in-Ok.field-0 c.in-Ok.is
     c.accept.ensures.none in
     let some = if_ok (λ o. IfSome o (λ p. TakesOldest s t x p)) c.accept.result c.in-Ok.field-0 c.in-Ok.is c.accept.ensures.some in
-    takes_oldest s t x c.args.request c.requires.oldest.rest c.in-Ok.field-0 c.requires.oldest.is none some
+    takes_oldest s t x c.args.request c.requires.first.oldest.rest c.in-Ok.field-0 c.requires.first.oldest.is none some
 
 pub returns-in-Ok-clause-step : goal.returns-in-Ok-clause-step
 returns-in-Ok-clause-step c e f d is same sections begins =
     let s = c.args.slots.now in
     let x = c.args.server in
-    let l = lawful s c.trades.result.now c.trades-2.result.now c.memory.result.now c.accounts.result.now c.laws.ensures.trades c.laws.ensures.leaves
-    c.laws.ensures.held c.laws.ensures.reads c.laws.ensures.rises c.laws.ensures.entries
-    c.laws-2.ensures.trading c.trades.ensures c.laws-3.ensures c.accounts.ensures c.memory.ensures
-    c.trades-2.ensures in
+    let l = c.lawful.ensures in
     let r = c.args.request in
-    let first = c.requires.oldest in
-    let level = c.level-level.ensures ∙ ap (λ (w : Trades). (session_at w.trading r.session).level) c.trades-3.ensures in
+    let first = c.requires.first.oldest in
+    let level = c.level-level.ensures ∙ ap (λ (w : Trades). (session_at w.trading r.session).level) c.trades.ensures in
     let has = has_is d c.args.provider.now.sections.now s r c.section_of-section.result c.level-level.result c.has.result sections
     c.section_of-section.ensures.section c.section_of-section.ensures.is level c.has.ensures ∙ c.if-not-has.false in
     let t = c.accept.new.slots in
-    let m = lawful t c.trades-in-Ok.result.now c.trades-in-Ok-2.result.now c.memory-in-Ok.result.now c.accounts-in-Ok.result.now c.laws-in-Ok.ensures.trades
-    c.laws-in-Ok.ensures.leaves c.laws-in-Ok.ensures.held c.laws-in-Ok.ensures.reads c.laws-in-Ok.ensures.rises c.laws-in-Ok.ensures.entries
-    c.laws-in-Ok-2.ensures.trading c.trades-in-Ok.ensures
-    c.laws-in-Ok-3.ensures c.accounts-in-Ok.ensures c.memory-in-Ok.ensures c.trades-in-Ok-2.ensures in
-    outcome d e s x is same l c.laws.ensures.sound r first.rest first.is c.requires.there f begins t m has (returns-in-Ok-clause-takes c)
+    let m = c.lawful-in-Ok.ensures in
+    outcome d e s x is same l c.laws.ensures.sound r first.rest first.is c.requires.first.there f begins t m has (returns-in-Ok-clause-takes c)

@@ -20,14 +20,14 @@ pub call-requires-clause-place : goal.call-requires-clause-place
 call-requires-clause-place c =
     let i = c.self.inside in
     let v : Coded = record { state = record { phase = i.phase; current = i.current; registers = i.registers; steps = i.steps }; code = i.code } in
-    slot_next v (operation.Call c.args.place) c.self.invariant.code (ap operation_of c.self.view_is ∙ c.requires.next) (no_end c.args.place)
+    slot_next v (operation.Call c.args.place) c.self.invariant.code (ap operation_of c.self.view_is ∙ c.requires.due.next) (no_end c.args.place)
     (instruction.Call c.args.place) refl c.args.place refl
 
 pub advance-requires : goal.advance-requires
 advance-requires c =
     let i = c.self.inside in
     let v : Coded = record { state = record { phase = i.phase; current = i.current; registers = i.registers; steps = i.steps }; code = i.code } in
-    small_then v (operation.Call c.args.place) c.self.invariant.code (ap operation_of c.self.view_is ∙ c.requires.next) (no_end c.args.place)
+    small_then v (operation.Call c.args.place) c.self.invariant.code (ap operation_of c.self.view_is ∙ c.requires.due.next) (no_end c.args.place)
     c.pop-value.new.self c.pop-value.ensures.stays
 
 pub invariant_of-self : goal.invariant_of-self
@@ -36,7 +36,7 @@ invariant_of-self c =
     let v : Coded = record { state = record { phase = i.phase; current = i.current; registers = i.registers; steps = i.steps }; code = i.code } in
     record {
       code = c.self.invariant.code;
-      inside = inside_then v (operation.Call c.args.place) c.self.invariant.code (ap operation_of c.self.view_is ∙ c.requires.next) (no_end c.args.place)
+      inside = inside_then v (operation.Call c.args.place) c.self.invariant.code (ap operation_of c.self.view_is ∙ c.requires.due.next) (no_end c.args.place)
           (λ size p h. h) c.advance.new.self
           (ap (λ (r : Core). r.position) c.advance.ensures ∙ ap (λ (r : Core). r.position + 1) c.pop-value.ensures.stays);
       placed = c.self.invariant.placed;
@@ -48,7 +48,7 @@ returns-in_default-clause-step c bs =
     let v : Coded = record { state = record { phase = i.phase; current = i.current; registers = i.registers; steps = i.steps }; code = i.code } in
     let P : Coded → Type 0 = λ o. LeadsTo c.args.number bs o o c.args.slots.now c.args.slots.now
     (done (Err Rattle.gq_model.specs.declared.fault.Wrong.TheVariants.MissingOperand)) in
-    subst P c.self.view_is (call_missing v c.self.invariant.code c.args.place (ap operation_of c.self.view_is ∙ c.requires.next) c.in_default.ensures
+    subst P c.self.view_is (call_missing v c.self.invariant.code c.args.place (ap operation_of c.self.view_is ∙ c.requires.due.next) c.in_default.ensures
     c.args.number bs c.args.slots.now)
 
 pub returns-in-Err-clause-step : goal.returns-in-Err-clause-step
@@ -58,7 +58,8 @@ returns-in-Err-clause-step c bs =
     let rest = drop 1 i.registers.operands in
     let P : Coded → Type 0 = λ o. LeadsTo c.args.number bs o o c.args.slots.now c.call.new.slots (done (Err c.in-Err.wrong)) in
     subst P c.self.view_is
-    (asked_fails v c.self.invariant.code (operation.Call c.args.place) (ap operation_of c.self.view_is ∙ c.requires.next) (no_end c.args.place) c.args.number
+    (asked_fails v c.self.invariant.code (operation.Call c.args.place) (ap operation_of c.self.view_is ∙ c.requires.due.next) (no_end c.args.place)
+    c.args.number
     bs c.args.slots.now c.call.new.slots
     (instruction.Call c.args.place) refl v rest c.in-Err.wrong
     (λ f g d by of b had. c.in-Err.ensures.step f g d rest by of b (had ∙ c.in-Some.ensures)))
@@ -80,7 +81,8 @@ returns-in-Ok-clause-step c bs =
     ∙ ap (λ k. record (stepped v.state rest) { phase = phase.Blocked; steps = k }) (omega arith) in
     let P : Coded → Type 0 = λ o. LeadsTo c.args.number bs o n c.args.slots.now c.call.new.slots (done (Ok tt)) in
     subst P c.self.view_is
-    (asked_leads v c.self.invariant.code (operation.Call c.args.place) (ap operation_of c.self.view_is ∙ c.requires.next) (no_end c.args.place) c.args.number
+    (asked_leads v c.self.invariant.code (operation.Call c.args.place) (ap operation_of c.self.view_is ∙ c.requires.due.next) (no_end c.args.place)
+    c.args.number
     bs c.args.slots.now c.call.new.slots
     (instruction.Call c.args.place) refl n rest (Ok tt) to
     (λ f g d by of b had. c.in-Ok.ensures.step f g d rest by of b (had ∙ c.in-Some.ensures)))

@@ -20,14 +20,15 @@ pub close-requires-clause-place : goal.close-requires-clause-place
 close-requires-clause-place c =
     let i = c.self.inside in
     let v : Coded = record { state = record { phase = i.phase; current = i.current; registers = i.registers; steps = i.steps }; code = i.code } in
-    slot_next v (operation.Close c.args.place) c.self.invariant.code (ap operation_of c.self.view_is ∙ c.requires.next) (no_end c.args.place)
+    slot_next v (operation.Close c.args.place) c.self.invariant.code (ap operation_of c.self.view_is ∙ c.requires.due.next) (no_end c.args.place)
     (instruction.Close c.args.place) refl c.args.place refl
 
 pub advance-requires : goal.advance-requires
 advance-requires c =
     let i = c.self.inside in
     let v : Coded = record { state = record { phase = i.phase; current = i.current; registers = i.registers; steps = i.steps }; code = i.code } in
-    small_then v (operation.Close c.args.place) c.self.invariant.code (ap operation_of c.self.view_is ∙ c.requires.next) (no_end c.args.place) i.registers refl
+    small_then v (operation.Close c.args.place) c.self.invariant.code (ap operation_of c.self.view_is ∙ c.requires.due.next) (no_end c.args.place) i.registers
+    refl
 
 pub invariant_of-self : goal.invariant_of-self
 invariant_of-self c =
@@ -35,7 +36,7 @@ invariant_of-self c =
     let v : Coded = record { state = record { phase = i.phase; current = i.current; registers = i.registers; steps = i.steps }; code = i.code } in
     record {
       code = c.self.invariant.code;
-      inside = inside_then v (operation.Close c.args.place) c.self.invariant.code (ap operation_of c.self.view_is ∙ c.requires.next) (no_end c.args.place)
+      inside = inside_then v (operation.Close c.args.place) c.self.invariant.code (ap operation_of c.self.view_is ∙ c.requires.due.next) (no_end c.args.place)
           (λ size p h. h) c.advance.new.self
           (ap (λ (r : Core). r.position) c.advance.ensures);
       placed = c.self.invariant.placed;
@@ -47,7 +48,8 @@ returns-in-Err-clause-step c bs =
     let v : Coded = record { state = record { phase = i.phase; current = i.current; registers = i.registers; steps = i.steps }; code = i.code } in
     let P : Coded → Type 0 = λ o. LeadsTo c.args.number bs o o c.args.slots.now c.close.new.slots (done (Err c.in-Err.wrong)) in
     subst P c.self.view_is
-    (asked_fails v c.self.invariant.code (operation.Close c.args.place) (ap operation_of c.self.view_is ∙ c.requires.next) (no_end c.args.place) c.args.number
+    (asked_fails v c.self.invariant.code (operation.Close c.args.place) (ap operation_of c.self.view_is ∙ c.requires.due.next) (no_end c.args.place)
+    c.args.number
     bs c.args.slots.now c.close.new.slots
     (instruction.Close c.args.place) refl v i.registers.operands c.in-Err.wrong
     (λ f g d by of b had. c.in-Err.ensures.step f g d by of (as_it_is d f g c.args.slots.now i.registers.operands had b)))
@@ -63,7 +65,8 @@ returns-in-Ok-clause-step c bs =
     ∙ ap (λ k. record (stepped v.state i.registers.operands) { phase = phase.Blocked; steps = k }) (omega arith) in
     let P : Coded → Type 0 = λ o. LeadsTo c.args.number bs o n c.args.slots.now c.close.new.slots (done (Ok tt)) in
     subst P c.self.view_is
-    (asked_leads v c.self.invariant.code (operation.Close c.args.place) (ap operation_of c.self.view_is ∙ c.requires.next) (no_end c.args.place) c.args.number
+    (asked_leads v c.self.invariant.code (operation.Close c.args.place) (ap operation_of c.self.view_is ∙ c.requires.due.next) (no_end c.args.place)
+    c.args.number
     bs c.args.slots.now c.close.new.slots
     (instruction.Close c.args.place) refl n i.registers.operands (Ok tt) to
     (λ f g d by of b had. c.in-Ok.ensures.step f g d by of (as_it_is d f g c.args.slots.now i.registers.operands had b)))

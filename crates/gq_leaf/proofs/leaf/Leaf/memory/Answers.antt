@@ -20,17 +20,17 @@ do_memory-requires-clause-ranged c =
     let i = c.self.inside in
     let v : Coded = record { state = record { phase = i.phase; current = i.current; registers = i.registers; steps = i.steps }; code = i.code } in
     let does = c.args.operation in
-    ranged_next v does c.self.invariant.code (ap operation_of c.self.view_is ∙ c.requires.next) (not_end does c.requires.memory) c.requires.memory
+    ranged_next v does c.self.invariant.code (ap operation_of c.self.view_is ∙ c.requires.due.next) (not_end does c.requires.memory) c.requires.memory
 
 pub advance-requires : goal.advance-requires
 advance-requires c =
     let i = c.self.inside in
     let v : Coded = record { state = record { phase = i.phase; current = i.current; registers = i.registers; steps = i.steps }; code = i.code } in
     let does = c.args.operation in
-    let same : c.do_memory.new.registers.position ≡ i.registers.position = ap (λ (r : Core). r.position) c.do_memory.ensures.registers in
+    let same : c.do_memory.new.registers.position ≡ i.registers.position = ap (λ (r : Core). r.position) c.do_memory.ensures.leaves.registers in
     let P : ℕ → Type 0 = λ n. n < 2 ^ 32 in
     subst P (sym same)
-    (small_place v does c.self.invariant.code (ap operation_of c.self.view_is ∙ c.requires.next) (not_end does c.requires.memory))
+    (small_place v does c.self.invariant.code (ap operation_of c.self.view_is ∙ c.requires.due.next) (not_end does c.requires.memory))
 
 pub invariant_of-self-in-Ok : goal.invariant_of-self-in-Ok
 invariant_of-self-in-Ok c =
@@ -38,11 +38,11 @@ invariant_of-self-in-Ok c =
     let v : Coded = record { state = record { phase = i.phase; current = i.current; registers = i.registers; steps = i.steps }; code = i.code } in
     let does = c.args.operation in
     let after : c.advance.new.self.position ≡ i.registers.position + 1 =
-    ap (λ (r : Core). r.position) c.advance.ensures ∙ ap (λ (r : Core). r.position + 1) c.do_memory.ensures.registers in
+    ap (λ (r : Core). r.position) c.advance.ensures ∙ ap (λ (r : Core). r.position + 1) c.do_memory.ensures.leaves.registers in
     let P : ℕ → Type 0 = λ n. IsInside (code_in (section_at i.current) i.code.sections) n in
     record {
       code = c.self.invariant.code;
-      inside = subst P (sym after) (inside_after v does c.self.invariant.code (ap operation_of c.self.view_is ∙ c.requires.next)
+      inside = subst P (sym after) (inside_after v does c.self.invariant.code (ap operation_of c.self.view_is ∙ c.requires.due.next)
           (not_end does c.requires.memory) (memory_before does c.requires.memory));
       placed = c.self.invariant.placed;
     }
@@ -62,7 +62,7 @@ returns-in-Err-clause-step c =
     let did = subst R c.in-Err.is (c.do_memory.ensures.does i.code.longs m.0 m.1) in
     let P : Coded → Type 0 = λ o. LeadsTo x bs o n c.args.slots.now c.do_memory.new.slots (done (Err wrong)) in
     subst P c.self.view_is
-    (leading v does c.self.invariant.code (ap operation_of c.self.view_is ∙ c.requires.next) (not_end does c.requires.memory) x bs n c.args.slots.now
+    (leading v does c.self.invariant.code (ap operation_of c.self.view_is ∙ c.requires.due.next) (not_end does c.requires.memory) x bs n c.args.slots.now
     c.do_memory.new.slots m.0 (Err wrong) m.1
     (steps_err x bs m.0 v.state n.state c.do_memory.new.registers c.args.slots.now c.do_memory.new.slots a wrong refl refl did))
 
@@ -79,13 +79,13 @@ returns-in-Ok-clause-step c =
     let R : Result (Unit {0}) Wrong → Type 0 = λ r. Does a bs m.0 i.registers c.do_memory.new.registers c.args.slots.now c.do_memory.new.slots r in
     let did = subst R c.in-Ok.is (c.do_memory.ensures.does i.code.longs m.0 m.1) in
     let moved : c.advance.new.self ≡ record i.registers { position = i.registers.position + 1; operands = c.do_memory.new.registers.operands } =
-    c.advance.ensures ∙ ap (λ (r : Core). record r { position = r.position + 1 }) c.do_memory.ensures.registers in
+    c.advance.ensures ∙ ap (λ (r : Core). record r { position = r.position + 1 }) c.do_memory.ensures.leaves.registers in
     let on : n.state ≡ stepped v.state c.do_memory.new.registers.operands =
     ap (λ (r : Core). record v.state { registers = r; steps = i.steps + 1 }) moved ∙ ap (λ k. record (stepped v.state c.do_memory.new.registers.operands) {
       steps = k;
     }) (omega arith) in
     let P : Coded → Type 0 = λ o. LeadsTo x bs o n c.args.slots.now c.do_memory.new.slots (done (Ok tt)) in
     subst P c.self.view_is
-    (leading v does c.self.invariant.code (ap operation_of c.self.view_is ∙ c.requires.next) (not_end does c.requires.memory) x bs n c.args.slots.now
+    (leading v does c.self.invariant.code (ap operation_of c.self.view_is ∙ c.requires.due.next) (not_end does c.requires.memory) x bs n c.args.slots.now
     c.do_memory.new.slots m.0 (Ok tt) m.1
     (steps_ok x bs m.0 v.state n.state c.do_memory.new.registers c.args.slots.now c.do_memory.new.slots a refl refl did on))

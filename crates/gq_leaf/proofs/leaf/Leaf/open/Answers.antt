@@ -18,7 +18,7 @@ pub advance-requires : goal.advance-requires
 advance-requires c =
     let i = c.self.inside in
     let v : Coded = record { state = record { phase = i.phase; current = i.current; registers = i.registers; steps = i.steps }; code = i.code } in
-    small_then v (operation.Long c.args.statement) c.self.invariant.code (ap operation_of c.self.view_is ∙ c.requires.next) (no_end c.args.statement)
+    small_then v (operation.Long c.args.statement) c.self.invariant.code (ap operation_of c.self.view_is ∙ c.requires.due.next) (no_end c.args.statement)
     i.registers refl
 
 pub invariant_of-self : goal.invariant_of-self
@@ -27,7 +27,7 @@ invariant_of-self c =
     let v : Coded = record { state = record { phase = i.phase; current = i.current; registers = i.registers; steps = i.steps }; code = i.code } in
     record {
       code = c.self.invariant.code;
-      inside = inside_then v (operation.Long c.args.statement) c.self.invariant.code (ap operation_of c.self.view_is ∙ c.requires.next)
+      inside = inside_then v (operation.Long c.args.statement) c.self.invariant.code (ap operation_of c.self.view_is ∙ c.requires.due.next)
           (no_end c.args.statement) (λ size p h. h) c.advance.new.self
           (ap (λ (r : Core). r.position) c.advance.ensures);
       placed = c.self.invariant.placed;
@@ -40,7 +40,7 @@ returns-in-Err-clause-step c name n bs stands =
     let P : Coded → Type 0 = λ o. OpensTo c.args.number bs name n c.args.server c.args.service c.args.donation o o c.args.slots.now c.open.new.slots
     (done (Err c.in-Err.wrong)) in
     subst P c.self.view_is
-    (open_fails v c.self.invariant.code c.args.statement c.args.place name n (ap operation_of c.self.view_is ∙ c.requires.next)
+    (open_fails v c.self.invariant.code c.args.statement c.args.place name n (ap operation_of c.self.view_is ∙ c.requires.due.next)
     (ap (λ (o : Coded). Rattle.std.specs.Prelude.slice_get o.code.longs c.args.statement) c.self.view_is ∙ stands)
     c.args.number bs c.args.slots.now c.open.new.slots c.args.server c.args.service c.args.donation v c.in-Err.wrong
     (λ f g d. c.in-Err.ensures.step f g d name n))
@@ -57,7 +57,7 @@ returns-in-Ok-clause-step c name number bs stands =
     let P : Coded → Type 0 = λ o. OpensTo c.args.number bs name number c.args.server c.args.service c.args.donation o n c.args.slots.now c.open.new.slots
     (done (Ok tt)) in
     subst P c.self.view_is
-    (open_leads v c.self.invariant.code c.args.statement c.args.place name number (ap operation_of c.self.view_is ∙ c.requires.next)
+    (open_leads v c.self.invariant.code c.args.statement c.args.place name number (ap operation_of c.self.view_is ∙ c.requires.due.next)
     (ap (λ (o : Coded). Rattle.std.specs.Prelude.slice_get o.code.longs c.args.statement) c.self.view_is ∙ stands)
     c.args.number bs c.args.slots.now c.open.new.slots c.args.server c.args.service c.args.donation n (Ok tt) to
     (λ f g d. c.in-Ok.ensures.step f g d name number))

@@ -16,7 +16,8 @@ pub advance-requires : goal.advance-requires
 advance-requires c =
     let i = c.self.inside in
     let v : Coded = record { state = record { phase = i.phase; current = i.current; registers = i.registers; steps = i.steps }; code = i.code } in
-    small_then v (operation.Long c.args.number) c.self.invariant.code (ap operation_of c.self.view_is ∙ c.requires.next) (no_end c.args.number) i.registers refl
+    small_then v (operation.Long c.args.number) c.self.invariant.code (ap operation_of c.self.view_is ∙ c.requires.due.next) (no_end c.args.number) i.registers
+    refl
 
 pub invariant_of-self : goal.invariant_of-self
 invariant_of-self c =
@@ -24,7 +25,7 @@ invariant_of-self c =
     let v : Coded = record { state = record { phase = i.phase; current = i.current; registers = i.registers; steps = i.steps }; code = i.code } in
     record {
       code = c.self.invariant.code;
-      inside = inside_then v (operation.Long c.args.number) c.self.invariant.code (ap operation_of c.self.view_is ∙ c.requires.next) (no_end c.args.number)
+      inside = inside_then v (operation.Long c.args.number) c.self.invariant.code (ap operation_of c.self.view_is ∙ c.requires.due.next) (no_end c.args.number)
           (λ size p h. h) c.advance.new.self (ap (λ (r : Core). r.position) c.advance.ensures);
       placed = c.self.invariant.placed;
     }
@@ -39,5 +40,5 @@ returns-clause-step c text x bs s stands =
     ∙ ap (λ k. record (stepped v.state i.registers.operands) { steps = k }) (omega arith) in
     let P : Coded → Type 0 = λ o. LeadsTo x bs o n s s (shows text) in
     subst P c.self.view_is
-    (say_leads v c.self.invariant.code x bs s n c.args.number text (ap operation_of c.self.view_is ∙ c.requires.next)
+    (say_leads v c.self.invariant.code x bs s n c.args.number text (ap operation_of c.self.view_is ∙ c.requires.due.next)
     (ap (λ (o : Coded). Rattle.std.specs.Prelude.slice_get o.code.longs c.args.number) c.self.view_is ∙ stands) on)

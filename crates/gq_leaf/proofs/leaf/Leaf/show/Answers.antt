@@ -19,7 +19,7 @@ pub advance-requires : goal.advance-requires
 advance-requires c =
     let i = c.self.inside in
     let v : Coded = record { state = record { phase = i.phase; current = i.current; registers = i.registers; steps = i.steps }; code = i.code } in
-    small_then v operation.Out c.self.invariant.code (ap operation_of c.self.view_is ∙ c.requires.next) no_end c.pop.new.self c.pop.ensures.stays
+    small_then v operation.Out c.self.invariant.code (ap operation_of c.self.view_is ∙ c.requires.due.next) no_end c.pop.new.self c.pop.ensures.stays
 
 pub invariant_of-self-in-Some : goal.invariant_of-self-in-Some
 invariant_of-self-in-Some c =
@@ -29,7 +29,8 @@ invariant_of-self-in-Some c =
     ap (λ (r : Core). r.position) c.advance.ensures ∙ ap (λ (r : Core). r.position + 1) c.pop.ensures.stays in
     record {
       code = c.self.invariant.code;
-      inside = inside_then v operation.Out c.self.invariant.code (ap operation_of c.self.view_is ∙ c.requires.next) no_end (λ size p h. h) c.advance.new.self
+      inside = inside_then v operation.Out c.self.invariant.code (ap operation_of c.self.view_is ∙ c.requires.due.next) no_end (λ size p h. h)
+          c.advance.new.self
           after;
       placed = c.self.invariant.placed;
     }
@@ -39,7 +40,7 @@ returns-in-None-clause-wrong c x bs s =
     let i = c.self.inside in
     let v : Coded = record { state = record { phase = i.phase; current = i.current; registers = i.registers; steps = i.steps }; code = i.code } in
     let P : Coded → Type 0 = λ o. LeadsTo x bs o o s s (done (Err MissingOperand)) in
-    subst P c.self.view_is (out_fails v c.self.invariant.code x bs s (ap operation_of c.self.view_is ∙ c.requires.next) c.in-None.ensures.popped)
+    subst P c.self.view_is (out_fails v c.self.invariant.code x bs s (ap operation_of c.self.view_is ∙ c.requires.due.next) c.in-None.ensures.popped)
 
 pub returns-in-Some-clause-step : goal.returns-in-Some-clause-step
 returns-in-Some-clause-step c x bs s =
@@ -53,4 +54,4 @@ returns-in-Some-clause-step c x bs s =
     ap (λ (r : Core). record v.state { registers = r; steps = i.steps + 1 }) moved ∙ ap (λ k. record (stepped v.state rest) { steps = k }) (omega arith) in
     let P : Coded → Type 0 = λ o. LeadsTo x bs o n s s (shows (decimal c.in-Some.number)) in
     subst P c.self.view_is
-    (out_leads v c.self.invariant.code x bs s n c.in-Some.number rest (ap operation_of c.self.view_is ∙ c.requires.next) c.in-Some.ensures.popped on)
+    (out_leads v c.self.invariant.code x bs s n c.in-Some.number rest (ap operation_of c.self.view_is ∙ c.requires.due.next) c.in-Some.ensures.popped on)

@@ -20,14 +20,14 @@ pub upgrade-requires-clause-place : goal.upgrade-requires-clause-place
 upgrade-requires-clause-place c =
     let i = c.self.inside in
     let v : Coded = record { state = record { phase = i.phase; current = i.current; registers = i.registers; steps = i.steps }; code = i.code } in
-    slot_next v (operation.Upgrade c.args.place c.args.bytes) c.self.invariant.code (ap operation_of c.self.view_is ∙ c.requires.next)
+    slot_next v (operation.Upgrade c.args.place c.args.bytes) c.self.invariant.code (ap operation_of c.self.view_is ∙ c.requires.due.next)
     (no_end c.args.place c.args.bytes) (instruction.Upgrade c.args.place c.args.bytes) refl c.args.place refl
 
 pub advance-requires : goal.advance-requires
 advance-requires c =
     let i = c.self.inside in
     let v : Coded = record { state = record { phase = i.phase; current = i.current; registers = i.registers; steps = i.steps }; code = i.code } in
-    small_then v (operation.Upgrade c.args.place c.args.bytes) c.self.invariant.code (ap operation_of c.self.view_is ∙ c.requires.next)
+    small_then v (operation.Upgrade c.args.place c.args.bytes) c.self.invariant.code (ap operation_of c.self.view_is ∙ c.requires.due.next)
     (no_end c.args.place c.args.bytes) i.registers refl
 
 pub invariant_of-self : goal.invariant_of-self
@@ -36,7 +36,7 @@ invariant_of-self c =
     let v : Coded = record { state = record { phase = i.phase; current = i.current; registers = i.registers; steps = i.steps }; code = i.code } in
     record {
       code = c.self.invariant.code;
-      inside = inside_then v (operation.Upgrade c.args.place c.args.bytes) c.self.invariant.code (ap operation_of c.self.view_is ∙ c.requires.next)
+      inside = inside_then v (operation.Upgrade c.args.place c.args.bytes) c.self.invariant.code (ap operation_of c.self.view_is ∙ c.requires.due.next)
           (no_end c.args.place c.args.bytes) (λ size p h. h) c.advance.new.self
           (ap (λ (r : Core). r.position) c.advance.ensures);
       placed = c.self.invariant.placed;
@@ -49,7 +49,7 @@ returns-in-Err-clause-step c bs =
     let P : Coded → Type 0 = λ o. UpgradesTo c.args.number bs c.args.place c.args.bytes c.args.donation o o c.args.slots.now c.upgrade.new.slots
     (done (Err c.in-Err.wrong)) in
     subst P c.self.view_is
-    (upgrade_fails v c.self.invariant.code c.args.place c.args.bytes (ap operation_of c.self.view_is ∙ c.requires.next) c.args.number bs c.args.slots.now
+    (upgrade_fails v c.self.invariant.code c.args.place c.args.bytes (ap operation_of c.self.view_is ∙ c.requires.due.next) c.args.number bs c.args.slots.now
     c.upgrade.new.slots c.args.donation
     v c.in-Err.wrong c.in-Err.ensures.step)
 
@@ -65,6 +65,6 @@ returns-in-Ok-clause-step c bs =
     let P : Coded → Type 0 = λ o. UpgradesTo c.args.number bs c.args.place c.args.bytes c.args.donation o n c.args.slots.now c.upgrade.new.slots
     (done (Ok tt)) in
     subst P c.self.view_is
-    (upgrade_leads v c.self.invariant.code c.args.place c.args.bytes (ap operation_of c.self.view_is ∙ c.requires.next) c.args.number bs c.args.slots.now
+    (upgrade_leads v c.self.invariant.code c.args.place c.args.bytes (ap operation_of c.self.view_is ∙ c.requires.due.next) c.args.number bs c.args.slots.now
     c.upgrade.new.slots c.args.donation
     n (Ok tt) to c.in-Ok.ensures.step)

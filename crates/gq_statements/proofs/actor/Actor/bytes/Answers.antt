@@ -1,4 +1,4 @@
-use Rattle.std.proofs.Common.{◌<◌, length, sym, subst, arith}
+use Rattle.std.proofs.Common.{◌<◌, length, sym, subst, arith, rules}
 use Rattle.gq_trade.specs.Trading.{IsTrading}
 use Rattle.gq_trade.specs.Trades.{IsLive, IsTrades, Trades}
 use Rattle.gq_slots.specs.Slots.{Slots, content_at, world_seen}
@@ -10,8 +10,8 @@ use Rattle.gq_statements.proofs.actor.Actor.bytes.Goals as goal
 pub bytes_spot-requires-clause-linked : goal.bytes_spot-requires-clause-linked
 bytes_spot-requires-clause-linked c =
     let s : Slots = c.args.slots.now in
-    let lt : c.args.self.leaf < length s.own = omega (arith, c.laws.ensures.leaves, c.requires.live.there) in
-    c.requires.linked c.in_ok-named.named (c.in_ok-named.ensures.there s lt c.requires.place c.requires.current).0
+    let lt : c.args.self.leaf < length s.own = omega (arith, c.laws.ensures.leaves, c.requires.actor.live.there) in
+    c.requires.linked c.in_ok-named.named (c.in_ok-named.ensures.there s lt c.requires.place c.requires.actor.current).0
 
 pub returns-in_err-count-clause-found : goal.returns-in_err-count-clause-found
 returns-in_err-count-clause-found c f d h b =
@@ -19,16 +19,21 @@ returns-in_err-count-clause-found c f d h b =
     (found_others d c.args.self f c.args.slots.now c.args.addresses.now c.args.place h b c.in_ok-named.named c.in_ok-spot.spot c.content.result
     c.byte_count.result c.in_ok-named.ensures.is c.in_ok-spot.ensures.world c.content.ensures.reads c.byte_count.ensures c.in_err-count.was)
 
-pub returns-clause-live : goal.returns-clause-live
-returns-clause-live c =
+pub returns-clause-is : goal.returns-clause-is
+returns-clause-is c =
     let s : Slots = c.args.slots.now in
     let t : IsTrades s.trades = subst IsTrades c.trades.ensures c.laws-2.ensures.trades in
     let w : IsTrading s.trades.trading = subst (λ (y : Trades). IsTrading y.trading) c.trades.ensures c.laws-2.ensures.trading in
-    let lt : c.args.self.leaf < length s.own = omega (arith, c.laws.ensures.leaves, c.requires.live.there) in
+    let lt : c.args.self.leaf < length s.own = omega (arith, c.laws.ensures.leaves, c.requires.actor.live.there) in
     let named = c.in_ok-named.named in
-    let at = c.in_ok-named.ensures.there s lt c.requires.place c.requires.current in
-    place_live c.args.addresses.now s (content_at s named) named c.in_ok-spot.spot t w (subst (IsLive s.trades) (sym at.1) c.requires.live)
-    (c.requires.linked named at.0) (sym c.in_ok-spot.ensures.is)
+    let at = c.in_ok-named.ensures.there s lt c.requires.place c.requires.actor.current in
+    record {
+      there = search rules;
+      live =
+          place_live c.args.addresses.now s (content_at s named) named c.in_ok-spot.spot t w (subst (IsLive s.trades) (sym at.1) c.requires.actor.live)
+          (c.requires.linked named at.0) (sym c.in_ok-spot.ensures.is);
+      size = search rules;
+    }
 
 pub returns-clause-found : goal.returns-clause-found
 returns-clause-found c f d h b =

@@ -16,7 +16,7 @@ pub returns-then-not-is_inside-clause-step : goal.returns-then-not-is_inside-cla
 returns-then-not-is_inside-clause-step c f d rest h b we e =
     let s : Slots = c.args.slots.now in
     load_short d c.args.width c.args.place s (world_seen f s) c.args.index rest we e c.in-Some.spot c.in-Some.count (c.in-Some.ensures.found f d h b)
-    c.in-Some.ensures.size (sym c.if-not-is_inside.ensures)
+    c.in-Some.ensures.is.size (sym c.if-not-is_inside.ensures)
 
 pub returns-clause-step : goal.returns-clause-step
 returns-clause-step c f d rest h b we e =
@@ -25,5 +25,5 @@ returns-clause-step c f d rest h b we e =
     let i = c.args.index in
     let same = slot_then s c.pay_by.new.self c.holder-payer.result p c.pay_by.ensures in
     load_some d c.args.width c.args.place s (world_seen f s) i rest we e p c.in-Some.count c.read_number-number.result (c.in-Some.ensures.found f d h b)
-    c.in-Some.ensures.size (sym c.is_inside.ensures ∙ c.if-not-is_inside.false)
+    c.in-Some.ensures.is.size (sym c.is_inside.ensures ∙ c.if-not-is_inside.false)
     (c.read_number-number.ensures ∙ ap (λ y. little (slice_range (bytes_in y) i (i + bytes_of c.args.width))) same)

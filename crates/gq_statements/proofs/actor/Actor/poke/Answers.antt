@@ -13,12 +13,12 @@ returns-in_default-clause-step c f d rest h we e =
 
 pub returns-then-index-count-clause-step : goal.returns-then-index-count-clause-step
 returns-then-index-count-clause-step c f d rest h we e =
-    poke_past d c.args.place c.args.slots.now c.in-Some.spot c.in-Some.size c.in-Some.count c.in-Some.ensures.count (world_seen f c.args.slots.now)
+    poke_past d c.args.place c.args.slots.now c.in-Some.spot c.in-Some.size c.in-Some.count c.in-Some.ensures.is.count (world_seen f c.args.slots.now)
     (c.in-Some.ensures.found f d h) c.args.value c.args.offset c.args.index rest we e c.if-index-count.true
 
 pub returns-then-offset-size-clause-step : goal.returns-then-offset-size-clause-step
 returns-then-offset-size-clause-step c f d rest h we e =
-    poke_short d c.args.place c.args.slots.now c.in-Some.spot c.in-Some.size c.in-Some.count c.in-Some.ensures.count (world_seen f c.args.slots.now)
+    poke_short d c.args.place c.args.slots.now c.in-Some.spot c.in-Some.size c.in-Some.count c.in-Some.ensures.is.count (world_seen f c.args.slots.now)
     (c.in-Some.ensures.found f d h) c.args.value c.args.offset c.args.index rest we e c.if-index-count.false
     (test_false c.args.offset c.in-Some.size c.if-offset-size.true)
 
@@ -28,6 +28,6 @@ returns-clause-step c f d rest h we e =
     let p = c.in-Some.spot in
     let puts : PutsSlot s c.poke.new.self p (with_entry c.args.index (λ n. entry_with c.args.offset c.args.value) (slot_of s p)) =
     subst (PutsSlot s c.poke.new.self p) (low_byte c.args.value c.args.offset c.args.index (slot_of s p)) c.poke.ensures in
-    poke_some d c.args.place s p c.in-Some.size c.in-Some.count c.in-Some.ensures.count (world_seen f s)
+    poke_some d c.args.place s p c.in-Some.size c.in-Some.count c.in-Some.ensures.is.count (world_seen f s)
     (c.in-Some.ensures.found f d h) c.args.value c.args.offset c.args.index rest we e f c.poke.new.self c.if-index-count.false
-    (test_true c.args.offset c.in-Some.size c.if-offset-size.false) refl c.in-Some.ensures.slot puts
+    (test_true c.args.offset c.in-Some.size c.if-offset-size.false) refl c.in-Some.ensures.is.slot puts

@@ -1,4 +1,4 @@
-use Rattle.std.proofs.Common.{◌≡◌, Some, sym, subst, ap, ◌∙◌}
+use Rattle.std.proofs.Common.{◌≡◌, Some, sym, subst, ap, ◌∙◌, rules}
 use Rattle.gq_model.specs.machine.World.{Pool}
 use Rattle.gq_contents.specs.Contents.{seen}
 use Rattle.gq_slots.specs.Slots.{Slots, holder, memory_of, world_seen}
@@ -13,17 +13,21 @@ returns-in_err-size-clause-found c f d h =
     (pool_others d c.args.self (world_seen f s) c.args.place s h c.in_ok-spot.spot c.content.result c.in_ok-spot.ensures.is (c.content.ensures.reads f)
     (sym c.in_err-size.was ∙ c.entries.ensures))
 
-pub returns-clause-reads : goal.returns-clause-reads
-returns-clause-reads c f =
-    let s : Slots = c.args.slots.now in
-    c.content.ensures.reads f ∙ ap (λ t. Some (seen (memory_of s (holder s c.in_ok-spot.spot)) t)) c.content.ensures.is
-
-pub returns-clause-slot : goal.returns-clause-slot
-returns-clause-slot c =
+pub returns-clause-is : goal.returns-clause-is
+returns-clause-is c =
     let s : Slots = c.args.slots.now in
     let st = memory_of s (holder s c.in_ok-spot.spot) in
-    subst (λ t. seen st t ≡ Pool c.in_ok-size.size (entries_in (seen st t))) c.content.ensures.is
-    (pool_seen st c.content.result c.in_ok-size.size c.in_ok-size.count c.in_ok-size.ensures)
+    record {
+      there = search rules;
+      kind = search rules;
+      holder_is = search rules;
+      size = search rules;
+      count = search rules;
+      reads = λ f. c.content.ensures.reads f ∙ ap (λ t. Some (seen st t)) c.content.ensures.is;
+      slot =
+          subst (λ t. seen st t ≡ Pool c.in_ok-size.size (entries_in (seen st t))) c.content.ensures.is
+          (pool_seen st c.content.result c.in_ok-size.size c.in_ok-size.count c.in_ok-size.ensures);
+    }
 
 pub returns-clause-found : goal.returns-clause-found
 returns-clause-found c f d h =

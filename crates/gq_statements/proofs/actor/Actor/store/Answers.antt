@@ -7,10 +7,10 @@ pub returns-then-not-is_inside-clause-step : goal.returns-then-not-is_inside-cla
 returns-then-not-is_inside-clause-step c f d rest h b we e =
     let s : Slots = c.args.slots.now in
     store_short d c.args.width c.args.place s (world_seen f s) c.args.value c.args.index rest we e c.in-Some.spot c.in-Some.count
-    (c.in-Some.ensures.found f d c.args.addresses.now h b) c.in-Some.ensures.size (sym c.if-not-is_inside.ensures)
+    (c.in-Some.ensures.found f d c.args.addresses.now h b) c.in-Some.ensures.is.size (sym c.if-not-is_inside.ensures)
 
 pub returns-else-not-is_inside-clause-step : goal.returns-else-not-is_inside-clause-step
 returns-else-not-is_inside-clause-step c f d rest h b we e =
     let s : Slots = c.args.slots.now in
     store_some d c.args.width c.args.place s (world_seen f s) c.args.value c.args.index rest we e f c.write_number.new.slots c.in-Some.spot c.in-Some.count refl
-    (c.in-Some.ensures.found f d c.args.addresses.now h b) c.in-Some.ensures.size (sym c.is_inside.ensures ∙ c.if-not-is_inside.false) c.write_number.ensures
+    (c.in-Some.ensures.found f d c.args.addresses.now h b) c.in-Some.ensures.is.size (sym c.is_inside.ensures ∙ c.if-not-is_inside.false) c.write_number.ensures
