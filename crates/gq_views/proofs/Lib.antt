@@ -1,0 +1,16 @@
+mod Listed_numbers
+mod Listed_lines
+mod Listed_operands
+mod Listed_instructions
+mod Listed_reads
+mod Listed_statements
+mod Listed_sections
+mod Listed_programs
+mod Listed_printed
+mod Pushed
+mod Told_statements
+mod Told_sections
+mod Told_services
+mod Told_nodes
+mod Told_boxes
+mod Told_texts

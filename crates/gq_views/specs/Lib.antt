@@ -1,0 +1,4 @@
+pub mod Listing
+pub mod Tree
+pub mod Written
+pub mod internal

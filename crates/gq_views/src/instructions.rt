@@ -1,0 +1,135 @@
+// A statement without statements in it, as text.
+ghost use Rattle.std.specs.Prelude.{◌≡◌, ◌++◌, OnOk, codes};
+ghost use Rattle.gq_model.specs.texts.Operands.{opcode, operands};
+ghost use Rattle.gq_model.specs.texts.Spelling.{spellings};
+ghost use Rattle.gq_program.specs.Spelling as program;
+ghost use Rattle.gq_views.specs.Listing.{instruction_text, operands_text, place_text, word_of};
+
+use crate::words::{push_amount, push_number};
+use gq_model::program::{Instruction, Place};
+use gq_program::{Bare, Shape, WithAmount, WithBytes, WithNumber, WithSlot};
+use std::alloc::AllocError;
+
+// The entry of a statement in the table of all.
+fn shape_of(instruction: &Instruction) -> Shape
+    ensures { program.word_of result ≡ word_of (opcode instruction.now) spellings }
+{
+    match instruction {
+        Instruction::Say(_) => Shape::Say,
+        Instruction::Out => Shape::Plain(Bare::Out),
+        Instruction::Drop => Shape::Plain(Bare::Drop),
+        Instruction::Dup => Shape::Plain(Bare::Dup),
+        Instruction::Combine(operator) => Shape::Plain(Bare::Combine(*operator)),
+        Instruction::Push(_) => Shape::Number(WithNumber::Push),
+        Instruction::Divide(_) => Shape::Number(WithNumber::Divide),
+        Instruction::Modulo(_) => Shape::Number(WithNumber::Modulo),
+        Instruction::Get(_) => Shape::Number(WithNumber::Get),
+        Instruction::Set(_) => Shape::Number(WithNumber::Set),
+        Instruction::Index(_) => Shape::Number(WithNumber::Index),
+        Instruction::Make(form, _, _) => Shape::Amount(WithAmount::Make(*form)),
+        Instruction::MakePool(_, _, _) => Shape::Pool,
+        Instruction::Free(_) => Shape::Slot(WithSlot::Free),
+        Instruction::Load(width, _) => Shape::Bytes(WithBytes::Load(*width)),
+        Instruction::Store(width, _) => Shape::Bytes(WithBytes::Store(*width)),
+        Instruction::Take(_) => Shape::Slot(WithSlot::Take),
+        Instruction::Give(_) => Shape::Slot(WithSlot::Give),
+        Instruction::Peek(_) => Shape::Slot(WithSlot::Peek),
+        Instruction::Poke(_) => Shape::Slot(WithSlot::Poke),
+        Instruction::Open(_, _, _) => Shape::Open,
+        Instruction::Upgrade(_, _) => Shape::Amount(WithAmount::Upgrade),
+        Instruction::Call(_) => Shape::Slot(WithSlot::Call),
+        Instruction::Close(_) => Shape::Slot(WithSlot::Close),
+    }
+}
+
+// Puts a slot, or the object, at the end of a text.
+fn push_place(text: &mut Vec<u8>, place: Place) -> Result<(), AllocError>
+    ensures { OnOk result (text.new.items ≡ text.old.items ++ place_text place) }
+{
+    match place {
+        Place::Own(number) => {
+            text.extend_from_slice(b"o")?;
+            push_number(text, u64::from(number))
+        }
+        Place::Shared(number) => {
+            text.extend_from_slice(b"s")?;
+            push_number(text, u64::from(number))
+        }
+        Place::Object => text.extend_from_slice(b"obj"),
+    }
+}
+
+// A slot, or the object, behind a blank.
+fn push_slot(text: &mut Vec<u8>, place: Place) -> Result<(), AllocError>
+    ensures { OnOk result (text.new.items ≡ text.old.items ++ codes " " ++ place_text place) }
+{
+    text.extend_from_slice(b" ")?;
+    push_place(text, place)
+}
+
+// A text between quotation marks, behind a blank.
+fn push_said(text: &mut Vec<u8>, said: &[u8]) -> Result<(), AllocError>
+    ensures { OnOk result (text.new.items ≡ text.old.items ++ codes " " ++ codes "\"" ++ said.now ++ codes "\"") }
+{
+    text.extend_from_slice(b" \"")?;
+    text.extend_from_slice(said)?;
+    text.extend_from_slice(b"\"")
+}
+
+// The name of a service, behind a blank.
+fn push_service(text: &mut Vec<u8>, service: &[u8]) -> Result<(), AllocError>
+    ensures { OnOk result (text.new.items ≡ text.old.items ++ codes " " ++ service.now) }
+{
+    text.extend_from_slice(b" ")?;
+    text.extend_from_slice(service)
+}
+
+// Puts the operands of a statement at the end of a text, each behind a blank.
+fn push_operands(text: &mut Vec<u8>, instruction: &Instruction) -> Result<(), AllocError>
+    ensures { OnOk result (text.new.items ≡ text.old.items ++ operands_text (operands instruction.now)) }
+{
+    match instruction {
+        Instruction::Out | Instruction::Drop | Instruction::Dup | Instruction::Combine(_) => Ok(()),
+        Instruction::Say(said) => push_said(text, said.as_bytes()),
+        Instruction::Push(n) | Instruction::Divide(n) | Instruction::Modulo(n) => {
+            push_amount(text, u64::from(*n))
+        }
+        Instruction::Get(i) | Instruction::Set(i) | Instruction::Index(i) => {
+            push_amount(text, u64::from(*i))
+        }
+        Instruction::Make(_, place, n) | Instruction::Upgrade(place, n) => {
+            push_slot(text, *place)?;
+            push_amount(text, u64::from(*n))
+        }
+        Instruction::MakePool(place, n, m) => {
+            push_slot(text, *place)?;
+            push_amount(text, u64::from(*n))?;
+            push_amount(text, u64::from(*m))
+        }
+        Instruction::Open(place, service, n) => {
+            push_slot(text, *place)?;
+            push_service(text, service.as_bytes())?;
+            push_amount(text, u64::from(*n))
+        }
+        Instruction::Load(_, place)
+        | Instruction::Store(_, place)
+        | Instruction::Free(place)
+        | Instruction::Take(place)
+        | Instruction::Give(place)
+        | Instruction::Peek(place)
+        | Instruction::Poke(place)
+        | Instruction::Call(place)
+        | Instruction::Close(place) => push_slot(text, *place),
+    }
+}
+
+// Puts a statement at the end of a text: its word, then its operands.
+pub(crate) fn push_instruction(
+    text: &mut Vec<u8>,
+    instruction: &Instruction,
+) -> Result<(), AllocError>
+    ensures { OnOk result (text.new.items ≡ text.old.items ++ instruction_text instruction.now) }
+{
+    text.extend_from_slice(shape_of(instruction).word())?;
+    push_operands(text, instruction)
+}

@@ -1,0 +1,28 @@
+//! What a designer looks at: the text of a leaf's program, and an accepted scenario as a tree and as a graph.
+//!
+//! ```rust
+//! use gq_views::list::list;
+//! use gq_views::tree::tree;
+//! use gq_world::Counted;
+//!
+//! let mut out = Counted::new(writer);
+//! // The program of a leaf, one statement a line.
+//! list(alloc, scenario, "hello", &mut out)?;
+//! // All nodes with their quanta, what each leaf uses, and whose services it opens.
+//! tree(alloc, scenario, &mut out)?;
+//! ```
+//!
+//! Each of these writes the text of its definition (`specs/Written`) and nothing else, and refuses what `check` and `asm` refuse.
+#![tactic(auto)]
+
+mod drawn;
+pub mod graph;
+mod instructions;
+pub mod laws;
+mod left;
+pub mod list;
+pub mod listing;
+#[cfg(test)]
+mod rows;
+pub mod tree;
+mod words;
