@@ -1,6 +1,6 @@
 #!/usr/bin/env python3
 """rows.py CASES TO PREFIX..: writes for each prefix of names of cases a file TO/Rows_PREFIX.antt with the wanted outputs of `list`, `tree`, `turns`, `trace` and
-`state` as theorems by computation over the definitions of definitions.patch. The scenarios are read from their TOML, programs by `assembled`. A text with a
+`state` as theorems by computation over the definitions of gq_views with schedules.patch. The scenarios are read from their TOML, programs by `assembled`. A text with a
 tab is not written, nor a program that is given as code.
 """
 import pathlib
