@@ -1,5 +1,5 @@
-mod Listed_numbers
-mod Listed_lines
+pub mod Listed_numbers
+pub mod Listed_lines
 mod Listed_operands
 mod Listed_instructions
 mod Listed_reads

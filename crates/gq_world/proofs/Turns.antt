@@ -20,7 +20,7 @@ use Rattle.gq_machine.specs.declared.event.Event.{Event}
 use Rattle.gq_machine.specs.declared.event.Event.TheVariants as events
 use Rattle.gq_machine.specs.Bursts.{OutputsLines, lines_of, output_to}
 use Rattle.gq_model.specs.rules.Accept.{Budget, budgets}
-use Rattle.gq_world.specs.Worlds.{World, line_told, shown}
+use Rattle.gq_world.specs.Worlds.{HasTaken, World, line_told, shown}
 use Rattle.gq_world.specs.internal.Keeping.{IsBudgeted}
 use Rattle.gq_world.specs.internal.Going.{going}
 
@@ -74,6 +74,34 @@ upheld_here promises s w stands = ∥∥₁_elim stands (hlevel) (λ h. ∣ prom
 -- a world that the code has stands as contracts see it
 pub stands_seen : (s t : Scenario) (v w : model.World) → s ≡ t → v ≡ w → ∥ Stands s v ∥₁ → ∥ Stands t w ∥₁
 stands_seen s t v w e f h = subst (λ (r : Scenario). ∥ Stands r w ∥₁) e (subst (λ (u : model.World). ∥ Stands s u ∥₁) f h)
+
+-- A STEP
+
+-- what stands stands after the step, and the budgets stay
+pub kept_by_step : Keeps → (s t : Scenario) (w v : model.World) (all : List Budget) (x : ℕ) (e : doing.Event) → t ≡ s → next (system s) w x ≡ Ok (v, e)
+    → IsBudgeted s w all → IsBudgeted t v all
+kept_by_step keeps s t w v all x e same n h =
+    record {
+      stands = subst (λ (r : Scenario). ∥ Stands r v ∥₁) (sym same) (stands_after keeps s w v x e n h.stands);
+      budgets_are = h.budgets_are ∙ ap budgets (sym same);
+    }
+
+-- the step, as of the world that contracts see
+pub stepped_in : (s : Scenario) (w v u : model.World) (old : World) (x : ℕ) (e : doing.Event) → s ≡ old.scenario → w ≡ old.world → u ≡ v
+    → next (system s) w x ≡ Ok (v, e) → next (system old.scenario) old.world x ≡ Ok (u, e)
+stepped_in s w v u old x e a b same n =
+    let P : Scenario → Type 0 = λ r. next (system r) old.world x ≡ Ok (v, e) in
+    let Q : model.World → Type 0 = λ z. next (system s) z x ≡ Ok (v, e) in
+    subst P a (subst Q b n) ∙ ap (λ (z : model.World). let q : Stepped = Ok (z, e) in q) (sym same)
+
+-- a leaf that is among those of the scenario has taken these steps
+pub has_taken : (s : Scenario) (old : World) (w : model.World) (x n : ℕ) → s ≡ old.scenario → w ≡ old.world → length w.leaves ≡ length (components s)
+    → x < length (components old.scenario) → IfSome (slice_get w.leaves x) (λ (l : model.Leaf). n ≡ l.steps) → HasTaken old.world x n
+has_taken s old w x n same is count less told =
+    let few : length (components s) ≡ length (components old.scenario) = ap (λ (r : Scenario). length (components r)) same in
+    let leaf = there_is w.leaves x (omega (arith, count, less, few)) in
+    let taken : n ≡ leaf.0.steps = subst (λ (o : Option model.Leaf). IfSome o (λ (l : model.Leaf). n ≡ l.steps)) leaf.1 told in
+    record { leaf = leaf.0; there = sym (ap (λ (v : model.World). slice_get v.leaves x) is) ∙ leaf.1; taken = sym taken }
 
 -- MANY TURNS
 

@@ -1,5 +1,5 @@
 -- A world between two turns, what it keeps, and what a turn does.
-use Rattle.std.specs.Prelude.{◌≡◌, ◌<◌, ℕ, Bool, true, List, [], ◌∷◌, slice_get, Option, Ok}
+use Rattle.std.specs.Prelude.{◌≡◌, ◌<◌, ℕ, Bool, true, List, [], ◌∷◌, slice_get, Option, Some, Ok}
 use Rattle.std.specs.Io.KnownBytes.{Appends}
 use Rattle.gq_model.specs.machine.Scenario.{Scenario, components, system}
 use Rattle.gq_model.specs.machine.World as model
@@ -45,3 +45,9 @@ pub record StopsWriting (old new : World) (leaf : ℕ) (before after : Option (L
 abbrev pub AreBelow : ℕ → List (ℕ × ℕ) → Type 0
 AreBelow n [] = Unit {0}
 AreBelow n (t ∷ turns) = (t.0 < n) × AreBelow n turns
+
+-- the x-th leaf is there, and has taken so many steps
+pub record HasTaken (w : model.World) (x steps : ℕ) : Type 0 where
+  pub leaf : model.Leaf
+  pub there : slice_get w.leaves x ≡ Some leaf
+  pub taken : leaf.steps ≡ steps

@@ -15,7 +15,8 @@ ghost use Rattle.gq_init.specs.Counts.{Writes, written_to, failures_of};
 ghost use Rattle.gq_world.specs.Headline.{Upheld};
 ghost use Rattle.gq_init.specs.Told.{told_of};
 ghost use Rattle.gq_world.specs.Lines.{all_accounts, accounts_text};
-ghost use Rattle.gq_world.specs.Worlds.{IsTurn, StopsWriting, line_told};
+ghost use Rattle.gq_machine.specs.Events.{event_of};
+ghost use Rattle.gq_world.specs.Worlds.{HasTaken, IsTurn, StopsWriting, line_told};
 ghost use Rattle.gq_world.specs.internal.Going.{HasRun, IsCut};
 ghost use Rattle.gq_init.specs.Writes.{IsRaised};
 
@@ -205,6 +206,27 @@ impl World {
             },
             event => Ok(event),
         }
+    }
+
+    /// The steps that a leaf has taken.
+    pub fn steps(&self, leaf: LeafNo) -> u64
+        requires { leaf < length (components self.now.scenario) }
+        ensures { HasTaken self.now.world leaf result }
+    {
+        accepted_laws();
+        self.machine.steps(leaf)
+    }
+
+    /// One turn of a leaf, of which nothing is written: one step where it can run. After it `line` has the text that the leaf gave, without label and line
+    /// feed, and is empty where it gave none. A turn takes no host memory.
+    pub fn step(&mut self, leaf: LeafNo, line: &mut ArrayVec<u8, 64>) -> Event
+        requires leaf { leaf < length (components self.old.scenario) }
+        ensures scenario { self.new.scenario ≡ self.old.scenario }
+        ensures stepped { next (system self.old.scenario) self.old.world leaf ≡ Ok (self.new.world, event_of result line.new.items) }
+        ensures stopped { self.new.stopped ≡ self.old.stopped }
+    {
+        accepted_laws();
+        self.machine.step(leaf, line)
     }
 
     // Turns of a leaf, at most so many, up to the first that gives a line, and those that show numbers after it. Their lines are put into `lines` and written.

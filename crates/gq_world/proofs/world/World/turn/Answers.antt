@@ -14,25 +14,8 @@ use Rattle.gq_laws.specs.Stands.{Stands}
 use Rattle.gq_world.specs.Worlds.{World}
 use Rattle.gq_world.specs.internal.Keeping.{IsBudgeted}
 use Rattle.gq_init.proofs.Known.{appends_nothing}
-use Rattle.gq_world.proofs.Turns.{Keeps, countable, defined, stands_after, silent, shown-event_of, told_in}
+use Rattle.gq_world.proofs.Turns.{countable, defined, kept_by_step, silent, shown-event_of, stepped_in, told_in}
 use Rattle.gq_world.proofs.world.World.turn.Goals as goal
-
--- what stands stands after the step, and the budgets stay
-kept : Keeps → (s t : Scenario) (w v : model.World) (all : List Budget) (x : ℕ) (e : doing.Event) → t ≡ s → next (system s) w x ≡ Ok (v, e)
-    → IsBudgeted s w all → IsBudgeted t v all
-kept keeps s t w v all x e same n h =
-    record {
-      stands = subst (λ (r : Scenario). ∥ Stands r v ∥₁) (sym same) (stands_after keeps s w v x e n h.stands);
-      budgets_are = h.budgets_are ∙ ap budgets (sym same);
-    }
-
--- the step, as of the world that contracts see
-stepped : (s : Scenario) (w v u : model.World) (old : World) (x : ℕ) (e : doing.Event) → s ≡ old.scenario → w ≡ old.world → u ≡ v
-    → next (system s) w x ≡ Ok (v, e) → next (system old.scenario) old.world x ≡ Ok (u, e)
-stepped s w v u old x e a b same n =
-    let P : Scenario → Type 0 = λ r. next (system r) old.world x ≡ Ok (v, e) in
-    let Q : model.World → Type 0 = λ z. next (system s) z x ≡ Ok (v, e) in
-    subst P a (subst Q b n) ∙ ap (λ (z : model.World). let q : Stepped = Ok (z, e) in q) (sym same)
 
 pub step-requires-clause-defined : goal.step-requires-clause-defined
 step-requires-clause-defined g c = defined c.accepted_laws.ensures.promises c.self.inside.machine.scenario c.self.inside.machine.world c.args.leaf
@@ -45,13 +28,13 @@ step-requires-clause-countable g c = countable c.accepted_laws.ensures.promises 
 pub invariant_of-self : goal.invariant_of-self
 invariant_of-self g c =
     let m = c.self.inside.machine in
-    kept c.accepted_laws.ensures.kept m.scenario c.step.new.self.scenario m.world c.step.new.self.world c.self.inside.budgets.items c.args.leaf
+    kept_by_step c.accepted_laws.ensures.kept m.scenario c.step.new.self.scenario m.world c.step.new.self.world c.self.inside.budgets.items c.args.leaf
     (event_of events.Line c.step.new.line.items) c.in-Line.ensures.scenario c.in-Line.ensures.stepped c.self.invariant
 
 pub invariant_of-self-in_default : goal.invariant_of-self-in_default
 invariant_of-self-in_default g c =
     let m = c.self.inside.machine in
-    kept c.accepted_laws.ensures.kept m.scenario c.step.new.self.scenario m.world c.step.new.self.world c.self.inside.budgets.items c.args.leaf
+    kept_by_step c.accepted_laws.ensures.kept m.scenario c.step.new.self.scenario m.world c.step.new.self.world c.self.inside.budgets.items c.args.leaf
     (event_of c.step.result c.step.new.line.items) c.step.ensures.scenario c.step.ensures.stepped c.self.invariant
 
 pub returns-in-Ok-clause-turned : goal.returns-in-Ok-clause-turned
@@ -64,7 +47,7 @@ returns-in-Ok-clause-turned g c =
     let same : m.scenario ≡ old.scenario = ap (λ w. w.scenario) c.self.view_is in
     record {
       step = doing.Line text;
-      next = stepped m.scenario m.world c.step.new.self.world c.tell.new.self.world old c.args.leaf (doing.Line text) same
+      next = stepped_in m.scenario m.world c.step.new.self.world c.tell.new.self.world old c.args.leaf (doing.Line text) same
           (ap (λ w. w.world) c.self.view_is) c.tell.ensures.world c.in-Line.ensures.stepped;
       told = refl;
       written = told_in (Appends a b) c.step.new.self.scenario old c.args.leaf text c.as_slice.result.now (c.in-Line.ensures.scenario ∙ same)
@@ -82,7 +65,7 @@ returns-in-Err-clause-stops g c e =
     let front = c.in-Err.ensures.writes.front in
     record {
       step = doing.Line text;
-      next = stepped m.scenario m.world c.step.new.self.world c.tell.new.self.world old c.args.leaf (doing.Line text) same
+      next = stepped_in m.scenario m.world c.step.new.self.world c.tell.new.self.world old c.args.leaf (doing.Line text) same
           (ap (λ w. w.world) c.self.view_is) c.tell.ensures.world c.in-Line.ensures.stepped;
       stopped = c.in-Err.ensures.stopped;
       written = (
@@ -102,7 +85,7 @@ returns-in_default-clause-turned g c =
     let step = event_of c.step.result text in
     record {
       step = step;
-      next = stepped m.scenario m.world c.step.new.self.world c.step.new.self.world old c.args.leaf step same (ap (λ w. w.world) c.self.view_is) refl
+      next = stepped_in m.scenario m.world c.step.new.self.world c.step.new.self.world old c.args.leaf step same (ap (λ w. w.world) c.self.view_is) refl
           c.step.ensures.stepped;
       told = shown-event_of c.step.result text;
       written = subst (Appends a a) (sym (silent c.step.result text (label_at (slice_get (components old.scenario) c.args.leaf)) c.in_default.not-Line))

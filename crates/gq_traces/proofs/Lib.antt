@@ -1,0 +1,14 @@
+mod Turned_back
+mod Scheduled
+mod Schedule_laws
+mod Worth
+mod Text_length
+mod Turn_laws
+mod Counted
+mod Line_parts
+mod Named
+mod Taking
+mod Parts
+mod Rounds
+mod Whole_text
+mod Told

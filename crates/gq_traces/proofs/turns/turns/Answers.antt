@@ -1,0 +1,30 @@
+-- The text of the scenario was written, or a front of it.
+use Rattle.std.proofs.Common.{subst}
+use Rattle.gq_world.proofs.Commands.{all_written, cut_short}
+use Rattle.gq_traces.specs.Rests.{HasNames}
+use Rattle.gq_traces.specs.Schedule.{schedule_text}
+use Rattle.gq_traces.specs.Written.{turns_written}
+use Rattle.gq_traces.proofs.Told.{given, to_rest}
+use Rattle.gq_traces.proofs.turns.turns.Goals as goal
+
+pub returns-in-Ok-clause-writes : goal.returns-in-Ok-clause-writes
+returns-in-Ok-clause-writes g c =
+    let w = c.in_ok-world.world in
+    all_written g.W.Write.contents (turns_written c.args.scenario.now) (schedule_text w.scenario)
+    (given c.args.scenario.now w.scenario c.in_ok-world.ensures.loaded) _ _ c.write_schedule-written.result _ _ c.in-Ok.is c.write_schedule-written.ensures
+
+pub returns-in-Err-clause-writes : goal.returns-in-Err-clause-writes
+returns-in-Err-clause-writes g c =
+    let w = c.in_ok-world.world in
+    cut_short g.W.Write.contents (turns_written c.args.scenario.now) (schedule_text w.scenario)
+    (given c.args.scenario.now w.scenario c.in_ok-world.ensures.loaded) _ _ c.write_schedule-written.result _ c.in-Err.is c.write_schedule-written.ensures
+
+pub returns-in-Ok-clause-rests : goal.returns-in-Ok-clause-rests
+returns-in-Ok-clause-rests g c =
+    let s = c.in_ok-world.world.scenario in
+    let loads = c.in_ok-world.ensures.loaded in
+    let sound = c.loaded_laws.ensures.sound c.args.scenario.now s loads in
+    let names = subst HasNames c.table.ensures c.named.ensures in
+    to_rest c.args.scenario.now s loads (c.turns_laws.ensures.reads s sound names) (c.turns_laws.ensures.ends s sound names)
+    (c.turns_laws.ensures.rests s sound names) (g.W.Write.contents c.args.out.now.writer) (g.W.Write.contents c.write_schedule-written.new.out.writer)
+    c.in-Ok.ensures.written

@@ -1,0 +1,4 @@
+pub mod Schedule
+pub mod Rests
+pub mod Written
+pub mod internal

@@ -1,0 +1,43 @@
+-- What a run over scheduled turns comes to.
+use Rattle.std.specs.Prelude.{◌≡◌, ◌≤◌, ℕ, Bool, true, false, List, length, Option, Some, None, Ok, slice_get}
+use Rattle.std.specs.Io.KnownBytes.{Appends}
+use Rattle.gq_model.specs.machine.Run.{run}
+use Rattle.gq_model.specs.machine.Scenario.{Scenario, Component, components, system}
+use Rattle.gq_model.specs.machine.World.{World}
+use Rattle.gq_model.specs.texts.Letters.{is_name}
+use Rattle.gq_model.specs.texts.Turns.{turned}
+use Rattle.gq_laws.specs.Progress.{AllRest}
+use Rattle.gq_load.specs.Load.{loaded}
+use Rattle.gq_traces.specs.Schedule.{is_cut, schedule_text}
+
+-- leaves have names, and there are not too many
+pub record HasNames (s : Scenario) : Type 0 where
+  pub names : (x : ℕ) (c : Component) → slice_get (components s) x ≡ Some c → is_name c.node.name ≡ true
+  pub few : length (components s) ≤ 64
+
+-- a run over these turns comes to no wrong step, and ends in this world
+pub record EndsIn (s : Scenario) (turns : List (ℕ × ℕ)) (w : World) : Type 0 where
+  pub world : (run (system s) turns).world ≡ w
+  pub right : (run (system s) turns).wrong ≡ None
+
+-- where the turns are not cut, every leaf is at rest
+abbrev pub RestsUnless : Bool → World → Type 0
+RestsUnless true w = Unit {0}
+RestsUnless false w = AllRest w
+
+-- from bytes to bytes: the scenario is loaded, and the text is read as turns over which a run comes to no wrong step and, unless they are cut, to rest
+pub record BringsToRest (scenario text : List ℕ) : Type 0 where
+  pub accepted : Scenario
+  pub loads : loaded scenario ≡ Ok accepted
+  pub tells : text ≡ schedule_text accepted
+  pub turns : List (ℕ × ℕ)
+  pub reads : turned (components accepted) text ≡ Ok turns
+  pub world : World
+  pub ends : EndsIn accepted turns world
+  pub rests : RestsUnless (is_cut accepted) world
+
+-- such a text was written, and nothing else
+pub record WritesToRest (scenario : List ℕ) (before after : Option (List ℕ)) : Type 0 where
+  pub text : List ℕ
+  pub rests : BringsToRest scenario text
+  pub written : Appends before after text
