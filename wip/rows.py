@@ -1,13 +1,20 @@
 #!/usr/bin/env python3
-"""rows.py CASES TO PREFIX..: writes for each prefix of names of cases a file TO/Rows_PREFIX.antt with the wanted outputs of `list`, `tree`, `turns`, `trace` and
-`state` as theorems by computation over the definitions of gq_views with schedules.patch. The scenarios are read from their TOML, programs by `assembled`. A text with a
-tab is not written, nor a program that is given as code.
+"""rows.py WHICH CASES TO PREFIX..: writes for each prefix of names of cases a file TO/Rows_PREFIX.antt with the wanted outputs as theorems by computation over
+definitions of this folder: of `turns`, `trace` and `state` where WHICH is traces, put into crates/gq_traces, and of `size` and `why` where it is sizes, put into
+a crate gq_sizes beside traces/specs/Rows.antt. The scenarios are read from their TOML, programs by `assembled`. A text with a tab is not written, nor a program
+that is given as code.
 """
 import pathlib
 import sys
 import tomllib
 
-R = pathlib.Path(sys.argv[1])
+OF = sys.argv[1]
+COMMANDS = {'traces': ('turns', 'trace', 'state'), 'sizes': ('size', 'why')}[OF]
+IMPORTS = {
+    'traces': ('Schedule.{schedule_text}', 'Trace.{trace_text}', 'State.{state_text}', 'Rows.{or_empty}'),
+    'sizes': ('Size.{size_text}', 'Why.{why_text}', 'Rows.{or_empty}'),
+}[OF]
+R = pathlib.Path(sys.argv[2])
 sq=lambda s: s.replace('\\','\\\\').replace('"','\\"').replace('\n','\\n')
 def q(v):
     if isinstance(v,int): return v
@@ -56,7 +63,7 @@ def gen(prefix):
     for d in sorted(R.glob(prefix+'-*')):
         if (d/'status').read_text().strip()!='0': continue
         cmd=(d/'command').read_text().split()
-        if cmd[0] not in('list','tree','turns','trace','state'): continue
+        if cmd[0] not in COMMANDS: continue
         t=tomllib.loads((d/'scenario.toml').read_text())
         nm='s'+prefix
         if base is None: scen(nm,t); base=t
@@ -71,11 +78,11 @@ def gen(prefix):
                     a,b=l.split(' '); turns.append((ls.index(a),int(b)))
         tl=lst([f'({a}, {b})' for a,b in turns])
         rn=d.name.replace('-','_'); rn='r'+rn
-        if cmd[0]=='list': e=f'listing {nm}_{cmd[1].replace("-","_")}'
-        elif cmd[0]=='tree': e=f'tree_text {nm}' if len(cmd)==1 else f'graph_text {nm}'
-        elif cmd[0]=='turns': e=f'schedule_text {nm}'
+        if cmd[0]=='turns': e=f'schedule_text {nm}'
         elif cmd[0]=='trace': e=f'trace_text {"true" if len(cmd)>1 else "false"} {nm} ({tl})'
-        else: e=f'state_text {nm} ({tl})'
+        elif cmd[0]=='state': e=f'state_text {nm} ({tl})'
+        elif cmd[0]=='size': e=f'size_text {nm}'
+        else: e=f'why_text {nm} ({codes(cmd[1])})'
         rows.append(f'{rn} : {e} ≡ {text(out)}\nunfolding digits\n{rn} = refl\n')
     return '''-- Rows, by computation.
 use Rattle.std.proofs.Common.{◌≡◌, ℕ, [], ◌∷◌, ◌++◌, List, Option, Some, None, Result, Ok, Err, true, false, refl}
@@ -85,17 +92,11 @@ use Rattle.gq_model.specs.machine.Amounts.{Ram, Caps, amount}
 use Rattle.gq_model.specs.machine.Program.{Program}
 use Rattle.gq_model.specs.machine.Scenario.{Scenario, Child, Any_child, Parent, As_text, End, Leaf_node, Init_node}
 use Rattle.gq_model.specs.texts.Text.{assembled}
-use Rattle.gq_views.specs.Listing.{listing}
-use Rattle.gq_views.specs.Tree.{tree_text, graph_text}
-use Rattle.gq_views.specs.Schedule.{schedule_text}
-use Rattle.gq_views.specs.Trace.{trace_text}
-use Rattle.gq_views.specs.State.{state_text}
-use Rattle.gq_views.specs.Rows.{or_empty}
-
+'''+''.join(f'use Rattle.gq_{OF}.specs.{i}\n' for i in IMPORTS)+'''
 abbrev read_program : List ℕ → Program
 read_program text = or_empty (assembled text)
 
 '''+'\n'.join(defs)+'\n'+'\n'.join(rows)
 if __name__=='__main__':
-    for p in sys.argv[3:]:
-        pathlib.Path(sys.argv[2], f'Rows_{p}.antt').write_text(gen(p))
+    for p in sys.argv[4:]:
+        pathlib.Path(sys.argv[3], f'Rows_{p}.antt').write_text(gen(p))
