@@ -11,7 +11,7 @@ use Rattle.gq_ram.specs.Ledgers.{Ledger, IsBalanced}
 use Rattle.gq_ram.specs.Trees.{Tree, AreNodes, number}
 use Rattle.gq_trade.specs.Stores.{Memory}
 use Rattle.gq_trade.specs.Rest.{IsClosed}
-use Rattle.gq_trade.specs.Trading.{Trading, IsTrading, account_no, account_of, init_no, node_of, with_memory}
+use Rattle.gq_trade.specs.Trading.{Trading, IsTrading, Leaves, account_no, account_of, init_no, node_of, root_no, with_memory}
 
 none_there : (o : Option Account) → o ≡ None → IsTrue (is_some o) → ⊥
 none_there None e h = cc
@@ -87,4 +87,23 @@ closed_kept w x n m a h b xl pos o ea el closes =
       objects = h.objects;
       between = h.between;
       requests = h.requests;
+    }
+
+-- and so the leaf's quota is with its init
+pub leaves_of : (w : Trading) (x : ℕ) (n m : Memory) (a root : AccountNo) → IsTrading w → x < length w.leaves → 0 < node_of w x
+    → IsOpen w.memory.ledger.accounts (account_of w x) → a.0 ≡ account_of w x → root.0 ≡ number w.tree 0
+    → n ≡ record { ledger = w.memory.ledger; payer = root }
+    → IfSome (account_at n.ledger.accounts a.0).reference (λ init. IsClosed n m a init) → Leaves w (with_memory w m) x
+leaves_of w x n m a root h xl pos o ea er en closes =
+    let refers = h.nodes.references (node_of w x) pos (h.leaves x xl) o in
+    let la : a ≡ account_no w x = λ t. record { 0 = ea t } in
+    let f : (account_at n.ledger.accounts a.0).reference ≡ Some (init_no w x) =
+    ap (λ (k : Memory). (account_at k.ledger.accounts a.0).reference) en ∙ ap (λ j. (account_at w.memory.ledger.accounts j).reference) ea ∙ refers in
+    let c : IsClosed n m a (init_no w x) = subst (λ o. IfSome o (λ init. IsClosed n m a init)) f closes in
+    let ln : n ≡ record { ledger = w.memory.ledger; payer = root_no w } =
+    en ∙ (λ t. record { ledger = w.memory.ledger; payer = record { 0 = er t } }) in
+    record {
+      is = refl;
+      closed = subst (λ (b : AccountNo). IsClosed (record { ledger = w.memory.ledger; payer = root_no w }) m b (init_no w x)) la
+          (subst (λ (k : Memory). IsClosed k m a (init_no w x)) ln c);
     }

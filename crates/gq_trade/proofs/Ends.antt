@@ -1,27 +1,24 @@
 -- What holds in a `Trades` once a request is accepted, and once a session is closed.
 use Rattle.gq_trade.specs.declared.session.Session.{Session}
-use Rattle.std.proofs.Common.{◌≡◌, ℕ, ◌+◌, ◌<◌, ◌≤◌, inl, inr, List, set, Option, Some, None, Result, Ok, Err, IfOk, OnOk, OnErr, IfSome, IfNone, IsErrOf}
+use Rattle.std.proofs.Common.{◌≡◌, ℕ, ◌+◌, ◌<◌, ◌≤◌, inl, inr, List, set, Some, None}
 use Rattle.std.proofs.Common.{ap, get_or}
-use Rattle.std.proofs.Common.{◌↔◌, refl, sym, subst, ◌∙◌, arith}
+use Rattle.std.proofs.Common.{refl, sym, subst, ◌∙◌, arith}
 use Rattle.std.proofs.lemmas.Bool.Decides.{eqb_tells}
 use Rattle.gq_tariff.specs.declared.amount.Amount.{Amount}
 use Rattle.gq_ram.specs.declared.account.Account.{Account}
-use Rattle.gq_ram.specs.Entries.{account_at, available_caps}
-use Rattle.gq_ram.specs.Trees.{AreNodes}
+use Rattle.gq_ram.specs.Entries.{available, available_caps}
 use Rattle.gq_store.specs.Store.{one_more}
-use Rattle.gq_trade.specs.Stores.{Memory, caps_left}
+use Rattle.gq_trade.specs.Stores.{caps_left}
 use Rattle.gq_trade.specs.internal.Rests.{rest_refl}
 use Rattle.gq_trade.specs.Numbers.{IsTaken}
 use Rattle.gq_trade.specs.declared.requests.Ask.{Ask}
 use Rattle.gq_trade.specs.declared.requests.Ask.TheVariants.{Open, Upgrade, Close, Call}
 use Rattle.gq_trade.specs.declared.requests.Request.{Request}
-use Rattle.gq_trade.specs.Queues.{oldest_to}
-use Rattle.gq_trade.specs.Trading.{Trading, IsTrading, Accepts, Begins, Closes, account_no, account_of, bytes_then, caps_then}
-use Rattle.gq_trade.specs.Trading.{node_of, opened, raised, server_of, session_at, with_memory, with_requests}
-use Rattle.gq_trade.proofs.Sessions_kept.{rest_kept, taken_from}
-use Rattle.gq_trade.specs.Balances.{quota}
+use Rattle.gq_trade.specs.Trading.{Trading, IsTrading, Accepts, Begins, account_no, account_of, its_account, parted}
+use Rattle.gq_trade.specs.Trading.{opened, raised, server_of, session_at, with_requests}
+use Rattle.gq_trade.proofs.Sessions_kept.{taken_from}
 use Rattle.gq_trade.specs.Trades.{Trades, IsTrades, IsSettled, with_trading}
-use Rattle.gq_trade.proofs.Evens.{ram_kind, caps_kind, closed_even, rest_quota}
+use Rattle.gq_trade.proofs.Evens.{ram_kind, caps_kind, closed_even}
 use Rattle.gq_trade.specs.Trading.{AreOfOthers}
 use Rattle.gq_trade.specs.Waiting.{AreApart, IsBounded, is_upgrade, upgrades}
 use Rattle.gq_trade.proofs.Waiting.{clients_unset, taken_apart, taken_upgrades}
@@ -33,15 +30,15 @@ use Rattle.gq_trade.specs.Trading.{found, session_in}
 use Rattle.gq_trade.specs.Balances.{for_node}
 use Rattle.gq_trade.proofs.Evens.{for_same, for_other}
 use Rattle.gq_trade.proofs.Settled.{each_set}
-use Rattle.gq_trade.proofs.Settled.{Each, each_unset, moved_settled, rest_settled}
+use Rattle.gq_trade.proofs.Settled.{Each, each_unset, moved_settled}
 use Rattle.gq_trade.proofs.Kept.{client_live, live_open, nodes_apart, parties, server_live, session_kept}
 
 some_number : (a b : ℕ) → Some a ≡ Some b → a ≡ b
 some_number a b e = cc
 
 -- what a server can pay back of capabilities, once it has one more
-caps_enough : (price : ℕ) (a b : Account) (n : ℕ) → caps_left price b ≡ one_more (caps_left price a) → (price ≡ 0 → n ≡ 0)
-    → n ≤ available_caps a + 1 → n ≤ b.quota.caps
+pub caps_enough : (price : ℕ) (a b : Account) (n : ℕ) → caps_left price b ≡ one_more (caps_left price a) → (price ≡ 0 → n ≡ 0)
+    → n ≤ available_caps a + 1 → n ≤ available_caps b
 caps_enough price a b n e none h = elim (eqb_tells price 0) [
   | inl y ↦ omega (arith, none y.1)
   | inr u ↦
@@ -133,80 +130,25 @@ module _ (w : Trades) (h : IsTrades w) (t : IsTrading w.trading) where
         even = i.even;
       }
 
-  pub closes_kept : (v : Trading) (k : ℕ) → IsTaken w.trading.sessions k → Closes w.trading v k
-      → (session_at w.trading k).donation.ram ≤ bytes_then w.trading k → (session_at w.trading k).donation.caps ≤ caps_then w.trading k
-      → AreOfOthers k w.trading.requests → IsTrades (with_trading w v)
-  closes_kept v k taken c enough enough_caps none =
+  pub parted_kept : (k : ℕ) → IsTaken w.trading.sessions k → (session_at w.trading k).donation.ram ≤ available (its_account w.trading (server_of w.trading k))
+      → (session_at w.trading k).donation.caps ≤ available_caps (its_account w.trading (server_of w.trading k)) → AreOfOthers k w.trading.requests
+      → IsTrades (with_trading w (parted w.trading k))
+  parted_kept k taken enough enough_caps none =
       let u = w.trading in
       let s = session_at u k in
-      let m = c.between in
-      let a = account_no u s.server in
-      let l : Memory = record { ledger = u.memory.ledger; payer = a } in
-      let n : Memory = record { ledger = m.ledger; payer = a } in
-      let rest = c.frees.others in
-      let old = h.sessions k taken in
       let cl = client_live w h t k taken in let sl = server_live w h t k taken in
       let xo = live_open w h t s.client cl in let yo = live_open w h t s.server sl in
-      let xm = rest.still_open (account_of u s.client) xo in let ym = rest.still_open (account_of u s.server) yo in
+      let xl = t.leaves s.client cl.there in let yl = t.leaves s.server sl.there in
       let ne = nodes_apart w h t s.server s.client sl.there cl.there (λ e. (parties w h t k taken).apart (sym e)) in
-      let tl : IsTrading (with_memory u l) = record {
-        tree = t.tree;
-        nodes = t.nodes;
-        leaves = t.leaves;
-        apart = t.apart;
-        objects = t.objects;
-        between = t.between;
-        requests = t.requests;
-      } in
-      let nodes : AreNodes u.tree m.ledger.accounts = (rest_kept (with_memory u l) n tl rest yo).nodes in
-      let more : (session_at u k).donation.ram ≤ quota (λ d. d.ram) (with_memory u m) (node_of u s.server) = omega (arith, enough, c.frees.back) in
-      let counted : (session_at u k).donation.caps ≤ quota (λ d. d.caps) (with_memory u m) (node_of u s.server) =
-      caps_enough u.memory.ledger.price (account_at u.memory.ledger.accounts (account_of u s.server)) (account_at m.ledger.accounts (account_of u s.server))
-      s.donation.caps (subst (λ p. caps_left p (account_at m.ledger.accounts (account_of u s.server)) ≡ one_more (caps_left u.memory.ledger.price
-      (account_at u.memory.ledger.accounts (account_of u s.server)))) rest.whole.0 c.frees.caps) old.counted enough_caps in
-      let freed = rest_settled u.tree u.leaves w.nodes l n h.settled rest in
-      let price = sym rest.whole.0 in
-      subst (λ y. IsTrades (with_trading w y)) (sym c.is) (record {
-        uncounted = λ z. h.uncounted (sym rest.whole.0 ∙ z);
-        settled = moved_settled u.tree u.leaves w.nodes m.ledger.accounts (account_of u s.server) (account_of u s.client) s.donation freed ym xm;
-        sessions = subst (λ p. Each (λ j. IsSettled u.leaves w.nodes p) (set u.sessions k None)) price
-            (each_unset (λ j. IsSettled u.leaves w.nodes u.memory.ledger.price) u.sessions k h.sessions);
+      record {
+        uncounted = h.uncounted;
+        settled = moved_settled u.tree u.leaves w.nodes u.memory.ledger.accounts (account_of u s.server) (account_of u s.client) s.donation h.settled yo xo;
+        sessions = each_unset (λ j. IsSettled u.leaves w.nodes u.memory.ledger.price) u.sessions k h.sessions;
         few = h.few;
         given = each_unset (λ j x. IsBounded x (upgrades j u.requests)) u.sessions k h.given;
         asks = subst AreApart (sym (clients_unset u.sessions k u.requests none)) h.asks;
         even = λ i lt. (
-          closed_even (λ d. d.ram) ram_kind u w.nodes m k (λ j. rest_quota (λ d. d.ram) u.tree l n j rest) nodes taken (t.leaves s.client cl.there)
-              (t.leaves s.server sl.there) xm ym ne more i lt (h.even i lt).0,
-          closed_even (λ d. d.caps) caps_kind u w.nodes m k (λ j. rest_quota (λ d. d.caps) u.tree l n j rest) nodes taken (t.leaves s.client cl.there)
-              (t.leaves s.server sl.there) xm ym ne counted i lt (h.even i lt).1,
+          closed_even (λ d. d.ram) ram_kind u w.nodes u.memory k (λ j. refl) t.nodes taken xl yl xo yo ne (omega (arith, enough)) i lt (h.even i lt).0,
+          closed_even (λ d. d.caps) caps_kind u w.nodes u.memory k (λ j. refl) t.nodes taken xl yl xo yo ne (omega (arith, enough_caps)) i lt (h.even i lt).1,
         );
-      })
-
--- a call that may be refused
-pub accepted_by : {E : Type 0} (r : Result (Option Request) E) (w : Trades) (v : Trading) (x : ℕ) → IsTrades w → IsTrading w.trading
-    → IfSome (oldest_to x w.trading.requests) (λ p. p.0.ask ≡ Upgrade → (session_at w.trading p.0.session).level < 3)
-    → IfOk r (λ o. IfNone o ((oldest_to x w.trading.requests ≡ None) × (v ≡ w.trading))) → IfOk r (λ o. IfSome o (λ q. Accepts w.trading v x q))
-    → OnErr r (v ≡ w.trading) → IsTrades (with_trading w v)
-accepted_by (Ok None) w v x h t low none some err = subst (λ y. IsTrades (with_trading w y)) (sym none.1) h
-accepted_by (Ok (Some q)) w v x h t low none some err =
-    accepted_kept w h t v x q (subst (λ o. IfSome o (λ p. p.0.ask ≡ Upgrade → (session_at w.trading p.0.session).level < 3)) some.oldest low) some
-accepted_by (Err e) w v x h t low none some err = subst (λ y. IsTrades (with_trading w y)) (sym err) h
-
-none_refused : {A E : Type 0} (a : A) (e : E) → IsErrOf (Ok a) e → ⊥
-none_refused a e h = cc
-
--- what is no less is enough
-not_less : (a b : ℕ) → (b < a → ⊥) → a ≤ b
-not_less a b h = grind (arith, h)
-
-pub closed_by : {E : Type 0} (r : Result (Unit {0}) E) (w : Trades) (v : Trading) (k : ℕ) (e f : E) → IsTrades w → IsTrading w.trading
-    → IsTaken w.trading.sessions k → AreOfOthers k w.trading.requests → OnOk r (Closes w.trading v k)
-    → (IsErrOf r e ↔ (bytes_then w.trading k < (session_at w.trading k).donation.ram))
-    → (IsErrOf r f ↔ (((session_at w.trading k).donation.ram ≤ bytes_then w.trading k)
-    × (caps_then w.trading k < (session_at w.trading k).donation.caps)))
-    → OnErr r (v ≡ w.trading) → IsTrades (with_trading w v)
-closed_by (Ok u) w v k e f h t taken none ok bytes caps err =
-    let enough = not_less (session_at w.trading k).donation.ram (bytes_then w.trading k) (λ l. none_refused u e (bytes.1 l)) in
-    closes_kept w h t v k taken ok enough
-    (not_less (session_at w.trading k).donation.caps (caps_then w.trading k) (λ l. none_refused u f (caps.1 (enough, l)))) none
-closed_by (Err g) w v k e f h t taken none ok bytes caps err = subst (λ y. IsTrades (with_trading w y)) (sym err) h
+      }

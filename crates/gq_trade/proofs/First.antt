@@ -42,7 +42,7 @@ number_of a b e = let f : a ≡ b = cc in ap (λ (x : AccountNo). x.0) f
 none_some : (a : AccountNo) → None ≡ Some a → ⊥
 none_some a e = cc
 
-module _ (total : ℕ) (caps : Option ℕ) (ps : List ℕ) (ns : List Node) (xs os : List ℕ) (p : IsPlan total caps ps ns xs os) (t : Tree) (tp : t.parents ≡ ps)
+module _ {total : ℕ} {caps : Option ℕ} {ps : List ℕ} {ns : List Node} {xs os : List ℕ} (p : IsPlan total caps ps ns xs os) (t : Tree) (tp : t.parents ≡ ps)
     (hs : List Amount) (hp : hs ≡ map handed ns) where
   here : (j : ℕ) → parent t j ≡ get_or ps j 0
   here j = ap (λ qs. get_or qs j 0) tp

@@ -1,19 +1,16 @@
 -- What holds in a `Trades`, after each call.
-use Rattle.std.proofs.Common.{◌≡◌, ℕ, [], ◌∷◌, ◌++◌, Option, None, ◌<◌, ◌≤◌, List, length, set, Some, Result, Ok, Err, OnOk, OnErr, refl, sym, ap}
+use Rattle.std.proofs.Common.{◌≡◌, ℕ, [], ◌∷◌, ◌++◌, Option, None, ◌<◌, ◌≤◌, List, length, set, Some, refl, sym, ap}
 use Rattle.std.proofs.Common.{subst, ◌∙◌, arith}
 use Rattle.gq_tariff.specs.declared.amount.Amount.{Amount}
 use Rattle.gq_ram.specs.declared.account.AccountNo.{AccountNo}
-use Rattle.gq_ram.specs.Entries.{account_at, available, available_caps, IsOpen}
-use Rattle.gq_ram.specs.Ledgers.{Ledger, IsBalanced}
+use Rattle.gq_ram.specs.Entries.{available, available_caps, IsOpen}
+use Rattle.gq_ram.specs.Ledgers.{IsBalanced}
 use Rattle.gq_trade.specs.Stores.{Memory}
-use Rattle.gq_trade.specs.Rest.{SameRest}
-use Rattle.gq_trade.specs.internal.Rests.{rest_refl}
-use Rattle.gq_contents.specs.declared.content.Content.{Content}
 use Rattle.gq_trade.specs.Numbers.{IsTaken}
 use Rattle.gq_trade.specs.declared.session.Session.{Session}
-use Rattle.gq_trade.specs.Trading.{Trading, IsTrading, IsBetween, account_of, asked, client_of, its_account}
-use Rattle.gq_trade.specs.Trading.{SameButMemory, SameOthers, node_of, server_of, session_at, upgraded, with_memory, with_more}
-use Rattle.gq_trade.specs.Trading.{with_session, with_slot}
+use Rattle.gq_trade.specs.Trading.{IsTrading, IsBetween, account_of, asked, client_of, its_account}
+use Rattle.gq_trade.specs.Trading.{SameOthers, node_of, server_of, session_at, upgraded, with_memory, with_more}
+use Rattle.gq_trade.specs.Trading.{with_session}
 use Rattle.gq_trade.proofs.Sessions_kept.{between_at}
 use Rattle.gq_trade.specs.declared.node.Stage.{Stage}
 use Rattle.gq_trade.specs.declared.node.Stage.TheVariants.{Live, Ended}
@@ -35,13 +32,6 @@ use Rattle.gq_trade.proofs.Settled.{Each, each_added, each_set, moved_settled, r
 
 pub not_both : (s : Stage) → s ≡ Live → s ≡ Ended → ⊥
 not_both s a b = let e : Live ≡ Ended = sym a ∙ b in cc
-
--- an open account uses no more than its quota
-within_quota : (l : Ledger) (k n : ℕ) → IsBalanced l → n ≤ available (account_at l.accounts k) → n ≤ (account_at l.accounts k).quota.ram
-within_quota l k n b h = omega (arith, h)
-
-within_caps : (l : Ledger) (k n : ℕ) → IsBalanced l → n ≤ available_caps (account_at l.accounts k) → n ≤ (account_at l.accounts k).quota.caps
-within_caps l k n b h = omega (arith, h)
 
 module _ (w : Trades) (h : IsTrades w) (t : IsTrading w.trading) where
   pub node_there : (x : ℕ) → x < length w.trading.leaves → node_of w.trading x < length w.trading.tree.parents
@@ -208,37 +198,3 @@ module _ (w : Trades) (h : IsTrades w) (t : IsTrading w.trading) where
   few_wait x lt idle =
       let f = fewer (length w.trading.leaves) (length w.trading.objects) x w.trading.sessions w.trading.requests t.between t.requests h.asks idle lt in
       omega (arith, f, h.few)
-
--- a call that may be refused
-pub asked_by : {E : Type 0} (r : Result ℕ E) (w : Trades) (v : Trading) (s : Session) → IsTrades w → IsTrading w.trading → IsLive w s.client
-    → IsLive w s.server → (s.client ≡ s.server → ⊥) → (w.trading.memory.ledger.price ≡ 0 → s.donation.caps ≡ 0) → IsIdle w.trading s.client
-    → s.level ≡ 0 → IsBalanced w.trading.memory.ledger → OnOk r (v ≡ asked w.trading s) → OnOk r (s.donation.ram ≤ available (its_account w.trading s.client))
-    → OnOk r (s.donation.caps ≤ available_caps (its_account w.trading s.client)) → OnErr r (v ≡ w.trading) → IsTrades (with_trading w v)
-asked_by (Ok k) w v s h t cl sl ne counted idle z b is enough enough_caps err =
-    subst (λ y. IsTrades (with_trading w y)) (sym is) (asked_kept w h t s cl sl ne counted enough enough_caps idle z b)
-asked_by (Err e) w v s h t cl sl ne counted idle z b is enough enough_caps err = subst (λ y. IsTrades (with_trading w y)) (sym err) h
-
-pub upgraded_by : {E : Type 0} (r : Result (Unit {0}) E) (w : Trades) (v : Trading) (k : ℕ) (n : Amount) → IsTrades w → IsTrading w.trading
-    → IsTaken w.trading.sessions k → (w.trading.memory.ledger.price ≡ 0 → n.caps ≡ 0) → IsIdle w.trading (client_of w.trading k)
-    → IsBalanced w.trading.memory.ledger → OnOk r (v ≡ upgraded w.trading k n)
-    → OnOk r (n.ram ≤ available (its_account w.trading (client_of w.trading k)))
-    → OnOk r (n.caps ≤ available_caps (its_account w.trading (client_of w.trading k))) → OnErr r (v ≡ w.trading) → IsTrades (with_trading w v)
-upgraded_by (Ok u) w v k n h t taken counted idle b is enough enough_caps err =
-    subst (λ y. IsTrades (with_trading w y)) (sym is) (upgraded_kept w h t k n taken counted enough enough_caps idle b)
-upgraded_by (Err e) w v k n h t taken counted idle b is enough enough_caps err = subst (λ y. IsTrades (with_trading w y)) (sym err) h
-
--- a slot of a session holds something else
-pub slot_kept : (w : Trades) (v : Trading) (k i : ℕ) (u : Content) → IsTrades w → IsTrading w.trading → IsTaken w.trading.sessions k
-    → v ≡ with_session w.trading k (with_slot (session_at w.trading k) i u) → IsTrades (with_trading w v)
-slot_kept w v k i u h t taken is =
-    subst (λ y. IsTrades (with_trading w y)) (sym is)
-    (session_kept w h t w.trading.memory w.trading.memory.payer k (with_slot (session_at w.trading k) i u) (rest_refl w.trading.memory) taken refl refl refl
-    (omega arith) (h.given k taken).level)
-
--- as a store of the account that pays
-pub rest_kept : (w : Trades) (v : Trading) → IsTrades w → IsTrading w.trading → SameButMemory w.trading v → IsTrades (with_trading w v)
-rest_kept w v h t s =
-    let m : Memory = record { ledger = v.memory.ledger; payer = w.trading.memory.payer } in
-    let e : v.memory ≡ m = λ i. record { ledger = v.memory.ledger; payer = s.memory.payer i } in
-    subst (λ y. IsTrades (with_trading w y)) (sym s.is)
-    (memory_kept w h t v.memory w.trading.memory.payer (subst (SameRest w.trading.memory) e s.memory))

@@ -2,6 +2,8 @@ pub mod Ends
 pub mod Evens
 pub mod First
 mod Inside
+pub mod Returning
+pub mod Holding
 pub mod Kept
 pub mod Leaving
 pub mod Settled
@@ -18,6 +20,5 @@ pub mod Oldest
 pub mod Bounds
 pub mod Closing
 pub mod Definition
-mod Sessions_inside
 pub mod Sessions_kept
 pub mod Paying

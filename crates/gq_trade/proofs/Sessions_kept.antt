@@ -1,7 +1,7 @@
 -- What a call leaves of what holds of sessions and requests.
 use Rattle.std.proofs.Common.{◌≡◌, ℕ, zero, suc, ◌+◌, ◌<◌, inl, inr, List, [], ◌∷◌, ◌++◌, length, set, get_or, get_or-set_same, get_or-set_other, Option}
 use Rattle.std.proofs.Common.{Some, None}
-use Rattle.std.proofs.Common.{IsTrue, is_some, true, false, replicate, IfSome, IfNone, Result, Ok, Err, IfOk, OnOk, OnErr, refl, sym, ap, subst, ◌∙◌, arith}
+use Rattle.std.proofs.Common.{IsTrue, is_some, true, false, replicate, IfSome, IfNone, Result, Ok, Err, IfOk, refl, sym, ap, subst, ◌∙◌, arith}
 use Rattle.std.proofs.lemmas.Bool.{cases_eq}
 use Rattle.std.proofs.lemmas.Bool.Decides.{eqb_tells}
 use Rattle.gq_tariff.specs.declared.amount.Amount.{Amount}
@@ -32,7 +32,7 @@ use Rattle.gq_trade.specs.declared.requests.Request.{Request}
 use Rattle.gq_trade.specs.declared.session.Session.{Session}
 use Rattle.gq_trade.specs.Trading.{Trading, IsTrading, AreOf, AreBetween, IsBetween, account_of, entered, found, given, server_of, session_at, session_in}
 use Rattle.gq_trade.specs.Trading.{handed_on, with_ask}
-use Rattle.gq_trade.specs.Trading.{Accepts, AreOfOthers, Begins, Frees, Makes, SameOthers, account_no, node_of, with_memory, with_requests, with_session}
+use Rattle.gq_trade.specs.Trading.{Accepts, AreOfOthers, Begins, Frees, Makes, SameOthers, account_no, with_memory, with_requests, with_session}
 use Rattle.gq_trade.specs.Trading.{with_sessions}
 
 -- another session stays where it is
@@ -129,7 +129,7 @@ entered_kept w s h b =
           (ap is_some here) (ap (λ o. (found o).server) here);
     }
 
-set_kept : (w : Trading) (k : ℕ) (s : Session) → IsTrading w → IsTaken w.sessions k → s.client ≡ (session_at w k).client
+pub set_kept : (w : Trading) (k : ℕ) (s : Session) → IsTrading w → IsTaken w.sessions k → s.client ≡ (session_at w k).client
     → s.server ≡ (session_at w k).server → s.service ≡ (session_at w k).service → IsTrading (with_session w k s)
 set_kept w k s h t ec es ev =
     let ss = w.sessions in
@@ -157,6 +157,13 @@ set_kept w k s h t ec es ev =
       ]) h.requests;
     }
 
+-- it is still there
+pub taken_still : (w : Trading) (k : ℕ) (s : Session) → IsTaken w.sessions k → IsTaken (with_session w k s).sessions k
+taken_still w k s t = ap is_some (get_or-set_same w.sessions k (Some s) None (taken_there w.sessions k t))
+
+pub server_still : (w : Trading) (k : ℕ) (s : Session) → IsTaken w.sessions k → server_of (with_session w k s) k ≡ s.server
+server_still w k s t = ap (λ o. (found o).server) (get_or-set_same w.sessions k (Some s) None (taken_there w.sessions k t))
+
 -- a session that is changed where it lies: whose it is, and of which service, stays
 pub changed_kept : (w : Trading) (k : ℕ) (old s : Session) → IsTrading w → get_or w.sessions k None ≡ Some old → s.client ≡ old.client
     → s.server ≡ old.server → s.service ≡ old.service → IsTrading (with_session w k s)
@@ -164,11 +171,6 @@ changed_kept w k old s h is ec es ev =
     let same : old ≡ session_at w k = sym (ap found is) in
     set_kept w k s h (ap is_some is) (ec ∙ ap (λ (x : Session). x.client) same) (es ∙ ap (λ (x : Session). x.server) same)
     (ev ∙ ap (λ (x : Session). x.service) same)
-
--- and it stands for the sessions with what it became
-pub changed_is : (w v : Trading) (k : ℕ) (old : Session) (f : Session → Session) → w ≡ v → get_or w.sessions k None ≡ Some old
-    → with_session w k (f old) ≡ with_session v k (f (session_at v k))
-changed_is w v k old f e is = ap (λ x. with_session w k (f x)) (sym (ap found is)) ∙ ap (λ (x : Trading). with_session x k (f (session_at x k))) e
 
 pub with_ask_kept : (w : Trading) (k : ℕ) (a : Ask) → IsTrading w → IsTaken w.sessions k → IsTrading (with_ask w k a)
 with_ask_kept w k a h t = record {
@@ -180,18 +182,6 @@ with_ask_kept w k a h t = record {
   between = h.between;
   requests = of_more w.sessions w.requests (record { session = k; server = server_of w k; ask = a }) h.requests t refl;
 }
-
--- memory after a donation between the nodes i and j of two leaves
-pub donated_kept : {E : Type 0} (r : Result (Unit {0}) E) (w : Trading) (x y i j : ℕ) (n : Amount) (m : Memory) → IsTrading w
-    → IsOpen w.memory.ledger.accounts (account_of w x) → IsOpen w.memory.ledger.accounts (account_of w y) → i ≡ node_of w x → j ≡ node_of w y
-    → OnOk r (m.ledger ≡ donated w.tree w.memory.ledger i j n) → m.payer ≡ w.memory.payer → OnErr r (m ≡ w.memory) → IsTrading (with_memory w m)
-donated_kept (Ok u) w x y i j n m h xo yo ex ey ok p err =
-    let e : m.ledger ≡ donated w.tree w.memory.ledger (node_of w x) (node_of w y) n =
-    ok ∙ ap (λ a. donated w.tree w.memory.ledger a j n) ex ∙ ap (λ a. donated w.tree w.memory.ledger (node_of w x) a n) ey in
-    let f : record { ledger = donated w.tree w.memory.ledger (node_of w x) (node_of w y) n; payer = w.memory.payer } ≡ m =
-    λ t. record { ledger = sym e t; payer = sym p t } in
-    subst (λ (a : Memory). IsTrading (with_memory w a)) f (given_kept w x y n h xo yo)
-donated_kept (Err e) w x y i j n m h xo yo ex ey ok p err = subst (λ (a : Memory). IsTrading (with_memory w a)) (sym err) h
 
 -- an item that is there, whatever stands for one that is not
 pub item : (xs : List ℕ) (i r d : ℕ) → i < length xs → r ≡ get_or xs i r → r ≡ get_or xs i d
@@ -245,6 +235,15 @@ pub its_oldest : (ss : List (Option Session)) (x : ℕ) (rs : List Request) (o :
     → IfSome o (λ r. IsTaken ss r.session × ((session_in ss r.session).server ≡ x))
 its_oldest ss x rs None h some = tt
 its_oldest ss x rs (Some r) h some = let t = taken_from ss x rs (pair r some.rest) h some.is in (t.there, t.server)
+
+-- the oldest request is the one that is taken
+pub taken_is : (x : ℕ) (rs us new : List Request) (r : Request) (o : Option Request) → us ≡ rs → IsOldest x rs r
+    → IfSome o (λ q. oldest_to x us ≡ Some (q, new)) → IfNone o ((oldest_to x us ≡ None) × (new ≡ us)) → oldest_to x us ≡ Some (r, new)
+taken_is x rs us new r None e i some none =
+    let f : Some (pair r i.rest) ≡ None = sym i.is ∙ ap (oldest_to x) (sym e) ∙ none.0 in cc
+taken_is x rs us new r (Some q) e i some none =
+    let f = some_in (pair q new) (pair r i.rest) (sym some ∙ ap (oldest_to x) e ∙ i.is) in
+    some ∙ ap (λ y. Some (pair y new)) (ap (λ (t : Request × List Request). t.0) f)
 
 pub begins_requests : (a : Ask) (w v : Trading) (k : ℕ) → Begins a w v k → v.requests ≡ w.requests
 begins_requests Open w v k h = ap (λ (x : Trading). x.requests) h.is
@@ -356,18 +355,22 @@ reference_same m n a s = elim (cases_eq a m.payer.0) [
   | inr ne ↦ ap (λ o. (its_account o).reference) (s.accounts a ne)
 ]
 
-pub rest_kept : (w : Trading) (n : Memory) → IsTrading w → SameRest w.memory n → IsOpen w.memory.ledger.accounts w.memory.payer.0
+-- the memory of one account is other
+pub others_kept : (w : Trading) (n : Memory) (a : AccountNo) → IsTrading w → SameOthers w.memory.ledger n.ledger a → IsOpen w.memory.ledger.accounts a.0
     → IsTrading (with_memory w n)
-rest_kept w n h s p = record {
-  tree = h.tree;
-  nodes = record {
-    apart = h.nodes.apart;
-    references = λ i pos lt o.
-        reference_same w.memory n (number w.tree i) s ∙ h.nodes.references i pos lt (was_open w.memory n (number w.tree i) s p o);
-  };
-  leaves = h.leaves;
-  apart = h.apart;
-  objects = h.objects;
-  between = h.between;
-  requests = h.requests;
-}
+others_kept w n a h s o =
+    let l : Memory = record { ledger = w.memory.ledger; payer = a } in
+    let m : Memory = record { ledger = n.ledger; payer = a } in
+    record {
+      tree = h.tree;
+      nodes = record {
+        apart = h.nodes.apart;
+        references = λ i pos lt p.
+            reference_same l m (number w.tree i) s ∙ h.nodes.references i pos lt (was_open l m (number w.tree i) s o p);
+      };
+      leaves = h.leaves;
+      apart = h.apart;
+      objects = h.objects;
+      between = h.between;
+      requests = h.requests;
+    }

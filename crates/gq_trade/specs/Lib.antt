@@ -1,5 +1,6 @@
 pub mod Balances
 pub mod Ends
+pub mod Giving
 pub mod Plans
 pub mod Trades
 pub mod Waiting

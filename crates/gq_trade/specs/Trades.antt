@@ -23,6 +23,15 @@ pub record IsLive (w : Trades) (x : ℕ) : Type 0 where
   pub there : x < length w.trading.leaves
   pub live : (node_at w.nodes (get_or w.trading.leaves x 0)).stage ≡ Live
 
+-- client and server of a session are live, and two leaves, and its service is one of those that there are
+pub record AreParties (w : Trades) (s : Session) : Type 0 where
+  pub client : IsLive w s.client
+  pub server : IsLive w s.server
+  pub apart : s.client ≡ s.server → ⊥
+  pub service : s.service < length w.trading.objects
+  -- where capabilities are not counted none are given for it
+  pub counted : w.trading.memory.ledger.price ≡ 0 → s.donation.caps ≡ 0
+
 -- the node i has not ended
 pub record HasAccount (w : Trades) (i : ℕ) : Type 0 where
   pub there : i < length w.trading.tree.parents

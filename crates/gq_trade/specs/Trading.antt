@@ -291,6 +291,10 @@ pub record Frees (w v : Trading) (x : ℕ) (t : Content) : Type 0 where
   pub caps : (store_of v x).caps ≡ one_more (store_of w x).caps
   pub others : SameOthers w.memory.ledger v.memory.ledger (account_no w x)
 
+-- what was given for a session goes back to its client, and its number is free
+abbrev pub parted : Trading → ℕ → Trading
+parted w k = with_sessions (given w (server_of w k) (client_of w k) (session_at w k).donation) (slice_set w.sessions k None)
+
 -- Its object is freed, then what was given for it goes back to its client, and its number is free.
 pub record Closes (w v : Trading) (k : ℕ) : Type 0 where
   pub between : Memory

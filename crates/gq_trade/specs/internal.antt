@@ -1,4 +1,3 @@
 pub mod Stored
 pub mod Rests
 pub mod Fields
-pub mod Sessions_stored

@@ -1,8 +1,8 @@
 //! Accounts that trade: sessions between the leaves of a scenario, whose donations move quota along the tree, and leaves that start and end.
 //!
-//! [`Trades`] is what the crates above use. It stands on `sessions` (the sessions between leaves, the quota that goes with them and what waits for a server),
-//! on [`Numbered`] (values by their numbers, where a new one takes the lowest that is free), on `requests` (what waits, the oldest first), and on
-//! [`Memory`] (the memory of many accounts as a store of chunks: a chunk is a dataspace of the account that pays, and has its number).
+//! [`Trades`] is what the crates above use. It stands on [`Numbered`] (values by their numbers, where a new one takes the lowest that is free), on `requests`
+//! (what waits for a server, the oldest first), on `node` (what is known of a node beside its account), and on [`Memory`] (the memory of many accounts as a
+//! store of chunks: a chunk is a dataspace of the account that pays, and has its number), in which the objects of sessions are made (`objects`).
 //!
 //! ```rust
 //! use gq_trade::Spot;
@@ -41,7 +41,6 @@ pub mod numbered;
 mod objects;
 pub mod requests;
 pub mod session;
-pub mod sessions;
 pub mod trades;
 
 pub use memory::Memory;

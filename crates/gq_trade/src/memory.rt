@@ -1,7 +1,8 @@
 // The memory of many accounts as a store of chunks: a chunk is a dataspace of the account that pays, and has its number.
-ghost use Rattle.std.specs.Prelude.{◌≡◌, ◌+◌, ◌*◌, ◌<◌, ◌≤◌, ◌↔◌, false, length, is_some, IsTrue, IfSome, OnOk, OnErr, IsErrOf};
+ghost use Rattle.std.specs.Prelude.{◌≡◌, ◌≤◌, false, is_some, IsTrue, IfSome, OnOk, OnErr};
 ghost use Rattle.gq_ram.specs.Entries.{IsOpen, account_at, available, available_caps, has_members};
-ghost use Rattle.gq_ram.specs.Trees.{AreNodes, account_of, donated, number};
+ghost use Rattle.gq_ram.specs.Trees.{account_of, donated};
+ghost use Rattle.gq_trade.specs.Giving.{CanGive, IsAfforded};
 ghost use Rattle.gq_trade.specs.Rest.{IsClosed};
 
 use gq_dataspace::DsId;
@@ -69,36 +70,20 @@ impl Memory {
         to: usize,
         amount: Amount,
     ) -> Result<(), AccountFault>
-        requires nodes { AreNodes tree.now self.old.ledger.accounts }
-        requires from { from < length tree.now.parents }
-        requires to { to < length tree.now.parents }
-        requires apart { from ≡ to → ⊥ }
-        requires from_open { IsOpen self.old.ledger.accounts (number tree.now from) }
-        requires to_open { IsOpen self.old.ledger.accounts (number tree.now to) }
+        requires can { CanGive tree.now self.old.ledger.accounts from to }
         requires counted { self.old.ledger.price ≡ 0 → amount.caps ≡ 0 }
         ensures moved { OnOk result (self.new.ledger ≡ donated tree.now self.old.ledger from to amount) }
-        ensures enough { OnOk result (amount.ram ≤ available (account_of tree.now self.old.ledger from)) }
-        ensures enough_caps { OnOk result (amount.caps ≤ available_caps (account_of tree.now self.old.ledger from)) }
+        ensures afforded { IsAfforded result (available (account_of tree.now self.old.ledger from))
+            (available_caps (account_of tree.now self.old.ledger from)) amount }
         ensures payer { self.new.payer ≡ self.old.payer }
         ensures unchanged { OnErr result (self.new ≡ self.old) }
-        ensures exceeded { IsErrOf result AccountFault.Exceeded ↔ (available (account_of tree.now self.old.ledger from) < amount.ram) }
-        ensures caps_exceeded { IsErrOf result AccountFault.CapsExceeded
-            ↔ ((amount.ram ≤ available (account_of tree.now self.old.ledger from))
-            × (available_caps (account_of tree.now self.old.ledger from) < amount.caps)) }
-        ensures only { OnErr result (amount.ram ≤ available (account_of tree.now self.old.ledger from)
-            → available_caps (account_of tree.now self.old.ledger from) < amount.caps) }
     {
         tree.donate(&mut self.accounts, from, to, amount)
     }
 
     /// Moves quota of both kinds, as `donate` does, where the giver is known to have it: this is never refused.
     pub fn give(&mut self, tree: &AccountTree, from: usize, to: usize, amount: Amount)
-        requires nodes { AreNodes tree.now self.old.ledger.accounts }
-        requires from { from < length tree.now.parents }
-        requires to { to < length tree.now.parents }
-        requires apart { from ≡ to → ⊥ }
-        requires from_open { IsOpen self.old.ledger.accounts (number tree.now from) }
-        requires to_open { IsOpen self.old.ledger.accounts (number tree.now to) }
+        requires can { CanGive tree.now self.old.ledger.accounts from to }
         requires counted { self.old.ledger.price ≡ 0 → amount.caps ≡ 0 }
         requires enough { amount.ram ≤ available (account_of tree.now self.old.ledger from) }
         requires enough_caps { amount.caps ≤ available_caps (account_of tree.now self.old.ledger from) }

@@ -1,52 +1,62 @@
-// Sessions over accounts whose balances are sums.
-ghost use Rattle.std.specs.Prelude.{◌≡◌, ℕ, ◌+◌, ◌<◌, ◌≤◌, ◌%◌, ◌^◌, ◌↔◌, length, get_or, Some, None, IfOk, OnOk, OnErr, IsErrOf, IfSome, IfNone};
+// Sessions, requests and donations over the accounts of a scenario.
+ghost use Rattle.std.specs.Prelude.{◌≡◌, ℕ, ◌+◌, ◌<◌, ◌≤◌, ◌%◌, ◌↔◌, length, get_or, Some, None, IfOk, OnOk, OnErr, IsErrOf, IfSome, IfNone};
+ghost use Rattle.gq_tariff.specs.Prices.{up};
 ghost use Rattle.gq_ram.specs.Entries.{available, available_caps, IsOpen};
+ghost use Rattle.gq_ram.specs.Trees.{number};
+ghost use Rattle.gq_contents.specs.declared.content.Content.TheVariants as content;
+ghost use Rattle.gq_contents.specs.Contents.{IsSlice, size_of};
 ghost use Rattle.gq_trade.specs.Numbers.{free_number, IsTaken};
 ghost use Rattle.gq_trade.specs.declared.requests.Ask.TheVariants as ask;
 ghost use Rattle.gq_trade.specs.Queues.{IsOldest, oldest_to};
-ghost use Rattle.gq_contents.specs.declared.content.Content.TheVariants as content;
-ghost use Rattle.gq_contents.specs.Contents.{IsSlice};
-ghost use Rattle.gq_trade.specs.Trading.{Accepts, AreOfOthers, Closes, IsOfOldest, IsTrading, LacksBytes, LacksCaps, account_no, asked};
-ghost use Rattle.gq_trade.specs.Trading.{bytes_then, caps_then};
-ghost use Rattle.gq_trade.specs.Trading.{client_of, fresh, its_account, server_of, session_at, store_of, upgraded, with_ask, with_memory};
-ghost use Rattle.gq_trade.specs.Trading.{with_session, with_slot};
-ghost use Rattle.gq_trade.specs.Trading.{node_of, Leaves};
+ghost use Rattle.gq_trade.specs.Trading.{Accepts, AreOfOthers, Begins, Closes, Frees, IsOfOldest, IsTrading, LacksBytes, LacksCaps, Leaves, Makes, Opens};
+ghost use Rattle.gq_trade.specs.Trading.{account_no, asked, bytes_then, caps_then, client_of, fresh, its_account, node_of, opened, parted, raised, server_of};
+ghost use Rattle.gq_trade.specs.Trading.{session_at, store_of, upgraded, with_ask, with_memory, with_session, with_slot};
+ghost use Rattle.gq_trade.specs.Giving.{CanGive, IsAfforded};
 ghost use Rattle.gq_trade.specs.declared.node.Stage.TheVariants as Stage;
 ghost use Rattle.gq_trade.specs.Ends.{CanStart, Ends, HasNoSessions, follower, staged, started};
 ghost use Rattle.gq_trade.specs.Plans.{IsFirst, IsPlan};
-ghost use Rattle.gq_ram.specs.Trees.{number};
 ghost use Rattle.gq_trade.specs.Balances.{node_at, quota, use_of};
 ghost use Rattle.gq_trade.specs.Waiting.{IsIdle};
-ghost use Rattle.gq_trade.specs.Trades.{HasAccount, IsLive, IsTrades, with_trading};
+ghost use Rattle.gq_trade.specs.Trades.{AreParties, HasAccount, IsLive, IsTrades, with_trading};
 
 use crate::memory::Memory;
 use crate::node::{Node, Stage, follower, handed_to};
-use crate::requests::Request;
+use crate::numbered::Numbered;
+use crate::objects::{free_slice_of, make_slice_for};
+use crate::requests::{Ask, Request, Requests};
 use crate::session::{Session, Spot};
-use crate::sessions::Sessions;
 use gq_contents::Content;
 use gq_ram::{AccountFault, AccountNo, AccountTree, Accounts};
 use gq_store::{ByteStore, ChunkNo, GrowFault};
-use gq_tariff::Amount;
+use gq_tariff::{Amount, price_slice};
 use std::alloc::{AllocError, Global};
 use std::marker::Model;
 
-/// The sessions between the leaves of a scenario with the memory of all accounts, and what each node has been handed. The quota of each node is what
-/// it was handed and was given for sessions, less what it has lent and handed on. No call takes host memory.
+/// The memory of all accounts of a scenario, the sessions between its leaves, the requests that wait for their servers, and what each node has been
+/// handed. The quota of each node is what it was handed and was given for sessions, less what it has lent and handed on. No call but `new` takes host
+/// memory.
 #[derive(Drop)]
 pub struct Trades {
-    sessions: Sessions,
+    memory: Memory,
+    tree: AccountTree,
+    // The node of each leaf.
+    leaves: Vec<usize>,
+    // The bytes of a session's object, for each service.
+    objects: Vec<u32>,
+    sessions: Numbered<Session>,
+    requests: Requests,
     nodes: Vec<Node>,
 }
 
 impl Model for Trades {
-    ghost use Rattle.gq_trade.specs.Trades.{Trades, IsTrades};
+    ghost use Rattle.gq_trade.specs.Trades.{Trades};
+    ghost use Rattle.gq_trade.specs.internal.Fields.{Holds, trades_of};
 
     ghost Value = { Trades };
 
-    ghost view = { λ t. record { trading = t.sessions; nodes = t.nodes.items } };
+    ghost view = { λ t. trades_of t.memory t.tree t.leaves.items t.objects.items t.sessions t.requests t.nodes.items };
 
-    ghost invariant = { λ t. IsTrades (record { trading = t.sessions; nodes = t.nodes.items }) };
+    ghost invariant = { λ t. Holds (trades_of t.memory t.tree t.leaves.items t.objects.items t.sessions t.requests t.nodes.items) };
 }
 
 /// The nodes of a scenario in preorder, the root first: the node above each (that of the root is not looked at), and its quantum, with which node it
@@ -82,9 +92,14 @@ impl Trades {
         let tree = AccountTree::open(alloc, &mut accounts, plan.parents)?;
         tree.hand_out(&mut accounts, handed.as_slice());
         let memory = Memory::new(accounts, root);
-        let sessions = Sessions::new(alloc, memory, tree, plan.leaves, plan.objects, room)?;
+        let sessions = Numbered::new(alloc, room)?;
         Ok(Trades {
+            memory,
+            tree,
+            leaves: plan.leaves,
+            objects: plan.objects,
             sessions,
+            requests: Requests::new(),
             nodes: plan.nodes,
         })
     }
@@ -121,9 +136,26 @@ impl Trades {
         ensures only { OnErr result (donation.ram ≤ available (its_account self.old.trading client)
             → available_caps (its_account self.old.trading client) < donation.caps) }
     {
-        self.sessions.laws();
-        self.sessions.memory().accounts().laws();
-        self.sessions.ask(client, spot, server, service, donation)
+        self.memory.accounts().laws();
+        let (from, to) = self.givers(client, server);
+        self.memory.donate(&self.tree, from, to, donation)?;
+        let number = self.sessions.add(Session {
+            client,
+            spot,
+            server,
+            service,
+            level: 0,
+            donation,
+            accepted: false,
+            object: Content::Empty,
+            slots: [Content::Empty; 8],
+        });
+        self.requests.push(Request {
+            session: number,
+            server,
+            ask: Ask::Open,
+        });
+        Ok(number)
     }
 
     /// Asks for the next level of a session: what is given for it goes from its client to its server, as in `ask`, and its request to upgrade is the
@@ -144,9 +176,19 @@ impl Trades {
         ensures only { OnErr result (donation.ram ≤ available (its_account self.old.trading (client_of self.old.trading session))
             → available_caps (its_account self.old.trading (client_of self.old.trading session)) < donation.caps) }
     {
-        self.sessions.laws();
-        self.sessions.memory().accounts().laws();
-        self.sessions.upgrade(session, donation)
+        self.memory.accounts().laws();
+        let old = self.between(session);
+        let (from, to) = self.givers(old.client, old.server);
+        self.memory.donate(&self.tree, from, to, donation)?;
+        let raised = self.sessions.at_mut(session);
+        raised.donation.ram += donation.ram;
+        raised.donation.caps += donation.caps;
+        self.requests.push(Request {
+            session,
+            server: old.server,
+            ask: Ask::Upgrade,
+        });
+        Ok(())
     }
 
     /// Asks for the reply of a session's server to a number: the request is the last.
@@ -155,8 +197,7 @@ impl Trades {
         requires idle { IsIdle self.old.trading (client_of self.old.trading session) }
         ensures { self.new ≡ with_trading self.old (with_ask self.old.trading session (ask.Call value)) }
     {
-        self.sessions.laws();
-        self.sessions.ask_call(session, value);
+        self.push(session, Ask::Call(value));
     }
 
     /// Asks for the end of a session: the request is the last.
@@ -165,8 +206,21 @@ impl Trades {
         requires idle { IsIdle self.old.trading (client_of self.old.trading session) }
         ensures { self.new ≡ with_trading self.old (with_ask self.old.trading session ask.Close) }
     {
-        self.sessions.laws();
-        self.sessions.ask_close(session);
+        self.push(session, Ask::Close);
+    }
+
+    // A request of a session, behind all others.
+    fn push(&mut self, session: usize, ask: Ask)
+        requires there { IsTaken self.old.trading.sessions session }
+        requires idle { IsIdle self.old.trading (client_of self.old.trading session) }
+        ensures { self.new ≡ with_trading self.old (with_ask self.old.trading session ask) }
+    {
+        let server = self.sessions.get(session).server;
+        self.requests.push(Request {
+            session,
+            server,
+            ask,
+        });
     }
 
     /// The oldest request to a server, of a session to it. It stays.
@@ -176,7 +230,7 @@ impl Trades {
         ensures its { IfSome result (λ r. IsTaken self.now.trading.sessions r.session × (server_of self.now.trading r.session ≡ server)) }
         ensures none { IfNone result (oldest_to server self.now.trading.requests ≡ None) }
     {
-        self.sessions.waiting(server)
+        self.requests.oldest(server)
     }
 
     /// Takes the oldest request to a server, if there is one. A request to open makes the session's object, a slice which its server pays for and which
@@ -197,8 +251,86 @@ impl Trades {
         ensures caps_exceeded { IsErrOf result GrowFault.CapsExceeded
             ↔ IsOfOldest (oldest_to server self.old.trading.requests) (λ r. LacksCaps r.ask self.old.trading r.session) }
     {
-        self.sessions.laws();
-        self.sessions.accept(server)
+        self.laws();
+        let Some(request) = self.waiting(server) else {
+            return Ok(None);
+        };
+        self.begin(request)?;
+        self.requests.take_oldest(server);
+        Ok(Some(request))
+    }
+
+    // What a request does to its session as it is accepted.
+    fn begin(&mut self, request: Request) -> Result<(), GrowFault>
+        requires there { IsTaken self.old.trading.sessions request.session }
+        requires level { request.ask ≡ ask.Upgrade → (session_at self.old.trading request.session).level < 3 }
+        ensures ok { OnOk result (Begins request.ask self.old.trading self.new.trading request.session) }
+        ensures nodes { self.new.nodes ≡ self.old.nodes }
+        ensures err { OnErr result (self.new ≡ self.old) }
+        ensures exceeded { IsErrOf result GrowFault.Exceeded ↔ LacksBytes request.ask self.old.trading request.session }
+        ensures caps_exceeded { IsErrOf result GrowFault.CapsExceeded ↔ LacksCaps request.ask self.old.trading request.session }
+    {
+        match request.ask {
+            Ask::Open => self.open(request.session),
+            Ask::Upgrade => {
+                self.raise(request.session);
+                Ok(())
+            }
+            Ask::Close | Ask::Call(_) => Ok(()),
+        }
+    }
+
+    // The session is accepted, with its object.
+    fn open(&mut self, session: usize) -> Result<(), GrowFault>
+        requires { IsTaken self.old.trading.sessions session }
+        ensures ok { OnOk result (Opens self.old.trading self.new.trading session) }
+        ensures nodes { self.new.nodes ≡ self.old.nodes }
+        ensures err { OnErr result (self.new ≡ self.old) }
+        ensures exceeded { IsErrOf result GrowFault.Exceeded ↔ LacksBytes ask.Open self.old.trading session }
+        ensures caps_exceeded { IsErrOf result GrowFault.CapsExceeded ↔ LacksCaps ask.Open self.old.trading session }
+    {
+        let old = self.between(session);
+        let object = self.make(old.server, old.service)?;
+        self.put_object(session, object);
+        Ok(())
+    }
+
+    // An object of a service, a slice that a leaf pays for.
+    fn make(&mut self, leaf: usize, service: usize) -> Result<Content, GrowFault>
+        requires leaf { IsLive self.old leaf }
+        requires service { service < length self.old.trading.objects }
+        ensures ok { IfOk result (λ t. Makes self.old.trading self.new.trading leaf (get_or self.old.trading.objects service 0) t) }
+        ensures nodes { self.new.nodes ≡ self.old.nodes }
+        ensures err { OnErr result (self.new ≡ self.old) }
+        ensures exceeded { IsErrOf result GrowFault.Exceeded
+            ↔ ((store_of self.old.trading leaf).left < up (get_or self.old.trading.objects service 0 + 32)) }
+        ensures caps_exceeded { IsErrOf result GrowFault.CapsExceeded
+            ↔ ((up (get_or self.old.trading.objects service 0 + 32) ≤ (store_of self.old.trading leaf).left)
+            × ((store_of self.old.trading leaf).caps ≡ Some 0)) }
+    {
+        let account = self.account_of(leaf);
+        let size = self.objects[service];
+        make_slice_for(&mut self.memory, account, size)
+    }
+
+    // A session is accepted, with this object.
+    fn put_object(&mut self, session: usize, object: Content)
+        requires { IsTaken self.old.trading.sessions session }
+        ensures { self.new ≡ with_trading self.old (with_session self.old.trading session (opened (session_at self.old.trading session) object)) }
+    {
+        let accepted = self.sessions.at_mut(session);
+        accepted.accepted = true;
+        accepted.object = object;
+    }
+
+    // The level of a session is one higher.
+    fn raise(&mut self, session: usize)
+        requires there { IsTaken self.old.trading.sessions session }
+        requires level { (session_at self.old.trading session).level < 3 }
+        ensures { self.new ≡ with_trading self.old (with_session self.old.trading session (raised (session_at self.old.trading session))) }
+    {
+        let raised = self.sessions.at_mut(session);
+        raised.level += 1;
     }
 
     /// Ends a session at the reply to its close: its object is freed, what was given for it goes back to its client, through every init on the way, and
@@ -222,8 +354,59 @@ impl Trades {
         ensures only { OnErr result ((session_at self.old.trading session).donation.ram ≤ bytes_then self.old.trading session
             → caps_then self.old.trading session < (session_at self.old.trading session).donation.caps) }
     {
-        self.sessions.laws();
-        self.sessions.closed(session)
+        let old = self.between(session);
+        self.can_return(&old)?;
+        self.free(old.server, old.object);
+        self.part(session);
+        Ok(())
+    }
+
+    // Whether the server of a session can give back what was given for it, once the session's object is freed.
+    fn can_return(&self, session: &Session) -> Result<(), AccountFault>
+        requires server { IsLive self.now session.now.server }
+        requires object { size_of session.now.object ≤ 67108864 }
+        ensures { IsAfforded result (available (its_account self.now.trading session.now.server) + up (size_of session.now.object + 32))
+            (available_caps (its_account self.now.trading session.now.server) + 1) session.now.donation }
+    {
+        let account = self.account_of(session.server);
+        let accounts = self.memory.accounts();
+        accounts.laws();
+        let price = price_slice(u64::from(session.object.size()));
+        if session.donation.ram.saturating_sub(price) > accounts.avail(account) {
+            return Err(AccountFault::Exceeded);
+        }
+        let caps = accounts.caps(account) - accounts.caps_used(account);
+        if session.donation.caps.saturating_sub(1) > caps {
+            return Err(AccountFault::CapsExceeded);
+        }
+        Ok(())
+    }
+
+    // Makes a slice free that a leaf has paid for.
+    fn free(&mut self, leaf: usize, slice: Content)
+        requires leaf { IsLive self.old leaf }
+        requires slice { IsSlice (store_of self.old.trading leaf) slice }
+        ensures frees { Frees self.old.trading self.new.trading leaf slice }
+        ensures nodes { self.new.nodes ≡ self.old.nodes }
+    {
+        let account = self.account_of(leaf);
+        free_slice_of(&mut self.memory, account, slice);
+    }
+
+    // What was given for a session goes back to its client, which its server has, and the number is free.
+    fn part(&mut self, session: usize)
+        requires there { IsTaken self.old.trading.sessions session }
+        requires none_waits { AreOfOthers session self.old.trading.requests }
+        requires enough { (session_at self.old.trading session).donation.ram
+            ≤ available (its_account self.old.trading (server_of self.old.trading session)) }
+        requires enough_caps { (session_at self.old.trading session).donation.caps
+            ≤ available_caps (its_account self.old.trading (server_of self.old.trading session)) }
+        ensures { self.new ≡ with_trading self.old (parted self.old.trading session) }
+    {
+        let old = self.between(session);
+        let (from, to) = self.givers(old.server, old.client);
+        self.memory.give(&self.tree, from, to, old.donation);
+        self.sessions.remove(session);
     }
 
     /// The session of a number that is taken.
@@ -232,7 +415,30 @@ impl Trades {
         requires { IsTaken self.now.trading.sessions session }
         ensures { result ≡ session_at self.now.trading session }
     {
-        self.sessions.session(session)
+        self.sessions.get(session)
+    }
+
+    // The session of a number that is taken: its client and server are live, and two leaves.
+    #[inline(always)]
+    fn between(&self, session: usize) -> Session
+        requires { IsTaken self.now.trading.sessions session }
+        ensures is { result ≡ session_at self.now.trading session }
+        ensures parties { AreParties self.now result }
+    {
+        self.sessions.get(session)
+    }
+
+    // The nodes of two live leaves, between which quota can go.
+    #[inline(always)]
+    fn givers(&self, from: usize, to: usize) -> (usize, usize)
+        requires from { IsLive self.now from }
+        requires to { IsLive self.now to }
+        requires apart { from ≡ to → ⊥ }
+        ensures from { result.0 ≡ node_of self.now.trading from }
+        ensures to { result.1 ≡ node_of self.now.trading to }
+        ensures can { CanGive self.now.trading.tree self.now.trading.memory.ledger.accounts result.0 result.1 }
+    {
+        (self.leaves[from], self.leaves[to])
     }
 
     /// What a slot of a session holds.
@@ -242,7 +448,7 @@ impl Trades {
         requires slot { slot < 8 }
         ensures { result ≡ get_or (session_at self.now.trading session).slots slot content.Empty }
     {
-        self.sessions.slot(session, slot)
+        self.sessions.at(session).slots[slot]
     }
 
     /// Puts something into an empty slot of a session.
@@ -253,8 +459,7 @@ impl Trades {
         ensures { self.new ≡ with_trading self.old
             (with_session self.old.trading session (with_slot (session_at self.old.trading session) slot contents)) }
     {
-        self.sessions.laws();
-        self.sessions.put(session, slot, contents);
+        self.set_slot(session, slot, contents);
     }
 
     /// Makes a slot of a session empty. What it held is not freed.
@@ -264,8 +469,18 @@ impl Trades {
         ensures { self.new ≡ with_trading self.old
             (with_session self.old.trading session (with_slot (session_at self.old.trading session) slot content.Empty)) }
     {
-        self.sessions.laws();
-        self.sessions.clear_slot(session, slot);
+        self.set_slot(session, slot, Content::Empty);
+    }
+
+    // Another content in a slot of a session.
+    fn set_slot(&mut self, session: usize, slot: usize, contents: Content)
+        requires there { IsTaken self.old.trading.sessions session }
+        requires slot { slot < 8 }
+        ensures { self.new ≡ with_trading self.old
+            (with_session self.old.trading session (with_slot (session_at self.old.trading session) slot contents)) }
+    {
+        let changed = self.sessions.at_mut(session);
+        changed.slots[slot] = contents;
     }
 
     /// Ends a leaf from which and to which there is no session: its account is closed, with all that it has in memory, and its quota of both kinds goes to
@@ -290,11 +505,13 @@ impl Trades {
         ensures nodes { self.new.nodes ≡ staged self.old.nodes (node_of self.old.trading leaf) Stage.Ended }
         ensures follower { IfSome (follower (node_of self.old.trading leaf) self.new.nodes) (λ i. CanStart self.new i) }
     {
-        self.sessions.laws();
-        self.sessions.memory().accounts().laws();
-        let node = self.sessions.node(leaf);
+        self.memory.accounts().laws();
+        let root = self.tree.account(0);
+        let node = self.leaves[leaf];
+        let account = self.tree.account(node);
         let old = self.nodes[node];
-        self.sessions.close(leaf);
+        self.memory.pay_by(root);
+        self.memory.close(account);
         self.nodes[node] = Node {
             stage: Stage::Ended,
             ..old
@@ -307,9 +524,9 @@ impl Trades {
         requires { CanStart self.old node }
         ensures { self.new ≡ started self.old (Some node) }
     {
-        self.sessions.laws();
         let old = self.nodes[node];
-        self.sessions.hand(node, old.quantum);
+        let init = self.tree.parent(node);
+        self.memory.give(&self.tree, init, node, old.quantum);
         self.nodes[node] = Node {
             stage: Stage::Live,
             ..old
@@ -321,7 +538,7 @@ impl Trades {
         requires { IsTaken self.now.trading.sessions session }
         ensures { result ≡ (session_at self.now.trading session).donation }
     {
-        self.sessions.session(session).donation
+        self.sessions.at(session).donation
     }
 
     /// How many upgrades of a session were accepted.
@@ -330,7 +547,7 @@ impl Trades {
         requires { IsTaken self.now.trading.sessions session }
         ensures { result ≡ (session_at self.now.trading session).level }
     {
-        self.sessions.session(session).level
+        self.sessions.at(session).level
     }
 
     /// Whether a node has its quantum.
@@ -347,7 +564,7 @@ impl Trades {
         ensures { result ≡ quota (λ n. n.ram) self.now.trading node }
     {
         let account = self.open_account(node);
-        self.sessions.memory().accounts().quota(account)
+        self.memory.accounts().quota(account)
     }
 
     /// The quota of a node that has not ended, in capabilities.
@@ -356,7 +573,7 @@ impl Trades {
         ensures { result ≡ quota (λ n. n.caps) self.now.trading node }
     {
         let account = self.open_account(node);
-        self.sessions.memory().accounts().caps(account)
+        self.memory.accounts().caps(account)
     }
 
     /// The bytes that a node, which has not ended, has in use: what its memory costs.
@@ -365,7 +582,7 @@ impl Trades {
         ensures { result ≡ use_of (λ n. n.ram) self.now.trading node }
     {
         let account = self.open_account(node);
-        self.sessions.memory().accounts().used(account)
+        self.memory.accounts().used(account)
     }
 
     /// The capabilities that a node, which has not ended, has in use; 0 where they are not counted.
@@ -374,24 +591,35 @@ impl Trades {
         ensures { result ≡ use_of (λ n. n.caps) self.now.trading node }
     {
         let account = self.open_account(node);
-        self.sessions.memory().accounts().caps_used(account)
+        self.memory.accounts().caps_used(account)
     }
 
     /// How many pages of 4096 bytes nobody has in use.
     pub fn free_pages(&self) -> u32
         ensures { result ≡ self.now.trading.memory.ledger.spaces.free }
     {
-        self.sessions.memory().accounts().free_pages()
+        self.memory.accounts().free_pages()
     }
 
     // The account of a node that has not ended, which is open.
+    #[inline(always)]
     fn open_account(&self, node: usize) -> AccountNo
         requires { HasAccount self.now node }
         ensures is { result.0 ≡ number self.now.trading.tree node }
         ensures open { IsOpen self.now.trading.memory.ledger.accounts result.0 }
     {
         let _nodes = &self.nodes;
-        self.sessions.account(node)
+        self.tree.account(node)
+    }
+
+    // The account of a live leaf, which is open.
+    #[inline(always)]
+    fn account_of(&self, leaf: usize) -> AccountNo
+        requires { IsLive self.now leaf }
+        ensures is { result ≡ account_no self.now.trading leaf }
+        ensures open { IsOpen self.now.trading.memory.ledger.accounts result.0 }
+    {
+        self.open_account(self.leaves[leaf])
     }
 
     /// Another leaf pays from now on: as a store, this has what its account has.
@@ -403,8 +631,8 @@ impl Trades {
           payer = account_no self.old.trading leaf;
         })) }
     {
-        self.sessions.laws();
-        self.sessions.pay_by(leaf);
+        let account = self.account_of(leaf);
+        self.memory.pay_by(account);
     }
 
     /// What holds in every `Trades`: the stored quota of each node is what it was handed and was given for sessions, less what it has lent and handed
@@ -422,7 +650,7 @@ impl Trades {
     pub fn memory(&self) -> &Memory
         ensures { result.now ≡ self.now.trading.memory }
     {
-        self.sessions.memory()
+        &self.memory
     }
 }
 
@@ -435,36 +663,36 @@ impl ByteStore for Trades {
     ghost same_rest = { SameButMemory };
 
     fn grow(&mut self, pages: u32) -> Result<ChunkNo, GrowFault> {
-        self.sessions.laws();
-        self.sessions.grow(pages)
+        let _open = self.memory.payer();
+        self.memory.grow(pages)
     }
 
     fn shrink(&mut self, chunk: ChunkNo) {
-        self.sessions.laws();
-        self.sessions.shrink(chunk);
+        let _open = self.memory.payer();
+        self.memory.shrink(chunk);
     }
 
     fn load(&self, chunk: ChunkNo, offset: u32) -> u8 {
-        self.sessions.load(chunk, offset)
+        self.memory.load(chunk, offset)
     }
 
     fn store(&mut self, chunk: ChunkNo, offset: u32, value: u8) {
-        self.sessions.laws();
-        self.sessions.store(chunk, offset, value);
+        let _open = self.memory.payer();
+        self.memory.store(chunk, offset, value);
     }
 
     fn load4(&self, chunk: ChunkNo, offset: u32) -> u32 {
-        self.sessions.load4(chunk, offset)
+        self.memory.load4(chunk, offset)
     }
 
     fn store4(&mut self, chunk: ChunkNo, offset: u32, value: u32) {
-        self.sessions.laws();
-        self.sessions.store4(chunk, offset, value);
+        let _open = self.memory.payer();
+        self.memory.store4(chunk, offset, value);
     }
 
     fn clear(&mut self, chunk: ChunkNo, offset: u32, size: u32) {
-        self.sessions.laws();
-        self.sessions.clear(chunk, offset, size);
+        let _open = self.memory.payer();
+        self.memory.clear(chunk, offset, size);
     }
 
     ghost use Rattle.gq_trade.specs.internal.Stored.{rest_refl as refl_of, rest_trans as trans_of};

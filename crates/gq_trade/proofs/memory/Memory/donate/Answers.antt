@@ -1,4 +1,8 @@
-use Rattle.gq_ram.specs.Trees.{number}
+use Rattle.std.proofs.Common.{subst}
+use Rattle.gq_ram.specs.Entries.{available, available_caps}
+use Rattle.gq_ram.specs.Trees.{account_of, number}
+use Rattle.gq_trade.specs.Giving.{IsAfforded}
+use Rattle.gq_trade.specs.Stores.{Memory}
 use Rattle.gq_trade.proofs.Donating.{open_after}
 use Rattle.gq_trade.proofs.memory.Memory.donate.Goals as goal
 
@@ -6,3 +10,10 @@ pub invariant_of-self : goal.invariant_of-self
 invariant_of-self c =
     open_after c.donate.result c.self.inside.accounts c.donate.new.accounts (number c.args.tree.now c.args.from) (number c.args.tree.now c.args.to)
     c.args.amount c.self.inside.payer.0 c.donate.ensures.moved c.donate.ensures.unchanged c.self.invariant
+
+pub returns-clause-afforded : goal.returns-clause-afforded
+returns-clause-afforded c =
+    let e = c.donate.ensures in
+    subst (λ (m : Memory). IsAfforded c.donate.result (available (account_of c.args.tree.now m.ledger c.args.from))
+    (available_caps (account_of c.args.tree.now m.ledger c.args.from)) c.args.amount) c.self.view_is
+    (record { enough = e.enough; enough_caps = e.enough_caps; exceeded = e.exceeded; caps_exceeded = e.caps_exceeded; only = e.only })

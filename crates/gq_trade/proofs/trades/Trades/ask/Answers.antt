@@ -1,27 +1,59 @@
-use Rattle.std.proofs.Common.{◌≡◌, refl, sym, ap, subst, ◌∙◌}
+use Rattle.std.proofs.Common.{◌≡◌, ◌<◌, length, ◌++◌, [], ◌∷◌, refl, sym, ap, subst, ◌∙◌}
+use Rattle.gq_ram.specs.Entries.{available, available_caps}
 use Rattle.gq_ram.specs.Ledgers.{IsBalanced}
-use Rattle.gq_trade.specs.Trades.{Trades, IsLive}
+use Rattle.gq_trade.specs.declared.requests.Ask.TheVariants.{Open}
+use Rattle.gq_trade.specs.internal.Fields.{Holds, trades_of}
+use Rattle.gq_trade.specs.Trading.{asked, entered, fresh, given, node_of}
+use Rattle.gq_trade.specs.Trades.{Trades, AreParties, IsLive, with_trading}
 use Rattle.gq_trade.specs.Waiting.{IsIdle}
-use Rattle.gq_trade.proofs.Inside.{trades_of}
-use Rattle.gq_trade.specs.Trading.{fresh}
-use Rattle.gq_trade.proofs.Kept.{asked_by, few_wait}
+use Rattle.gq_trade.proofs.Inside.{here}
+use Rattle.gq_trade.proofs.Holding.{asked_holds, enough_of, given_is, room_for_one}
 use Rattle.gq_trade.proofs.trades.Trades.ask.Goals as goal
 
-pub invariant_of-self : goal.invariant_of-self
-invariant_of-self c =
-    let w : Trades = trades_of c.self.inside in
+pub push-requires : goal.push-requires
+push-requires c =
+    let w : Trades = here c.self.inside in
     let v : w ≡ c.args.self.now = c.self.view_is in
-    let e = c.ask.ensures in
-    asked_by c.ask.result w c.ask.new.self (fresh c.args.client c.args.spot c.args.server c.args.service c.args.donation) c.self.invariant
-    c.laws.ensures.trading
-    (subst (λ (a : Trades). IsLive a c.args.client) (sym v) c.requires.client) (subst (λ (a : Trades). IsLive a c.args.server) (sym v) c.requires.server)
-    c.requires.apart (λ z. c.requires.counted (ap (λ (a : Trades). a.trading.memory.ledger.price) (sym v) ∙ z))
-    (subst (λ (a : Trades). IsIdle a.trading c.args.client) (sym v) c.requires.idle) refl
-    (subst IsBalanced (ap (λ m. m.ledger) c.memory.ensures) (subst IsBalanced c.accounts.ensures c.laws-2.ensures)) e.asked e.enough e.enough_caps e.unchanged
+    let x = c.args.client in
+    let live : IsLive w x = subst (λ (a : Trades). IsLive a x) (sym v) c.requires.client in
+    room_for_one w c.self.invariant x live.there (subst (λ (a : Trades). IsIdle a.trading x) (sym v) c.requires.idle)
 
-pub ask-requires-clause-few : goal.ask-requires-clause-few
-ask-requires-clause-few c =
-    let w : Trades = trades_of c.self.inside in
+pub invariant_of-self-2 : goal.invariant_of-self-2
+invariant_of-self-2 c =
+    let w : Trades = here c.self.inside in
     let v : w ≡ c.args.self.now = c.self.view_is in
-    few_wait w c.self.invariant c.laws.ensures.trading c.args.client (subst (λ (a : Trades). IsLive a c.args.client) (sym v) c.requires.client).there
-    (subst (λ (a : Trades). IsIdle a.trading c.args.client) (sym v) c.requires.idle)
+    let x = c.args.client in let y = c.args.server in
+    let s = fresh x c.args.spot y c.args.service c.args.donation in
+    let p : AreParties w s = record {
+      client = subst (λ (a : Trades). IsLive a x) (sym v) c.requires.client;
+      server = subst (λ (a : Trades). IsLive a y) (sym v) c.requires.server;
+      apart = c.requires.apart;
+      service = subst (λ (a : Trades). c.args.service < length a.trading.objects) (sym v) c.requires.service;
+      counted = λ z. c.requires.counted (ap (λ (a : Trades). a.trading.memory.ledger.price) (sym v) ∙ z);
+    } in
+    let e = c.in_ok-donate.ensures in
+    let i = c.givers-from.result.0 in
+    let from : i ≡ node_of w.trading x = c.givers-from.ensures.from ∙ ap (λ (a : Trades). node_of a.trading x) (sym v) in
+    let m : c.donate.new.self ≡ (given w.trading x y c.args.donation).memory =
+    given_is w.trading c.donate.new.self x y i c.givers-from.result.1 c.args.donation from
+    (c.givers-from.ensures.to ∙ ap (λ (a : Trades). node_of a.trading y) (sym v)) e.moved c.donate.ensures.payer in
+    let n = c.add-number.ensures in
+    let q : c.push.new.self ≡ (entered w.trading s).requests =
+    c.push.ensures ∙ ap (λ k. w.trading.requests ++ record { session = k; server = y; ask = Open } ∷ []) n.number in
+    let is : trades_of c.donate.new.self w.trading.tree w.trading.leaves w.trading.objects c.add-number.new.self c.push.new.self w.nodes
+    ≡ with_trading w (asked w.trading s) =
+    λ t. record {
+      trading = record {
+        memory = m t;
+        tree = w.trading.tree;
+        leaves = w.trading.leaves;
+        objects = w.trading.objects;
+        sessions = n.added t;
+        room = n.same_room t;
+        requests = q t;
+      };
+      nodes = w.nodes;
+    } in
+    subst Holds (sym is) (asked_holds w c.self.invariant s p (enough_of w.trading x i c.args.donation.ram available from e.afforded.enough)
+    (enough_of w.trading x i c.args.donation.caps available_caps from e.afforded.enough_caps)
+    (subst (λ (a : Trades). IsIdle a.trading x) (sym v) c.requires.idle) refl (subst IsBalanced c.accounts.ensures c.laws.ensures))

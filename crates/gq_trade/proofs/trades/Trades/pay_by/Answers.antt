@@ -1,18 +1,15 @@
-use Rattle.std.proofs.Common.{rules}
-use Rattle.std.proofs.Common.{sym, subst}
-use Rattle.gq_trade.specs.Trades.{Trades, IsTrades, with_trading}
-use Rattle.gq_trade.proofs.Inside.{trades_of}
+use Rattle.std.proofs.Common.{◌≡◌, sym, ap, subst}
+use Rattle.gq_ram.specs.Entries.{IsOpen}
+use Rattle.gq_trade.specs.Stores.{Memory}
+use Rattle.gq_trade.specs.Trades.{Trades}
+use Rattle.gq_trade.proofs.Inside.{here}
+use Rattle.gq_trade.proofs.Holding.{payer_holds}
 use Rattle.gq_trade.proofs.trades.Trades.pay_by.Goals as goal
 
 pub invariant_of-self : goal.invariant_of-self
 invariant_of-self c =
-    let w : Trades = trades_of c.self.inside in
-    let h = c.self.invariant in
-    subst (λ y. IsTrades (with_trading w y)) (sym c.pay_by.ensures)
-    (record { uncounted = h.uncounted; settled = h.settled; sessions = h.sessions; few = h.few; asks = h.asks; given = h.given; even = h.even })
-
-pub pay_by-requires-clause-open : goal.pay_by-requires-clause-open
-pay_by-requires-clause-open c = search rules
-
-pub returns : goal.returns
-returns c = search rules
+    let w : Trades = here c.self.inside in
+    let v : w ≡ c.args.self.now = c.self.view_is in
+    let a = c.account_of-account.result in
+    payer_holds w c.self.invariant c.pay_by.new.self a (ap (λ (m : Memory). m.ledger) c.pay_by.ensures)
+    (subst (λ (t : Trades). IsOpen t.trading.memory.ledger.accounts a.0) (sym v) c.account_of-account.ensures.open)

@@ -1,5 +1,14 @@
-use Rattle.std.proofs.Common.{rules}
+use Rattle.std.proofs.Common.{◌≡◌, IfSome, subst}
+use Rattle.gq_trade.specs.Numbers.{IsTaken}
+use Rattle.gq_trade.specs.Trading.{server_of}
+use Rattle.gq_trade.specs.Trades.{Trades}
+use Rattle.gq_trade.proofs.Inside.{here}
+use Rattle.gq_trade.proofs.Sessions_kept.{its_oldest}
 use Rattle.gq_trade.proofs.trades.Trades.waiting.Goals as goal
 
-pub returns-clause-none : goal.returns-clause-none
-returns-clause-none c = search rules
+pub returns-clause-its : goal.returns-clause-its
+returns-clause-its c =
+    let w : Trades = here c.self.inside in
+    let v : w ≡ c.args.self.now = c.self.view_is in
+    subst (λ (x : Trades). IfSome c.oldest.result (λ r. IsTaken x.trading.sessions r.session × (server_of x.trading r.session ≡ c.args.server))) v
+    (its_oldest w.trading.sessions c.args.server w.trading.requests c.oldest.result c.self.invariant.trading.requests c.oldest.ensures.some)

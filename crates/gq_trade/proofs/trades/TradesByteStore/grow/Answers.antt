@@ -1,6 +1,11 @@
-use Rattle.gq_trade.proofs.Inside.{trades_of}
-use Rattle.gq_trade.proofs.Kept.{rest_kept}
+use Rattle.std.proofs.Common.{subst}
+use Rattle.gq_ram.specs.Entries.{IsOpen}
+use Rattle.gq_ram.specs.declared.account.AccountNo.{AccountNo}
+use Rattle.gq_trade.proofs.Inside.{here}
+use Rattle.gq_trade.proofs.Holding.{rest_holds}
 use Rattle.gq_trade.proofs.trades.TradesByteStore.grow.Goals as goal
 
 pub invariant_of-self : goal.invariant_of-self
-invariant_of-self c = rest_kept (trades_of c.self.inside) c.grow.new.self c.self.invariant c.laws.ensures.trading c.grow.ensures.rest
+invariant_of-self c =
+    rest_holds (here c.self.inside) c.self.invariant c.grow.new.self c.grow.ensures.rest
+    (subst (λ (a : AccountNo). IsOpen c.self.inside.memory.ledger.accounts a.0) c.payer-open.ensures.is c.payer-open.ensures.open)
