@@ -4,8 +4,10 @@
 A case is a folder, named by what it shows. It has
   scenario.toml   the scenario,
   turns           the turns; without the file there are none,
-  command         `run`, `check`, or `asm LEAF`, or `stored` for the scenario and the turns in one text on standard input, or
-                  `unverified` for a run with tests by the program `unverified`, where it is built, in place of PROGRAM,
+  command         a command of the program without its files, as `run`, `check`, `asm LEAF` or `tree --dot`: they stand right behind
+                  its first word, or the scenario's where a word is SCENARIO; or `stored` for the scenario and the turns in one
+                  text on standard input, or `unverified` for a run with tests by the program `unverified`, where it is built,
+                  in place of PROGRAM,
   stdout, stderr, status   what the program has to write, and the exit status that it has to end with,
   length          where it is there: the number of bytes to which the scenario is filled up with number signs, which
                   a comment in its last line is made of.
@@ -49,6 +51,14 @@ def scenario_of(folder):
     return text.ljust(int(length), b"#") if length else text
 
 
+def words_of(command, files):
+    """The words of a command of a case, with the files of its scenario and its turns."""
+    name, *more = command.split(" ")
+    if "SCENARIO" in more:
+        return [name, *(str(files[0]) if word == "SCENARIO" else word for word in more)]
+    return [name, *map(str, files if name == "run" else files[:1]), *more]
+
+
 def result_of(program, command, scenario, turns):
     """What a run writes to both streams, and its exit status. A command that is a list has the words as they are."""
     with tempfile.TemporaryDirectory() as room:
@@ -61,9 +71,7 @@ def result_of(program, command, scenario, turns):
         elif command == "unverified":
             program, words = str(UNVERIFIED), list(map(str, paths))
         elif isinstance(command, str):
-            name, *more = command.split(" ")
-            files = paths if name == "run" else paths[:1]
-            words = [name, *map(str, files), *more]
+            words = words_of(command, paths)
         ran = subprocess.run([program, *words], input=given, capture_output=True, timeout=SECONDS)
     return ran.stdout, ran.stderr, ran.returncode
 

@@ -3,13 +3,14 @@
 
 Standard output is a full device, or a pipe whose reader closes it after some bytes. The program then has to tell `trade: file fault` and to end with
 status 4, and what the reader has got is a front of what the run writes where all is written. The runs are those of the examples, and one of 200,000 lines,
-which is longer than a pipe holds. The last line is 'N passed, M failed', and the exit status is 1 where a run failed.
+which is longer than a pipe holds; and so are tried the other commands, over each example, and those that read nothing. The last line is 'N passed, M failed', and the exit status is 1 where a run failed.
 """
 import os
 import pathlib
 import subprocess
 import sys
 import tempfile
+import tomllib
 
 TOP = pathlib.Path(__file__).resolve().parent.parent
 EXAMPLES = TOP / "examples"
@@ -33,6 +34,23 @@ end
 end
 """
 '''
+
+
+def first_leaf(nodes):
+    """The name of a leaf below these nodes."""
+    return first_leaf(nodes[0]["start"]) if "start" in nodes[0] else nodes[0]["name"]
+
+
+def commands():
+    """The name and the words of each command that is no run: over each example, and without one."""
+    for scenario in sorted(EXAMPLES.glob("*.toml")):
+        leaf = first_leaf(tomllib.loads(scenario.read_text())["start"])
+        for words in (["check"], ["tree"], ["tree", "--dot"]):
+            yield f"{' '.join(words)} of {scenario.name}", [*words, str(scenario)]
+        for word in ("asm", "list"):
+            yield f"{word} of {leaf} of {scenario.name}", [word, str(scenario), leaf]
+    for words in (["rule"], ["rule", "V12"], ["--version"], ["--help"]):
+        yield " ".join(words), words
 
 
 def whole(program, words):
@@ -69,6 +87,11 @@ def results(program, room):
         words = ["run", str(scenario), str(scenario.with_suffix(".turns"))]
         yield f"{scenario.name} to a full device", FAULT, to_full_device(program, words)
         yield f"{scenario.name} to a closed pipe", (b"", FAULT), to_closed_pipe(program, words, 0)
+    for name, words in commands():
+        text = whole(program, words)
+        yield f"{name}, whole", True, bool(text)
+        yield f"{name} to a full device", FAULT, to_full_device(program, words)
+        yield f"{name} to a closed pipe", (b"", FAULT), to_closed_pipe(program, words, 0)
     scenario, turns = room / "long.toml", room / "turns"
     scenario.write_text(LONG)
     turns.write_text(f"a {3 * LINES + 10}\n")

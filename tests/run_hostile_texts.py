@@ -1,13 +1,14 @@
 #!/usr/bin/env python3
-"""Hands texts of any bytes to `trade check` and `trade run`: run_hostile_texts.py PROGRAM
+"""Hands texts of any bytes to `trade check`, `run`, `tree` and `list`: run_hostile_texts.py PROGRAM
 
 Long, deep and broken texts have to be refused with the line that is told beside each; texts made of a scenario by random changes, always the same
-ones, have to be done or refused. A refusal is one line on standard error, with nothing on standard output and exit status 1. The program may take
+ones, have to be done or refused, by `check` and by `tree` with the same line. A refusal is one line on standard error, with nothing on standard output and exit status 1. The program may take
 no more memory than 64 MiB and 50 times the text; 640 times, where the text is one of tables that have one key each, since the TOML reader takes room for
 fifteen keys for each table. The last line is 'N passed, M failed', and the exit status is 1 where one failed.
 """
 import pathlib
 import random
+import re
 import resource
 import subprocess
 import sys
@@ -95,7 +96,7 @@ def result_of(program, words, room, text, times=TIMES):
     turns = room / "turns"
     turns.write_bytes(b"")
     most = 64 * 2**20 + times * len(text)
-    files = [str(path)] + ([str(turns)] if words == ["run"] else [])
+    files = [str(path)] + ([str(turns)] if words == ["run"] else []) + (["a"] if words == ["list"] else [])
     ran = subprocess.run(
         [program, *words, *files],
         capture_output=True,
@@ -116,6 +117,12 @@ def is_done(stdout, stderr, status):
     return status == 0 and not stderr and all(line.startswith(b"budget init -> ") for line in stdout.splitlines())
 
 
+def is_tree(stdout, stderr, status):
+    """A tree that is done: the root's line, and below it those of nodes and of what leaves open."""
+    first, *others = stdout.splitlines()
+    return status == 0 and not stderr and first.startswith(b"init quantum ") and all(re.match(rb" {2,}([\w-]+ quantum|opens [\w-]+ of init -> )", line) for line in others)
+
+
 def main():
     program = sys.argv[1]
     passed = failed = 0
@@ -123,23 +130,23 @@ def main():
         room = pathlib.Path(folder)
         given = [(text, TIMES) for text in texts()] + [(text, TIMES_OF_TABLES) for text in tables()]
         for (name, text, line), times in given:
-            for words in (["check"], ["run"]):
+            for words in (["check"], ["run"], ["tree"], ["tree", "--dot"], ["list"]):
                 got = result_of(program, words, room, text, times)
                 if got == (b"", f"trade: {line}\n".encode(), 1):
                     passed += 1
                 else:
                     failed += 1
-                    print(f"FAILED {words[0]} of {name}: {got[0][:100]} {got[1][:200]} {got[2]}")
+                    print(f"FAILED {' '.join(words)} of {name}: {got[0][:100]} {got[1][:200]} {got[2]}")
         source = random.Random(1)
         samples = sorted((TOP / "tests" / "cases").glob("check-*/scenario.toml"))
         for _ in range(CHANGES):
             text = changed(source.choice(samples).read_bytes(), source)
-            got = result_of(program, ["check"], room, text)
-            if is_refusal(*got) or is_done(*got):
+            got, tree = (result_of(program, [word], room, text) for word in ("check", "tree"))
+            if is_refusal(*got) and tree == got or is_done(*got) and is_tree(*tree):
                 passed += 1
             else:
                 failed += 1
-                print(f"FAILED check of {text!r}: {got}")
+                print(f"FAILED check and tree of {text!r}: {got}, {tree}")
     print(f"{passed} passed, {failed} failed")
     sys.exit(1 if failed else 0)
 

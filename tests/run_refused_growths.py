@@ -2,7 +2,7 @@
 """Refuses each growth of host memory of a run in turn: run_refused_growths.py PROGRAM BENCHMARK
 
 The runs are that of each example, with paths and in the stored form, and those of a few cases: a program given as code, the budgets
-of a scenario, and the code of a leaf. For each growth that the run asks for, one after the
+of a scenario, its tree and its graph, the code of a leaf, and its program as text; and those that read no file: what a code means, and the version. For each growth that the run asks for, one after the
 other, the program is run with that growth refused. It then has to write nothing to standard output, to tell
 `trade: host memory refused`, and to end with status 3. With none refused it has to write the text of the example or the case.
 
@@ -20,11 +20,18 @@ import pathlib
 import subprocess
 import sys
 import tempfile
+import tomllib
 
 TOP = pathlib.Path(__file__).resolve().parent.parent
+sys.path.insert(0, str(TOP / "tests"))
+sys.dont_write_bytecode = True
+from run_cases import tabled  # noqa: E402
+
 EXAMPLES = TOP / "examples"
 CASES = TOP / "tests" / "cases"
 SOME_CASES = "code-run", "check-two-leaves", "check-client-and-server", "check-two-inits-deep", "asm-hello", "asm-code-in-capitals"
+OF_DESIGNERS = "list-every-statement", "list-a-program-given-as-code", "tree-inits", "graph-inits", "tree-version-2", "graph-a-leaf-after-another"
+RULES = TOP / "tests" / "tables" / "rule.toml"
 SOURCE = TOP / "tests" / "refuse_growth.c"
 SECONDS = 120
 REFUSED = b"", b"trade: host memory refused\n", 3
@@ -55,7 +62,11 @@ def runs():
         text = scenario.with_suffix(".out").read_bytes()
         yield f"{scenario.name} by paths", ["run", str(scenario), str(turns)], b"", text
         yield f"{scenario.name} stored", [], scenario.read_bytes() + b"%%\n" + turns.read_bytes(), text
-    for name in SOME_CASES:
+    for words, _, _, (text, _, status) in tabled(tomllib.loads(RULES.read_text())):
+        if status == 0:
+            yield " ".join(words), words, b"", text
+    yield "--version", ["--version"], b"", b"trade 1.0.0\n"
+    for name in SOME_CASES + OF_DESIGNERS:
         case = CASES / name
         command, *more = (case / "command").read_text().split()
         files = [str(case / "scenario.toml")] + ([str(case / "turns")] if command == "run" else [])

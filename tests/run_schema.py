@@ -26,7 +26,7 @@ sys.dont_write_bytecode = True
 from run_cases import cases  # noqa: E402
 
 SCHEMA = TOP / "docs" / "scenario.schema.json"
-READING = "check", "run", "stored", "asm", "unverified"
+READING = "check", "run", "stored", "asm", "list", "tree", "unverified"
 
 # Cases that the program refuses by a value that a schema can't see, and why it can't.
 UNDECLARED = "a schema compares no value with the names of other tables"

@@ -15,7 +15,7 @@ import tempfile
 TOP = pathlib.Path(__file__).resolve().parent.parent
 sys.path[:0] = [str(TOP / "tests"), str(TOP / "tools")]
 sys.dont_write_bytecode = True
-from run_cases import cases  # noqa: E402
+from run_cases import cases, words_of  # noqa: E402
 from unproved import NO_ANSWER, NOTE  # noqa: E402
 
 MOST_OUTPUT = 1 << 20
@@ -49,8 +49,7 @@ def put_case(room, name, command, scenario, turns):
     if command == "stored":
         words, given = [], scenario + (b"%%\n" + turns if turns else b"")
     elif isinstance(command, str):
-        first, *more = command.split(" ")
-        words = [first, *map(str, files if first == "run" else files[:1]), *more]
+        words = words_of(command, files)
     (room / "cases" / name).write_bytes(given)
     (room / "cases" / f"{name}.args").write_text("".join(f"{word}\n" for word in words))
     return words, given
@@ -103,6 +102,10 @@ def compare_calls(program, copy, room):
         (["run", "examples/echo.toml", "examples/echo.turns"], b""),
         (["run", "examples/../examples/hello.toml", str(TOP / "examples" / "hello.turns")], b""),
         (["asm", "examples/hello.toml", "hello"], b""),
+        (["list", "examples/hello.toml", "hello"], b""),
+        (["tree", "--dot", "examples/inits.toml"], b""),
+        (["rule", "v12"], b""),
+        (["--version"], b""),
         (["check", "examples/none.toml"], b""),
         (["run", "--help"], b""),
         (["walk"], b""),

@@ -1,25 +1,29 @@
--- Inputs that were read, and what their run is to write.
-use Rattle.std.proofs.Common.{◌≡◌, List, ℕ, Option, Err, Global, subst}
+-- Inputs that were read, and what is asked of them.
+use Rattle.std.proofs.Common.{◌≡◌, List, ℕ, Option, Ok, Err, Global, option_map, refl, subst}
 use Rattle.std.specs.Prelude.{String, string_bytes}
 use Rattle.gq_world.specs.Outcomes.{IsCutShort}
 use Rattle.gq_cli.specs.declared.execute.Fault.{Fault}
 use Rattle.gq_cli.specs.declared.execute.Fault.TheVariants.{Refused, Write}
 use Rattle.gq_cli.specs.Ends.{Ended, IsKnown}
 use Rattle.gq_command.specs.declared.command.Command.{Command}
-use Rattle.gq_command.specs.declared.command.Command.TheVariants.{Check, Run, Asm, Stored, Help}
+use Rattle.gq_command.specs.declared.command.Command.TheVariants.{OfScenario, OfLeaf, OfTurns, Rule, Version, Stored, Help}
+use Rattle.gq_command.specs.declared.command.TurnsCommand.{TurnsCommand}
+use Rattle.gq_command.specs.declared.command.TurnsCommand.TheVariants.{Run}
 use Rattle.gq_init.specs.declared.counted.Counted.{Counted}
+use Rattle.gq_rule_texts.specs.Rules.{Table}
 use Rattle.gq_command.specs.Stored.{parted}
-use Rattle.gq_cli.specs.Executed.{Asked, Check_of, Run_of, Asm_of, Text_of, Executes, IsInput, IsRefusal, IsTold, RunsFiles, written_of}
+use Rattle.gq_cli.specs.Executed.{Asked, Of_scenario, Of_leaf, Of_both, Of_nothing, Executes, IsInput, IsRefusal, IsTold, ReadsBoth, rules_written}
+use Rattle.gq_cli.specs.Executed.{version_written, written_of}
 
-module _ (scenario scenario_left turns turns_left : Option (List ℕ)) (holds : Asked → Type 0) where
-  pub runs_files : (s t s' t' : List ℕ) → IsInput scenario scenario_left s → IsInput turns turns_left t → s' ≡ s → t' ≡ t → holds (Run_of s' t')
-      → RunsFiles scenario scenario_left turns turns_left holds
-  runs_files s t s' t' a b e f h = record {
+module _ (scenario scenario_left turns turns_left : Option (List ℕ)) (asked : List ℕ → List ℕ → Asked) (holds : Asked → Type 0) where
+  pub reads_both : (s t s' t' : List ℕ) → IsInput scenario scenario_left s → IsInput turns turns_left t → s' ≡ s → t' ≡ t → holds (asked s' t')
+      → ReadsBoth scenario scenario_left turns turns_left asked holds
+  reads_both s t s' t' a b e f h = record {
     scenario_text = s;
     turns_text = t;
     scenario_read = a;
     turns_read = b;
-    so = subst (λ x. holds (Run_of s x)) f (subst (λ x. holds (Run_of x t')) e h);
+    so = subst (λ x. holds (asked s x)) f (subst (λ x. holds (asked x t')) e h);
   }
 
 -- after a failed write a front of the text was written
@@ -28,29 +32,38 @@ pub cut_short : (A : Type 0) (E : (Asked → Type 0) → Type 0) (f : Fault) (be
 cut_short A E f before after e h = subst (λ x. IsKnown {A = A} (Err x) → E (Ended {A = A} (Err x) before after)) e h (tt {0})
 
 -- what holds of all that is asked holds of what a command asks
-pub executes_by : (command : Command) (scenario scenario_left turns turns_left : Option (List ℕ)) (P Q : Asked → Type 0) → ((asked : Asked) → P asked → Q asked)
-    → Executes command scenario scenario_left turns turns_left P → Executes command scenario scenario_left turns turns_left Q
-executes_by (Check s) scenario scenario_left turns turns_left P Q so h = record { text = h.text; read = h.read; so = so (Check_of h.text) h.so }
-executes_by (Run s t) scenario scenario_left turns turns_left P Q so h = record {
+pub executes_by : (table : Table) (command : Command) (scenario scenario_left turns turns_left : Option (List ℕ)) (P Q : Asked → Type 0)
+    → ((asked : Asked) → P asked → Q asked)
+    → Executes table command scenario scenario_left turns turns_left P → Executes table command scenario scenario_left turns turns_left Q
+executes_by table (OfScenario command s) scenario scenario_left turns turns_left P Q so h =
+    record { text = h.text; read = h.read; so = so (Of_scenario command h.text) h.so }
+executes_by table (OfLeaf command s leaf) scenario scenario_left turns turns_left P Q so h =
+    record { text = h.text; read = h.read; so = so (Of_leaf command h.text (string_bytes leaf)) h.so }
+executes_by table (OfTurns command s t) scenario scenario_left turns turns_left P Q so h = record {
   scenario_text = h.scenario_text;
   turns_text = h.turns_text;
   scenario_read = h.scenario_read;
   turns_read = h.turns_read;
-  so = so (Run_of h.scenario_text h.turns_text) h.so;
+  so = so (Of_both command h.scenario_text h.turns_text) h.so;
 }
-executes_by (Asm s leaf) scenario scenario_left turns turns_left P Q so h =
-    record { text = h.text; read = h.read; so = so (Asm_of h.text (string_bytes leaf)) h.so }
-executes_by Stored scenario scenario_left turns turns_left P Q so h =
-    record { text = h.text; read = h.read; so = so (Run_of (parted h.text).0 (parted h.text).1) h.so }
-executes_by (Help text) scenario scenario_left turns turns_left P Q so h = so (Text_of (string_bytes text)) h
+executes_by table Stored scenario scenario_left turns turns_left P Q so h =
+    record { text = h.text; read = h.read; so = so (Of_both Run (parted h.text).0 (parted h.text).1) h.so }
+executes_by table (Rule code) scenario scenario_left turns turns_left P Q so h = so (Of_nothing (rules_written table (option_map string_bytes code))) h
+executes_by table Version scenario scenario_left turns turns_left P Q so h = so (Of_nothing version_written) h
+executes_by table (Help text) scenario scenario_left turns turns_left P Q so h = so (Of_nothing (Ok (string_bytes text))) h
 
 -- where the texts are refused, the line that says why was told
-pub refused_told : (A : Type 0) {E : Type 0} (contents : E → Option (List ℕ)) (old new : Counted E) (command : Command)
+pub refused_told : (A : Type 0) {E : Type 0} (contents : E → Option (List ℕ)) (old new : Counted E) (table : Table) (command : Command)
     (scenario scenario_left turns turns_left : Option (List ℕ)) (f : Fault) (line : String Global) (before after : Option (List ℕ)) → f ≡ Refused line
-    → (IsKnown {A = A} (Err f) → Executes command scenario scenario_left turns turns_left (Ended {A = A} (Err f) before after))
+    → (IsKnown {A = A} (Err f) → Executes table command scenario scenario_left turns turns_left (Ended {A = A} (Err f) before after))
     → IsTold contents old new (string_bytes line)
-    → Executes command scenario scenario_left turns turns_left (λ asked. IsRefusal contents asked old new)
-refused_told A contents old new command scenario scenario_left turns turns_left f line before after e h told =
-    executes_by command scenario scenario_left turns turns_left (Ended {A = A} (Err (Refused line)) before after) (λ asked. IsRefusal contents asked old new)
+    → Executes table command scenario scenario_left turns turns_left (λ asked. IsRefusal contents asked old new)
+refused_told A contents old new table command scenario scenario_left turns turns_left f line before after e h told =
+    executes_by table command scenario scenario_left turns turns_left (Ended {A = A} (Err (Refused line)) before after)
+    (λ asked. IsRefusal contents asked old new)
     (λ asked r. record { line = string_bytes line; refused = r; told = told })
-    (subst (λ x. IsKnown {A = A} (Err x) → Executes command scenario scenario_left turns turns_left (Ended {A = A} (Err x) before after)) e h (tt {0}))
+    (subst (λ x. IsKnown {A = A} (Err x) → Executes table command scenario scenario_left turns turns_left (Ended {A = A} (Err x) before after)) e h (tt {0}))
+
+-- what is asked of a scenario and turns is their run
+pub is_run : (command : TurnsCommand) → command ≡ Run
+is_run Run = refl

@@ -19,7 +19,8 @@ use Rattle.gq_world.specs.declared.fault.RunFault.{RunFault}
 use Rattle.gq_world.specs.declared.fault.RunFault.TheVariants as faults
 use Rattle.gq_world.proofs.Whole.{load_is, promised}
 use Rattle.gq_cli.specs.Ends.{Ended, IsKnown, IsUnread}
-use Rattle.gq_cli.specs.Executed.{ReadsText, Run_of}
+use Rattle.gq_cli.specs.Executed.{ReadsText, Of_both}
+use Rattle.gq_command.specs.declared.command.TurnsCommand.TheVariants.{Run}
 use Rattle.gq_cli.specs.declared.execute.Fault.{Fault}
 use Rattle.gq_cli.specs.declared.execute.Fault.TheVariants.{Refused, Memory, Read, Write}
 use Rattle.gq_cli.specs.internal.Running.{EndsAs, HasCome, ReadsTurns}
@@ -96,7 +97,7 @@ module _ (scenario : List ℕ) (s : Scenario) (load : loaded scenario ≡ Ok s) 
   runs text = ap (λ l. with_scenario l (λ r. written_turns r (turned (components r) text))) load
 
   pub ended_as : {A : Type 0} (text : List ℕ) (r : Result A Fault) (before after : Option (List ℕ)) → EndsAs s text r before after
-      → Ended r before after (Run_of scenario text)
+      → Ended r before after (Of_both Run scenario text)
   ended_as text (Ok u) before after h = record { text = h.text; given = runs text ∙ h.given; written = h.written }
   ended_as text (Err (Refused line)) before after h = runs text ∙ h
   ended_as text (Err Memory) before after h = absurd h

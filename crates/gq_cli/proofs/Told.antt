@@ -11,7 +11,7 @@ use Rattle.gq_world.specs.Whole.{Written, refused_with, run_written}
 use Rattle.gq_world.specs.declared.fault.RunFault.{RunFault}
 use Rattle.gq_world.specs.declared.fault.RunFault.TheVariants as faults
 use Rattle.gq_cli.specs.Ends.{Ended, IsKnown, IsSilent, IsToldAs, LeavesWriter}
-use Rattle.gq_cli.specs.Executed.{Asked, ReadsText, Asm_of, Check_of, IsRefusedBy, Run_of, Text_of, written_of}
+use Rattle.gq_cli.specs.Executed.{Asked, ReadsText, written_of}
 use Rattle.gq_cli.specs.declared.execute.Fault.{Fault}
 use Rattle.gq_cli.specs.declared.execute.Fault.TheVariants.{Refused, Memory, Read, Write}
 use Rattle.gq_cli.specs.internal.Running.{ReadsTurns, RefusesAs}
@@ -25,16 +25,10 @@ refused_line w (faults.Turns f k) line h m u e = h ∙ ap Err (sym e)
 refused_line w faults.Memory line h m u e = absurd (m refl)
 refused_line w faults.Write line h m u e = absurd (u refl)
 
-refused_as : (asked : Asked) (line : List ℕ) → written_of asked ≡ Err line → IsRefusedBy asked line
-refused_as (Check_of scenario) line e = e
-refused_as (Run_of scenario turns) line e = e
-refused_as (Asm_of scenario leaf) line e = e
-refused_as (Text_of text) line e = cc e
-
 ends : (asked : Asked) (before after : Option (List ℕ)) (f : RunFault) (r : Fault) → IsToldAs f r → IsFaultOf f (written_of asked)
     → (f ≡ faults.Write → IsCutShort (written_of asked) before after) → IsKnown {A = Unit {0}} (Err r) → Ended {A = Unit {0}} (Err r) before after asked
 ends asked before after f (Refused line) told h cut known =
-    refused_as asked (string_bytes line) (refused_line (written_of asked) f (string_bytes line) h told.0 told.1 told.2)
+    refused_line (written_of asked) f (string_bytes line) h told.0 told.1 told.2
 ends asked before after f Memory told h cut known = absurd known
 ends asked before after f Read told h cut known = absurd known
 ends asked before after f Write told h cut known = cut told

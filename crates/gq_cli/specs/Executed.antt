@@ -1,33 +1,46 @@
 -- What a command does: what it reads, writes and tells.
-use Rattle.std.specs.Prelude.{◌≡◌, ◌⊎◌, ℕ, ◌≤◌, Bool, true, false, List, [], length, Option, Ok, Err, codes, string_bytes}
+use Rattle.std.specs.Prelude.{◌≡◌, ◌⊎◌, ℕ, ◌≤◌, Bool, true, false, List, [], ◌++◌, length, Option, Some, None, option_map, Ok, Err, codes, string_bytes}
 use Rattle.std.specs.Io.KnownBytes.{Appends, Consumes, IsAtEnd}
 use Rattle.gq_init.specs.declared.counted.Counted.{Counted}
 use Rattle.gq_init.specs.Counts.{written_to, failures_of}
 use Rattle.gq_init.specs.Writes.{IsFront, IsRaised}
 use Rattle.gq_world.specs.Whole.{Written, refused_with, run_written, check_written, asm_written}
 use Rattle.gq_world.specs.Headline.{WritesPromised}
+use Rattle.gq_views.specs.Written.{list_written, tree_written, graph_written}
+use Rattle.gq_rule_texts.specs.declared.table.Rule.{Rule as RuleText}
+use Rattle.gq_rule_texts.specs.Rules.{Table, lines_of_all, rule_of}
 use Rattle.gq_command.specs.Stored.{parted}
 use Rattle.gq_command.specs.declared.command.Command.{Command}
-use Rattle.gq_command.specs.declared.command.Command.TheVariants.{Check, Run, Asm, Stored, Help}
+use Rattle.gq_command.specs.declared.command.Command.TheVariants.{OfScenario, OfLeaf, OfTurns, Rule, Version, Stored, Help}
+use Rattle.gq_command.specs.declared.command.ScenarioCommand.{ScenarioCommand}
+use Rattle.gq_command.specs.declared.command.ScenarioCommand.TheVariants.{Check, Tree, Graph}
+use Rattle.gq_command.specs.declared.command.LeafCommand.{LeafCommand}
+use Rattle.gq_command.specs.declared.command.LeafCommand.TheVariants as of_a_leaf
+use Rattle.gq_command.specs.declared.command.TurnsCommand.{TurnsCommand}
+use Rattle.gq_command.specs.declared.command.TurnsCommand.TheVariants.{Run}
 use Rattle.gq_command.specs.declared.status.Status.{Status}
 use Rattle.gq_command.specs.declared.status.Status.TheVariants.{Done, Refused, BadCommandLine, HostMemory, FileFault}
 
 -- READING
 
--- help is shown without reading, and the turns are read apart from the scenario only where they have a file of their own
+-- what a code means, the version and help are told without reading
 abbrev pub reads_scenario : Command → Bool
-reads_scenario (Check scenario) = true
-reads_scenario (Run scenario turns) = true
-reads_scenario (Asm scenario leaf) = true
-reads_scenario Stored = true
+reads_scenario (Rule code) = false
+reads_scenario Version = false
 reads_scenario (Help text) = false
+reads_scenario _ = true
 
+-- the turns are read apart from the scenario only where they have a file of their own
 abbrev pub reads_turns : Command → Bool
-reads_turns (Check scenario) = false
-reads_turns (Run scenario turns) = true
-reads_turns (Asm scenario leaf) = false
-reads_turns Stored = false
-reads_turns (Help text) = false
+reads_turns (OfTurns command scenario turns) = true
+reads_turns _ = false
+
+-- what is told without reading is never refused, but for a code that no rule has
+abbrev pub is_never_refused : Command → Bool
+is_never_refused (Rule None) = true
+is_never_refused Version = true
+is_never_refused (Help text) = true
+is_never_refused _ = false
 
 -- a reader was read to its end, and the text is all that it had left: at most 18 MiB
 pub record IsInput (old new : Option (List ℕ)) (text : List ℕ) : Type 0 where
@@ -43,41 +56,57 @@ pub record ReadsText (old new : Option (List ℕ)) (holds : List ℕ → Type 0)
 
 -- WRITING
 
--- what a command is to write: the budgets of a scenario, the text of a run, the code of a leaf, or a text that is there
+-- what is to be written of a scenario
+abbrev pub scenario_written : ScenarioCommand → List ℕ → Written
+scenario_written Check scenario = check_written scenario
+scenario_written Tree scenario = tree_written scenario
+scenario_written Graph scenario = graph_written scenario
+
+-- of a leaf of it
+abbrev pub leaf_written : LeafCommand → List ℕ → List ℕ → Written
+leaf_written of_a_leaf.Asm scenario leaf = asm_written scenario leaf
+leaf_written of_a_leaf.List scenario leaf = list_written scenario leaf
+
+-- of it and turns
+abbrev pub both_written : TurnsCommand → List ℕ → List ℕ → Written
+both_written Run scenario turns = run_written scenario turns
+
+-- the text of a rule, where there is one of that code
+abbrev pub rule_text : List ℕ → Option RuleText → Written
+rule_text code (Some rule) = Ok rule.text.now
+rule_text code None = Err (refused_with (codes "no rule " ++ code))
+
+-- of a code, or of all of a table
+abbrev pub rules_written : Table → Option (List ℕ) → Written
+rules_written table (Some code) = rule_text code (rule_of table code)
+rules_written table None = Ok (lines_of_all table)
+
+-- the program and its version
+abbrev pub version_written : Written
+version_written = Ok (codes "trade 1.0.0\n")
+
+-- what a command is to write: of a scenario, of a leaf, of a scenario and turns, or what no input decides
 pub data Asked : Type 0 where
-  Check_of : (scenario : List ℕ) → Asked
-  Run_of : (scenario turns : List ℕ) → Asked
-  Asm_of : (scenario leaf : List ℕ) → Asked
-  Text_of : (text : List ℕ) → Asked
+  Of_scenario : (command : ScenarioCommand) (scenario : List ℕ) → Asked
+  Of_leaf : (command : LeafCommand) (scenario leaf : List ℕ) → Asked
+  Of_both : (command : TurnsCommand) (scenario turns : List ℕ) → Asked
+  Of_nothing : (written : Written) → Asked
 
 -- its text by the definition, or the line that refuses it
 abbrev pub written_of : Asked → Written
-written_of (Check_of scenario) = check_written scenario
-written_of (Run_of scenario turns) = run_written scenario turns
-written_of (Asm_of scenario leaf) = asm_written scenario leaf
-written_of (Text_of text) = Ok text
+written_of (Of_scenario command scenario) = scenario_written command scenario
+written_of (Of_leaf command scenario leaf) = leaf_written command scenario leaf
+written_of (Of_both command scenario turns) = both_written command scenario turns
+written_of (Of_nothing written) = written
 
 -- the line that refuses it is the definition's
 abbrev pub IsRefusedBy : Asked → List ℕ → Type 0
-IsRefusedBy (Check_of scenario) line = check_written scenario ≡ Err line
-IsRefusedBy (Run_of scenario turns) line = run_written scenario turns ≡ Err line
-IsRefusedBy (Asm_of scenario leaf) line = asm_written scenario leaf ≡ Err line
-IsRefusedBy (Text_of text) line = ⊥
+IsRefusedBy asked line = written_of asked ≡ Err line
 
 -- where it is a run, what was written is the text of one that upholds what is promised
 abbrev pub IsUpheldBy : Asked → (before after : Option (List ℕ)) → Type 0
-IsUpheldBy (Check_of scenario) before after = Unit {0}
-IsUpheldBy (Run_of scenario turns) before after = WritesPromised scenario turns before after
-IsUpheldBy (Asm_of scenario leaf) before after = Unit {0}
-IsUpheldBy (Text_of text) before after = Unit {0}
-
--- a scenario and turns were read, each from a reader of its own, and this holds of their run
-pub record RunsFiles (scenario scenario_left turns turns_left : Option (List ℕ)) (holds : Asked → Type 0) : Type 0 where
-  pub scenario_text : List ℕ
-  pub turns_text : List ℕ
-  pub scenario_read : IsInput scenario scenario_left scenario_text
-  pub turns_read : IsInput turns turns_left turns_text
-  pub so : holds (Run_of scenario_text turns_text)
+IsUpheldBy (Of_both Run scenario turns) before after = WritesPromised scenario turns before after
+IsUpheldBy _ before after = Unit {0}
 
 -- a scenario was read, and this holds of what is asked of it
 pub record ReadsScenario (scenario scenario_left : Option (List ℕ)) (asked : List ℕ → Asked) (holds : Asked → Type 0) : Type 0 where
@@ -85,19 +114,31 @@ pub record ReadsScenario (scenario scenario_left : Option (List ℕ)) (asked : L
   pub read : IsInput scenario scenario_left text
   pub so : holds (asked text)
 
+-- a scenario and turns were read, each from a reader of its own, and this holds of what is asked of both
+pub record ReadsBoth (scenario scenario_left turns turns_left : Option (List ℕ)) (asked : List ℕ → List ℕ → Asked) (holds : Asked → Type 0) : Type 0 where
+  pub scenario_text : List ℕ
+  pub turns_text : List ℕ
+  pub scenario_read : IsInput scenario scenario_left scenario_text
+  pub turns_read : IsInput turns turns_left turns_text
+  pub so : holds (asked scenario_text turns_text)
+
 -- a scenario and turns were read in the stored form, and this holds of their run
 pub record RunsStored (stored stored_left : Option (List ℕ)) (holds : Asked → Type 0) : Type 0 where
   pub text : List ℕ
   pub read : IsInput stored stored_left text
-  pub so : holds (Run_of (parted text).0 (parted text).1)
+  pub so : holds (Of_both Run (parted text).0 (parted text).1)
 
--- a command has read what it reads, and this holds of what it is then to write
-abbrev pub Executes : Command → (scenario scenario_left turns turns_left : Option (List ℕ)) → (Asked → Type 0) → Type 0
-Executes (Check a) scenario scenario_left turns turns_left holds = ReadsScenario scenario scenario_left Check_of holds
-Executes (Run a b) scenario scenario_left turns turns_left holds = RunsFiles scenario scenario_left turns turns_left holds
-Executes (Asm a leaf) scenario scenario_left turns turns_left holds = ReadsScenario scenario scenario_left (λ text. Asm_of text (string_bytes leaf)) holds
-Executes Stored scenario scenario_left turns turns_left holds = RunsStored scenario scenario_left holds
-Executes (Help text) scenario scenario_left turns turns_left holds = holds (Text_of (string_bytes text))
+-- a command has read what it reads, and this holds of what it is then to write, where the rules are those of this table
+abbrev pub Executes : Table → Command → (scenario scenario_left turns turns_left : Option (List ℕ)) → (Asked → Type 0) → Type 0
+Executes table (OfScenario command a) scenario scenario_left turns turns_left holds = ReadsScenario scenario scenario_left (Of_scenario command) holds
+Executes table (OfLeaf command a leaf) scenario scenario_left turns turns_left holds =
+    ReadsScenario scenario scenario_left (λ text. Of_leaf command text (string_bytes leaf)) holds
+Executes table (OfTurns command a b) scenario scenario_left turns turns_left holds =
+    ReadsBoth scenario scenario_left turns turns_left (Of_both command) holds
+Executes table Stored scenario scenario_left turns turns_left holds = RunsStored scenario scenario_left holds
+Executes table (Rule code) scenario scenario_left turns turns_left holds = holds (Of_nothing (rules_written table (option_map string_bytes code)))
+Executes table Version scenario scenario_left turns turns_left holds = holds (Of_nothing version_written)
+Executes table (Help text) scenario scenario_left turns turns_left holds = holds (Of_nothing (Ok (string_bytes text)))
 
 -- TELLING
 

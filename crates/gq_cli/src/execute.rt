@@ -1,24 +1,30 @@
 //! Doing what a command line asks for.
-ghost use Rattle.std.specs.Prelude.{◌≡◌, ◌≢◌, ◌⊎◌, true, false, string_bytes, Ok, Err, IfErr, OnOk};
+ghost use Rattle.std.specs.Prelude.{◌≡◌, ◌≢◌, ◌⊎◌, ◌++◌, true, false, codes, string_bytes, None, Ok, Some, Err, IfErr, OnOk};
 ghost use Rattle.gq_init.specs.Counts.{written_to, failures_of};
 ghost use Rattle.gq_init.specs.Writes.{IsRaised};
-ghost use Rattle.gq_world.specs.Outcomes.{GivesOf, IsCutShort, IsWhole};
-ghost use Rattle.gq_world.specs.Whole.{run_written};
+ghost use Rattle.gq_world.specs.Outcomes.{GivesOf, IsCutShort, IsWhole, WritesAs};
+ghost use Rattle.gq_world.specs.Whole.{refused_with, run_written};
 ghost use Rattle.gq_world.specs.Headline.{WritesPromised};
 ghost use Rattle.gq_command.specs.Input.{GivesAtMost};
 ghost use Rattle.gq_cli.specs.Ends.{Ended, IsKnown, IsSilent, IsToldAs, LeavesWriter};
 ghost use Rattle.gq_cli.specs.internal.Running.{RefusesAs};
-ghost use Rattle.gq_cli.specs.Executed.{Executes, IsRefusal, IsTold, IsUpheldBy, ReadsScenario, ReadsText, RunsFiles, RunsStored};
-ghost use Rattle.gq_cli.specs.Executed.{Asm_of, Check_of, Run_of, Text_of};
-ghost use Rattle.gq_cli.specs.Executed.{reads_scenario, reads_turns, status_line, written_of};
+ghost use Rattle.gq_cli.specs.Executed.{Executes, IsRefusal, IsTold, IsUpheldBy, ReadsBoth, ReadsScenario, ReadsText, RunsStored};
+ghost use Rattle.gq_cli.specs.Executed.{Of_both, Of_leaf, Of_nothing, Of_scenario};
+ghost use Rattle.gq_cli.specs.Executed.{is_never_refused, leaf_written, reads_scenario, reads_turns, rules_written, scenario_written, status_line};
+ghost use Rattle.gq_cli.specs.Executed.{version_written, written_of};
 ghost use Rattle.gq_cli.specs.declared.execute.Fault.TheVariants as fault;
+ghost use Rattle.gq_command.specs.declared.command.TurnsCommand.TheVariants.{Run};
 
 use crate::turns::run_loaded;
-use gq_command::command::Command;
+use gq_command::command::{Command, LeafCommand, ScenarioCommand, TurnsCommand, VERSION};
 use gq_command::input::{InputError, read_input};
 use gq_command::status::Status;
 use gq_command::stored::parted;
 use gq_init::counted::{Counted, put};
+use gq_rule_texts::{Rule, rule_of, write_rules};
+use gq_views::graph::graph;
+use gq_views::list::list;
+use gq_views::tree::tree;
 use gq_world::asm::asm;
 use gq_world::check::check;
 use gq_world::fault::RunFault;
@@ -30,7 +36,7 @@ use std::io::{Read, Write};
 // Why a command was not done.
 #[derive(Drop)]
 pub(crate) enum Fault {
-    // The texts are refused, by this line.
+    // The texts are refused, or a word, by this line.
     Refused(String),
     // Host memory was refused.
     Memory,
@@ -65,14 +71,16 @@ impl From<InputError> for Fault {
 
 /// Does what a command asks for, and tells on `err`, in one line, why it was not done.
 ///
-/// `Check` reads the scenario and writes the budget of each leaf; `Run` reads the scenario and then the turns, each whole; `Asm` reads the scenario and writes
-/// the code of a leaf; `Stored` reads both from `scenario`, parted by a line `%%`. The run's
-/// lines and accounts go to `out`. `Help` reads nothing and writes its text to `out`. Each reader is asked for 18 MiB and one byte
-/// at most; more, or a read that fails, is a file fault. Nothing goes to `out` where the scenario or the turns are refused, where
+/// `OfScenario` reads the scenario and writes the budget of each leaf, a tree or a graph; `OfLeaf` reads the scenario and writes the code
+/// of a leaf, or its program as text; `OfTurns` reads the scenario and then the turns, each whole, and runs it; `Stored` reads both from
+/// `scenario`, parted by a line `%%`. `Rule`, `Version` and `Help` read nothing: of a code the text of its rule in `rules` is written,
+/// and without one the line of each rule. All of it goes to `out`. Each reader is asked for 18 MiB and one byte
+/// at most; more, or a read that fails, is a file fault. Nothing goes to `out` where the scenario, the turns or a word are refused, where
 /// host memory is, or where a read failed; after a failed write a front of the text went out. A failed write on `err` changes
 /// nothing.
 pub fn execute<R: Read, T: Read, W: Write, E: Write>(
     alloc: Global,
+    rules: &[&[Rule]],
     command: &Command,
     scenario: &mut R,
     turns: &mut T,
@@ -80,15 +88,15 @@ pub fn execute<R: Read, T: Read, W: Write, E: Write>(
     err: &mut Counted<E>,
 ) -> Status
     // The whole text was written, that of a run which upholds what is promised, and nothing was told.
-    ensures done { result ≡ Status.Done → Executes command.now (R.remaining scenario.old) (R.remaining scenario.new) (T.remaining turns.old)
+    ensures done { result ≡ Status.Done → Executes rules.now command.now (R.remaining scenario.old) (R.remaining scenario.new) (T.remaining turns.old)
         (T.remaining turns.new) (λ asked. IsWhole (written_of asked) (written_to W.contents out.old) (written_to W.contents out.new)) }
-    ensures upheld { result ≡ Status.Done → Executes command.now (R.remaining scenario.old) (R.remaining scenario.new) (T.remaining turns.old)
+    ensures upheld { result ≡ Status.Done → Executes rules.now command.now (R.remaining scenario.old) (R.remaining scenario.new) (T.remaining turns.old)
         (T.remaining turns.new) (λ asked. IsUpheldBy asked (written_to W.contents out.old) (written_to W.contents out.new)) }
     ensures counted { result ≡ Status.Done → failures_of out.new ≡ failures_of out.old }
     ensures quiet { result ≡ Status.Done → err.new ≡ err.old }
 
-    // The texts are refused by the line that was told.
-    ensures refused { result ≡ Status.Refused → Executes command.now (R.remaining scenario.old) (R.remaining scenario.new) (T.remaining turns.old)
+    // The texts, or a word, are refused by the line that was told.
+    ensures refused { result ≡ Status.Refused → Executes rules.now command.now (R.remaining scenario.old) (R.remaining scenario.new) (T.remaining turns.old)
         (T.remaining turns.new) (λ asked. IsRefusal E.contents asked err.old err.new) }
     ensures unwritten { result ≡ Status.Refused → out.new ≡ out.old }
 
@@ -97,14 +105,14 @@ pub fn execute<R: Read, T: Read, W: Write, E: Write>(
 
     // A read failed and nothing was written, or a write failed and a front of the text was written.
     ensures cut { result ≡ Status.FileFault → ((reads_scenario command.now ≡ true) × (out.new ≡ out.old))
-        ⊎ (Executes command.now (R.remaining scenario.old) (R.remaining scenario.new) (T.remaining turns.old) (T.remaining turns.new)
+        ⊎ (Executes rules.now command.now (R.remaining scenario.old) (R.remaining scenario.new) (T.remaining turns.old) (T.remaining turns.new)
         (λ asked. IsCutShort (written_of asked) (written_to W.contents out.old) (written_to W.contents out.new))
         × IsRaised (failures_of out.old) (failures_of out.new)) }
 
     // Other refusals have the line of their status.
     ensures told { result ≢ Status.Refused → IsTold E.contents err.old err.new (status_line result) }
     ensures named { result ≢ Status.BadCommandLine }
-    ensures help { reads_scenario command.now ≡ false → (result ≡ Status.Done) ⊎ (result ≡ Status.FileFault) }
+    ensures help { is_never_refused command.now ≡ true → (result ≡ Status.Done) ⊎ (result ≡ Status.FileFault) }
 
     // Nothing is read that is not to be read, and no more than the limit and one byte.
     ensures scenario_unread { reads_scenario command.now ≡ false → scenario.new ≡ scenario.old }
@@ -112,7 +120,7 @@ pub fn execute<R: Read, T: Read, W: Write, E: Write>(
     ensures scenario_most { GivesAtMost 18874369 (R.remaining scenario.old) (R.remaining scenario.new) }
     ensures turns_most { GivesAtMost 18874369 (T.remaining turns.old) (T.remaining turns.new) }
 {
-    match perform(alloc, command, scenario, turns, out) {
+    match perform(alloc, rules, command, scenario, turns, out) {
         Ok(()) => Status::Done,
         Err(Fault::Refused(line)) => {
             tell_line(err, line.as_bytes());
@@ -159,28 +167,56 @@ fn tell_line<E: Write>(err: &mut Counted<E>, line: &[u8])
 // Does what a command asks for.
 fn perform<R: Read, T: Read, W: Write>(
     alloc: Global,
+    rules: &[&[Rule]],
     command: &Command,
     scenario: &mut R,
     turns: &mut T,
     out: &mut Counted<W>,
 ) -> Result<(), Fault>
-    ensures ended { IsKnown result → Executes command.now (R.remaining scenario.old) (R.remaining scenario.new) (T.remaining turns.old) (T.remaining turns.new)
-        (Ended result (written_to W.contents out.old) (written_to W.contents out.new)) }
-    ensures upheld { OnOk result (Executes command.now (R.remaining scenario.old) (R.remaining scenario.new) (T.remaining turns.old) (T.remaining turns.new)
-        (λ asked. IsUpheldBy asked (written_to W.contents out.old) (written_to W.contents out.new))) }
+    ensures ended { IsKnown result → Executes rules.now command.now (R.remaining scenario.old) (R.remaining scenario.new) (T.remaining turns.old)
+        (T.remaining turns.new) (Ended result (written_to W.contents out.old) (written_to W.contents out.new)) }
+    ensures upheld { OnOk result (Executes rules.now command.now (R.remaining scenario.old) (R.remaining scenario.new) (T.remaining turns.old)
+        (T.remaining turns.new) (λ asked. IsUpheldBy asked (written_to W.contents out.old) (written_to W.contents out.new))) }
     ensures leaves { LeavesWriter out.old out.new result }
-    ensures help { reads_scenario command.now ≡ false → IfErr result (λ f. f ≡ fault.Write) }
+    ensures unread { reads_scenario command.now ≡ false → IfErr result (λ f. f ≢ fault.Read) }
+    ensures help { is_never_refused command.now ≡ true → IfErr result (λ f. f ≡ fault.Write) }
     ensures scenario_unread { reads_scenario command.now ≡ false → scenario.new ≡ scenario.old }
     ensures turns_unread { reads_turns command.now ≡ false → turns.new ≡ turns.old }
     ensures scenario_most { GivesAtMost 18874369 (R.remaining scenario.old) (R.remaining scenario.new) }
     ensures turns_most { GivesAtMost 18874369 (T.remaining turns.old) (T.remaining turns.new) }
 {
     match command {
-        Command::Check(_) => write_budgets(alloc, scenario, out),
-        Command::Run(_, _) => run_files(alloc, scenario, turns, out),
-        Command::Asm(_, leaf) => write_code(alloc, scenario, leaf.as_str(), out),
+        Command::OfScenario(command, _) => of_scenario(alloc, *command, scenario, out),
+        Command::OfLeaf(command, _, leaf) => {
+            of_leaf(alloc, *command, scenario, leaf.as_str(), out)
+        }
+        Command::OfTurns(command, _, _) => of_turns(alloc, *command, scenario, turns, out),
+        Command::Rule(Some(code)) => of_code(alloc, rules, code.as_str(), out),
+        Command::Rule(None) => of_all_codes(rules, out),
+        Command::Version => show(VERSION, out),
         Command::Stored => run_stored(alloc, scenario, out),
         Command::Help(text) => show(text.as_str(), out),
+    }
+}
+
+// Does what is asked of the scenario that one reader has and the turns that another has.
+fn of_turns<R: Read, T: Read, W: Write>(
+    alloc: Global,
+    command: TurnsCommand,
+    scenario: &mut R,
+    turns: &mut T,
+    out: &mut Counted<W>,
+) -> Result<(), Fault>
+    ensures ended { IsKnown result → ReadsBoth (R.remaining scenario.old) (R.remaining scenario.new) (T.remaining turns.old) (T.remaining turns.new)
+        (Of_both command) (Ended result (written_to W.contents out.old) (written_to W.contents out.new)) }
+    ensures upheld { OnOk result (ReadsBoth (R.remaining scenario.old) (R.remaining scenario.new) (T.remaining turns.old) (T.remaining turns.new)
+        (Of_both command) (λ asked. IsUpheldBy asked (written_to W.contents out.old) (written_to W.contents out.new))) }
+    ensures leaves { LeavesWriter out.old out.new result }
+    ensures scenario_most { GivesAtMost 18874369 (R.remaining scenario.old) (R.remaining scenario.new) }
+    ensures turns_most { GivesAtMost 18874369 (T.remaining turns.old) (T.remaining turns.new) }
+{
+    match command {
+        TurnsCommand::Run => run_files(alloc, scenario, turns, out),
     }
 }
 
@@ -191,10 +227,10 @@ fn run_files<R: Read, T: Read, W: Write>(
     turns: &mut T,
     out: &mut Counted<W>,
 ) -> Result<(), Fault>
-    ensures ended { IsKnown result → RunsFiles (R.remaining scenario.old) (R.remaining scenario.new) (T.remaining turns.old) (T.remaining turns.new)
-        (Ended result (written_to W.contents out.old) (written_to W.contents out.new)) }
-    ensures upheld { OnOk result (RunsFiles (R.remaining scenario.old) (R.remaining scenario.new) (T.remaining turns.old) (T.remaining turns.new)
-        (λ asked. IsUpheldBy asked (written_to W.contents out.old) (written_to W.contents out.new))) }
+    ensures ended { IsKnown result → ReadsBoth (R.remaining scenario.old) (R.remaining scenario.new) (T.remaining turns.old) (T.remaining turns.new)
+        (Of_both Run) (Ended result (written_to W.contents out.old) (written_to W.contents out.new)) }
+    ensures upheld { OnOk result (ReadsBoth (R.remaining scenario.old) (R.remaining scenario.new) (T.remaining turns.old) (T.remaining turns.new)
+        (Of_both Run) (λ asked. IsUpheldBy asked (written_to W.contents out.old) (written_to W.contents out.new))) }
     ensures leaves { LeavesWriter out.old out.new result }
     ensures scenario_most { GivesAtMost 18874369 (R.remaining scenario.old) (R.remaining scenario.new) }
     ensures turns_most { GivesAtMost 18874369 (T.remaining turns.old) (T.remaining turns.new) }
@@ -211,7 +247,7 @@ fn run_reader<T: Read, W: Write>(
     out: &mut Counted<W>,
 ) -> Result<(), Fault>
     ensures ended { IsKnown result → ReadsText (T.remaining turns.old) (T.remaining turns.new) (λ text.
-        Ended result (written_to W.contents out.old) (written_to W.contents out.new) (Run_of scenario.now text)) }
+        Ended result (written_to W.contents out.old) (written_to W.contents out.new) (Of_both Run scenario.now text)) }
     ensures upheld { OnOk result (ReadsText (T.remaining turns.old) (T.remaining turns.new) (λ text.
         WritesPromised scenario.now text (written_to W.contents out.old) (written_to W.contents out.new))) }
     ensures leaves { LeavesWriter out.old out.new result }
@@ -282,7 +318,7 @@ fn run_texts<W: Write>(
     turns: &[u8],
     out: &mut Counted<W>,
 ) -> Result<(), Fault>
-    ensures ended { IsKnown result → Ended result (written_to W.contents out.old) (written_to W.contents out.new) (Run_of scenario.now turns.now) }
+    ensures ended { IsKnown result → Ended result (written_to W.contents out.old) (written_to W.contents out.new) (Of_both Run scenario.now turns.now) }
     ensures upheld { OnOk result (WritesPromised scenario.now turns.now (written_to W.contents out.old) (written_to W.contents out.new)) }
     ensures leaves { LeavesWriter out.old out.new result }
 {
@@ -292,71 +328,149 @@ fn run_texts<W: Write>(
     }
 }
 
-// Writes the code of a leaf of the scenario that a reader has.
-fn write_code<R: Read, W: Write>(
+// Does what is asked of the scenario that a reader has.
+fn of_scenario<R: Read, W: Write>(
     alloc: Global,
+    command: ScenarioCommand,
     scenario: &mut R,
-    leaf: &str,
     out: &mut Counted<W>,
 ) -> Result<(), Fault>
-    ensures ended { IsKnown result → ReadsScenario (R.remaining scenario.old) (R.remaining scenario.new) (λ text. Asm_of text leaf.now)
+    ensures ended { IsKnown result → ReadsScenario (R.remaining scenario.old) (R.remaining scenario.new) (Of_scenario command)
         (Ended result (written_to W.contents out.old) (written_to W.contents out.new)) }
     ensures leaves { LeavesWriter out.old out.new result }
     ensures most { GivesAtMost 18874369 (R.remaining scenario.old) (R.remaining scenario.new) }
 {
     let input = read_input(alloc, scenario)?;
-    write_code_of(alloc, input.as_slice(), leaf, out)
+    of_scenario_text(alloc, command, input.as_slice(), out)
 }
 
-// Writes the code of a leaf.
-fn write_code_of<W: Write>(
+// Does what is asked of a scenario.
+fn of_scenario_text<W: Write>(
     alloc: Global,
+    command: ScenarioCommand,
     scenario: &[u8],
-    leaf: &str,
     out: &mut Counted<W>,
 ) -> Result<(), Fault>
-    ensures ended { IsKnown result → Ended result (written_to W.contents out.old) (written_to W.contents out.new) (Asm_of scenario.now leaf.now) }
+    ensures ended { IsKnown result → Ended result (written_to W.contents out.old) (written_to W.contents out.new) (Of_scenario command scenario.now) }
     ensures leaves { LeavesWriter out.old out.new result }
 {
-    match asm(alloc, scenario, leaf, out) {
+    match write_scenario(alloc, command, scenario, out) {
         Ok(()) => Ok(()),
         Err(fault) => Err(told(alloc, fault)),
     }
 }
 
-// Writes the budgets of the scenario that a reader has.
-fn write_budgets<R: Read, W: Write>(
+// Writes what is asked of a scenario.
+fn write_scenario<W: Write>(
     alloc: Global,
+    command: ScenarioCommand,
+    scenario: &[u8],
+    out: &mut Counted<W>,
+) -> Result<(), RunFault<'static>>
+    ensures { WritesAs W.contents (scenario_written command scenario.now) out.old out.new result }
+{
+    match command {
+        ScenarioCommand::Check => check(alloc, scenario, out),
+        ScenarioCommand::Tree => tree(alloc, scenario, out),
+        ScenarioCommand::Graph => graph(alloc, scenario, out),
+    }
+}
+
+// Does what is asked of a leaf of the scenario that a reader has.
+fn of_leaf<R: Read, W: Write>(
+    alloc: Global,
+    command: LeafCommand,
     scenario: &mut R,
+    leaf: &str,
     out: &mut Counted<W>,
 ) -> Result<(), Fault>
-    ensures ended { IsKnown result → ReadsScenario (R.remaining scenario.old) (R.remaining scenario.new) Check_of
+    ensures ended { IsKnown result → ReadsScenario (R.remaining scenario.old) (R.remaining scenario.new) (λ text. Of_leaf command text leaf.now)
         (Ended result (written_to W.contents out.old) (written_to W.contents out.new)) }
     ensures leaves { LeavesWriter out.old out.new result }
     ensures most { GivesAtMost 18874369 (R.remaining scenario.old) (R.remaining scenario.new) }
 {
     let input = read_input(alloc, scenario)?;
-    write_budgets_of(alloc, input.as_slice(), out)
+    of_leaf_text(alloc, command, input.as_slice(), leaf, out)
 }
 
-// Writes the budgets of a scenario.
-fn write_budgets_of<W: Write>(
+// Does what is asked of a leaf of a scenario.
+fn of_leaf_text<W: Write>(
     alloc: Global,
+    command: LeafCommand,
     scenario: &[u8],
+    leaf: &str,
     out: &mut Counted<W>,
 ) -> Result<(), Fault>
-    ensures ended { IsKnown result → Ended result (written_to W.contents out.old) (written_to W.contents out.new) (Check_of scenario.now) }
+    ensures ended { IsKnown result → Ended result (written_to W.contents out.old) (written_to W.contents out.new) (Of_leaf command scenario.now leaf.now) }
     ensures leaves { LeavesWriter out.old out.new result }
 {
-    match check(alloc, scenario, out) {
+    match write_leaf(alloc, command, scenario, leaf, out) {
         Ok(()) => Ok(()),
         Err(fault) => Err(told(alloc, fault)),
+    }
+}
+
+// Writes what is asked of a leaf.
+fn write_leaf<'a, W: Write>(
+    alloc: Global,
+    command: LeafCommand,
+    scenario: &[u8],
+    leaf: &'a str,
+    out: &mut Counted<W>,
+) -> Result<(), RunFault<'a>>
+    ensures { WritesAs W.contents (leaf_written command scenario.now leaf.now) out.old out.new result }
+{
+    match command {
+        LeafCommand::Asm => asm(alloc, scenario, leaf, out),
+        LeafCommand::List => list(alloc, scenario, leaf, out),
+    }
+}
+
+// Tells what a code means.
+fn of_code<W: Write>(
+    alloc: Global,
+    rules: &[&[Rule]],
+    code: &str,
+    out: &mut Counted<W>,
+) -> Result<(), Fault>
+    ensures ended { IsKnown result → Ended result (written_to W.contents out.old) (written_to W.contents out.new)
+        (Of_nothing (rules_written rules.now (Some code.now))) }
+    ensures unread { IfErr result (λ f. f ≢ fault.Read) }
+    ensures leaves { LeavesWriter out.old out.new result }
+{
+    match rule_of(rules, code) {
+        Some(rule) => show(rule.text, out),
+        None => Err(no_rule(alloc, code)),
+    }
+}
+
+// Why nothing is told of a word: no rule has such a code. The line of a refusal is made.
+fn no_rule(alloc: Global, code: &str) -> Fault
+    ensures refused { RefusesAs (Err (refused_with (codes "no rule " ++ code.now))) result }
+    ensures silent { IsSilent result }
+    ensures unread { result ≢ fault.Read }
+{
+    match format!(in alloc; "trade: no rule {code}\n") {
+        Ok(line) => Fault::Refused(line),
+        Err(_) => Fault::Memory,
+    }
+}
+
+// Writes the line of each rule.
+fn of_all_codes<W: Write>(rules: &[&[Rule]], out: &mut Counted<W>) -> Result<(), Fault>
+    ensures ended { Ended result (written_to W.contents out.old) (written_to W.contents out.new) (Of_nothing (rules_written rules.now None)) }
+    ensures fault { IfErr result (λ f. f ≡ fault.Write) }
+    ensures leaves { LeavesWriter out.old out.new result }
+{
+    match write_rules(rules, out) {
+        Ok(()) => Ok(()),
+        Err(_) => Err(Fault::Write),
     }
 }
 
 // Writes a text whole.
 fn show<W: Write>(text: &str, out: &mut Counted<W>) -> Result<(), Fault>
-    ensures ended { Ended result (written_to W.contents out.old) (written_to W.contents out.new) (Text_of text.now) }
+    ensures ended { Ended result (written_to W.contents out.old) (written_to W.contents out.new) (Of_nothing (Ok text.now)) }
     ensures fault { IfErr result (λ f. f ≡ fault.Write) }
     ensures leaves { LeavesWriter out.old out.new result }
 {

@@ -3,9 +3,10 @@
 //! ```rust
 //! use gq_cli::command_line::command;
 //! use gq_cli::execute::execute;
+//! use gq_cli::rules::families;
 //!
 //! let command = command(alloc, &["check", "hello.toml"])?;
-//! let status = execute(alloc, &command, &mut scenario, &mut turns, &mut out, &mut err);
+//! let status = execute(alloc, &families(), &command, &mut scenario, &mut turns, &mut out, &mut err);
 //! ```
 #![tactic(auto)]
 
@@ -13,3 +14,4 @@ pub mod execute;
 mod turns;
 
 pub use gq_command::{command, command_line, input, status, stored};
+pub use gq_rule_texts as rules;

@@ -1,68 +1,113 @@
 -- What the words of a command line ask for, by the parser's own reading of them.
-use Rattle.std.specs.Prelude.{◌≡◌, ◌≢◌, true, List, [], ◌∷◌, codes, Option, Some, None, option_map, option_and_then, if◌then◌else◌}
+use Rattle.std.specs.Prelude.{◌≡◌, ◌≢◌, true, false, Bool, List, [], ◌∷◌, codes, fold, Option, Some, None, option_map, option_and_then, if◌then◌else◌}
 use Rattle.std.specs.Prelude.{string_bytes}
 use Rattle.clap.specs.Words.{App, Row, Rule, Text, IsAmong, fault_of, first_of, new_app, new_rule, subcommand_of, with_rule, with_subcommand}
 use Rattle.clap.specs.Walk.{is_empty}
 use Rattle.clap.specs.Simple.{on_top}
 use Rattle.std.specs.Str.{bytes_eq}
-use Rattle.clap.specs.declared.error.kind.ErrorKind.TheVariants.{DisplayHelp}
+use Rattle.clap.specs.declared.builder.action.ArgAction.TheVariants.{SetTrue}
+use Rattle.clap.specs.declared.error.kind.ErrorKind.TheVariants.{DisplayHelp, DisplayVersion}
 use Rattle.gq_command.specs.declared.command.Command.{Command}
-use Rattle.gq_command.specs.declared.command.Command.TheVariants.{Check, Run, Asm, Stored, Help}
+use Rattle.gq_command.specs.declared.command.Command.TheVariants.{OfScenario, OfLeaf, OfTurns, Rule as RuleOf, Version, Stored, Help}
+use Rattle.gq_command.specs.declared.command.ScenarioCommand.{ScenarioCommand}
+use Rattle.gq_command.specs.declared.command.ScenarioCommand.TheVariants.{Check, Tree, Graph}
+use Rattle.gq_command.specs.declared.command.LeafCommand.{LeafCommand}
+use Rattle.gq_command.specs.declared.command.LeafCommand.TheVariants as of_a_leaf
+use Rattle.gq_command.specs.declared.command.TurnsCommand.{TurnsCommand}
+use Rattle.gq_command.specs.declared.command.TurnsCommand.TheVariants.{Run}
 use Rattle.gq_command.specs.declared.command.CommandError.{CommandError}
 use Rattle.gq_command.specs.declared.command.CommandError.TheVariants.{Memory, Usage}
+
+-- COMMANDS
 
 -- a word that must be there
 abbrev pub word_rule : Text → Rule
 word_rule name = record (new_rule name) { required = true }
 
--- a command of two words
-abbrev pub two_words : Text → Text → Text → App
-two_words name first second = with_rule (with_rule (new_app name) (word_rule first)) (word_rule second)
+-- an option, as `--dot`
+abbrev pub option_rule : Text → Rule
+option_rule name = record (new_rule name) { long = Some name; action = Some SetTrue }
 
--- `check SCENARIO`
-abbrev pub check_app : App
-check_app = with_rule (new_app (codes "check")) (word_rule (codes "SCENARIO"))
+-- a command of this name with a word: `NAME SCENARIO`
+abbrev pub of_scenario : Text → App
+of_scenario name = with_rule (new_app name) (word_rule (codes "SCENARIO"))
 
--- `run SCENARIO TURNS`
-abbrev pub run_app : App
-run_app = two_words (codes "run") (codes "SCENARIO") (codes "TURNS")
+-- `NAME SCENARIO LEAF`
+abbrev pub of_leaf : Text → App
+of_leaf name = with_rule (of_scenario name) (word_rule (codes "LEAF"))
 
--- `asm SCENARIO LEAF`
-abbrev pub asm_app : App
-asm_app = two_words (codes "asm") (codes "SCENARIO") (codes "LEAF")
+-- `NAME SCENARIO TURNS`
+abbrev pub of_turns : Text → App
+of_turns name = with_rule (of_scenario name) (word_rule (codes "TURNS"))
 
--- the program's command line with `check` alone, and without the program's name
-abbrev pub trade_of_check : App
-trade_of_check = with_subcommand (on_top (λ s. record s { no_binary_name = true; subcommand_required = true }) (new_app (codes "trade"))) check_app.top
+-- `NAME [CODE]`
+abbrev pub of_code : Text → App
+of_code name = with_rule (new_app name) (new_rule (codes "CODE"))
 
--- with `check` and `run`
-abbrev pub trade_without_asm : App
-trade_without_asm = with_subcommand trade_of_check run_app.top
+-- the commands, as they stand in help
+abbrev pub commands : List App
+commands =
+    of_scenario (codes "check")
+    ∷ of_turns (codes "run")
+    ∷ of_leaf (codes "asm")
+    ∷ of_leaf (codes "list")
+    ∷ with_rule (of_scenario (codes "tree")) (option_rule (codes "dot"))
+    ∷ of_code (codes "rule")
+    ∷ []
 
--- the program's command line, without the program's name: one of its commands
+-- a command line of these commands
+abbrev pub with_commands : App → List App → App
+with_commands line commands = fold (λ whole command. with_subcommand whole command.top) line commands
+
+-- the program's command line, without the program's name: one of its commands, or `--version`
 abbrev pub trade : App
-trade = with_subcommand trade_without_asm asm_app.top
+trade =
+    with_commands (on_top (λ s. record s { has_version = true; no_binary_name = true; subcommand_required = true }) (new_app (codes "trade"))) commands
 
--- what is wanted of the file of a scenario: its budgets, its run over the turns in a second file, or the code of a leaf
+-- WHAT THEY ASK FOR
+
+-- what is wanted of the file of a scenario alone, of a leaf of it, or of it and the file of turns; or what a code means, or without one of all
 pub data Wanted : Type 0 where
-  Check_wanted : (scenario : Text) → Wanted
-  Run_wanted : (scenario turns : Text) → Wanted
-  Asm_wanted : (scenario leaf : Text) → Wanted
+  Scenario_wanted : (command : ScenarioCommand) (scenario : Text) → Wanted
+  Leaf_wanted : (command : LeafCommand) (scenario leaf : Text) → Wanted
+  Turns_wanted : (command : TurnsCommand) (scenario turns : Text) → Wanted
+  Rule_wanted : (code : Option Text) → Wanted
 
--- two words, where both are there
-abbrev pub both_of : Option Text → Option Text → Option (Text × Text)
-both_of (Some first) (Some second) = Some (first, second)
-both_of _ _ = None
+-- the parser says `true` of an option that was given
+abbrev pub is_true : Option Text → Bool
+is_true (Some text) = bytes_eq text (codes "true")
+is_true None = false
 
-abbrev pub with_both : (Text → Text → Wanted) → Option Text → Option Text → Option Wanted
-with_both make first second = option_map (λ p. make p.0 p.1) (both_of first second)
+abbrev pub is_given : Text → List Row → Bool
+is_given name rows = is_true (first_of name rows)
+
+abbrev pub scenario_command : Text → List Row → Option ScenarioCommand
+scenario_command name rows =
+    if bytes_eq name (codes "check") then Some Check
+    else if bytes_eq name (codes "tree") then Some (if is_given (codes "dot") rows then Graph else Tree)
+    else None
+
+abbrev pub leaf_command : Text → Option LeafCommand
+leaf_command name =
+    if bytes_eq name (codes "asm") then Some of_a_leaf.Asm
+    else if bytes_eq name (codes "list") then Some of_a_leaf.List
+    else None
+
+abbrev pub turns_command : Text → Option TurnsCommand
+turns_command name = if bytes_eq name (codes "run") then Some Run else None
+
+-- the command that this name has among those on a scenario alone, else among those on a leaf, else among those on turns
+abbrev pub wanted_with : Text → List Row → Option ScenarioCommand → Option LeafCommand → Option TurnsCommand → Option Wanted
+wanted_with scenario rows (Some command) of_leaf of_turns = Some (Scenario_wanted command scenario)
+wanted_with scenario rows None (Some command) of_turns = option_map (Leaf_wanted command scenario) (first_of (codes "LEAF") rows)
+wanted_with scenario rows None None (Some command) = option_map (Turns_wanted command scenario) (first_of (codes "TURNS") rows)
+wanted_with scenario rows None None None = None
 
 abbrev pub wanted_of : Text → List Row → Option Wanted
 wanted_of name rows =
-    if bytes_eq name (codes "check") then option_map Check_wanted (first_of (codes "SCENARIO") rows)
-    else if bytes_eq name (codes "run") then with_both Run_wanted (first_of (codes "SCENARIO") rows) (first_of (codes "TURNS") rows)
-    else if bytes_eq name (codes "asm") then with_both Asm_wanted (first_of (codes "SCENARIO") rows) (first_of (codes "LEAF") rows)
-    else None
+    if bytes_eq name (codes "rule") then Some (Rule_wanted (first_of (codes "CODE") rows))
+    else option_and_then (λ scenario. wanted_with scenario rows (scenario_command name rows) (leaf_command name) (turns_command name))
+    (first_of (codes "SCENARIO") rows)
 
 abbrev pub wanted_in : Option (Text × List Row) → Option Wanted
 wanted_in = option_and_then (λ p. wanted_of p.0 p.1)
@@ -73,25 +118,21 @@ wanted words = if is_empty (fault_of trade words) then wanted_in (subcommand_of 
 
 -- a command is what is wanted
 abbrev pub IsWanted : Option Wanted → Command → Type 0
-IsWanted found (Check scenario) = found ≡ Some (Check_wanted (string_bytes scenario))
-IsWanted found (Run scenario turns) = found ≡ Some (Run_wanted (string_bytes scenario) (string_bytes turns))
-IsWanted found (Asm scenario leaf) = found ≡ Some (Asm_wanted (string_bytes scenario) (string_bytes leaf))
-IsWanted found Stored = ⊥
-IsWanted found (Help text) = ⊥
+IsWanted found (OfScenario command scenario) = found ≡ Some (Scenario_wanted command (string_bytes scenario))
+IsWanted found (OfLeaf command scenario leaf) = found ≡ Some (Leaf_wanted command (string_bytes scenario) (string_bytes leaf))
+IsWanted found (OfTurns command scenario turns) = found ≡ Some (Turns_wanted command (string_bytes scenario) (string_bytes turns))
+IsWanted found (RuleOf code) = found ≡ Some (Rule_wanted (option_map string_bytes code))
+IsWanted found _ = ⊥
 
-abbrev pub IsHelp : Command → Type 0
-IsHelp (Help text) = Unit {0}
-IsHelp _ = ⊥
-
--- words ask for this command: help where the parser may answer with help
+-- words ask for this command: help and the version where the parser may answer with these
 abbrev pub IsAsked : List Text → Command → Type 0
-IsAsked words (Check scenario) = (words ≢ []) × IsWanted (wanted words) (Check scenario)
-IsAsked words (Run scenario turns) = (words ≢ []) × IsWanted (wanted words) (Run scenario turns)
-IsAsked words (Asm scenario leaf) = (words ≢ []) × IsWanted (wanted words) (Asm scenario leaf)
 IsAsked words Stored = words ≡ []
 IsAsked words (Help text) = (words ≢ []) × IsAmong DisplayHelp (fault_of trade words)
+IsAsked words Version = (words ≢ []) × IsAmong DisplayVersion (fault_of trade words)
+IsAsked words command = (words ≢ []) × IsWanted (wanted words) command
 
--- words are misused: they ask for nothing to do with a scenario, and not only for help
+-- words are misused: they ask for nothing that is to be done, and not only for help or the version
 abbrev pub IsMisused : List Text → CommandError → Type 0
 IsMisused words (Memory refused) = words ≢ []
-IsMisused words Usage = (words ≢ []) × (wanted words ≡ None) × (fault_of trade words ≢ DisplayHelp ∷ [])
+IsMisused words Usage =
+    (words ≢ []) × (wanted words ≡ None) × (fault_of trade words ≢ DisplayHelp ∷ []) × (fault_of trade words ≢ DisplayVersion ∷ [])

@@ -4,15 +4,49 @@ ghost use Rattle.std.specs.Prelude.{◌≡◌};
 use std::alloc::AllocError;
 use thiserror::Error;
 
+/// The program and its version, as a line.
+pub const VERSION: &str = "trade 1.0.0\n";
+
+/// What is asked of a scenario alone.
+#[derive(Clone, Copy, Debug, PartialEq, Eq)]
+pub enum ScenarioCommand {
+    /// To write the verified budget of each leaf.
+    Check,
+    /// To write its nodes as a tree.
+    Tree,
+    /// To write its nodes as a graph for Graphviz.
+    Graph,
+}
+
+/// What is asked of a leaf of a scenario.
+#[derive(Clone, Copy, Debug, PartialEq, Eq)]
+pub enum LeafCommand {
+    /// To write the code of its program.
+    Asm,
+    /// To write the text of its program.
+    List,
+}
+
+/// What is asked of a scenario and turns.
+#[derive(Clone, Copy, Debug, PartialEq, Eq)]
+pub enum TurnsCommand {
+    /// To run it over them.
+    Run,
+}
+
 /// What the words of a command line ask for.
 #[derive(Debug, Drop)]
 pub enum Command {
-    /// Write the verified budget of each leaf of the scenario at this path.
-    Check(String),
-    /// Run the scenario at the first path over the turns at the second.
-    Run(String, String),
-    /// Write the code of a leaf of the scenario at this path; the leaf's name is second.
-    Asm(String, String),
+    /// Do this with the scenario at this path.
+    OfScenario(ScenarioCommand, String),
+    /// Do this with a leaf of the scenario at this path; the leaf's name is last.
+    OfLeaf(LeafCommand, String, String),
+    /// Do this with the scenario at the first path and the turns at the second.
+    OfTurns(TurnsCommand, String, String),
+    /// Tell what this code of a fault means, or without one list all.
+    Rule(Option<String>),
+    /// Tell which version of the program this is.
+    Version,
     /// Run the stored form on standard input.
     Stored,
     /// Show this text on standard output.

@@ -1,6 +1,7 @@
 // Runs as the command line asks for them, of readers and writers that fail.
-use gq_cli::command::Command;
+use gq_cli::command::{Command, TurnsCommand, VERSION};
 use gq_cli::execute::execute;
+use gq_cli::rules::families;
 use gq_cli::status::Status;
 use gq_model::limits::GREATEST_INPUT;
 use gq_world::Counted;
@@ -93,6 +94,7 @@ fn ended<R: Read, T: Read>(
     let mut err = Vec::new(alloc);
     let status = execute(
         alloc,
+        &families(),
         command,
         scenario,
         turns,
@@ -105,7 +107,7 @@ fn ended<R: Read, T: Read>(
 fn run_command(alloc: Global) -> Result<Command, Fail> {
     let scenario = String::from_str(alloc, "a.toml")?;
     let turns = String::from_str(alloc, "a.turns")?;
-    Ok(Command::Run(scenario, turns))
+    Ok(Command::OfTurns(TurnsCommand::Run, scenario, turns))
 }
 
 /// Whether a run ends as a file fault with nothing written where the scenario never ends or fails at once, and where the turns do; and whether so much was
@@ -149,6 +151,7 @@ fn is_cut(alloc: Global, command: &Command, room: usize, fails: bool) -> bool {
     let mut scenario = HELLO;
     let status = execute(
         alloc,
+        &families(),
         command,
         &mut scenario,
         &mut b"hello 2\n".as_slice(),
@@ -197,6 +200,7 @@ fn refused(alloc: Global, command: &Command) -> (Status, bool, [u8; 9]) {
     let mut scenario = HELLO;
     let status = execute(
         alloc,
+        &families(),
         command,
         &mut scenario,
         &mut b"init 1\n".as_slice(),
@@ -217,24 +221,40 @@ fn a_line_that_can_not_be_told_changes_no_status(rt: HostRuntime) -> Result<(), 
     Ok(())
 }
 
-/// Whether help is shown and nothing of the scenario is read.
-fn is_shown(alloc: Global, help: &Command) -> bool {
+/// Whether this is shown and nothing of the scenario is read.
+fn is_shown(alloc: Global, command: &Command, status: Status, out: &str, err: &str) -> bool {
     let mut scenario = Endless {
         given: 0,
         fails: false,
     };
-    let shown = ended(alloc, help, &mut scenario, &mut io::empty());
-    let is_help = shown.is(Status::Done, "Usage: trade\n", "");
+    let shown = ended(alloc, command, &mut scenario, &mut io::empty());
+    let is_so = shown.is(status, out, err);
     drop(shown);
-    is_help && scenario.given == 0
+    is_so && scenario.given == 0
 }
 
 #[test]
 fn shows_help_and_reads_nothing(rt: HostRuntime) -> Result<(), Fail> {
     let help = Command::Help(String::from_str(rt.alloc(), "Usage: trade\n")?);
-    let is_shown = is_shown(rt.alloc(), &help);
+    let is_shown = is_shown(rt.alloc(), &help, Status::Done, "Usage: trade\n", "");
     drop(help);
     assert!(rt; is_shown);
+    Ok(())
+}
+
+#[test]
+fn shows_the_version_and_reads_nothing(rt: HostRuntime) {
+    let is_shown = is_shown(rt.alloc(), &Command::Version, Status::Done, VERSION, "");
+    assert!(rt; is_shown);
+}
+
+#[test]
+fn a_word_that_is_no_code_is_refused_and_nothing_is_read(rt: HostRuntime) -> Result<(), Fail> {
+    let rule = Command::Rule(Some(String::from_str(rt.alloc(), "V19")?));
+    let line = "trade: no rule V19\n";
+    let is_refused = is_shown(rt.alloc(), &rule, Status::Refused, "", line);
+    drop(rule);
+    assert!(rt; is_refused);
     Ok(())
 }
 

@@ -4,11 +4,12 @@
 use gq_cli::command::{Command, CommandError};
 use gq_cli::command_line::command;
 use gq_cli::execute::{execute, tell};
+use gq_cli::rules::families;
 use gq_cli::status::Status;
 use gq_world::Counted;
 use std::env;
 use std::fs::File;
-use std::io::{self, BufWriter, ErrorKind, Stderr, Stdout, Write};
+use std::io::{self, BufWriter, ErrorKind, Read, Stderr, Stdout, Write};
 use std::process::ExitCode;
 
 // How many bytes of output are gathered before they leave the process.
@@ -88,41 +89,41 @@ fn execute_to(
     err: &mut Counted<Stderr>,
 ) -> Status {
     match command {
-        Command::Run(scenario, turns) => {
+        Command::OfTurns(_, scenario, turns) => {
             let (mut scenario, mut turns) = match open(rt, scenario.as_str(), turns.as_str()) {
                 Ok(files) => files,
                 Err(_) => return tell(err, Status::FileFault),
             };
-            let status = execute(rt.alloc(), command, &mut scenario, &mut turns, out, err);
+            let status = execute_on(rt, command, &mut scenario, &mut turns, out, err);
             drop(scenario);
             drop(turns);
             status
         }
-        Command::Asm(scenario, _) | Command::Check(scenario) => {
+        Command::OfScenario(_, scenario) | Command::OfLeaf(_, scenario, _) => {
             let mut scenario = match File::open(rt, scenario.as_str()) {
                 Ok(file) => file,
                 Err(_) => return tell(err, Status::FileFault),
             };
-            let status = execute(
-                rt.alloc(),
-                command,
-                &mut scenario,
-                &mut io::empty(),
-                out,
-                err,
-            );
+            let status = execute_on(rt, command, &mut scenario, &mut io::empty(), out, err);
             drop(scenario);
             status
         }
-        Command::Stored | Command::Help(_) => execute(
-            rt.alloc(),
-            command,
-            &mut rt.stdin(),
-            &mut io::empty(),
-            out,
-            err,
-        ),
+        Command::Rule(_) | Command::Version | Command::Stored | Command::Help(_) => {
+            execute_on(rt, command, &mut rt.stdin(), &mut io::empty(), out, err)
+        }
     }
+}
+
+// Does what a command asks for, on these readers.
+fn execute_on<R: Read, T: Read>(
+    rt: &HostRuntime,
+    command: &Command,
+    scenario: &mut R,
+    turns: &mut T,
+    out: &mut Out,
+    err: &mut Counted<Stderr>,
+) -> Status {
+    execute(rt.alloc(), &families(), command, scenario, turns, out, err)
 }
 
 // The files of a scenario and of its turns, opened in this order.

@@ -1,11 +1,12 @@
 -- What the words of a command line are read as, before the command owns them.
-use Rattle.std.specs.Prelude.{Option, option_map}
+use Rattle.std.specs.Prelude.{option_map}
 use Rattle.gq_command.specs.CommandLine as line
 use Rattle.gq_command.specs.declared.command_line.Wanted.{Wanted}
-use Rattle.gq_command.specs.declared.command_line.Wanted.TheVariants.{Check, Run, Asm}
+use Rattle.gq_command.specs.declared.command_line.Wanted.TheVariants.{OfScenario, OfLeaf, OfTurns, Rule}
 
 -- what is wanted, by the texts of its words
 abbrev pub meant : Wanted → line.Wanted
-meant (Check scenario) = line.Check_wanted scenario.now
-meant (Run scenario turns) = line.Run_wanted scenario.now turns.now
-meant (Asm scenario leaf) = line.Asm_wanted scenario.now leaf.now
+meant (OfScenario command scenario) = line.Scenario_wanted command scenario.now
+meant (OfLeaf command scenario leaf) = line.Leaf_wanted command scenario.now leaf.now
+meant (OfTurns command scenario turns) = line.Turns_wanted command scenario.now turns.now
+meant (Rule code) = line.Rule_wanted (option_map (λ c. c.now) code)

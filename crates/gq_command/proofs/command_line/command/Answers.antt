@@ -32,7 +32,7 @@ returns-in-Err-clause-asked c =
     let ne : words ≢ [] = some_words c.args.words.now c.is_empty.result c.is_empty.ensures c.if-is_empty.false in
     let kinds : HasKind (fault_of trade words) c.in-Err.error =
     subst (λ a. HasKind (fault_of a words) c.in-Err.error) line (c.in-Err.ensures.kinds (ap is_simple_and_free line ∙ trade_free)) in
-    IfOk-weaker c.help_asked.result _ _ (λ command h. asked-err words c.in-Err.error command ne kinds h) c.help_asked.ensures.asked
+    IfOk-weaker c.shown.result _ _ (λ command h. asked-err words c.in-Err.error command ne kinds h) c.shown.ensures.asked
 
 pub returns-in-Err-clause-misused : goal.returns-in-Err-clause-misused
 returns-in-Err-clause-misused c =
@@ -41,4 +41,4 @@ returns-in-Err-clause-misused c =
     let ne : words ≢ [] = some_words c.args.words.now c.is_empty.result c.is_empty.ensures c.if-is_empty.false in
     let kinds : HasKind (fault_of trade words) c.in-Err.error =
     subst (λ a. HasKind (fault_of a words) c.in-Err.error) line (c.in-Err.ensures.kinds (ap is_simple_and_free line ∙ trade_free)) in
-    IfErr-weaker c.help_asked.result _ _ (λ e h. misused-err words c.in-Err.error e ne kinds h) c.help_asked.ensures.misused
+    IfErr-weaker c.shown.result _ _ (λ e h. misused-err words c.in-Err.error e ne kinds h) c.shown.ensures.misused

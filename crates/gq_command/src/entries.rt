@@ -1,0 +1,227 @@
+// The commands of the program, as its parser takes them and its help shows them.
+ghost use Rattle.std.specs.Prelude.{◌≡◌, ◌++◌, IfOk, false, map, codes};
+ghost use Rattle.clap.specs.declared.builder.command.Command.TheViews.{out-Command};
+ghost use Rattle.clap.specs.Words.{app_of, new_app, new_rule, rule_of, with_rule, with_subcommand};
+ghost use Rattle.gq_command.specs.CommandLine.{of_scenario, option_rule, trade, with_commands, word_rule};
+ghost use Rattle.gq_command.specs.internal.Entries.{IsParserOf, entered, optional, taking};
+
+use crate::command::VERSION;
+use clap::{Arg, ArgAction, Command};
+use std::alloc::{AllocError, Global};
+
+// What help says of a command, and what it takes.
+#[derive(Clone, Copy)]
+pub(crate) struct Entry<'a> {
+    name: &'a str,
+    takes: Takes,
+    flag: Option<Flag<'a>>,
+    about: &'a str,
+    usage: &'a str,
+}
+
+// The words that a command takes.
+#[derive(Clone, Copy)]
+pub(crate) enum Takes {
+    // The file of a scenario.
+    Scenario,
+    // The same, and the name of a leaf.
+    Leaf,
+    // The file of a scenario, and that of turns.
+    Turns,
+    // The code of a fault, or nothing.
+    Code,
+}
+
+// An option of a command, `--` before its name.
+#[derive(Clone, Copy)]
+pub(crate) struct Flag<'a> {
+    name: &'a str,
+    help: &'a str,
+}
+
+const CHECK: Entry<'static> = Entry {
+    name: "check",
+    takes: Takes::Scenario,
+    flag: None,
+    about: "Print what each leaf of the scenario in the file SCENARIO uses at most, whatever the turns",
+    usage: "trade check <SCENARIO>",
+};
+
+const RUN: Entry<'static> = Entry {
+    name: "run",
+    takes: Takes::Turns,
+    flag: None,
+    about: "Run the scenario in the file SCENARIO over the turns in the file TURNS",
+    usage: "trade run <SCENARIO> <TURNS>",
+};
+
+const ASM: Entry<'static> = Entry {
+    name: "asm",
+    takes: Takes::Leaf,
+    flag: None,
+    about: "Print the code of the leaf LEAF of the scenario in the file SCENARIO, in hexadecimal",
+    usage: "trade asm <SCENARIO> <LEAF>",
+};
+
+const LIST: Entry<'static> = Entry {
+    name: "list",
+    takes: Takes::Leaf,
+    flag: None,
+    about: "Print the program of the leaf LEAF of the scenario in the file SCENARIO, as text",
+    usage: "trade list <SCENARIO> <LEAF>",
+};
+
+const TREE: Entry<'static> = Entry {
+    name: "tree",
+    takes: Takes::Scenario,
+    flag: Some(Flag {
+        name: "dot",
+        help: "Print a graph for Graphviz in its place",
+    }),
+    about: "Print the components of the scenario in the file SCENARIO as a tree",
+    usage: "trade tree [--dot] <SCENARIO>",
+};
+
+const RULE: Entry<'static> = Entry {
+    name: "rule",
+    takes: Takes::Code,
+    flag: None,
+    about: "Print what the code of a fault means, as V12, and what to do; or a line for each code",
+    usage: "trade rule [CODE]",
+};
+
+// All commands.
+const ENTRIES: [Entry<'static>; 6] = [CHECK, RUN, ASM, LIST, TREE, RULE];
+
+const ABOUT: &str = "Runs components that trade memory and capabilities under quotas";
+
+const USAGE: &str = "trade <COMMAND> ..\n       trade < STORED";
+
+const AFTER: &str = "\
+A check prints a line for each leaf: the bytes of its own quantum and the steps that it uses at most.
+A run prints what the components write, and after the last turn a line on the account of each.
+Without a command, standard input has both: the scenario, a line that is %%, and the turns.
+A refusal has a code, as S13 or V12: `trade rule V12` says what it means and what to do.
+
+Exit status:
+  0  done, also when help or the version was asked for
+  1  the scenario or the turns were refused, no leaf has the name, or no rule the code
+  2  bad command line
+  3  the host has no memory left
+  4  a file could not be opened or read, is longer than 18 MiB, or output could not be written
+
+Examples:
+  trade check hello.toml
+  trade run hello.toml hello.turns
+  trade list hello.toml hello
+  trade tree --dot hello.toml | dot -Tsvg > hello.svg";
+
+// The command line that the program takes, for the parser.
+pub(crate) fn command_line<'a>(alloc: Global) -> Result<Command<'a>, AllocError>
+    ensures { IfOk result (λ line. app_of line ≡ trade) }
+{
+    let line = Command::new(alloc, "trade")
+        .about(ABOUT)
+        .version(VERSION)
+        .override_usage(USAGE)
+        .after_help(AFTER)
+        .no_binary_name(true)
+        .subcommand_required(true);
+    with_entries(alloc, line, &ENTRIES)
+}
+
+// A command line with the commands of these entries.
+fn with_entries<'a>(
+    alloc: Global,
+    mut line: Command<'a>,
+    entries: &[Entry<'a>],
+) -> Result<Command<'a>, AllocError>
+    ensures { IfOk result (λ new. app_of new ≡ with_commands (app_of line.entry) (map entered entries.now)) }
+{
+    for entry in entries {
+        line = with_entry(alloc, line, entry)?;
+    }
+    Ok(line)
+}
+
+// A command line with the command of one more entry.
+fn with_entry<'a>(
+    alloc: Global,
+    line: Command<'a>,
+    entry: &Entry<'a>,
+) -> Result<Command<'a>, AllocError>
+    ensures { IfOk result (λ new. app_of new ≡ with_subcommand (app_of line.entry) (entered entry.now).top) }
+{
+    match command_of(alloc, entry) {
+        Ok(command) => line.subcommand(command),
+        Err(refused) => Err(refused),
+    }
+}
+
+// The command of an entry, for the parser.
+fn command_of<'a>(alloc: Global, entry: &Entry<'a>) -> Result<Command<'a>, AllocError>
+    ensures { IfOk result (λ command. IsParserOf (entered entry.now) command) }
+{
+    let command = with_words(alloc, entry.name, entry.takes)?;
+    let command = command.about(entry.about).override_usage(entry.usage);
+    match entry.flag {
+        Some(flag) => command.arg(option(alloc, flag)),
+        None => Ok(command),
+    }
+}
+
+// A command of this name that takes these words.
+fn with_words<'a>(alloc: Global, name: &'a str, takes: Takes) -> Result<Command<'a>, AllocError>
+    ensures { IfOk result (λ command. IsParserOf (taking takes name.entry.now) command) }
+{
+    match takes {
+        Takes::Scenario => of_scenario(alloc, name),
+        Takes::Leaf => with_second(alloc, name, "LEAF", "The name of the leaf"),
+        Takes::Turns => with_second(alloc, name, "TURNS", "The file of the turns"),
+        Takes::Code => {
+            let code = Arg::new(alloc, "CODE").help("The code of a fault");
+            Command::new(alloc, name).arg(code)
+        }
+    }
+}
+
+// A command on the file of a scenario, with a second word.
+fn with_second<'a>(
+    alloc: Global,
+    name: &'a str,
+    second: &'a str,
+    help: &'a str,
+) -> Result<Command<'a>, AllocError>
+    ensures { IfOk result (λ command. IsParserOf (with_rule (of_scenario name.entry.now) (word_rule second.entry.now)) command) }
+{
+    let command = of_scenario(alloc, name)?;
+    let second = word(alloc, second, help);
+    command.arg(second)
+}
+
+// A command on the file of a scenario.
+fn of_scenario<'a>(alloc: Global, name: &'a str) -> Result<Command<'a>, AllocError>
+    ensures { IfOk result (λ command. IsParserOf (of_scenario name.entry.now) command) }
+{
+    let scenario = word(alloc, "SCENARIO", "The file of the scenario");
+    Command::new(alloc, name).arg(scenario)
+}
+
+// A word that must be there.
+fn word<'a>(alloc: Global, name: &'a str, help: &'a str) -> Arg<'a>
+    ensures rule { rule_of result ≡ word_rule name.entry.now }
+    ensures local { result.global ≡ false }
+{
+    Arg::new(alloc, name).help(help).required(true)
+}
+
+// An option of a command.
+fn option(alloc: Global, flag: Flag<'_>) -> Arg<'_>
+    ensures rule { rule_of result ≡ option_rule flag.entry.name.now }
+    ensures local { result.global ≡ false }
+{
+    Arg::new(alloc, flag.name)
+        .long(flag.name)
+        .help(flag.help)
+        .action(ArgAction::SetTrue)
+}

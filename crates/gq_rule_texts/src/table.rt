@@ -1,0 +1,65 @@
+// The rule of a code.
+ghost use Rattle.std.specs.Prelude.{◌≡◌, find, option_map};
+ghost use Rattle.gq_rule_texts.specs.Rules.{is_code, rule_of};
+
+use crate::limits::{BUDGETS, STEPS, TURNS};
+use crate::program::{CODE, TEXT};
+use crate::scenario::SCENARIO;
+use crate::verifier::VERIFIER;
+
+/// What a code means.
+#[derive(Clone, Copy, Debug, Drop)]
+pub struct Rule {
+    /// The code, as `V12`.
+    pub code: &'static str,
+    /// The name that stands after it, as `ShortDonation`.
+    pub name: &'static str,
+    /// A line of the code, the name and the rule in one sentence, with its line feed.
+    pub line: &'static str,
+    /// The whole text: the code and the name, the rule, what usually leads to it, what to do about it, and an example of the line that
+    /// tells it. Each line has its line feed.
+    pub text: &'static str,
+}
+
+// An entry of the table: the code, the name, the rule in one sentence, the text and the example.
+macro_rules! entry {
+    ($code:literal, $name:literal, $rule:literal, $text:literal, $example:literal) => {
+        Rule {
+            code: $code,
+            name: $name,
+            line: concat!($code, " ", $name, ": ", $rule, "\n"),
+            text: concat!($code, " ", $name, "\n\n", $text, "\n\nExample: ", $example, "\n"),
+        }
+    };
+}
+
+pub(crate) use entry;
+
+/// The table, family by family: the codes of S, M, C, V, B, U and X.
+pub fn families() -> [&'static [Rule]; 7] {
+    [&SCENARIO, &TEXT, &CODE, &VERIFIER, &BUDGETS, &TURNS, &STEPS]
+}
+
+/// The rule of a code in a table, which `families` gives: the first that has it. The code's letter may be small.
+pub fn rule_of<'r>(table: &[&'r [Rule]], code: &str) -> Option<&'r Rule>
+    ensures { option_map (λ rule. rule.now) result ≡ rule_of table.now code.now }
+{
+    for rules in table {
+        if let Some(rule) = first_of(rules, code) {
+            return Some(rule);
+        }
+    }
+    None
+}
+
+// The first rule of that code.
+fn first_of<'r>(rules: &'r [Rule], code: &str) -> Option<&'r Rule>
+    ensures { option_map (λ rule. rule.now) result ≡ find (is_code code.now) rules.now }
+{
+    for rule in rules {
+        if rule.code.eq_ignore_ascii_case(code) {
+            return Some(rule);
+        }
+    }
+    None
+}

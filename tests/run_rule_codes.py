@@ -1,0 +1,66 @@
+#!/usr/bin/env python3
+"""tests/run_rule_codes.py: holds the table of `trade rule` against the documents.
+
+The codes and names in crates/gq_rule_texts/src have to be those that docs/SCENARIOS.md and docs/MACHINE.md list: no code is missing in one of both, none is
+twice in the table, and each has one name. The example of each rule has to show its code and name, and a command that a text names has to be one of the program's
+(crates/gq_command/src/entries.rt). It wants no program. The last line is 'N passed, M failed', and the exit status is 1 where one failed.
+"""
+import collections
+import pathlib
+import re
+import sys
+
+TOP = pathlib.Path(__file__).resolve().parent.parent
+SOURCES = TOP / "crates" / "gq_rule_texts" / "src"
+DOCUMENTS = TOP / "docs" / "SCENARIOS.md", TOP / "docs" / "MACHINE.md"
+COMMANDS = TOP / "crates" / "gq_command" / "src" / "entries.rt"
+# An entry of the table: the code, the name, the rule, the text and the example.
+ENTRY = re.compile(r'entry!\(\s*"([SMCVBUX]\d+)",\s*"(\w+)",\s*"((?:[^"\\]|\\.)*)",\s*"((?:[^"\\]|\\.)*)",\s*"((?:[^"\\]|\\.)*)"\s*\)', re.DOTALL)
+# The first cell of a row of a document's table: a code and its name, perhaps with the leaf before it, as a fault of budgets has.
+LISTED = re.compile(r"^\| (?:LEAF)?`(?:: )?([SMCVBUX]\d+) (\w+)", re.MULTILINE)
+NAMED = re.compile(r"`trade ([a-z]+)")
+
+
+def listed():
+    """The names that the documents have for each code."""
+    names = collections.defaultdict(set)
+    for document in DOCUMENTS:
+        for code, name in LISTED.findall(document.read_text()):
+            names[code].add(name)
+    return names
+
+
+def findings():
+    """What is held against what: what was looked at, and what is wrong there, if anything is."""
+    entries = [entry for path in sorted(SOURCES.glob("*.rt")) for entry in ENTRY.findall(path.read_text())]
+    names = listed()
+    count = sum(path.read_text().count("entry!(") for path in SOURCES.glob("*.rt"))
+    yield "the entries of the table", None if entries and len(entries) == count else f"{len(entries)} of {count} can be read"
+    commands = set(re.findall(r'\bname: "([a-z]+)",\n    takes', COMMANDS.read_text()))
+    yield "the commands of the program", None if commands else "none is found"
+    for code, times in sorted(collections.Counter(code for code, *_ in entries).items()):
+        yield f"{code} stands once", None if times == 1 else f"it stands {times} times"
+    for code in sorted(names.keys() - {code for code, *_ in entries}):
+        yield code, "the documents list it, and the table has no such code"
+    for code, name, _, text, example in entries:
+        yield f"{code} in the documents", None if names[code] == {name} else f"the table has {name}, and they have {sorted(names[code]) or 'no such code'}"
+        shown = re.search(rf"\b{code}\b", example) and (code.startswith("X") or f"{code} {name}" in example)
+        yield f"the example of {code}", None if shown else f"it is {example!r}"
+        unknown = set(NAMED.findall(re.sub(r"\s+", " ", text))) - commands
+        yield f"the commands in the text of {code}", f"there is no {sorted(unknown)}" if unknown else None
+
+
+def main():
+    passed = failed = 0
+    for what, wrong in findings():
+        if wrong is None:
+            passed += 1
+        else:
+            failed += 1
+            print(f"FAILED {what}: {wrong}")
+    print(f"{passed} passed, {failed} failed")
+    return 1 if failed or not passed else 0
+
+
+if __name__ == "__main__":
+    sys.exit(main())
