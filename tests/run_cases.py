@@ -11,7 +11,8 @@ A case is a folder, named by what it shows. It has
   stdout, stderr, status   what the program has to write, and the exit status that it has to end with,
   length          where it is there: the number of bytes to which the scenario is filled up with number signs, which
                   a comment in its last line is made of.
-An example is a file NAME.toml in examples/ with NAME.turns, the turns, and NAME.out, what its run writes.
+An example is a file NAME.toml in examples/ with NAME.turns, the turns, and NAME.out, what its run writes; NAME.other.turns and NAME.other.out are
+other turns and what the run over them writes.
 
 A table is a file in tests/tables: many small cases of one frame. Its key `case` has them, and each says
   line            the line on standard error, after `trade: `, of a case that is refused; without it the case passes,
@@ -106,10 +107,10 @@ def cases():
     for path in sorted(TABLES.glob("*.toml")):
         for number, case in enumerate(tabled(tomllib.loads(path.read_text())), 1):
             yield f"{path.stem} {number}", *case
-    for scenario in sorted(EXAMPLES.glob("*.toml")):
-        wanted = scenario.with_suffix(".out").read_bytes(), b"", 0
-        turns = scenario.with_suffix(".turns").read_bytes()
-        yield f"examples/{scenario.name}", "run", scenario.read_bytes(), turns, wanted
+    for turns in sorted(EXAMPLES.glob("*.turns")):
+        scenario = EXAMPLES / turns.name.split(".")[0]
+        wanted = turns.with_suffix(".out").read_bytes(), b"", 0
+        yield f"examples/{turns.stem}", "run", scenario.with_suffix(".toml").read_bytes(), turns.read_bytes(), wanted
 
 
 def shortened(text):

@@ -123,11 +123,9 @@ fn push_operands(text: &mut Vec<u8>, instruction: &Instruction) -> Result<(), Al
     }
 }
 
-// Puts a statement at the end of a text: its word, then its operands.
-pub(crate) fn push_instruction(
-    text: &mut Vec<u8>,
-    instruction: &Instruction,
-) -> Result<(), AllocError>
+/// Puts a statement without statements in it at the end of a text: its word, then its operands, each behind a blank. Refused only for want of host
+/// memory.
+pub fn push_instruction(text: &mut Vec<u8>, instruction: &Instruction) -> Result<(), AllocError>
     ensures { OnOk result (text.new.items ≡ text.old.items ++ instruction_text instruction.now) }
 {
     text.extend_from_slice(shape_of(instruction).word())?;

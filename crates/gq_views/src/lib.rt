@@ -17,7 +17,7 @@
 
 mod drawn;
 pub mod graph;
-mod instructions;
+pub mod instructions;
 pub mod laws;
 mod left;
 pub mod list;

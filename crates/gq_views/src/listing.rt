@@ -79,8 +79,8 @@ fn push_body(text: &mut Vec<u8>, depth: usize, body: &Body) -> Result<(), AllocE
     Ok(())
 }
 
-// The heading of a section.
-fn push_heading(text: &mut Vec<u8>, section: Section) -> Result<(), AllocError>
+/// Puts the heading of a section at the end of a text. Refused only for want of host memory.
+pub fn push_heading(text: &mut Vec<u8>, section: Section) -> Result<(), AllocError>
     ensures { OnOk result (text.new.items ≡ text.old.items ++ section_word section) }
 {
     match section {

@@ -1,0 +1,16 @@
+-- After all work has come to rest the accounts of all nodes are the same.
+-- From regions that are the same for each thread, whose names of sessions are merged into one; phases at rest; steps, which are added up by threads; and peaks,
+-- which are raised in steps of a leaf's own thread alone.
+-- So what a run to rest leaves to whom does not depend on the turns.
+pub mod Merged
+pub mod Steps
+pub mod Nodes
+-- no peak is below what own slots have in use
+pub mod Peaks
+pub mod Peaks_kept
+-- how a step raises peaks
+pub mod Peaks_steps
+pub mod Session_places
+pub mod Peaks_same
+-- accounts
+pub mod Left

@@ -1,0 +1,9 @@
+use Rattle.gq_determined.proofs.accounting.Left.{leaves_same}
+use Rattle.gq_determined.proofs.writing.Written.{writes_same}
+use Rattle.gq_determined.proofs.determined.determined_laws.Goals as goal
+
+pub returns-clause-writes : goal.returns-clause-writes
+returns-clause-writes c s sound none = writes_same s sound none
+
+pub returns-clause-leaves : goal.returns-clause-leaves
+returns-clause-leaves c s sound none = leaves_same s sound none

@@ -1,0 +1,288 @@
+-- Threads of worlds in which no leaf changes its own slots outside `main`.
+use Rattle.std.proofs.Common.{◌≡◌, ◌≢◌, ◌⊎◌, ℕ, suc, ◌==◌, ◌&&◌, inl, inr, Bool, true, false, List, Option, Some, None, Ok}
+use Rattle.std.proofs.Common.{refl, ap, sym, ◌∙◌}
+use Rattle.std.specs.Prelude.{option_map, slice_get}
+use Rattle.std.proofs.lemmas.Bool.{true≢false}
+use Rattle.std.proofs.lemmas.Bool.Decides.{eqb_tells}
+use Rattle.gq_model.specs.declared.phase.Phase.TheVariants.{Running, Blocked, Serving, Handling}
+use Rattle.gq_model.specs.declared.program.Place.{Place}
+use Rattle.gq_model.specs.declared.program.Place.TheVariants.{Own, Shared, Object}
+use Rattle.gq_model.specs.declared.program.Instruction.{Instruction}
+use Rattle.gq_model.specs.declared.program.Instruction.TheVariants.{Say, Out, Drop, Dup, Push, Divide, Modulo, Get, Set, Index, Combine, Make, MakePool, Load}
+use Rattle.gq_model.specs.declared.program.Instruction.TheVariants.{Store, Free, Take, Give, Peek, Poke, Open, Upgrade, Call, Close}
+use Rattle.gq_model.specs.machine.Program.{Statements, Done, Do, If, Loop}
+use Rattle.gq_model.specs.machine.Scenario.{System, Component}
+use Rattle.gq_model.specs.machine.World.{Spot, Current, Leaf, World}
+use Rattle.gq_model.specs.machine.Sums.{paid}
+use Rattle.gq_model.specs.machine.Doing.{Doing, Event}
+use Rattle.gq_model.specs.machine.Requests.{free_place}
+use Rattle.gq_model.specs.machine.Step.{accept, accept_oldest, step_in, step_of, next}
+use Rattle.gq_model.proofs.Small.{none_some, some_same}
+use Rattle.gq_laws.specs.Links.{IsLinkedWorld}
+use Rattle.gq_laws.proofs.linking.Linked_worlds.{kept_linked}
+use Rattle.gq_laws.proofs.turning.Endings.{Ends}
+use Rattle.gq_laws.proofs.turning.Instructs.{accept_by}
+use Rattle.gq_laws.proofs.turning.Outcomes.{begun}
+use Rattle.gq_races.specs.Races.{is_own, changes_own}
+use Rattle.gq_determined.specs.internal.Threads.{Tracked, thread_by, anew, who, works, works_for, is_active, IsSameThread}
+use Rattle.gq_determined.proofs.passing.Kept_by_steps.{MayChange, IsAllowed}
+use Rattle.gq_determined.proofs.passing.Kept_around.{FirstAllowed}
+use Rattle.gq_determined.proofs.standing.Orderly.{IsTracked}
+use Rattle.gq_determined.proofs.regions.Regions.{put_at}
+use Rattle.gq_determined.proofs.standing.Places.{taken_there, IsWorking, IsServing, ServesSame, same_place}
+use Rattle.gq_determined.proofs.stepping.Itself.{thread_itself}
+use Rattle.gq_determined.proofs.stepping.Own_steps.{anew_else, not_free, Goes, goes_working, goes_serving}
+use Rattle.gq_determined.proofs.stepping.Own_steps as own
+use Rattle.gq_determined.proofs.stepping.Frames.{IsDone}
+
+-- outside `main` what comes first changes no own slot
+abbrev pub IsStateless : Tracked → Type 0
+IsStateless g = (x : ℕ) (leaf : Leaf) (q : Current) (i : Instruction) (rest : Statements) → slice_get g.world.leaves x ≡ Some leaf → leaf.current ≡ Some q
+    → leaf.todo ≡ Do i rest → changes_own i ≡ false
+
+-- WHAT IS ALLOWED
+
+module _ (f : ℕ → ℕ) (n : ℕ) (most : List ℕ) (d : Doing) (v : World) (K : World → World → Type 0) (M : ℕ → Type 0) (O : Spot → Type 0) where
+  abbrev May : Place → Type 0
+  May = MayChange f n most d v K M O
+
+  module _ (may : (place : Place) → May place) where
+    all_allowed : (i : Instruction) → IsAllowed f n most d v K M O i
+    all_allowed (Make form place m) = may place
+    all_allowed (MakePool place m k) = may place
+    all_allowed (Store width place) = may place
+    all_allowed (Free place) = may place
+    all_allowed (Take place) = may place
+    all_allowed (Give place) = may place
+    all_allowed (Poke place) = may place
+    all_allowed (Open place service m) = may place
+    all_allowed (Upgrade place m) = may place
+    all_allowed (Call place) = may place
+    all_allowed (Close place) = may place
+    all_allowed (Say text) = tt
+    all_allowed Out = tt
+    all_allowed Drop = tt
+    all_allowed Dup = tt
+    all_allowed (Push m) = tt
+    all_allowed (Divide m) = tt
+    all_allowed (Modulo m) = tt
+    all_allowed (Get m) = tt
+    all_allowed (Set m) = tt
+    all_allowed (Index m) = tt
+    all_allowed (Combine g) = tt
+    all_allowed (Load width place) = tt
+    all_allowed (Peek place) = tt
+
+  not_own : (place : Place) → is_own place ≡ false → May place
+  not_own (Own i) e = absurd (true≢false e)
+  not_own (Shared i) e = tt
+  not_own Object e = tt
+
+  none_allowed : (i : Instruction) → changes_own i ≡ false → IsAllowed f n most d v K M O i
+  none_allowed (Make form place m) e = not_own place e
+  none_allowed (MakePool place m k) e = not_own place e
+  none_allowed (Store width place) e = not_own place e
+  none_allowed (Free place) e = not_own place e
+  none_allowed (Take place) e = not_own place e
+  none_allowed (Give place) e = not_own place e
+  none_allowed (Poke place) e = not_own place e
+  none_allowed (Open place service m) e = not_own place e
+  none_allowed (Upgrade place m) e = not_own place e
+  none_allowed (Call place) e = not_own place e
+  none_allowed (Close place) e = not_own place e
+  none_allowed (Say text) e = tt
+  none_allowed Out e = tt
+  none_allowed Drop e = tt
+  none_allowed Dup e = tt
+  none_allowed (Push m) e = tt
+  none_allowed (Divide m) e = tt
+  none_allowed (Modulo m) e = tt
+  none_allowed (Get m) e = tt
+  none_allowed (Set m) e = tt
+  none_allowed (Index m) e = tt
+  none_allowed (Combine g) e = tt
+  none_allowed (Load width place) e = tt
+  none_allowed (Peek place) e = tt
+
+  first_allowed : (R : World → World → Type 0) (todo : Statements) → ((i : Instruction) (rest : Statements) → todo ≡ Do i rest → IsAllowed f n most d v K M O i)
+      → FirstAllowed f n most d v K R M O todo
+  first_allowed R Done h = tt
+  first_allowed R (Do i rest) h = h i rest refl
+  first_allowed R (If arm other rest) h = tt
+  first_allowed R (Loop count body rest) h = tt
+
+-- A STEP IN TWO WORLDS
+
+module _ (u : System) (pays : (z : World) → paid u z ≡ true) (g h : Tracked) (t : IsTracked u g) (th : IsTracked u h) (stateless : IsStateless g) (i x : ℕ)
+    (s : IsSameThread i g h) (sx : x ≢ i → IsSameThread x g h) (component : Component) (placed : slice_get u.components x ≡ Some component) where
+  -- the leaf in both worlds, and the step
+  pub record BothGo (new : World) (event : Event) : Type 0 where
+    pub a : Leaf
+    pub b : Leaf
+    pub there : slice_get g.world.leaves x ≡ Some a
+    pub there_h : slice_get h.world.leaves x ≡ Some b
+    pub how : (IsWorking g i x × IsWorking h i x) ⊎ ServesSame u g h t th i s x
+    pub goes : Goes u pays g h t th i x s sx component a b there there_h new event
+
+  module _ (a b : Leaf) (there : slice_get g.world.leaves x ≡ Some a) (there_h : slice_get h.world.leaves x ≡ Some b) where
+    abbrev f : ℕ → ℕ
+    f = own.f u pays g h t th i x s sx component a b there there_h
+
+    abbrev d : Doing
+    d = own.d u pays g h t th i x s sx component a b there there_h
+
+    abbrev R : World → World → Type 0
+    R = own.R u pays g h t th i x s sx component a b there there_h
+
+    abbrev K : World → World → Type 0
+    K = own.K u pays g h t th i x s sx component a b there there_h
+
+    abbrev M : ℕ → Type 0
+    M = own.M u pays g h t th i x s sx component a b there there_h
+
+    abbrev O : Spot → Type 0
+    O = own.O u pays g h t th i x s sx component a b there there_h
+
+    pub allowed : (a.current ≡ None → x ≡ i) → FirstAllowed f (suc b.steps) b.peaks d h.world K R M O a.todo
+    allowed main = first_allowed f (suc b.steps) b.peaks d h.world K M O R a.todo (λ instr rest is. by a.current refl instr rest is)
+      where
+        may : a.current ≡ None → (place : Place) → MayChange f (suc b.steps) b.peaks d h.world K M O place
+        may none (Own k) = (main none, refl, none)
+        may none (Shared k) = tt
+        may none Object = tt
+
+        by : (current : Option Current) → a.current ≡ current → (instr : Instruction) (rest : Statements) → a.todo ≡ Do instr rest
+            → IsAllowed f (suc b.steps) b.peaks d h.world K M O instr
+        by None e instr rest is = all_allowed f (suc b.steps) b.peaks d h.world K M O (may e) instr
+        by (Some q) e instr rest is = none_allowed f (suc b.steps) b.peaks d h.world K M O instr (stateless x a q instr rest there e is)
+
+  pub main_of : (w : IsWorking g i x) → w.at.leaf.current ≡ None → x ≡ i
+  main_of w none = sym (ap (thread_by g.root x) none) ∙ w.at.thread
+
+  abbrev pub both_go : (IsWorking g i x × IsWorking h i x) ⊎ ServesSame u g h t th i s x → (new : World) (event : Event) → next u g.world x ≡ Ok (new, event)
+      → BothGo new event
+  both_go (inl w) new event stepped = record {
+    a = w.0.at.leaf;
+    b = w.1.at.leaf;
+    there = w.0.at.there;
+    there_h = w.1.at.there;
+    how = inl w;
+    goes = goes_working u pays g h t th i x s sx component w.0.at.leaf w.1.at.leaf w.0.at.there w.1.at.there w.0 w.1 placed
+        (λ busy. allowed w.0.at.leaf w.1.at.leaf w.0.at.there w.1.at.there (main_of w.0)) new event stepped;
+  }
+  both_go (inr w) new event stepped = record {
+    a = w.first.leaf;
+    b = w.other.leaf;
+    there = w.first.there;
+    there_h = w.other.there;
+    how = inr w;
+    goes = goes_serving u pays g h t th i x s sx component w.first.leaf w.other.leaf w.first.there w.other.there w placed
+        (λ busy. absurd (busy w.first.serves)) new event stepped;
+  }
+
+-- A STEP IN ONE WORLD
+
+module _ (u : System) (pays : (z : World) → paid u z ≡ true) (g : Tracked) (t : IsTracked u g) (stateless : IsStateless g) (i x : ℕ) (is : who g x ≡ Some i)
+    (component : Component) (placed : slice_get u.components x ≡ Some component) where
+  abbrev itself : IsSameThread i g g
+  itself = thread_itself i g
+
+  -- the leaf, and what its step comes to
+  pub record Solo (new : World) : Type 0 where
+    pub a : Leaf
+    pub there : slice_get g.world.leaves x ≡ Some a
+    pub ended : x ≢ i → works g x x ≡ false
+    pub done : IsDone u g t i x component a there new
+
+  abbrev root : ℕ → ℕ
+  root = anew g.root (free_place g.world.sessions) i
+
+  -- a session of the thread is current at the leaf
+  record HasThread (w : World) : Type 0 where
+    holds : (l : Leaf) → slice_get w.leaves x ≡ Some l → thread_by root x l.current ≡ i
+
+  module _ (p : IsServing g i x) where
+    abbrev d_s : Doing
+    d_s = record { system = u; world = g.world; x = x; component = component; leaf = record p.leaf { steps = suc p.leaf.steps } }
+
+    root_taken : root p.taken.0.session ≡ i
+    root_taken =
+        let m = taken_there u g t i x p in
+        anew_else g.root (free_place g.world.sessions) i p.taken.0.session (not_free g.world p.taken.0.session m.0 m.1) ∙ p.root
+
+    put_leaf : (o : Option Leaf) (new l : Leaf) → option_map (λ (l : Leaf). new) o ≡ Some l → new ≡ l
+    put_leaf None new l e = absurd (none_some e)
+    put_leaf (Some o) new l e = some_same e
+
+    accepts : Ends HasThread (accept d_s p.taken.0 p.taken.1)
+    accepts = accept_by HasThread d_s p.taken.0 p.taken.1 (λ old there. record {
+      holds = λ l at. ap (thread_by root x) (ap (λ (l : Leaf). l.current) (sym (put_leaf (slice_get g.world.leaves x) (begun d_s p.taken.0 old) l
+          (sym (put_at g.world.leaves x x (begun d_s p.taken.0 old) refl) ∙ at)))) ∙ root_taken;
+    })
+
+    next_accepts : next u g.world x ≡ accept d_s p.taken.0 p.taken.1
+    next_accepts = (λ j. step_of u g.world x (placed j) (p.there j)) ∙ (ap (step_in d_s) p.serves ∙ ap (accept_oldest d_s) p.found)
+
+    thread_taken : (new : World) (event : Event) → next u g.world x ≡ Ok (new, event) → (l : Leaf) → slice_get new.leaves x ≡ Some l
+        → thread_by root x l.current ≡ i
+    thread_taken new event stepped = (accepts.holds new event (sym next_accepts ∙ stepped)).holds
+
+  working_serving : (w : IsWorking g i x) → w.at.leaf.phase ≡ Serving → ⊥
+  working_serving w e = by w.runs
+    where
+      running : Running ≡ Serving → ⊥
+      running e = cc
+
+      handling : Handling ≡ Serving → ⊥
+      handling e = cc
+
+      by : (w.at.leaf.phase ≡ Running) ⊎ (w.at.leaf.phase ≡ Handling) → ⊥
+      by (inl r) = running (sym r ∙ e)
+      by (inr r) = handling (sym r ∙ e)
+
+  serving_blocked : Serving ≡ Blocked → ⊥
+  serving_blocked e = cc
+
+  and_false : (b : Bool) → (b && false) ≡ false
+  and_false true = refl
+  and_false false = refl
+
+  pub solo : (new : World) (event : Event) → next u g.world x ≡ Ok (new, event) → Solo new
+  solo new event stepped = by (same_place u g g t t i itself x x is is).how
+    where
+      linked : IsLinkedWorld u new
+      linked = kept_linked u g.world x new event t.linked stepped
+
+      by : (IsWorking g i x × IsWorking g i x) ⊎ ServesSame u g g t t i itself x → Solo new
+      by (inl w) =
+          let r = both_go u pays g g t t stateless i x itself (λ ne. thread_itself x g) component placed (inl (w.0, w.0)) new event stepped in
+          record {
+            a = w.0.at.leaf;
+            there = w.0.at.there;
+            ended = λ ne. ap (works_for g.root x x) w.0.at.there
+                ∙ (ap (λ b. is_active w.0.at.leaf.phase && b) (out ne) ∙ and_false (is_active w.0.at.leaf.phase));
+            done = record {
+              active = w.0.at.goes;
+              linked = linked;
+              rest = r.goes.related.rest;
+              was = λ busy. w.0.at.thread;
+              taken = λ e. absurd (working_serving w.0 e);
+            };
+          }
+        where
+          out : x ≢ i → (thread_by g.root x w.0.at.leaf.current == x) ≡ false
+          out ne = elim (eqb_tells (thread_by g.root x w.0.at.leaf.current) x) [ inl q ↦ absurd (ne (sym q.1 ∙ w.0.at.thread)) | inr q ↦ q.0 ]
+      by (inr w) =
+          let r = both_go u pays g g t t stateless i x itself (λ ne. thread_itself x g) component placed (inr w) new event stepped in
+          record {
+            a = w.first.leaf;
+            there = w.first.there;
+            ended = λ ne. ap (works_for g.root x x) w.first.there ∙ ap (λ p. is_active p && (thread_by g.root x w.first.leaf.current == x)) w.first.serves;
+            done = record {
+              active = λ b. serving_blocked (sym w.first.serves ∙ b);
+              linked = linked;
+              rest = r.goes.related.rest;
+              was = λ busy. absurd (busy w.first.serves);
+              taken = λ e l at act. thread_taken w.first new event stepped l at;
+            };
+          }

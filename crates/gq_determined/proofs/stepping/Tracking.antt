@@ -1,0 +1,189 @@
+-- What is tracked fits the world after a step, too.
+use Rattle.std.proofs.Common.{◌≡◌, ◌≢◌, ℕ, suc, inl, inr, Bool, Option, Some, None, Ok, refl, ap, sym, ◌∙◌, subst}
+use Rattle.std.specs.Prelude.{option_map, slice_get}
+use Rattle.gq_model.specs.declared.phase.Phase.{Phase}
+use Rattle.gq_model.specs.declared.phase.Phase.TheVariants.{Blocked}
+use Rattle.gq_model.specs.declared.program.Place.{Place}
+use Rattle.gq_model.specs.declared.program.Place.TheVariants.{Own, Shared, Object}
+use Rattle.gq_model.specs.machine.Scenario.{System, Component}
+use Rattle.gq_model.specs.machine.World.{Waiting, Spot, In_leaf, In_session, In_object, Session, Current, Leaf, World, session_at, slot_at, spot_of}
+use Rattle.gq_model.specs.machine.Doing.{Doing, Event}
+use Rattle.gq_model.specs.machine.Requests.{free_place}
+use Rattle.gq_model.proofs.Small.{none_some, some_same}
+use Rattle.gq_laws.specs.Links.{Waits, naming_in, outline, outline_in, stance, stance_in, links, Belongs, IsLinkedWorld}
+use Rattle.gq_laws.proofs.linking.Events.{same_phase, same_current}
+use Rattle.gq_laws.proofs.Stepping.{outlined}
+use Rattle.gq_determined.specs.internal.Threads.{Tracked, anew, depth_in, depth_by, stepped_to}
+use Rattle.gq_determined.proofs.passing.Kept_by_steps.{IsNamed}
+use Rattle.gq_determined.proofs.regions.Elsewhere.{OursBy, IsOld, IsElse, current_of}
+use Rattle.gq_determined.proofs.standing.Orderly.{IsBelowOf, IsByCurrent, IsTracked}
+use Rattle.gq_determined.proofs.stepping.Own_steps.{anew_else, anew_here, not_free}
+
+-- an operand that names a session's slot names one of the current session
+named_session : (x : ℕ) (current : Option Current) (place : Place) (j b : ℕ) → spot_of x current place ≡ Some (In_session j b)
+    → (q : Current) × (current ≡ Some q) × (q.session ≡ j)
+named_session x current (Own i) j b e = absurd (ne (some_same e))
+  where
+    ne : In_leaf x i ≡ In_session j b → ⊥
+    ne e = cc
+named_session x None (Shared i) j b e = absurd (none_some e)
+named_session x (Some q) (Shared i) j b e = (q, refl, number (some_same e))
+  where
+    number : In_session q.session i ≡ In_session j b → q.session ≡ j
+    number e = cc
+named_session x None Object j b e = absurd (none_some e)
+named_session x (Some q) Object j b e = absurd (ne (some_same e))
+  where
+    ne : In_object q.session ≡ In_session j b → ⊥
+    ne e = cc
+
+-- what is current at a leaf, by what it is seen to have
+same_currents : (o p : Option Leaf) → option_map current_of o ≡ option_map current_of p → (phase : Phase) (current : Option Current)
+    → stance_in o ≡ Some (stance phase current)
+    → (l : Leaf) × (p ≡ Some l) × (l.current ≡ current)
+same_currents None p e phase current at = absurd (none_some at)
+same_currents (Some o) None e phase current at = absurd (none_some (sym e))
+same_currents (Some o) (Some l) e phase current at = (l, refl, sym (some_same e) ∙ same_current at)
+
+leaf_of : (o : Option Leaf) (phase : Phase) (current : Option Current) → stance_in o ≡ Some (stance phase current)
+    → (l : Leaf) × (o ≡ Some l) × (l.phase ≡ phase) × (l.current ≡ current)
+leaf_of None phase current at = absurd (none_some at)
+leaf_of (Some l) phase current at = (l, refl, same_phase at, same_current at)
+
+module _ (u : System) (g : Tracked) (t : IsTracked u g) (i x : ℕ) (component : Component) (a : Leaf) (there : slice_get g.world.leaves x ≡ Some a)
+    (active : a.phase ≡ Blocked → ⊥) where
+  abbrev d : Doing
+  d = record { system = u; world = g.world; x = x; component = component; leaf = record a { steps = suc a.steps } }
+
+  abbrev k0 : ℕ
+  k0 = free_place g.world.sessions
+
+  abbrev root : ℕ → ℕ
+  root = anew g.root k0 i
+
+  abbrev depth : ℕ → ℕ
+  depth = anew g.depth k0 (depth_by g.depth (slice_get g.world.leaves x))
+
+  -- what the step may change
+  abbrev pub Ours : Spot → Type 0
+  Ours = OursBy d i root
+
+  module _ (c : ℕ → Bool) (new : World) (event : Event) (linked : IsLinkedWorld u new) (rest : IsElse d i root c Ours new) where
+    same_root : (k : ℕ) (s : Session) → session_at g.world k ≡ Some s → root k ≡ g.root k
+    same_root k s at = anew_else g.root k0 i k (not_free g.world k s at)
+
+    same_depth : (k : ℕ) (s : Session) → session_at g.world k ≡ Some s → depth k ≡ g.depth k
+    same_depth k s at = anew_else g.depth k0 (depth_by g.depth (slice_get g.world.leaves x)) k (not_free g.world k s at)
+
+    new_depth : (current : Option Current) → a.current ≡ current → depth k0 ≡ depth_in g.depth current
+    new_depth current e = anew_here g.depth k0 (depth_by g.depth (slice_get g.world.leaves x)) ∙ (ap (depth_by g.depth) there ∙ ap (depth_in g.depth) e)
+
+    current_there : (q : Current) → a.current ≡ Some q → (s : Session) × (session_at g.world q.session ≡ Some s) × (s.server ≡ x)
+    current_there q at =
+        let m = t.linked.handles x a.phase q (ap stance_in there ∙ ap (λ o. Some (stance a.phase o)) at) in
+        let s = outlined (session_at g.world q.session) m.0 m.1 in
+        (s.0, s.1, ap (λ (s : Session). s.server) s.2 ∙ m.2)
+
+    below : (k : ℕ) (s : Session) → session_at new k ≡ Some s → IsBelowOf root depth k s.spot
+    below k s at = elim (rest.spots k s at) [ inl o ↦ subst (IsBelowOf root depth k) (sym o.spot) (old o) | inr o ↦ fresh s.spot o.free o.named o.ours ]
+      where
+        old : (o : IsOld d i root c Ours k s) → IsBelowOf root depth k o.old.spot
+        old o = by o.old.spot (t.below k o.old o.there) (t.linked.belongs k (outline o.old) (ap outline_in o.there))
+          where
+            by : (q : Spot) → IsBelowOf g.root g.depth k q → Belongs (links g.world) q o.old.client → IsBelowOf root depth k q
+            by (In_leaf y b) e r = (same_root k o.old o.there ∙ e.0, same_depth k o.old o.there ∙ e.1)
+            by (In_session j b) e r =
+                let p = outlined (session_at g.world j) r.0 r.1 in (
+                  same_root k o.old o.there ∙ (e.0 ∙ sym (same_root j p.0 p.1)),
+                  same_depth k o.old o.there ∙ (e.1 ∙ ap suc (sym (same_depth j p.0 p.1))),
+                )
+            by (In_object j) e r = tt
+
+        fresh : (q : Spot) → k ≡ k0 → IsNamed d q → Ours q → IsBelowOf root depth k q
+        fresh (In_leaf y b) e named ours =
+            (ap root e ∙ (anew_here g.root k0 i ∙ sym ours.0), ap depth e ∙ new_depth None ours.2)
+        fresh (In_session j b) e named ours =
+            let q = named_session x a.current named.0 j b named.1 in
+            let m = current_there q.0 q.1 in (
+              ap root e ∙ (anew_here g.root k0 i ∙ sym ours),
+              ap depth e ∙ (new_depth (Some q.0) q.1 ∙ ap suc (sym (same_depth q.0.session m.0 m.1) ∙ ap depth q.2)),
+            )
+        fresh (In_object j) e named ours = tt
+
+    -- the client of a session that waits
+    client_of : (w : World) → IsLinkedWorld u w → (q : Spot) (k : ℕ) → slot_at w q ≡ Some (Waiting k)
+        → (y : ℕ) × Belongs (links w) q y × ((current : Option Current) × ((links w).stances y ≡ Some (stance Blocked current)))
+    client_of w linked q k at =
+        let m = linked.named q (Waits k) (ap naming_in at) in
+        let spot = m.2 in (
+          m.0.client,
+          subst (λ q. Belongs (links w) q m.0.client) spot (linked.belongs k m.0 m.1),
+          linked.waits k m.0 m.1 (ap (links w).slots spot ∙ ap naming_in at),
+        )
+
+    not_x : (y : ℕ) (current : Option Current) → (links g.world).stances y ≡ Some (stance Blocked current) → y ≢ x
+    not_x y current at e = active (same_phase (sym (ap stance_in there) ∙ (ap (links g.world).stances (sym e) ∙ at)))
+
+    -- at a leaf that waits as it did the same is current
+    current_before : (y : ℕ) (was : Option Current) → (links g.world).stances y ≡ Some (stance Blocked was) → (phase : Phase) (current : Option Current)
+        → (links new).stances y ≡ Some (stance phase current) → current ≡ was
+    current_before y was stood phase current at =
+        let l = same_currents (slice_get new.leaves y) (slice_get g.world.leaves y) (rest.currents y (not_x y was stood)) phase current at in
+        sym l.2 ∙ same_current (sym (ap stance_in l.1) ∙ stood)
+
+    -- the leaf that took the step, where it waits now
+    current_now : (current phase_current : Option Current) (phase : Phase) → (links new).stances x ≡ Some (stance Blocked current)
+        → (links new).stances x ≡ Some (stance phase phase_current) → phase_current ≡ a.current
+    current_now current other phase at is =
+        let l = leaf_of (slice_get new.leaves x) Blocked current at in
+        sym (same_current (sym (ap stance_in l.1) ∙ is)) ∙ rest.blocked l.0 l.1 l.2
+
+    waits_leaf : (y b k : ℕ) → slot_at new (In_leaf y b) ≡ Some (Waiting k) → IsByCurrent new (In_leaf y b)
+    waits_leaf y b k at phase current is = elim (rest.waits (In_leaf y b) k at) [
+      | inl old ↦
+          let m = client_of g.world t.linked (In_leaf y b) k old in
+          let stood = ap (links g.world).stances m.1 ∙ m.2.1 in
+          current_before y m.2.0 stood phase current is ∙ t.waits (In_leaf y b) k old Blocked m.2.0 stood
+      | inr o ↦
+          let m = client_of new linked (In_leaf y b) k at in
+          let here : y ≡ x = o.1.1 in
+          current_now m.2.0 current phase (ap (links new).stances (sym here ∙ m.1) ∙ m.2.1) (ap (links new).stances (sym here) ∙ is) ∙ o.1.2
+    ]
+
+    waits_session : (j b k : ℕ) → slot_at new (In_session j b) ≡ Some (Waiting k) → IsByCurrent new (In_session j b)
+    waits_session j b k at s there_s phase current is = elim (rest.waits (In_session j b) k at) [
+      | inl old ↦
+          let m = client_of g.world t.linked (In_session j b) k old in
+          let p = outlined (session_at g.world j) m.1.0 m.1.1 in
+          let server : s.server ≡ p.0.server = server_same p.0 p.1 in
+          let client : p.0.server ≡ m.0 = ap (λ (s : Session). s.server) p.2 ∙ m.1.3 in
+          let stood = ap (links g.world).stances client ∙ m.2.1 in
+          let q = t.waits (In_session j b) k old p.0 p.1 Blocked m.2.0 stood in
+          (q.0, current_before p.0.server m.2.0 stood phase current (ap (links new).stances (sym server) ∙ is) ∙ q.1, q.2)
+      | inr o ↦
+          let m = client_of new linked (In_session j b) k at in
+          let p = outlined (session_at new j) m.1.0 m.1.1 in
+          let same : p.0 ≡ s = some_same (sym p.1 ∙ there_s) in
+          let client : s.server ≡ m.0 = ap (λ (s : Session). s.server) (sym same) ∙ (ap (λ (s : Session). s.server) p.2 ∙ m.1.3) in
+          let q = named_session x a.current o.0.0 j b o.0.1 in
+          let r = current_there q.0 q.1 in
+          let here : s.server ≡ x = server_same r.0 (ap (session_at g.world) (sym q.2) ∙ r.1) ∙ r.2 in (
+            q.0,
+            current_now m.2.0 current phase (ap (links new).stances (sym here ∙ client) ∙ m.2.1) (ap (links new).stances (sym here) ∙ is) ∙ q.1,
+            q.2,
+          )
+    ]
+      where
+        server_same : (p : Session) → session_at g.world j ≡ Some p → s.server ≡ p.server
+        server_same p there_p = elim (rest.spots j s there_s) [
+          | inl o ↦ o.server ∙ ap (λ (s : Session). s.server) (some_same (sym o.there ∙ there_p))
+          | inr o ↦ absurd (not_free g.world j p there_p o.free)
+        ]
+
+    waits : (q : Spot) (k : ℕ) → slot_at new q ≡ Some (Waiting k) → IsByCurrent new q
+    waits (In_leaf y b) k at = waits_leaf y b k at
+    waits (In_session j b) k at = waits_session j b k at
+    waits (In_object j) k at = tt
+
+    pub still_tracked : IsTracked u (stepped_to g x i (Ok (new, event)))
+    still_tracked = record { linked = linked; below = below; waits = waits }

@@ -1,0 +1,37 @@
+-- What is the same in all runs of a scenario, whatever the turns.
+use Rattle.std.specs.Prelude.{◌≡◌, ◌⊎◌, ℕ, ◌==◌, List, ◌++◌, Some, None, slice_get}
+use Rattle.gq_model.specs.machine.Scenario.{Scenario, Component, components, system}
+use Rattle.gq_model.specs.machine.Run.{run}
+use Rattle.gq_model.specs.machine.Accounts.{accounts}
+use Rattle.gq_laws.specs.Progress.{AllRest}
+use Rattle.gq_laws.specs.Alone.{own_lines}
+
+-- the lines of one leaf in a run
+abbrev pub lines_of : Scenario → ℕ → List (ℕ × ℕ) → List ℕ
+lines_of s x turns = own_lines (system s) (λ y. y == x) turns
+
+-- the second goes on from the first
+abbrev pub IsFront : List ℕ → List ℕ → Type 0
+IsFront text more = (rest : List ℕ) × (more ≡ text ++ rest)
+
+-- the x-th leaf provides no service
+abbrev pub ProvidesNothing : Scenario → ℕ → Type 0
+ProvidesNothing s x = (c : Component) × (slice_get (components s) x ≡ Some c) × (c.node.provides ≡ None)
+
+-- after these turns all work is at rest
+abbrev pub ComesToRest : Scenario → List (ℕ × ℕ) → Type 0
+ComesToRest s turns = AllRest (run (system s) turns).world
+
+-- each leaf that provides nothing writes the same
+pub record WritesSame (s : Scenario) : Type 0 where
+  -- in all runs to rest the same lines, in the same order
+  pub lines : (turns others : List (ℕ × ℕ)) → ComesToRest s turns → ComesToRest s others → (x : ℕ) → ProvidesNothing s x
+      → lines_of s x turns ≡ lines_of s x others
+  -- of any two runs, at rest or not, what it wrote in one is a front of what it wrote in the other, or the other way round
+  pub fronts : (turns others : List (ℕ × ℕ)) (x : ℕ) → ProvidesNothing s x
+      → IsFront (lines_of s x turns) (lines_of s x others) ⊎ IsFront (lines_of s x others) (lines_of s x turns)
+
+-- all runs to rest end with the same accounts of all nodes, by any budgets
+abbrev pub LeavesSame : Scenario → Type 0
+LeavesSame s = (turns others : List (ℕ × ℕ)) → ComesToRest s turns → ComesToRest s others → (budgets : List ℕ)
+    → accounts s (run (system s) turns).world budgets ≡ accounts s (run (system s) others).world budgets

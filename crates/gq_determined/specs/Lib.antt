@@ -1,0 +1,4 @@
+-- what does not depend on the turns
+pub mod Determined
+-- what only proofs speak of
+pub mod internal

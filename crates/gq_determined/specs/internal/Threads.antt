@@ -1,0 +1,194 @@
+-- Threads: `main` of a leaf, with the sections that other leaves run for it while it waits. Each has a region of the world, that no other changes:
+-- the leaf's own slots, and the sessions below them. Regions of two worlds are compared up to the numbers of sessions.
+use Rattle.std.specs.Prelude.{◌≡◌, ◌⊎◌, ◌++◌, ℕ, suc, ◌==◌, if◌then◌else◌, Bool, true, false, ◌&&◌, List, [], ◌∷◌, map, Option, Some, None, option_map}
+use Rattle.std.specs.Prelude.{slice_get}
+use Rattle.std.specs.Prelude.{Ok, Err}
+use Rattle.gq_model.specs.declared.phase.Phase.{Phase}
+use Rattle.gq_model.specs.declared.phase.Phase.TheVariants.{Pending, Running, Blocked, Serving, Handling, Exited}
+use Rattle.gq_model.specs.machine.Program.{Done}
+use Rattle.gq_model.specs.machine.Scenario.{Scenario, System, system}
+use Rattle.gq_model.specs.machine.Run.{run}
+use Rattle.gq_laws.specs.Progress.{each_turn}
+use Rattle.gq_laws.specs.internal.Uncounted.{uncounted}
+use Rattle.gq_model.specs.machine.World.{Slot, Session, Request, Current, Leaf, World, joined, start}
+use Rattle.gq_model.specs.machine.Doing.{Event, Stepped}
+use Rattle.gq_model.specs.machine.Requests.{free_place}
+use Rattle.gq_model.specs.machine.Step.{oldest, next}
+use Rattle.gq_laws.specs.internal.Renamed.{renamed_slot, renamed_leaf, renamed_request, Correspond}
+use Rattle.gq_determined.specs.internal.Machines.{after, shown}
+
+-- WHOSE A STEP IS
+
+-- a world, and of each number of a session the leaf below whose own slots it stands, and how many sessions stand above it
+pub record Tracked : Type 0 where
+  pub world : World
+  pub root : ℕ → ℕ
+  pub depth : ℕ → ℕ
+
+-- a leaf works for itself in `main`, and else for the leaf below whose slots its current session stands
+abbrev pub thread_by : (ℕ → ℕ) → ℕ → Option Current → ℕ
+thread_by root x None = x
+thread_by root x (Some current) = root current.session
+
+abbrev pub asker : (ℕ → ℕ) → Option (Request × List Request) → Option ℕ
+asker root None = None
+asker root (Some p) = Some (root p.0.session)
+
+abbrev pub who_by : Tracked → ℕ → Option Current → Phase → Option ℕ
+who_by g x current Running = Some (thread_by g.root x current)
+who_by g x current Handling = Some (thread_by g.root x current)
+who_by g x current Serving = asker g.root (oldest g.world x g.world.requests)
+who_by g x current Pending = None
+who_by g x current Blocked = None
+who_by g x current Exited = None
+
+abbrev pub who_of : Tracked → ℕ → Option Leaf → Option ℕ
+who_of g x None = None
+who_of g x (Some leaf) = who_by g x leaf.current leaf.phase
+
+-- the thread for which the next turn of a leaf is a step, if it is one
+abbrev pub who : Tracked → ℕ → Option ℕ
+who g x = who_of g x (slice_get g.world.leaves x)
+
+-- another value at one number
+abbrev pub anew : (ℕ → ℕ) → ℕ → ℕ → ℕ → ℕ
+anew f k a j = if j == k then a else f j
+
+-- the sessions above a new one of a leaf
+abbrev pub depth_in : (ℕ → ℕ) → Option Current → ℕ
+depth_in depth None = 0
+depth_in depth (Some current) = suc (depth current.session)
+
+abbrev pub depth_by : (ℕ → ℕ) → Option Leaf → ℕ
+depth_by depth None = 0
+depth_by depth (Some leaf) = depth_in depth leaf.current
+
+-- after a step for a thread; if it opens a session, that has the first free number
+abbrev pub stepped_to : Tracked → ℕ → ℕ → Stepped → Tracked
+stepped_to g x i (Err wrong) = g
+stepped_to g x i (Ok p) =
+    let k = free_place g.world.sessions in
+    record { world = p.0; root = anew g.root k i; depth = anew g.depth k (depth_by g.depth (slice_get g.world.leaves x)) }
+
+abbrev pub turn_for : System → Tracked → ℕ → Option ℕ → Tracked
+turn_for system g x None = g
+turn_for system g x (Some i) = stepped_to g x i (next system g.world x)
+
+-- after a turn of a leaf
+abbrev pub tracked_turn : System → Tracked → ℕ → Tracked
+tracked_turn system g x = turn_for system g x (who g x)
+
+abbrev pub tracked_start : System → Tracked
+tracked_start system = record { world = start system; root = λ k. 0; depth = λ k. 0 }
+
+-- what a turn shows: the leaf, and what it wrote
+abbrev pub events_of : ℕ → Stepped → List (ℕ × Event)
+events_of x (Ok p) = (x, p.1) ∷ []
+events_of x (Err wrong) = []
+
+abbrev pub shows : System → Tracked → ℕ → List (ℕ × Event)
+shows system g x = events_of x (next system g.world x)
+
+-- HOW A THREAD STANDS
+
+abbrev pub is_active : Phase → Bool
+is_active Pending = true
+is_active Running = true
+is_active Blocked = true
+is_active Handling = true
+is_active Serving = false
+is_active Exited = false
+
+-- a leaf that works for a thread
+abbrev pub works_for : (ℕ → ℕ) → ℕ → ℕ → Option Leaf → Bool
+works_for root i y None = false
+works_for root i y (Some leaf) = is_active leaf.phase && (thread_by root y leaf.current == i)
+
+abbrev pub works : Tracked → ℕ → ℕ → Bool
+works g i y = works_for g.root i y (slice_get g.world.leaves y)
+
+-- what a leaf is at: nothing where it serves; whether it has been started does not matter
+abbrev pub seen_by : Phase → Leaf → Leaf
+seen_by Pending leaf = record leaf { phase = Running; slots = []; peaks = []; steps = 0 }
+seen_by Running leaf = record leaf { phase = Running; slots = []; peaks = []; steps = 0 }
+seen_by Blocked leaf = record leaf { phase = Blocked; slots = []; peaks = []; steps = 0 }
+seen_by Handling leaf = record leaf { phase = Handling; slots = []; peaks = []; steps = 0 }
+seen_by Serving leaf =
+    record { phase = Serving; current = None; todo = Done; loops = []; operands = []; locals = []; slots = []; peaks = []; steps = 0 }
+seen_by Exited leaf = record { phase = Exited; current = None; todo = Done; loops = []; operands = []; locals = []; slots = []; peaks = []; steps = 0 }
+
+abbrev pub seen : Leaf → Leaf
+seen leaf = seen_by leaf.phase leaf
+
+-- a leaf is at the same in two worlds
+abbrev pub IsAtSame : (ℕ → ℕ) → ℕ → World → World → Type 0
+IsAtSame f y w v = option_map seen (slice_get v.leaves y) ≡ option_map (λ leaf. renamed_leaf f (seen leaf)) (slice_get w.leaves y)
+
+-- REGIONS
+
+-- the session of this number, where it is in the region of a leaf
+abbrev pub within : (ℕ → ℕ) → ℕ → List (Option Session) → ℕ → Option Session
+within root y sessions k = if root k == y then joined (slice_get sessions k) else None
+
+-- those of these requests that are of sessions in the region
+abbrev pub among : (ℕ → ℕ) → ℕ → List Request → List Request
+among root y [] = []
+among root y (r ∷ rest) = if root r.session == y then r ∷ among root y rest else among root y rest
+
+abbrev pub slots_of : Leaf → List Slot
+slots_of leaf = leaf.slots
+
+-- the region of a leaf is the same in two worlds, but for the numbers of sessions
+pub record IsSameRegion (f root other : ℕ → ℕ) (y : ℕ) (w v : World) : Type 0 where
+  pub slots : option_map slots_of (slice_get v.leaves y) ≡ option_map (λ leaf. map (renamed_slot f) (slots_of leaf)) (slice_get w.leaves y)
+  pub sessions : Correspond f (within root y w.sessions) (within other y v.sessions)
+  pub requests : among other y v.requests ≡ map (renamed_request f) (among root y w.requests)
+
+-- a thread has the same in two worlds: the same leaves work for it and are at the same, and its region is the same
+pub record IsSameThread (i : ℕ) (g h : Tracked) : Type 0 where
+  pub f : ℕ → ℕ
+  pub leaves : (y : ℕ) → works g i y ≡ works h i y
+  pub alike : (y : ℕ) → works g i y ≡ true → IsAtSame f y g.world h.world
+  pub region : IsSameRegion f g.root h.root i g.world h.world
+
+-- its `main` has ended
+abbrev pub HasEnded : ℕ → Tracked → Type 0
+HasEnded i g = works g i i ≡ false
+
+-- RUNS
+
+-- after turns of leaves, of which the last comes first
+abbrev pub tracked_after : System → List ℕ → Tracked
+tracked_after system = after Tracked (ℕ × Event) (tracked_start system) (tracked_turn system) who (shows system)
+
+-- what a thread shows in these turns: the leaves that took steps for it, and what each wrote
+abbrev pub shown_by : System → ℕ → List ℕ → List (ℕ × Event)
+shown_by system = shown Tracked (ℕ × Event) (tracked_start system) (tracked_turn system) who (shows system)
+
+-- where its `main` has ended in both runs a thread has the same in both, and has shown the same
+abbrev pub SameAtEnds : System → Type 0
+SameAtEnds system =
+    (i : ℕ) (turns others : List ℕ) → HasEnded i (tracked_after system turns) → HasEnded i (tracked_after system others)
+    → IsSameThread i (tracked_after system turns) (tracked_after system others) × (shown_by system i turns ≡ shown_by system i others)
+
+-- what it shows in one run is a front of what it shows in the other, or the other way round
+abbrev pub SameFronts : System → Type 0
+SameFronts system =
+    (i : ℕ) (turns others : List ℕ) → ((rest : List (ℕ × Event)) × (shown_by system i others ≡ shown_by system i turns ++ rest))
+    ⊎ ((rest : List (ℕ × Event)) × (shown_by system i turns ≡ shown_by system i others ++ rest))
+
+-- turns in their order, put before those that were
+abbrev pub turned : List ℕ → List ℕ → List ℕ
+turned [] past = past
+turned (x ∷ turns) past = turned turns (x ∷ past)
+
+-- the last turn first, of turns that are told as leaves and numbers of turns
+abbrev pub past_of : List (ℕ × ℕ) → List ℕ
+past_of turns = turned (each_turn turns) []
+
+-- where all work is at rest in both runs, each thread has the same, and has shown the same; and the runs end in these worlds
+pub record SameAtRest (s : Scenario) (turns others : List (ℕ × ℕ)) : Type 0 where
+  pub world : (run (system s) turns).world ≡ (tracked_after (uncounted (system s)) (past_of turns)).world
+  pub other : (run (system s) others).world ≡ (tracked_after (uncounted (system s)) (past_of others)).world
+  pub same : (i : ℕ) → IsSameThread i (tracked_after (uncounted (system s)) (past_of turns)) (tracked_after (uncounted (system s)) (past_of others))
+  pub shown : (i : ℕ) → shown_by (uncounted (system s)) i (past_of turns) ≡ shown_by (uncounted (system s)) i (past_of others)

@@ -1,0 +1,11 @@
+//! Which outcomes of a scenario do not depend on the turns: a theorem over definitions alone, the contract of a call that does nothing.
+//!
+//! ```rust
+//! use gq_determined::determined::determined_laws;
+//!
+//! // From here on the proof of this function knows of any two runs of a scenario whose leaves change no own slot outside `main`.
+//! determined_laws();
+//! ```
+#![tactic(auto)]
+
+pub mod determined;

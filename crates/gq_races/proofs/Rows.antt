@@ -1,0 +1,91 @@
+-- A server that counts what its clients ask of it together, and one that counts for each session alone. By computation.
+use Rattle.std.proofs.Common.{◌≡◌, ℕ, List, [], ◌∷◌, ◌++◌, codes, None, refl}
+use Rattle.std.specs.Fmt.{digits}
+use Rattle.gq_model.specs.declared.program.Form.TheVariants.{Slice}
+use Rattle.gq_model.specs.declared.program.Instruction.TheVariants.{Out, Push, Combine, Drop, Make, Load, Store, Free, Give, Open, Call, Close}
+use Rattle.gq_model.specs.declared.program.Operator.TheVariants.{Add}
+use Rattle.gq_model.specs.declared.program.Place.{Place}
+use Rattle.gq_model.specs.declared.program.Place.TheVariants.{Own, Shared, Object}
+use Rattle.gq_model.specs.declared.program.Section.TheVariants.{Main, Opening, Calling, Closing}
+use Rattle.gq_model.specs.declared.program.Width.TheVariants.{Byte, Word}
+use Rattle.gq_tariff.specs.declared.amount.Resource.TheVariants.{Ram}
+use Rattle.gq_model.specs.machine.Amounts.{amount}
+use Rattle.gq_model.specs.machine.Program.{Statements, Done, Do, If, Loop}
+use Rattle.gq_model.specs.machine.Scenario.{Scenario, Interface, LeafNode}
+use Rattle.gq_model.specs.rules.Accept.{refusal}
+use Rattle.gq_model.proofs.Samples.{all_do, leaf, server, leaves, served, main_of}
+use Rattle.gq_races.specs.Races.{changes_in, races_in, races}
+use Rattle.gq_races.specs.Text.{races_text}
+
+abbrev tally : Interface
+tally = record { arg = 10; reply = 255; need = amount 8192 0; object = 0; upgrades = []; buffer = 0; counted = Ram ∷ [] }
+
+-- adds 1 to the number that stands first at a place, and answers the number at the place that is asked for
+abbrev counting : Place → Statements
+counting place =
+    all_do (Push 0 ∷ Push 0 ∷ Load Byte place ∷ Push 1 ∷ Combine Add ∷ Store Byte place ∷ Load Byte place ∷ [])
+
+-- the numbers stand in the server's own slot
+abbrev pub together : LeafNode
+together =
+    server (codes "srv") 8192 (codes "tally") ((Main, all_do (Make Slice (Own 0) 16 ∷ [])) ∷ (Opening, Done) ∷ (Calling 0, counting (Own 0))
+    ∷ (Closing 0, Done) ∷ [])
+
+-- they stand in a slot of the session
+abbrev pub apart : LeafNode
+apart =
+    server (codes "srv") 4096 (codes "tally") ((Main, Done) ∷ (Opening, all_do (Make Slice (Shared 0) 16 ∷ [])) ∷ (Calling 0, counting (Shared 0))
+    ∷ (Closing 0, all_do (Free (Shared 0) ∷ [])) ∷ [])
+
+abbrev client : List ℕ → LeafNode
+client name = leaf name 16384 (main_of (Open (Own 0) (codes "tally") 8192 ∷ Push 0 ∷ Call (Own 0) ∷ Out ∷ Close (Own 0) ∷ []))
+
+abbrev with_clients : LeafNode → List LeafNode → Scenario
+with_clients srv clients = served ((codes "tally", tally) ∷ []) (leaves (srv ∷ clients))
+
+abbrev pub two : LeafNode → Scenario
+two srv = with_clients srv (client (codes "a") ∷ client (codes "b") ∷ [])
+
+abbrev pub single : LeafNode → Scenario
+single srv = with_clients srv (client (codes "a") ∷ [])
+
+-- all are accepted
+accepted_together : refusal (two together) ≡ None
+accepted_together = refl
+
+accepted_apart : refusal (two apart) ≡ None
+accepted_apart = refl
+
+accepted_single : refusal (single together) ≡ None
+accepted_single = refl
+
+-- WHAT RACES
+
+-- the sixth statement of the server's section for calls, where it has two clients
+race_together : races (two together) ≡ record { leaf = codes "init -> srv"; section = Calling 0; place = 6; statement = Store Byte (Own 0) } ∷ []
+race_together = refl
+
+none_apart : races (two apart) ≡ []
+none_apart = refl
+
+-- this server changes no own slot outside `main`, shared or not
+none_changed : races_in (codes "init -> srv") apart.program.sections ≡ []
+none_changed = refl
+
+none_single : races (single together) ≡ []
+none_single = refl
+
+-- AS TEXT
+
+told_together : races_text (two together) ≡ codes "race init -> srv in call 0 at 6 store o0" ++ 10 ∷ []
+unfolding digits
+told_together = refl
+
+told_apart : races_text (two apart) ≡ []
+told_apart = refl
+
+-- an `if` and a `loop` are counted before what is in them, and the first arm before the second
+counted_inside : changes_in 1 (Loop 2 (If (Do Drop (Do (Give (Own 3)) Done)) (Do (Store Word (Own 0)) Done) (Do (Store Byte Object) Done))
+    (Do (Call (Own 1)) Done))
+    ≡ (4, Give (Own 3)) ∷ (5, Store Word (Own 0)) ∷ (7, Call (Own 1)) ∷ []
+counted_inside = refl

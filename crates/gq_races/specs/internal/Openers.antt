@@ -1,0 +1,26 @@
+-- The leaves that serve what a leaf opens, as the code keeps them: those of `main` apart from all others.
+use Rattle.std.specs.Prelude.{ℕ, if◌then◌else◌, List, [], ◌∷◌, ◌++◌, map, Option}
+use Rattle.gq_model.specs.declared.program.Section.{Section}
+use Rattle.gq_model.specs.machine.Program.{Statements}
+use Rattle.gq_model.specs.machine.Scenario.{Component}
+use Rattle.gq_model.specs.rules.Kinds.{in_main}
+use Rattle.gq_model.specs.rules.Use.{services_of}
+use Rattle.gq_resolve.specs.Served.{once, server_among}
+
+-- the servers of these services, each asked for once
+abbrev pub servers_of : List Component → Component → List (List ℕ) → List (Option ℕ)
+servers_of all c services = map (server_among all c) (once services)
+
+-- of what is opened in `main`
+abbrev pub first_servers : List Component → Component → List (Section × Statements) → List (Option ℕ)
+first_servers all c [] = []
+first_servers all c (p ∷ rest) = (if in_main p.0 then servers_of all c (services_of p.1) else []) ++ first_servers all c rest
+
+-- and in all other sections
+abbrev pub later_servers : List Component → Component → List (Section × Statements) → List (Option ℕ)
+later_servers all c [] = []
+later_servers all c (p ∷ rest) = (if in_main p.0 then [] else servers_of all c (services_of p.1)) ++ later_servers all c rest
+
+-- a leaf's servers
+abbrev pub opened_from : List Component → Component → List (Option ℕ) × List (Option ℕ)
+opened_from all c = (first_servers all c c.node.program.sections, later_servers all c c.node.program.sections)

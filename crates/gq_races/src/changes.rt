@@ -1,0 +1,188 @@
+// The statements of a section that change own slots.
+ghost use Rattle.std.specs.Prelude.{◌≡◌, ◌≤◌, ◌+◌, ◌++◌, ◌∷◌, [], OnOk, IfOk, map, sum_by};
+ghost use Rattle.gq_model.specs.machine.Program.{Do, Done, size};
+ghost use Rattle.gq_model.specs.texts.Code.{greatest_statements};
+ghost use Rattle.gq_program.specs.Trees.{tree_of};
+ghost use Rattle.gq_races.specs.Races as spec;
+ghost use Rattle.gq_races.specs.Races.{changes_in, is_own, races_in};
+ghost use Rattle.gq_races.specs.Text.{front_of, race_text};
+ghost use Rattle.gq_races.specs.internal.Lines.{change_text, change_texts};
+ghost use Rattle.gq_views.specs.Listing.{joined, line};
+
+use gq_model::program::{Instruction, Place, Section};
+use gq_program::program::{Body, Program, Statement};
+use gq_views::instructions::push_instruction;
+use gq_views::listing::push_heading;
+use itoa::Buffer;
+use std::alloc::{AllocError, Global};
+
+// Whether a place is an own slot.
+fn is_own(place: Place) -> bool
+    ensures { result ≡ is_own place }
+{
+    match place {
+        Place::Own(_) => true,
+        Place::Shared(_) | Place::Object => false,
+    }
+}
+
+// Whether a statement changes an own slot, what is in it or what is behind it.
+fn changes_own(instruction: &Instruction) -> bool
+    ensures { result ≡ spec.changes_own instruction.now }
+{
+    match instruction {
+        Instruction::Store(_, place)
+        | Instruction::Take(place)
+        | Instruction::Give(place)
+        | Instruction::Poke(place)
+        | Instruction::Call(place)
+        | Instruction::Make(_, place, _)
+        | Instruction::MakePool(place, _, _)
+        | Instruction::Free(place)
+        | Instruction::Open(place, _, _)
+        | Instruction::Upgrade(place, _)
+        | Instruction::Close(place) => is_own(*place),
+        _ => false,
+    }
+}
+
+// The line of a statement with its number.
+fn push_change(
+    text: &mut Vec<u8>,
+    front: &[u8],
+    number: usize,
+    instruction: &Instruction,
+) -> Result<(), AllocError>
+    ensures { OnOk result (text.new.items ≡ text.old.items ++ line 0 (change_text front.now (number, instruction.now))) }
+{
+    text.extend_from_slice(front)?;
+    text.extend_from_slice(Buffer::new().format(number as u64).as_bytes())?;
+    text.extend_from_slice(b" ")?;
+    push_instruction(text, instruction)?;
+    text.extend_from_slice(b"\n")
+}
+
+// The line of a statement without statements in it, where it changes an own slot.
+fn push_if_changes(
+    text: &mut Vec<u8>,
+    front: &[u8],
+    number: usize,
+    instruction: &Instruction,
+) -> Result<(), AllocError>
+    ensures { OnOk result (text.new.items ≡ text.old.items ++ joined (change_texts front.now (changes_in number (Do instruction.now Done)))) }
+{
+    if changes_own(instruction) {
+        push_change(text, front, number, instruction)
+    } else {
+        Ok(())
+    }
+}
+
+// The lines of a statement with this number, and of those in it; tells the number of the next.
+#[cycle(changes)]
+fn push_changes_in(
+    text: &mut Vec<u8>,
+    front: &[u8],
+    number: usize,
+    statement: &Statement,
+) -> Result<usize, AllocError>
+    requires { number + size (tree_of (statement.now ∷ [])) ≤ 65536 }
+    ensures lines { OnOk result (text.new.items ≡ text.old.items ++ joined (change_texts front.now (changes_in number (tree_of (statement.now ∷ []))))) }
+    ensures next { IfOk result (λ next. next ≡ number + size (tree_of (statement.now ∷ []))) }
+{
+    match statement {
+        Statement::Plain(instruction) => {
+            push_if_changes(text, front, number, instruction)?;
+            Ok(number + 1)
+        }
+        Statement::If(arm, other) => {
+            let between = push_changes(text, front, number + 1, arm)?;
+            push_changes(text, front, between, other)
+        }
+        Statement::Loop(_, body) => push_changes(text, front, number + 1, body),
+    }
+}
+
+// The lines of the statements of a list whose first has this number; tells the number of the next.
+#[cycle(changes)]
+fn push_changes(
+    text: &mut Vec<u8>,
+    front: &[u8],
+    first: usize,
+    body: &Body,
+) -> Result<usize, AllocError>
+    requires { first + size body.now ≤ 65536 }
+    ensures lines { OnOk result (text.new.items ≡ text.old.items ++ joined (change_texts front.now (changes_in first body.now))) }
+    ensures next { IfOk result (λ next. next ≡ first + size body.now) }
+{
+    let mut number = first;
+    for statement in body.statements() {
+        number = push_changes_in(text, front, number, statement)?;
+    }
+    Ok(number)
+}
+
+// What stands in front of the number of a statement.
+fn front_of(alloc: Global, label: &[u8], section: Section) -> Result<Vec<u8>, AllocError>
+    ensures { IfOk result (λ front. front.items ≡ front_of label.now section) }
+{
+    let mut front = Vec::new(alloc);
+    front.extend_from_slice(b"race ")?;
+    front.extend_from_slice(label)?;
+    front.extend_from_slice(b" in ")?;
+    push_heading(&mut front, section)?;
+    front.extend_from_slice(b" at ")?;
+    Ok(front)
+}
+
+// The lines of a section, if it is not `main`.
+fn push_section(
+    alloc: Global,
+    text: &mut Vec<u8>,
+    label: &[u8],
+    section: Section,
+    body: &Body,
+) -> Result<(), AllocError>
+    requires { size body.now ≤ 4096 }
+    ensures { OnOk result (text.new.items ≡ text.old.items ++ joined (map race_text (races_in label.now ((section, body.now) ∷ [])))) }
+{
+    if let Section::Main = section {
+        return Ok(());
+    }
+    let front = front_of(alloc, label, section)?;
+    let pushed = push_changes(text, front.as_slice(), 1, body);
+    drop(front);
+    match pushed {
+        Ok(_) => Ok(()),
+        Err(refused) => Err(refused),
+    }
+}
+
+// The lines of sections, outside `main`.
+fn push_sections(
+    alloc: Global,
+    text: &mut Vec<u8>,
+    label: &[u8],
+    sections: &[(Section, Body)],
+) -> Result<(), AllocError>
+    requires { sum_by (λ p. size p.1) sections.now ≤ greatest_statements }
+    ensures { OnOk result (text.new.items ≡ text.old.items ++ joined (map race_text (races_in label.now sections.now))) }
+{
+    for (section, body) in sections {
+        push_section(alloc, text, label, *section, body)?;
+    }
+    Ok(())
+}
+
+// The lines of the sections of a program, outside `main`.
+pub(crate) fn push_leaf(
+    alloc: Global,
+    text: &mut Vec<u8>,
+    label: &[u8],
+    program: &Program,
+) -> Result<(), AllocError>
+    ensures { OnOk result (text.new.items ≡ text.old.items ++ joined (map race_text (races_in label.now program.now.sections))) }
+{
+    program.laws();
+    push_sections(alloc, text, label, program.sections())
+}
