@@ -45,7 +45,7 @@ def commands():
     """The name and the words of each command that is no run: over each example, and without one."""
     for scenario in sorted(EXAMPLES.glob("*.toml")):
         leaf = first_leaf(tomllib.loads(scenario.read_text())["start"])
-        for words in (["check"], ["tree"], ["tree", "--dot"]):
+        for words in (["check"], ["tree"], ["tree", "--dot"], ["turns"]):
             yield f"{' '.join(words)} of {scenario.name}", [*words, str(scenario)]
         for word in ("asm", "list"):
             yield f"{word} of {leaf} of {scenario.name}", [word, str(scenario), leaf]

@@ -1,5 +1,5 @@
 #!/usr/bin/env python3
-"""Hands texts of any bytes to `trade check`, `run`, `tree` and `list`: run_hostile_texts.py PROGRAM
+"""Hands texts of any bytes to `trade check`, `run`, `tree`, `turns`, `races` and `list`: run_hostile_texts.py PROGRAM
 
 Long, deep and broken texts have to be refused with the line that is told beside each; texts made of a scenario by random changes, always the same
 ones, have to be done or refused, by `check` and by `tree` with the same line. A refusal is one line on standard error, with nothing on standard output and exit status 1. The program may take
@@ -130,7 +130,7 @@ def main():
         room = pathlib.Path(folder)
         given = [(text, TIMES) for text in texts()] + [(text, TIMES_OF_TABLES) for text in tables()]
         for (name, text, line), times in given:
-            for words in (["check"], ["run"], ["tree"], ["tree", "--dot"], ["list"]):
+            for words in (["check"], ["run"], ["tree"], ["tree", "--dot"], ["turns"], ["races"], ["list"]):
                 got = result_of(program, words, room, text, times)
                 if got == (b"", f"trade: {line}\n".encode(), 1):
                     passed += 1

@@ -31,6 +31,7 @@ EXAMPLES = TOP / "examples"
 CASES = TOP / "tests" / "cases"
 SOME_CASES = "code-run", "check-two-leaves", "check-client-and-server", "check-two-inits-deep", "asm-hello", "asm-code-in-capitals"
 OF_DESIGNERS = "list-every-statement", "list-a-program-given-as-code", "tree-inits", "graph-inits", "tree-version-2", "graph-a-leaf-after-another"
+OF_RUNS = "turns-inits", "turns-version-2", "races-stores-of-a-shared-server"
 RULES = TOP / "tests" / "tables" / "rule.toml"
 SOURCE = TOP / "tests" / "refuse_growth.c"
 SECONDS = 120
@@ -66,7 +67,7 @@ def runs():
         if status == 0:
             yield " ".join(words), words, b"", text
     yield "--version", ["--version"], b"", b"trade 1.0.0\n"
-    for name in SOME_CASES + OF_DESIGNERS:
+    for name in SOME_CASES + OF_DESIGNERS + OF_RUNS:
         case = CASES / name
         command, *more = (case / "command").read_text().split()
         files = [str(case / "scenario.toml")] + ([str(case / "turns")] if command == "run" else [])

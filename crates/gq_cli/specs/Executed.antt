@@ -7,13 +7,15 @@ use Rattle.gq_init.specs.Writes.{IsFront, IsRaised}
 use Rattle.gq_world.specs.Whole.{Written, refused_with, run_written, check_written, asm_written}
 use Rattle.gq_world.specs.Headline.{WritesPromised}
 use Rattle.gq_views.specs.Written.{list_written, tree_written, graph_written}
+use Rattle.gq_traces.specs.Written.{turns_written}
+use Rattle.gq_races.specs.Written.{races_written}
 use Rattle.gq_rule_texts.specs.declared.table.Rule.{Rule as RuleText}
 use Rattle.gq_rule_texts.specs.Rules.{Table, lines_of_all, rule_of}
 use Rattle.gq_command.specs.Stored.{parted}
 use Rattle.gq_command.specs.declared.command.Command.{Command}
 use Rattle.gq_command.specs.declared.command.Command.TheVariants.{OfScenario, OfLeaf, OfTurns, Rule, Version, Stored, Help}
 use Rattle.gq_command.specs.declared.command.ScenarioCommand.{ScenarioCommand}
-use Rattle.gq_command.specs.declared.command.ScenarioCommand.TheVariants.{Check, Tree, Graph}
+use Rattle.gq_command.specs.declared.command.ScenarioCommand.TheVariants.{Check, Tree, Graph, Turns, Races}
 use Rattle.gq_command.specs.declared.command.LeafCommand.{LeafCommand}
 use Rattle.gq_command.specs.declared.command.LeafCommand.TheVariants as of_a_leaf
 use Rattle.gq_command.specs.declared.command.TurnsCommand.{TurnsCommand}
@@ -61,6 +63,8 @@ abbrev pub scenario_written : ScenarioCommand → List ℕ → Written
 scenario_written Check scenario = check_written scenario
 scenario_written Tree scenario = tree_written scenario
 scenario_written Graph scenario = graph_written scenario
+scenario_written Turns scenario = turns_written scenario
+scenario_written Races scenario = races_written scenario
 
 -- of a leaf of it
 abbrev pub leaf_written : LeafCommand → List ℕ → List ℕ → Written

@@ -21,7 +21,9 @@ use gq_command::input::{InputError, read_input};
 use gq_command::status::Status;
 use gq_command::stored::parted;
 use gq_init::counted::{Counted, put};
+use gq_races::races::races;
 use gq_rule_texts::{Rule, rule_of, write_rules};
+use gq_traces::turns::turns;
 use gq_views::graph::graph;
 use gq_views::list::list;
 use gq_views::tree::tree;
@@ -373,6 +375,8 @@ fn write_scenario<W: Write>(
         ScenarioCommand::Check => check(alloc, scenario, out),
         ScenarioCommand::Tree => tree(alloc, scenario, out),
         ScenarioCommand::Graph => graph(alloc, scenario, out),
+        ScenarioCommand::Turns => turns(alloc, scenario, out),
+        ScenarioCommand::Races => races(alloc, scenario, out),
     }
 }
 

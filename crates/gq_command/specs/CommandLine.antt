@@ -10,7 +10,7 @@ use Rattle.clap.specs.declared.error.kind.ErrorKind.TheVariants.{DisplayHelp, Di
 use Rattle.gq_command.specs.declared.command.Command.{Command}
 use Rattle.gq_command.specs.declared.command.Command.TheVariants.{OfScenario, OfLeaf, OfTurns, Rule as RuleOf, Version, Stored, Help}
 use Rattle.gq_command.specs.declared.command.ScenarioCommand.{ScenarioCommand}
-use Rattle.gq_command.specs.declared.command.ScenarioCommand.TheVariants.{Check, Tree, Graph}
+use Rattle.gq_command.specs.declared.command.ScenarioCommand.TheVariants.{Check, Tree, Graph, Turns, Races}
 use Rattle.gq_command.specs.declared.command.LeafCommand.{LeafCommand}
 use Rattle.gq_command.specs.declared.command.LeafCommand.TheVariants as of_a_leaf
 use Rattle.gq_command.specs.declared.command.TurnsCommand.{TurnsCommand}
@@ -52,6 +52,8 @@ commands =
     ∷ of_leaf (codes "asm")
     ∷ of_leaf (codes "list")
     ∷ with_rule (of_scenario (codes "tree")) (option_rule (codes "dot"))
+    ∷ of_scenario (codes "turns")
+    ∷ of_scenario (codes "races")
     ∷ of_code (codes "rule")
     ∷ []
 
@@ -85,6 +87,8 @@ abbrev pub scenario_command : Text → List Row → Option ScenarioCommand
 scenario_command name rows =
     if bytes_eq name (codes "check") then Some Check
     else if bytes_eq name (codes "tree") then Some (if is_given (codes "dot") rows then Graph else Tree)
+    else if bytes_eq name (codes "turns") then Some Turns
+    else if bytes_eq name (codes "races") then Some Races
     else None
 
 abbrev pub leaf_command : Text → Option LeafCommand

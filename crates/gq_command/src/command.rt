@@ -16,6 +16,10 @@ pub enum ScenarioCommand {
     Tree,
     /// To write its nodes as a graph for Graphviz.
     Graph,
+    /// To write a list of turns that brings all work to rest.
+    Turns,
+    /// To write the statements by which the outcome could depend on the turns.
+    Races,
 }
 
 /// What is asked of a leaf of a scenario.

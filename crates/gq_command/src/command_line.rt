@@ -88,6 +88,8 @@ fn scenario_command(name: &str, found: &ArgMatches<'_>) -> Option<ScenarioComman
         "check" => Some(ScenarioCommand::Check),
         "tree" if is_given(found, "dot") => Some(ScenarioCommand::Graph),
         "tree" => Some(ScenarioCommand::Tree),
+        "turns" => Some(ScenarioCommand::Turns),
+        "races" => Some(ScenarioCommand::Races),
         _ => None,
     }
 }

@@ -82,6 +82,22 @@ const TREE: Entry<'static> = Entry {
     usage: "trade tree [--dot] <SCENARIO>",
 };
 
+const TURNS: Entry<'static> = Entry {
+    name: "turns",
+    takes: Takes::Scenario,
+    flag: None,
+    about: "Print turns that bring all work of the scenario in the file SCENARIO to rest",
+    usage: "trade turns <SCENARIO>",
+};
+
+const RACES: Entry<'static> = Entry {
+    name: "races",
+    takes: Takes::Scenario,
+    flag: None,
+    about: "Print the statements by which the outcome of the file SCENARIO could depend on the turns",
+    usage: "trade races <SCENARIO>",
+};
+
 const RULE: Entry<'static> = Entry {
     name: "rule",
     takes: Takes::Code,
@@ -91,7 +107,7 @@ const RULE: Entry<'static> = Entry {
 };
 
 // All commands.
-const ENTRIES: [Entry<'static>; 6] = [CHECK, RUN, ASM, LIST, TREE, RULE];
+const ENTRIES: [Entry<'static>; 8] = [CHECK, RUN, ASM, LIST, TREE, TURNS, RACES, RULE];
 
 const ABOUT: &str = "Runs components that trade memory and capabilities under quotas";
 
@@ -113,6 +129,7 @@ Exit status:
 Examples:
   trade check hello.toml
   trade run hello.toml hello.turns
+  trade turns hello.toml > hello.turns
   trade list hello.toml hello
   trade tree --dot hello.toml | dot -Tsvg > hello.svg";
 

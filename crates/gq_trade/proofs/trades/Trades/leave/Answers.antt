@@ -46,7 +46,8 @@ returns-clause-follower c =
     let live : IsLive w x = subst (λ (a : Trades). IsLive a x) (sym v) c.requires.leaf in
     let i = c.index-node.result.now in let old = c.index-old.result.now in
     let ns = slice_set w.nodes i (with_stage old Ended) in
-    subst (λ (a : Trades). IfSome (follower (node_of a.trading x) ns) (λ j. CanStart (record { trading = with_memory w.trading c.close.new.self; nodes = ns }) j))
+    let r = c.close.new.self in
+    subst (λ (a : Trades). IfSome (follower (node_of a.trading x) ns) (λ j. CanStart (record { trading = with_memory w.trading r; nodes = ns }) j))
     v (follower_now w c.self.invariant (subst IsBalanced c.accounts.ensures c.laws.ensures) x live
     (subst (λ (a : Trades). HasNoSessions a.trading x) (sym v) c.requires.alone) c.pay_by.new.self c.close.new.self c.account-account.result
     c.account-root.result i old (number_at w.trading.leaves x i 0 live.there c.index-node.ensures) c.account-account.ensures c.account-root.ensures
