@@ -1,7 +1,7 @@
 #!/usr/bin/env python3
 """rows.py WHICH CASES TO PREFIX..: writes for each prefix of names of cases a file TO/Rows_PREFIX.antt with the wanted outputs as theorems by computation over
 definitions of this folder: of `turns`, `trace` and `state` where WHICH is traces, put into crates/gq_traces, and of `size` and `why` where it is sizes, put into
-a crate gq_sizes beside traces/specs/Rows.antt. The scenarios are read from their TOML, programs by `assembled`. A text with a tab is not written, nor a program
+a crate gq_sizes beside Rows.antt of the former. The scenarios are read from their TOML, programs by `assembled`. A text with a tab is not written, nor a program
 that is given as code.
 """
 import pathlib
