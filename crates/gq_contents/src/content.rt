@@ -42,7 +42,7 @@ impl Content {
     ghost use Rattle.gq_contents.specs.Contents.{removed};
     ghost use Rattle.gq_model.specs.machine.Memory.{entry_byte, entry_with};
     ghost use Rattle.gq_contents.specs.Kept.{IsAmong, Changes};
-    ghost use Rattle.gq_contents.specs.Paid.{Pays, Raises};
+    ghost use Rattle.gq_contents.specs.Paid.{IsMadeBeside, IsMadeIn, IsPaidWhereLeft, IsRaisedWhereLeft, Pays, TakesEntry};
 
     /// Whether it is nothing.
     pub fn is_empty(&self) -> bool
@@ -163,12 +163,8 @@ impl Content {
     /// changed.
     pub fn make_slice<S: ByteStore>(store: &mut S, size: u32) -> Result<Content, GrowFault>
         requires { size ≤ 67108864 }
-        ensures changes { IfOk result (λ t. (heap : Heap) → Changes heap heap (S.state store.old) (S.state store.new) content.Empty t) }
-        ensures seen { IfOk result (λ t. seen (S.state store.new) t ≡ world.Bytes form.Slice size (replicate size 0)) }
-        ensures size { IfOk result (λ t. size_of t ≡ size) }
-        ensures pays { IfOk result (λ t. (heap : Heap) → Pays heap heap (S.state store.old) (S.state store.new) content.Empty t) }
-        ensures exceeded { IsErrOf result GrowFault.Exceeded ↔ ((S.state store.old).left < up (size + 32)) }
-        ensures none { IsErrOf result GrowFault.CapsExceeded ↔ ((up (size + 32) ≤ (S.state store.old).left) × ((S.state store.old).caps ≡ Some 0)) }
+        ensures made { IfOk result (λ t. IsMadeBeside (S.state store.old) (S.state store.new) t (world.Bytes form.Slice size (replicate size 0)) size) }
+        ensures refused { IsPaidWhereLeft (S.state store.old) (up (size + 32)) result }
         ensures err { OnErr result (store.new ≡ store.old) }
         ensures rest { S.same_rest store.old store.new }
     {
@@ -182,12 +178,9 @@ impl Content {
     /// changed.
     pub fn make_space<S: ByteStore>(store: &mut S, size: u32) -> Result<Content, GrowFault>
         requires { (1 ≤ size) × (size ≤ 67108864) }
-        ensures changes { IfOk result (λ t. (heap : Heap) → Changes heap heap (S.state store.old) (S.state store.new) content.Empty t) }
-        ensures seen { IfOk result (λ t. seen (S.state store.new) t ≡ world.Bytes form.Space size (replicate (up size) 0)) }
-        ensures size { IfOk result (λ t. size_of t ≡ up size) }
-        ensures pays { IfOk result (λ t. (heap : Heap) → Pays heap heap (S.state store.old) (S.state store.new) content.Empty t) }
-        ensures exceeded { IsErrOf result GrowFault.Exceeded ↔ ((S.state store.old).left < up size) }
-        ensures none { IsErrOf result GrowFault.CapsExceeded ↔ ((up size ≤ (S.state store.old).left) × ((S.state store.old).caps ≡ Some 0)) }
+        ensures made { IfOk result (λ t. IsMadeBeside (S.state store.old) (S.state store.new) t
+            (world.Bytes form.Space size (replicate (up size) 0)) (up size)) }
+        ensures refused { IsPaidWhereLeft (S.state store.old) (up size) result }
         ensures err { OnErr result (store.new ≡ store.old) }
         ensures rest { S.same_rest store.old store.new }
     {
@@ -206,15 +199,10 @@ impl Content {
     ) -> Result<Content, GrowFault>
         requires size { (1 ≤ size) × (size ≤ 67108864) }
         requires kept { IsAmong heap.old (S.state store.old) content.Empty }
-        ensures changes { IfOk result (λ t. Changes heap.old heap.new (S.state store.old) (S.state store.new) content.Empty t) }
-        ensures seen { IfOk result (λ t. seen (S.state store.new) t ≡ world.Bytes form.Block size (replicate size 0)) }
-        ensures size { IfOk result (λ t. size_of t ≡ size) }
-        ensures pays { IfOk result (λ t. Pays heap.old heap.new (S.state store.old) (S.state store.new) content.Empty t) }
+        ensures made { IfOk result (λ t. IsMadeIn heap.old heap.new (S.state store.old) (S.state store.new) t
+            (world.Bytes form.Block size (replicate size 0)) size) }
         ensures paid { IfOk result (λ t. (S.state store.new).left + rise heap.old size ≡ (S.state store.old).left) }
-        ensures raises { IfOk result (λ t. Raises heap.old heap.new (S.state store.old) (S.state store.new) content.Empty t) }
-        ensures exceeded { IsErrOf result GrowFault.Exceeded ↔ ((S.state store.old).left < rise heap.old size) }
-        ensures none { IsErrOf result GrowFault.CapsExceeded
-            ↔ ((0 < rise heap.old size) × (rise heap.old size ≤ (S.state store.old).left) × ((S.state store.old).caps ≡ Some 0)) }
+        ensures refused { IsRaisedWhereLeft (S.state store.old) (rise heap.old size) result }
         ensures err { OnErr result ((heap.new ≡ heap.old) × (store.new ≡ store.old)) }
         ensures rest { S.same_rest store.old store.new }
     {
@@ -233,12 +221,9 @@ impl Content {
     ) -> Result<Content, GrowFault>
         requires size { (1 ≤ size) × (size ≤ 2048) }
         requires count { (1 ≤ count) × (count ≤ 1024) }
-        ensures changes { IfOk result (λ t. (heap : Heap) → Changes heap heap (S.state store.old) (S.state store.new) content.Empty t) }
-        ensures seen { IfOk result (λ t. seen (S.state store.new) t ≡ world.Pool size (replicate count None)) }
+        ensures made { IfOk result (λ t. IsMadeBeside (S.state store.old) (S.state store.new) t (world.Pool size (replicate count None)) 0) }
         ensures entries { IfOk result (λ t. (entry_count t ≡ count) × (entry_size t ≡ size)) }
-        ensures pays { IfOk result (λ t. (heap : Heap) → Pays heap heap (S.state store.old) (S.state store.new) content.Empty t) }
-        ensures exceeded { IsErrOf result GrowFault.Exceeded ↔ ((S.state store.old).left < up (4 * count)) }
-        ensures none { IsErrOf result GrowFault.CapsExceeded ↔ ((up (4 * count) ≤ (S.state store.old).left) × ((S.state store.old).caps ≡ Some 0)) }
+        ensures refused { IsPaidWhereLeft (S.state store.old) (up (4 * count)) result }
         ensures err { OnErr result (store.new ≡ store.old) }
         ensures rest { S.same_rest store.old store.new }
     {
@@ -258,13 +243,7 @@ impl Content {
     ) -> Result<bool, GrowFault>
         requires kept { IsAmong heap.old (S.state store.old) self.now }
         requires inside { index < entry_count self.now }
-        ensures changes { IfOk result (λ b. Changes heap.old heap.new (S.state store.old) (S.state store.new) self.now self.now) }
-        ensures seen { IfOk result (λ b. seen (S.state store.new) self.now ≡ with_entry index added (seen (S.state store.old) self.now)) }
-        ensures added { IfOk result (λ b. IsTrue b ↔ (entry_in index (seen (S.state store.old) self.now) ≡ None)) }
-        ensures pays { IfOk result (λ b. Pays heap.old heap.new (S.state store.old) (S.state store.new) self.now self.now) }
-        ensures raises { IfOk result (λ b. entry_in index (seen (S.state store.old) self.now) ≡ None
-            → Raises heap.old heap.new (S.state store.old) (S.state store.new) self.now self.now) }
-        ensures there { IfOk result (λ b. b ≡ false → (heap.new ≡ heap.old) × (S.state store.new ≡ S.state store.old)) }
+        ensures taken { IfOk result (λ b. TakesEntry heap.old heap.new (S.state store.old) (S.state store.new) self.now index b) }
         ensures exceeded { IsErrOf result GrowFault.Exceeded
             ↔ ((entry_in index (seen (S.state store.old) self.now) ≡ None) × ((S.state store.old).left < rise heap.old (entry_size self.now))) }
         ensures none { IsErrOf result GrowFault.CapsExceeded

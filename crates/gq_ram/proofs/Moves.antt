@@ -11,6 +11,7 @@ use Rattle.gq_ram.specs.Entries.{Entries, account_at, its_account, quota_moved, 
 use Rattle.gq_ram.specs.Entries.{available, available_caps, transfer_refusal, transfer_caps_refusal, IsOpen}
 use Rattle.gq_ram.specs.Ledgers.{Ledger, IsBalanced, with_accounts}
 use Rattle.gq_ram.proofs.Callers.{open_there, open_put, it_true}
+use Rattle.gq_ram.specs.Giving.{CanGive}
 use Rattle.gq_ram.specs.Trees.{Tree, IsTree, AreNodes, IsHop, less, more, moved, number, parent}
 
 -- the account where one was put, and elsewhere
@@ -280,24 +281,27 @@ joined l l1 l2 f b t n fo bo to bf tb tf m1 m2 =
 
 -- what the rest of the way needs, after a move from i to p
 pub record MovedTo (t : Tree) (l1 : Ledger) (p j : ℕ) (n : Amount) : Type 0 where
-  pub nodes : AreNodes t l1.accounts
-  pub from_open : IsOpen l1.accounts (number t p)
-  pub to_open : IsOpen l1.accounts (number t j)
+  pub can : CanGive t l1.accounts p j
   pub counted : l1.price ≡ 0 → n.caps ≡ 0
   pub enough : n.ram ≤ available (account_at l1.accounts (number t p))
   pub enough_caps : n.caps ≤ available_caps (account_at l1.accounts (number t p))
 
-pub after_move : (t : Tree) (l l1 : Ledger) (i p j : ℕ) (n : Amount) → IsBalanced l → AreNodes t l.accounts → i < length t.parents → p < length t.parents
-    → (p ≡ i → ⊥)
-    → IsOpen l.accounts (number t i) → IsOpen l.accounts (number t p) → IsOpen l.accounts (number t j) → (l.price ≡ 0 → n.caps ≡ 0)
+pub after_move : (t : Tree) (l l1 : Ledger) (i p j : ℕ) (n : Amount) → IsBalanced l → CanGive t l.accounts i j → p < length t.parents
+    → (p ≡ i → ⊥) → (p ≡ j → ⊥) → IsOpen l.accounts (number t p) → (l.price ≡ 0 → n.caps ≡ 0)
     → l1 ≡ with_accounts l (moved l.accounts (number t i) (number t p) n) → MovedTo t l1 p j n
-after_move t l l1 i p j n b a il pl ne io po jo counted m =
+after_move t l l1 i p j n b can pl ne pj po counted m =
     let es = l.accounts in let f = number t i in let k = number t p in
-    let apart : k ≡ f → ⊥ = far t es p i a pl il ne in
+    let apart : k ≡ f → ⊥ = far t es p i can.nodes pl can.from ne in
+    let io = can.from_open in
     subst (λ (x : Ledger). MovedTo t x p j n) (sym m) (record {
-      nodes = nodes_kept t es f k n a io po;
-      from_open = still_open es f k n k po;
-      to_open = still_open es f k n (number t j) jo;
+      can = record {
+        nodes = nodes_kept t es f k n can.nodes io po;
+        from = pl;
+        to = can.to;
+        apart = pj;
+        from_open = still_open es f k n k po;
+        to_open = still_open es f k n (number t j) can.to_open;
+      };
       counted = counted;
       enough = can_pay es f k n io po apart (b.within k);
       enough_caps = can_pay_caps es f k n io po apart (b.caps_within k);

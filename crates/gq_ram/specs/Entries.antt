@@ -1,5 +1,5 @@
 -- The table of accounts.
-use Rattle.std.specs.Prelude.{ℕ, ◌+◌, ◌-◌, List, [], ◌∷◌, Option, Some, None, Bool, true, false}
+use Rattle.std.specs.Prelude.{◌≡◌, ℕ, ◌+◌, ◌-◌, Result, IfErr, OnOk, List, [], ◌∷◌, Option, Some, None, Bool, true, false}
 use Rattle.std.specs.Prelude.{nat_eq, nat_lt, if◌then◌else◌, get_or, slice_set, is_some, IsTrue}
 use Rattle.gq_tariff.specs.Prices.{up}
 use Rattle.gq_tariff.specs.declared.amount.Amount.{Amount}
@@ -92,6 +92,11 @@ abbrev pub available_caps : Account → ℕ
 available_caps a = a.quota.caps - a.used.caps
 
 -- WHEN CALLS ARE REFUSED
+
+-- a call is refused for this, and not refused where there is no refusal
+pub record IsRefusedFor {A : Type 0} (r : Result A AccountFault) (refusal : Option AccountFault) : Type 0 where
+  pub refused : IfErr r (λ fault. refusal ≡ Some fault)
+  pub allowed : OnOk r (refusal ≡ None)
 
 -- there is that account, and it is b
 abbrev pub is_it : Option AccountNo → AccountNo → Bool

@@ -1,10 +1,13 @@
 -- What a contract sees of an `Accounts`, and what holds in each.
-use Rattle.std.specs.Prelude.{◌≡◌, ℕ, ◌+◌, ◌*◌, ◌/◌, ◌≤◌, List, [], ◌∷◌, Option, Some, None, replicate, length, get_or, slice_set, is_some}
+use Rattle.std.specs.Prelude.{◌≡◌, ℕ, ◌+◌, ◌*◌, ◌/◌, ◌≤◌, List, [], ◌∷◌, Option, Some, None, replicate, length, get_or, slice_set, is_some, IfSome}
+use Rattle.gq_tariff.specs.Prices.{up}
+use Rattle.gq_pages.specs.Bytes.{zeros}
 use Rattle.gq_pages.specs.Frames.{has_bytes, all_free}
-use Rattle.gq_dataspace.specs.Dataspaces.{Dataspaces}
+use Rattle.gq_dataspace.specs.Dataspaces.{Dataspaces, IsVacant, content_of}
+use Rattle.gq_dataspace.specs.declared.spaces.DsId.{DsId}
 use Rattle.gq_ram.specs.declared.account.AccountNo.{AccountNo}
-use Rattle.gq_ram.specs.Entries.{Entries, no_amount, account_at, sum_over, IsOpen}
-use Rattle.gq_ram.specs.Owning.{Owners, owned}
+use Rattle.gq_ram.specs.Entries.{Entries, no_amount, account_at, charged, left_to, sum_over, IsOpen}
+use Rattle.gq_ram.specs.Owning.{IsOf, Owners, owned}
 
 pub record Ledger : Type 0 where
   pub accounts : Entries
@@ -47,6 +50,21 @@ first_ledger total caps = record {
 -- the price and the totals are the same
 abbrev pub IsSameWhole : Ledger → Ledger → Type 0
 IsSameWhole l m = (l.price ≡ m.price) × (l.total ≡ m.total) × (l.total_caps ≡ m.total_caps)
+
+-- a dataspace of n bytes in whole pages is made, which reads 0 and which this account pays for
+pub record MakesDataspace (old new : Ledger) (a : AccountNo) (n : ℕ) (ds : DsId) : Type 0 where
+  pub paid : new.accounts ≡ charged old.accounts a.0 (up n) old.price
+  pub was_vacant : IsVacant old.spaces.spaces ds.0
+  pub made : new.spaces.spaces ≡ slice_set old.spaces.spaces ds.0 (Some (zeros (up n)))
+  pub size : length (content_of new.spaces.spaces ds.0) ≡ up n
+  pub of_it : new.owners ≡ slice_set old.owners ds.0 (Some a)
+
+-- an account is gone with its dataspaces, and its quota goes to its reference account
+pub record ClosesAccount (old new : Ledger) (a : AccountNo) : Type 0 where
+  pub left : IfSome (account_at old.accounts a.0).reference (λ r. new.accounts ≡ left_to old.accounts a.0 r.0)
+  pub gone : (k : ℕ) → IsOf old.owners k a → get_or new.spaces.spaces k None ≡ None
+  pub others : (k : ℕ) → (IsOf old.owners k a → ⊥) → get_or new.spaces.spaces k None ≡ get_or old.spaces.spaces k None
+  pub other_owners : (k : ℕ) → (IsOf old.owners k a → ⊥) → get_or new.owners k None ≡ get_or old.owners k None
 
 -- what holds in each
 pub record IsBalanced (l : Ledger) : Type 0 where

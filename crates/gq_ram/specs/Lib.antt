@@ -4,4 +4,5 @@ pub mod Ledgers
 pub mod internal
 pub mod Trees
 pub mod Handing
+pub mod Giving
 pub mod Opening

@@ -1,15 +1,14 @@
 // Accounts over dataspaces: who pays for what.
 ghost use Rattle.std.specs.Prelude.{◌≡◌, [], ◌∷◌, ◌+◌, ◌-◌, ◌%◌, ◌<◌, ◌≤◌, ℕ, length, replicate, slice_index, slice_set, get_or};
-ghost use Rattle.std.specs.Prelude.{Some, None, Ok, Err, IfOk, IfErr, IfSome, OnOk, OnErr};
+ghost use Rattle.std.specs.Prelude.{Some, None, Ok, Err, IfOk, IfSome, OnOk, OnErr};
 ghost use Rattle.std.specs.Int.{w32, to_le_bytes};
-ghost use Rattle.gq_tariff.specs.Prices.{up};
-ghost use Rattle.gq_pages.specs.Bytes.{zeros, zeroed, word_at, with_bytes};
-ghost use Rattle.gq_dataspace.specs.Dataspaces.{IsVacant, content_of};
-ghost use Rattle.gq_ram.specs.Entries.{account_at, with_use, first_account, charged, relieved, quotas_set, quota_moved, caps_moved, left_to};
+ghost use Rattle.gq_pages.specs.Bytes.{zeroed, word_at, with_bytes};
+ghost use Rattle.gq_dataspace.specs.Dataspaces.{content_of};
+ghost use Rattle.gq_ram.specs.Entries.{account_at, with_use, first_account, relieved, quotas_set, quota_moved, caps_moved};
 ghost use Rattle.gq_ram.specs.Entries.{are_related, available, available_caps, has_members, is_it, passed, IsOpen};
-ghost use Rattle.gq_ram.specs.Entries.{transfer_refusal, transfer_caps_refusal, alloc_refusal, close_refusal};
+ghost use Rattle.gq_ram.specs.Entries.{IsRefusedFor, transfer_refusal, transfer_caps_refusal, alloc_refusal, close_refusal};
 ghost use Rattle.gq_ram.specs.Owning.{IsOf};
-ghost use Rattle.gq_ram.specs.Ledgers.{IsBalanced, IsSameWhole, with_accounts, with_content, first_ledger};
+ghost use Rattle.gq_ram.specs.Ledgers.{MakesDataspace, ClosesAccount, IsBalanced, IsSameWhole, with_accounts, with_content, first_ledger};
 
 use crate::account::{Account, AccountFault, AccountNo};
 use gq_dataspace::{DsId, Spaces};
@@ -216,8 +215,7 @@ impl Accounts {
         requires to_open { IsOpen self.old.accounts to.0 }
         ensures moved { OnOk result (self.new ≡ with_accounts self.old (quota_moved self.old.accounts from.0 to.0 amount)) }
         ensures unchanged { OnErr result (self.new ≡ self.old) }
-        ensures refused { IfErr result (λ fault. transfer_refusal self.old.accounts from to amount ≡ Some fault) }
-        ensures allowed { OnOk result (transfer_refusal self.old.accounts from to amount ≡ None) }
+        ensures refusal { IsRefusedFor result (transfer_refusal self.old.accounts from to amount) }
     {
         let _total = self.total;
         if !self.are_related(from, to) {
@@ -253,8 +251,7 @@ impl Accounts {
         ensures moved { OnOk result (1 ≤ self.old.price → self.new ≡ with_accounts self.old (caps_moved self.old.accounts from.0 to.0 amount)) }
         ensures uncounted { OnOk result (self.old.price ≡ 0 → self.new ≡ self.old) }
         ensures unchanged { OnErr result (self.new ≡ self.old) }
-        ensures refused { IfErr result (λ fault. transfer_caps_refusal self.old.accounts self.old.price from to amount ≡ Some fault) }
-        ensures allowed { OnOk result (transfer_caps_refusal self.old.accounts self.old.price from to amount ≡ None) }
+        ensures refusal { IsRefusedFor result (transfer_caps_refusal self.old.accounts self.old.price from to amount) }
     {
         if !self.are_related(from, to) {
             return Err(AccountFault::NotRelated);
@@ -309,15 +306,10 @@ impl Accounts {
     /// its pages cost more than the account has that is not used, then `CapsExceeded` where it has no capability left. Frames never run short.
     pub fn alloc(&mut self, account: AccountNo, size: u64) -> Result<DsId, AccountFault>
         requires { IsOpen self.old.accounts account.0 }
-        ensures paid { IfOk result (λ ds. self.new.accounts ≡ charged self.old.accounts account.0 (up size) self.old.price) }
-        ensures was_vacant { IfOk result (λ ds. IsVacant self.old.spaces.spaces ds.0) }
-        ensures made { IfOk result (λ ds. self.new.spaces.spaces ≡ slice_set self.old.spaces.spaces ds.0 (Some (zeros (up size)))) }
-        ensures size { IfOk result (λ ds. length (content_of self.new.spaces.spaces ds.0) ≡ up size) }
-        ensures of_it { IfOk result (λ ds. self.new.owners ≡ slice_set self.old.owners ds.0 (Some account)) }
+        ensures allocated { IfOk result (λ ds. MakesDataspace self.old self.new account size ds) }
         ensures same_whole { IsSameWhole self.new self.old }
         ensures unchanged { OnErr result (self.new ≡ self.old) }
-        ensures refused { IfErr result (λ fault. alloc_refusal (account_at self.old.accounts account.0) self.old.price size ≡ Some fault) }
-        ensures allowed { OnOk result (alloc_refusal (account_at self.old.accounts account.0) self.old.price size ≡ None) }
+        ensures refusal { IsRefusedFor result (alloc_refusal (account_at self.old.accounts account.0) self.old.price size) }
     {
         if size == 0 {
             return Err(AccountFault::ZeroSize);
@@ -363,20 +355,14 @@ impl Accounts {
         payer.used.caps -= price;
     }
 
-    /// Closes an account: its dataspaces are removed, and its quota of both kinds goes to its reference account. `IsRoot` for the root account,
+    /// ClosesAccount an account: its dataspaces are removed, and its quota of both kinds goes to its reference account. `IsRoot` for the root account,
     /// then `HasMembers` where it is the reference account of another one.
     pub fn close(&mut self, account: AccountNo) -> Result<(), AccountFault>
         requires { IsOpen self.old.accounts account.0 }
-        ensures left { OnOk result (IfSome (account_at self.old.accounts account.0).reference
-            (λ r. self.new.accounts ≡ left_to self.old.accounts account.0 r.0)) }
-        ensures gone { OnOk result ((k : ℕ) → IsOf self.old.owners k account → get_or self.new.spaces.spaces k None ≡ None) }
-        ensures others { OnOk result ((k : ℕ) → (IsOf self.old.owners k account → ⊥)
-            → get_or self.new.spaces.spaces k None ≡ get_or self.old.spaces.spaces k None) }
-        ensures other_owners { OnOk result ((k : ℕ) → (IsOf self.old.owners k account → ⊥) → get_or self.new.owners k None ≡ get_or self.old.owners k None) }
+        ensures closed { OnOk result (ClosesAccount self.old self.new account) }
         ensures same_whole { IsSameWhole self.new self.old }
         ensures unchanged { OnErr result (self.new ≡ self.old) }
-        ensures refused { IfErr result (λ fault. close_refusal self.old.accounts account ≡ Some fault) }
-        ensures allowed { OnOk result (close_refusal self.old.accounts account ≡ None) }
+        ensures refusal { IsRefusedFor result (close_refusal self.old.accounts account) }
     {
         let closing = self.account(account);
         let Some(reference) = closing.reference else {

@@ -1,7 +1,8 @@
 // The nodes of a scenario in preorder, each with its account.
-ghost use Rattle.std.specs.Prelude.{◌≡◌, ℕ, ◌<◌, ◌≤◌, ◌↔◌, OnOk, OnErr, IsErrOf, length, get_or};
-ghost use Rattle.gq_ram.specs.Entries.{available, available_caps, IsOpen};
-ghost use Rattle.gq_ram.specs.Trees.{account_of, donated, number, parent, AreNodes, IsHop};
+ghost use Rattle.std.specs.Prelude.{◌≡◌, ℕ, ◌<◌, ◌≤◌, OnOk, OnErr, length, get_or};
+ghost use Rattle.gq_ram.specs.Entries.{available, available_caps};
+ghost use Rattle.gq_ram.specs.Giving.{CanGive, IsAfforded};
+ghost use Rattle.gq_ram.specs.Trees.{account_of, donated, number, parent, IsHop};
 
 use crate::account::{AccountFault, AccountNo};
 use crate::accounts::Accounts;
@@ -65,23 +66,12 @@ impl AccountTree {
         to: usize,
         amount: Amount,
     ) -> Result<(), AccountFault>
-        requires nodes { AreNodes self.now accounts.old.accounts }
-        requires from { from < length self.now.parents }
-        requires to { to < length self.now.parents }
-        requires apart { from ≡ to → ⊥ }
-        requires from_open { IsOpen accounts.old.accounts (number self.now from) }
-        requires to_open { IsOpen accounts.old.accounts (number self.now to) }
+        requires can { CanGive self.now accounts.old.accounts from to }
         requires counted { accounts.old.price ≡ 0 → amount.caps ≡ 0 }
         ensures moved { OnOk result (accounts.new ≡ donated self.now accounts.old from to amount) }
-        ensures enough { OnOk result (amount.ram ≤ available (account_of self.now accounts.old from)) }
-        ensures enough_caps { OnOk result (amount.caps ≤ available_caps (account_of self.now accounts.old from)) }
+        ensures afforded { IsAfforded result (available (account_of self.now accounts.old from))
+            (available_caps (account_of self.now accounts.old from)) amount }
         ensures unchanged { OnErr result (accounts.new ≡ accounts.old) }
-        ensures exceeded { IsErrOf result AccountFault.Exceeded ↔ (available (account_of self.now accounts.old from) < amount.ram) }
-        ensures caps_exceeded { IsErrOf result AccountFault.CapsExceeded
-            ↔ ((amount.ram ≤ available (account_of self.now accounts.old from))
-            × (available_caps (account_of self.now accounts.old from) < amount.caps)) }
-        ensures only { OnErr result (amount.ram ≤ available (account_of self.now accounts.old from)
-            → available_caps (account_of self.now accounts.old from) < amount.caps) }
     {
         accounts.laws();
         let giver = self.accounts[from];
@@ -97,12 +87,7 @@ impl AccountTree {
 
     /// Moves quota of both kinds, as `donate` does, where the giver is known to have it: this is never refused.
     pub fn give(&self, accounts: &mut Accounts, from: usize, to: usize, amount: Amount)
-        requires nodes { AreNodes self.now accounts.old.accounts }
-        requires from { from < length self.now.parents }
-        requires to { to < length self.now.parents }
-        requires apart { from ≡ to → ⊥ }
-        requires from_open { IsOpen accounts.old.accounts (number self.now from) }
-        requires to_open { IsOpen accounts.old.accounts (number self.now to) }
+        requires can { CanGive self.now accounts.old.accounts from to }
         requires counted { accounts.old.price ≡ 0 → amount.caps ≡ 0 }
         requires enough { amount.ram ≤ available (account_of self.now accounts.old from) }
         requires enough_caps { amount.caps ≤ available_caps (account_of self.now accounts.old from) }
@@ -113,12 +98,7 @@ impl AccountTree {
 
     // Moves what the giver has: between two nodes of one init in one step, else hop by hop.
     fn convey(&self, accounts: &mut Accounts, from: usize, to: usize, amount: Amount)
-        requires nodes { AreNodes self.now accounts.old.accounts }
-        requires from { from < length self.now.parents }
-        requires to { to < length self.now.parents }
-        requires apart { from ≡ to → ⊥ }
-        requires from_open { IsOpen accounts.old.accounts (number self.now from) }
-        requires to_open { IsOpen accounts.old.accounts (number self.now to) }
+        requires can { CanGive self.now accounts.old.accounts from to }
         requires counted { accounts.old.price ≡ 0 → amount.caps ≡ 0 }
         requires enough { amount.ram ≤ available (account_of self.now accounts.old from) }
         requires enough_caps { amount.caps ≤ available_caps (account_of self.now accounts.old from) }
@@ -133,12 +113,7 @@ impl AccountTree {
 
     // Moves what the giver has, up from whichever of the two stands later in preorder.
     fn carry(&self, accounts: &mut Accounts, from: usize, to: usize, amount: Amount)
-        requires nodes { AreNodes self.now accounts.old.accounts }
-        requires from { from < length self.now.parents }
-        requires to { to < length self.now.parents }
-        requires apart { from ≡ to → ⊥ }
-        requires from_open { IsOpen accounts.old.accounts (number self.now from) }
-        requires to_open { IsOpen accounts.old.accounts (number self.now to) }
+        requires can { CanGive self.now accounts.old.accounts from to }
         requires counted { accounts.old.price ≡ 0 → amount.caps ≡ 0 }
         requires enough { amount.ram ≤ available (account_of self.now accounts.old from) }
         requires enough_caps { amount.caps ≤ available_caps (account_of self.now accounts.old from) }
@@ -164,12 +139,8 @@ impl AccountTree {
 
     // Moves what the giver has between a node and its init.
     fn hop(&self, accounts: &mut Accounts, from: usize, to: usize, amount: Amount)
-        requires nodes { AreNodes self.now accounts.old.accounts }
-        requires from { from < length self.now.parents }
-        requires to { to < length self.now.parents }
+        requires can { CanGive self.now accounts.old.accounts from to }
         requires near { IsHop self.now from to }
-        requires from_open { IsOpen accounts.old.accounts (number self.now from) }
-        requires to_open { IsOpen accounts.old.accounts (number self.now to) }
         requires counted { accounts.old.price ≡ 0 → amount.caps ≡ 0 }
         requires enough { amount.ram ≤ available (account_of self.now accounts.old from) }
         requires enough_caps { amount.caps ≤ available_caps (account_of self.now accounts.old from) }

@@ -1,7 +1,7 @@
 -- What the functions of slots do, as a change of one content.
 use Rattle.std.proofs.Common.{◌≡◌, ℕ, zero, suc, ◌<◌, ◌≤◌, ◌⊎◌, inl, inr, Bool, true, false, List, [], ◌∷◌, ◌++◌, length, set, get_or, Option, Some, None}
 use Rattle.std.proofs.Common.{Result, Ok, Err, refl, sym, ap, subst, ◌∙◌, arith}
-use Rattle.std.specs.Prelude.{◌↔◌, IfOk, IsTrue, OnErr, OnOk}
+use Rattle.std.specs.Prelude.{IfOk, IsTrue, OnErr, OnOk}
 use Rattle.std.proofs.lemmas.List.{set-get_or}
 use Rattle.gq_tariff.specs.Prices.{classes}
 use Rattle.gq_model.specs.machine.Amounts.{Resource}
@@ -15,9 +15,9 @@ use Rattle.gq_trade.specs.Rest.{SameRest}
 use Rattle.gq_trade.specs.declared.requests.Request.{Request}
 use Rattle.gq_contents.specs.declared.content.Content.{Content}
 use Rattle.gq_contents.specs.declared.content.Content.TheVariants.{Empty}
-use Rattle.gq_contents.specs.Contents.{added, entry_in, seen, with_entry}
+use Rattle.gq_contents.specs.Contents.{added, seen, with_entry}
 use Rattle.gq_contents.specs.Kept.{Changes, IsAmong, KeepsContents}
-use Rattle.gq_contents.specs.Paid.{Pays, Raises, places_used, raised_by}
+use Rattle.gq_contents.specs.Paid.{Pays, Raises, TakesEntry, places_used, raised_by}
 use Rattle.gq_trade.specs.declared.session.Session.{Session}
 use Rattle.gq_trade.specs.declared.session.Spot.{Spot}
 use Rattle.gq_trade.specs.declared.session.Spot.TheVariants.{InLeaf, InSession, InObject}
@@ -376,7 +376,7 @@ frees z s v w own p h g t x e a tr at_x l r changes pays same ws os =
     )
 
 -- where nothing was done
-same_parts : (s : Slots) (v : Trades) (h g : Heap) (x : ℕ) → g ≡ h → v ≡ s.trades → IsHeapOf s x h → of_parts v s.own (set s.heaps x g) ≡ s
+pub same_parts : (s : Slots) (v : Trades) (h g : Heap) (x : ℕ) → g ≡ h → v ≡ s.trades → IsHeapOf s x h → of_parts v s.own (set s.heaps x g) ≡ s
 same_parts s v h g x e f is = (λ k. of_parts (f k) s.own (set s.heaps x (e k))) ∙ ap (of_parts s.trades s.own) (same_heap s x h is)
 
 true_is : IsTrue true
@@ -384,15 +384,12 @@ true_is = refl
 
 -- an entry that is added, or was there, or is refused
 pub takes : {E : Type 0} (z s : Slots) (v : Trades) (p : Spot) (h g : Heap) (t : Content) (i x : ℕ) (res : Result Bool E) → s ≡ z → IsAt s p h t
-    → IsTrading s.trades.trading → x ≡ holder z p → SameButMemory s.trades v → IfOk res (λ b. Changes h g (paying s.trades) (paying v) t t)
-    → IfOk res (λ b. seen (paying v) t ≡ with_entry i added (seen (paying s.trades) t))
-    → IfOk res (λ b. IsTrue b ↔ (entry_in i (seen (paying s.trades) t) ≡ None)) → IfOk res (λ b. Pays h g (paying s.trades) (paying v) t t)
-    → IfOk res (λ b. entry_in i (seen (paying s.trades) t) ≡ None → Raises h g (paying s.trades) (paying v) t t)
-    → IfOk res (λ b. b ≡ false → (g ≡ h) × (paying v ≡ paying s.trades)) → OnErr res ((g ≡ h) × (v ≡ s.trades))
+    → IsTrading s.trades.trading → x ≡ holder z p → SameButMemory s.trades v
+    → IfOk res (λ b. TakesEntry h g (paying s.trades) (paying v) t i b) → OnErr res ((g ≡ h) × (v ≡ s.trades))
     → IsSlots (of_parts v s.own (set s.heaps x g)) × OnOk res (Settles z (of_parts v s.own (set s.heaps x g)) p (with_entry i added (slot_of z p)))
-takes z s v p h g t i x (Ok true) e a w at_x r changes seen_so is_added pays raises there err =
-    takes_place z s v p h g t (with_entry i added) x e a w at_x r changes seen_so pays (inl (raises (is_added.0 true_is)))
-takes z s v p h g t i x (Ok false) e a w at_x r changes seen_so is_added pays raises there err =
-    takes_place z s v p h g t (with_entry i added) x e a w at_x r changes seen_so pays (inr (there refl))
-takes z s v p h g t i x (Err f) e a w at_x r changes seen_so is_added pays raises there err =
+takes z s v p h g t i x (Ok true) e a w at_x r taken err =
+    takes_place z s v p h g t (with_entry i added) x e a w at_x r taken.changes taken.reads taken.pays (inl (taken.raises (taken.fresh.0 true_is)))
+takes z s v p h g t i x (Ok false) e a w at_x r taken err =
+    takes_place z s v p h g t (with_entry i added) x e a w at_x r taken.changes taken.reads taken.pays (inr (taken.there refl))
+takes z s v p h g t i x (Err f) e a w at_x r taken err =
     (subst IsSlots (sym (same_parts s v h g x err.0 err.1 (subst (λ y. IsHeapOf s y h) (sym (at_x ∙ ap (λ y. holder y p) (sym e))) a.heap))) a.kept, tt)

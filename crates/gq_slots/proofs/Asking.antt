@@ -264,6 +264,10 @@ pub kept_or_not : {A E : Type 0} (r : Result A E) (s : Slots) (v : Trades) (t : 
 kept_or_not (Ok a) s v t ok err i f = subst (λ y. IsSlots (of_parts y s.own s.heaps)) (sym ok) (f ok)
 kept_or_not (Err e) s v t ok err i f = subst (λ y. IsSlots (of_parts y s.own s.heaps)) (sym err) i
 
+pub on_err : {A E : Type 0} {P : Type 0} (r : Result A E) → P → OnErr r P
+on_err (Ok a) p = tt
+on_err (Err e) p = p
+
 pub on_ok : {A E P Q : Type 0} (r : Result A E) → (P → Q) → OnOk r P → OnOk r Q
 on_ok (Ok a) f p = f p
 on_ok (Err e) f p = p

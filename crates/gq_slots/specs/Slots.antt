@@ -80,6 +80,13 @@ IsMark (Waiting k) = Unit {0}
 abbrev pub IsPaidBy : Slots → ℕ → Type 0
 IsPaidBy s x = s.trades.trading.memory.payer ≡ account_no s.trades.trading x
 
+-- something can be made in a slot: it is there and empty, and whose memory it is pays now
+pub record CanMake (s : Slots) (p : Spot) : Type 0 where
+  pub slot : IsSlot p
+  pub there : IsSpot s p
+  pub paid : IsPaidBy s (holder s p)
+  pub empty : content_at s p ≡ Empty
+
 -- this is the heap of the leaf x
 abbrev pub IsHeapOf : Slots → ℕ → Heap → Type 0
 IsHeapOf s x h = get_or s.heaps x h ≡ h

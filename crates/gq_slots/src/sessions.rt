@@ -1,5 +1,5 @@
 // Sessions over all slots of a scenario: the requests of clients, what their servers take of them, and sessions that end.
-ghost use Rattle.std.specs.Prelude.{◌≡◌, ℕ, ◌<◌, ◌≤◌, ◌↔◌, [], length, get_or, None};
+ghost use Rattle.std.specs.Prelude.{◌≡◌, ℕ, ◌<◌, ◌↔◌, [], length, get_or, None};
 ghost use Rattle.std.specs.Prelude.{IfOk, IfNone, IfSome, OnOk, OnErr, IsErrOf};
 ghost use Rattle.gq_contents.specs.declared.content.Content.TheVariants as content;
 ghost use Rattle.gq_model.specs.machine.World as world;
@@ -13,7 +13,8 @@ ghost use Rattle.gq_trade.specs.Trading.{IsOfOldest, LacksBytes, LacksCaps, aske
 ghost use Rattle.gq_trade.specs.Trading.{AreOfOthers, bytes_then, caps_then, upgraded, with_ask};
 ghost use Rattle.gq_trade.specs.declared.session.Spot.TheVariants.{InObject, InSession};
 ghost use Rattle.gq_trade.specs.Waiting.{IsIdle};
-ghost use Rattle.gq_trade.specs.Trades.{IsLive};
+ghost use Rattle.gq_ram.specs.Giving.{IsAfforded};
+ghost use Rattle.gq_trade.specs.Trades.{CanAskServer, IsLive};
 ghost use Rattle.gq_slots.specs.Slots.{Frame, content_at, world_seen};
 ghost use Rattle.gq_slots.specs.Session_calls.{EndsSession, TakesOldest, asking, opening, upgrading, with_trades};
 
@@ -36,24 +37,16 @@ pub fn ask(
     service: usize,
     donation: Amount,
 ) -> Result<usize, AccountFault>
-    requires client { IsLive slots.old.trades client }
-    requires server { IsLive slots.old.trades server }
-    requires apart { client ≡ server → ⊥ }
+    requires can { CanAskServer slots.old.trades client server }
     requires service { service < length slots.old.trades.trading.objects }
     requires counted { slots.old.trades.trading.memory.ledger.price ≡ 0 → donation.caps ≡ 0 }
-    requires room { free_number slots.old.trades.trading.sessions < slots.old.trades.trading.room }
-    requires idle { IsIdle slots.old.trades.trading client }
     ensures number { IfOk result (λ k. k ≡ free_number slots.old.trades.trading.sessions) }
     ensures asked { OnOk result (slots.new ≡ with_trades slots.old (asked slots.old.trades.trading (fresh client spot server service donation))) }
     ensures world { OnOk result ((f : Frame) → world_seen f slots.new
         ≡ opening (world_seen f slots.old) (new_session client (spot_seen spot) server (get_or f.names service []) donation)) }
     ensures unchanged { OnErr result (slots.new ≡ slots.old) }
-    ensures exceeded { IsErrOf result AccountFault.Exceeded ↔ (available (its_account slots.old.trades.trading client) < donation.ram) }
-    ensures caps_exceeded { IsErrOf result AccountFault.CapsExceeded
-        ↔ ((donation.ram ≤ available (its_account slots.old.trades.trading client))
-        × (available_caps (its_account slots.old.trades.trading client) < donation.caps)) }
-    ensures only { OnErr result (donation.ram ≤ available (its_account slots.old.trades.trading client)
-        → available_caps (its_account slots.old.trades.trading client) < donation.caps) }
+    ensures afforded { IsAfforded result (available (its_account slots.old.trades.trading client))
+        (available_caps (its_account slots.old.trades.trading client)) donation }
 {
     let _own = &slots.own;
     slots.trades.laws();
@@ -72,13 +65,8 @@ pub fn upgrade(slots: &mut Slots, session: usize, donation: Amount) -> Result<()
     ensures upgraded { OnOk result (slots.new ≡ with_trades slots.old (upgraded slots.old.trades.trading session donation)) }
     ensures world { OnOk result ((f : Frame) → world_seen f slots.new ≡ upgrading (world_seen f slots.old) session donation) }
     ensures unchanged { OnErr result (slots.new ≡ slots.old) }
-    ensures exceeded { IsErrOf result AccountFault.Exceeded
-        ↔ (available (its_account slots.old.trades.trading (client_of slots.old.trades.trading session)) < donation.ram) }
-    ensures caps_exceeded { IsErrOf result AccountFault.CapsExceeded
-        ↔ ((donation.ram ≤ available (its_account slots.old.trades.trading (client_of slots.old.trades.trading session)))
-        × (available_caps (its_account slots.old.trades.trading (client_of slots.old.trades.trading session)) < donation.caps)) }
-    ensures only { OnErr result (donation.ram ≤ available (its_account slots.old.trades.trading (client_of slots.old.trades.trading session))
-        → available_caps (its_account slots.old.trades.trading (client_of slots.old.trades.trading session)) < donation.caps) }
+    ensures afforded { IsAfforded result (available (its_account slots.old.trades.trading (client_of slots.old.trades.trading session)))
+        (available_caps (its_account slots.old.trades.trading (client_of slots.old.trades.trading session))) donation }
 {
     let _own = &slots.own;
     slots.trades.laws();
@@ -144,13 +132,8 @@ pub fn closed(slots: &mut Slots, session: usize) -> Result<(), AccountFault>
     requires none_waits { AreOfOthers session slots.old.trades.trading.requests }
     ensures ends { OnOk result (EndsSession slots.old slots.new session) }
     ensures unchanged { OnErr result (slots.new ≡ slots.old) }
-    ensures exceeded { IsErrOf result AccountFault.Exceeded
-        ↔ (bytes_then slots.old.trades.trading session < (session_at slots.old.trades.trading session).donation.ram) }
-    ensures caps_exceeded { IsErrOf result AccountFault.CapsExceeded
-        ↔ (((session_at slots.old.trades.trading session).donation.ram ≤ bytes_then slots.old.trades.trading session)
-        × (caps_then slots.old.trades.trading session < (session_at slots.old.trades.trading session).donation.caps)) }
-    ensures only { OnErr result ((session_at slots.old.trades.trading session).donation.ram ≤ bytes_then slots.old.trades.trading session
-        → caps_then slots.old.trades.trading session < (session_at slots.old.trades.trading session).donation.caps) }
+    ensures afforded { IsAfforded result (bytes_then slots.old.trades.trading session) (caps_then slots.old.trades.trading session)
+        (session_at slots.old.trades.trading session).donation }
 {
     let _own = &slots.own;
     slots.trades.laws();

@@ -8,7 +8,7 @@ ghost use Rattle.gq_model.specs.machine.Program.{little, spelled};
 ghost use Rattle.gq_model.specs.machine.Memory.{entry_byte, entry_with};
 ghost use Rattle.gq_model.specs.machine.World as world;
 ghost use Rattle.gq_heap.specs.declared.heap.Heap.{Heap};
-ghost use Rattle.gq_heap.specs.Heap.{rise};
+ghost use Rattle.gq_heap.specs.Heap.{peak_of, rise};
 ghost use Rattle.gq_contents.specs.declared.content.Content.TheVariants as content;
 ghost use Rattle.gq_contents.specs.Contents.{added, bytes_in, entry_count, entry_in, entry_size, put_in, removed, seen, size_of, with_entry};
 ghost use Rattle.gq_trade.specs.Seen.{spot_seen};
@@ -17,14 +17,16 @@ ghost use Rattle.gq_trade.specs.Trading.{account_no, server_of, with_memory};
 ghost use Rattle.gq_trade.specs.declared.session.Spot.TheVariants.{InLeaf, InObject, InSession};
 ghost use Rattle.gq_trade.specs.Plans.{IsFirst, IsPlan};
 ghost use Rattle.gq_trade.specs.Trades.{IsLive, IsTrades, with_trading};
+ghost use Rattle.gq_contents.specs.Paid.{IsPaidWhereLeft, IsRaisedWhereLeft};
 ghost use Rattle.gq_slots.specs.Slots.{AreLong, AreNew, ArePaidFor, AreRead, AreRises, AreSmallEntries, AreSound, Frame, IsHeapOf, IsMark, IsPaidBy};
-ghost use Rattle.gq_slots.specs.Slots.{IsSlot, IsSpot, holder, memory_of, slot_of, content_at, world_seen};
+ghost use Rattle.gq_slots.specs.Slots.{CanMake, IsSlot, IsSpot, holder, memory_of, slot_of, content_at, world_seen};
 ghost use Rattle.gq_slots.specs.Calls.{PutsSlot, Settles};
 
 use crate::places::{clear, fill, replace};
 use gq_contents::Content;
 use gq_heap::Heap;
 use gq_store::GrowFault;
+use gq_tariff::Class;
 use gq_trade::{Plan, Spot, Trades};
 use std::alloc::{AllocError, Global};
 use std::marker::Model;
@@ -231,16 +233,11 @@ impl Slots {
     /// Refused as `Exceeded` where the bytes of its pages can't be paid, else as `CapsExceeded` where there is no capability left; then nothing
     /// changes.
     pub fn make_slice(&mut self, spot: Spot, size: u32) -> Result<(), GrowFault>
-        requires slot { IsSlot spot }
-        requires there { IsSpot self.old spot }
-        requires paid { IsPaidBy self.old (holder self.old spot) }
-        requires empty { content_at self.old spot ≡ content.Empty }
+        requires can { CanMake self.old spot }
         requires size { size ≤ 67108864 }
         ensures made { OnOk result (Settles self.old self.new spot (world.Bytes form.Slice size (replicate size 0))) }
         ensures unchanged { OnErr result (self.new ≡ self.old) }
-        ensures exceeded { IsErrOf result GrowFault.Exceeded ↔ ((memory_of self.old (holder self.old spot)).left < up (size + 32)) }
-        ensures caps_exceeded { IsErrOf result GrowFault.CapsExceeded ↔ ((up (size + 32) ≤ (memory_of self.old (holder self.old spot)).left)
-            × ((memory_of self.old (holder self.old spot)).caps ≡ Some 0)) }
+        ensures refused { IsPaidWhereLeft (memory_of self.old (holder self.old spot)) (up (size + 32)) result }
     {
         let holder = self.holder(spot);
         let _heap = &self.heaps[holder];
@@ -252,16 +249,11 @@ impl Slots {
 
     /// Makes a space of `size` bytes in whole pages in an empty slot, which read 0. Refused as a slice is.
     pub fn make_space(&mut self, spot: Spot, size: u32) -> Result<(), GrowFault>
-        requires slot { IsSlot spot }
-        requires there { IsSpot self.old spot }
-        requires paid { IsPaidBy self.old (holder self.old spot) }
-        requires empty { content_at self.old spot ≡ content.Empty }
+        requires can { CanMake self.old spot }
         requires size { (1 ≤ size) × (size ≤ 67108864) }
         ensures made { OnOk result (Settles self.old self.new spot (world.Bytes form.Space size (replicate (up size) 0))) }
         ensures unchanged { OnErr result (self.new ≡ self.old) }
-        ensures exceeded { IsErrOf result GrowFault.Exceeded ↔ ((memory_of self.old (holder self.old spot)).left < up size) }
-        ensures caps_exceeded { IsErrOf result GrowFault.CapsExceeded ↔ ((up size ≤ (memory_of self.old (holder self.old spot)).left)
-            × ((memory_of self.old (holder self.old spot)).caps ≡ Some 0)) }
+        ensures refused { IsPaidWhereLeft (memory_of self.old (holder self.old spot)) (up size) result }
     {
         let holder = self.holder(spot);
         let _heap = &self.heaps[holder];
@@ -273,17 +265,12 @@ impl Slots {
 
     /// Makes a pool of `count` entries of `size` bytes in an empty slot, each absent. Refused as a slice is, by the bytes of the pool's table.
     pub fn make_pool(&mut self, spot: Spot, size: u32, count: u32) -> Result<(), GrowFault>
-        requires slot { IsSlot spot }
-        requires there { IsSpot self.old spot }
-        requires paid { IsPaidBy self.old (holder self.old spot) }
-        requires empty { content_at self.old spot ≡ content.Empty }
+        requires can { CanMake self.old spot }
         requires size { (1 ≤ size) × (size ≤ 2048) }
         requires count { (1 ≤ count) × (count ≤ 1024) }
         ensures made { OnOk result (Settles self.old self.new spot (world.Pool size (replicate count None))) }
         ensures unchanged { OnErr result (self.new ≡ self.old) }
-        ensures exceeded { IsErrOf result GrowFault.Exceeded ↔ ((memory_of self.old (holder self.old spot)).left < up (4 * count)) }
-        ensures caps_exceeded { IsErrOf result GrowFault.CapsExceeded ↔ ((up (4 * count) ≤ (memory_of self.old (holder self.old spot)).left)
-            × ((memory_of self.old (holder self.old spot)).caps ≡ Some 0)) }
+        ensures refused { IsPaidWhereLeft (memory_of self.old (holder self.old spot)) (up (4 * count)) result }
     {
         let holder = self.holder(spot);
         let _heap = &self.heaps[holder];
@@ -298,18 +285,12 @@ impl Slots {
     /// Refused as `Exceeded` where the price of the leaf's heap must rise by more than can be paid, else as `CapsExceeded` where it must rise and there
     /// is no capability left; then nothing changes.
     pub fn make_block(&mut self, spot: Spot, size: u32) -> Result<(), GrowFault>
-        requires slot { IsSlot spot }
-        requires there { IsSpot self.old spot }
-        requires paid { IsPaidBy self.old (holder self.old spot) }
-        requires empty { content_at self.old spot ≡ content.Empty }
+        requires can { CanMake self.old spot }
         requires size { (1 ≤ size) × (size ≤ 67108864) }
         ensures made { OnOk result (Settles self.old self.new spot (world.Bytes form.Block size (replicate size 0))) }
         ensures unchanged { OnErr result (self.new ≡ self.old) }
-        ensures exceeded { (h : Heap) → IsHeapOf self.old (holder self.old spot) h
-            → (IsErrOf result GrowFault.Exceeded ↔ ((memory_of self.old (holder self.old spot)).left < rise h size)) }
-        ensures caps_exceeded { (h : Heap) → IsHeapOf self.old (holder self.old spot) h → (IsErrOf result GrowFault.CapsExceeded
-            ↔ ((0 < rise h size) × (rise h size ≤ (memory_of self.old (holder self.old spot)).left)
-            × ((memory_of self.old (holder self.old spot)).caps ≡ Some 0))) }
+        ensures refused { (h : Heap) → IsHeapOf self.old (holder self.old spot) h
+            → IsRaisedWhereLeft (memory_of self.old (holder self.old spot)) (rise h size) result }
     {
         let holder = self.holder(spot);
         let _empty = self.content(spot);
@@ -489,6 +470,15 @@ impl Slots {
         let _heap = &self.heaps[holder];
         self.trades.laws();
         replace(&mut self.trades, &mut self.own, spot, contents);
+    }
+
+    /// The greatest number of places of a class that a leaf's heap has had in use at one time.
+    pub fn peak(&self, leaf: usize, class: Class) -> u32
+        requires { leaf < length self.now.own }
+        ensures { (h : Heap) → IsHeapOf self.now leaf h → result ≡ peak_of h class }
+    {
+        let _own = &self.own;
+        self.heaps[leaf].peak(class)
     }
 
     /// The sessions with the accounts.

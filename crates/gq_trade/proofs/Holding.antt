@@ -6,7 +6,7 @@ use Rattle.gq_ram.specs.Entries.{account_at, available, available_caps, IsOpen}
 use Rattle.gq_ram.specs.Ledgers.{Ledger, IsBalanced}
 use Rattle.gq_ram.specs.Trees.{donated, account_of as account_in, number, parent}
 use Rattle.gq_ram.specs.declared.account.Account.{Account}
-use Rattle.gq_trade.specs.Giving.{CanGive}
+use Rattle.gq_ram.specs.Giving.{CanGive}
 use Rattle.gq_trade.specs.Stores.{Memory}
 use Rattle.gq_trade.specs.Rest.{IsClosed, SameRest}
 use Rattle.gq_trade.specs.Balances.{no_node, node_at}

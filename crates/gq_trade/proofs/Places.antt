@@ -4,7 +4,7 @@ use Rattle.std.specs.List.{remove}
 use Rattle.std.proofs.lemmas.Bool.Decides.{eqb_tells}
 use Rattle.gq_trade.specs.declared.requests.Request.{Request}
 use Rattle.gq_trade.specs.declared.requests.Ask.TheVariants.{Open}
-use Rattle.gq_trade.specs.Queues.{oldest_to, kept_before, place_to}
+use Rattle.gq_trade.specs.Queues.{oldest_to, kept_before, place_to, request_of}
 
 pub place_within : (x : ℕ) (rs : List Request) → place_to x rs ≤ length rs
 place_within x [] = omega arith
@@ -48,3 +48,11 @@ none_at_all x (r ∷ rs) d below = elim (eqb_tells r.server x) [
 
 abbrev pub blank : Request
 blank = record { session = 0; server = 0; ask = Open }
+
+-- THE REQUEST OF A SESSION
+
+pub request_here : (k : ℕ) (r : Request) (rs : List Request) → r.session ≡ k → request_of k (r ∷ rs) ≡ Some r
+request_here k r rs e = elim (eqb_tells r.session k) [ inl t ↦ rw t.0 refl | inr n ↦ absurd (n.1 e) ]
+
+pub request_further : (k : ℕ) (r : Request) (rs : List Request) → (r.session ≡ k → ⊥) → request_of k (r ∷ rs) ≡ request_of k rs
+request_further k r rs other = elim (eqb_tells r.session k) [ inl t ↦ absurd (other t.1) | inr n ↦ rw n.0 refl ]

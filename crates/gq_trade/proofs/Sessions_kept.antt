@@ -22,7 +22,7 @@ use Rattle.gq_contents.specs.declared.content.Content.{Content}
 use Rattle.gq_contents.specs.declared.content.Content.TheVariants as content
 use Rattle.gq_contents.specs.Contents.{seen, size_of}
 use Rattle.gq_contents.specs.Kept.{Changes}
-use Rattle.gq_contents.specs.Paid.{Pays}
+use Rattle.gq_contents.specs.Paid.{IsMadeBeside, Pays}
 use Rattle.gq_trade.specs.Queues.{IsOldest, kept_before, oldest_to}
 use Rattle.gq_trade.specs.Numbers.{added, free_number, IsTaken}
 use Rattle.gq_trade.proofs.Lowest.{taken_there}
@@ -262,21 +262,19 @@ accepts_of w u v x r b taken rest =
 
 -- m is the memory in which the account a has made a slice of n bytes
 pub makes_of : (r : Result Content GrowFault) (w : Trading) (m : Memory) (x n n0 : ℕ) (a : AccountNo) → a ≡ account_no w x → n0 ≡ n
-    → IfOk r (λ t. (heap : Heap) → Changes heap heap (store_at w.memory.ledger a.0) (store_at m.ledger a.0) content.Empty t)
-    → IfOk r (λ t. seen (store_at m.ledger a.0) t ≡ world.Bytes form.Slice n0 (replicate n0 0)) → IfOk r (λ t. size_of t ≡ n0)
-    → IfOk r (λ t. (heap : Heap) → Pays heap heap (store_at w.memory.ledger a.0) (store_at m.ledger a.0) content.Empty t)
+    → IfOk r (λ t. IsMadeBeside (store_at w.memory.ledger a.0) (store_at m.ledger a.0) t (world.Bytes form.Slice n0 (replicate n0 0)) n0)
     → m.payer ≡ w.memory.payer → SameOthers w.memory.ledger m.ledger a → IfOk r (λ t. Makes w (with_memory w m) x n t)
-makes_of (Err e) w m x n n0 a ea en changes seen_is size pays payer rest = tt
-makes_of (Ok t) w m x n n0 a ea en changes seen_is size pays payer rest = record {
+makes_of (Err e) w m x n n0 a ea en made payer rest = tt
+makes_of (Ok t) w m x n n0 a ea en made payer rest = record {
   is = refl;
   payer = payer;
   changes =
-      subst (λ (b : AccountNo). (heap : Heap) → Changes heap heap (store_at w.memory.ledger b.0) (store_at m.ledger b.0) content.Empty t) ea changes;
+      subst (λ (b : AccountNo). (heap : Heap) → Changes heap heap (store_at w.memory.ledger b.0) (store_at m.ledger b.0) content.Empty t) ea made.changes;
   seen =
       subst (λ (b : AccountNo). seen (store_at m.ledger b.0) t ≡ world.Bytes form.Slice n (replicate n 0)) ea
-      (subst (λ i. seen (store_at m.ledger a.0) t ≡ world.Bytes form.Slice i (replicate i 0)) en seen_is);
-  size = size ∙ en;
-  pays = subst (λ (b : AccountNo). (heap : Heap) → Pays heap heap (store_at w.memory.ledger b.0) (store_at m.ledger b.0) content.Empty t) ea pays;
+      (subst (λ i. seen (store_at m.ledger a.0) t ≡ world.Bytes form.Slice i (replicate i 0)) en made.reads);
+  size = made.size ∙ en;
+  pays = subst (λ (b : AccountNo). (heap : Heap) → Pays heap heap (store_at w.memory.ledger b.0) (store_at m.ledger b.0) content.Empty t) ea made.pays;
   others = subst (λ (b : AccountNo). SameOthers w.memory.ledger m.ledger b) ea rest;
 }
 

@@ -1,6 +1,5 @@
 pub mod Balances
 pub mod Ends
-pub mod Giving
 pub mod Plans
 pub mod Trades
 pub mod Waiting

@@ -21,3 +21,8 @@ place_to x (r ∷ rest) = if r.server == x then 0 else suc (place_to x rest)
 pub record IsOldest (x : ℕ) (rs : List Request) (r : Request) : Type 0 where
   pub rest : List Request
   pub is : oldest_to x rs ≡ Some (r, rest)
+
+-- the request of a session, if one of it waits
+abbrev pub request_of : ℕ → List Request → Option Request
+request_of k [] = None
+request_of k (r ∷ rest) = if r.session == k then Some r else request_of k rest

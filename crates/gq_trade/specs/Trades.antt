@@ -2,13 +2,13 @@
 use Rattle.std.specs.Prelude.{◌≡◌, ℕ, ◌<◌, ◌≤◌, List, length, Some, get_or}
 use Rattle.gq_ram.specs.Entries.{Entries, account_at, IsOpen}
 use Rattle.gq_ram.specs.Trees.{Tree, number, parent}
-use Rattle.gq_trade.specs.Numbers.{IsTaken}
+use Rattle.gq_trade.specs.Numbers.{IsTaken, free_number}
 use Rattle.gq_trade.specs.declared.session.Session.{Session}
 use Rattle.gq_trade.specs.Trading.{Trading, SameButMemory as SameTrading, session_in}
 use Rattle.gq_trade.specs.declared.node.Node.{Node}
 use Rattle.gq_trade.specs.declared.node.Stage.TheVariants.{Live, Ended}
 use Rattle.gq_trade.specs.Balances.{IsEven, node_at}
-use Rattle.gq_trade.specs.Waiting.{AreApart, IsBounded, clients, upgrades}
+use Rattle.gq_trade.specs.Waiting.{AreApart, IsBounded, IsIdle, clients, upgrades}
 
 -- sessions with their memory, and the nodes in preorder
 pub record Trades : Type 0 where
@@ -31,6 +31,14 @@ pub record AreParties (w : Trades) (s : Session) : Type 0 where
   pub service : s.service < length w.trading.objects
   -- where capabilities are not counted none are given for it
   pub counted : w.trading.memory.ledger.price ≡ 0 → s.donation.caps ≡ 0
+
+-- the leaf x can ask the leaf y for a session: both are live, no request of x waits, and a number is free
+pub record CanAskServer (w : Trades) (x y : ℕ) : Type 0 where
+  pub client : IsLive w x
+  pub server : IsLive w y
+  pub apart : x ≡ y → ⊥
+  pub room : free_number w.trading.sessions < w.trading.room
+  pub idle : IsIdle w.trading x
 
 -- the node i has not ended
 pub record HasAccount (w : Trades) (i : ℕ) : Type 0 where

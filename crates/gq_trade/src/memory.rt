@@ -2,7 +2,7 @@
 ghost use Rattle.std.specs.Prelude.{◌≡◌, ◌≤◌, false, is_some, IsTrue, IfSome, OnOk, OnErr};
 ghost use Rattle.gq_ram.specs.Entries.{IsOpen, account_at, available, available_caps, has_members};
 ghost use Rattle.gq_ram.specs.Trees.{account_of, donated};
-ghost use Rattle.gq_trade.specs.Giving.{CanGive, IsAfforded};
+ghost use Rattle.gq_ram.specs.Giving.{CanGive, IsAfforded};
 ghost use Rattle.gq_trade.specs.Rest.{IsClosed};
 
 use gq_dataspace::DsId;

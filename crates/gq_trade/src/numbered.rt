@@ -1,6 +1,6 @@
 // Values by their numbers.
 ghost use Rattle.std.specs.Prelude.{◌≡◌, ◌<◌, ◌≤◌, [], ℕ, Some, None, length, slice_set, get_or, vec_capacity, IfOk};
-ghost use Rattle.std.specs.Prelude.{is_some, IsTrue};
+ghost use Rattle.std.specs.Prelude.{is_some, option_map, IsTrue};
 ghost use Rattle.std.specs.Borrow.{Lends, sem};
 ghost use Rattle.std.specs.contracts.option.Option.{the_row as option_row};
 ghost use Rattle.gq_trade.specs.Numbers.{added, free_number, IsTaken};
@@ -65,6 +65,23 @@ impl<T: Copy> Numbered<T> {
         ensures { length self.now.values ≤ self.now.room }
     {
         let _places = &self.places;
+    }
+
+    /// How many numbers have been used: each that is taken is below.
+    pub fn count(&self) -> usize
+        ensures { result ≡ length self.now.values }
+    {
+        self.places.len()
+    }
+
+    /// The value of a number, if that is taken.
+    pub fn find(&self, number: usize) -> Option<&T>
+        ensures { option_map (λ value. value.now) result ≡ get_or self.now.values number None }
+    {
+        match self.places.get(number) {
+            Some(Some(value)) => Some(value),
+            Some(None) | None => None,
+        }
     }
 
     /// The value of a number that is taken.

@@ -1,5 +1,5 @@
 // Slices that another account than the one at hand pays for.
-ghost use Rattle.std.specs.Prelude.{◌≡◌, ◌<◌, ◌≤◌, ◌+◌, ◌↔◌, Some, IfOk, OnErr, IsErrOf, replicate};
+ghost use Rattle.std.specs.Prelude.{◌≡◌, ◌≤◌, ◌+◌, IfOk, OnErr, replicate};
 ghost use Rattle.gq_tariff.specs.Prices.{up};
 ghost use Rattle.gq_model.specs.declared.program.Form.TheVariants as form;
 ghost use Rattle.gq_model.specs.machine.World as world;
@@ -8,9 +8,9 @@ ghost use Rattle.gq_ram.specs.Entries.{IsOpen};
 ghost use Rattle.gq_store.specs.Store.{one_more};
 ghost use Rattle.gq_trade.specs.Stores.{store_at};
 ghost use Rattle.gq_contents.specs.declared.content.Content.TheVariants as content;
-ghost use Rattle.gq_contents.specs.Contents.{IsSlice, seen, size_of};
+ghost use Rattle.gq_contents.specs.Contents.{IsSlice, size_of};
 ghost use Rattle.gq_contents.specs.Kept.{Changes};
-ghost use Rattle.gq_contents.specs.Paid.{Pays};
+ghost use Rattle.gq_contents.specs.Paid.{IsMadeBeside, IsPaidWhereLeft, Pays};
 ghost use Rattle.gq_trade.specs.Trading.{SameOthers};
 
 use crate::memory::Memory;
@@ -26,15 +26,9 @@ pub(crate) fn make_slice_for(
 ) -> Result<Content, GrowFault>
     requires open { IsOpen memory.old.ledger.accounts account.0 }
     requires size { size ≤ 67108864 }
-    ensures changes { IfOk result (λ t. (heap : Heap)
-        → Changes heap heap (store_at memory.old.ledger account.0) (store_at memory.new.ledger account.0) content.Empty t) }
-    ensures seen { IfOk result (λ t. seen (store_at memory.new.ledger account.0) t ≡ world.Bytes form.Slice size (replicate size 0)) }
-    ensures size { IfOk result (λ t. size_of t ≡ size) }
-    ensures pays { IfOk result (λ t. (heap : Heap)
-        → Pays heap heap (store_at memory.old.ledger account.0) (store_at memory.new.ledger account.0) content.Empty t) }
-    ensures exceeded { IsErrOf result GrowFault.Exceeded ↔ ((store_at memory.old.ledger account.0).left < up (size + 32)) }
-    ensures none { IsErrOf result GrowFault.CapsExceeded
-        ↔ ((up (size + 32) ≤ (store_at memory.old.ledger account.0).left) × ((store_at memory.old.ledger account.0).caps ≡ Some 0)) }
+    ensures made { IfOk result (λ t. IsMadeBeside (store_at memory.old.ledger account.0) (store_at memory.new.ledger account.0) t
+        (world.Bytes form.Slice size (replicate size 0)) size) }
+    ensures refused { IsPaidWhereLeft (store_at memory.old.ledger account.0) (up (size + 32)) result }
     ensures err { OnErr result (memory.new ≡ memory.old) }
     ensures payer { memory.new.payer ≡ memory.old.payer }
     ensures rest { SameOthers memory.old.ledger memory.new.ledger account }

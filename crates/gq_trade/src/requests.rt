@@ -1,6 +1,6 @@
 // The requests that wait.
 ghost use Rattle.std.specs.Prelude.{◌≡◌, ◌<◌, [], ◌∷◌, ◌++◌, Some, None, length, IfSome, IfNone};
-ghost use Rattle.gq_trade.specs.Queues.{IsOldest, oldest_to, place_to};
+ghost use Rattle.gq_trade.specs.Queues.{IsOldest, oldest_to, place_to, request_of};
 
 use arrayvec::ArrayVec;
 use gq_model::limits::GREATEST_LEAVES;
@@ -80,6 +80,19 @@ impl Requests {
             return None;
         }
         Some(self.requests.as_slice()[place])
+    }
+
+    /// The request of a session, if one of it waits.
+    pub fn of_session(&self, session: usize) -> Option<Request>
+        ensures { result ≡ request_of session self.now }
+    {
+        let requests = self.requests.as_slice();
+        for k in 0..requests.len() {
+            if requests[k].session == session {
+                return Some(requests[k]);
+            }
+        }
+        None
     }
 
     /// Takes the oldest request to a server; the others stay in their order.

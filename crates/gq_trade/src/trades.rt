@@ -1,23 +1,25 @@
 // Sessions, requests and donations over the accounts of a scenario.
-ghost use Rattle.std.specs.Prelude.{◌≡◌, ℕ, ◌+◌, ◌<◌, ◌≤◌, ◌%◌, ◌↔◌, length, get_or, Some, None, IfOk, OnOk, OnErr, IsErrOf, IfSome, IfNone};
+ghost use Rattle.std.specs.Prelude.{◌≡◌, ℕ, ◌+◌, ◌<◌, ◌≤◌, ◌%◌, ◌↔◌, length, get_or, option_map, Some, None, IfOk, OnOk, OnErr, IsErrOf, IfSome};
+ghost use Rattle.std.specs.Prelude.{IfNone};
 ghost use Rattle.gq_tariff.specs.Prices.{up};
 ghost use Rattle.gq_ram.specs.Entries.{available, available_caps, IsOpen};
 ghost use Rattle.gq_ram.specs.Trees.{number};
 ghost use Rattle.gq_contents.specs.declared.content.Content.TheVariants as content;
 ghost use Rattle.gq_contents.specs.Contents.{IsSlice, size_of};
+ghost use Rattle.gq_contents.specs.Paid.{IsPaidWhereLeft};
 ghost use Rattle.gq_trade.specs.Numbers.{free_number, IsTaken};
 ghost use Rattle.gq_trade.specs.declared.requests.Ask.TheVariants as ask;
-ghost use Rattle.gq_trade.specs.Queues.{IsOldest, oldest_to};
+ghost use Rattle.gq_trade.specs.Queues.{IsOldest, oldest_to, request_of};
 ghost use Rattle.gq_trade.specs.Trading.{Accepts, AreOfOthers, Begins, Closes, Frees, IsOfOldest, IsTrading, LacksBytes, LacksCaps, Leaves, Makes, Opens};
 ghost use Rattle.gq_trade.specs.Trading.{account_no, asked, bytes_then, caps_then, client_of, fresh, its_account, node_of, opened, parted, raised, server_of};
 ghost use Rattle.gq_trade.specs.Trading.{session_at, store_of, upgraded, with_ask, with_memory, with_session, with_slot};
-ghost use Rattle.gq_trade.specs.Giving.{CanGive, IsAfforded};
+ghost use Rattle.gq_ram.specs.Giving.{CanGive, IsAfforded};
 ghost use Rattle.gq_trade.specs.declared.node.Stage.TheVariants as Stage;
 ghost use Rattle.gq_trade.specs.Ends.{CanStart, Ends, HasNoSessions, follower, staged, started};
 ghost use Rattle.gq_trade.specs.Plans.{IsFirst, IsPlan};
 ghost use Rattle.gq_trade.specs.Balances.{node_at, quota, use_of};
 ghost use Rattle.gq_trade.specs.Waiting.{IsIdle};
-ghost use Rattle.gq_trade.specs.Trades.{AreParties, HasAccount, IsLive, IsTrades, with_trading};
+ghost use Rattle.gq_trade.specs.Trades.{AreParties, CanAskServer, HasAccount, IsLive, IsTrades, with_trading};
 
 use crate::memory::Memory;
 use crate::node::{Node, Stage, follower, handed_to};
@@ -117,24 +119,13 @@ impl Trades {
         service: usize,
         donation: Amount,
     ) -> Result<usize, AccountFault>
-        requires client { IsLive self.old client }
-        requires server { IsLive self.old server }
-        requires apart { client ≡ server → ⊥ }
+        requires can { CanAskServer self.old client server }
         requires service { service < length self.old.trading.objects }
         requires counted { self.old.trading.memory.ledger.price ≡ 0 → donation.caps ≡ 0 }
-        requires room { free_number self.old.trading.sessions < self.old.trading.room }
-        requires idle { IsIdle self.old.trading client }
         ensures number { IfOk result (λ k. k ≡ free_number self.old.trading.sessions) }
         ensures asked { OnOk result (self.new ≡ with_trading self.old (asked self.old.trading (fresh client spot server service donation))) }
-        ensures enough { OnOk result (donation.ram ≤ available (its_account self.old.trading client)) }
-        ensures enough_caps { OnOk result (donation.caps ≤ available_caps (its_account self.old.trading client)) }
+        ensures afforded { IsAfforded result (available (its_account self.old.trading client)) (available_caps (its_account self.old.trading client)) donation }
         ensures unchanged { OnErr result (self.new ≡ self.old) }
-        ensures exceeded { IsErrOf result AccountFault.Exceeded ↔ (available (its_account self.old.trading client) < donation.ram) }
-        ensures caps_exceeded { IsErrOf result AccountFault.CapsExceeded
-            ↔ ((donation.ram ≤ available (its_account self.old.trading client))
-            × (available_caps (its_account self.old.trading client) < donation.caps)) }
-        ensures only { OnErr result (donation.ram ≤ available (its_account self.old.trading client)
-            → available_caps (its_account self.old.trading client) < donation.caps) }
     {
         self.memory.accounts().laws();
         let (from, to) = self.givers(client, server);
@@ -165,16 +156,9 @@ impl Trades {
         requires counted { self.old.trading.memory.ledger.price ≡ 0 → donation.caps ≡ 0 }
         requires idle { IsIdle self.old.trading (client_of self.old.trading session) }
         ensures upgraded { OnOk result (self.new ≡ with_trading self.old (upgraded self.old.trading session donation)) }
-        ensures enough { OnOk result (donation.ram ≤ available (its_account self.old.trading (client_of self.old.trading session))) }
-        ensures enough_caps { OnOk result (donation.caps ≤ available_caps (its_account self.old.trading (client_of self.old.trading session))) }
+        ensures afforded { IsAfforded result (available (its_account self.old.trading (client_of self.old.trading session)))
+            (available_caps (its_account self.old.trading (client_of self.old.trading session))) donation }
         ensures unchanged { OnErr result (self.new ≡ self.old) }
-        ensures exceeded { IsErrOf result AccountFault.Exceeded
-            ↔ (available (its_account self.old.trading (client_of self.old.trading session)) < donation.ram) }
-        ensures caps_exceeded { IsErrOf result AccountFault.CapsExceeded
-            ↔ ((donation.ram ≤ available (its_account self.old.trading (client_of self.old.trading session)))
-            × (available_caps (its_account self.old.trading (client_of self.old.trading session)) < donation.caps)) }
-        ensures only { OnErr result (donation.ram ≤ available (its_account self.old.trading (client_of self.old.trading session))
-            → available_caps (its_account self.old.trading (client_of self.old.trading session)) < donation.caps) }
     {
         self.memory.accounts().laws();
         let old = self.between(session);
@@ -302,11 +286,7 @@ impl Trades {
         ensures ok { IfOk result (λ t. Makes self.old.trading self.new.trading leaf (get_or self.old.trading.objects service 0) t) }
         ensures nodes { self.new.nodes ≡ self.old.nodes }
         ensures err { OnErr result (self.new ≡ self.old) }
-        ensures exceeded { IsErrOf result GrowFault.Exceeded
-            ↔ ((store_of self.old.trading leaf).left < up (get_or self.old.trading.objects service 0 + 32)) }
-        ensures caps_exceeded { IsErrOf result GrowFault.CapsExceeded
-            ↔ ((up (get_or self.old.trading.objects service 0 + 32) ≤ (store_of self.old.trading leaf).left)
-            × ((store_of self.old.trading leaf).caps ≡ Some 0)) }
+        ensures refused { IsPaidWhereLeft (store_of self.old.trading leaf) (up (get_or self.old.trading.objects service 0 + 32)) result }
     {
         let account = self.account_of(leaf);
         let size = self.objects[service];
@@ -346,13 +326,8 @@ impl Trades {
         ensures ok { OnOk result (Closes self.old.trading self.new.trading session) }
         ensures nodes { self.new.nodes ≡ self.old.nodes }
         ensures err { OnErr result (self.new ≡ self.old) }
-        ensures exceeded { IsErrOf result AccountFault.Exceeded
-            ↔ (bytes_then self.old.trading session < (session_at self.old.trading session).donation.ram) }
-        ensures caps_exceeded { IsErrOf result AccountFault.CapsExceeded
-            ↔ (((session_at self.old.trading session).donation.ram ≤ bytes_then self.old.trading session)
-            × (caps_then self.old.trading session < (session_at self.old.trading session).donation.caps)) }
-        ensures only { OnErr result ((session_at self.old.trading session).donation.ram ≤ bytes_then self.old.trading session
-            → caps_then self.old.trading session < (session_at self.old.trading session).donation.caps) }
+        ensures afforded { IsAfforded result (bytes_then self.old.trading session) (caps_then self.old.trading session)
+            (session_at self.old.trading session).donation }
     {
         let old = self.between(session);
         self.can_return(&old)?;
@@ -416,6 +391,29 @@ impl Trades {
         ensures { result ≡ session_at self.now.trading session }
     {
         self.sessions.get(session)
+    }
+
+    /// How many numbers of sessions have been used: each that is taken is below.
+    pub fn session_count(&self) -> usize
+        ensures count { result ≡ length self.now.trading.sessions }
+        ensures few { result ≤ self.now.trading.room }
+    {
+        self.sessions.laws();
+        self.sessions.count()
+    }
+
+    /// The session of a number, if there is one.
+    pub fn find_session(&self, session: usize) -> Option<&Session>
+        ensures { option_map (λ s. s.now) result ≡ get_or self.now.trading.sessions session None }
+    {
+        self.sessions.find(session)
+    }
+
+    /// The request of a session, if one of it waits for its server.
+    pub fn request_of(&self, session: usize) -> Option<Request>
+        ensures { result ≡ request_of session self.now.trading.requests }
+    {
+        self.requests.of_session(session)
     }
 
     // The session of a number that is taken: its client and server are live, and two leaves.

@@ -1,6 +1,6 @@
 -- How many steps leaves have taken.
 use Rattle.std.proofs.Common.{◌≡◌, ℕ, zero, suc, ◌+◌, ◌<◌, ◌≤◌, ◌^◌, Bool, true, false, List, [], ◌∷◌, length, map, Option, Some, None, Ok, IfSome}
-use Rattle.std.proofs.Common.{refl, ap, sym, ◌∙◌, subst, arith}
+use Rattle.std.proofs.Common.{OnOk, Result, refl, ap, sym, ◌∙◌, subst, arith}
 use Rattle.std.specs.Prelude.{slice_get, slice_index, slice_set}
 use Rattle.gq_model.specs.machine.Doing.{Event, Stepped}
 use Rattle.gq_model.specs.machine.Scenario.{System, Component}
@@ -73,3 +73,7 @@ leaves_of (c ∷ cs) = ap suc (leaves_of cs)
 
 pub start_count : (system : System) → length (start system).leaves ≡ length system.components
 start_count system = leaves_of system.components
+
+-- what is said of an `Ok` holds where there is one
+pub from_ok : {A E : Type 0} (P : Type 0) (r : Result A E) (x : A) → r ≡ Ok x → OnOk r P → P
+from_ok P r x e h = subst (λ y. OnOk y P) e h

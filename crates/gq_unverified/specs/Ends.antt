@@ -1,9 +1,12 @@
 -- How a run with tests ends.
-use Rattle.std.specs.Prelude.{◌≡◌, ℕ, List, Option, Ok, Err}
+use Rattle.std.specs.Prelude.{◌≡◌, ℕ, List, Option, Result, Ok, Err, IfOk, IfErr, OnOk}
 use Rattle.std.specs.Io.KnownBytes.{Appends}
 use Rattle.gq_model.specs.declared.fault.Wrong.{Wrong}
 use Rattle.gq_load.specs.Faults.{load_fault_text}
-use Rattle.gq_init.specs.Writes.{IsFront}
+use Rattle.gq_init.specs.Counts.{failures_of, written_to}
+use Rattle.gq_init.specs.Writes.{IsFront, IsRaised}
+use Rattle.gq_init.specs.declared.counted.Counted.{Counted}
+use Rattle.gq_world.specs.Outcomes.{IsBefore}
 use Rattle.gq_world.specs.Whole.{refused_with, turn_fault_text}
 use Rattle.gq_world.specs.declared.fault.RunFault.{RunFault}
 use Rattle.gq_world.specs.declared.fault.RunFault.TheVariants.{Load, NoComponent, Turns, Memory, Write}
@@ -29,3 +32,16 @@ IsTestFault (NoComponent name) t = ⊥
 IsTestFault (Turns fault line) t = t ≡ Err (refused_with (turn_fault_text fault line))
 IsTestFault Memory t = Unit {0}
 IsTestFault Write t = (text : List ℕ) × (wrong : Option (List ℕ × Wrong)) × (t ≡ Ok (text, wrong))
+
+-- a run with tests ends, by what the definition gives
+pub record EndsTested {W : Type 0} (contents : W → Option (List ℕ)) (t : Tested) (old new : Counted W) (result : Result (Option (List ℕ × Wrong)) RunFault)
+    : Type 0 where
+  -- the whole text of the definition was written, and nothing else, and the wrong step is the definition's
+  pub tested : IfOk result (λ wrong. IsTested t wrong (written_to contents old) (written_to contents new))
+  pub counted : OnOk result (failures_of new ≡ failures_of old)
+  -- the fault is that of the definition
+  pub refused : IfErr result (λ fault. IsTestFault fault t)
+  pub silent : IfErr result (λ fault. IsBefore fault → new ≡ old)
+  -- a write failed: a front of the text was written
+  pub cut : result ≡ Err Write → IsTestedShort t (written_to contents old) (written_to contents new)
+  pub raised : result ≡ Err Write → IsRaised (failures_of old) (failures_of new)

@@ -1,15 +1,13 @@
 // Runs with tests.
-ghost use Rattle.std.specs.Prelude.{◌≡◌, ◌<◌, ◌^◌, length, Ok, Err, IfOk, IfSome, IfErr, OnOk, OnErr};
-ghost use Rattle.std.specs.Io.KnownBytes.{Appends};
+ghost use Rattle.std.specs.Prelude.{◌≡◌, ◌<◌, ◌^◌, length, Ok, IfOk, IfSome, IfErr};
 ghost use Rattle.gq_model.specs.machine.Scenario.{components, system};
 ghost use Rattle.gq_model.specs.machine.World.{start};
 ghost use Rattle.gq_model.specs.texts.Turns.{turned};
 ghost use Rattle.gq_laws.specs.Ready.{IsReady};
-ghost use Rattle.gq_init.specs.Counts.{written_to, failures_of};
-ghost use Rattle.gq_init.specs.Writes.{IsFront, IsRaised};
+ghost use Rattle.gq_init.specs.Counts.{Writes};
 ghost use Rattle.gq_world.specs.internal.Going.{AreBelow};
 ghost use Rattle.gq_world.specs.Outcomes.{IsBefore};
-ghost use Rattle.gq_unverified.specs.Ends.{IsTested, IsTestedShort, IsTestFault};
+ghost use Rattle.gq_unverified.specs.Ends.{EndsTested, IsTestFault};
 ghost use Rattle.gq_unverified.specs.Tested.{first_wrong, run_tested, tested_text, tested_turns};
 ghost use Rattle.gq_unverified.specs.internal.Taking.{turns_in};
 
@@ -41,10 +39,7 @@ fn run_machine<W: Write>(
     ensures scenario { machine.new.scenario ≡ machine.old.scenario }
     ensures wrong { IfOk result (λ wrong. wrong ≡ first_wrong machine.old.scenario turns.now) }
     ensures there { IfOk result (λ wrong. IfSome wrong (λ p. p.0 < length (components machine.old.scenario))) }
-    ensures written { OnOk result (Appends (written_to W.contents out.old) (written_to W.contents out.new) (tested_text machine.old.scenario turns.now)) }
-    ensures counted { OnOk result (failures_of out.new ≡ failures_of out.old) }
-    ensures front { OnErr result (IsFront (written_to W.contents out.old) (written_to W.contents out.new) (tested_text machine.old.scenario turns.now)) }
-    ensures raised { OnErr result (IsRaised (failures_of out.old) (failures_of out.new)) }
+    ensures writes { Writes W.contents out.old out.new (tested_text machine.old.scenario turns.now) result }
 {
     match take_all(machine, turns, out) {
         Ok(None) => match write_accounts(machine, &[], out) {
@@ -65,14 +60,7 @@ fn run_named<W: Write>(
     requires start { machine.old.world ≡ start (system machine.old.scenario) }
     requires leaves { AreBelow (length (components machine.old.scenario)) turns.now }
     requires few { turns_in turns.now < 2 ^ 64 }
-    ensures tested { IfOk result (λ wrong. IsTested (tested_turns machine.old.scenario (Ok turns.now)) wrong
-        (written_to W.contents out.old) (written_to W.contents out.new)) }
-    ensures counted { OnOk result (failures_of out.new ≡ failures_of out.old) }
-    ensures refused { IfErr result (λ fault. IsTestFault fault (tested_turns machine.old.scenario (Ok turns.now))) }
-    ensures silent { IfErr result (λ fault. IsBefore fault → out.new ≡ out.old) }
-    ensures cut { result ≡ Err RunFault.Write → IsTestedShort (tested_turns machine.old.scenario (Ok turns.now)) (written_to W.contents out.old)
-        (written_to W.contents out.new) }
-    ensures raised { result ≡ Err RunFault.Write → IsRaised (failures_of out.old) (failures_of out.new) }
+    ensures { EndsTested W.contents (tested_turns machine.old.scenario (Ok turns.now)) out.old out.new result }
 {
     match run_machine(machine, turns, out) {
         Ok(None) => Ok(None),
@@ -91,13 +79,7 @@ fn run_table<W: Write>(
     requires ready { IsReady table }
     requires leaves { AreBelow (length (components table)) turns.now }
     requires few { turns_in turns.now < 2 ^ 64 }
-    ensures tested { IfOk result (λ wrong. IsTested (tested_turns table (Ok turns.now)) wrong (written_to W.contents out.old) (written_to W.contents out.new)) }
-    ensures counted { OnOk result (failures_of out.new ≡ failures_of out.old) }
-    ensures refused { IfErr result (λ fault. IsTestFault fault (tested_turns table (Ok turns.now))) }
-    ensures silent { IfErr result (λ fault. IsBefore fault → out.new ≡ out.old) }
-    ensures cut { result ≡ Err RunFault.Write → IsTestedShort (tested_turns table (Ok turns.now)) (written_to W.contents out.old)
-        (written_to W.contents out.new) }
-    ensures raised { result ≡ Err RunFault.Write → IsRaised (failures_of out.old) (failures_of out.new) }
+    ensures { EndsTested W.contents (tested_turns table (Ok turns.now)) out.old out.new result }
 {
     match Machine::new(alloc, table) {
         Ok(mut machine) => run_named(&mut machine, turns, out),
@@ -132,18 +114,7 @@ pub fn run_unverified<W: Write>(
     turns: &[u8],
     out: &mut Counted<W>,
 ) -> Result<Option<WrongStep>, RunFault<'static>>
-    // The whole text of the definition was written, and nothing else, and the wrong step is the definition's.
-    ensures tested { IfOk result (λ wrong. IsTested (run_tested scenario.now turns.now) wrong (written_to W.contents out.old) (written_to W.contents out.new)) }
-    ensures counted { OnOk result (failures_of out.new ≡ failures_of out.old) }
-
-    // The fault is that of the definition.
-    ensures refused { IfErr result (λ fault. IsTestFault fault (run_tested scenario.now turns.now)) }
-    ensures silent { IfErr result (λ fault. IsBefore fault → out.new ≡ out.old) }
-
-    // A write failed: a front of the text was written.
-    ensures cut { result ≡ Err RunFault.Write → IsTestedShort (run_tested scenario.now turns.now) (written_to W.contents out.old)
-        (written_to W.contents out.new) }
-    ensures raised { result ≡ Err RunFault.Write → IsRaised (failures_of out.old) (failures_of out.new) }
+    ensures { EndsTested W.contents (run_tested scenario.now turns.now) out.old out.new result }
 {
     unverified_laws();
     let table = read_unverified(alloc, scenario)?;

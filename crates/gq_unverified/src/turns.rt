@@ -1,11 +1,10 @@
 // Turns with tests, one after the other, up to a wrong step.
-ghost use Rattle.std.specs.Prelude.{◌≡◌, ◌<◌, length, IfOk, IfSome, OnOk, OnErr};
+ghost use Rattle.std.specs.Prelude.{◌≡◌, ◌<◌, length, IfOk, IfSome, OnErr};
 ghost use Rattle.gq_model.specs.machine.Run.{turns_of, run_on};
 ghost use Rattle.gq_model.specs.machine.Scenario.{components, system};
-ghost use Rattle.gq_init.specs.Counts.{written_to, failures_of};
-ghost use Rattle.gq_init.specs.Writes.{IsRaised};
+ghost use Rattle.gq_init.specs.Counts.{written_to};
 ghost use Rattle.gq_world.specs.internal.Going.{AreBelow};
-ghost use Rattle.gq_unverified.specs.internal.Taking.{HasCome, HasRoom, IsCut, IsNear, turns_in};
+ghost use Rattle.gq_unverified.specs.internal.Taking.{CountsFailures, HasCome, HasRoom, IsCut, IsNear, turns_in};
 
 use arrayvec::ArrayVec;
 use gq_init::counted::{Counted, WriteFault};
@@ -30,10 +29,9 @@ fn take_turn<W: Write>(
     ensures come { IfOk result (λ wrong. HasCome (turns_of (system machine.old.scenario) leaf 1) machine.old.world machine.new.world wrong
         (written_to W.contents out.old) (written_to W.contents out.new)) }
     ensures there { IfOk result (λ wrong. IfSome wrong (λ p. p.0 < length (components machine.old.scenario))) }
-    ensures counted { OnOk result (failures_of out.new ≡ failures_of out.old) }
     ensures cut { OnErr result (IsCut (turns_of (system machine.old.scenario) leaf 1) machine.old.world (written_to W.contents out.old)
         (written_to W.contents out.new)) }
-    ensures raised { OnErr result (IsRaised (failures_of out.old) (failures_of out.new)) }
+    ensures failures { CountsFailures out.old out.new result }
 {
     turn_laws();
     let mut text = ArrayVec::new();
@@ -64,10 +62,9 @@ fn take_turns<W: Write>(
     ensures come { IfOk result (λ wrong. HasCome (turns_of (system machine.old.scenario) leaf count) machine.old.world machine.new.world wrong
         (written_to W.contents out.old) (written_to W.contents out.new)) }
     ensures there { IfOk result (λ wrong. IfSome wrong (λ p. p.0 < length (components machine.old.scenario))) }
-    ensures counted { OnOk result (failures_of out.new ≡ failures_of out.old) }
     ensures cut { OnErr result (IsCut (turns_of (system machine.old.scenario) leaf count) machine.old.world (written_to W.contents out.old)
         (written_to W.contents out.new)) }
-    ensures raised { OnErr result (IsRaised (failures_of out.old) (failures_of out.new)) }
+    ensures failures { CountsFailures out.old out.new result }
 {
     for turn in 0..count {
         match take_turn(machine, leaf, out) {
@@ -92,10 +89,9 @@ pub(crate) fn take_all<W: Write>(
     ensures come { IfOk result (λ wrong. HasCome (run_on (system machine.old.scenario) turns.now) machine.old.world machine.new.world wrong
         (written_to W.contents out.old) (written_to W.contents out.new)) }
     ensures there { IfOk result (λ wrong. IfSome wrong (λ p. p.0 < length (components machine.old.scenario))) }
-    ensures counted { OnOk result (failures_of out.new ≡ failures_of out.old) }
     ensures cut { OnErr result (IsCut (run_on (system machine.old.scenario) turns.now) machine.old.world (written_to W.contents out.old)
         (written_to W.contents out.new)) }
-    ensures raised { OnErr result (IsRaised (failures_of out.old) (failures_of out.new)) }
+    ensures failures { CountsFailures out.old out.new result }
 {
     for (leaf, count) in turns {
         match take_turns(machine, *leaf, *count, out) {

@@ -1,9 +1,12 @@
 -- What turns do to the world of a machine, and what they write, up to a wrong step.
-use Rattle.std.specs.Prelude.{◌≡◌, ◌<◌, ◌≤◌, ◌+◌, ◌^◌, ℕ, List, [], ◌∷◌, ◌++◌, length, Option, slice_index}
+use Rattle.std.specs.Prelude.{◌≡◌, ◌<◌, ◌≤◌, ◌+◌, ◌^◌, ℕ, List, [], ◌∷◌, ◌++◌, length, Option, Result, OnOk, OnErr, slice_index}
 use Rattle.std.specs.Io.KnownBytes.{Appends}
 use Rattle.gq_model.specs.declared.fault.Wrong.{Wrong}
 use Rattle.gq_model.specs.machine.Run.{Ran}
 use Rattle.gq_model.specs.machine.World.{World}
+use Rattle.gq_init.specs.Counts.{failures_of}
+use Rattle.gq_init.specs.Writes.{IsRaised}
+use Rattle.gq_init.specs.declared.counted.Counted.{Counted}
 use Rattle.gq_laws.specs.Turns.{steps_of}
 use Rattle.gq_world.specs.internal.Going.{going}
 
@@ -39,3 +42,8 @@ pub record IsNear (old new : World) (n : ℕ) : Type 0 where
 abbrev pub turns_in : List (ℕ × ℕ) → ℕ
 turns_in [] = 0
 turns_in (t ∷ turns) = t.1 + turns_in turns
+
+-- a write that failed was counted, and no other
+pub record CountsFailures {W A E : Type 0} (old new : Counted W) (result : Result A E) : Type 0 where
+  pub counted : OnOk result (failures_of new ≡ failures_of old)
+  pub raised : OnErr result (IsRaised (failures_of old) (failures_of new))

@@ -8,45 +8,45 @@ make_block-requires-clause-kept g c =
 
 pub store4-requires-clause-kept : goal.store4-requires-clause-kept
 store4-requires-clause-kept g c =
-    let k1 = (c.in_ok-block.ensures.changes [] (Empty ∷ []) c.requires).keeps in
-    let k2 = (c.in_ok-space.ensures.changes c.make_block.new.heap (c.in_ok-block.block ∷ []) [] k1).keeps in
+    let k1 = (c.in_ok-block.ensures.made.changes [] (Empty ∷ []) c.requires).keeps in
+    let k2 = (c.in_ok-space.ensures.made.changes c.make_block.new.heap (c.in_ok-block.block ∷ []) [] k1).keeps in
     record { front = []; back = (c.in_ok-space.space ∷ []); keeps = k2 }
 
 pub store4-requires-2-clause-kept : goal.store4-requires-2-clause-kept
 store4-requires-2-clause-kept g c =
-    let k1 = (c.in_ok-block.ensures.changes [] (Empty ∷ []) c.requires).keeps in
-    let k2 = (c.in_ok-space.ensures.changes c.make_block.new.heap (c.in_ok-block.block ∷ []) [] k1).keeps in
+    let k1 = (c.in_ok-block.ensures.made.changes [] (Empty ∷ []) c.requires).keeps in
+    let k2 = (c.in_ok-space.ensures.made.changes c.make_block.new.heap (c.in_ok-block.block ∷ []) [] k1).keeps in
     let k3 = (c.store4.ensures.changes [] (c.in_ok-space.space ∷ []) k2).keeps in
     record { front = (c.in_ok-block.block ∷ []); back = []; keeps = k3 }
 
 pub load4-of_block-requires-clause-kept : goal.load4-of_block-requires-clause-kept
 load4-of_block-requires-clause-kept g c =
-    let k1 = (c.in_ok-block.ensures.changes [] (Empty ∷ []) c.requires).keeps in
-    let k2 = (c.in_ok-space.ensures.changes c.make_block.new.heap (c.in_ok-block.block ∷ []) [] k1).keeps in
+    let k1 = (c.in_ok-block.ensures.made.changes [] (Empty ∷ []) c.requires).keeps in
+    let k2 = (c.in_ok-space.ensures.made.changes c.make_block.new.heap (c.in_ok-block.block ∷ []) [] k1).keeps in
     let k3 = (c.store4.ensures.changes [] (c.in_ok-space.space ∷ []) k2).keeps in
     let k4 = (c.store4-2.ensures.changes (c.in_ok-block.block ∷ []) [] k3).keeps in
     record { front = []; back = (c.in_ok-space.space ∷ []); keeps = k4 }
 
 pub load4-of_space-requires-clause-kept : goal.load4-of_space-requires-clause-kept
 load4-of_space-requires-clause-kept g c =
-    let k1 = (c.in_ok-block.ensures.changes [] (Empty ∷ []) c.requires).keeps in
-    let k2 = (c.in_ok-space.ensures.changes c.make_block.new.heap (c.in_ok-block.block ∷ []) [] k1).keeps in
+    let k1 = (c.in_ok-block.ensures.made.changes [] (Empty ∷ []) c.requires).keeps in
+    let k2 = (c.in_ok-space.ensures.made.changes c.make_block.new.heap (c.in_ok-block.block ∷ []) [] k1).keeps in
     let k3 = (c.store4.ensures.changes [] (c.in_ok-space.space ∷ []) k2).keeps in
     let k4 = (c.store4-2.ensures.changes (c.in_ok-block.block ∷ []) [] k3).keeps in
     record { front = (c.in_ok-block.block ∷ []); back = []; keeps = k4 }
 
 pub free-requires : goal.free-requires
 free-requires g c =
-    let k1 = (c.in_ok-block.ensures.changes [] (Empty ∷ []) c.requires).keeps in
-    let k2 = (c.in_ok-space.ensures.changes c.make_block.new.heap (c.in_ok-block.block ∷ []) [] k1).keeps in
+    let k1 = (c.in_ok-block.ensures.made.changes [] (Empty ∷ []) c.requires).keeps in
+    let k2 = (c.in_ok-space.ensures.made.changes c.make_block.new.heap (c.in_ok-block.block ∷ []) [] k1).keeps in
     let k3 = (c.store4.ensures.changes [] (c.in_ok-space.space ∷ []) k2).keeps in
     let k4 = (c.store4-2.ensures.changes (c.in_ok-block.block ∷ []) [] k3).keeps in
     record { kept = record { front = []; back = (c.in_ok-space.space ∷ []); keeps = k4 } }
 
 pub free-requires-2 : goal.free-requires-2
 free-requires-2 g c =
-    let k1 = (c.in_ok-block.ensures.changes [] (Empty ∷ []) c.requires).keeps in
-    let k2 = (c.in_ok-space.ensures.changes c.make_block.new.heap (c.in_ok-block.block ∷ []) [] k1).keeps in
+    let k1 = (c.in_ok-block.ensures.made.changes [] (Empty ∷ []) c.requires).keeps in
+    let k2 = (c.in_ok-space.ensures.made.changes c.make_block.new.heap (c.in_ok-block.block ∷ []) [] k1).keeps in
     let k3 = (c.store4.ensures.changes [] (c.in_ok-space.space ∷ []) k2).keeps in
     let k4 = (c.store4-2.ensures.changes (c.in_ok-block.block ∷ []) [] k3).keeps in
     let k5 = (c.free.ensures.changes [] (c.in_ok-space.space ∷ []) k4).keeps in

@@ -16,8 +16,8 @@ invariant_of-slots c =
     let s : Slots = slots_of c.slots.inside in
     let e = c.slots.view_is in
     let l = c.laws.ensures in
-    let co = live_open s.trades c.args.client l.trades l.trading (subst (λ (y : Slots). IsLive y.trades c.args.client) (sym e) c.requires.client) in
-    let vo = live_open s.trades c.args.server l.trades l.trading (subst (λ (y : Slots). IsLive y.trades c.args.server) (sym e) c.requires.server) in
+    let co = live_open s.trades c.args.client l.trades l.trading (subst (λ (y : Slots). IsLive y.trades c.args.client) (sym e) c.requires.can.client) in
+    let vo = live_open s.trades c.args.server l.trades l.trading (subst (λ (y : Slots). IsLive y.trades c.args.server) (sym e) c.requires.can.server) in
     let b = subst IsBalanced (c.accounts.ensures ∙ ap (λ m. m.ledger) c.memory.ensures) c.laws-2.ensures in
     let d = subst IsBalanced (c.accounts-2.ensures ∙ ap (λ m. m.ledger) c.memory-2.ensures) c.laws-3.ensures in
     kept_or_not c.ask-asked.result s c.ask-asked.new.self

@@ -1,14 +1,16 @@
-use Rattle.std.proofs.Common.{◌≡◌, ◌<◌, length, IfSome, sym, subst, ap, ◌∙◌, arith, rules}
+use Rattle.std.proofs.Common.{◌≡◌, ◌<◌, ◌≤◌, length, IfSome, sym, subst, ap, ◌∙◌, arith, rules}
 use Rattle.gq_model.specs.machine.Requests.{free_place, new_session}
 use Rattle.gq_model.specs.machine.Sums.{paid}
 use Rattle.gq_contents.specs.declared.content.Content.TheVariants.{Empty}
 use Rattle.gq_trade.specs.Seen.{spot_seen}
-use Rattle.gq_trade.specs.Trading.{fresh}
+use Rattle.gq_ram.specs.Entries.{available, available_caps}
+use Rattle.gq_trade.specs.Trading.{fresh, its_account}
 use Rattle.gq_trade.specs.Trades.{IsLive}
 use Rattle.gq_slots.specs.Slots.{IsMark, Slots, world_seen}
 use Rattle.gq_slots.specs.Session_calls.{opening}
 use Rattle.gq_statements.proofs.Kept.{carries_asked, free_seen, paid_then, reads_content, same_content, same_spot}
 use Rattle.gq_statements.proofs.Kept.{stays_asked, stays_same, stays_then, unpaid_open}
+use Rattle.gq_statements.proofs.Lawful.{from_err}
 use Rattle.gq_statements.proofs.Opens.{open_nowhere, open_some, open_unpaid}
 use Rattle.gq_statements.proofs.asking.open.Goals as goal
 
@@ -42,7 +44,8 @@ returns-in-Err-clause-step c before after d name n h o b named server gift =
     b (reads_content after s p Empty c.lawful.ensures is.there is.content)
     ((λ j. paid d.system (opening (world_seen after s) (new_session (h.leaf j) (spot_seen p) y name c.args.donation)))
     ∙ unpaid_open d.system after s (new_session x (spot_seen p) y name c.args.donation) c.lawful.ensures o below sv.1 c.requires.opens.counted
-    c.in-Err.ensures.only)
+    (from_err (c.args.donation.ram ≤ available (its_account s.trades.trading x) → available_caps (its_account s.trades.trading x) < c.args.donation.caps)
+    c.ask.result _ c.in-Err.is c.ask.ensures.afforded.only))
 
 pub returns-in-Err-clause-leaves : goal.returns-in-Err-clause-leaves
 returns-in-Err-clause-leaves c = record {

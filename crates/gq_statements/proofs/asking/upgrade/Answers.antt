@@ -1,7 +1,10 @@
-use Rattle.std.proofs.Common.{sym, subst, ◌∙◌, rules}
+use Rattle.std.proofs.Common.{◌<◌, ◌≤◌, sym, subst, ◌∙◌, rules}
 use Rattle.gq_contents.specs.declared.content.Content.TheVariants.{Link}
+use Rattle.gq_ram.specs.Entries.{available, available_caps}
+use Rattle.gq_trade.specs.Trading.{client_of, its_account}
 use Rattle.gq_slots.specs.Slots.{IsMark, Slots}
 use Rattle.gq_statements.proofs.Asks.{upgrade_none, upgrade_some, upgrade_unpaid}
+use Rattle.gq_statements.proofs.Lawful.{from_err}
 use Rattle.gq_statements.proofs.Kept.{carries_upgraded, its_session, paid_then, reads_content, same_spot, same_content, session_found, stays_then}
 use Rattle.gq_statements.proofs.Kept.{stays_upgraded}
 use Rattle.gq_statements.proofs.Kept.{unpaid_upgrade}
@@ -31,10 +34,12 @@ returns-in-Err-clause-step c before after d n h o b next =
     let p = c.in-Some.spot in
     let k = c.in-Some.session in
     let is = c.in-Some.ensures.is in
+    let a = its_account s.trades.trading (client_of s.trades.trading k) in
     upgrade_unpaid d c.args.place p k (c.in-Some.ensures.found before d h b.world_before) before after s (its_session before s k)
     (session_found before s k is.taken) b n c.args.donation next (its_session after s k) (session_found after s k is.taken)
     (reads_content after s p (Link k) c.lawful.ensures is.there is.content)
-    (unpaid_upgrade d.system after s k c.args.donation c.lawful.ensures o is.taken c.requires.counted c.in-Err.ensures.only)
+    (unpaid_upgrade d.system after s k c.args.donation c.lawful.ensures o is.taken c.requires.counted
+    (from_err (c.args.donation.ram ≤ available a → available_caps a < c.args.donation.caps) c.upgrade.result _ c.in-Err.is c.upgrade.ensures.afforded.only))
 
 pub returns-in-Ok-clause-step : goal.returns-in-Ok-clause-step
 returns-in-Ok-clause-step c before after d n h o b next =

@@ -17,7 +17,7 @@ returns-in-Block c =
       unchanged = c.make_block.ensures.unchanged;
       unpaid =
           (refused_block s p n c.make_block.result c.lawful.ensures c.requires.payable.there c.requires.payable.slot c.requires.empty c.requires.payable.below
-          (λ h is e. (c.make_block.ensures.exceeded h is).0 e) (λ h is e. let why = (c.make_block.ensures.caps_exceeded h is).0 e in (why.2, why.0)));
+          (λ h is e. (c.make_block.ensures.refused h is).exceeded.0 e) (λ h is e. let why = (c.make_block.ensures.refused h is).none.0 e in (why.2, why.0)));
     } in
     record { made = subst (λ y. IsMade c.make_block.result s c.make_block.new.self p (world.Bytes y n (replicate (room y n) 0))) (sym c.in-Block.is) made }
 
@@ -32,7 +32,7 @@ returns-in-Slice c =
       unpaid =
           (refused s p (world.Bytes form.Slice n (replicate n 0)) c.make_slice.result c.lawful.ensures c.requires.payable.there c.requires.payable.slot
           c.requires.empty
-          c.requires.payable.below (λ e. c.make_slice.ensures.exceeded.0 e) (λ e. ((c.make_slice.ensures.caps_exceeded.0 e).1, omega arith)));
+          c.requires.payable.below (λ e. c.make_slice.ensures.refused.exceeded.0 e) (λ e. ((c.make_slice.ensures.refused.none.0 e).1, omega arith)));
     } in
     record { made = subst (λ y. IsMade c.make_slice.result s c.make_slice.new.self p (world.Bytes y n (replicate (room y n) 0))) (sym c.in-Slice.is) made }
 
@@ -47,6 +47,7 @@ returns-in-Space c =
       unpaid =
           (refused s p (world.Bytes form.Space n (replicate (room form.Space n) 0)) c.make_space.result c.lawful.ensures c.requires.payable.there
           c.requires.payable.slot
-          c.requires.empty c.requires.payable.below (λ e. c.make_space.ensures.exceeded.0 e) (λ e. ((c.make_space.ensures.caps_exceeded.0 e).1, omega arith)));
+          c.requires.empty c.requires.payable.below (λ e. c.make_space.ensures.refused.exceeded.0 e)
+          (λ e. ((c.make_space.ensures.refused.none.0 e).1, omega arith)));
     } in
     record { made = subst (λ y. IsMade c.make_space.result s c.make_space.new.self p (world.Bytes y n (replicate (room y n) 0))) (sym c.in-Space.is) made }

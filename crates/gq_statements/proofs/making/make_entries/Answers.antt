@@ -19,7 +19,7 @@ returns c =
         unpaid =
             refused s c.args.spot (world.Pool c.args.size (replicate c.args.count None)) c.make_pool.result c.lawful.ensures c.requires.payable.there
             c.requires.payable.slot
-            c.requires.empty c.requires.payable.below (λ e. let lt = c.make_pool.ensures.exceeded.0 e in omega (arith, lt, price))
-            (λ e. ((c.make_pool.ensures.caps_exceeded.0 e).1, omega arith));
+            c.requires.empty c.requires.payable.below (λ e. let lt = c.make_pool.ensures.refused.exceeded.0 e in omega (arith, lt, price))
+            (λ e. ((c.make_pool.ensures.refused.none.0 e).1, omega arith));
       };
     }

@@ -38,7 +38,7 @@ returns-in-Err-clause-closed c f d q level at o h =
     let e = ap (λ y. are_empty y.slots) (sym is) ∙ (sym c.are_empty.ensures ∙ c.if-not-are_empty.false) in
     let t = s.trades.trading in
     let only = from_err ((session_at t k).donation.ram ≤ bytes_then t k → caps_then t k < (session_at t k).donation.caps) c.closed.result _ c.in-Err.is
-    c.closed.ensures.only in
+    c.closed.ensures.afforded.only in
     close_refused f d s k q at h l c.requires.awaited e c.laws.ensures.sound o only
 
 pub mark-requires-clause-there : goal.mark-requires-clause-there

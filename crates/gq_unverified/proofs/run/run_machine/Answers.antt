@@ -1,4 +1,4 @@
-use Rattle.std.proofs.Common.{◌∙◌, ℕ, [], Option, None, ap, length, sym, subst}
+use Rattle.std.proofs.Common.{rules, ◌∙◌, ℕ, [], Option, None, ap, length, sym, subst}
 use Rattle.gq_model.specs.declared.fault.Wrong.{Wrong}
 use Rattle.gq_model.specs.machine.Accounts.{account_lines}
 use Rattle.gq_model.specs.machine.Run.{run_on}
@@ -34,8 +34,8 @@ returns-in-Ok-clause-wrong g c =
     let come = subst (λ (o : Option (ℕ × Wrong)). HasCome (run_on (system s) turns) old new o a b) c.in-Ok-None.field-0-is c.in-Ok-None.ensures.come in
     wrong_is s turns old c.requires.start a b b new None come
 
-pub returns-in-Ok-clause-written : goal.returns-in-Ok-clause-written
-returns-in-Ok-clause-written g c =
+pub returns-in-Ok-clause-writes : goal.returns-in-Ok-clause-writes
+returns-in-Ok-clause-writes g c =
     let s = c.args.machine.now.scenario in
     let turns = c.args.turns.now in
     let old = c.args.machine.now.world in
@@ -45,10 +45,15 @@ returns-in-Ok-clause-written g c =
     let d = g.W.Write.contents c.write_accounts.new.out.writer in
     let come = subst (λ (o : Option (ℕ × Wrong)). HasCome (run_on (system s) turns) old new o a b) c.in-Ok-None.field-0-is c.in-Ok-None.ensures.come in
     let lines = subst (λ (r : Scenario). Appends b d (account_lines r.version (accounts_by r new []))) c.in-Ok-None.ensures.scenario c.in-Ok.ensures.written in
-    complete s turns old c.requires.start a b d new come lines
+    record {
+      written = complete s turns old c.requires.start a b d new come lines;
+      counted = search rules;
+      front = search rules;
+      raised = search rules;
+    }
 
-pub returns-in-Err-write_accounts-clause-front : goal.returns-in-Err-write_accounts-clause-front
-returns-in-Err-write_accounts-clause-front g c =
+pub returns-in-Err-write_accounts-clause-writes : goal.returns-in-Err-write_accounts-clause-writes
+returns-in-Err-write_accounts-clause-writes g c =
     let s = c.args.machine.now.scenario in
     let turns = c.args.turns.now in
     let old = c.args.machine.now.world in
@@ -59,7 +64,12 @@ returns-in-Err-write_accounts-clause-front g c =
     let come = subst (λ (o : Option (ℕ × Wrong)). HasCome (run_on (system s) turns) old new o a b) c.in-Ok-None.field-0-is c.in-Ok-None.ensures.come in
     let lines = subst (λ (r : Scenario). IsFront b d (account_lines r.version (accounts_by r new []))) c.in-Ok-None.ensures.scenario
     c.in-Err-write_accounts.ensures.front in
-    cut_lines s turns old c.requires.start a b d new come lines
+    record {
+      written = search rules;
+      counted = search rules;
+      front = cut_lines s turns old c.requires.start a b d new come lines;
+      raised = search rules;
+    }
 
 pub returns-in-Ok-Some-clause-wrong : goal.returns-in-Ok-Some-clause-wrong
 returns-in-Ok-Some-clause-wrong g c =
@@ -71,8 +81,8 @@ returns-in-Ok-Some-clause-wrong g c =
     let b = g.W.Write.contents c.take_all.new.out.writer in
     sym c.in-Ok-Some.field-0-is ∙ wrong_is s turns old c.requires.start a b b new c.in-Ok-Some.field-0 c.in-Ok-Some.ensures.come
 
-pub returns-in-Ok-Some-clause-written : goal.returns-in-Ok-Some-clause-written
-returns-in-Ok-Some-clause-written g c =
+pub returns-in-Ok-Some-clause-writes : goal.returns-in-Ok-Some-clause-writes
+returns-in-Ok-Some-clause-writes g c =
     let s = c.args.machine.now.scenario in
     let turns = c.args.turns.now in
     let old = c.args.machine.now.world in
@@ -80,10 +90,20 @@ returns-in-Ok-Some-clause-written g c =
     let a = g.W.Write.contents c.args.out.now.writer in
     let b = g.W.Write.contents c.take_all.new.out.writer in
     let come = subst (λ (o : Option (ℕ × Wrong)). HasCome (run_on (system s) turns) old new o a b) c.in-Ok-Some.field-0-is c.in-Ok-Some.ensures.come in
-    ended s turns old c.requires.start a b b new c.in-Ok-Some.wrong come
+    record {
+      written = ended s turns old c.requires.start a b b new c.in-Ok-Some.wrong come;
+      counted = search rules;
+      front = search rules;
+      raised = search rules;
+    }
 
-pub returns-in-Err-clause-front : goal.returns-in-Err-clause-front
-returns-in-Err-clause-front g c =
+pub returns-in-Err-clause-writes : goal.returns-in-Err-clause-writes
+returns-in-Err-clause-writes g c =
     let a = g.W.Write.contents c.args.out.now.writer in
     let b = g.W.Write.contents c.take_all.new.out.writer in
-    cut_turns c.args.machine.now.scenario c.args.turns.now c.args.machine.now.world c.requires.start a b b c.in-Err.ensures.cut
+    record {
+      written = search rules;
+      counted = search rules;
+      front = cut_turns c.args.machine.now.scenario c.args.turns.now c.args.machine.now.world c.requires.start a b b c.in-Err.ensures.cut;
+      raised = search rules;
+    }

@@ -1,10 +1,10 @@
-use Rattle.std.proofs.Common.{◌+◌, ◌≤◌, ◌∙◌, ℕ, Option, ap, drop, length, subst, arith}
+use Rattle.std.proofs.Common.{◌≡◌, ◌+◌, ◌≤◌, ◌∙◌, ℕ, Option, ap, drop, length, subst, arith}
 use Rattle.gq_model.specs.declared.fault.Wrong.{Wrong}
 use Rattle.gq_model.specs.machine.Run.{turns_of, run_on}
 use Rattle.gq_model.specs.machine.Scenario.{Scenario, components, system}
 use Rattle.gq_world.proofs.Going.{here_is, below_at, runs_grow}
 use Rattle.gq_unverified.specs.internal.Taking.{HasCome, IsCut, turns_in}
-use Rattle.gq_unverified.proofs.Counting.{room_left}
+use Rattle.gq_unverified.proofs.Counting.{from_ok, room_left}
 use Rattle.gq_unverified.proofs.Taking.{goes_on, ends_wrong, is_cut, runs_stuck}
 use Rattle.gq_unverified.proofs.turns.take_all.Goals as goal
 
@@ -63,5 +63,7 @@ loop-leaf-preserved g c =
       left = goes_on (run_on (system s) (drop l.leaf-index turns)) (run_on (system s) (drop (l.leaf-index + 1) turns)) (turns_of (system s) t.0 t.1)
           (run_on (system s) turns) (λ r. ap (λ k. run_on (system s) k r) here) c.args.machine.now.world l.machine.world a b d l.invariant.left new
           (subst (λ (o : Option (ℕ × Wrong)). HasCome (turns_of (system s) t.0 t.1) l.machine.world new o b d) c.in-Ok-None.field-0-is come);
-      counted = e.counted ∙ l.invariant.counted;
+      counted =
+          from_ok (c.take_turns.new.out.failures ≡ l.out.failures) c.take_turns.result c.in-Ok-None.field-0 c.in-Ok-None.is
+          c.take_turns.ensures.failures.counted ∙ l.invariant.counted;
     }

@@ -1,10 +1,10 @@
-use Rattle.std.proofs.Common.{◌+◌, ◌-◌, ◌∙◌, ℕ, Option, subst, arith}
+use Rattle.std.proofs.Common.{◌≡◌, ◌+◌, ◌-◌, ◌∙◌, ℕ, Option, subst, arith}
 use Rattle.gq_model.specs.declared.fault.Wrong.{Wrong}
 use Rattle.gq_model.specs.machine.Run.{turns_of}
 use Rattle.gq_model.specs.machine.Scenario.{Scenario, system}
 use Rattle.gq_world.proofs.Going.{turns_grow}
 use Rattle.gq_unverified.specs.internal.Taking.{HasCome, IsCut}
-use Rattle.gq_unverified.proofs.Counting.{near_both}
+use Rattle.gq_unverified.proofs.Counting.{from_ok, near_both}
 use Rattle.gq_unverified.proofs.Taking.{goes_on, ends_wrong, is_cut, one_of, turns_stuck}
 use Rattle.gq_unverified.proofs.turns.take_turns.Goals as goal
 
@@ -55,5 +55,7 @@ loop-turn-preserved g c =
           (turns_of (system s) x c.args.count) (one_of (system s) x c.args.count l.turn c.loop-turn-test.true) c.args.machine.now.world l.machine.world
           a b d l.invariant.left new
           (subst (λ (o : Option (ℕ × Wrong)). HasCome (turns_of (system s) x 1) l.machine.world new o b d) c.in-Ok-None.field-0-is come);
-      counted = e.counted ∙ l.invariant.counted;
+      counted =
+          from_ok (c.take_turn.new.out.failures ≡ l.out.failures) c.take_turn.result c.in-Ok-None.field-0 c.in-Ok-None.is
+          c.take_turn.ensures.failures.counted ∙ l.invariant.counted;
     }

@@ -1,11 +1,9 @@
-use Rattle.std.proofs.Common.{◌≡◌, Bool, true, false, None, sym, subst}
-use Rattle.std.specs.Prelude.{IsTrue, ◌↔◌, IfOk}
+use Rattle.std.proofs.Common.{◌≡◌, Bool, true, false, sym, subst}
+use Rattle.std.specs.Prelude.{IfOk}
 use Rattle.gq_contents.specs.declared.content.Content.{Content}
 use Rattle.gq_pool.specs.Pools.{AddsEntry}
 use Rattle.gq_contents.specs.declared.content.Content.TheVariants.{Pool}
-use Rattle.gq_contents.specs.Contents.{seen, entry_in, with_entry, added}
-use Rattle.gq_contents.specs.Kept.{Changes}
-use Rattle.gq_contents.specs.Paid.{Pays, Raises}
+use Rattle.gq_contents.specs.Paid.{TakesEntry}
 use Rattle.gq_contents.proofs.Callers.{is_pool}
 use Rattle.gq_contents.proofs.Entries.{if_ok, absent_none, none_absent, takes_changes, takes_seen, takes_added, takes_pays, takes_raises}
 use Rattle.gq_contents.proofs.content.Content.take.Goals as goal
@@ -16,86 +14,28 @@ take-requires-clause-kept g c = is_pool _ _ _ (rw c.pool-pool.ensures at c.requi
 pub take-requires-clause-inside : goal.take-requires-clause-inside
 take-requires-clause-inside g c = rw c.pool-pool.ensures at c.requires.inside
 
-pub returns-clause-changes : goal.returns-clause-changes
-returns-clause-changes g c =
-    let p = c.pool-pool.result in
-    let old = g.S.ByteStore.state c.args.store.now in
-    let new = g.S.ByteStore.state c.take.new.store in
-    let before = c.args.heap.now in
-    let after = c.take.new.heap in
-    let i = c.args.index in
-    let l = rw c.pool-pool.ensures at c.requires.inside in
-    let k = rw c.pool-pool.ensures at c.requires.kept in
-    rw c.pool-pool.ensures (if_ok c.take.result (AddsEntry p before after old new i) (λ b. Changes before after old new (Pool p) (Pool p))
-    (λ b t. takes_changes p before after old new i b l t) c.take.ensures.ok)
-
-pub returns-clause-seen : goal.returns-clause-seen
-returns-clause-seen g c =
-    let p = c.pool-pool.result in
-    let old = g.S.ByteStore.state c.args.store.now in
-    let new = g.S.ByteStore.state c.take.new.store in
-    let before = c.args.heap.now in
-    let after = c.take.new.heap in
-    let i = c.args.index in
-    let l = rw c.pool-pool.ensures at c.requires.inside in
-    let k = rw c.pool-pool.ensures at c.requires.kept in
-    rw c.pool-pool.ensures (if_ok c.take.result (AddsEntry p before after old new i) (λ b. seen new (Pool p) ≡ with_entry i added (seen old (Pool p)))
-    (λ b t. takes_seen p before after old new i b l t k) c.take.ensures.ok)
-
-pub returns-clause-added : goal.returns-clause-added
-returns-clause-added g c =
-    let p = c.pool-pool.result in
-    let old = g.S.ByteStore.state c.args.store.now in
-    let new = g.S.ByteStore.state c.take.new.store in
-    let before = c.args.heap.now in
-    let after = c.take.new.heap in
-    let i = c.args.index in
-    let l = rw c.pool-pool.ensures at c.requires.inside in
-    let k = rw c.pool-pool.ensures at c.requires.kept in
-    rw c.pool-pool.ensures (if_ok c.take.result (AddsEntry p before after old new i) (λ b. IsTrue b ↔ (entry_in i (seen old (Pool p)) ≡ None))
-    (λ b t. takes_added p before after old new i b l t) c.take.ensures.ok)
-
-pub returns-clause-pays : goal.returns-clause-pays
-returns-clause-pays g c =
-    let p = c.pool-pool.result in
-    let old = g.S.ByteStore.state c.args.store.now in
-    let new = g.S.ByteStore.state c.take.new.store in
-    let before = c.args.heap.now in
-    let after = c.take.new.heap in
-    let i = c.args.index in
-    let l = rw c.pool-pool.ensures at c.requires.inside in
-    let k = rw c.pool-pool.ensures at c.requires.kept in
-    rw c.pool-pool.ensures (if_ok c.take.result (AddsEntry p before after old new i) (λ b. Pays before after old new (Pool p) (Pool p))
-    (λ b t. takes_pays p before after old new i b l t k) c.take.ensures.ok)
-
-pub returns-clause-raises : goal.returns-clause-raises
-returns-clause-raises g c =
-    let p = c.pool-pool.result in
-    let old = g.S.ByteStore.state c.args.store.now in
-    let new = g.S.ByteStore.state c.take.new.store in
-    let before = c.args.heap.now in
-    let after = c.take.new.heap in
-    let i = c.args.index in
-    let l = rw c.pool-pool.ensures at c.requires.inside in
-    let k = rw c.pool-pool.ensures at c.requires.kept in
-    subst (λ (s : Content). IfOk c.take.result (λ b. entry_in i (seen old s) ≡ None → Raises before after old new s s)) (sym c.pool-pool.ensures)
-    (if_ok c.take.result (AddsEntry p before after old new i)
-    (λ b. entry_in i (seen old (Pool p)) ≡ None → Raises before after old new (Pool p) (Pool p))
-    (λ b t e. takes_raises p before after old new i b l t e) c.take.ensures.ok)
-
 is_true_false : (b : Bool) → b ≡ true → b ≡ false → ⊥
 is_true_false b e f = cc
 
-pub returns-clause-there : goal.returns-clause-there
-returns-clause-there g c =
+pub returns-clause-taken : goal.returns-clause-taken
+returns-clause-taken g c =
     let p = c.pool-pool.result in
     let old = g.S.ByteStore.state c.args.store.now in
     let new = g.S.ByteStore.state c.take.new.store in
     let before = c.args.heap.now in
     let after = c.take.new.heap in
     let i = c.args.index in
-    if_ok c.take.result (AddsEntry p before after old new i) (λ b. b ≡ false → (after ≡ before) × (new ≡ old))
-    (λ b t e. let same = t.there (λ a. is_true_false b (t.absent a).0 e) in (same.1, same.2)) c.take.ensures.ok
+    let l = rw c.pool-pool.ensures at c.requires.inside in
+    let k = rw c.pool-pool.ensures at c.requires.kept in
+    subst (λ (s : Content). IfOk c.take.result (λ b. TakesEntry before after old new s i b)) (sym c.pool-pool.ensures)
+    (if_ok c.take.result (AddsEntry p before after old new i) (λ b. TakesEntry before after old new (Pool p) i b) (λ b t. record {
+      changes = takes_changes p before after old new i b l t;
+      reads = takes_seen p before after old new i b l t k;
+      fresh = takes_added p before after old new i b l t;
+      pays = takes_pays p before after old new i b l t k;
+      raises = λ e. takes_raises p before after old new i b l t e;
+      there = λ e. let same = t.there (λ a. is_true_false b (t.absent a).0 e) in (same.1, same.2);
+    }) c.take.ensures.ok)
 
 pub returns-clause-exceeded : goal.returns-clause-exceeded
 returns-clause-exceeded g c =

@@ -1,4 +1,4 @@
-use Rattle.std.proofs.Common.{◌≡◌, refl, arith, sym, ap, subst, ◌∙◌}
+use Rattle.std.proofs.Common.{◌≡◌, refl, arith, rules, sym, ap, subst, ◌∙◌}
 use Rattle.gq_ram.specs.declared.account.Account.{Account}
 use Rattle.gq_ram.specs.Entries.{account_at, IsOpen}
 use Rattle.gq_ram.specs.Ledgers.{Ledger}
@@ -73,8 +73,8 @@ invariant_of-self c =
     ∙ ap (λ (x : Account). x.quota.caps) (sym p.now) in
     rw (c.remove.ensures.slots, heir, q, s) p.closed
 
-pub returns-clause-left : goal.returns-clause-left
-returns-clause-left c =
+pub returns-clause-closed : goal.returns-clause-closed
+returns-clause-closed c =
     let l : Ledger = c.args.self.now in let m : Ledger = ledger_view c.self.inside in let a = c.args.account in let r = c.in-Some.reference in
     let its = ap (λ (x : Account). x.reference) (sym c.account-closing.ensures) ∙ c.in-Some.is in
     let p : IsClosing l m a r = closing l m a r c.self.invariant c.requires its (sym c.has_members.ensures
@@ -85,4 +85,9 @@ returns-clause-left c =
     ∙ ap (λ (x : Account). x.quota.ram) (sym p.now) in
     let s : c.account-closing.result.quota.caps ≡ (account_at m.accounts a.0).quota.caps = ap (λ (x : Account). x.quota.caps) c.account-closing.ensures
     ∙ ap (λ (x : Account). x.quota.caps) (sym p.now) in
-    rw (its, c.remove.ensures.slots, heir, q, s) p.left
+    record {
+      left = rw (its, c.remove.ensures.slots, heir, q, s) p.left;
+      gone = search rules;
+      others = search rules;
+      other_owners = search rules;
+    }

@@ -42,5 +42,5 @@ set_quotas-requires-clause-balanced c =
     rw (giver, taker, ← v) (caps_balanced l f t c.args.amount c.self.invariant from to (related_apart l.accounts c.args.from c.args.to
     (λ k r e. (c.self.invariant.references k r e).1) related) enough)
 
-pub returns-then-giver-amount-clause-refused : goal.returns-then-giver-amount-clause-refused
-returns-then-giver-amount-clause-refused c = search rules
+pub returns-then-giver-amount-clause-refusal : goal.returns-then-giver-amount-clause-refusal
+returns-then-giver-amount-clause-refusal c = search rules

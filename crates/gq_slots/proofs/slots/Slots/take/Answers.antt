@@ -17,7 +17,7 @@ invariant_of-self c =
     c.requires.there c.holder-holder.ensures.is c.holder-holder.ensures.there c.content-content.ensures.is c.index_mut.ensures.value c.requires.paid in
     let e = c.take.ensures in
     (takes c.args.self.now s c.take.new.store c.args.spot c.index_mut.result.now c.take.new.heap c.content-content.result c.args.index c.holder-holder.result
-    c.take.result c.self.view_is a c.laws.ensures.trading c.holder-holder.ensures.is e.rest e.changes e.seen e.added e.pays e.raises e.there e.err).0
+    c.take.result c.self.view_is a c.laws.ensures.trading c.holder-holder.ensures.is e.rest e.taken e.err).0
 
 pub returns-clause-taken : goal.returns-clause-taken
 returns-clause-taken c =
@@ -26,4 +26,4 @@ returns-clause-taken c =
     c.requires.there c.holder-holder.ensures.is c.holder-holder.ensures.there c.content-content.ensures.is c.index_mut.ensures.value c.requires.paid in
     let e = c.take.ensures in
     (takes c.args.self.now s c.take.new.store c.args.spot c.index_mut.result.now c.take.new.heap c.content-content.result c.args.index c.holder-holder.result
-    c.take.result c.self.view_is a c.laws.ensures.trading c.holder-holder.ensures.is e.rest e.changes e.seen e.added e.pays e.raises e.there e.err).1
+    c.take.result c.self.view_is a c.laws.ensures.trading c.holder-holder.ensures.is e.rest e.taken e.err).1

@@ -1,7 +1,7 @@
 use Rattle.std.proofs.Common.{subst}
 use Rattle.gq_ram.specs.Entries.{available, available_caps}
 use Rattle.gq_ram.specs.Trees.{account_of, number}
-use Rattle.gq_trade.specs.Giving.{IsAfforded}
+use Rattle.gq_ram.specs.Giving.{IsAfforded}
 use Rattle.gq_trade.specs.Stores.{Memory}
 use Rattle.gq_trade.proofs.Donating.{open_after}
 use Rattle.gq_trade.proofs.memory.Memory.donate.Goals as goal
@@ -13,7 +13,5 @@ invariant_of-self c =
 
 pub returns-clause-afforded : goal.returns-clause-afforded
 returns-clause-afforded c =
-    let e = c.donate.ensures in
     subst (λ (m : Memory). IsAfforded c.donate.result (available (account_of c.args.tree.now m.ledger c.args.from))
-    (available_caps (account_of c.args.tree.now m.ledger c.args.from)) c.args.amount) c.self.view_is
-    (record { enough = e.enough; enough_caps = e.enough_caps; exceeded = e.exceeded; caps_exceeded = e.caps_exceeded; only = e.only })
+    (available_caps (account_of c.args.tree.now m.ledger c.args.from)) c.args.amount) c.self.view_is c.donate.ensures.afforded

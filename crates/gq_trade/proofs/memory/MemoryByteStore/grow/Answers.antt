@@ -13,12 +13,12 @@ returns-clause-ok c = elim c.match-alloc.branch [
       let l = c.self.inside.accounts in
       let a = c.self.inside.payer in
       let e = w.in-Ok.ensures in
-      let pays = allowed_pays (account_at l.accounts a.0) l.price (4096 * c.args.pages) (rw c.from.ensures at e.allowed) in
+      let pays = allowed_pays (account_at l.accounts a.0) l.price (4096 * c.args.pages) (rw c.from.ensures at e.refusal.allowed) in
       let size : up (4096 * c.args.pages) ≡ c.args.pages * 4096 = omega arith in
       rw (w.result-is, w.new.ensures, ← c.self.view_is) (subst (λ n. Grows (store_at l a.0) (store_at c.alloc.new.self a.0) w.in-Ok.ds.0 n) size
-      (grown l c.alloc.new.self a w.in-Ok.ds.0 (up (4096 * c.args.pages)) c.laws.ensures c.self.invariant e.same_whole e.was_vacant
-      (rw c.from.ensures at e.made)
-      e.of_it (rw c.from.ensures at e.paid) pays.0 pays.1))
+      (grown l c.alloc.new.self a w.in-Ok.ds.0 (up (4096 * c.args.pages)) c.laws.ensures c.self.invariant e.same_whole e.allocated.was_vacant
+      (rw c.from.ensures at e.allocated.made)
+      e.allocated.of_it (rw c.from.ensures at e.allocated.paid) pays.0 pays.1))
   | in-Err-CapsExceeded w ↦ search rules
   | in-Err w ↦ search rules
 ]
@@ -29,8 +29,9 @@ returns-clause-rest c = elim c.match-alloc.branch [
       let l = c.self.inside.accounts in
       let a = c.self.inside.payer in
       let e = w.in-Ok.ensures in
-      rw (← c.self.view_is) (grown_rest l c.alloc.new.self a w.in-Ok.ds.0 (up (4096 * c.args.pages)) c.laws.ensures c.self.invariant e.same_whole e.was_vacant
-      (rw c.from.ensures at e.made) e.of_it (rw c.from.ensures at e.paid))
+      rw (← c.self.view_is) (grown_rest l c.alloc.new.self a w.in-Ok.ds.0 (up (4096 * c.args.pages)) c.laws.ensures c.self.invariant e.same_whole
+      e.allocated.was_vacant
+      (rw c.from.ensures at e.allocated.made) e.allocated.of_it (rw c.from.ensures at e.allocated.paid))
   | in-Err-CapsExceeded w ↦ search rules
   | in-Err w ↦ search rules
 ]

@@ -1,4 +1,4 @@
-use Rattle.std.proofs.Common.{◌≡◌, ◌<◌, length, ◌++◌, [], ◌∷◌, refl, sym, ap, subst, ◌∙◌}
+use Rattle.std.proofs.Common.{◌≡◌, ◌<◌, length, ◌++◌, [], ◌∷◌, refl, rules, sym, ap, subst, ◌∙◌}
 use Rattle.gq_ram.specs.Entries.{available, available_caps}
 use Rattle.gq_ram.specs.Ledgers.{IsBalanced}
 use Rattle.gq_trade.specs.declared.requests.Ask.TheVariants.{Open}
@@ -15,8 +15,8 @@ push-requires c =
     let w : Trades = here c.self.inside in
     let v : w ≡ c.args.self.now = c.self.view_is in
     let x = c.args.client in
-    let live : IsLive w x = subst (λ (a : Trades). IsLive a x) (sym v) c.requires.client in
-    room_for_one w c.self.invariant x live.there (subst (λ (a : Trades). IsIdle a.trading x) (sym v) c.requires.idle)
+    let live : IsLive w x = subst (λ (a : Trades). IsLive a x) (sym v) c.requires.can.client in
+    room_for_one w c.self.invariant x live.there (subst (λ (a : Trades). IsIdle a.trading x) (sym v) c.requires.can.idle)
 
 pub invariant_of-self-2 : goal.invariant_of-self-2
 invariant_of-self-2 c =
@@ -25,9 +25,9 @@ invariant_of-self-2 c =
     let x = c.args.client in let y = c.args.server in
     let s = fresh x c.args.spot y c.args.service c.args.donation in
     let p : AreParties w s = record {
-      client = subst (λ (a : Trades). IsLive a x) (sym v) c.requires.client;
-      server = subst (λ (a : Trades). IsLive a y) (sym v) c.requires.server;
-      apart = c.requires.apart;
+      client = subst (λ (a : Trades). IsLive a x) (sym v) c.requires.can.client;
+      server = subst (λ (a : Trades). IsLive a y) (sym v) c.requires.can.server;
+      apart = c.requires.can.apart;
       service = subst (λ (a : Trades). c.args.service < length a.trading.objects) (sym v) c.requires.service;
       counted = λ z. c.requires.counted (ap (λ (a : Trades). a.trading.memory.ledger.price) (sym v) ∙ z);
     } in
@@ -56,4 +56,13 @@ invariant_of-self-2 c =
     } in
     subst Holds (sym is) (asked_holds w c.self.invariant s p (enough_of w.trading x i c.args.donation.ram available from e.afforded.enough)
     (enough_of w.trading x i c.args.donation.caps available_caps from e.afforded.enough_caps)
-    (subst (λ (a : Trades). IsIdle a.trading x) (sym v) c.requires.idle) refl (subst IsBalanced c.accounts.ensures c.laws.ensures))
+    (subst (λ (a : Trades). IsIdle a.trading x) (sym v) c.requires.can.idle) refl (subst IsBalanced c.accounts.ensures c.laws.ensures))
+
+pub returns-in_err-donate-clause-afforded : goal.returns-in_err-donate-clause-afforded
+returns-in_err-donate-clause-afforded c = record {
+  enough = search rules;
+  enough_caps = search rules;
+  exceeded = search rules;
+  caps_exceeded = search rules;
+  only = search rules;
+}

@@ -1,5 +1,5 @@
 use Rattle.std.proofs.Common.{◌≡◌, sym, subst}
-use Rattle.gq_trade.specs.Giving.{CanGive}
+use Rattle.gq_ram.specs.Giving.{CanGive}
 use Rattle.gq_trade.specs.Trading.{node_of}
 use Rattle.gq_trade.specs.Trades.{Trades, IsLive}
 use Rattle.gq_trade.proofs.Inside.{here}

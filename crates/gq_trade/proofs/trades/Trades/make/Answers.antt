@@ -27,4 +27,4 @@ returns-clause-ok c =
     c.account_of-account.ensures.is ∙ ap (λ (t : Trades). account_no t.trading x) (sym v) in
     subst (λ (y : Trades). IfOk c.make_slice_for.result (λ t. Makes y.trading (with_memory w.trading m) x (get_or y.trading.objects c.args.service 0) t)) v
     (makes_of c.make_slice_for.result w.trading m x (get_or w.trading.objects c.args.service 0) c.index-size.result.now c.account_of-account.result a
-    (item w.trading.objects c.args.service c.index-size.result.now 0 sl c.index-size.ensures) e.changes e.seen e.size e.pays e.payer e.rest)
+    (item w.trading.objects c.args.service c.index-size.result.now 0 sl c.index-size.ensures) e.made e.payer e.rest)
