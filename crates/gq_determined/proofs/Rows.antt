@@ -1,10 +1,10 @@
 -- The runs of a server that counts what its clients ask of it together, and of one that counts for each session alone. By computation.
-use Rattle.std.proofs.Common.{◌≡◌, ℕ, List, [], ◌∷◌, ◌++◌, codes, refl}
+use Rattle.std.proofs.Common.{◌≡◌, ℕ, zero, suc, List, [], ◌∷◌, ◌++◌, codes, refl}
 use Rattle.std.specs.Fmt.{digits}
 use Rattle.gq_model.specs.machine.Scenario.{system}
 use Rattle.gq_model.specs.machine.Run.{run}
 use Rattle.gq_model.specs.machine.Accounts.{account_lines, accounts}
-use Rattle.gq_races.proofs.Rows.{together, apart, two}
+use Rattle.gq_races.proofs.Rows.{together, apart, two, relayed_once}
 use Rattle.gq_determined.specs.Determined.{lines_of}
 
 -- the clients one after the other, in either order
@@ -37,3 +37,32 @@ accounts_after all = account_lines 1 (accounts (two apart) (run (system (two apa
 same_accounts : accounts_after (turns 1 2) ≡ accounts_after (turns 2 1)
 unfolding digits
 same_accounts = refl
+
+-- A SERVER BEHIND ANOTHER, EACH WITH ONE CLIENT
+
+-- rounds over the leaves, in this order
+abbrev rounds : ℕ → List (ℕ × ℕ) → List (ℕ × ℕ)
+rounds zero order = []
+rounds (suc n) order = order ++ rounds n order
+
+abbrev upwards : List (ℕ × ℕ)
+upwards = rounds 8 ((0, 9) ∷ (1, 9) ∷ (2, 9) ∷ [])
+
+abbrev downwards : List (ℕ × ℕ)
+downwards = rounds 8 ((2, 1) ∷ (1, 1) ∷ (2, 8) ∷ (1, 8) ∷ (0, 9) ∷ [])
+
+-- both change their own slots in sections, and the outcome is the same
+first_relayed : lines_of relayed_once 2 upwards ≡ codes "[init -> a] 1" ++ 10 ∷ []
+unfolding digits
+first_relayed = refl
+
+second_relayed : lines_of relayed_once 2 downwards ≡ codes "[init -> a] 1" ++ 10 ∷ []
+unfolding digits
+second_relayed = refl
+
+abbrev relayed_after : List (ℕ × ℕ) → List ℕ
+relayed_after all = account_lines 1 (accounts relayed_once (run (system relayed_once) all).world [])
+
+same_relayed : relayed_after upwards ≡ relayed_after downwards
+unfolding digits
+same_relayed = refl

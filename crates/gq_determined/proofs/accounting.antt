@@ -1,6 +1,6 @@
 -- After all work has come to rest the accounts of all nodes are the same.
 -- From regions that are the same for each thread, whose names of sessions are merged into one; phases at rest; steps, which are added up by threads; and peaks,
--- which are raised in steps of a leaf's own thread alone.
+-- which are raised in steps of the thread alone that a leaf is of.
 -- So what a run to rest leaves to whom does not depend on the turns.
 pub mod Merged
 pub mod Steps

@@ -1,5 +1,5 @@
 -- Two worlds in which a thread has the same, and all else is as it was: elementary changes for the thread keep this.
--- From the regions of two leaves, what leaves are at, and what is left as it is elsewhere.
+-- From the regions of two threads, what leaves are at, and what is left as it is elsewhere.
 -- So a step for a thread does the same in both worlds, and touches nothing of another thread.
 pub mod Regions
 pub mod At_same

@@ -1,7 +1,9 @@
 -- In two runs of a sound scenario each thread whose `main` has ended has the same, and showed the same.
--- From turns of threads, what is left of each leaf to do, and that no step of such a scenario is wrong.
+-- From turns of threads, what is left of each leaf to do, where sessions are opened, and that no step of such a scenario is wrong.
 -- So it is for all threads of two runs that come to rest.
 pub mod Runs
 pub mod Outside
+pub mod Opened
+pub mod Openers
 pub mod Sound_runs
 pub mod At_rest

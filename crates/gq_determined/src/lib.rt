@@ -3,7 +3,7 @@
 //! ```rust
 //! use gq_determined::determined::determined_laws;
 //!
-//! // From here on the proof of this function knows of any two runs of a scenario whose leaves change no own slot outside `main`.
+//! // From here on the proof of this function knows of any two runs of a scenario of which `races` tells nothing.
 //! determined_laws();
 //! ```
 #![tactic(auto)]

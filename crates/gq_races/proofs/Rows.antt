@@ -37,8 +37,12 @@ apart =
     server (codes "srv") 4096 (codes "tally") ((Main, Done) ∷ (Opening, all_do (Make Slice (Shared 0) 16 ∷ [])) ∷ (Calling 0, counting (Shared 0))
     ∷ (Closing 0, all_do (Free (Shared 0) ∷ [])) ∷ [])
 
+-- a client of a service
+abbrev client_of : List ℕ → List ℕ → LeafNode
+client_of service name = leaf name 16384 (main_of (Open (Own 0) service 8192 ∷ Push 0 ∷ Call (Own 0) ∷ Out ∷ Close (Own 0) ∷ []))
+
 abbrev client : List ℕ → LeafNode
-client name = leaf name 16384 (main_of (Open (Own 0) (codes "tally") 8192 ∷ Push 0 ∷ Call (Own 0) ∷ Out ∷ Close (Own 0) ∷ []))
+client = client_of (codes "tally")
 
 abbrev with_clients : LeafNode → List LeafNode → Scenario
 with_clients srv clients = served ((codes "tally", tally) ∷ []) (leaves (srv ∷ clients))
@@ -48,6 +52,21 @@ two srv = with_clients srv (client (codes "a") ∷ client (codes "b") ∷ [])
 
 abbrev pub single : LeafNode → Scenario
 single srv = with_clients srv (client (codes "a") ∷ [])
+
+-- a server that calls the one that counts by a link in its own slot, and its clients
+abbrev pub relay : LeafNode
+relay =
+    server (codes "mid") 16384 (codes "relay") ((Main, all_do (Open (Own 0) (codes "tally") 8192 ∷ [])) ∷ (Opening, Done)
+    ∷ (Calling 0, all_do (Call (Own 0) ∷ [])) ∷ (Closing 0, Done) ∷ [])
+
+abbrev pub relayed : List LeafNode → Scenario
+relayed clients = served ((codes "relay", tally) ∷ (codes "tally", tally) ∷ []) (leaves (together ∷ relay ∷ clients))
+
+abbrev pub relayed_once : Scenario
+relayed_once = relayed (client_of (codes "relay") (codes "a") ∷ [])
+
+abbrev pub relayed_twice : Scenario
+relayed_twice = relayed (client_of (codes "relay") (codes "a") ∷ client_of (codes "relay") (codes "b") ∷ [])
 
 -- all are accepted
 accepted_together : refusal (two together) ≡ None
@@ -59,6 +78,9 @@ accepted_apart = refl
 accepted_single : refusal (single together) ≡ None
 accepted_single = refl
 
+accepted_relayed : refusal relayed_once ≡ None
+accepted_relayed = refl
+
 -- WHAT RACES
 
 -- the sixth statement of the server's section for calls, where it has two clients
@@ -68,12 +90,21 @@ race_together = refl
 none_apart : races (two apart) ≡ []
 none_apart = refl
 
--- this server changes no own slot outside `main`, shared or not
-none_changed : races_in (codes "init -> srv") apart.program.sections ≡ []
-none_changed = refl
+-- with one client the same statement races with none
+changed_single : races_in (codes "init -> srv") together.program.sections
+    ≡ record { leaf = codes "init -> srv"; section = Calling 0; place = 6; statement = Store Byte (Own 0) } ∷ []
+changed_single = refl
 
 none_single : races (single together) ≡ []
 none_single = refl
+
+-- nor do these of a server with one client that has another for itself alone
+none_relayed : races relayed_once ≡ []
+none_relayed = refl
+
+-- with two clients it is the call by its own link that races; the server behind it still has one client
+race_relayed : races relayed_twice ≡ record { leaf = codes "init -> mid"; section = Calling 0; place = 1; statement = Call (Own 0) } ∷ []
+race_relayed = refl
 
 -- AS TEXT
 

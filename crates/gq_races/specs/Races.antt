@@ -1,5 +1,5 @@
 -- Leaves whose sessions are opened in several places, and the statements by which these sessions can tell of one another.
-use Rattle.std.specs.Prelude.{◌≡◌, ℕ, suc, ◌+◌, nat_lt, if◌then◌else◌, Bool, true, false, ◌&&◌, ◌||◌, not, List, [], ◌∷◌, ◌++◌, Some, count_by, slice_get}
+use Rattle.std.specs.Prelude.{◌≡◌, ℕ, suc, ◌+◌, nat_lt, if◌then◌else◌, Bool, true, false, ◌&&◌, ◌||◌, not, List, [], ◌∷◌, ◌++◌, count_by}
 use Rattle.gq_model.specs.declared.program.Instruction.{Instruction}
 use Rattle.gq_model.specs.declared.program.Instruction.TheVariants.{Store, Take, Give, Poke, Call, Make, MakePool, Free, Open, Upgrade, Close}
 use Rattle.gq_model.specs.declared.program.Place.{Place}
@@ -7,7 +7,7 @@ use Rattle.gq_model.specs.declared.program.Place.TheVariants.{Own, Shared, Objec
 use Rattle.gq_model.specs.declared.program.Section.{Section}
 use Rattle.gq_model.specs.machine.Program.{Statements, Done, Do, If, Loop, size}
 use Rattle.gq_model.specs.machine.Lists.{any_of}
-use Rattle.gq_model.specs.machine.Scenario.{Scenario, System, Component, components, system}
+use Rattle.gq_model.specs.machine.Scenario.{Scenario, System, Component, system}
 use Rattle.gq_model.specs.machine.Routes.{server_of}
 use Rattle.gq_model.specs.rules.Kinds.{in_main}
 use Rattle.gq_model.specs.rules.Use.{services_of, is_there}
@@ -88,7 +88,3 @@ races s = let all = system s in races_from all 0 all.components
 -- no shared leaf has any
 abbrev pub IsRaceFree : Scenario → Type 0
 IsRaceFree s = races s ≡ []
-
--- no leaf changes an own slot outside `main`, whether it is shared or not
-abbrev pub ChangesNoOwn : Scenario → Type 0
-ChangesNoOwn s = (x : ℕ) (c : Component) → slice_get (components s) x ≡ Some c → races_in c.label c.node.program.sections ≡ []

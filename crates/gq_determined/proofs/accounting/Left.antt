@@ -1,5 +1,5 @@
--- Runs to rest of sound scenarios whose leaves change no own slot outside `main` leave the same accounts.
-use Rattle.std.proofs.Common.{◌≡◌, ℕ, true, List, Option, Some, None, refl, ap, sym, ◌∙◌, subst}
+-- Runs to rest of sound scenarios without races leave the same accounts.
+use Rattle.std.proofs.Common.{◌≡◌, ℕ, true, List, map, Option, Some, None, refl, ap, sym, ◌∙◌, subst}
 use Rattle.std.specs.Prelude.{is_some, option_map, replicate, slice_get}
 use Rattle.std.proofs.lemmas.Bool.{true≢false}
 use Rattle.gq_model.specs.declared.phase.Phase.{Phase}
@@ -14,16 +14,17 @@ use Rattle.gq_laws.specs.Phases.{Suits}
 use Rattle.gq_laws.specs.Progress.{rests, AllRest}
 use Rattle.gq_laws.specs.Sound.{IsSound}
 use Rattle.gq_laws.specs.internal.Holding.{HoldsNone}
+use Rattle.gq_laws.specs.internal.Renamed.{renamed_slot}
 use Rattle.gq_laws.specs.internal.Uncounted.{uncounted}
 use Rattle.gq_laws.proofs.progress.Lasting.{reached_lasts}
 use Rattle.gq_laws.proofs.turning.Steps.{stands_still}
-use Rattle.gq_races.specs.Races.{ChangesNoOwn}
+use Rattle.gq_races.specs.Races.{IsRaceFree}
 use Rattle.gq_determined.specs.Determined.{LeavesSame}
 use Rattle.gq_determined.specs.internal.Threads.{Tracked, tracked_after, shown_by, past_of, slots_of, SameAtRest}
 use Rattle.gq_determined.proofs.standing.Orderly.{IsTracked}
 use Rattle.gq_determined.proofs.running.At_rest.{rest_same, rests_idle}
 use Rattle.gq_determined.proofs.running.Runs.{all_tracked}
-use Rattle.gq_determined.proofs.running.Sound_runs.{all_pay, all_stand, good, placed, stateless}
+use Rattle.gq_determined.proofs.running.Sound_runs.{all_pay, all_stand, good, placed}
 use Rattle.gq_determined.proofs.accounting.Merged.{AreAlike, account_same}
 use Rattle.gq_determined.proofs.accounting.Peaks_same.{peaks_ended}
 use Rattle.gq_determined.proofs.accounting.Nodes.{accounts_same}
@@ -58,7 +59,7 @@ exited_at_rest w y Running a suits = absurd (true≢false (sym a))
 exited_at_rest w y Blocked a suits = absurd (true≢false (sym a))
 exited_at_rest w y Handling a suits = absurd (true≢false (sym a))
 
-module _ (s : Scenario) (sound : IsSound s) (none : ChangesNoOwn s) (turns others : List (ℕ × ℕ)) (rest : AllRest (run (system s) turns).world)
+module _ (s : Scenario) (sound : IsSound s) (none : IsRaceFree s) (turns others : List (ℕ × ℕ)) (rest : AllRest (run (system s) turns).world)
     (rest_other : AllRest (run (system s) others).world) where
   abbrev u : System
   u = uncounted (system s)
@@ -71,6 +72,17 @@ module _ (s : Scenario) (sound : IsSound s) (none : ChangesNoOwn s) (turns other
 
   ended : SameAtRest s turns others
   ended = rest_same s sound (stands_still (system s)) none turns others rest rest_other
+
+  tracks : IsTracked u g
+  tracks = all_tracked u (all_pay (system s)) (good s sound none) (past_of turns)
+
+  tracks_other : IsTracked u h
+  tracks_other = all_tracked u (all_pay (system s)) (good s sound none) (past_of others)
+
+  -- the slots of a leaf are the same but for the numbers of sessions
+  slots_same : (y : ℕ) → (f : ℕ → ℕ)
+      × (option_map slots_of (slice_get h.world.leaves y) ≡ option_map (λ leaf. map (renamed_slot f) (slots_of leaf)) (slice_get g.world.leaves y))
+  slots_same y = let s = ended.same (g.own y) (tracks.owned.whole y) in (s.f, s.region.slots y refl)
 
   -- two leaves at rest
   phases : (y : ℕ) (l m : Leaf) → slice_get g.world.leaves y ≡ Some l → slice_get h.world.leaves y ≡ Some m → m.phase ≡ l.phase
@@ -102,8 +114,8 @@ module _ (s : Scenario) (sound : IsSound s) (none : ChangesNoOwn s) (turns other
 
       by : (o : Option (List ℕ)) → c.0.node.provides ≡ o → m.peaks ≡ l.peaks
       by (Some service) e =
-          sym (peaks_ended s sound none y (past_of turns) (past_of others) (rests_idle g y (subst AllRest ended.world rest))
-          (rests_idle h y (subst AllRest ended.other rest_other))
+          sym (peaks_ended s sound none y (past_of turns) (past_of others) (λ i. rests_idle g i (subst AllRest ended.world rest))
+          (λ i. rests_idle h i (subst AllRest ended.other rest_other))
           (λ d found. ap is_some (ap (λ (k : Component). k.node.provides) (some_same (sym found ∙ c.1)) ∙ e)) l m at at_h)
       by None e = gone others m ended.other at_h rest_other e ∙ sym (gone turns l ended.world at rest e)
 
@@ -118,9 +130,6 @@ module _ (s : Scenario) (sound : IsSound s) (none : ChangesNoOwn s) (turns other
         ∙ sym (steps_total s sound none (past_of turns) y l at));
   }
 
-  tracks : IsTracked u g
-  tracks = all_tracked u (all_pay (system s)) (good s sound (stateless s sound none)) (past_of turns)
-
   -- what is handed to a leaf
   handed_same : (y quantum : ℕ) → handed_to (slice_get h.world.leaves y) quantum ≡ handed_to (slice_get g.world.leaves y) quantum
   handed_same y quantum = by (slice_get g.world.leaves y) (slice_get h.world.leaves y) refl refl
@@ -128,15 +137,15 @@ module _ (s : Scenario) (sound : IsSound s) (none : ChangesNoOwn s) (turns other
       by : (o p : Option Leaf) → slice_get g.world.leaves y ≡ o → slice_get h.world.leaves y ≡ p → handed_to p quantum ≡ handed_to o quantum
       by None None at at_h = refl
       by None (Some m) at at_h =
-          absurd (none_some (sym (sym (ap (option_map slots_of) at_h) ∙ ((ended.same y).region.slots ∙ ap (option_map _) at))))
+          absurd (none_some (sym (sym (ap (option_map slots_of) at_h) ∙ ((slots_same y).1 ∙ ap (option_map _) at))))
       by (Some l) None at at_h =
-          absurd (none_some (sym (ap (option_map slots_of) at_h) ∙ ((ended.same y).region.slots ∙ ap (option_map _) at)))
+          absurd (none_some (sym (ap (option_map slots_of) at_h) ∙ ((slots_same y).1 ∙ ap (option_map _) at)))
       by (Some l) (Some m) at at_h = ap (λ p. handed p quantum) (phases y l m at at_h)
 
   accounts_left : (budgets : List ℕ) → accounts s h.world budgets ≡ accounts s g.world budgets
   accounts_left budgets =
       accounts_same s budgets g.world h.world
-      (λ version y budget. account_same u g h tracks ended.same alike version budget y (slice_get (system s).components y)) handed_same
+      (λ version y budget. account_same u g h tracks tracks_other ended.same ended.back alike version budget y (slice_get (system s).components y)) handed_same
 
   pub accounts_rest : (budgets : List ℕ)
       → accounts s (run (system s) turns).world budgets ≡ accounts s (run (system s) others).world budgets
@@ -145,5 +154,5 @@ module _ (s : Scenario) (sound : IsSound s) (none : ChangesNoOwn s) (turns other
       ∙ (sym (accounts_left budgets) ∙ ap (λ w. accounts s w budgets) (sym ended.other))
 
 -- what a run to rest leaves does not depend on its turns
-pub leaves_same : (s : Scenario) → IsSound s → ChangesNoOwn s → LeavesSame s
+pub leaves_same : (s : Scenario) → IsSound s → IsRaceFree s → LeavesSame s
 leaves_same s sound none turns others rest rest_other = accounts_rest s sound none turns others rest rest_other

@@ -1,5 +1,6 @@
--- Two worlds in which each thread has the same: by one name for each session, leaves and sessions are the same.
-use Rattle.std.proofs.Common.{◌≡◌, ℕ, Bool, true, [], map, Option, Some, None, refl, ap, sym, ◌∙◌}
+-- Two worlds in which each thread that has its own leaf has the same: by one name for each session, leaves and sessions are the same.
+use Rattle.std.proofs.Common.{◌≡◌, ℕ, inl, inr, Bool, true, [], map, Option, Some, None, refl, ap, sym, ◌∙◌}
+use Rattle.std.proofs.lemmas.Bool.Decides.{eqb_tells}
 use Rattle.std.specs.Prelude.{option_map, slice_get}
 use Rattle.std.proofs.lemmas.Option.{slice_get-map}
 use Rattle.gq_model.specs.machine.Program.{Done}
@@ -57,12 +58,20 @@ pub record AreAlike (w v : World) : Type 0 where
   pub steps : (y : ℕ) (l m : Leaf) → slice_get w.leaves y ≡ Some l → slice_get v.leaves y ≡ Some m → m.steps ≡ l.steps
   pub peaks : (y : ℕ) (l m : Leaf) → slice_get w.leaves y ≡ Some l → slice_get v.leaves y ≡ Some m → m.peaks ≡ l.peaks
 
-module _ (system : System) (g h : Tracked) (t : IsTracked system g) (same : (i : ℕ) → IsSameThread i g h) where
-  abbrev merged : ℕ → ℕ
-  merged k = (same (g.root k)).f k
+module _ (system : System) (g h : Tracked) (t : IsTracked system g) (th : IsTracked system h) (same : (i : ℕ) → g.own i ≡ i → IsSameThread i g h)
+    (back : (i : ℕ) → h.own i ≡ i → g.own i ≡ i) where
+  -- the names of a thread's region
+  abbrev Names : ℕ → Type 0
+  Names i = (f : ℕ → ℕ) × (g.own i ≡ i → IsSameRegion f g.own g.root h.root i g.world h.world)
 
-  region : (i : ℕ) → IsSameRegion merged g.root h.root i g.world h.world
-  region i = region_renamed system g t (same i).f merged i (λ k s there is. ap (λ j. (same j).f k) is) h.root h.world (same i).region
+  names : (i : ℕ) → Names i
+  names i = elim (eqb_tells (g.own i) i) [ inl q ↦ let s = same i q.1 in (s.f, λ own. s.region) | inr q ↦ (λ k. k, λ own. absurd (q.1 own)) ]
+
+  abbrev merged : ℕ → ℕ
+  merged k = (names (g.root k)).0 k
+
+  region : (i : ℕ) → g.own i ≡ i → IsSameRegion merged g.own g.root h.root i g.world h.world
+  region i own = region_renamed system g t (names i).0 merged i (λ k s there is. ap (λ j. (names j).0 k) is) h.root h.world ((names i).1 own)
 
   -- a session, and that at its new number
   there : (k : ℕ) (s : Session) → session_at g.world k ≡ Some s
@@ -70,14 +79,15 @@ module _ (system : System) (g h : Tracked) (t : IsTracked system g) (same : (i :
   there k s e =
       let i = g.root k in
       within_there h.root i h.world.sessions (merged k) (renamed_session merged s)
-      ((region i).sessions.there k s (within_here g.root i g.world.sessions k refl ∙ e))
+      ((region i (t.lives k s e)).sessions.there k s (within_here g.root i g.world.sessions k refl ∙ e))
 
   sessions : Correspond merged (own_at all g.world.sessions) (own_at all h.world.sessions)
   sessions = record {
     there = λ k s e. own_all (joined (slice_get h.world.sessions (merged k))) ∙ (there k s (sym (own_all (joined (slice_get g.world.sessions k))) ∙ e)).1;
     back = λ m u e.
         (let i = h.root m in
-        let p = (region i).sessions.back m u (within_here h.root i h.world.sessions m refl ∙ (sym (own_all (joined (slice_get h.world.sessions m))) ∙ e)) in
+        let at = sym (own_all (joined (slice_get h.world.sessions m))) ∙ e in
+        let p = (region i (back i (th.lives m u at))).sessions.back m u (within_here h.root i h.world.sessions m refl ∙ at) in
         let q = within_there g.root i g.world.sessions p.0 p.1 p.2 in
         (p.0, p.1, own_all (joined (slice_get g.world.sessions p.0)) ∙ q.1, p.3));
     single = λ j k s u e q r.
@@ -85,14 +95,16 @@ module _ (system : System) (g h : Tracked) (t : IsTracked system g) (same : (i :
         let at_k = sym (own_all (joined (slice_get g.world.sessions k))) ∙ q in
         let i = g.root k in
         let roots : g.root j ≡ g.root k = sym (there j s at).0 ∙ (ap h.root r ∙ (there k u at_k).0) in
-        (region i).sessions.single j k s u (within_here g.root i g.world.sessions j roots ∙ at) (within_here g.root i g.world.sessions k refl ∙ at_k) r);
+        (region i (t.lives k u at_k)).sessions.single j k s u (within_here g.root i g.world.sessions j roots ∙ at)
+        (within_here g.root i g.world.sessions k refl ∙ at_k) r);
   }
 
   module _ (alike : AreAlike g.world h.world) where
     leaf_same : (y : ℕ) → slice_get (bare_world h.world).leaves y ≡ option_map (renamed_leaf merged) (slice_get (bare_world g.world).leaves y)
     leaf_same y =
         slice_get-map bare h.world.leaves y
-        ∙ (by (slice_get g.world.leaves y) (slice_get h.world.leaves y) refl refl (region y).slots
+        ∙ (by (slice_get g.world.leaves y) (slice_get h.world.leaves y) refl refl
+        ((region (g.own y) (t.owned.whole y)).slots y refl)
         ∙ ap (option_map (renamed_leaf merged)) (sym (slice_get-map bare g.world.leaves y)))
       where
         by : (o p : Option Leaf) → slice_get g.world.leaves y ≡ o → slice_get h.world.leaves y ≡ p

@@ -21,7 +21,7 @@ use Rattle.gq_laws.specs.internal.Uncounted.{uncounted}
 use Rattle.gq_laws.proofs.turning.Endings.{Ends, fails, gives, need_ends, when_ends, pop_ends}
 use Rattle.gq_laws.proofs.turning.Instructs.{accept_by}
 use Rattle.gq_laws.proofs.turning.Outcomes.{begun, closed}
-use Rattle.gq_determined.specs.internal.Threads.{Tracked, who, tracked_after, stepped_to, turn_for}
+use Rattle.gq_determined.specs.internal.Threads.{Tracked, who, tracked_after, stepped_to, ready, turn_for}
 use Rattle.gq_determined.proofs.running.Sound_runs.{all_stand, goes_by}
 use Rattle.gq_determined.proofs.accounting.Peaks.{Within, AreWithin, with_own, all_else, put_light, stands, instruct_within}
 
@@ -152,4 +152,4 @@ module _ (s : Scenario) (sound : IsSound s) where
       by h None = h
       by h (Some i) =
           let p = goes_by s sound (at a).world x (all_stand s sound a) in
-          subst (λ g. AreWithin g.world) (sym (ap (stepped_to (at a) x i) p.1)) (next_within u (at a).world x p.0.0 p.0.1 h p.1)
+          subst (λ g. AreWithin g.world) (sym (ap (stepped_to (ready u (at a) x i) x i) p.1)) (next_within u (at a).world x p.0.0 p.0.1 h p.1)

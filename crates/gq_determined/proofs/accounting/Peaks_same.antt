@@ -1,5 +1,5 @@
--- The peaks of a leaf that provides a service depend on the steps of its own thread alone.
-use Rattle.std.proofs.Common.{◌≡◌, ◌⊎◌, inl, inr, ℕ, zero, suc, max, true, false, List, [], ◌∷◌, length, map, Option, Some, None}
+-- The peaks of a leaf that provides a service depend on the steps of the thread alone that it is of.
+use Rattle.std.proofs.Common.{◌≡◌, ◌≢◌, ◌⊎◌, inl, inr, ℕ, zero, suc, ◌==◌, max, true, false, List, [], ◌∷◌, length, map, Option, Some, None}
 use Rattle.std.proofs.Common.{refl, ap, sym, ◌∙◌, subst, arith}
 use Rattle.std.specs.Prelude.{is_some, option_map, slice_get, sum_by}
 use Rattle.std.proofs.lemmas.List.Sums.{sum_by-cons}
@@ -8,19 +8,22 @@ use Rattle.gq_model.specs.machine.Scenario.{Scenario, System, Component, system}
 use Rattle.gq_model.specs.machine.World.{Slot, Empty, Bytes, Pool, Link, Waiting, Leaf, World}
 use Rattle.gq_model.specs.machine.Doing.{Event}
 use Rattle.gq_model.specs.machine.Sums.{places, raised, slot_places}
-use Rattle.gq_model.proofs.Small.{get_within, none_some, some_same}
+use Rattle.gq_model.proofs.Small.{get_within, none_some, some_same, equal_self}
 use Rattle.gq_laws.specs.Shapes.{Each, IsWholeLeaf}
 use Rattle.gq_laws.specs.Sound.{IsSound}
 use Rattle.gq_laws.specs.internal.Renamed.{renamed_slot}
 use Rattle.gq_laws.specs.internal.Uncounted.{uncounted}
-use Rattle.gq_races.specs.Races.{ChangesNoOwn}
+use Rattle.gq_races.specs.Races.{IsRaceFree}
 use Rattle.gq_determined.specs.internal.Machines.{is_for}
-use Rattle.gq_determined.specs.internal.Threads.{Tracked, who, stepped_to, turn_for, tracked_start, tracked_turn, tracked_after, shows, slots_of, HasEnded}
-use Rattle.gq_determined.specs.internal.Threads.{IsSameThread}
+use Rattle.gq_determined.specs.internal.Threads.{Tracked, who, stepped_to, ready, turn_for, tracked_start, tracked_turn, tracked_after, shows, slots_of}
+use Rattle.gq_determined.specs.internal.Threads.{IsSameThread, IsAlike, HasEnded}
 use Rattle.gq_determined.proofs.machines.By_threads.{AreThreads, agree_ended}
 use Rattle.gq_determined.proofs.stepping.Itself.{thread_itself}
-use Rattle.gq_determined.proofs.running.Runs.{are_threads}
-use Rattle.gq_determined.proofs.running.Sound_runs.{all_pay, all_stand, goes_by, good, placed, stateless, within}
+use Rattle.gq_determined.proofs.standing.Orderly.{IsTracked}
+use Rattle.gq_determined.proofs.standing.Places.{is_equal, lives_who, same_place}
+use Rattle.gq_determined.proofs.stepping.Together.{ended_of}
+use Rattle.gq_determined.proofs.running.Runs.{not_for, own_is, ready_at, all_tracked, are_threads, same_owners}
+use Rattle.gq_determined.proofs.running.Sound_runs.{all_pay, all_stand, goes_by, good, placed, within}
 use Rattle.gq_determined.proofs.accounting.Peaks.{Within}
 use Rattle.gq_determined.proofs.accounting.Peaks_kept.{all_within}
 use Rattle.gq_determined.proofs.accounting.Peaks_steps.{next_raises}
@@ -74,7 +77,7 @@ each_at P [] h i a e = absurd (none_some e)
 each_at P (b ∷ items) h zero a e = subst P (some_same e) h.0
 each_at P (b ∷ items) h (suc i) a e = each_at P items h.1 i a e
 
-module _ (s : Scenario) (sound : IsSound s) (none : ChangesNoOwn s) where
+module _ (s : Scenario) (sound : IsSound s) (none : IsRaceFree s) where
   abbrev u : System
   u = uncounted (system s)
 
@@ -88,8 +91,8 @@ module _ (s : Scenario) (sound : IsSound s) (none : ChangesNoOwn s) where
   abbrev pub SamePeaks : ℕ → Tracked → Tracked → Type 0
   SamePeaks i g h = (l m : Leaf) → slice_get g.world.leaves i ≡ Some l → slice_get h.world.leaves i ≡ Some m → l.peaks ≡ m.peaks
 
-  threads : AreThreads Tracked (ℕ × Event) (tracked_start u) (tracked_turn u) who (shows u) IsSameThread HasEnded
-  threads = are_threads u (all_pay (system s)) (good s sound (stateless s sound none))
+  threads : AreThreads Tracked (ℕ × Event) (tracked_start u) (tracked_turn u) who (shows u) IsAlike HasEnded
+  threads = are_threads u (all_pay (system s)) (good s sound none)
 
   -- a leaf that is there was there
   before : (a : List ℕ) (x y : ℕ) (new : Leaf) → slice_get (at (x ∷ a)).world.leaves y ≡ Some new → (l : Leaf) × (slice_get (at a).world.leaves y ≡ Some l)
@@ -109,7 +112,7 @@ module _ (s : Scenario) (sound : IsSound s) (none : ChangesNoOwn s) where
       → slice_get (at (x ∷ a)).world.leaves y ≡ Some new → new.peaks ≡ most classes l.peaks new.slots
   raises a x j y is serves l new there now =
       let p = goes_by s sound (at a).world x (all_stand s sound a) in
-      let world : (at (x ∷ a)).world ≡ p.0.0 = ap (λ o. (turn_for u (at a) x o).world) is ∙ ap (λ r. (stepped_to (at a) x j r).world) p.1 in
+      let world : (at (x ∷ a)).world ≡ p.0.0 = ap (λ o. (turn_for u (at a) x o).world) is ∙ ap (λ r. (stepped_to (ready u (at a) x j) x j r).world) p.1 in
       let step = (next_raises (system s) (at a).world x y l there serves (λ c leaf e f. ((all_stand s sound a).left x c leaf e f).todo)).holds p.0.0 p.0.1
       p.2 in
       by p.0.0 world (step.raises new (ap (λ (w : World). slice_get w.leaves y) (sym world) ∙ now))
@@ -122,41 +125,87 @@ module _ (s : Scenario) (sound : IsSound s) (none : ChangesNoOwn s) where
           e ∙ (ap (λ v. raised v y new classes l.peaks) (sym world)
           ∙ raised_most (at (x ∷ a)).world y new (own_only s (at (x ∷ a)).world (all_stand s sound (x ∷ a)) y c.0 c.1 new now) classes l.peaks)
 
-  -- the own slots of a thread have as much in use in two worlds in which it has the same
-  places_same : (i : ℕ) (g h : Tracked) (l m : Leaf) → slice_get g.world.leaves i ≡ Some l → slice_get h.world.leaves i ≡ Some m → IsSameThread i g h → (c : ℕ)
+  -- the slots of a leaf of a thread have as much in use in two worlds in which the thread has the same
+  places_same : (i y : ℕ) (g h : Tracked) (l m : Leaf) → slice_get g.world.leaves y ≡ Some l → slice_get h.world.leaves y ≡ Some m → IsSameThread i g h
+      → g.own y ≡ i → (c : ℕ)
       → sum_by (slot_places c) m.slots ≡ sum_by (slot_places c) l.slots
-  places_same i g h l m e f t c =
+  places_same i y g h l m e f t is c =
       let slots : m.slots ≡ map (renamed_slot t.f) l.slots
-      = some_same (sym (ap (option_map slots_of) f) ∙ (t.region.slots ∙ ap (option_map (λ (leaf : Leaf). map (renamed_slot t.f) (slots_of leaf))) e)) in
+      = some_same (sym (ap (option_map slots_of) f) ∙ (t.region.slots y is ∙ ap (option_map (λ (leaf : Leaf). map (renamed_slot t.f) (slots_of leaf))) e)) in
       ap (sum_by (slot_places c)) slots ∙ renamed_places t.f c l.slots
 
-  -- a turn for another thread leaves the peaks
-  else_same : (i : ℕ) (a : List ℕ) (x : ℕ) → is_for i (who (at a) x) ≡ false → Serves i → SamePeaks i (at (x ∷ a)) (at a)
-  else_same i a x out serves new l now there = by (who (at a) x) refl
+  itself : (i : ℕ) (g : Tracked) → IsAlike i g g
+  itself i g = record { main = refl; whole = λ own other. thread_itself i g }
+
+  -- WHOSE A LEAF WAS
+
+  -- a turn for another thread gives a thread nothing
+  was_own : (i : ℕ) (a : List ℕ) (x : ℕ) → is_for i (who (at a) x) ≡ false → (y : ℕ) → (at (x ∷ a)).own y ≡ i → (at a).own y ≡ i
+  was_own i a x out y is = by (who (at a) x) refl out
+    where
+      by : (o : Option ℕ) → who (at a) x ≡ o → is_for i o ≡ false → (at a).own y ≡ i
+      by None e out = sym (ap (λ o. (turn_for u (at a) x o).own y) e) ∙ is
+      by (Some j) e out =
+          (ready_at u (all_pay (system s)) (good s sound none) a x j e).own_back i y (not_for u (all_pay (system s)) (good s sound none) i j out)
+          (sym (own_is u (all_pay (system s)) (good s sound none) a x j e y) ∙ is)
+
+  -- a turn for the thread gives it what was of the leaf that takes the step
+  was_of : (a : List ℕ) (x i : ℕ) → who (at a) x ≡ Some i → (y : ℕ) → (at (x ∷ a)).own y ≡ i
+      → ((at a).own y ≡ i) ⊎ (((at a).own y ≡ x) × ((at a).own x ≡ x) × (x ≢ i) × ((at (x ∷ a)).own x ≡ i))
+  was_of a x i is y own =
+      let r = ready_at u (all_pay (system s)) (good s sound none) a x i is in
+      let same = own_is u (all_pay (system s)) (good s sound none) a x i is in
+      elim (r.own_from y (sym (same y) ∙ own)) [ inl q ↦ inl q | inr q ↦ inr (q.0, q.1, q.2, same x ∙ q.3) ]
+
+  tracks : (a : List ℕ) → IsTracked u (at a)
+  tracks = all_tracked u (all_pay (system s)) (good s sound none)
+
+  lives_at : (a : List ℕ) (x i : ℕ) → who (at a) x ≡ Some i → (at a).own i ≡ i
+  lives_at a x i is = lives_who u (at a) (tracks a) i x is
+
+  ended_at : (a : List ℕ) (x i : ℕ) → who (at a) x ≡ Some i → x ≢ i → HasEnded x (at a)
+  ended_at a x i is ne = ended_of u (at a) (tracks a) i x is ne
+
+  same_step : (i : ℕ) (a b : List ℕ) (x y : ℕ) → who (at a) x ≡ Some i → who (at b) y ≡ Some i → IsSameThread i (at a) (at b) → x ≡ y
+  same_step i a b x y is is_b t = (same_place u (at a) (at b) (tracks a) (tracks b) i t x y is is_b).leaf
+
+  -- a turn for another thread leaves the peaks of a thread's leaves
+  else_same : (i y : ℕ) (a : List ℕ) (x : ℕ) → is_for i (who (at a) x) ≡ false → (at (x ∷ a)).own i ≡ i → (at (x ∷ a)).own y ≡ i → Serves y
+      → SamePeaks y (at (x ∷ a)) (at a)
+  else_same i y a x out own is serves new l now there = by (who (at a) x) refl
     where
       by : (o : Option ℕ) → who (at a) x ≡ o → new.peaks ≡ l.peaks
       by None e =
           let world : (at (x ∷ a)).world ≡ (at a).world = ap (λ o. (turn_for u (at a) x o).world) e in
-          ap (λ (k : Leaf). k.peaks) (some_same (sym now ∙ (ap (λ (w : World). slice_get w.leaves i) world ∙ there)))
+          ap (λ (k : Leaf). k.peaks) (some_same (sym now ∙ (ap (λ (w : World). slice_get w.leaves y) world ∙ there)))
       by (Some j) e =
-          let t = threads.left i a a x out (thread_itself i (at a)) in
-          raises a x j i e serves l new there now
-          ∙ (most_same classes l.peaks new.slots l.slots (λ c. sym (places_same i (at (x ∷ a)) (at a) new l now there t c)) ∙ full a i l there)
+          let t = (threads.left i a a x out (itself i (at a))).whole own (was_own i a x out i own) in
+          raises a x j y e serves l new there now
+          ∙ (most_same classes l.peaks new.slots l.slots (λ c. sym (places_same i y (at (x ∷ a)) (at a) new l now there t is c)) ∙ full a y l there)
 
   -- with the peaks of leaves that provide services
+  abbrev PeaksToo : ℕ → Tracked → Tracked → Type 0
+  PeaksToo i g h = g.own i ≡ i → h.own i ≡ i → (y : ℕ) → g.own y ≡ i → Serves y → SamePeaks y g h
+
   abbrev Same : ℕ → Tracked → Tracked → Type 0
-  Same i g h = IsSameThread i g h × (Serves i → SamePeaks i g h)
+  Same i g h = IsAlike i g h × PeaksToo i g h
 
   left : (i : ℕ) (a b : List ℕ) (x : ℕ) → is_for i (who (at a) x) ≡ false → Same i (at a) (at b) → Same i (at (x ∷ a)) (at b)
   left i a b x out t = (
     threads.left i a b x out t.0,
-    λ serves new m now there. (let l = before a x i new now in else_same i a x out serves new l.0 now l.1 ∙ t.1 serves l.0 m l.1 there),
+    λ own other y is serves new m now there. (
+        let l = before a x y new now in
+        else_same i y a x out own is serves new l.0 now l.1 ∙ t.1 (was_own i a x out i own) other y (was_own i a x out y is) serves l.0 m l.1 there),
   )
 
   right : (i : ℕ) (a b : List ℕ) (x : ℕ) → is_for i (who (at b) x) ≡ false → Same i (at a) (at b) → Same i (at a) (at (x ∷ b))
   right i a b x out t = (
     threads.right i a b x out t.0,
-    λ serves l new there now. (let m = before b x i new now in t.1 serves l m.0 there m.1 ∙ sym (else_same i b x out serves new m.0 now m.1)),
+    λ own other y is serves l new there now. (
+        let m = before b x y new now in
+        let s = (threads.right i a b x out t.0).whole own other in
+        let is_new : (at (x ∷ b)).own y ≡ i = is_equal ((at (x ∷ b)).own y) i (sym (s.owned y) ∙ (ap (λ n. n == i) is ∙ equal_self i)) in
+        t.1 own (was_own i b x out i other) y is serves l m.0 there m.1 ∙ sym (else_same i y b x out other is_new serves new m.0 now m.1)),
   )
 
   own : (i : ℕ) (a b : List ℕ) (x y : ℕ) → who (at a) x ≡ Some i → who (at b) y ≡ Some i → Same i (at a) (at b)
@@ -165,20 +214,39 @@ module _ (s : Scenario) (sound : IsSound s) (none : ChangesNoOwn s) where
       let r = threads.own i a b x y is is_b t.0 (λ j e f. (ends j e f).0) in (
         (
           r.0,
-          λ serves new other now there.
-              (let l = before a x i new now in
-              let m = before b y i other there in
-              raises a x i i is serves l.0 new l.1 now
-              ∙ (ap (λ p. most classes p new.slots) (t.1 serves l.0 m.0 l.1 m.1)
-              ∙ (most_same classes m.0.peaks new.slots other.slots (λ c. sym (places_same i (at (x ∷ a)) (at (y ∷ b)) new other now there r.0 c))
-              ∙ sym (raises b y i i is_b serves m.0 other m.1 there)))),
+          λ own other z is_z serves new other_new now there.
+              (let l = before a x z new now in
+              let m = before b y z other_new there in
+              let whole = r.0.whole own other in
+              raises a x i z is serves l.0 new l.1 now
+              ∙ (ap (λ p. most classes p new.slots) (old whole z is_z serves l.0 m.0 l.1 m.1)
+              ∙ (most_same classes m.0.peaks new.slots other_new.slots
+              (λ c. sym (places_same i z (at (x ∷ a)) (at (y ∷ b)) new other_new now there whole is_z c))
+              ∙ sym (raises b y i z is_b serves m.0 other_new m.1 there)))),
         ),
         r.1,
       )
+    where
+      before_step : IsSameThread i (at a) (at b)
+      before_step = t.0.whole (lives_at a x i is) (lives_at b y i is_b)
+
+      -- the peaks were the same, whosever the leaf was
+      old : IsSameThread i (at (x ∷ a)) (at (y ∷ b)) → (z : ℕ) → (at (x ∷ a)).own z ≡ i → Serves z → SamePeaks z (at a) (at b)
+      old whole z is_z serves = elim (was_of a x i is z is_z) [
+        | inl q ↦ t.1 (lives_at a x i is) (lives_at b y i is_b) z q serves
+        | inr q ↦
+            let place = same_step i a b x y is is_b before_step in
+            let other : (at (y ∷ b)).own x ≡ i = is_equal ((at (y ∷ b)).own x) i (sym (whole.owned x) ∙ (ap (λ n. n == i) q.3 ∙ equal_self i)) in
+            let own_b : (at b).own x ≡ x = elim (was_of b y i is_b x other) [
+              | inl e ↦ absurd (q.2 (sym q.1 ∙ is_equal ((at a).own x) i (before_step.owned x ∙ (ap (λ n. n == i) e ∙ equal_self i))))
+              | inr e ↦ e.0 ∙ sym place
+            ] in
+            (ends x (ended_at a x i is q.2) (ended_at b x i (subst (λ n. who (at b) n ≡ Some i) (sym place) is_b) q.2)).1 q.1 own_b z q.0 serves
+      ]
 
   same_threads : AreThreads Tracked (ℕ × Event) (tracked_start u) (tracked_turn u) who (shows u) Same HasEnded
   same_threads = record {
-    begins = λ i. (threads.begins i, λ serves l m e f. ap (λ (k : Leaf). k.peaks) (some_same (sym e ∙ f)));
+    begins = λ i. (threads.begins i, λ own other y is serves l m e f. ap (λ (k : Leaf). k.peaks) (some_same (sym e ∙ f)));
     left = left;
     right = right;
     own = own;
@@ -187,7 +255,10 @@ module _ (s : Scenario) (sound : IsSound s) (none : ChangesNoOwn s) where
     ended = λ i a b t. threads.ended i a b t.0;
   }
 
-  -- the leaf of a thread that has ended in two runs has the same peaks
-  pub peaks_ended : (i : ℕ) (a b : List ℕ) → HasEnded i (at a) → HasEnded i (at b) → Serves i → SamePeaks i (at a) (at b)
-  peaks_ended i a b e f =
-      (agree_ended Tracked (ℕ × Event) (tracked_start u) (tracked_turn u) who (shows u) Same HasEnded same_threads i a b e f).0.1
+  -- where all threads have ended in two runs each leaf has the same peaks
+  pub peaks_ended : (y : ℕ) (a b : List ℕ) → ((i : ℕ) → HasEnded i (at a)) → ((i : ℕ) → HasEnded i (at b)) → Serves y → SamePeaks y (at a) (at b)
+  peaks_ended y a b e f serves =
+      let i = (at a).own y in
+      let own = (all_tracked u (all_pay (system s)) (good s sound none) a).owned.whole y in
+      (agree_ended Tracked (ℕ × Event) (tracked_start u) (tracked_turn u) who (shows u) Same HasEnded same_threads i a b (e i) (f i)).0.1 own
+      (same_owners u (all_pay (system s)) (good s sound none) a b e f i own) y refl serves

@@ -17,13 +17,13 @@ use Rattle.gq_laws.specs.Turns.{can_run, runs, runs_as, steps_of}
 use Rattle.gq_laws.specs.internal.Uncounted.{uncounted}
 use Rattle.gq_laws.proofs.linking.Worlds.{set_else}
 use Rattle.gq_laws.proofs.turning.Steps.{counts_steps}
-use Rattle.gq_races.specs.Races.{ChangesNoOwn}
+use Rattle.gq_races.specs.Races.{IsRaceFree}
 use Rattle.gq_determined.specs.internal.Machines.{is_for}
-use Rattle.gq_determined.specs.internal.Threads.{Tracked, who, who_of, who_by, asker, works, works_for, tracked_after, shown_by, shows, events_of, stepped_to}
-use Rattle.gq_determined.specs.internal.Threads.{turn_for}
+use Rattle.gq_determined.specs.internal.Threads.{Tracked, who, who_of, who_by, asker, works, works_for, tracked_after, shown_by, shows, events_of}
+use Rattle.gq_determined.specs.internal.Threads.{stepped_to, ready, turn_for}
 use Rattle.gq_determined.proofs.regions.Regions.{set_at}
 use Rattle.gq_determined.proofs.running.Runs.{are_threads}
-use Rattle.gq_determined.proofs.running.Sound_runs.{all_pay, all_stand, goes_by, good, placed, stateless, within}
+use Rattle.gq_determined.proofs.running.Sound_runs.{all_pay, all_stand, goes_by, good, placed, within}
 
 -- SUMS
 
@@ -125,7 +125,7 @@ start_steps (c ∷ cs) (suc x) leaf e = start_steps cs x leaf e
 
 -- RUNS
 
-module _ (s : Scenario) (sound : IsSound s) (none : ChangesNoOwn s) where
+module _ (s : Scenario) (sound : IsSound s) (none : IsRaceFree s) where
   abbrev u : System
   u = uncounted (system s)
 
@@ -152,7 +152,7 @@ module _ (s : Scenario) (sound : IsSound s) (none : ChangesNoOwn s) where
 
       by : (b : Bool) → works (at a) i i ≡ b → i < count
       by true e = there (slice_get (at a).world.leaves i) refl e
-      by false e = absurd ((are_threads u (all_pay (system s)) (good s sound (stateless s sound none))).stops i a y e is)
+      by false e = absurd ((are_threads u (all_pay (system s)) (good s sound none)).stops i a y e is)
 
   -- who takes a step can run
   runs_there : (a : List ℕ) (y i : ℕ) → who (at a) y ≡ Some i → can_run u (at a).world y ≡ true
@@ -205,7 +205,7 @@ module _ (s : Scenario) (sound : IsSound s) (none : ChangesNoOwn s) where
       by further None is there = further leaf there ∙ sym (idle_total x y a is)
       by further (Some i) is there =
           let p = goes_by s sound (at a).world y (all_stand s sound a) in
-          let now = subst (λ r. slice_get (stepped_to (at a) y i r).world.leaves x ≡ Some leaf) p.1 there in
+          let now = subst (λ r. slice_get (stepped_to (ready u (at a) y i) y i r).world.leaves x ≡ Some leaf) p.1 there in
           let raised = counts_steps u (at a).world y p.0.0 p.0.1 (runs_there a y i is) p.1 in
           let l = raised_at (steps_of (at a).world) y x leaf.steps (ap (λ n. slice_get n x) (sym raised) ∙ steps_in p.0.0.leaves x leaf now) in
           let old = steps_out (at a).world.leaves x l.0 l.1 in

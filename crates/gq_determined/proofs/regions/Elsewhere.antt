@@ -17,7 +17,7 @@ use Rattle.gq_model.proofs.Small.{none_some, some_same}
 use Rattle.gq_laws.specs.Statements.{TakesLeaf}
 use Rattle.gq_laws.proofs.linking.Worlds.{set_else}
 use Rattle.gq_laws.proofs.Same.{place_here, added_here, added_else}
-use Rattle.gq_determined.specs.internal.Threads.{thread_by, is_active, among, slots_of, seen}
+use Rattle.gq_determined.specs.internal.Threads.{is_unshared, is_active, among, slots_of, seen}
 use Rattle.gq_determined.proofs.passing.Kept_by_steps.{IsNamed}
 use Rattle.gq_determined.proofs.regions.Regions.{put_at}
 use Rattle.gq_determined.proofs.regions.At_same.{released_seen}
@@ -34,11 +34,11 @@ empty_waits (suc n) zero k e = absurd (ne e)
     ne e = cc
 empty_waits (suc n) (suc a) k e = empty_waits n a k e
 
--- what a step for a thread may change: the own slots of the leaf that is in its `main`, and the sessions of its region
-abbrev pub OursBy : Doing → ℕ → (ℕ → ℕ) → Spot → Type 0
-OursBy d i root (In_leaf y a) = (y ≡ i) × (y ≡ d.x) × (d.leaf.current ≡ None)
-OursBy d i root (In_session k a) = root k ≡ i
-OursBy d i root (In_object k) = root k ≡ i
+-- what a step for a thread may change: the own slots of the leaf that takes it, in `main` or where it is not shared, and the sessions of its region
+abbrev pub OursBy : Doing → ℕ → (ℕ → ℕ) → (ℕ → ℕ) → Spot → Type 0
+OursBy d i own root (In_leaf y a) = (own y ≡ i) × (y ≡ d.x) × (is_unshared d.system y ≡ false → d.leaf.current ≡ None) × (d.leaf.current ≡ None → y ≡ i)
+OursBy d i own root (In_session k a) = root k ≡ i
+OursBy d i own root (In_object k) = root k ≡ i
 
 -- a leaf's slots of a map
 same_slots : (a b : Option Leaf) → option_map slots_of a ≡ option_map slots_of b → (i : ℕ) → leaf_slot a i ≡ leaf_slot b i
@@ -47,7 +47,7 @@ same_slots None (Some b) e i = absurd (none_some e)
 same_slots (Some a) None e i = absurd (none_some (sym e))
 same_slots (Some a) (Some b) e i = ap (λ l. slice_get l i) (some_same e)
 
-module _ (d : Doing) (i : ℕ) (root : ℕ → ℕ) (c : ℕ → Bool) (Ours : Spot → Type 0) where
+module _ (d : Doing) (i : ℕ) (own root : ℕ → ℕ) (c : ℕ → Bool) (Ours : Spot → Type 0) where
   -- a slot that began to wait in this step
   abbrev Begun : Spot → Type 0
   Begun q = IsNamed d q × Ours q
@@ -70,27 +70,27 @@ module _ (d : Doing) (i : ℕ) (root : ℕ → ℕ) (c : ℕ → Bool) (Ours : S
   pub record IsElse (w : World) : Type 0 where
     pub at : (y : ℕ) → c y ≡ false → option_map seen (slice_get w.leaves y) ≡ option_map seen (slice_get d.world.leaves y)
     pub currents : (y : ℕ) → y ≢ d.x → option_map current_of (slice_get w.leaves y) ≡ option_map current_of (slice_get d.world.leaves y)
-    pub own : (y : ℕ) → y ≢ i → option_map slots_of (slice_get w.leaves y) ≡ option_map slots_of (slice_get d.world.leaves y)
+    pub slots : (y : ℕ) → own y ≢ i → option_map slots_of (slice_get w.leaves y) ≡ option_map slots_of (slice_get d.world.leaves y)
     pub sessions : (k : ℕ) → root k ≢ i → session_at w k ≡ session_at d.world k
     pub requests : (y : ℕ) → y ≢ i → among root y w.requests ≡ among root y d.world.requests
     pub spots : (k : ℕ) (s : Session) → session_at w k ≡ Some s → IsOld k s ⊎ IsNew k s
     pub waits : (q : Spot) (k : ℕ) → slot_at w q ≡ Some (Waiting k) → Waits q k
     pub blocked : (leaf : Leaf) → slice_get w.leaves d.x ≡ Some leaf → leaf.phase ≡ Blocked → leaf.current ≡ d.leaf.current
-    -- and it works for the thread, if it did not serve
+    -- and the same is current at it, if it did not serve and goes on
     pub mine : (d.leaf.phase ≡ Serving → ⊥) → (leaf : Leaf) → slice_get w.leaves d.x ≡ Some leaf → is_active leaf.phase ≡ true
-        → thread_by root d.x leaf.current ≡ i
+        → leaf.current ≡ d.leaf.current
 
-  pub else_first : TakesLeaf d → ((d.leaf.phase ≡ Serving → ⊥) → thread_by root d.x d.leaf.current ≡ i) → IsElse d.world
-  else_first t own = record {
+  pub else_first : TakesLeaf d → IsElse d.world
+  else_first t = record {
     at = λ y e. refl;
     currents = λ y ne. refl;
-    own = λ y ne. refl;
+    slots = λ y ne. refl;
     sessions = λ k ne. refl;
     requests = λ y ne. refl;
     spots = λ k s e. inl (record { old = s; there = e; spot = refl; server = refl });
     waits = λ q k e. inl e;
     blocked = λ leaf e b. ap current_of (sym (some_same (sym t.there ∙ e))) ∙ sym t.current;
-    mine = λ busy leaf e act. ap (thread_by root d.x) (ap current_of (sym (some_same (sym t.there ∙ e))) ∙ sym t.current) ∙ own busy;
+    mine = λ busy leaf e act. ap current_of (sym (some_same (sym t.there ∙ e))) ∙ sym t.current;
   }
 
   -- LEAVES
@@ -99,10 +99,10 @@ module _ (d : Doing) (i : ℕ) (root : ℕ → ℕ) (c : ℕ → Bool) (Ours : S
   pub record IsLike (w : World) (y : ℕ) (leaf : Leaf) : Type 0 where
     pub ours : c y ≡ true
     pub current : y ≢ d.x → (o : Leaf) → slice_get w.leaves y ≡ Some o → leaf.current ≡ o.current
-    pub slots : y ≢ i → (o : Leaf) → slice_get w.leaves y ≡ Some o → leaf.slots ≡ o.slots
+    pub slots : own y ≢ i → (o : Leaf) → slice_get w.leaves y ≡ Some o → leaf.slots ≡ o.slots
     pub waits : (a k : ℕ) → slice_get leaf.slots a ≡ Some (Waiting k) → Waits (In_leaf y a) k
     pub blocked : y ≡ d.x → leaf.phase ≡ Blocked → leaf.current ≡ d.leaf.current
-    pub mine : y ≡ d.x → (d.leaf.phase ≡ Serving → ⊥) → is_active leaf.phase ≡ true → thread_by root d.x leaf.current ≡ i
+    pub mine : y ≡ d.x → (d.leaf.phase ≡ Serving → ⊥) → is_active leaf.phase ≡ true → leaf.current ≡ d.leaf.current
 
   put_same : {A : Type 0} (g : Leaf → A) (w : World) (y z : ℕ) (leaf : Leaf) → (z ≡ y → (o : Leaf) → slice_get w.leaves y ≡ Some o → g leaf ≡ g o)
       → option_map g (slice_get (with_leaf w y leaf).leaves z) ≡ option_map g (slice_get w.leaves z)
@@ -122,7 +122,7 @@ module _ (d : Doing) (i : ℕ) (root : ℕ → ℕ) (c : ℕ → Bool) (Ours : S
   else_leaf w y leaf like h = record {
     at = λ z not. ap (option_map seen) (set_else w.leaves y z leaf (else_put y z like.ours not)) ∙ h.at z not;
     currents = λ z ne. put_same current_of w y z leaf (λ e. like.current (λ g. ne (e ∙ g))) ∙ h.currents z ne;
-    own = λ z ne. put_same slots_of w y z leaf (λ e. like.slots (λ g. ne (e ∙ g))) ∙ h.own z ne;
+    slots = λ z ne. put_same slots_of w y z leaf (λ e. like.slots (λ g. ne (ap own e ∙ g))) ∙ h.slots z ne;
     sessions = h.sessions;
     requests = h.requests;
     spots = h.spots;
@@ -157,11 +157,11 @@ module _ (d : Doing) (i : ℕ) (root : ℕ → ℕ) (c : ℕ → Bool) (Ours : S
       ]
 
       mine : (d.leaf.phase ≡ Serving → ⊥) → (l : Leaf) → slice_get (slice_set w.leaves y leaf) d.x ≡ Some l → is_active l.phase ≡ true
-          → thread_by root d.x l.current ≡ i
+          → l.current ≡ d.leaf.current
       mine busy l e act = elim (eqb_tells d.x y) [
         | inl t ↦
             let same = mapped (slice_get w.leaves d.x) l (sym (put_at w.leaves y d.x leaf t.1) ∙ e) in
-            ap (λ (l : Leaf). thread_by root d.x l.current) (sym same) ∙ like.mine (sym t.1) busy (ap (λ (l : Leaf). is_active l.phase) same ∙ act)
+            ap current_of (sym same) ∙ like.mine (sym t.1) busy (ap (λ (l : Leaf). is_active l.phase) same ∙ act)
         | inr t ↦ h.mine busy l (sym (set_else w.leaves y d.x leaf t.1) ∙ e) act
       ]
 
@@ -182,7 +182,7 @@ module _ (d : Doing) (i : ℕ) (root : ℕ → ℕ) (c : ℕ → Bool) (Ours : S
   else_session w k o like h = record {
     at = h.at;
     currents = h.currents;
-    own = h.own;
+    slots = h.slots;
     sessions = λ j ne. ap joined (set_else w.sessions k j o (λ e. ne (ap root e ∙ like.ours))) ∙ h.sessions j ne;
     requests = h.requests;
     spots = λ j s e. elim (eqb_tells j k) [
@@ -235,7 +235,7 @@ module _ (d : Doing) (i : ℕ) (root : ℕ → ℕ) (c : ℕ → Bool) (Ours : S
   else_added w s same is slots object named ours h = record {
     at = h.at;
     currents = h.currents;
-    own = h.own;
+    slots = h.slots;
     sessions = λ j ne. added_else w.sessions s j (λ e. ne (ap root e ∙ is)) ∙ h.sessions j ne;
     requests = h.requests;
     spots = λ j u e. elim (eqb_tells j (free_place w.sessions)) [
@@ -276,7 +276,7 @@ module _ (d : Doing) (i : ℕ) (root : ℕ → ℕ) (c : ℕ → Bool) (Ours : S
   else_requests w rs same h = record {
     at = h.at;
     currents = h.currents;
-    own = h.own;
+    slots = h.slots;
     sessions = h.sessions;
     requests = λ y ne. same y ne ∙ h.requests y ne;
     spots = h.spots;
@@ -340,14 +340,14 @@ module _ (d : Doing) (i : ℕ) (root : ℕ → ℕ) (c : ℕ → Bool) (Ours : S
   else_released w name cs h = record {
     at = λ y not. released_seen name cs w.leaves y ∙ h.at y not;
     currents = λ y ne. released_by current_of (λ leaf p. refl) name cs w.leaves y ∙ h.currents y ne;
-    own = λ y ne. released_by slots_of (λ leaf p. refl) name cs w.leaves y ∙ h.own y ne;
+    slots = λ y ne. released_by slots_of (λ leaf p. refl) name cs w.leaves y ∙ h.slots y ne;
     sessions = h.sessions;
     requests = h.requests;
     spots = h.spots;
     waits = waits;
     blocked = λ leaf e b. let o = released_back name cs w.leaves d.x leaf e b in o.3 ∙ h.blocked o.0 o.1 o.2;
     mine = λ busy leaf e act. (
-        let o = released_current name cs w.leaves d.x leaf e in ap (thread_by root d.x) o.2 ∙ h.mine busy o.0 o.1 (o.3 ∙ act));
+        let o = released_current name cs w.leaves d.x leaf e in o.2 ∙ h.mine busy o.0 o.1 (o.3 ∙ act));
   }
     where
       waits : (q : Spot) (k : ℕ) → slot_at (record w { leaves = all_released name cs w.leaves }) q ≡ Some (Waiting k) → Waits q k
@@ -378,19 +378,20 @@ module _ (d : Doing) (i : ℕ) (root : ℕ → ℕ) (c : ℕ → Bool) (Ours : S
       by None e same = absurd (none_some e)
       by (Some s) e same = inr (same, some_same e)
 
-  -- an own slot, of the leaf that the thread is of
-  pub else_own_slot : (w : World) (a : ℕ) (slot : Slot) → c i ≡ true → MayWait (In_leaf i a) slot → IsElse w → IsElse (with_slot w (In_leaf i a) slot)
-  else_own_slot w a slot ours may h = by (slice_get w.leaves i) refl
+  -- an own slot, of a leaf that is the thread's
+  pub else_own_slot : (w : World) (y a : ℕ) (slot : Slot) → c y ≡ true → own y ≡ i → MayWait (In_leaf y a) slot → IsElse w
+      → IsElse (with_slot w (In_leaf y a) slot)
+  else_own_slot w y a slot ours is may h = by (slice_get w.leaves y) refl
     where
-      by : (o : Option Leaf) → slice_get w.leaves i ≡ o → IsElse (put_leaf_slot w o i a slot)
+      by : (o : Option Leaf) → slice_get w.leaves y ≡ o → IsElse (put_leaf_slot w o y a slot)
       by None e = h
-      by (Some leaf) e = else_leaf w i (record leaf { slots = slice_set leaf.slots a slot }) (record {
+      by (Some leaf) e = else_leaf w y (record leaf { slots = slice_set leaf.slots a slot }) (record {
         ours = ours;
         current = λ ne o there. ap current_of (some_same (sym e ∙ there));
-        slots = λ ne o there. absurd (ne refl);
+        slots = λ ne o there. absurd (ne is);
         waits = λ b k there. elim (put_waits leaf.slots a b k slot there) [
-          | inl old ↦ h.waits (In_leaf i b) k (ap (λ o. leaf_slot o b) e ∙ old)
-          | inr new ↦ inr (subst (λ b. Begun (In_leaf i b)) (sym new.0) (may_wait (In_leaf i a) slot may k new.1))
+          | inl old ↦ h.waits (In_leaf y b) k (ap (λ o. leaf_slot o b) e ∙ old)
+          | inr new ↦ inr (subst (λ b. Begun (In_leaf y b)) (sym new.0) (may_wait (In_leaf y a) slot may k new.1))
         ];
         blocked = λ same b. h.blocked leaf (ap (slice_get w.leaves) (sym same) ∙ e) b;
         mine = λ same busy act. h.mine busy leaf (ap (slice_get w.leaves) (sym same) ∙ e) act;

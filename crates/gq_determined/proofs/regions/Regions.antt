@@ -1,4 +1,4 @@
--- The region of a leaf in two worlds where the same changes in both.
+-- The region of a thread in two worlds where the same changes in both.
 use Rattle.std.proofs.Common.{◌≡◌, ◌≢◌, ℕ, zero, suc, ◌==◌, inl, inr, Bool, true, false, cond, List, [], ◌∷◌, ◌++◌, map, Option, Some, None, refl, ap, sym, ◌∙◌}
 use Rattle.std.proofs.Common.{subst}
 use Rattle.std.specs.Prelude.{option_map, slice_get, slice_set}
@@ -51,23 +51,23 @@ within_else : (root : ℕ → ℕ) (y : ℕ) (sessions others : List (Option Ses
     → within root y sessions k ≡ within root y others k
 within_else root y sessions others k e = ap (λ o. cond (root k == y) o None) e
 
-module _ (f root other : ℕ → ℕ) (y : ℕ) where
+module _ (f own root other : ℕ → ℕ) (y : ℕ) where
   abbrev Same : World → World → Type 0
-  Same w v = IsSameRegion f root other y w v
+  Same w v = IsSameRegion f own root other y w v
 
   -- LEAVES
 
-  pub region_leaf : (w v : World) (x : ℕ) (leaf new : Leaf) → (y ≡ x → new.slots ≡ map (renamed_slot f) leaf.slots) → Same w v
+  pub region_leaf : (w v : World) (x : ℕ) (leaf new : Leaf) → (own x ≡ y → new.slots ≡ map (renamed_slot f) leaf.slots) → Same w v
       → Same (with_leaf w x leaf) (with_leaf v x new)
   region_leaf w v x leaf new same h = record {
-    slots = elim (eqb_tells y x) [
+    slots = λ z is. elim (eqb_tells z x) [
       | inl e ↦
-          ap (option_map slots_of) (put_at v.leaves x y new e.1)
-          ∙ (by (slice_get v.leaves y) (slice_get w.leaves y) h.slots (same e.1)
-          ∙ ap (option_map (λ l. map (renamed_slot f) (slots_of l))) (sym (put_at w.leaves x y leaf e.1)))
+          ap (option_map slots_of) (put_at v.leaves x z new e.1)
+          ∙ (by (slice_get v.leaves z) (slice_get w.leaves z) (h.slots z is) (same (ap own (sym e.1) ∙ is))
+          ∙ ap (option_map (λ l. map (renamed_slot f) (slots_of l))) (sym (put_at w.leaves x z leaf e.1)))
       | inr e ↦
-          ap (option_map slots_of) (set_else v.leaves x y new e.1)
-          ∙ (h.slots ∙ ap (option_map (λ l. map (renamed_slot f) (slots_of l))) (sym (set_else w.leaves x y leaf e.1)))
+          ap (option_map slots_of) (set_else v.leaves x z new e.1)
+          ∙ (h.slots z is ∙ ap (option_map (λ l. map (renamed_slot f) (slots_of l))) (sym (set_else w.leaves x z leaf e.1)))
     ];
     sessions = h.sessions;
     requests = h.requests;
@@ -94,9 +94,9 @@ module _ (f root other : ℕ → ℕ) (y : ℕ) where
   pub region_released : (w v : World) (name : List ℕ) (cs : List Component) → Same w v
       → Same (record w { leaves = all_released name cs w.leaves }) (record v { leaves = all_released name cs v.leaves })
   region_released w v name cs h = record {
-    slots = released_slots name cs v.leaves y ∙ (h.slots ∙ (mapped_slots (slice_get w.leaves y)
-        ∙ (ap (option_map (map (renamed_slot f))) (sym (released_slots name cs w.leaves y))
-        ∙ sym (mapped_slots (slice_get (all_released name cs w.leaves) y)))));
+    slots = λ z is. released_slots name cs v.leaves z ∙ (h.slots z is ∙ (mapped_slots (slice_get w.leaves z)
+        ∙ (ap (option_map (map (renamed_slot f))) (sym (released_slots name cs w.leaves z))
+        ∙ sym (mapped_slots (slice_get (all_released name cs w.leaves) z)))));
     sessions = h.sessions;
     requests = h.requests;
   }
@@ -200,8 +200,8 @@ module _ (f root other : ℕ → ℕ) (y : ℕ) where
       let e = within_there other y v.sessions (f k) (renamed_session f s) (h.sessions.there k s (within_here root y w.sessions k is ∙ there)) in
       (e.1, e.0 ∙ sym is)
 
-  pub region_own_slot : (w v : World) (i : ℕ) → Same w v → slot_at v (In_leaf y i) ≡ option_map (renamed_slot f) (slot_at w (In_leaf y i))
-  region_own_slot w v i h = by (slice_get v.leaves y) (slice_get w.leaves y) h.slots
+  pub region_own_slot : (w v : World) (z i : ℕ) → own z ≡ y → Same w v → slot_at v (In_leaf z i) ≡ option_map (renamed_slot f) (slot_at w (In_leaf z i))
+  region_own_slot w v z i is h = by (slice_get v.leaves z) (slice_get w.leaves z) (h.slots z is)
     where
       by : (a b : Option Leaf) → option_map slots_of a ≡ option_map (λ l. map (renamed_slot f) (slots_of l)) b
           → leaf_slot a i ≡ option_map (renamed_slot f) (leaf_slot b i)
@@ -234,9 +234,7 @@ module _ (f root other : ℕ → ℕ) (y : ℕ) where
       by (Some a) None e g = absurd (none_some (sym (none_w g) ∙ e))
       by (Some a) (Some b) e g =
           region_leaf w v x _ _ (λ same. ap (λ l. slice_set l i (renamed_slot f slot)) (some_same (
-          ap (option_map slots_of) (sym g) ∙ (ap (λ z. option_map slots_of (slice_get v.leaves z)) (sym same)
-          ∙ (h.slots ∙ (ap (λ z. option_map (λ l. map (renamed_slot f) (slots_of l)) (slice_get w.leaves z)) same
-          ∙ ap (option_map (λ l. map (renamed_slot f) (slots_of l))) e)))))
+          ap (option_map slots_of) (sym g) ∙ (h.slots x same ∙ ap (option_map (λ l. map (renamed_slot f) (slots_of l))) e)))
           ∙ sym (map_put (renamed_slot f) a.slots i slot)) h
 
   pub region_put : (w v : World) (k i : ℕ) (slot : Slot) (s : Session) → other (f k) ≡ root k → session_at w k ≡ Some s

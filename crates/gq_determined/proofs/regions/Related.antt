@@ -1,4 +1,5 @@
--- Two worlds in a step for the same thread: its region and the stepping leaf's are the same, and all else stays. Elementary changes keep this.
+-- Two worlds in a step for the same thread: its region and that of the leaf that takes the step are the same, and all else stays. Elementary changes keep
+-- this.
 use Rattle.std.proofs.Common.{◌≡◌, ◌≢◌, ◌⊎◌, ℕ, ◌==◌, inl, inr, Bool, true, cond, List, [], ◌∷◌, ◌++◌, map, Option, Some, None, Ok, refl, ap, sym, ◌∙◌}
 use Rattle.std.proofs.Common.{subst}
 use Rattle.std.specs.Prelude.{option_map, replicate, slice_get, slice_set}
@@ -22,7 +23,7 @@ use Rattle.gq_laws.proofs.Stepping.{free_none, outlined}
 use Rattle.gq_laws.specs.internal.Renamed.{renamed_slot, renamed_spot, renamed_leaf, renamed_session, renamed_request}
 use Rattle.gq_laws.proofs.Both.{Both, one_fails, both_give, both_when}
 use Rattle.gq_laws.proofs.Same.{place_here, added_else}
-use Rattle.gq_determined.specs.internal.Threads.{thread_by, is_active, among, slots_of, seen, seen_by, IsAtSame, IsSameRegion}
+use Rattle.gq_determined.specs.internal.Threads.{is_active, among, slots_of, seen, seen_by, IsAtSame, IsSameRegion}
 use Rattle.gq_determined.proofs.passing.Kept_by_steps.{other_leaf, other_doing, KeepsOwn, IsNamed, Near, IsKept}
 use Rattle.gq_determined.proofs.regions.Regions.{region_leaf, region_session, region_added, region_request, region_there, region_own_slot, region_slot}
 use Rattle.gq_determined.proofs.regions.Regions.{region_object}
@@ -31,11 +32,11 @@ use Rattle.gq_determined.proofs.regions.At_same.{at_leaf, at_seen, slot_seen}
 use Rattle.gq_determined.proofs.regions.Elsewhere.{OursBy, IsElse, else_leaf, else_session, else_added, else_requests, else_own_slot, else_slot}
 use Rattle.gq_determined.proofs.regions.Elsewhere.{else_object}
 
--- a session's slot is below that of the root
-abbrev pub IsBelow : (ℕ → ℕ) → ℕ → Spot → Type 0
-IsBelow root k (In_leaf y a) = root k ≡ y
-IsBelow root k (In_session j a) = root k ≡ root j
-IsBelow root k (In_object j) = Unit {0}
+-- a session is of the thread that its slot is of
+abbrev pub IsBelow : (ℕ → ℕ) → (ℕ → ℕ) → ℕ → Spot → Type 0
+IsBelow own root k (In_leaf y a) = root k ≡ own y
+IsBelow own root k (In_session j a) = root k ≡ root j
+IsBelow own root k (In_object j) = Unit {0}
 
 -- sessions stay, whatever is put into slots
 pub slot_stays : (w : World) (q : Spot) (slot : Slot) (j : ℕ) (s : Session) → session_at w j ≡ Some s
@@ -104,25 +105,25 @@ module _ {A : Type 0} (g h : Leaf → A) where
   none_both None (Some b) e n = absurd (none_some (sym e))
   none_both (Some a) (Some b) e n = absurd (none_some (sym n))
 
-module _ (f : ℕ → ℕ) (n : ℕ) (most : List ℕ) (d : Doing) (v : World) (i : ℕ) (root other : ℕ → ℕ) (c : ℕ → Bool) where
+module _ (f : ℕ → ℕ) (n : ℕ) (most : List ℕ) (d : Doing) (v : World) (i : ℕ) (own root other : ℕ → ℕ) (c : ℕ → Bool) where
   abbrev e : Doing
   e = other_doing f n most d v
 
   -- what a step for the thread may change
   abbrev pub Ours : Spot → Type 0
-  Ours = OursBy d i root
+  Ours = OursBy d i own root
 
   -- and what it may look at
   abbrev pub Region : ℕ → Type 0
-  Region y = (y ≡ i) ⊎ (y ≡ d.x)
+  Region y = (y ≡ i) ⊎ (y ≡ own d.x)
 
   abbrev pub Mine : ℕ → Type 0
   Mine k = Region (root k) × ((s : Session) × (session_at d.world k ≡ Some s))
 
   pub record IsRelated (w z : World) : Type 0 where
-    pub regions : (y : ℕ) → Region y → IsSameRegion f root other y w z
+    pub regions : (y : ℕ) → Region y → IsSameRegion f own root other y w z
     pub at : (y : ℕ) → c y ≡ true → IsAtSame f y w z
-    pub rest : IsElse d i root c Ours w
+    pub rest : IsElse d i own root c Ours w
 
   pub record IsRelatedWithin (w z : World) : Type 0 where
     pub related : IsRelated w z
@@ -135,14 +136,12 @@ module _ (f : ℕ → ℕ) (n : ℕ) (most : List ℕ) (d : Doing) (v : World) (
     pub pays : (z : World) → paid d.system z ≡ true
     pub related : IsRelated d.world v
     pub here : c d.x ≡ true
-    pub own : c i ≡ true
     pub active : d.leaf.phase ≡ Blocked → ⊥
     pub current : (g : Current) → d.leaf.current ≡ Some g → root g.session ≡ i
-    pub thread : (d.leaf.phase ≡ Serving → ⊥) → thread_by root d.x d.leaf.current ≡ i
     pub client : (g : Current) (s : Session) → d.leaf.current ≡ Some g → session_at d.world g.session ≡ Some s → c s.client ≡ true
     -- in `main` a leaf works for itself
-    pub main : d.leaf.current ≡ None → (d.leaf.phase ≡ Serving → ⊥) → d.x ≡ i
-    pub below : (k : ℕ) (s : Session) → session_at d.world k ≡ Some s → IsBelow root k s.spot
+    pub main : d.leaf.current ≡ None → (d.leaf.phase ≡ Serving → ⊥) → own d.x ≡ i
+    pub below : (k : ℕ) (s : Session) → session_at d.world k ≡ Some s → IsBelow own root k s.spot
     pub fresh : f (free_place d.world.sessions) ≡ free_place v.sessions
     pub fresh_root : root (free_place d.world.sessions) ≡ i
     pub fresh_other : other (free_place v.sessions) ≡ i
@@ -154,21 +153,21 @@ module _ (f : ℕ → ℕ) (n : ℕ) (most : List ℕ) (d : Doing) (v : World) (
     -- A LEAF
 
     -- the leaf's slots in a world before they are changed
-    old_slots : (w z : World) → IsRelated w z → d.x ≢ i → (o : Leaf) → slice_get w.leaves d.x ≡ Some o → o.slots ≡ h.takes.old.slots
+    old_slots : (w z : World) → IsRelated w z → own d.x ≢ i → (o : Leaf) → slice_get w.leaves d.x ≡ Some o → o.slots ≡ h.takes.old.slots
     old_slots w z k ne o there =
-        some_same (sym (ap (option_map slots_of) there) ∙ (k.rest.own d.x ne ∙ ap (option_map slots_of) h.takes.there))
+        some_same (sym (ap (option_map slots_of) there) ∙ (k.rest.slots d.x ne ∙ ap (option_map slots_of) h.takes.there))
 
     own_before : (a k : ℕ) → slice_get h.takes.old.slots a ≡ Some (Waiting k) → slot_at d.world (In_leaf d.x a) ≡ Some (Waiting k)
     own_before a k e = ap (λ o. leaf_slot o a) h.takes.there ∙ e
 
     pub puts_leaf : (w z : World) (leaf new : Leaf) → leaf.slots ≡ d.leaf.slots → new.slots ≡ map (renamed_slot f) leaf.slots
         → seen new ≡ renamed_leaf f (seen leaf) → (leaf.phase ≡ Blocked → leaf.current ≡ d.leaf.current)
-        → ((d.leaf.phase ≡ Serving → ⊥) → is_active leaf.phase ≡ true → thread_by root d.x leaf.current ≡ i) → IsRelated w z
+        → ((d.leaf.phase ≡ Serving → ⊥) → is_active leaf.phase ≡ true → leaf.current ≡ d.leaf.current) → IsRelated w z
         → IsRelated (with_leaf w d.x leaf) (with_leaf z d.x new)
     puts_leaf w z leaf new slots same at current mine k = record {
-      regions = λ y r. region_leaf f root other y w z d.x leaf new (λ e. same) (k.regions y r);
+      regions = λ y r. region_leaf f own root other y w z d.x leaf new (λ e. same) (k.regions y r);
       at = λ y ours. at_leaf f y w z d.x leaf new (λ e. at) (k.at y ours);
-      rest = else_leaf d i root c Ours w d.x leaf (record {
+      rest = else_leaf d i own root c Ours w d.x leaf (record {
         ours = h.here;
         current = λ ne o there. absurd (ne refl);
         slots = λ ne o there. slots ∙ (h.takes.slots ∙ sym (old_slots w z k ne o there));
@@ -179,9 +178,9 @@ module _ (f : ℕ → ℕ) (n : ℕ) (most : List ℕ) (d : Doing) (v : World) (
     }
 
     keeps_leaf : (w z : World) (leaf : Leaf) → K w z → KeepsOwn f n most d v leaf → K (with_leaf w d.x leaf) (with_leaf z d.x (other_leaf f n most d v leaf))
-    keeps_leaf w z leaf k own = record {
-      related = puts_leaf w z leaf (other_leaf f n most d v leaf) own.slots refl (seen_other f n most d v leaf) (λ b. own.current)
-          (λ busy act. ap (thread_by root d.x) own.current ∙ h.thread busy) k.related;
+    keeps_leaf w z leaf k keeps = record {
+      related = puts_leaf w z leaf (other_leaf f n most d v leaf) keeps.slots refl (seen_other f n most d v leaf) (λ b. keeps.current)
+          (λ busy act. keeps.current) k.related;
       stay = k.stay;
     }
 
@@ -193,51 +192,49 @@ module _ (f : ℕ → ℕ) (n : ℕ) (most : List ℕ) (d : Doing) (v : World) (
 
     -- any slot of the region
     abbrev pub InRegion : World → Spot → Type 0
-    InRegion w (In_leaf y a) = y ≡ i
+    InRegion w (In_leaf y a) = (own y ≡ i) × (c y ≡ true)
     InRegion w (In_session k a) = (root k ≡ i) × ((s : Session) × (session_at w k ≡ Some s))
     InRegion w (In_object k) = (root k ≡ i) × ((s : Session) × (session_at w k ≡ Some s))
 
     abbrev MayWait : Spot → Slot → Type 0
     MayWait q slot = ((k : ℕ) → slot ≡ Waiting k → ⊥) ⊎ (IsNamed d q × Ours q)
 
-    puts_own : (w z : World) (a : ℕ) (slot : Slot) → MayWait (In_leaf i a) slot → IsRelated w z
-        → IsRelated (with_slot w (In_leaf i a) slot) (with_slot z (In_leaf i a) (renamed_slot f slot))
-    puts_own w z a slot may k =
-        let r = k.regions i (inl refl) in
+    puts_own : (w z : World) (y a : ℕ) (slot : Slot) → own y ≡ i → c y ≡ true → MayWait (In_leaf y a) slot → IsRelated w z
+        → IsRelated (with_slot w (In_leaf y a) slot) (with_slot z (In_leaf y a) (renamed_slot f slot))
+    puts_own w z y a slot is ours may k =
+        let r = (k.regions i (inl refl)).slots y is in
         record {
-          regions = λ y q. region_put_own f root other y w z i a slot (both_none slots_of (λ l. map (renamed_slot f) (slots_of l)) _ _ r.slots)
-              (none_both slots_of (λ l. map (renamed_slot f) (slots_of l)) _ _ r.slots) (k.regions y q);
-          at = λ y ours. at_seen f y w z (with_slot w (In_leaf i a) slot) (with_slot z (In_leaf i a) (renamed_slot f slot))
-              (slot_seen w (In_leaf i a) slot y) (slot_seen z (In_leaf i a) (renamed_slot f slot) y) (k.at y ours);
-          rest = else_own_slot d i root c Ours w a slot h.own may k.rest;
+          regions = λ t q. region_put_own f own root other t w z y a slot (both_none slots_of (λ l. map (renamed_slot f) (slots_of l)) _ _ r)
+              (none_both slots_of (λ l. map (renamed_slot f) (slots_of l)) _ _ r) (k.regions t q);
+          at = λ t in_c. at_seen f t w z (with_slot w (In_leaf y a) slot) (with_slot z (In_leaf y a) (renamed_slot f slot))
+              (slot_seen w (In_leaf y a) slot t) (slot_seen z (In_leaf y a) (renamed_slot f slot) t) (k.at t in_c);
+          rest = else_own_slot d i own root c Ours w y a slot ours is may k.rest;
         }
 
     pub puts : (w z : World) (q : Spot) (slot : Slot) → InRegion w q → MayWait q slot → IsRelated w z
         → IsRelated (with_slot w q slot) (with_slot z (renamed_spot f q) (renamed_slot f slot))
-    puts w z (In_leaf y a) slot near may k =
-        subst (λ y. MayWait (In_leaf y a) slot → IsRelated (with_slot w (In_leaf y a) slot) (with_slot z (In_leaf y a) (renamed_slot f slot))) (sym near)
-        (λ may. puts_own w z a slot may k) may
+    puts w z (In_leaf y a) slot near may k = puts_own w z y a slot near.0 near.1 may k
     puts w z (In_session j a) slot near may k =
-        let t = region_there f root other i w z j near.1.0 near.0 near.1.1 (k.regions i (inl refl)) in
+        let t = region_there f own root other i w z j near.1.0 near.0 near.1.1 (k.regions i (inl refl)) in
         record {
-          regions = λ y r. region_put f root other y w z j a slot near.1.0 t.1 near.1.1 t.0 (k.regions y r);
+          regions = λ y r. region_put f own root other y w z j a slot near.1.0 t.1 near.1.1 t.0 (k.regions y r);
           at = λ y ours. at_seen f y w z (with_slot w (In_session j a) slot) (with_slot z (In_session (f j) a) (renamed_slot f slot))
               (slot_seen w (In_session j a) slot y) (slot_seen z (In_session (f j) a) (renamed_slot f slot) y) (k.at y ours);
-          rest = else_slot d i root c Ours w j a slot near.1.0 near.0 near.1.1 may k.rest;
+          rest = else_slot d i own root c Ours w j a slot near.1.0 near.0 near.1.1 may k.rest;
         }
     puts w z (In_object j) slot near may k =
-        let t = region_there f root other i w z j near.1.0 near.0 near.1.1 (k.regions i (inl refl)) in
+        let t = region_there f own root other i w z j near.1.0 near.0 near.1.1 (k.regions i (inl refl)) in
         record {
-          regions = λ y r. region_put_object f root other y w z j slot near.1.0 t.1 near.1.1 t.0 (k.regions y r);
+          regions = λ y r. region_put_object f own root other y w z j slot near.1.0 t.1 near.1.1 t.0 (k.regions y r);
           at = λ y ours. at_seen f y w z (with_slot w (In_object j) slot) (with_slot z (In_object (f j)) (renamed_slot f slot))
               (slot_seen w (In_object j) slot y) (slot_seen z (In_object (f j)) (renamed_slot f slot) y) (k.at y ours);
-          rest = else_object d i root c Ours w j slot near.1.0 near.0 near.1.1 may k.rest;
+          rest = else_object d i own root c Ours w j slot near.1.0 near.0 near.1.1 may k.rest;
         }
 
     -- a spot that the step may change is of the region
     near_region : (w : World) → ((k : ℕ) (s : Session) → session_at d.world k ≡ Some s → (t : Session) × (session_at w k ≡ Some t)) → (q : Spot)
         → (IsNear q) → Ours q → InRegion w q
-    near_region w stay (In_leaf y a) near ours = ours.0
+    near_region w stay (In_leaf y a) near ours = (ours.0, ap c ours.1 ∙ h.here)
     near_region w stay (In_session k a) near ours = (ours, stay k near.1.0 near.1.1)
     near_region w stay (In_object k) near ours = (ours, stay k near.1.0 near.1.1)
 
@@ -253,28 +250,27 @@ module _ (f : ℕ → ℕ) (n : ℕ) (most : List ℕ) (d : Doing) (v : World) (
     reads : (w z : World) (q : Spot) → K w z → IsNear q → ((j : ℕ) (s : Session) → session_at d.world j ≡ Some s → session_at w j ≡ Some s)
         → slot_at z (renamed_spot f q) ≡ option_map (renamed_slot f) (slot_at w q)
     reads w z (In_leaf y a) k near here =
-        subst (λ y. slot_at z (In_leaf y a) ≡ option_map (renamed_slot f) (slot_at w (In_leaf y a))) (sym near)
-        (region_own_slot f root other d.x w z a (k.related.regions d.x (inr refl)))
+        region_own_slot f own root other (own d.x) w z y a (ap own near) (k.related.regions (own d.x) (inr refl))
     reads w z (In_session j a) k near here =
-        region_slot f root other (root j) w z j a near.1.0 refl (here j near.1.0 near.1.1) (k.related.regions (root j) near.0)
+        region_slot f own root other (root j) w z j a near.1.0 refl (here j near.1.0 near.1.1) (k.related.regions (root j) near.0)
     reads w z (In_object j) k near here =
-        region_object f root other (root j) w z j near.1.0 refl (here j near.1.0 near.1.1) (k.related.regions (root j) near.0)
+        region_object f own root other (root j) w z j near.1.0 refl (here j near.1.0 near.1.1) (k.related.regions (root j) near.0)
 
     reads_session : (w z : World) (k : ℕ) (s : Session) → K w z → Mine k → session_at w k ≡ Some s → session_at z (f k) ≡ Some (renamed_session f s)
-    reads_session w z k s r mine there = (region_there f root other (root k) w z k s refl there (r.related.regions (root k) mine.0)).0
+    reads_session w z k s r mine there = (region_there f own root other (root k) w z k s refl there (r.related.regions (root k) mine.0)).0
 
     -- SESSIONS AND REQUESTS
 
     keeps_donation : (w z : World) (k : ℕ) (s : Session) (a : Amount) → K w z → Mine k → root k ≡ i → session_at w k ≡ Some s
         → K (with_session w k (record s { donation = a })) (with_session z (f k) (renamed_session f (record s { donation = a })))
     keeps_donation w z k s a r mine ours there =
-        let t = region_there f root other i w z k s ours there (r.related.regions i (inl refl)) in
+        let t = region_there f own root other i w z k s ours there (r.related.regions i (inl refl)) in
         let new = record s { donation = a } in
         record {
           related = record {
-            regions = λ y q. region_session f root other y w z k s (Some new) t.1 there t.0 (r.related.regions y q);
+            regions = λ y q. region_session f own root other y w z k s (Some new) t.1 there t.0 (r.related.regions y q);
             at = r.related.at;
-            rest = else_session d i root c Ours w k (Some new) (record {
+            rest = else_session d i own root c Ours w k (Some new) (record {
               ours = ours;
               was = s;
               there = there;
@@ -299,9 +295,9 @@ module _ (f : ℕ → ℕ) (n : ℕ) (most : List ℕ) (d : Doing) (v : World) (
         let sides : other (free_place z.sessions) ≡ root (free_place w.sessions) = ap other free_z ∙ (h.fresh_other ∙ sym is) in
         record {
           related = record {
-            regions = λ y q. region_added f root other y w z s number sides (r.related.regions y q);
+            regions = λ y q. region_added f own root other y w z s number sides (r.related.regions y q);
             at = r.related.at;
-            rest = else_added d i root c Ours w s free is slots object named ours r.related.rest;
+            rest = else_added d i own root c Ours w s free is slots object named ours r.related.rest;
           };
           stay = λ j u e. let o = r.stay j u e in (
             o.0,
@@ -317,9 +313,9 @@ module _ (f : ℕ → ℕ) (n : ℕ) (most : List ℕ) (d : Doing) (v : World) (
         → K (record w { requests = w.requests ++ r ∷ [] }) (record z { requests = z.requests ++ renamed_request f r ∷ [] })
     keeps_ask w z r k asked = record {
       related = record {
-        regions = λ y q. region_request f root other y w z r (sides asked) (k.related.regions y q);
+        regions = λ y q. region_request f own root other y w z r (sides asked) (k.related.regions y q);
         at = k.related.at;
-        rest = else_requests d i root c Ours w (w.requests ++ r ∷ []) (λ y ne. among_more y w.requests r (λ e. ne (sym e ∙ ours asked))) k.related.rest;
+        rest = else_requests d i own root c Ours w (w.requests ++ r ∷ []) (λ y ne. among_more y w.requests r (λ e. ne (sym e ∙ ours asked))) k.related.rest;
       };
       stay = k.stay;
     }
@@ -330,7 +326,7 @@ module _ (f : ℕ → ℕ) (n : ℕ) (most : List ℕ) (d : Doing) (v : World) (
 
         sides : (Mine r.session × (root r.session ≡ i)) ⊎ (r.session ≡ free_place d.world.sessions) → other (f r.session) ≡ root r.session
         sides (inl m) =
-            let s = k.stay r.session m.0.1.0 m.0.1.1 in (region_there f root other i w z r.session s.0 m.1 s.1 (k.related.regions i (inl refl))).1
+            let s = k.stay r.session m.0.1.0 m.0.1.1 in (region_there f own root other i w z r.session s.0 m.1 s.1 (k.related.regions i (inl refl))).1
         sides (inr e) = ap (λ j. other (f j)) e ∙ (ap other h.fresh ∙ (h.fresh_other ∙ sym (ap root e ∙ h.fresh_root)))
 
     -- PEAKS
@@ -338,22 +334,25 @@ module _ (f : ℕ → ℕ) (n : ℕ) (most : List ℕ) (d : Doing) (v : World) (
     keeps_peaks : (w z : World) → K w z → Both K (settled d.system d.x w) (settled d.system d.x z)
     keeps_peaks w z k = by (slice_get w.leaves d.x) (slice_get z.leaves d.x) refl refl
       where
+        own_slots : option_map slots_of (slice_get z.leaves d.x) ≡ option_map (λ l. map (renamed_slot f) (slots_of l)) (slice_get w.leaves d.x)
+        own_slots = (k.related.regions (own d.x) (inr refl)).slots d.x refl
+
         by : (a b : Option Leaf) → slice_get w.leaves d.x ≡ a → slice_get z.leaves d.x ≡ b
             → Both K (need a WrongKind (λ leaf. if_paid d.system (with_leaf w d.x (with_peaks w d.x leaf)) Quiet))
             (need b WrongKind (λ leaf. if_paid d.system (with_leaf z d.x (with_peaks z d.x leaf)) Quiet))
         by None b e g = one_fails K WrongKind _
         by (Some a) None e g =
-            absurd (none_some (sym (both_none slots_of (λ l. map (renamed_slot f) (slots_of l)) _ _ (k.related.regions d.x (inr refl)).slots g) ∙ e))
+            absurd (none_some (sym (both_none slots_of (λ l. map (renamed_slot f) (slots_of l)) _ _ own_slots g) ∙ e))
         by (Some a) (Some b) e g =
             let new = with_leaf w d.x (with_peaks w d.x a) in
             let new_z = with_leaf z d.x (with_peaks z d.x b) in
             both_when K (paid d.system new) (paid d.system new_z) ExceededQuota ExceededQuota (Ok (new, Quiet)) (Ok (new_z, Quiet)) (λ q. h.pays new_z)
             (both_give K new new_z Quiet (record {
               related = record {
-                regions = λ y q. region_leaf f root other y w z d.x (with_peaks w d.x a) (with_peaks z d.x b) (λ same. slots) (k.related.regions y q);
+                regions = λ y q. region_leaf f own root other y w z d.x (with_peaks w d.x a) (with_peaks z d.x b) (λ same. slots) (k.related.regions y q);
                 at = λ y ours. at_leaf f y w z d.x (with_peaks w d.x a) (with_peaks z d.x b)
                     (λ same. seen_peaks b _ ∙ (at_x ∙ ap (renamed_leaf f) (sym (seen_peaks a _)))) (k.related.at y ours);
-                rest = else_leaf d i root c Ours w d.x (with_peaks w d.x a) (record {
+                rest = else_leaf d i own root c Ours w d.x (with_peaks w d.x a) (record {
                   ours = h.here;
                   current = λ ne o there. absurd (ne refl);
                   slots = λ ne o there. ap slots_of (some_same (sym e ∙ there));
@@ -366,8 +365,7 @@ module _ (f : ℕ → ℕ) (n : ℕ) (most : List ℕ) (d : Doing) (v : World) (
             }))
           where
             slots : b.slots ≡ map (renamed_slot f) a.slots
-            slots = some_same (ap (option_map slots_of) (sym g) ∙ ((k.related.regions d.x (inr refl)).slots
-                ∙ ap (option_map (λ l. map (renamed_slot f) (slots_of l))) e))
+            slots = some_same (ap (option_map slots_of) (sym g) ∙ (own_slots ∙ ap (option_map (λ l. map (renamed_slot f) (slots_of l))) e))
 
             at_x : seen b ≡ renamed_leaf f (seen a)
             at_x = some_same (ap (option_map seen) (sym g) ∙ (k.related.at d.x h.here ∙ ap (option_map (λ l. renamed_leaf f (seen l))) e))
@@ -387,12 +385,12 @@ module _ (f : ℕ → ℕ) (n : ℕ) (most : List ℕ) (d : Doing) (v : World) (
     near_link q k near there =
         let m = h.linked.named q (Leads k) (ap naming_in there) in
         let s = outlined (session_at d.world k) m.0 m.1 in
-        let below = subst (IsBelow root k) (ap (λ (s : Session). s.spot) s.2 ∙ m.2) (h.below k s.0 s.1) in
+        let below = subst (IsBelow own root k) (ap (λ (s : Session). s.spot) s.2 ∙ m.2) (h.below k s.0 s.1) in
         let r = by q m.0.client near below (subst (λ q. Belongs (links d.world) q m.0.client) m.2 (h.linked.belongs k m.0 m.1)) in
         ((r.0, (s.0, s.1)), (s.0, s.1), r.1)
       where
-        by : (q : Spot) (client : ℕ) → IsNear q → IsBelow root k q → Belongs (links d.world) q client → Region (root k) × (Ours q → root k ≡ i)
-        by (In_leaf y a) client near below b = (inr (below ∙ near), λ ours. below ∙ ours.0)
+        by : (q : Spot) (client : ℕ) → IsNear q → IsBelow own root k q → Belongs (links d.world) q client → Region (root k) × (Ours q → root k ≡ i)
+        by (In_leaf y a) client near below b = (inr (below ∙ ap own near), λ ours. below ∙ ours.0)
         by (In_session j a) client near below b = (subst Region (sym below) near.0, λ ours. below ∙ ours)
         by (In_object j) client near below b = absurd b
 

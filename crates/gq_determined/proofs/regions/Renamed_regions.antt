@@ -1,4 +1,4 @@
--- The region of a leaf by other names for sessions, and by other roots.
+-- The region of a thread by other names for sessions, and by other roots.
 use Rattle.std.proofs.Common.{◌≡◌, ℕ, zero, suc, ◌==◌, inl, inr, Bool, true, false, cond, List, [], ◌∷◌, map, Option, Some, None, refl, ap, sym, ◌∙◌, subst}
 use Rattle.std.specs.Prelude.{option_map, slice_get}
 use Rattle.std.proofs.lemmas.Bool.Decides.{eqb_tells}
@@ -16,10 +16,10 @@ use Rattle.gq_determined.proofs.regions.Regions.{within_there}
 use Rattle.gq_determined.proofs.standing.Orderly.{IsBelowOf, IsTracked}
 
 -- the root of what a slot names is that of the slot
-abbrev pub rooted : (ℕ → ℕ) → Spot → ℕ
-rooted root (In_leaf y a) = y
-rooted root (In_session j a) = root j
-rooted root (In_object j) = root j
+abbrev pub rooted : Tracked → Spot → ℕ
+rooted g (In_leaf y a) = g.own y
+rooted g (In_session j a) = g.root j
+rooted g (In_object j) = g.root j
 
 module _ (system : System) (g : Tracked) (t : IsTracked system g) where
   abbrev w : World
@@ -27,17 +27,17 @@ module _ (system : System) (g : Tracked) (t : IsTracked system g) where
 
   -- a session that a slot names is there, and below the slot's root
   pub named_there : (q : Spot) (n : Naming) → naming_in (slot_at w q) ≡ Some n → (s : Session) × (session_at w (named n) ≡ Some s)
-      × (g.root (named n) ≡ rooted g.root q)
+      × (g.root (named n) ≡ rooted g q)
   named_there q n e =
       let m = t.linked.named q n e in
       let s = outlined (session_at w (named n)) m.0 m.1 in (
         s.0,
         s.1,
-        by q (subst (IsBelowOf g.root g.depth (named n)) (ap (λ (s : Session). s.spot) s.2 ∙ m.2) (t.below (named n) s.0 s.1)) m.0.client
+        by q (subst (IsBelowOf g (named n)) (ap (λ (s : Session). s.spot) s.2 ∙ m.2) (t.below (named n) s.0 s.1)) m.0.client
             (subst (λ q. Belongs (links w) q m.0.client) m.2 (t.linked.belongs (named n) m.0 m.1)),
       )
     where
-      by : (q : Spot) → IsBelowOf g.root g.depth (named n) q → (client : ℕ) → Belongs (links w) q client → g.root (named n) ≡ rooted g.root q
+      by : (q : Spot) → IsBelowOf g (named n) q → (client : ℕ) → Belongs (links w) q client → g.root (named n) ≡ rooted g q
       by (In_leaf y a) below client b = below.0
       by (In_session j a) below client b = below.0
       by (In_object j) below client b = absurd b
@@ -55,13 +55,13 @@ module _ (system : System) (g : Tracked) (t : IsTracked system g) where
     slot_names [] same = refl
     slot_names (slot ∷ slots) same = λ e. slot_name slot (same zero) e ∷ slot_names slots (λ a. same (suc a)) e
 
-    at_spot : (q : Spot) → rooted g.root q ≡ y → (n : Naming) → naming_in (slot_at w q) ≡ Some n → new (named n) ≡ f (named n)
+    at_spot : (q : Spot) → rooted g q ≡ y → (n : Naming) → naming_in (slot_at w q) ≡ Some n → new (named n) ≡ f (named n)
     at_spot q is n e = let m = named_there q n e in agree (named n) m.0 m.1 (m.2 ∙ is)
 
     session_name : (k : ℕ) (s : Session) → session_at w k ≡ Some s → g.root k ≡ y → renamed_session new s ≡ renamed_session f s
     session_name k s there is = λ e. record s { spot = spot e; object = object e; slots = slots e }
       where
-        by : (q : Spot) → IsBelowOf g.root g.depth k q → Belongs (links w) q s.client → renamed_spot new q ≡ renamed_spot f q
+        by : (q : Spot) → IsBelowOf g k q → Belongs (links w) q s.client → renamed_spot new q ≡ renamed_spot f q
         by (In_leaf z a) below b = refl
         by (In_session j a) below b =
             let t = outlined (session_at w j) b.0 b.1 in ap (λ n. In_session n a) (agree j t.0 t.1 (sym below.0 ∙ is))
@@ -92,9 +92,9 @@ module _ (system : System) (g : Tracked) (t : IsTracked system g) where
           | inr q ↦ absurd (cc (is, q.0))
         ]
 
-    pub region_renamed : (other : ℕ → ℕ) (v : World) → IsSameRegion f g.root other y w v → IsSameRegion new g.root other y w v
+    pub region_renamed : (other : ℕ → ℕ) (v : World) → IsSameRegion f g.own g.root other y w v → IsSameRegion new g.own g.root other y w v
     region_renamed other v h = record {
-      slots = h.slots ∙ leaf (slice_get w.leaves y) refl;
+      slots = λ z is. h.slots z is ∙ leaf z is (slice_get w.leaves z) refl;
       sessions = record {
         there = λ k s e.
             (let m = within_there g.root y w.sessions k s e in
@@ -111,10 +111,11 @@ module _ (system : System) (g : Tracked) (t : IsTracked system g) where
       requests = h.requests ∙ sym (request_names w.requests t.linked.asked);
     }
       where
-        leaf : (o : Option Leaf) → slice_get w.leaves y ≡ o
+        leaf : (z : ℕ) → g.own z ≡ y → (o : Option Leaf) → slice_get w.leaves z ≡ o
             → option_map (λ l. map (renamed_slot f) (slots_of l)) o ≡ option_map (λ l. map (renamed_slot new) (slots_of l)) o
-        leaf None e = refl
-        leaf (Some l) e = ap Some (sym (slot_names l.slots (λ a n there. at_spot (In_leaf y a) refl n (ap (λ o. naming_in (leaf_slot o a)) e ∙ there))))
+        leaf z is None e = refl
+        leaf z is (Some l) e =
+            ap Some (sym (slot_names l.slots (λ a n there. at_spot (In_leaf z a) is n (ap (λ o. naming_in (leaf_slot o a)) e ∙ there))))
 
   -- WHAT A LEAF IS AT
 
@@ -149,11 +150,11 @@ module _ (system : System) (g : Tracked) (t : IsTracked system g) where
 -- OTHER ROOTS
 
 -- roots that are the same for all sessions that are there
-pub region_roots : (f root other root_new other_new : ℕ → ℕ) (y : ℕ) (w v : World)
+pub region_roots : (f own root other root_new other_new : ℕ → ℕ) (y : ℕ) (w v : World)
     → ((k : ℕ) (s : Session) → session_at w k ≡ Some s → root_new k ≡ root k) → ((k : ℕ) (s : Session) → session_at v k ≡ Some s → other_new k ≡ other k)
     → Each (λ r. root_new r.session ≡ root r.session) w.requests → Each (λ r. other_new r.session ≡ other r.session) v.requests
-    → IsSameRegion f root other y w v → IsSameRegion f root_new other_new y w v
-region_roots f root other root_new other_new y w v same same_v each each_v h = record {
+    → IsSameRegion f own root other y w v → IsSameRegion f own root_new other_new y w v
+region_roots f own root other root_new other_new y w v same same_v each each_v h = record {
   slots = h.slots;
   sessions = record {
     there = λ k s e. within_same other other_new v same_v (f k) ∙ h.sessions.there k s (sym (within_same root root_new w same k) ∙ e);

@@ -1,10 +1,10 @@
--- Runs to rest of sound scenarios whose leaves change no own slot outside `main`.
+-- Runs to rest of sound scenarios without races.
 use Rattle.std.proofs.Common.{◌≡◌, ℕ, ◌==◌, ◌&&◌, true, false, List, [], ◌∷◌, Option, Some, None, is_some, refl, ap, sym, ◌∙◌, subst}
 use Rattle.std.specs.Prelude.{slice_get}
 use Rattle.std.proofs.lemmas.Bool.{true≢false}
 use Rattle.gq_model.specs.declared.phase.Phase.{Phase}
 use Rattle.gq_model.specs.declared.phase.Phase.TheVariants.{Pending, Running, Blocked, Serving, Handling, Exited}
-use Rattle.gq_model.specs.machine.Scenario.{Scenario, Component, system}
+use Rattle.gq_model.specs.machine.Scenario.{Scenario, System, Component, system}
 use Rattle.gq_model.specs.machine.World.{Request, Current, Leaf, World}
 use Rattle.gq_model.specs.machine.Step.{oldest, next}
 use Rattle.gq_model.specs.machine.Run.{run}
@@ -14,10 +14,11 @@ use Rattle.gq_laws.specs.Turns.{runs, runs_as, StandsStill}
 use Rattle.gq_laws.specs.Progress.{rests, AllRest, world_after, after_turns, each_turn}
 use Rattle.gq_laws.specs.internal.Uncounted.{uncounted}
 use Rattle.gq_laws.proofs.progress.Running.{runs_through}
-use Rattle.gq_races.specs.Races.{ChangesNoOwn}
-use Rattle.gq_determined.specs.internal.Threads.{Tracked, who, who_by, who_of, asker, thread_by, works_for, is_active, HasEnded, tracked_after, stepped_to}
-use Rattle.gq_determined.specs.internal.Threads.{turn_for, turned, past_of, SameAtRest}
-use Rattle.gq_determined.proofs.running.Sound_runs.{goes_by, all_stand, ends_same}
+use Rattle.gq_races.specs.Races.{IsRaceFree}
+use Rattle.gq_determined.specs.internal.Threads.{Tracked, who, who_by, who_of, asker, thread_by, works_for, is_active, HasEnded, tracked_after}
+use Rattle.gq_determined.specs.internal.Threads.{stepped_to, ready, turn_for, turned, past_of, SameAtRest}
+use Rattle.gq_determined.proofs.running.Runs.{same_owners}
+use Rattle.gq_determined.proofs.running.Sound_runs.{all_pay, goes_by, all_stand, good, ends_same}
 
 -- a leaf at rest works for no thread
 pub rests_idle : (g : Tracked) (i : ℕ) → AllRest g.world → HasEnded i g
@@ -57,6 +58,9 @@ no_thread g x c e = by c (slice_get g.world.leaves x) e
     by (Some c) (Some l) e = of l.current l.phase e
 
 module _ (s : Scenario) (sound : IsSound s) (idle : (w : World) (x : ℕ) → StandsStill (system s) w x) where
+  abbrev u : System
+  u = uncounted (system s)
+
   abbrev pub at : List ℕ → Tracked
   at = tracked_after (uncounted (system s))
 
@@ -67,7 +71,7 @@ module _ (s : Scenario) (sound : IsSound s) (idle : (w : World) (x : ℕ) → St
       by None e = ap (world_after (at a).world) (idle (at a).world x (no_thread (at a) x (slice_get (system s).components x) e))
       by (Some i) e =
           let p = goes_by s sound (at a).world x (all_stand s sound a) in
-          ap (world_after (at a).world) p.2 ∙ sym (ap (λ r. (stepped_to (at a) x i r).world) p.1)
+          ap (world_after (at a).world) p.2 ∙ sym (ap (λ r. (stepped_to (ready (uncounted (system s)) (at a) x i) x i r).world) p.1)
 
   pub turns_world : (turns a : List ℕ) → after_turns (system s) (at a).world turns ≡ (at (turned turns a)).world
   turns_world [] a = refl
@@ -76,7 +80,7 @@ module _ (s : Scenario) (sound : IsSound s) (idle : (w : World) (x : ℕ) → St
   pub run_world : (turns : List (ℕ × ℕ)) → (run (system s) turns).world ≡ (at (past_of turns)).world
   run_world turns = runs_through s sound turns ∙ turns_world (each_turn turns) []
 
-  pub rest_same : ChangesNoOwn s → (turns others : List (ℕ × ℕ)) → AllRest (run (system s) turns).world → AllRest (run (system s) others).world
+  pub rest_same : IsRaceFree s → (turns others : List (ℕ × ℕ)) → AllRest (run (system s) turns).world → AllRest (run (system s) others).world
       → SameAtRest s turns others
   rest_same none turns others rest rest_other =
       let end = λ (i : ℕ). rests_idle (at (past_of turns)) i (subst AllRest (run_world turns) rest) in
@@ -84,6 +88,8 @@ module _ (s : Scenario) (sound : IsSound s) (idle : (w : World) (x : ℕ) → St
       record {
         world = run_world turns;
         other = run_world others;
-        same = λ i. (ends_same s sound none i (past_of turns) (past_of others) (end i) (end_other i)).0;
+        same = λ i own. (ends_same s sound none i (past_of turns) (past_of others) (end i) (end_other i)).0.whole own
+            (same_owners u (all_pay (system s)) (good s sound none) (past_of turns) (past_of others) end end_other i own);
+        back = same_owners u (all_pay (system s)) (good s sound none) (past_of others) (past_of turns) end_other end;
         shown = λ i. (ends_same s sound none i (past_of turns) (past_of others) (end i) (end_other i)).1;
       }

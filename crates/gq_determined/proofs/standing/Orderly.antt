@@ -1,37 +1,58 @@
 -- Each thread is at one place: where a leaf works for it that does not wait, no request of it waits, and the other way round.
-use Rattle.std.proofs.Common.{◌≡◌, ◌⊎◌, ℕ, zero, suc, ◌+◌, ◌==◌, inl, inr, List, ◌∷◌, Option, Some, None}
+use Rattle.std.proofs.Common.{◌≡◌, ◌≢◌, ◌⊎◌, ℕ, zero, suc, ◌+◌, ◌==◌, inl, inr, Bool, true, false, List, ◌∷◌, Option, Some, None}
 use Rattle.std.proofs.Common.{refl, ap, sym, ◌∙◌, subst, arith}
 use Rattle.gq_model.specs.declared.phase.Phase.{Phase}
 use Rattle.gq_model.specs.declared.phase.Phase.TheVariants.{Blocked}
 use Rattle.gq_model.specs.machine.Scenario.{System}
 use Rattle.gq_model.specs.machine.World.{Slot, Empty, Bytes, Pool, Link, Waiting, Spot, In_leaf, In_session, In_object, Session, Request, Current, World}
 use Rattle.gq_model.specs.machine.World.{session_at, slot_at}
-use Rattle.gq_model.proofs.Small.{none_some, some_same, equal_self}
+use Rattle.gq_model.proofs.Small.{none_some, some_none, some_same, equal_self}
 use Rattle.gq_laws.specs.Shapes.{Each}
 use Rattle.gq_laws.specs.Links.{Leads, Waits, naming_in, outline, outline_in, stance, one_if, requests_of, at_current}
 use Rattle.gq_laws.specs.Links.{links, Stands, Belongs, IsLinkedWorld}
 use Rattle.gq_laws.proofs.linking.Events.{same_phase}
 use Rattle.gq_laws.proofs.Stepping.{outlined}
-use Rattle.gq_determined.specs.internal.Threads.{Tracked}
+use Rattle.gq_determined.specs.internal.Threads.{is_unshared, opener, Tracked, is_active}
 
 -- a session's slot, and what is said of its number
-abbrev pub IsBelowOf : (ℕ → ℕ) → (ℕ → ℕ) → ℕ → Spot → Type 0
-IsBelowOf root depth k (In_leaf y a) = (root k ≡ y) × (depth k ≡ 0)
-IsBelowOf root depth k (In_session j a) = (root k ≡ root j) × (depth k ≡ suc (depth j))
-IsBelowOf root depth k (In_object j) = Unit {0}
+abbrev pub IsBelowOf : Tracked → ℕ → Spot → Type 0
+IsBelowOf g k (In_leaf y a) = (g.root k ≡ g.own y) × (g.depth k ≡ g.level y)
+IsBelowOf g k (In_session j a) = (g.root k ≡ g.root j) × (g.depth k ≡ suc (g.depth j))
+IsBelowOf g k (In_object j) = Unit {0}
 
 -- a slot that waits is one that the leaf's operands name
-abbrev pub IsByCurrent : World → Spot → Type 0
-IsByCurrent w (In_leaf y a) = (phase : Phase) (current : Option Current) → (links w).stances y ≡ Some (stance phase current) → current ≡ None
-IsByCurrent w (In_session j a) = (s : Session) → session_at w j ≡ Some s → (phase : Phase) (current : Option Current)
+abbrev pub IsByCurrent : System → World → Spot → Type 0
+IsByCurrent system w (In_leaf y a) =
+    (phase : Phase) (current : Option Current) → (links w).stances y ≡ Some (stance phase current) → is_unshared system y ≡ false → current ≡ None
+IsByCurrent system w (In_session j a) = (s : Session) → session_at w j ≡ Some s → (phase : Phase) (current : Option Current)
     → (links w).stances s.server ≡ Some (stance phase current) → (g : Current) × (current ≡ Some g) × (g.session ≡ j)
-IsByCurrent w (In_object j) = Unit {0}
+IsByCurrent system w (In_object j) = Unit {0}
+
+-- all sessions with a leaf that is not shared stand in own slots of its opener
+abbrev pub AreOpened : System → World → Type 0
+AreOpened system w = (k : ℕ) (s : Session) → session_at w k ≡ Some s → is_unshared system s.server ≡ true
+    → (a : ℕ) × (s.spot ≡ In_leaf (opener system s.server) a)
+
+-- which leaves are whose
+pub record AreOwned (system : System) (own level : ℕ → ℕ) : Type 0 where
+  -- a leaf that is another thread's is its opener's thread's, and stands below its opener
+  pub opened : (x : ℕ) → own x ≢ x → (is_unshared system x ≡ true) × (own x ≡ own (opener system x)) × (level x ≡ suc (level (opener system x)))
+  -- a thread that has leaves has its own
+  pub whole : (x : ℕ) → own (own x) ≡ own x
+  pub first : (x : ℕ) → own x ≡ x → level x ≡ 0
 
 -- what is tracked fits the world
 pub record IsTracked (system : System) (g : Tracked) : Type 0 where
   pub linked : IsLinkedWorld system g.world
-  pub below : (k : ℕ) (s : Session) → session_at g.world k ≡ Some s → IsBelowOf g.root g.depth k s.spot
-  pub waits : (q : Spot) (k : ℕ) → slot_at g.world q ≡ Some (Waiting k) → IsByCurrent g.world q
+  pub below : (k : ℕ) (s : Session) → session_at g.world k ≡ Some s → IsBelowOf g k s.spot
+  pub waits : (q : Spot) (k : ℕ) → slot_at g.world q ≡ Some (Waiting k) → IsByCurrent system g.world q
+  pub stands : AreOpened system g.world
+  pub owned : AreOwned system g.own g.level
+  -- a session is of a thread that has its own leaf
+  pub lives : (k : ℕ) (s : Session) → session_at g.world k ≡ Some s → g.own (g.root k) ≡ g.root k
+  -- in `main` a leaf is its own thread's, and in a section another's, if it is not shared
+  pub main : (y : ℕ) (phase : Phase) → (links g.world).stances y ≡ Some (stance phase None) → is_active phase ≡ true → g.own y ≡ y
+  pub busy : (y : ℕ) (phase : Phase) (q : Current) → (links g.world).stances y ≡ Some (stance phase (Some q)) → is_unshared system y ≡ true → g.own y ≢ y
 
 waits_slot : (o : Option Slot) (k : ℕ) → naming_in o ≡ Some (Waits k) → o ≡ Some (Waiting k)
 waits_slot None k e = absurd (none_some e)
@@ -106,7 +127,7 @@ module _ (system : System) (g : Tracked) (t : IsTracked system g) where
   requests_more r rs P each none = let one : one_if (r.session == r.session) ≡ 1 = ap one_if (equal_self r.session) in omega (arith, none, one)
 
   -- the slot of a waiting session is one that its client's operands name
-  by_current_of : (k : ℕ) (a : IsWaiting k) → IsByCurrent w a.session.spot
+  by_current_of : (k : ℕ) (a : IsWaiting k) → IsByCurrent system w a.session.spot
   by_current_of k a = t.waits a.session.spot k (waits_slot (slot_at w a.session.spot) k a.slot)
 
   -- the session above one that waits is its client's current one
@@ -121,26 +142,62 @@ module _ (system : System) (g : Tracked) (t : IsTracked system g) where
     pub at : (links w).stances (g.root k) ≡ Some (stance Blocked None)
     pub depth : g.depth k ≡ 0
 
+  -- a leaf that is not shared stands below its current session
+  pub busy_below : (y : ℕ) (phase : Phase) (q : Current) → (links w).stances y ≡ Some (stance phase (Some q)) → is_unshared system y ≡ true
+      → (g.own y ≡ g.root q.session) × (g.level y ≡ suc (g.depth q.session))
+  busy_below y phase q at single =
+      let m = t.linked.handles y phase q at in
+      let s = outlined (session_at w q.session) m.0 m.1 in
+      let server : s.0.server ≡ y = ap (λ (s : Session). s.server) s.2 ∙ m.2 in
+      let spot = t.stands q.session s.0 s.1 (ap (is_unshared system) server ∙ single) in
+      let below = subst (IsBelowOf g q.session) (spot.1 ∙ ap (λ x. In_leaf (opener system x) spot.0) server) (t.below q.session s.0 s.1) in
+      let o = t.owned.opened y (t.busy y phase q at single) in
+      (o.1 ∙ sym below.0, o.2 ∙ ap suc (sym below.1))
+
   pub above : (k : ℕ) (a : IsWaiting k) → ((a.session.client ≡ g.root k) × IsFirst k)
       ⊎ ((p : HasParent k) × (a.session.client ≡ p.y))
   above k a = by a.session.spot (t.below k a.session a.there) (by_current_of k a)
       (t.linked.belongs k (outline a.session) (ap outline_in a.there))
     where
-      by : (q : Spot) → IsBelowOf g.root g.depth k q → IsByCurrent w q → Belongs (links w) q a.session.client
+      by : (q : Spot) → IsBelowOf g k q → IsByCurrent system w q → Belongs (links w) q a.session.client
           → ((a.session.client ≡ g.root k) × IsFirst k) ⊎ ((p : HasParent k) × (a.session.client ≡ p.y))
-      by (In_leaf y i) below current b =
-          let none = current Blocked a.current (ap (links w).stances b ∙ a.client) in
-          inl (
-            sym b ∙ sym below.0,
+      by (In_leaf y i) below named b = of a.current refl
+        where
+          stood : (links w).stances y ≡ Some (stance Blocked a.current)
+          stood = ap (links w).stances b ∙ a.client
+
+          of : (current : Option Current) → a.current ≡ current
+              → ((a.session.client ≡ g.root k) × IsFirst k) ⊎ ((p : HasParent k) × (a.session.client ≡ p.y))
+          of None e =
+              let own = t.main y Blocked (stood ∙ ap (λ o. Some (stance Blocked o)) e) refl in
+              inl (
+                sym b ∙ sym (below.0 ∙ own),
+                record {
+                  at = ap (links w).stances (below.0 ∙ own) ∙ (stood ∙ ap (λ o. Some (stance Blocked o)) e);
+                  depth = below.1 ∙ t.owned.first y own;
+                },
+              )
+          of (Some q) e = inr (
             record {
-              at = ap (links w).stances (below.0 ∙ b) ∙ (a.client ∙ ap (λ o. Some (stance Blocked o)) none);
-              depth = below.1;
+              parent = q;
+              y = y;
+              at = stood ∙ ap (λ o. Some (stance Blocked o)) e;
+              root = below.0 ∙ under.0;
+              depth = below.1 ∙ under.1;
             },
+            sym b,
           )
-      by (In_session j i) below current b =
+            where
+              single : (b : Bool) → is_unshared system y ≡ b → is_unshared system y ≡ true
+              single true is = is
+              single false is = absurd (some_none (sym e ∙ named Blocked a.current stood is))
+
+              under : (g.own y ≡ g.root q.session) × (g.level y ≡ suc (g.depth q.session))
+              under = busy_below y Blocked q (stood ∙ ap (λ o. Some (stance Blocked o)) e) (single (is_unshared system y) refl)
+      by (In_session j i) below named b =
           let s = outlined (session_at w j) b.0 b.1 in
           let server : s.0.server ≡ a.session.client = ap (λ (s : Session). s.server) s.2 ∙ b.3 in
-          let p = current s.0 s.1 Blocked a.current (ap (links w).stances server ∙ a.client) in
+          let p = named s.0 s.1 Blocked a.current (ap (links w).stances server ∙ a.client) in
           inr (
             record {
               parent = p.0;
@@ -151,7 +208,7 @@ module _ (system : System) (g : Tracked) (t : IsTracked system g) where
             },
             refl,
           )
-      by (In_object j) below current b = absurd b
+      by (In_object j) below named b = absurd b
 
   -- the session above waits, too
   parent_waits : (k : ℕ) (p : HasParent k) → IsWaiting p.parent.session

@@ -31,7 +31,7 @@ and_right : (b c : Bool) → (b && c) ≡ true → c ≡ true
 and_right true c e = e
 and_right false c e = absurd cc
 
-is_equal : (m n : ℕ) → (m == n) ≡ true → m ≡ n
+pub is_equal : (m n : ℕ) → (m == n) ≡ true → m ≡ n
 is_equal m n e = elim (eqb_tells m n) [ inl t ↦ t.1 | inr t ↦ absurd (true≢false (sym e ∙ t.0)) ]
 
 -- a leaf works for a thread and does not wait
@@ -221,7 +221,7 @@ module _ (system : System) (g : Tracked) (t : IsTracked system g) where
     | inr e ↦ let none : one_if (r.session == j) ≡ 0 = ap one_if e.0 in asked_there j rs each.1 (λ n. more (omega (arith, n, none)))
   ]
 
-  requested_by : (j : ℕ) → (requests_of j w.requests ≡ 0 → ⊥) → IsRequested system g t j
+  pub requested_by : (j : ℕ) → (requests_of j w.requests ≡ 0 → ⊥) → IsRequested system g t j
   requested_by j more =
       let s = asked_there j w.requests t.linked.asked more in
       record { waiting = pending system g t j s.0 s.1 (λ none. more (omega (arith, none))); more = more }
@@ -255,6 +255,23 @@ module _ (system : System) (g : Tracked) (t : IsTracked system g) where
         by [] e = absurd (omega (arith, e))
         by (r ∷ []) e = (r, refl)
         by (r ∷ q ∷ rs) e = absurd (omega (arith, e))
+
+-- a thread for which a step is taken has its own leaf
+pub lives_who : (system : System) (g : Tracked) → IsTracked system g → (i y : ℕ) → who g y ≡ Some i → g.own i ≡ i
+lives_who system g t i y e = by (who_is g i y e)
+  where
+    of : (phase : Phase) (current : Option Current) → stance_in (slice_get g.world.leaves y) ≡ Some (stance phase current) → is_active phase ≡ true
+        → thread_by g.root y current ≡ i
+        → g.own i ≡ i
+    of phase None stood act is = subst (λ n. g.own n ≡ n) is (t.main y phase stood act)
+    of phase (Some q) stood act is =
+        let m = t.linked.handles y phase q stood in
+        let s = outlined (session_at g.world q.session) m.0 m.1 in
+        subst (λ n. g.own n ≡ n) is (t.lives q.session s.0 s.1)
+
+    by : IsWorking g i y ⊎ IsServing g i y → g.own i ≡ i
+    by (inl w) = of w.at.leaf.phase w.at.leaf.current (ap stance_in w.at.there) w.at.is_active w.at.thread
+    by (inr p) = let s = taken_there system g t i y p in subst (λ n. g.own n ≡ n) p.root (t.lives p.taken.0.session s.0 s.1)
 
 -- the one request of a region, where the oldest is of it, is the oldest
 module _ (w : World) (x : ℕ) (root : ℕ → ℕ) (y : ℕ) where

@@ -1,4 +1,4 @@
--- Threads of worlds in which no leaf changes its own slots outside `main`.
+-- Threads of worlds in which no shared leaf changes its own slots outside `main`.
 use Rattle.std.proofs.Common.{◌≡◌, ◌≢◌, ◌⊎◌, ℕ, suc, ◌==◌, ◌&&◌, inl, inr, Bool, true, false, List, Option, Some, None, Ok}
 use Rattle.std.proofs.Common.{refl, ap, sym, ◌∙◌}
 use Rattle.std.specs.Prelude.{option_map, slice_get}
@@ -18,27 +18,27 @@ use Rattle.gq_model.specs.machine.Doing.{Doing, Event}
 use Rattle.gq_model.specs.machine.Requests.{free_place}
 use Rattle.gq_model.specs.machine.Step.{accept, accept_oldest, step_in, step_of, next}
 use Rattle.gq_model.proofs.Small.{none_some, some_same}
-use Rattle.gq_laws.specs.Links.{IsLinkedWorld}
+use Rattle.gq_laws.specs.Links.{stance, stance_in, IsLinkedWorld}
 use Rattle.gq_laws.proofs.linking.Linked_worlds.{kept_linked}
 use Rattle.gq_laws.proofs.turning.Endings.{Ends}
 use Rattle.gq_laws.proofs.turning.Instructs.{accept_by}
 use Rattle.gq_laws.proofs.turning.Outcomes.{begun}
 use Rattle.gq_races.specs.Races.{is_own, changes_own}
-use Rattle.gq_determined.specs.internal.Threads.{Tracked, thread_by, anew, who, works, works_for, is_active, IsSameThread}
+use Rattle.gq_determined.specs.internal.Threads.{is_unshared, Tracked, thread_by, anew, who, works, works_for, is_active, IsSameThread}
 use Rattle.gq_determined.proofs.passing.Kept_by_steps.{MayChange, IsAllowed}
 use Rattle.gq_determined.proofs.passing.Kept_around.{FirstAllowed}
-use Rattle.gq_determined.proofs.standing.Orderly.{IsTracked}
+use Rattle.gq_determined.proofs.standing.Orderly.{IsTracked, busy_below}
 use Rattle.gq_determined.proofs.regions.Regions.{put_at}
-use Rattle.gq_determined.proofs.standing.Places.{taken_there, IsWorking, IsServing, ServesSame, same_place}
+use Rattle.gq_determined.proofs.standing.Places.{lives_who, taken_there, IsWorking, IsServing, ServesSame, same_place}
 use Rattle.gq_determined.proofs.stepping.Itself.{thread_itself}
 use Rattle.gq_determined.proofs.stepping.Own_steps.{anew_else, not_free, Goes, goes_working, goes_serving}
 use Rattle.gq_determined.proofs.stepping.Own_steps as own
 use Rattle.gq_determined.proofs.stepping.Frames.{IsDone}
 
--- outside `main` what comes first changes no own slot
-abbrev pub IsStateless : Tracked → Type 0
-IsStateless g = (x : ℕ) (leaf : Leaf) (q : Current) (i : Instruction) (rest : Statements) → slice_get g.world.leaves x ≡ Some leaf → leaf.current ≡ Some q
-    → leaf.todo ≡ Do i rest → changes_own i ≡ false
+-- outside `main` of a shared leaf what comes first changes no own slot
+abbrev pub IsStateless : System → World → Type 0
+IsStateless u w = (x : ℕ) (leaf : Leaf) (q : Current) (i : Instruction) (rest : Statements) → slice_get w.leaves x ≡ Some leaf → leaf.current ≡ Some q
+    → is_unshared u x ≡ false → leaf.todo ≡ Do i rest → changes_own i ≡ false
 
 -- WHAT IS ALLOWED
 
@@ -113,8 +113,9 @@ module _ (f : ℕ → ℕ) (n : ℕ) (most : List ℕ) (d : Doing) (v : World) (
 
 -- A STEP IN TWO WORLDS
 
-module _ (u : System) (pays : (z : World) → paid u z ≡ true) (g h : Tracked) (t : IsTracked u g) (th : IsTracked u h) (stateless : IsStateless g) (i x : ℕ)
-    (s : IsSameThread i g h) (sx : x ≢ i → IsSameThread x g h) (component : Component) (placed : slice_get u.components x ≡ Some component) where
+module _ (u : System) (pays : (z : World) → paid u z ≡ true) (g h : Tracked) (t : IsTracked u g) (th : IsTracked u h) (stateless : IsStateless u g.world)
+    (i x : ℕ) (is : who g x ≡ Some i) (s : IsSameThread i g h) (sx : g.own x ≢ i → IsSameThread (g.own x) g h) (component : Component)
+    (placed : slice_get u.components x ≡ Some component) where
   -- the leaf in both worlds, and the step
   pub record BothGo (new : World) (event : Event) : Type 0 where
     pub a : Leaf
@@ -143,21 +144,35 @@ module _ (u : System) (pays : (z : World) → paid u z ≡ true) (g h : Tracked)
     abbrev O : Spot → Type 0
     O = own.O u pays g h t th i x s sx component a b there there_h
 
-    pub allowed : (a.current ≡ None → x ≡ i) → FirstAllowed f (suc b.steps) b.peaks d h.world K R M O a.todo
-    allowed main = first_allowed f (suc b.steps) b.peaks d h.world K M O R a.todo (λ instr rest is. by a.current refl instr rest is)
+    pub allowed : (a.current ≡ None → x ≡ i) → ((q : Current) → a.current ≡ Some q → g.root q.session ≡ i)
+        → FirstAllowed f (suc b.steps) b.peaks d h.world K R M O a.todo
+    allowed main section = first_allowed f (suc b.steps) b.peaks d h.world K M O R a.todo (λ instr rest is. by a.current refl instr rest is)
       where
-        may : a.current ≡ None → (place : Place) → MayChange f (suc b.steps) b.peaks d h.world K M O place
-        may none (Own k) = (main none, refl, none)
-        may none (Shared k) = tt
-        may none Object = tt
+        may : g.own x ≡ i → (is_unshared u x ≡ false → a.current ≡ None) → (place : Place) → MayChange f (suc b.steps) b.peaks d h.world K M O place
+        may own shared (Own k) = (own, refl, shared, main)
+        may own shared (Shared k) = tt
+        may own shared Object = tt
 
         by : (current : Option Current) → a.current ≡ current → (instr : Instruction) (rest : Statements) → a.todo ≡ Do instr rest
             → IsAllowed f (suc b.steps) b.peaks d h.world K M O instr
-        by None e instr rest is = all_allowed f (suc b.steps) b.peaks d h.world K M O (may e) instr
-        by (Some q) e instr rest is = none_allowed f (suc b.steps) b.peaks d h.world K M O instr (stateless x a q instr rest there e is)
+        by None e instr rest begins =
+            all_allowed f (suc b.steps) b.peaks d h.world K M O (may (ap g.own (main e) ∙ lives_who u g t i x is) (λ shared. e)) instr
+        by (Some q) e instr rest begins = of (is_unshared u x) refl
+          where
+            true_false : true ≡ false → ⊥
+            true_false = true≢false
+
+            of : (single : Bool) → is_unshared u x ≡ single → IsAllowed f (suc b.steps) b.peaks d h.world K M O instr
+            of true single =
+                let own = (busy_below u g t x a.phase q (ap stance_in there ∙ ap (λ o. Some (stance a.phase o)) e) single).0 ∙ section q e in
+                all_allowed f (suc b.steps) b.peaks d h.world K M O (may own (λ shared. absurd (true_false (sym single ∙ shared)))) instr
+            of false shared = none_allowed f (suc b.steps) b.peaks d h.world K M O instr (stateless x a q instr rest there e shared begins)
 
   pub main_of : (w : IsWorking g i x) → w.at.leaf.current ≡ None → x ≡ i
   main_of w none = sym (ap (thread_by g.root x) none) ∙ w.at.thread
+
+  pub section_of : (w : IsWorking g i x) → (q : Current) → w.at.leaf.current ≡ Some q → g.root q.session ≡ i
+  section_of w q at = sym (ap (thread_by g.root x) at) ∙ w.at.thread
 
   abbrev pub both_go : (IsWorking g i x × IsWorking h i x) ⊎ ServesSame u g h t th i s x → (new : World) (event : Event) → next u g.world x ≡ Ok (new, event)
       → BothGo new event
@@ -168,7 +183,7 @@ module _ (u : System) (pays : (z : World) → paid u z ≡ true) (g h : Tracked)
     there_h = w.1.at.there;
     how = inl w;
     goes = goes_working u pays g h t th i x s sx component w.0.at.leaf w.1.at.leaf w.0.at.there w.1.at.there w.0 w.1 placed
-        (λ busy. allowed w.0.at.leaf w.1.at.leaf w.0.at.there w.1.at.there (main_of w.0)) new event stepped;
+        (λ busy. allowed w.0.at.leaf w.1.at.leaf w.0.at.there w.1.at.there (main_of w.0) (section_of w.0)) new event stepped;
   }
   both_go (inr w) new event stepped = record {
     a = w.first.leaf;
@@ -182,7 +197,8 @@ module _ (u : System) (pays : (z : World) → paid u z ≡ true) (g h : Tracked)
 
 -- A STEP IN ONE WORLD
 
-module _ (u : System) (pays : (z : World) → paid u z ≡ true) (g : Tracked) (t : IsTracked u g) (stateless : IsStateless g) (i x : ℕ) (is : who g x ≡ Some i)
+module _ (u : System) (pays : (z : World) → paid u z ≡ true) (g : Tracked) (t : IsTracked u g) (stateless : IsStateless u g.world) (i x : ℕ)
+    (is : who g x ≡ Some i)
     (component : Component) (placed : slice_get u.components x ≡ Some component) where
   abbrev itself : IsSameThread i g g
   itself = thread_itself i g
@@ -255,7 +271,7 @@ module _ (u : System) (pays : (z : World) → paid u z ≡ true) (g : Tracked) (
 
       by : (IsWorking g i x × IsWorking g i x) ⊎ ServesSame u g g t t i itself x → Solo new
       by (inl w) =
-          let r = both_go u pays g g t t stateless i x itself (λ ne. thread_itself x g) component placed (inl (w.0, w.0)) new event stepped in
+          let r = both_go u pays g g t t stateless i x is itself (λ ne. thread_itself (g.own x) g) component placed (inl (w.0, w.0)) new event stepped in
           record {
             a = w.0.at.leaf;
             there = w.0.at.there;
@@ -273,7 +289,7 @@ module _ (u : System) (pays : (z : World) → paid u z ≡ true) (g : Tracked) (
           out : x ≢ i → (thread_by g.root x w.0.at.leaf.current == x) ≡ false
           out ne = elim (eqb_tells (thread_by g.root x w.0.at.leaf.current) x) [ inl q ↦ absurd (ne (sym q.1 ∙ w.0.at.thread)) | inr q ↦ q.0 ]
       by (inr w) =
-          let r = both_go u pays g g t t stateless i x itself (λ ne. thread_itself x g) component placed (inr w) new event stepped in
+          let r = both_go u pays g g t t stateless i x is itself (λ ne. thread_itself (g.own x) g) component placed (inr w) new event stepped in
           record {
             a = w.first.leaf;
             there = w.first.there;

@@ -10,7 +10,7 @@ use Rattle.gq_model.specs.machine.Scenario.{System, Component}
 use Rattle.gq_model.specs.machine.World.{Session, Request, Current, Leaf, World, session_at}
 use Rattle.gq_model.specs.machine.Doing.{Doing, Event}
 use Rattle.gq_model.specs.machine.Requests.{free_place}
-use Rattle.gq_model.proofs.Small.{none_some, some_same}
+use Rattle.gq_model.proofs.Small.{none_some, some_same, equal_self}
 use Rattle.gq_laws.specs.Shapes.{Each}
 use Rattle.gq_laws.specs.Links.{stance, stance_in, IsLinkedWorld}
 use Rattle.gq_laws.proofs.Stepping.{free_none, outlined}
@@ -21,13 +21,25 @@ use Rattle.gq_determined.proofs.regions.Elsewhere.{OursBy, IsElse, current_of}
 use Rattle.gq_determined.proofs.standing.Orderly.{IsTracked}
 use Rattle.gq_determined.proofs.stepping.Own_steps.{anew_else, anew_here, not_free, each_asked}
 
-is_or_not : (p : Phase) → (p ≡ Serving) ⊎ (p ≡ Serving → ⊥)
+pub is_or_not : (p : Phase) → (p ≡ Serving) ⊎ (p ≡ Serving → ⊥)
 is_or_not Serving = inl refl
 is_or_not Pending = inr (λ e. cc)
 is_or_not Running = inr (λ e. cc)
 is_or_not Blocked = inr (λ e. cc)
 is_or_not Handling = inr (λ e. cc)
 is_or_not Exited = inr (λ e. cc)
+
+-- a phase that is seen is as active
+pub seen_active : (l : Leaf) → is_active (seen l).phase ≡ is_active l.phase
+seen_active l = by l.phase
+  where
+    by : (p : Phase) → is_active (seen_by p l).phase ≡ is_active p
+    by Pending = refl
+    by Running = refl
+    by Blocked = refl
+    by Serving = refl
+    by Handling = refl
+    by Exited = refl
 
 -- whether a leaf works for a thread is seen of it
 works_seen : (root : ℕ → ℕ) (i y : ℕ) (o : Option Leaf) → works_for root i y (option_map seen o) ≡ works_for root i y o
@@ -59,7 +71,7 @@ module _ (u : System) (g : Tracked) (t : IsTracked u g) (j x : ℕ) (component :
   pub record IsDone (new : World) : Type 0 where
     pub active : a.phase ≡ Blocked → ⊥
     pub linked : IsLinkedWorld u new
-    pub rest : IsElse d j root c (OursBy d j root) new
+    pub rest : IsElse d j g.own root c (OursBy d j g.own root) new
     pub was : (a.phase ≡ Serving → ⊥) → thread_by g.root x a.current ≡ j
     pub taken : a.phase ≡ Serving → (l : Leaf) → slice_get new.leaves x ≡ Some l → is_active l.phase ≡ true → thread_by root x l.current ≡ j
 
@@ -121,7 +133,10 @@ module _ (u : System) (g : Tracked) (t : IsTracked u g) (j x : ℕ) (component :
     ]
       where
         here : slice_get new.leaves x ≡ Some l → thread_by root x l.current ≡ j
-        here at = elim (is_or_not a.phase) [ inl s ↦ done.taken s l at act | inr busy ↦ done.rest.mine busy l at act ]
+        here at = elim (is_or_not a.phase) [
+          | inl s ↦ done.taken s l at act
+          | inr busy ↦ ap (thread_by root x) (done.rest.mine busy l at act) ∙ (same_thread x a there ∙ done.was busy)
+        ]
 
     -- they do not work for another thread
     pub works_out : (i y : ℕ) → i ≢ j → c y ≡ true → works_for root i y (slice_get new.leaves y) ≡ false
@@ -236,14 +251,17 @@ module _ (u : System) (g : Tracked) (t : IsTracked u g) (j x : ℕ) (component :
       pub unseen_left : IsSameThread i g h → IsSameThread i g_new h
       unseen_left s = record {
         f = s.f;
+        owned = s.owned;
         leaves = λ y. same_else i y ne ∙ s.leaves y;
         alike = λ y is. (
             let was = sym (same_else i y ne) ∙ is in
             s.alike y was ∙ (mapped s.f (slice_get g.world.leaves y) ∙ (ap (option_map (renamed_leaf s.f)) (sym (done.rest.at y (out_of y was)))
             ∙ sym (mapped s.f (slice_get new.leaves y)))));
         region = record {
-          slots = s.region.slots ∙ (mapped_slots s.f (slice_get g.world.leaves i) ∙ (ap (option_map (map (renamed_slot s.f))) (sym (done.rest.own i ne))
-              ∙ sym (mapped_slots s.f (slice_get new.leaves i))));
+          slots = λ y is. s.region.slots y is
+              ∙ (mapped_slots s.f (slice_get g.world.leaves y)
+              ∙ (ap (option_map (map (renamed_slot s.f))) (sym (done.rest.slots y (λ e. ne (sym is ∙ e))))
+              ∙ sym (mapped_slots s.f (slice_get new.leaves y))));
           sessions = record {
             there = λ k u e. s.region.sessions.there k u (sym (within_kept i k ne) ∙ e);
             back = λ m u e. (let p = s.region.sessions.back m u e in (p.0, p.1, within_kept i p.0 ne ∙ p.2, p.3));
@@ -256,10 +274,12 @@ module _ (u : System) (g : Tracked) (t : IsTracked u g) (j x : ℕ) (component :
       pub unseen_right : IsSameThread i h g → IsSameThread i h g_new
       unseen_right s = record {
         f = s.f;
+        owned = s.owned;
         leaves = λ y. s.leaves y ∙ sym (same_else i y ne);
         alike = λ y is. done.rest.at y (out_of y (sym (s.leaves y) ∙ is)) ∙ s.alike y is;
         region = record {
-          slots = done.rest.own i ne ∙ s.region.slots;
+          slots = λ y is. done.rest.slots y (λ e. ne (sym (equal_of (g.own y) i (sym (s.owned y) ∙ (ap (λ n. n == i) is ∙ equal_self i))) ∙ e))
+              ∙ s.region.slots y is;
           sessions = record {
             there = λ k u e. within_kept i (s.f k) ne ∙ s.region.sessions.there k u e;
             back = λ m u e. s.region.sessions.back m u (sym (within_kept i m ne) ∙ e);

@@ -45,15 +45,15 @@ at_itself y w = by (slice_get w.leaves y)
     by None = refl
     by (Some l) = ap Some (sym (leaf_itself (seen l)))
 
-region_itself : (root : ℕ → ℕ) (y : ℕ) (w : World) → IsSameRegion same root root y w w
-region_itself root y w = record {
-  slots = by (slice_get w.leaves y);
+region_itself : (own root : ℕ → ℕ) (i : ℕ) (w : World) → IsSameRegion same own root root i w w
+region_itself own root i w = record {
+  slots = λ y is. by (slice_get w.leaves y);
   sessions = record {
     there = λ k s e. e ∙ ap Some (sym (session_itself s));
     back = λ m s e. (m, s, e, refl);
     single = λ j k s t e q r. r;
   };
-  requests = sym (requests_itself (among root y w.requests));
+  requests = sym (requests_itself (among root i w.requests));
 }
   where
     by : (o : Option Leaf) → option_map slots_of o ≡ option_map (λ l. map (renamed_slot same) (slots_of l)) o
@@ -62,4 +62,10 @@ region_itself root y w = record {
 
 pub thread_itself : (i : ℕ) (g : Tracked) → IsSameThread i g g
 thread_itself i g =
-    record { f = same; leaves = λ y. refl; alike = λ y is. at_itself y g.world; region = region_itself g.root i g.world }
+    record {
+      f = same;
+      owned = λ y. refl;
+      leaves = λ y. refl;
+      alike = λ y is. at_itself y g.world;
+      region = region_itself g.own g.root i g.world;
+    }

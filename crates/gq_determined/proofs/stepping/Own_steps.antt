@@ -70,7 +70,7 @@ accept_leaf d l (Some p) slots peaks steps =
     λ j. accept (record d { leaf = record d.leaf { slots = slots j; peaks = peaks j; steps = steps j } }) p.0 p.1
 
 module _ (u : System) (pays : (z : World) → paid u z ≡ true) (g h : Tracked) (t : IsTracked u g) (th : IsTracked u h) (i x : ℕ)
-    (s : IsSameThread i g h) (sx : x ≢ i → IsSameThread x g h) (component : Component) (a b : Leaf)
+    (s : IsSameThread i g h) (sx : g.own x ≢ i → IsSameThread (g.own x) g h) (component : Component) (a b : Leaf)
     (there : slice_get g.world.leaves x ≡ Some a) (there_h : slice_get h.world.leaves x ≡ Some b) where
   abbrev pub d : Doing
   d = record { system = u; world = g.world; x = x; component = component; leaf = record a { steps = suc a.steps } }
@@ -89,19 +89,19 @@ module _ (u : System) (pays : (z : World) → paid u z ≡ true) (g h : Tracked)
   pub record HasNames : Type 0 where
     pub f : ℕ → ℕ
     pub own : (k : ℕ) → g.root k ≡ i → f k ≡ s.f k
-    pub regions : (y : ℕ) → (y ≡ i) ⊎ (y ≡ x) → IsSameRegion f g.root h.root y g.world h.world
+    pub regions : (y : ℕ) → (y ≡ i) ⊎ (y ≡ g.own x) → IsSameRegion f g.own g.root h.root y g.world h.world
 
   pub names : HasNames
-  names = by (eqb_tells x i)
+  names = by (eqb_tells (g.own x) i)
     where
-      by : (((x == i) ≡ true) × (x ≡ i)) ⊎ (((x == i) ≡ false) × (x ≢ i)) → HasNames
+      by : (((g.own x == i) ≡ true) × (g.own x ≡ i)) ⊎ (((g.own x == i) ≡ false) × (g.own x ≢ i)) → HasNames
       by (inl e) = record {
         f = s.f;
         own = λ k is. refl;
-        regions = λ y r. subst (λ y. IsSameRegion s.f g.root h.root y g.world h.world) (sym (of y r)) s.region;
+        regions = λ y r. subst (λ y. IsSameRegion s.f g.own g.root h.root y g.world h.world) (sym (of y r)) s.region;
       }
         where
-          of : (y : ℕ) → (y ≡ i) ⊎ (y ≡ x) → y ≡ i
+          of : (y : ℕ) → (y ≡ i) ⊎ (y ≡ g.own x) → y ≡ i
           of y (inl q) = q
           of y (inr q) = q ∙ e.1
       by (inr e) = record {
@@ -110,23 +110,26 @@ module _ (u : System) (pays : (z : World) → paid u z ≡ true) (g h : Tracked)
         regions = λ y r. region y r;
       }
         where
+          z : ℕ
+          z = g.own x
+
           both : ℕ → ℕ
           both k = cond (g.root k == i) (s.f k) ((sx e.1).f k)
 
           own : (k : ℕ) → g.root k ≡ i → both k ≡ s.f k
           own k is = ap (λ b. cond b (s.f k) ((sx e.1).f k)) (ap (λ n. n == i) is ∙ equal_self i)
 
-          else_own : (k : ℕ) → g.root k ≡ x → both k ≡ (sx e.1).f k
+          else_own : (k : ℕ) → g.root k ≡ z → both k ≡ (sx e.1).f k
           else_own k is = elim (eqb_tells (g.root k) i) [
             | inl q ↦ absurd (e.1 (sym is ∙ q.1))
             | inr q ↦ ap (λ b. cond b (s.f k) ((sx e.1).f k)) q.0
           ]
 
-          region : (y : ℕ) → (y ≡ i) ⊎ (y ≡ x) → IsSameRegion both g.root h.root y g.world h.world
-          region y (inl q) = subst (λ y. IsSameRegion both g.root h.root y g.world h.world) (sym q)
+          region : (y : ℕ) → (y ≡ i) ⊎ (y ≡ z) → IsSameRegion both g.own g.root h.root y g.world h.world
+          region y (inl q) = subst (λ y. IsSameRegion both g.own g.root h.root y g.world h.world) (sym q)
               (region_renamed u g t s.f both i (λ k s there is. own k is) h.root h.world s.region)
-          region y (inr q) = subst (λ y. IsSameRegion both g.root h.root y g.world h.world) (sym q)
-              (region_renamed u g t (sx e.1).f both x (λ k s there is. else_own k is) h.root h.world (sx e.1).region)
+          region y (inr q) = subst (λ y. IsSameRegion both g.own g.root h.root y g.world h.world) (sym q)
+              (region_renamed u g t (sx e.1).f both z (λ k s there is. else_own k is) h.root h.world (sx e.1).region)
 
   -- the names once a new session has one, and the roots
   abbrev pub f : ℕ → ℕ
@@ -138,9 +141,9 @@ module _ (u : System) (pays : (z : World) → paid u z ≡ true) (g h : Tracked)
   abbrev pub other : ℕ → ℕ
   other = anew h.root m0 i
 
-  regions : (y : ℕ) → (y ≡ i) ⊎ (y ≡ x) → IsSameRegion f root other y g.world h.world
+  regions : (y : ℕ) → (y ≡ i) ⊎ (y ≡ g.own x) → IsSameRegion f g.own root other y g.world h.world
   regions y r =
-      region_roots f g.root h.root root other y g.world h.world
+      region_roots f g.own g.root h.root root other y g.world h.world
       (λ k s there. anew_else g.root k0 i k (not_free g.world k s there))
       (λ k s there. anew_else h.root m0 i k (not_free h.world k s there))
       (each_asked g.world (λ k. root k ≡ g.root k) (λ k s there. anew_else g.root k0 i k (not_free g.world k s there)) g.world.requests t.linked.asked)
@@ -176,7 +179,7 @@ module _ (u : System) (pays : (z : World) → paid u z ≡ true) (g h : Tracked)
   pub record IsFor : Type 0 where
     pub active : a.phase ≡ Blocked → ⊥
     pub current : (q : Current) → a.current ≡ Some q → g.root q.session ≡ i
-    pub main : a.current ≡ None → (a.phase ≡ Serving → ⊥) → x ≡ i
+    pub main : a.current ≡ None → (a.phase ≡ Serving → ⊥) → g.own x ≡ i
     pub root_works : works g i i ≡ true
     pub at : IsAtSame f x g.world h.world
 
@@ -191,20 +194,13 @@ module _ (u : System) (pays : (z : World) → paid u z ≡ true) (g h : Tracked)
     current_root q at =
         let m = current_there x a q there at in anew_else g.root k0 i q.session (not_free g.world q.session m.0 m.1) ∙ o.current q at
 
-    thread_now : (a.phase ≡ Serving → ⊥) → thread_by root x a.current ≡ i
-    thread_now busy = by a.current refl
-      where
-        by : (current : Option Current) → a.current ≡ current → thread_by root x current ≡ i
-        by None e = o.main e busy
-        by (Some q) e = current_root q e
-
-    below : (k : ℕ) (s : Session) → session_at g.world k ≡ Some s → IsBelow root k s.spot
+    below : (k : ℕ) (s : Session) → session_at g.world k ≡ Some s → IsBelow g.own root k s.spot
     below k s at = by s.spot (t.below k s at) (t.linked.belongs k (outline s) (ap outline_in at))
       where
         own : root k ≡ g.root k
         own = anew_else g.root k0 i k (not_free g.world k s at)
 
-        by : (q : Spot) → IsBelowOf g.root g.depth k q → Belongs (links g.world) q s.client → IsBelow root k q
+        by : (q : Spot) → IsBelowOf g k q → Belongs (links g.world) q s.client → IsBelow g.own root k q
         by (In_leaf y a) below b = own ∙ below.0
         by (In_session j a) below b =
             let p = outlined (session_at g.world j) b.0 b.1 in
@@ -248,17 +244,15 @@ module _ (u : System) (pays : (z : World) → paid u z ≡ true) (g h : Tracked)
     takes : TakesLeaf d
     takes = record { old = a; there = there; slots = refl; phase = refl; current = refl }
 
-    before : (n : ℕ) (most : List ℕ) → IsBefore f n most d h.world i root other c
+    before : (n : ℕ) (most : List ℕ) → IsBefore f n most d h.world i g.own root other c
     before n most = record {
       takes = takes;
       linked = t.linked;
       pays = pays;
-      related = record { regions = regions; at = at_c; rest = else_first d i root c (Ours f n most d h.world i root other c) takes thread_now };
+      related = record { regions = regions; at = at_c; rest = else_first d i g.own root c (Ours f n most d h.world i g.own root other c) takes };
       here = ap (λ b. works g i x || b) (equal_self x) ∙ or_right (works g i x);
-      own = ap (λ b. b || (i == x)) o.root_works;
       active = o.active;
       current = current_root;
-      thread = thread_now;
       client = client;
       main = o.main;
       below = below;
@@ -299,7 +293,8 @@ module _ (u : System) (pays : (z : World) → paid u z ≡ true) (g h : Tracked)
       record {
         active = λ b. w.at.goes (ap (λ (l : Leaf). l.phase) same ∙ b);
         current = λ q at. sym (ap (thread_by g.root x) at) ∙ thread;
-        main = λ none busy. sym (ap (thread_by g.root x) none) ∙ thread;
+        main = λ none busy. t.main x a.phase (ap stance_in there ∙ ap (λ o. Some (stance a.phase o)) none)
+            (ap (λ (l : Leaf). is_active l.phase) (sym same) ∙ w.at.is_active) ∙ (sym (ap (thread_by g.root x) none) ∙ thread);
         root_works = by a.current refl thread;
         at = at_works x (works_at g i x w.at);
       }
@@ -332,22 +327,22 @@ module _ (u : System) (pays : (z : World) → paid u z ≡ true) (g h : Tracked)
   e = other_doing f n b.peaks d h.world
 
   abbrev pub R : World → World → Type 0
-  R = IsRelated f n b.peaks d h.world i root other c
+  R = IsRelated f n b.peaks d h.world i g.own root other c
 
   abbrev pub K : World → World → Type 0
-  K = IsRelatedWithin f n b.peaks d h.world i root other c
+  K = IsRelatedWithin f n b.peaks d h.world i g.own root other c
 
   abbrev pub M : ℕ → Type 0
-  M = Mine f n b.peaks d h.world i root other c
+  M = Mine f n b.peaks d h.world i g.own root other c
 
   abbrev pub O : Spot → Type 0
-  O = Ours f n b.peaks d h.world i root other c
+  O = Ours f n b.peaks d h.world i g.own root other c
 
   abbrev pub d_h : Doing
   d_h = record { system = u; world = h.world; x = x; component = component; leaf = record b { steps = n } }
 
   slots_same : b.slots ≡ map (renamed_slot f) a.slots
-  slots_same = some_same (ap (option_map slots_of) (sym there_h) ∙ ((regions x (inr refl)).slots
+  slots_same = some_same (ap (option_map slots_of) (sym there_h) ∙ ((regions (g.own x) (inr refl)).slots x refl
       ∙ ap (option_map (λ l. map (renamed_slot f) (slots_of l))) there))
 
   -- the step in the other world is that of the leaf with the other names
@@ -385,10 +380,11 @@ module _ (u : System) (pays : (z : World) → paid u z ≡ true) (g h : Tracked)
       → step_in d_h b.phase ≡ step_in e a.phase
       → (a.phase ≡ Serving → Match f n b.peaks d h.world K R M O (oldest g.world x g.world.requests) (oldest h.world x h.world.requests))
       → (a.phase ≡ Serving → (p : Request × List Request) → oldest g.world x g.world.requests ≡ Some p
-      → IsOne f n b.peaks d h.world i root other c (before o n b.peaks) p)
+      → IsOne f n b.peaks d h.world i g.own root other c (before o n b.peaks) p)
       → (new : World) (event : Event) → next u g.world x ≡ Ok (new, event) → Goes new event
   run o placed allowed same matches ones new event stepped =
-      let both = both_step f n b.peaks d h.world K R M O (takes o) t.linked (kept_around f n b.peaks d h.world i root other c (before o n b.peaks) matches ones)
+      let both = both_step f n b.peaks d h.world K R M O (takes o) t.linked
+      (kept_around f n b.peaks d h.world i g.own root other c (before o n b.peaks) matches ones)
       a.phase refl allowed in
       let r = both.holds new event (sym (next_here placed) ∙ stepped) in
       record { other_new = r.0; goes = next_there placed ∙ (same ∙ r.1); related = r.2 }

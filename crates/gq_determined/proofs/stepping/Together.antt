@@ -4,8 +4,6 @@ use Rattle.std.proofs.Common.{refl, ap, sym, ◌∙◌}
 use Rattle.std.specs.Prelude.{option_map, slice_get}
 use Rattle.std.proofs.lemmas.Bool.{true≢false}
 use Rattle.std.proofs.lemmas.Bool.Decides.{eqb_tells}
-use Rattle.gq_model.specs.declared.phase.Phase.{Phase}
-use Rattle.gq_model.specs.declared.phase.Phase.TheVariants.{Pending, Running, Blocked, Serving, Handling, Exited}
 use Rattle.gq_model.specs.machine.Scenario.{System, Component}
 use Rattle.gq_model.specs.machine.World.{Leaf, World}
 use Rattle.gq_model.specs.machine.Sums.{paid}
@@ -13,14 +11,13 @@ use Rattle.gq_model.specs.machine.Doing.{Event}
 use Rattle.gq_model.specs.machine.Step.{next}
 use Rattle.gq_model.proofs.Small.{none_some, some_none, some_same}
 use Rattle.gq_laws.specs.internal.Renamed.{renamed_leaf}
-use Rattle.gq_determined.specs.internal.Threads.{Tracked, thread_by, who, stepped_to, works, works_for, is_active, seen, seen_by, IsAtSame, IsSameThread}
-use Rattle.gq_determined.specs.internal.Threads.{HasEnded}
+use Rattle.gq_determined.specs.internal.Threads.{Tracked, thread_by, who, stepped_to, works, works_for, is_active, seen, IsAtSame, IsSameThread}
 use Rattle.gq_determined.proofs.standing.Orderly.{IsTracked}
 use Rattle.gq_determined.proofs.standing.Places.{IsWorking, ServesSame, same_place}
 use Rattle.gq_determined.proofs.stepping.Itself.{thread_itself}
 use Rattle.gq_determined.proofs.stepping.Own_steps.{Goes}
 use Rattle.gq_determined.proofs.stepping.Own_steps as own
-use Rattle.gq_determined.proofs.stepping.Frames.{works_else, thread_new}
+use Rattle.gq_determined.proofs.stepping.Frames.{seen_active, works_else, thread_new}
 use Rattle.gq_determined.proofs.stepping.Agreement.{IsStateless, Solo, solo, BothGo, both_go}
 
 and_false : (b : Bool) → (b && false) ≡ false
@@ -38,29 +35,15 @@ ended_of u g t i x is ne = by (same_place u g g t t i (thread_itself i g) x x is
         out = elim (eqb_tells (thread_by g.root x w.0.at.leaf.current) x) [ inl q ↦ absurd (ne (sym q.1 ∙ w.0.at.thread)) | inr q ↦ q.0 ]
     by (inr w) = ap (works_for g.root x x) w.first.there ∙ ap (λ p. is_active p && (thread_by g.root x w.first.leaf.current == x)) w.first.serves
 
--- a phase that is seen is as active
-seen_active : (l : Leaf) → is_active (seen l).phase ≡ is_active l.phase
-seen_active l = by l.phase
-  where
-    by : (p : Phase) → is_active (seen_by p l).phase ≡ is_active p
-    by Pending = refl
-    by Running = refl
-    by Blocked = refl
-    by Serving = refl
-    by Handling = refl
-    by Exited = refl
-
-module _ (u : System) (pays : (z : World) → paid u z ≡ true) (g h : Tracked) (t : IsTracked u g) (th : IsTracked u h) (sg : IsStateless g) (sh : IsStateless h)
-    (i x : ℕ) (s : IsSameThread i g h) (ends : (j : ℕ) → HasEnded j g → HasEnded j h → IsSameThread j g h) (is : who g x ≡ Some i) (is_h : who h x ≡ Some i)
+module _ (u : System) (pays : (z : World) → paid u z ≡ true) (g h : Tracked) (t : IsTracked u g) (th : IsTracked u h) (sg : IsStateless u g.world)
+    (sh : IsStateless u h.world) (i x : ℕ) (s : IsSameThread i g h) (sx : g.own x ≢ i → IsSameThread (g.own x) g h) (is : who g x ≡ Some i)
+    (is_h : who h x ≡ Some i)
     (component : Component) (placed : slice_get u.components x ≡ Some component) (new : World) (event : Event)
     (stepped : next u g.world x ≡ Ok (new, event)) where
-  pub sx : x ≢ i → IsSameThread x g h
-  sx ne = ends x (ended_of u g t i x is ne) (ended_of u h th i x is_h ne)
+  abbrev pub go : BothGo u pays g h t th sg i x is s sx component placed new event
+  go = both_go u pays g h t th sg i x is s sx component placed (same_place u g h t th i s x x is is_h).how new event stepped
 
-  abbrev pub go : BothGo u pays g h t th sg i x s sx component placed new event
-  go = both_go u pays g h t th sg i x s sx component placed (same_place u g h t th i s x x is is_h).how new event stepped
-
-  module _ (r : BothGo u pays g h t th sg i x s sx component placed new event) where
+  module _ (r : BothGo u pays g h t th sg i x is s sx component placed new event) where
     abbrev v : World
     v = r.goes.other_new
 
@@ -143,6 +126,7 @@ module _ (u : System) (pays : (z : World) → paid u z ≡ true) (g h : Tracked)
     pub same_after : IsSameThread i g_new h_new
     same_after = record {
       f = f;
+      owned = s.owned;
       leaves = leaves_same;
       alike = λ y w. r.goes.related.at y (in_c y w);
       region = r.goes.related.regions i (inl refl);

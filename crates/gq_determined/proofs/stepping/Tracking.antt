@@ -1,23 +1,26 @@
 -- What is tracked fits the world after a step, too.
-use Rattle.std.proofs.Common.{◌≡◌, ◌≢◌, ℕ, suc, inl, inr, Bool, Option, Some, None, Ok, refl, ap, sym, ◌∙◌, subst}
+use Rattle.std.proofs.Common.{◌≡◌, ◌≢◌, ◌⊎◌, ℕ, suc, ◌==◌, ◌||◌, inl, inr, Bool, true, false, Option, Some, None, Ok, refl, ap, sym, ◌∙◌, subst}
 use Rattle.std.specs.Prelude.{option_map, slice_get}
 use Rattle.gq_model.specs.declared.phase.Phase.{Phase}
-use Rattle.gq_model.specs.declared.phase.Phase.TheVariants.{Blocked}
+use Rattle.gq_model.specs.declared.phase.Phase.TheVariants.{Pending, Running, Blocked, Serving, Handling, Exited}
 use Rattle.gq_model.specs.declared.program.Place.{Place}
 use Rattle.gq_model.specs.declared.program.Place.TheVariants.{Own, Shared, Object}
 use Rattle.gq_model.specs.machine.Scenario.{System, Component}
 use Rattle.gq_model.specs.machine.World.{Waiting, Spot, In_leaf, In_session, In_object, Session, Current, Leaf, World, session_at, slot_at, spot_of}
 use Rattle.gq_model.specs.machine.Doing.{Doing, Event}
 use Rattle.gq_model.specs.machine.Requests.{free_place}
-use Rattle.gq_model.proofs.Small.{none_some, some_same}
-use Rattle.gq_laws.specs.Links.{Waits, naming_in, outline, outline_in, stance, stance_in, links, Belongs, IsLinkedWorld}
+use Rattle.gq_model.proofs.Small.{none_some, some_none, some_same, equal_self}
+use Rattle.std.proofs.lemmas.Bool.{true≢false}
+use Rattle.std.proofs.lemmas.Bool.Decides.{eqb_tells}
+use Rattle.gq_laws.specs.Links.{Waits, naming_in, outline, outline_in, stance, stance_in, links, Belongs, Fits, IsLinkedWorld}
 use Rattle.gq_laws.proofs.linking.Events.{same_phase, same_current}
 use Rattle.gq_laws.proofs.Stepping.{outlined}
-use Rattle.gq_determined.specs.internal.Threads.{Tracked, anew, depth_in, depth_by, stepped_to}
+use Rattle.gq_determined.specs.internal.Threads.{is_unshared, Tracked, thread_by, anew, depth_in, depth_by, stepped_to, is_active, works, seen}
 use Rattle.gq_determined.proofs.passing.Kept_by_steps.{IsNamed}
 use Rattle.gq_determined.proofs.regions.Elsewhere.{OursBy, IsOld, IsElse, current_of}
-use Rattle.gq_determined.proofs.standing.Orderly.{IsBelowOf, IsByCurrent, IsTracked}
+use Rattle.gq_determined.proofs.standing.Orderly.{IsBelowOf, IsByCurrent, AreOpened, IsTracked, busy_below}
 use Rattle.gq_determined.proofs.stepping.Own_steps.{anew_else, anew_here, not_free}
+use Rattle.gq_determined.proofs.stepping.Frames.{seen_active, is_or_not, IsDone, thread_new}
 
 -- an operand that names a session's slot names one of the current session
 named_session : (x : ℕ) (current : Option Current) (place : Place) (j b : ℕ) → spot_of x current place ≡ Some (In_session j b)
@@ -50,8 +53,7 @@ leaf_of : (o : Option Leaf) (phase : Phase) (current : Option Current) → stanc
 leaf_of None phase current at = absurd (none_some at)
 leaf_of (Some l) phase current at = (l, refl, same_phase at, same_current at)
 
-module _ (u : System) (g : Tracked) (t : IsTracked u g) (i x : ℕ) (component : Component) (a : Leaf) (there : slice_get g.world.leaves x ≡ Some a)
-    (active : a.phase ≡ Blocked → ⊥) where
+module _ (u : System) (g : Tracked) (t : IsTracked u g) (i x : ℕ) (component : Component) (a : Leaf) (there : slice_get g.world.leaves x ≡ Some a) where
   abbrev d : Doing
   d = record { system = u; world = g.world; x = x; component = component; leaf = record a { steps = suc a.steps } }
 
@@ -61,14 +63,28 @@ module _ (u : System) (g : Tracked) (t : IsTracked u g) (i x : ℕ) (component :
   abbrev root : ℕ → ℕ
   root = anew g.root k0 i
 
+  abbrev c : ℕ → Bool
+  c y = works g i y || y == x
+
   abbrev depth : ℕ → ℕ
   depth = anew g.depth k0 (depth_by g.depth (slice_get g.world.leaves x))
 
   -- what the step may change
   abbrev pub Ours : Spot → Type 0
-  Ours = OursBy d i root
+  Ours = OursBy d i g.own root
 
-  module _ (c : ℕ → Bool) (new : World) (event : Event) (linked : IsLinkedWorld u new) (rest : IsElse d i root c Ours new) where
+  -- the thread has its own leaf; a leaf that is not shared is of another thread once it takes a request; and all sessions are opened where they may be
+  module _ (new : World) (event : Event) (done : IsDone u g t i x component a there new) (opened : AreOpened u new) (lives : g.own i ≡ i)
+      (taken : is_unshared u x ≡ true → a.phase ≡ Serving → g.own x ≢ x) where
+    abbrev g_new : Tracked
+    g_new = stepped_to g x i (Ok (new, event))
+
+    linked : IsLinkedWorld u new
+    linked = done.linked
+
+    rest : IsElse d i g.own root c Ours new
+    rest = done.rest
+
     same_root : (k : ℕ) (s : Session) → session_at g.world k ≡ Some s → root k ≡ g.root k
     same_root k s at = anew_else g.root k0 i k (not_free g.world k s at)
 
@@ -84,13 +100,13 @@ module _ (u : System) (g : Tracked) (t : IsTracked u g) (i x : ℕ) (component :
         let s = outlined (session_at g.world q.session) m.0 m.1 in
         (s.0, s.1, ap (λ (s : Session). s.server) s.2 ∙ m.2)
 
-    below : (k : ℕ) (s : Session) → session_at new k ≡ Some s → IsBelowOf root depth k s.spot
-    below k s at = elim (rest.spots k s at) [ inl o ↦ subst (IsBelowOf root depth k) (sym o.spot) (old o) | inr o ↦ fresh s.spot o.free o.named o.ours ]
+    below : (k : ℕ) (s : Session) → session_at new k ≡ Some s → IsBelowOf g_new k s.spot
+    below k s at = elim (rest.spots k s at) [ inl o ↦ subst (IsBelowOf g_new k) (sym o.spot) (old o) | inr o ↦ fresh s.spot o.free o.named o.ours ]
       where
-        old : (o : IsOld d i root c Ours k s) → IsBelowOf root depth k o.old.spot
+        old : (o : IsOld d i g.own root c Ours k s) → IsBelowOf g_new k o.old.spot
         old o = by o.old.spot (t.below k o.old o.there) (t.linked.belongs k (outline o.old) (ap outline_in o.there))
           where
-            by : (q : Spot) → IsBelowOf g.root g.depth k q → Belongs (links g.world) q o.old.client → IsBelowOf root depth k q
+            by : (q : Spot) → IsBelowOf g k q → Belongs (links g.world) q o.old.client → IsBelowOf g_new k q
             by (In_leaf y b) e r = (same_root k o.old o.there ∙ e.0, same_depth k o.old o.there ∙ e.1)
             by (In_session j b) e r =
                 let p = outlined (session_at g.world j) r.0 r.1 in (
@@ -99,9 +115,24 @@ module _ (u : System) (g : Tracked) (t : IsTracked u g) (i x : ℕ) (component :
                 )
             by (In_object j) e r = tt
 
-        fresh : (q : Spot) → k ≡ k0 → IsNamed d q → Ours q → IsBelowOf root depth k q
+        -- a session in an own slot of the leaf
+        under : (y : ℕ) → y ≡ x → (is_unshared u y ≡ false → a.current ≡ None) → (a.current ≡ None → y ≡ i) → depth k0 ≡ g.level y
+        under y same shared main = by a.current refl
+          where
+            single : (q : Current) → a.current ≡ Some q → (b : Bool) → is_unshared u y ≡ b → is_unshared u y ≡ true
+            single q e true is = is
+            single q e false is = absurd (some_none (sym e ∙ shared is))
+
+            by : (current : Option Current) → a.current ≡ current → depth k0 ≡ g.level y
+            by None e = new_depth None e ∙ sym (t.owned.first y (ap g.own (main e) ∙ (lives ∙ sym (main e))))
+            by (Some q) e =
+                new_depth (Some q) e
+                ∙ sym (busy_below u g t y a.phase q (ap (links g.world).stances same ∙ (ap stance_in there ∙ ap (λ o. Some (stance a.phase o)) e))
+                (single q e (is_unshared u y) refl)).1
+
+        fresh : (q : Spot) → k ≡ k0 → IsNamed d q → Ours q → IsBelowOf g_new k q
         fresh (In_leaf y b) e named ours =
-            (ap root e ∙ (anew_here g.root k0 i ∙ sym ours.0), ap depth e ∙ new_depth None ours.2)
+            (ap root e ∙ (anew_here g.root k0 i ∙ sym ours.0), ap depth e ∙ under y ours.1 ours.2 ours.3)
         fresh (In_session j b) e named ours =
             let q = named_session x a.current named.0 j b named.1 in
             let m = current_there q.0 q.1 in (
@@ -122,7 +153,7 @@ module _ (u : System) (g : Tracked) (t : IsTracked u g) (i x : ℕ) (component :
         )
 
     not_x : (y : ℕ) (current : Option Current) → (links g.world).stances y ≡ Some (stance Blocked current) → y ≢ x
-    not_x y current at e = active (same_phase (sym (ap stance_in there) ∙ (ap (links g.world).stances (sym e) ∙ at)))
+    not_x y current at e = done.active (same_phase (sym (ap stance_in there) ∙ (ap (links g.world).stances (sym e) ∙ at)))
 
     -- at a leaf that waits as it did the same is current
     current_before : (y : ℕ) (was : Option Current) → (links g.world).stances y ≡ Some (stance Blocked was) → (phase : Phase) (current : Option Current)
@@ -138,19 +169,19 @@ module _ (u : System) (g : Tracked) (t : IsTracked u g) (i x : ℕ) (component :
         let l = leaf_of (slice_get new.leaves x) Blocked current at in
         sym (same_current (sym (ap stance_in l.1) ∙ is)) ∙ rest.blocked l.0 l.1 l.2
 
-    waits_leaf : (y b k : ℕ) → slot_at new (In_leaf y b) ≡ Some (Waiting k) → IsByCurrent new (In_leaf y b)
-    waits_leaf y b k at phase current is = elim (rest.waits (In_leaf y b) k at) [
+    waits_leaf : (y b k : ℕ) → slot_at new (In_leaf y b) ≡ Some (Waiting k) → IsByCurrent u new (In_leaf y b)
+    waits_leaf y b k at phase current is shared = elim (rest.waits (In_leaf y b) k at) [
       | inl old ↦
           let m = client_of g.world t.linked (In_leaf y b) k old in
           let stood = ap (links g.world).stances m.1 ∙ m.2.1 in
-          current_before y m.2.0 stood phase current is ∙ t.waits (In_leaf y b) k old Blocked m.2.0 stood
+          current_before y m.2.0 stood phase current is ∙ t.waits (In_leaf y b) k old Blocked m.2.0 stood shared
       | inr o ↦
           let m = client_of new linked (In_leaf y b) k at in
           let here : y ≡ x = o.1.1 in
-          current_now m.2.0 current phase (ap (links new).stances (sym here ∙ m.1) ∙ m.2.1) (ap (links new).stances (sym here) ∙ is) ∙ o.1.2
+          current_now m.2.0 current phase (ap (links new).stances (sym here ∙ m.1) ∙ m.2.1) (ap (links new).stances (sym here) ∙ is) ∙ o.1.2 shared
     ]
 
-    waits_session : (j b k : ℕ) → slot_at new (In_session j b) ≡ Some (Waiting k) → IsByCurrent new (In_session j b)
+    waits_session : (j b k : ℕ) → slot_at new (In_session j b) ≡ Some (Waiting k) → IsByCurrent u new (In_session j b)
     waits_session j b k at s there_s phase current is = elim (rest.waits (In_session j b) k at) [
       | inl old ↦
           let m = client_of g.world t.linked (In_session j b) k old in
@@ -180,10 +211,91 @@ module _ (u : System) (g : Tracked) (t : IsTracked u g) (i x : ℕ) (component :
           | inr o ↦ absurd (not_free g.world j p there_p o.free)
         ]
 
-    waits : (q : Spot) (k : ℕ) → slot_at new q ≡ Some (Waiting k) → IsByCurrent new q
+    waits : (q : Spot) (k : ℕ) → slot_at new q ≡ Some (Waiting k) → IsByCurrent u new q
     waits (In_leaf y b) k at = waits_leaf y b k at
     waits (In_session j b) k at = waits_session j b k at
     waits (In_object j) k at = tt
 
-    pub still_tracked : IsTracked u (stepped_to g x i (Ok (new, event)))
-    still_tracked = record { linked = linked; below = below; waits = waits }
+    -- WHOSE SESSIONS AND LEAVES ARE
+
+    lives_on : (k : ℕ) (s : Session) → session_at new k ≡ Some s → g.own (root k) ≡ root k
+    lives_on k s at = elim (rest.spots k s at) [
+      | inl o ↦ let same = same_root k o.old o.there in ap g.own same ∙ (t.lives k o.old o.there ∙ sym same)
+      | inr o ↦ let same : root k ≡ i = ap root o.free ∙ anew_here g.root k0 i in ap g.own same ∙ (lives ∙ sym same)
+    ]
+
+    -- a leaf in `main`
+    main : (y : ℕ) (phase : Phase) → (links new).stances y ≡ Some (stance phase None) → is_active phase ≡ true → g.own y ≡ y
+    main y phase at act = by (c y) refl
+      where
+        l : (l : Leaf) × (slice_get new.leaves y ≡ Some l) × (l.phase ≡ phase) × (l.current ≡ None)
+        l = leaf_of (slice_get new.leaves y) phase None at
+
+        seen_back : (o p : Option Leaf) (l : Leaf) → o ≡ Some l → option_map seen o ≡ option_map seen p → (m : Leaf) × (p ≡ Some m)
+            × (is_active m.phase ≡ is_active l.phase)
+        seen_back None p l e f = absurd (none_some e)
+        seen_back (Some o) None l e f = absurd (none_some (sym f))
+        seen_back (Some o) (Some m) l e f = (
+          m,
+          refl,
+          sym (seen_active m)
+              ∙ (ap (λ (l : Leaf). is_active l.phase) (sym (some_same f)) ∙ (seen_active o ∙ ap (λ (l : Leaf). is_active l.phase) (some_same e))),
+        )
+
+        by : (b : Bool) → c y ≡ b → g.own y ≡ y
+        by true ours =
+            let same : y ≡ i
+            = sym (ap (thread_by root y) l.3)
+            ∙ thread_new u g t i x component a there new done y ours l.0 l.1 (ap is_active l.2 ∙ act) in
+            ap g.own same ∙ (lives ∙ sym same)
+        by false out =
+            let m = seen_back (slice_get new.leaves y) (slice_get g.world.leaves y) l.0 l.1 (rest.at y out) in
+            let o = same_currents (slice_get g.world.leaves y) (slice_get new.leaves y) (sym (rest.currents y (not_here y out))) m.0.phase m.0.current
+            (ap stance_in m.1) in
+            let none : m.0.current ≡ None = sym o.2 ∙ (ap (λ (l : Leaf). l.current) (some_same (sym o.1 ∙ l.1)) ∙ l.3) in
+            t.main y m.0.phase (ap stance_in m.1 ∙ ap (λ o. Some (stance m.0.phase o)) none) (m.2 ∙ (ap is_active l.2 ∙ act))
+          where
+            or_false : (b c : Bool) → (b || c) ≡ false → c ≡ false
+            or_false true c e = absurd cc
+            or_false false c e = e
+
+            not_here : (y : ℕ) → c y ≡ false → y ≢ x
+            not_here y out e = true≢false (sym (ap (λ n. n == x) e ∙ equal_self x) ∙ or_false (works g i y) (y == x) out)
+
+    -- a leaf in a section
+    fits_active : (phase : Phase) (q : Current) → Fits phase (Some q) → is_active phase ≡ true
+    fits_active Blocked q f = refl
+    fits_active Handling q f = refl
+    fits_active Pending q f = absurd f
+    fits_active Running q f = absurd f
+    fits_active Serving q f = absurd f
+    fits_active Exited q f = absurd f
+
+    busy : (y : ℕ) (phase : Phase) (q : Current) → (links new).stances y ≡ Some (stance phase (Some q)) → is_unshared u y ≡ true → g.own y ≢ y
+    busy y phase q at single = elim (eqb_tells y x) [
+      | inl e ↦ subst (λ y. g.own y ≢ y) (sym e.1)
+          (here (ap (links new).stances (sym e.1) ∙ at) (ap (is_unshared u) (sym e.1) ∙ single) (is_or_not a.phase))
+      | inr e ↦
+          let o = same_currents (slice_get new.leaves y) (slice_get g.world.leaves y) (rest.currents y e.1) phase (Some q) at in
+          t.busy y o.0.phase q (ap stance_in o.1 ∙ ap (λ p. Some (stance o.0.phase p)) o.2) single
+    ]
+      where
+        here : (links new).stances x ≡ Some (stance phase (Some q)) → is_unshared u x ≡ true → (a.phase ≡ Serving) ⊎ (a.phase ≡ Serving → ⊥) → g.own x ≢ x
+        here at single (inl serves) = taken single serves
+        here at single (inr works) =
+            let l = leaf_of (slice_get new.leaves x) phase (Some q) at in
+            let act = fits_active phase q (linked.fits x (stance phase (Some q)) at) in
+            let current : a.current ≡ Some q = sym (rest.mine works l.0 l.1 (ap is_active l.2 ∙ act)) ∙ l.3 in
+            t.busy x a.phase q (ap stance_in there ∙ ap (λ o. Some (stance a.phase o)) current) single
+
+    pub still_tracked : IsTracked u g_new
+    still_tracked = record {
+      linked = linked;
+      below = below;
+      waits = waits;
+      stands = opened;
+      owned = t.owned;
+      lives = lives_on;
+      main = main;
+      busy = busy;
+    }

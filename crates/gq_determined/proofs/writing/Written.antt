@@ -1,4 +1,4 @@
--- What leaves that provide nothing write does not depend on the turns, where no leaf changes an own slot outside `main`.
+-- What leaves that provide nothing write does not depend on the turns, where there is no race.
 use Rattle.std.proofs.Common.{◌≡◌, ◌⊎◌, inl, inr, ℕ, List, ◌++◌, ap, sym, ◌∙◌}
 use Rattle.std.specs.Prelude.{slice_get}
 use Rattle.gq_model.specs.machine.Scenario.{Scenario, system}
@@ -7,14 +7,14 @@ use Rattle.gq_model.specs.machine.Run.{label_at}
 use Rattle.gq_laws.specs.Sound.{IsSound}
 use Rattle.gq_laws.specs.internal.Uncounted.{uncounted}
 use Rattle.gq_laws.proofs.turning.Steps.{stands_still}
-use Rattle.gq_races.specs.Races.{ChangesNoOwn}
+use Rattle.gq_races.specs.Races.{IsRaceFree}
 use Rattle.gq_determined.specs.Determined.{lines_of, IsFront, ProvidesNothing, WritesSame}
 use Rattle.gq_determined.specs.internal.Threads.{shown_by, past_of}
 use Rattle.gq_determined.proofs.running.Sound_runs.{fronts_same}
 use Rattle.gq_determined.proofs.running.At_rest.{rest_same}
 use Rattle.gq_determined.proofs.writing.Lines.{said, said_more, lines_are, own_thread}
 
-module _ (s : Scenario) (sound : IsSound s) (none : ChangesNoOwn s) where
+module _ (s : Scenario) (sound : IsSound s) (none : IsRaceFree s) where
   abbrev label : ℕ → List ℕ
   label x = label_at (slice_get (system s).components x)
 

@@ -1,12 +1,12 @@
--- Threads: `main` of a leaf, with the sections that other leaves run for it while it waits. Each has a region of the world, that no other changes:
--- the leaf's own slots, and the sessions below them. Regions of two worlds are compared up to the numbers of sessions.
-use Rattle.std.specs.Prelude.{◌≡◌, ◌⊎◌, ◌++◌, ℕ, suc, ◌==◌, if◌then◌else◌, Bool, true, false, ◌&&◌, List, [], ◌∷◌, map, Option, Some, None, option_map}
-use Rattle.std.specs.Prelude.{slice_get}
-use Rattle.std.specs.Prelude.{Ok, Err}
+-- Threads: `main` of a leaf, with the sections that other leaves run for it while it waits. Each has a region of the world, that no other changes: the own
+-- slots of the leaves that are its, and the sessions below them. A leaf is at first its own thread's. One that is not shared is, from its first request on, the
+-- thread's that asks, with all that was its own; so its own thread is over. Regions of two worlds are compared up to the numbers of sessions.
+use Rattle.std.specs.Prelude.{◌≡◌, ◌⊎◌, ◌++◌, ℕ, suc, ◌+◌, ◌==◌, if◌then◌else◌, Bool, true, false, ◌&&◌, not, List, [], ◌∷◌, map, Option, Some, None}
+use Rattle.std.specs.Prelude.{Ok, Err, option_map, slice_get}
 use Rattle.gq_model.specs.declared.phase.Phase.{Phase}
 use Rattle.gq_model.specs.declared.phase.Phase.TheVariants.{Pending, Running, Blocked, Serving, Handling, Exited}
 use Rattle.gq_model.specs.machine.Program.{Done}
-use Rattle.gq_model.specs.machine.Scenario.{Scenario, System, system}
+use Rattle.gq_model.specs.machine.Scenario.{Scenario, System, Component, system}
 use Rattle.gq_model.specs.machine.Run.{run}
 use Rattle.gq_laws.specs.Progress.{each_turn}
 use Rattle.gq_laws.specs.internal.Uncounted.{uncounted}
@@ -15,17 +15,35 @@ use Rattle.gq_model.specs.machine.Doing.{Event, Stepped}
 use Rattle.gq_model.specs.machine.Requests.{free_place}
 use Rattle.gq_model.specs.machine.Step.{oldest, next}
 use Rattle.gq_laws.specs.internal.Renamed.{renamed_slot, renamed_leaf, renamed_request, Correspond}
+use Rattle.gq_races.specs.Races.{opens_first, is_shared}
 use Rattle.gq_determined.specs.internal.Machines.{after, shown}
+
+-- LEAVES THAT ARE NOT SHARED
+
+-- all sessions with the x-th leaf are opened in `main` of one and the same leaf
+abbrev pub is_unshared : System → ℕ → Bool
+is_unshared system x = not (is_shared system x)
+
+-- the first leaf of these in whose `main` sessions with the x-th are opened, where the first of the list is the n-th
+abbrev pub opener_from : System → ℕ → ℕ → List Component → ℕ
+opener_from system x n [] = 0
+opener_from system x n (c ∷ rest) = if opens_first system x c then n else opener_from system x (suc n) rest
+
+abbrev pub opener : System → ℕ → ℕ
+opener system x = opener_from system x 0 system.components
 
 -- WHOSE A STEP IS
 
--- a world, and of each number of a session the leaf below whose own slots it stands, and how many sessions stand above it
+-- a world; of each number of a session the thread below whose leaves' own slots it stands, and how many sessions stand above it; of each leaf the thread
+-- whose it is, and how many sessions stand above those in its own slots
 pub record Tracked : Type 0 where
   pub world : World
   pub root : ℕ → ℕ
   pub depth : ℕ → ℕ
+  pub own : ℕ → ℕ
+  pub level : ℕ → ℕ
 
--- a leaf works for itself in `main`, and else for the leaf below whose slots its current session stands
+-- a leaf works for itself in `main`, and else for the thread of its current session
 abbrev pub thread_by : (ℕ → ℕ) → ℕ → Option Current → ℕ
 thread_by root x None = x
 thread_by root x (Some current) = root current.session
@@ -68,18 +86,60 @@ abbrev pub stepped_to : Tracked → ℕ → ℕ → Stepped → Tracked
 stepped_to g x i (Err wrong) = g
 stepped_to g x i (Ok p) =
     let k = free_place g.world.sessions in
-    record { world = p.0; root = anew g.root k i; depth = anew g.depth k (depth_by g.depth (slice_get g.world.leaves x)) }
+    record {
+      world = p.0;
+      root = anew g.root k i;
+      depth = anew g.depth k (depth_by g.depth (slice_get g.world.leaves x));
+      own = g.own;
+      level = g.level;
+    }
+
+-- THE FIRST REQUEST OF A LEAF THAT IS NOT SHARED
+
+-- what was thread x's is thread i's, where there is a number
+abbrev pub moved : Option ℕ → ℕ → ℕ → (ℕ → ℕ) → ℕ → ℕ
+moved None x i f = f
+moved (Some n) x i f = λ k. if f k == x then i else f k
+
+-- and it has n sessions more above it
+abbrev pub lowered : Option ℕ → ℕ → (ℕ → ℕ) → (ℕ → ℕ) → ℕ → ℕ
+lowered None x f m = m
+lowered (Some n) x f m = λ k. if f k == x then n + m k else m k
+
+-- so it is with all that was the x-th leaf's
+abbrev pub given : Tracked → ℕ → ℕ → Option ℕ → Tracked
+given g x i o =
+    record {
+      world = g.world;
+      root = moved o x i g.root;
+      depth = lowered o x g.root g.depth;
+      own = moved o x i g.own;
+      level = lowered o x g.own g.level;
+    }
+
+-- a leaf that is not shared, and not yet this thread's, takes a request: so many sessions stand above its own slots then
+abbrev pub first_of : System → Tracked → ℕ → ℕ → Phase → Option (Request × List Request) → Option ℕ
+first_of system g x i Serving (Some p) = if is_unshared system x && not (g.own x == i) then Some (suc (g.depth p.0.session)) else None
+first_of system g x i phase found = None
+
+abbrev pub first_by : System → Tracked → ℕ → ℕ → Option Leaf → Option ℕ
+first_by system g x i None = None
+first_by system g x i (Some leaf) = first_of system g x i leaf.phase (oldest g.world x g.world.requests)
+
+-- what a step of a leaf for a thread begins with
+abbrev pub ready : System → Tracked → ℕ → ℕ → Tracked
+ready system g x i = given g x i (first_by system g x i (slice_get g.world.leaves x))
 
 abbrev pub turn_for : System → Tracked → ℕ → Option ℕ → Tracked
 turn_for system g x None = g
-turn_for system g x (Some i) = stepped_to g x i (next system g.world x)
+turn_for system g x (Some i) = stepped_to (ready system g x i) x i (next system g.world x)
 
 -- after a turn of a leaf
 abbrev pub tracked_turn : System → Tracked → ℕ → Tracked
 tracked_turn system g x = turn_for system g x (who g x)
 
 abbrev pub tracked_start : System → Tracked
-tracked_start system = record { world = start system; root = λ k. 0; depth = λ k. 0 }
+tracked_start system = record { world = start system; root = λ k. 0; depth = λ k. 0; own = λ x. x; level = λ x. 0 }
 
 -- what a turn shows: the leaf, and what it wrote
 abbrev pub events_of : ℕ → Stepped → List (ℕ × Event)
@@ -126,11 +186,11 @@ IsAtSame f y w v = option_map seen (slice_get v.leaves y) ≡ option_map (λ lea
 
 -- REGIONS
 
--- the session of this number, where it is in the region of a leaf
+-- the session of this number, where it is in the region of a thread
 abbrev pub within : (ℕ → ℕ) → ℕ → List (Option Session) → ℕ → Option Session
 within root y sessions k = if root k == y then joined (slice_get sessions k) else None
 
--- those of these requests that are of sessions in the region
+-- those of these requests that are of sessions in it
 abbrev pub among : (ℕ → ℕ) → ℕ → List Request → List Request
 among root y [] = []
 among root y (r ∷ rest) = if root r.session == y then r ∷ among root y rest else among root y rest
@@ -138,18 +198,25 @@ among root y (r ∷ rest) = if root r.session == y then r ∷ among root y rest 
 abbrev pub slots_of : Leaf → List Slot
 slots_of leaf = leaf.slots
 
--- the region of a leaf is the same in two worlds, but for the numbers of sessions
-pub record IsSameRegion (f root other : ℕ → ℕ) (y : ℕ) (w v : World) : Type 0 where
-  pub slots : option_map slots_of (slice_get v.leaves y) ≡ option_map (λ leaf. map (renamed_slot f) (slots_of leaf)) (slice_get w.leaves y)
-  pub sessions : Correspond f (within root y w.sessions) (within other y v.sessions)
-  pub requests : among other y v.requests ≡ map (renamed_request f) (among root y w.requests)
+-- the region of a thread is the same in two worlds, but for the numbers of sessions
+pub record IsSameRegion (f own root other : ℕ → ℕ) (i : ℕ) (w v : World) : Type 0 where
+  pub slots : (y : ℕ) → own y ≡ i
+      → option_map slots_of (slice_get v.leaves y) ≡ option_map (λ leaf. map (renamed_slot f) (slots_of leaf)) (slice_get w.leaves y)
+  pub sessions : Correspond f (within root i w.sessions) (within other i v.sessions)
+  pub requests : among other i v.requests ≡ map (renamed_request f) (among root i w.requests)
 
--- a thread has the same in two worlds: the same leaves work for it and are at the same, and its region is the same
+-- a thread has the same in two worlds: the same leaves are its, the same work for it and are at the same, and its region is the same
 pub record IsSameThread (i : ℕ) (g h : Tracked) : Type 0 where
   pub f : ℕ → ℕ
+  pub owned : (y : ℕ) → (g.own y == i) ≡ (h.own y == i)
   pub leaves : (y : ℕ) → works g i y ≡ works h i y
   pub alike : (y : ℕ) → works g i y ≡ true → IsAtSame f y g.world h.world
-  pub region : IsSameRegion f g.root h.root i g.world h.world
+  pub region : IsSameRegion f g.own g.root h.root i g.world h.world
+
+-- so it is, if it has not become another's in either of them
+pub record IsAlike (i : ℕ) (g h : Tracked) : Type 0 where
+  pub main : works g i i ≡ works h i i
+  pub whole : g.own i ≡ i → h.own i ≡ i → IsSameThread i g h
 
 -- its `main` has ended
 abbrev pub HasEnded : ℕ → Tracked → Type 0
@@ -169,7 +236,7 @@ shown_by system = shown Tracked (ℕ × Event) (tracked_start system) (tracked_t
 abbrev pub SameAtEnds : System → Type 0
 SameAtEnds system =
     (i : ℕ) (turns others : List ℕ) → HasEnded i (tracked_after system turns) → HasEnded i (tracked_after system others)
-    → IsSameThread i (tracked_after system turns) (tracked_after system others) × (shown_by system i turns ≡ shown_by system i others)
+    → IsAlike i (tracked_after system turns) (tracked_after system others) × (shown_by system i turns ≡ shown_by system i others)
 
 -- what it shows in one run is a front of what it shows in the other, or the other way round
 abbrev pub SameFronts : System → Type 0
@@ -186,9 +253,13 @@ turned (x ∷ turns) past = turned turns (x ∷ past)
 abbrev pub past_of : List (ℕ × ℕ) → List ℕ
 past_of turns = turned (each_turn turns) []
 
--- where all work is at rest in both runs, each thread has the same, and has shown the same; and the runs end in these worlds
+-- where all work is at rest in both runs, each thread has the same, if it has its own leaf, and has shown the same; and the runs end in these worlds
 pub record SameAtRest (s : Scenario) (turns others : List (ℕ × ℕ)) : Type 0 where
   pub world : (run (system s) turns).world ≡ (tracked_after (uncounted (system s)) (past_of turns)).world
   pub other : (run (system s) others).world ≡ (tracked_after (uncounted (system s)) (past_of others)).world
-  pub same : (i : ℕ) → IsSameThread i (tracked_after (uncounted (system s)) (past_of turns)) (tracked_after (uncounted (system s)) (past_of others))
+  -- the same threads have their own leaves, and each of these has the same
+  pub same : (i : ℕ) → (tracked_after (uncounted (system s)) (past_of turns)).own i ≡ i
+      → IsSameThread i (tracked_after (uncounted (system s)) (past_of turns)) (tracked_after (uncounted (system s)) (past_of others))
+  pub back : (i : ℕ) → (tracked_after (uncounted (system s)) (past_of others)).own i ≡ i
+      → (tracked_after (uncounted (system s)) (past_of turns)).own i ≡ i
   pub shown : (i : ℕ) → shown_by (uncounted (system s)) i (past_of turns) ≡ shown_by (uncounted (system s)) i (past_of others)
