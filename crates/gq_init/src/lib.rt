@@ -27,7 +27,7 @@ mod item;
 pub mod leaf_line;
 pub mod line;
 pub mod lines;
-mod names;
+pub mod names;
 mod turn_list;
 pub mod turn_reader;
 pub mod turns;

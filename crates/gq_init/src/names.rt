@@ -94,7 +94,7 @@ fn first_space(spaces: u64) -> usize
 
 /// For each place the number of the leaf whose name is spread to it. It is a hint: whoever asks compares the leaf's name.
 #[derive(Drop)]
-pub(crate) struct NameIndex {
+pub struct NameIndex {
     factor: u64,
     leaves: [u8; PLACES],
 }
@@ -185,7 +185,7 @@ impl NameIndex {
 
     /// The leaves of a table by their names, in the first of many ways to spread them that gives each a place of its own, else in the last. This looks at all
     /// of them, some more than once.
-    pub(crate) fn of(table: &NodeTable) -> NameIndex {
+    pub fn of(table: &NodeTable) -> NameIndex {
         let mut index = NameIndex::new();
         for _ in 0..SPREADS {
             if index.put_all(table) {

@@ -207,7 +207,7 @@ fn after_comment(text: &[u8]) -> Option<&[u8]>
 
 /// What the first line of a text says after so many turns, and what follows its line feed.
 #[tactic(auto, using(crate::proofs::Ahead::comment_told))]
-pub(crate) fn next_turn<'a>(
+pub fn next_turn<'a>(
     text: &'a [u8],
     turns: u32,
     table: &NodeTable,

@@ -52,8 +52,8 @@ impl Model for Accepted {
     ghost invariant = { λ a. AreOfAccepted a.table a.budgets.items };
 }
 
-// The budgets of a scenario's leaves, which have these routes, with steps of at most the greatest number of 64 bits.
-fn kept_budgets(
+/// The budgets of a scenario's leaves, which have these routes, with steps of at most the greatest number of 64 bits.
+pub fn kept_budgets(
     alloc: Global,
     scenario: &Scenario,
     components: &[Component<'_>],

@@ -31,5 +31,5 @@ pub mod named;
 mod over;
 pub mod programs;
 pub mod read;
-mod surveys;
+pub mod surveys;
 pub mod unverified;

@@ -28,7 +28,7 @@ const SPARE: usize = 256;
 
 /// Of each leaf: what it uses of its own account, what its steps are counted by, and the services that it opens.
 #[derive(Drop)]
-pub(crate) struct Surveys {
+pub struct Surveys {
     pub owns: Vec<Amount>,
     pub counted: Vec<CountedLeaf>,
     pub opened: Vec<Vec<Name>>,
@@ -186,9 +186,9 @@ fn survey_source(
     }
 }
 
-// What is kept of these leaves, of which no two programs are there at a time; or the first fault of their texts and codes; or the first rule
-// that one breaks.
-pub(crate) fn survey_sources(
+/// What is kept of these leaves, of which no two programs are there at a time; or the first fault of their texts and codes; or the first rule
+/// that one breaks.
+pub fn survey_sources(
     alloc: Global,
     components: &[Component<'_>],
     interfaces: &Interfaces,

@@ -7,8 +7,8 @@ use gq_scenario::fault::{ScenarioError, ScenarioFault};
 use std::alloc::{AllocError, Global};
 use toml::Table;
 
-// The top table of a text, which has to be UTF-8 and TOML of at most 1 MiB.
-pub(crate) fn read_document(alloc: Global, text: &[u8]) -> Result<Table, ScenarioError>
+/// The top table of a text, which has to be UTF-8 and TOML of at most 1 MiB.
+pub fn read_document(alloc: Global, text: &[u8]) -> Result<Table, ScenarioError>
     ensures { IsDocument result (document_in text.now) }
 {
     if text.len() > GREATEST_SCENARIO {

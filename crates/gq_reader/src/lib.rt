@@ -7,7 +7,7 @@
 //! ```
 #![tactic(auto)]
 
-mod document;
+pub mod document;
 pub mod hexadecimal;
 mod interfaces;
 pub mod reader;

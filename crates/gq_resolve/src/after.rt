@@ -110,8 +110,12 @@ fn is_taken(name: &Name, earlier: &[Component<'_>]) -> bool
     is_named(name, earlier)
 }
 
-// Whether a component may not start after the leaf that it names.
-fn is_bad_after(all: &[Component<'_>], earlier: &[Component<'_>], component: &Component<'_>) -> bool
+/// Whether a component of all these may not start after the leaf that it names, where those before it in preorder are the earlier ones.
+pub fn is_bad_after(
+    all: &[Component<'_>],
+    earlier: &[Component<'_>],
+    component: &Component<'_>,
+) -> bool
     ensures { result ≡ is_bad_after all.now (named_by [] earlier.now) component.now component.now.node.after }
 {
     let leaf = component.leaf();

@@ -56,8 +56,8 @@ fn reaching(alloc: Global, used: &[Vec<u32>], goal: usize) -> Result<Vec<bool>, 
     Ok(flags)
 }
 
-// Whether a leaf reaches itself.
-fn reaches_itself(alloc: Global, used: &[Vec<u32>], leaf: usize) -> Result<bool, AllocError>
+/// Whether a leaf reaches itself by a chain of uses, as `first_on_cycle` has them. Refused only for want of host memory.
+pub fn reaches_itself(alloc: Global, used: &[Vec<u32>], leaf: usize) -> Result<bool, AllocError>
     ensures { IfOk result (λ is_on. is_on ≡ reaches_by (length used.now) (map (λ l. l.items) used.now) leaf leaf) }
 {
     let flags = reaching(alloc, used, leaf)?;

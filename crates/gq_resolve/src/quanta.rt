@@ -13,12 +13,12 @@ use gq_model::program::Name;
 use gq_scenario::scenario::{Leaf, Node, Nodes, Quantum, Scenario};
 use gq_scenario::tree::copied;
 
-// The two kinds of quota.
+/// The two kinds of quota.
 #[derive(Clone, Copy)]
-enum Resource {
-    // Bytes.
+pub enum Resource {
+    /// Bytes.
     Ram,
-    // Capabilities.
+    /// Capabilities.
     Caps,
 }
 
@@ -76,8 +76,8 @@ fn exceeded(resource: Resource, name: Name) -> ResolveFault
     }
 }
 
-// Refuses the init of this name where it hands out more than it has.
-fn fit(
+/// Refuses the init of this name and this quantum where it hands out more than it has to these children at the start.
+pub fn fit(
     resource: Resource,
     name: &Name,
     quantum: Quantum,

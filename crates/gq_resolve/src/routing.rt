@@ -57,8 +57,8 @@ impl<'a> Level<'a> {
         Level::new(self.routes(), self.siblings())
     }
 
-    // Its routes.
-    pub(crate) fn routes(&self) -> &'a [Route]
+    /// Its routes.
+    pub fn routes(&self) -> &'a [Route]
         ensures { result.now ≡ self.now.routes }
     {
         self.routes

@@ -20,7 +20,7 @@ pub mod flow;
 mod judge;
 pub mod memory;
 pub mod operands;
-mod sessions;
+pub mod sessions;
 pub mod state;
 pub mod subject;
 

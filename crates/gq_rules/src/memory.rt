@@ -68,7 +68,7 @@ fn pool_kind(kind: Option<Kind>) -> Option<(u16, u16)>
 
 impl<'a> Context<'a> {
     /// The kind of a slot that is there; a session's slots and its object are there outside `main` only.
-    pub(crate) fn kind_at(&self, state: &State, place: Place) -> Option<Kind>
+    pub fn kind_at(&self, state: &State, place: Place) -> Option<Kind>
         ensures { option_map known result ≡ kind_at self.now state.now place }
     {
         match place {
@@ -164,7 +164,7 @@ impl<'a> Context<'a> {
     }
 
     /// The bytes that a slot gives access to.
-    fn bytes_at(&self, state: &State, place: Place) -> Option<u64>
+    pub fn bytes_at(&self, state: &State, place: Place) -> Option<u64>
         ensures { result ≡ reach self.now (kind_at self.now state.now place) }
     {
         self.reach(self.kind_at(state, place))

@@ -117,7 +117,7 @@ impl<'a> Context<'a> {
 }
 
 /// The level of the current session.
-pub(crate) fn level_of(section: Section) -> u8
+pub fn level_of(section: Section) -> u8
     ensures { result ≡ level_of section }
 {
     match section {
@@ -140,7 +140,7 @@ fn upgrades_to(interface: &Interface, level: u8) -> &[Upgrade]
 }
 
 /// What a client gives for a session of this level.
-fn need_of(interface: &Interface, level: u8) -> Amount
+pub fn need_of(interface: &Interface, level: u8) -> Amount
     ensures { result ≡ need_of interface.now level }
 {
     let mut ram = u64::from(interface.need());
@@ -153,7 +153,7 @@ fn need_of(interface: &Interface, level: u8) -> Amount
 }
 
 /// What a session costs its server: its object and its slots.
-fn session_cost(interface: &Interface, bank: &Bank<SESSION_SLOTS>) -> Amount
+pub fn session_cost(interface: &Interface, bank: &Bank<SESSION_SLOTS>) -> Amount
     ensures ram { result.ram ≡ session_cost Ram interface.now (all_known bank.now) }
     ensures caps { result.caps ≡ session_cost Caps interface.now (all_known bank.now) }
 {

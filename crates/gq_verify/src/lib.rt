@@ -28,5 +28,6 @@ mod verified;
 pub use asked::{Asker, Requests};
 pub use fault::Fault;
 pub use service::Service;
+pub use starts::Starts;
 pub use steps::section_cost;
 pub use verified::{Verified, verify};

@@ -128,7 +128,7 @@ fn bank_by(
 
 /// What sections start with: the own slots as `main` leaves them, and the slots of a session of each level between requests.
 #[derive(Drop)]
-pub(crate) struct Starts {
+pub struct Starts {
     pub(crate) own: Bank<OWN_SLOTS>,
     pub(crate) peaks: Totals,
     pub(crate) main: Result<(), Broken>,
