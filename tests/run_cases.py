@@ -37,6 +37,7 @@ CASES = TOP / "tests" / "cases"
 TABLES = TOP / "tests" / "tables"
 EXAMPLES = TOP / "examples"
 UNVERIFIED = TOP / "crates" / "unverified" / "out" / "unverified"
+OF_TURNS = {"run", "trace", "state"}
 DEEPEST = 4
 SECONDS = 120
 
@@ -57,7 +58,7 @@ def words_of(command, files):
     name, *more = command.split(" ")
     if "SCENARIO" in more:
         return [name, *(str(files[0]) if word == "SCENARIO" else word for word in more)]
-    return [name, *map(str, files if name == "run" else files[:1]), *more]
+    return [name, *map(str, files if name in OF_TURNS else files[:1]), *more]
 
 
 def result_of(program, command, scenario, turns):

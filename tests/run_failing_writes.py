@@ -47,6 +47,8 @@ def commands():
         leaf = first_leaf(tomllib.loads(scenario.read_text())["start"])
         for words in (["check"], ["tree"], ["tree", "--dot"], ["turns"]):
             yield f"{' '.join(words)} of {scenario.name}", [*words, str(scenario)]
+        for words in (["trace"], ["trace", "--all"], ["state"]):
+            yield f"{' '.join(words)} of {scenario.name}", [*words, str(scenario), str(scenario.with_suffix(".turns"))]
         for word in ("asm", "list"):
             yield f"{word} of {leaf} of {scenario.name}", [word, str(scenario), leaf]
     for words in (["rule"], ["rule", "V12"], ["--version"], ["--help"]):

@@ -1,5 +1,5 @@
 #!/usr/bin/env python3
-"""Hands texts of any bytes to `trade check`, `run`, `tree`, `turns`, `races` and `list`: run_hostile_texts.py PROGRAM
+"""Hands texts of any bytes to `trade check`, `run`, `tree`, `turns`, `races`, `trace`, `state` and `list`: run_hostile_texts.py PROGRAM
 
 Long, deep and broken texts have to be refused with the line that is told beside each; texts made of a scenario by random changes, always the same
 ones, have to be done or refused, by `check` and by `tree` with the same line. A refusal is one line on standard error, with nothing on standard output and exit status 1. The program may take
@@ -17,6 +17,7 @@ import tempfile
 TOP = pathlib.Path(__file__).resolve().parent.parent
 SECONDS = 120
 CHANGES = 400
+OF_TURNS = {"run", "trace", "state"}
 # The program may take so many times the text, beside 64 MiB.
 TIMES, TIMES_OF_TABLES = 50, 640
 
@@ -96,7 +97,7 @@ def result_of(program, words, room, text, times=TIMES):
     turns = room / "turns"
     turns.write_bytes(b"")
     most = 64 * 2**20 + times * len(text)
-    files = [str(path)] + ([str(turns)] if words == ["run"] else []) + (["a"] if words == ["list"] else [])
+    files = [str(path)] + ([str(turns)] if words[0] in OF_TURNS else []) + (["a"] if words == ["list"] else [])
     ran = subprocess.run(
         [program, *words, *files],
         capture_output=True,
@@ -130,7 +131,7 @@ def main():
         room = pathlib.Path(folder)
         given = [(text, TIMES) for text in texts()] + [(text, TIMES_OF_TABLES) for text in tables()]
         for (name, text, line), times in given:
-            for words in (["check"], ["run"], ["tree"], ["tree", "--dot"], ["turns"], ["races"], ["list"]):
+            for words in (["check"], ["run"], ["tree"], ["tree", "--dot"], ["turns"], ["races"], ["trace"], ["state"], ["list"]):
                 got = result_of(program, words, room, text, times)
                 if got == (b"", f"trade: {line}\n".encode(), 1):
                     passed += 1

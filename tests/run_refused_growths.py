@@ -6,7 +6,7 @@ of a scenario, its tree and its graph, the code of a leaf, and its program as te
 other, the program is run with that growth refused. It then has to write nothing to standard output, to tell
 `trade: host memory refused`, and to end with status 3. With none refused it has to write the text of the example or the case.
 
-Turns take no host memory: each case of a run asks for as many growths where each line of its turns has one turn as where it has all of its own.
+Turns take no host memory: each case of a run, also traced and told at its end, asks for as many growths where each line of its turns has one turn as where it has all of its own.
 
 The crates of component memory are run so by the program `benchmark`: with a growth refused it has to write nothing to standard
 output, to end standard error with a line after `benchmark: `, and to end with status 1.
@@ -31,7 +31,8 @@ EXAMPLES = TOP / "examples"
 CASES = TOP / "tests" / "cases"
 SOME_CASES = "code-run", "check-two-leaves", "check-client-and-server", "check-two-inits-deep", "asm-hello", "asm-code-in-capitals"
 OF_DESIGNERS = "list-every-statement", "list-a-program-given-as-code", "tree-inits", "graph-inits", "tree-version-2", "graph-a-leaf-after-another"
-OF_RUNS = "turns-inits", "turns-version-2", "races-stores-of-a-shared-server"
+OF_RUNS = "turns-inits", "turns-version-2", "races-stores-of-a-shared-server", "trace-an-upgrade-and-a-buffer", "trace-all-inits", "state-in-a-call", "state-version-2"
+OF_TURNS = {"run", "trace", "state"}
 RULES = TOP / "tests" / "tables" / "rule.toml"
 SOURCE = TOP / "tests" / "refuse_growth.c"
 SECONDS = 120
@@ -48,11 +49,14 @@ def built(room):
 
 
 def result_of(program, shared, room, words, given, refused):
-    """What a run writes to both streams, its exit status, and how many growths it asked for."""
-    count = room / "count"
+    """What a run writes to both streams, its exit status, and how many growths it asked for. Its standard input is a file: what a read of a pipe gives, and so
+    how a buffer grows, hangs on when the other end writes."""
+    count, taken = room / "count", room / "given"
     count.write_text("")
+    taken.write_bytes(given)
     settings = dict(os.environ, LD_PRELOAD=str(shared), GROWTH_REFUSED=str(refused), GROWTH_COUNT=str(count))
-    ran = subprocess.run([program, *words], input=given, capture_output=True, timeout=SECONDS, env=settings)
+    with taken.open("rb") as stream:
+        ran = subprocess.run([program, *words], stdin=stream, capture_output=True, timeout=SECONDS, env=settings)
     return (ran.stdout, ran.stderr, ran.returncode), int(count.read_text() or 0)
 
 
@@ -70,7 +74,7 @@ def runs():
     for name in SOME_CASES + OF_DESIGNERS + OF_RUNS:
         case = CASES / name
         command, *more = (case / "command").read_text().split()
-        files = [str(case / "scenario.toml")] + ([str(case / "turns")] if command == "run" else [])
+        files = [str(case / "scenario.toml")] + ([str(case / "turns")] if command in OF_TURNS else [])
         yield name, [command, *files, *more], b"", (case / "stdout").read_bytes()
 
 
@@ -98,9 +102,10 @@ def turns_alone(program, shared, room):
     for scenario, turns in cases + [(example, example.with_suffix(".turns")) for example in sorted(EXAMPLES.glob("*.toml"))]:
         few = room / "few"
         few.write_bytes(turns_of_one(turns.read_bytes()))
-        (_, _, status), growths = result_of(program, shared, room, ["run", str(scenario), str(turns)], b"", 0)
-        if status == 0:
-            yield f"{scenario}, growths", result_of(program, shared, room, ["run", str(scenario), str(few)], b"", 0)[1], growths
+        for word in sorted(OF_TURNS):
+            (_, _, status), growths = result_of(program, shared, room, [word, str(scenario), str(turns)], b"", 0)
+            if status == 0:
+                yield f"{scenario}, growths of {word}", result_of(program, shared, room, [word, str(scenario), str(few)], b"", 0)[1], growths
 
 
 def main(words):

@@ -1,5 +1,5 @@
 -- Inputs that were read, and what is asked of them.
-use Rattle.std.proofs.Common.{◌≡◌, List, ℕ, Option, Ok, Err, Global, option_map, refl, subst}
+use Rattle.std.proofs.Common.{◌≡◌, ◌≢◌, List, ℕ, Option, Result, Ok, Err, OnOk, Global, option_map, refl, subst}
 use Rattle.std.specs.Prelude.{String, string_bytes}
 use Rattle.gq_world.specs.Outcomes.{IsCutShort}
 use Rattle.gq_cli.specs.declared.execute.Fault.{Fault}
@@ -8,12 +8,12 @@ use Rattle.gq_cli.specs.Ends.{Ended, IsKnown}
 use Rattle.gq_command.specs.declared.command.Command.{Command}
 use Rattle.gq_command.specs.declared.command.Command.TheVariants.{OfScenario, OfLeaf, OfTurns, Rule, Version, Stored, Help}
 use Rattle.gq_command.specs.declared.command.TurnsCommand.{TurnsCommand}
-use Rattle.gq_command.specs.declared.command.TurnsCommand.TheVariants.{Run}
+use Rattle.gq_command.specs.declared.command.TurnsCommand.TheVariants.{Run, Trace, TraceAll, State}
 use Rattle.gq_init.specs.declared.counted.Counted.{Counted}
 use Rattle.gq_rule_texts.specs.Rules.{Table}
 use Rattle.gq_command.specs.Stored.{parted}
-use Rattle.gq_cli.specs.Executed.{Asked, Of_scenario, Of_leaf, Of_both, Of_nothing, Executes, IsInput, IsRefusal, IsTold, ReadsBoth, rules_written}
-use Rattle.gq_cli.specs.Executed.{version_written, written_of}
+use Rattle.gq_cli.specs.Executed.{Asked, Of_scenario, Of_leaf, Of_both, Of_nothing, Executes, IsInput, IsRefusal, IsTold, IsUpheldBy, ReadsBoth}
+use Rattle.gq_cli.specs.Executed.{rules_written, version_written, written_of}
 
 module _ (scenario scenario_left turns turns_left : Option (List ℕ)) (asked : List ℕ → List ℕ → Asked) (holds : Asked → Type 0) where
   pub reads_both : (s t s' t' : List ℕ) → IsInput scenario scenario_left s → IsInput turns turns_left t → s' ≡ s → t' ≡ t → holds (asked s' t')
@@ -64,6 +64,25 @@ refused_told A contents old new table command scenario scenario_left turns turns
     (λ asked r. record { line = string_bytes line; refused = r; told = told })
     (subst (λ x. IsKnown {A = A} (Err x) → Executes table command scenario scenario_left turns turns_left (Ended {A = A} (Err x) before after)) e h (tt {0}))
 
--- what is asked of a scenario and turns is their run
-pub is_run : (command : TurnsCommand) → command ≡ Run
-is_run Run = refl
+-- what is asked of a scenario and turns is not their run, so that nothing more is promised
+not_run : (command : TurnsCommand) (scenario turns : List ℕ) (before after : Option (List ℕ)) → command ≢ Run
+    → IsUpheldBy (Of_both command scenario turns) before after
+not_run Run scenario turns before after ne = absurd (ne refl)
+not_run Trace scenario turns before after ne = tt {0}
+not_run TraceAll scenario turns before after ne = tt {0}
+not_run State scenario turns before after ne = tt {0}
+
+pub upheld_otherwise : (scenario scenario_left turns turns_left : Option (List ℕ)) (command : TurnsCommand) (result : Result (Unit {0}) Fault)
+    (before after : Option (List ℕ)) → command ≢ Run
+    → (IsKnown result → ReadsBoth scenario scenario_left turns turns_left (Of_both command) (Ended result before after))
+    → OnOk result (ReadsBoth scenario scenario_left turns turns_left (Of_both command) (λ asked. IsUpheldBy asked before after))
+upheld_otherwise scenario scenario_left turns turns_left command (Ok done) before after ne ended =
+    let r : ReadsBoth scenario scenario_left turns turns_left (Of_both command) (Ended (Ok done) before after) = ended (tt {0}) in
+    record {
+      scenario_text = r.scenario_text;
+      turns_text = r.turns_text;
+      scenario_read = r.scenario_read;
+      turns_read = r.turns_read;
+      so = not_run command r.scenario_text r.turns_text before after ne;
+    }
+upheld_otherwise scenario scenario_left turns turns_left command (Err fault) before after ne ended = tt {0}

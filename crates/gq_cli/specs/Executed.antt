@@ -7,7 +7,7 @@ use Rattle.gq_init.specs.Writes.{IsFront, IsRaised}
 use Rattle.gq_world.specs.Whole.{Written, refused_with, run_written, check_written, asm_written}
 use Rattle.gq_world.specs.Headline.{WritesPromised}
 use Rattle.gq_views.specs.Written.{list_written, tree_written, graph_written}
-use Rattle.gq_traces.specs.Written.{turns_written}
+use Rattle.gq_traces.specs.Written.{state_written, trace_written, turns_written}
 use Rattle.gq_races.specs.Written.{races_written}
 use Rattle.gq_rule_texts.specs.declared.table.Rule.{Rule as RuleText}
 use Rattle.gq_rule_texts.specs.Rules.{Table, lines_of_all, rule_of}
@@ -19,7 +19,7 @@ use Rattle.gq_command.specs.declared.command.ScenarioCommand.TheVariants.{Check,
 use Rattle.gq_command.specs.declared.command.LeafCommand.{LeafCommand}
 use Rattle.gq_command.specs.declared.command.LeafCommand.TheVariants as of_a_leaf
 use Rattle.gq_command.specs.declared.command.TurnsCommand.{TurnsCommand}
-use Rattle.gq_command.specs.declared.command.TurnsCommand.TheVariants.{Run}
+use Rattle.gq_command.specs.declared.command.TurnsCommand.TheVariants.{Run, Trace, TraceAll, State}
 use Rattle.gq_command.specs.declared.status.Status.{Status}
 use Rattle.gq_command.specs.declared.status.Status.TheVariants.{Done, Refused, BadCommandLine, HostMemory, FileFault}
 
@@ -74,6 +74,9 @@ leaf_written of_a_leaf.List scenario leaf = list_written scenario leaf
 -- of it and turns
 abbrev pub both_written : TurnsCommand → List ℕ → List ℕ → Written
 both_written Run scenario turns = run_written scenario turns
+both_written Trace scenario turns = trace_written false scenario turns
+both_written TraceAll scenario turns = trace_written true scenario turns
+both_written State scenario turns = state_written scenario turns
 
 -- the text of a rule, where there is one of that code
 abbrev pub rule_text : List ℕ → Option RuleText → Written

@@ -10,8 +10,8 @@ ghost use Rattle.gq_cli.specs.Ends.{Ended, IsKnown, IsSilent, IsToldAs, LeavesWr
 ghost use Rattle.gq_cli.specs.internal.Running.{RefusesAs};
 ghost use Rattle.gq_cli.specs.Executed.{Executes, IsRefusal, IsTold, IsUpheldBy, ReadsBoth, ReadsScenario, ReadsText, RunsStored};
 ghost use Rattle.gq_cli.specs.Executed.{Of_both, Of_leaf, Of_nothing, Of_scenario};
-ghost use Rattle.gq_cli.specs.Executed.{is_never_refused, leaf_written, reads_scenario, reads_turns, rules_written, scenario_written, status_line};
-ghost use Rattle.gq_cli.specs.Executed.{version_written, written_of};
+ghost use Rattle.gq_cli.specs.Executed.{both_written, is_never_refused, leaf_written, reads_scenario, reads_turns, rules_written};
+ghost use Rattle.gq_cli.specs.Executed.{scenario_written, status_line, version_written, written_of};
 ghost use Rattle.gq_cli.specs.declared.execute.Fault.TheVariants as fault;
 ghost use Rattle.gq_command.specs.declared.command.TurnsCommand.TheVariants.{Run};
 
@@ -23,6 +23,9 @@ use gq_command::stored::parted;
 use gq_init::counted::{Counted, put};
 use gq_races::races::races;
 use gq_rule_texts::{Rule, rule_of, write_rules};
+use gq_traces::state::state;
+use gq_traces::telling::Telling;
+use gq_traces::trace::trace;
 use gq_traces::turns::turns;
 use gq_views::graph::graph;
 use gq_views::list::list;
@@ -74,12 +77,12 @@ impl From<InputError> for Fault {
 /// Does what a command asks for, and tells on `err`, in one line, why it was not done.
 ///
 /// `OfScenario` reads the scenario and writes the budget of each leaf, a tree or a graph; `OfLeaf` reads the scenario and writes the code
-/// of a leaf, or its program as text; `OfTurns` reads the scenario and then the turns, each whole, and runs it; `Stored` reads both from
-/// `scenario`, parted by a line `%%`. `Rule`, `Version` and `Help` read nothing: of a code the text of its rule in `rules` is written,
-/// and without one the line of each rule. All of it goes to `out`. Each reader is asked for 18 MiB and one byte
-/// at most; more, or a read that fails, is a file fault. Nothing goes to `out` where the scenario, the turns or a word are refused, where
-/// host memory is, or where a read failed; after a failed write a front of the text went out. A failed write on `err` changes
-/// nothing.
+/// of a leaf, or its program as text; `OfTurns` reads the scenario and then the turns, each whole, and runs it, or tells what its turns
+/// did, or what its accounts are made of; `Stored` reads both from `scenario`, parted by a line `%%`. `Rule`, `Version` and `Help` read
+/// nothing: of a code the text of its rule in `rules` is written, and without one the line of each rule. All of it goes to `out`. Each
+/// reader is asked for 18 MiB and one byte at most; more, or a read that fails, is a file fault. Nothing goes to `out` where the scenario,
+/// the turns or a word are refused, where host memory is, or where a read failed; after a failed write a front of the text went out. A
+/// failed write on `err` changes nothing.
 pub fn execute<R: Read, T: Read, W: Write, E: Write>(
     alloc: Global,
     rules: &[&[Rule]],
@@ -219,6 +222,65 @@ fn of_turns<R: Read, T: Read, W: Write>(
 {
     match command {
         TurnsCommand::Run => run_files(alloc, scenario, turns, out),
+        _ => of_both(alloc, command, scenario, turns, out),
+    }
+}
+
+// Does what is asked of the scenario that one reader has and the turns that another has, both read whole.
+fn of_both<R: Read, T: Read, W: Write>(
+    alloc: Global,
+    command: TurnsCommand,
+    scenario: &mut R,
+    turns: &mut T,
+    out: &mut Counted<W>,
+) -> Result<(), Fault>
+    requires { command ≢ Run }
+    ensures ended { IsKnown result → ReadsBoth (R.remaining scenario.old) (R.remaining scenario.new) (T.remaining turns.old) (T.remaining turns.new)
+        (Of_both command) (Ended result (written_to W.contents out.old) (written_to W.contents out.new)) }
+    ensures upheld { OnOk result (ReadsBoth (R.remaining scenario.old) (R.remaining scenario.new) (T.remaining turns.old) (T.remaining turns.new)
+        (Of_both command) (λ asked. IsUpheldBy asked (written_to W.contents out.old) (written_to W.contents out.new))) }
+    ensures leaves { LeavesWriter out.old out.new result }
+    ensures scenario_most { GivesAtMost 18874369 (R.remaining scenario.old) (R.remaining scenario.new) }
+    ensures turns_most { GivesAtMost 18874369 (T.remaining turns.old) (T.remaining turns.new) }
+{
+    let scenario = read_input(alloc, scenario)?;
+    let turns = read_input(alloc, turns)?;
+    of_both_texts(alloc, command, scenario.as_slice(), turns.as_slice(), out)
+}
+
+// Does what is asked of a scenario and turns.
+fn of_both_texts<W: Write>(
+    alloc: Global,
+    command: TurnsCommand,
+    scenario: &[u8],
+    turns: &[u8],
+    out: &mut Counted<W>,
+) -> Result<(), Fault>
+    ensures ended { IsKnown result → Ended result (written_to W.contents out.old) (written_to W.contents out.new)
+        (Of_both command scenario.now turns.now) }
+    ensures leaves { LeavesWriter out.old out.new result }
+{
+    match write_both(alloc, command, scenario, turns, out) {
+        Ok(()) => Ok(()),
+        Err(fault) => Err(told(alloc, fault)),
+    }
+}
+
+// Writes what is asked of a scenario and turns.
+fn write_both<W: Write>(
+    alloc: Global,
+    command: TurnsCommand,
+    scenario: &[u8],
+    turns: &[u8],
+    out: &mut Counted<W>,
+) -> Result<(), RunFault<'static>>
+    ensures { WritesAs W.contents (both_written command scenario.now turns.now) out.old out.new result }
+{
+    match command {
+        TurnsCommand::Run => run(alloc, scenario, turns, out),
+        TurnsCommand::Trace => trace(alloc, scenario, turns, Telling::Changes, out),
+        TurnsCommand::TraceAll => trace(alloc, scenario, turns, Telling::All, out),
+        TurnsCommand::State => state(alloc, scenario, turns, out),
     }
 }
 

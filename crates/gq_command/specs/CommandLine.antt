@@ -14,7 +14,7 @@ use Rattle.gq_command.specs.declared.command.ScenarioCommand.TheVariants.{Check,
 use Rattle.gq_command.specs.declared.command.LeafCommand.{LeafCommand}
 use Rattle.gq_command.specs.declared.command.LeafCommand.TheVariants as of_a_leaf
 use Rattle.gq_command.specs.declared.command.TurnsCommand.{TurnsCommand}
-use Rattle.gq_command.specs.declared.command.TurnsCommand.TheVariants.{Run}
+use Rattle.gq_command.specs.declared.command.TurnsCommand.TheVariants.{Run, Trace, TraceAll, State}
 use Rattle.gq_command.specs.declared.command.CommandError.{CommandError}
 use Rattle.gq_command.specs.declared.command.CommandError.TheVariants.{Memory, Usage}
 
@@ -54,6 +54,8 @@ commands =
     ∷ with_rule (of_scenario (codes "tree")) (option_rule (codes "dot"))
     ∷ of_scenario (codes "turns")
     ∷ of_scenario (codes "races")
+    ∷ with_rule (of_turns (codes "trace")) (option_rule (codes "all"))
+    ∷ of_turns (codes "state")
     ∷ of_code (codes "rule")
     ∷ []
 
@@ -97,8 +99,12 @@ leaf_command name =
     else if bytes_eq name (codes "list") then Some of_a_leaf.List
     else None
 
-abbrev pub turns_command : Text → Option TurnsCommand
-turns_command name = if bytes_eq name (codes "run") then Some Run else None
+abbrev pub turns_command : Text → List Row → Option TurnsCommand
+turns_command name rows =
+    if bytes_eq name (codes "run") then Some Run
+    else if bytes_eq name (codes "trace") then Some (if is_given (codes "all") rows then TraceAll else Trace)
+    else if bytes_eq name (codes "state") then Some State
+    else None
 
 -- the command that this name has among those on a scenario alone, else among those on a leaf, else among those on turns
 abbrev pub wanted_with : Text → List Row → Option ScenarioCommand → Option LeafCommand → Option TurnsCommand → Option Wanted
@@ -110,7 +116,7 @@ wanted_with scenario rows None None None = None
 abbrev pub wanted_of : Text → List Row → Option Wanted
 wanted_of name rows =
     if bytes_eq name (codes "rule") then Some (Rule_wanted (first_of (codes "CODE") rows))
-    else option_and_then (λ scenario. wanted_with scenario rows (scenario_command name rows) (leaf_command name) (turns_command name))
+    else option_and_then (λ scenario. wanted_with scenario rows (scenario_command name rows) (leaf_command name) (turns_command name rows))
     (first_of (codes "SCENARIO") rows)
 
 abbrev pub wanted_in : Option (Text × List Row) → Option Wanted

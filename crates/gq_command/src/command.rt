@@ -36,6 +36,12 @@ pub enum LeafCommand {
 pub enum TurnsCommand {
     /// To run it over them.
     Run,
+    /// To write what each turn did, where that is more than a change of registers or bytes.
+    Trace,
+    /// To write what each turn did.
+    TraceAll,
+    /// To write what the accounts are made of after the last turn.
+    State,
 }
 
 /// What the words of a command line ask for.

@@ -14,9 +14,9 @@ use clap::error::ErrorKind;
 use std::alloc::{AllocError, Global};
 
 /// The command that the words after the program's name ask for: none of them is `Stored`; `check` and `tree` with a path are
-/// `OfScenario`, `asm` and `list` with a path and a name `OfLeaf`, and `run` with two paths is `OfTurns`; `rule` is `Rule` with the code
-/// after it, if any; `--version` and `-V` are `Version`, and `help`, `--help` and `-h` are `Help` with the text to show. Of options,
-/// `tree` has `--dot`, before or after its path.
+/// `OfScenario`, `asm` and `list` with a path and a name `OfLeaf`, and `run`, `trace` and `state` with two paths are `OfTurns`; `rule` is
+/// `Rule` with the code after it, if any; `--version` and `-V` are `Version`, and `help`, `--help` and `-h` are `Help` with the text to
+/// show. Of options, `tree` has `--dot` and `trace` has `--all`, before or after the paths.
 ///
 /// Other words are `Usage`; `Memory` is the host's refusal, which can meet any words but none.
 pub fn command<'a>(alloc: Global, words: &'a [&'a str]) -> Result<Command, CommandError>
@@ -75,7 +75,7 @@ fn wanted_of<'a>(name: &str, found: &ArgMatches<'a>) -> Option<Wanted<'a>>
         let leaf = first_named(found, "LEAF")?;
         return Some(Wanted::OfLeaf(command, scenario, leaf));
     }
-    let command = turns_command(name)?;
+    let command = turns_command(name, found)?;
     let turns = first_named(found, "TURNS")?;
     Some(Wanted::OfTurns(command, scenario, turns))
 }
@@ -106,11 +106,14 @@ fn leaf_command(name: &str) -> Option<LeafCommand>
 }
 
 // The command of this name, if it is one on turns.
-fn turns_command(name: &str) -> Option<TurnsCommand>
-    ensures { result ≡ words.turns_command name.now }
+fn turns_command(name: &str, found: &ArgMatches<'_>) -> Option<TurnsCommand>
+    ensures { result ≡ words.turns_command name.now (rows_of (found_of found.now)) }
 {
     match name {
         "run" => Some(TurnsCommand::Run),
+        "trace" if is_given(found, "all") => Some(TurnsCommand::TraceAll),
+        "trace" => Some(TurnsCommand::Trace),
+        "state" => Some(TurnsCommand::State),
         _ => None,
     }
 }

@@ -98,6 +98,25 @@ const RACES: Entry<'static> = Entry {
     usage: "trade races <SCENARIO>",
 };
 
+const TRACE: Entry<'static> = Entry {
+    name: "trace",
+    takes: Takes::Turns,
+    flag: Some(Flag {
+        name: "all",
+        help: "Print steps on registers and bytes, too",
+    }),
+    about: "Print what each turn of a run did: lines, accounts and sessions that changed",
+    usage: "trade trace [--all] <SCENARIO> <TURNS>",
+};
+
+const STATE: Entry<'static> = Entry {
+    name: "state",
+    takes: Takes::Turns,
+    flag: None,
+    about: "Print what each account is made of after the last turn of a run",
+    usage: "trade state <SCENARIO> <TURNS>",
+};
+
 const RULE: Entry<'static> = Entry {
     name: "rule",
     takes: Takes::Code,
@@ -107,7 +126,9 @@ const RULE: Entry<'static> = Entry {
 };
 
 // All commands.
-const ENTRIES: [Entry<'static>; 8] = [CHECK, RUN, ASM, LIST, TREE, TURNS, RACES, RULE];
+const ENTRIES: [Entry<'static>; 10] = [
+    CHECK, RUN, ASM, LIST, TREE, TURNS, RACES, TRACE, STATE, RULE,
+];
 
 const ABOUT: &str = "Runs components that trade memory and capabilities under quotas";
 
@@ -130,6 +151,7 @@ Examples:
   trade check hello.toml
   trade run hello.toml hello.turns
   trade turns hello.toml > hello.turns
+  trade trace hello.toml hello.turns
   trade list hello.toml hello
   trade tree --dot hello.toml | dot -Tsvg > hello.svg";
 

@@ -25,4 +25,5 @@ pub mod Provided
 pub mod Resting
 pub mod Same
 pub mod Saying
+pub mod Requested
 pub mod Several

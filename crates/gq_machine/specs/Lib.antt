@@ -6,3 +6,4 @@ pub mod Countable
 pub mod Events
 pub mod Shows
 pub mod State_bursts
+pub mod Readers

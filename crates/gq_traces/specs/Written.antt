@@ -1,9 +1,39 @@
 -- What the commands of this crate write for a scenario's text.
-use Rattle.std.specs.Prelude.{ℕ, List, Ok}
+use Rattle.std.specs.Prelude.{ℕ, Bool, true, false, List, Ok, Err}
+use Rattle.gq_model.specs.machine.Scenario.{Scenario, components}
+use Rattle.gq_model.specs.texts.Turns.{Turned, turned}
 use Rattle.gq_load.specs.Load.{loaded}
-use Rattle.gq_world.specs.Whole.{Written, with_scenario}
+use Rattle.gq_world.specs.Whole.{Written, refused_with, turn_fault_text, with_scenario}
 use Rattle.gq_traces.specs.Schedule.{schedule_text}
+use Rattle.gq_traces.specs.State.{state_text}
+use Rattle.gq_traces.specs.Trace.{trace_text}
+use Rattle.gq_traces.specs.declared.telling.Telling.{Telling}
+use Rattle.gq_traces.specs.declared.telling.Telling.TheVariants.{Changes, All}
 
 -- the turns that bring all work of an accepted scenario to rest
 abbrev pub turns_written : List ℕ → Written
 turns_written scenario = with_scenario (loaded scenario) (λ s. Ok (schedule_text s))
+
+-- goes on with the turns of a text, or tells its first fault
+abbrev pub with_turns : Turned → (List (ℕ × ℕ) → List ℕ) → Written
+with_turns (Ok turns) text = Ok (text turns)
+with_turns (Err fault) text = Err (refused_with (turn_fault_text fault.0 fault.1))
+
+-- all steps are told
+abbrev pub tells_all : Telling → Bool
+tells_all Changes = false
+tells_all All = true
+
+-- what each turn of a run did
+abbrev pub trace_from : Bool → Scenario → List ℕ → Written
+trace_from all s turns = with_turns (turned (components s) turns) (trace_text all s)
+
+abbrev pub trace_written : Bool → List ℕ → List ℕ → Written
+trace_written all scenario turns = with_scenario (loaded scenario) (λ s. trace_from all s turns)
+
+-- each account after the last turn of a run, and what it is made of
+abbrev pub state_from : Scenario → List ℕ → Written
+state_from s turns = with_turns (turned (components s) turns) (state_text s)
+
+abbrev pub state_written : List ℕ → List ℕ → Written
+state_written scenario turns = with_scenario (loaded scenario) (λ s. state_from s turns)

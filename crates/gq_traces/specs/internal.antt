@@ -1,1 +1,6 @@
 pub mod Takes
+pub mod Flat
+pub mod Noted
+pub mod Telling
+pub mod Items
+pub mod Follows

@@ -1,17 +1,39 @@
-//! What a designer asks of runs: a list of turns that brings all work to rest.
+//! What a designer asks of runs: a list of turns that brings all work to rest, what each turn of a run did, and what accounts are made of after it.
 //!
 //! ```rust
+//! use gq_traces::state::state;
+//! use gq_traces::telling::Telling;
+//! use gq_traces::trace::trace;
 //! use gq_traces::turns::turns;
 //! use gq_world::Counted;
 //!
 //! let mut out = Counted::new(writer);
 //! // The turns that leaves take in rounds, until none can take one.
 //! turns(alloc, scenario, &mut out)?;
+//! // The steps of a run that change something beside registers and bytes.
+//! trace(alloc, scenario, b"hello 2\n", Telling::Changes, &mut out)?;
+//! // What each account is made of after the last turn.
+//! state(alloc, scenario, b"hello 2\n", &mut out)?;
 //! ```
 //!
-//! It writes the text of its definition (`specs/Written`) and nothing else, and refuses what `check` refuses.
+//! Each of these writes the text of its definition (`specs/Written`) and nothing else, and refuses what `check` and `run` refuse.
+//!
+//! `numbered` has the statements of a program with their numbers, `tracker` where each leaf stands among them; `noted` has what is noted of a world, and
+//! `sessions` what of a session; `steps` tells a step, by `telling`. `state` tells accounts, by `items`, after turns that `follow` takes.
 #![tactic(auto)]
 
+mod follow;
+mod items;
 pub mod laws;
+mod noted;
+mod numbered;
 mod schedule;
+mod sessions;
+pub mod state;
+pub mod state_laws;
+mod steps;
+pub mod telling;
+pub mod trace;
+mod tracker;
 pub mod turns;
+mod words;

@@ -6,12 +6,17 @@ use Rattle.gq_model.specs.machine.Accounts.{whole}
 use Rattle.gq_model.specs.rules.Accept.{budgets, step_budgets, IsAccepted}
 use Rattle.gq_model.specs.Promises.{IsUpheld, Upholds}
 use Rattle.gq_model.specs.texts.Turns.{turned}
+use Rattle.gq_laws.specs.Stands.{Stands}
 use Rattle.gq_load.specs.Load.{loaded}
 use Rattle.gq_world.specs.Worlds as worlds
 
 -- the same of a world of the code, where only that it holds is said
 abbrev pub Upheld : worlds.World → Type 0
 Upheld w = ∥ IsUpheld w.scenario w.world ∥₁
+
+-- that it is one of those from which all that is promised follows
+abbrev pub Standing : worlds.World → Type 0
+Standing w = ∥ Stands w.scenario w.world ∥₁
 
 -- whatever the turns, a run of it upholds what is promised
 abbrev pub Upholding : Scenario → Type 0

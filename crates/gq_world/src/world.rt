@@ -12,7 +12,7 @@ ghost use Rattle.gq_resolve.specs.NodeTables.{IsNodeOf, node_rows};
 ghost use Rattle.gq_laws.specs.Stands.{Stands};
 ghost use Rattle.gq_prepared.specs.Held.{held_by_all};
 ghost use Rattle.gq_init.specs.Counts.{Writes, written_to, failures_of};
-ghost use Rattle.gq_world.specs.Headline.{Upheld};
+ghost use Rattle.gq_world.specs.Headline.{Standing, Upheld};
 ghost use Rattle.gq_init.specs.Told.{told_of};
 ghost use Rattle.gq_world.specs.Lines.{all_accounts, accounts_text};
 ghost use Rattle.gq_machine.specs.Events.{event_of};
@@ -108,6 +108,14 @@ impl World {
         ensures { result.now ≡ self.now.scenario }
     {
         self.machine.table()
+    }
+
+    /// The machine that it is: what stands between two steps.
+    pub fn machine(&self) -> &Machine
+        ensures is { result.now ≡ record { scenario = self.now.scenario; world = self.now.world } }
+        ensures stands { Standing self.now }
+    {
+        &self.machine
     }
 
     /// The number of nodes, the root among them.

@@ -1,0 +1,75 @@
+-- What is read of a machine's world, as its readers tell it.
+use Rattle.std.specs.Prelude.{◌≡◌, ℕ, suc, ◌<◌, ◌≤◌, ◌==◌, if◌then◌else◌, is_some, IsTrue, List, [], ◌∷◌, Option, Some, None, get_or, length}
+use Rattle.gq_model.specs.declared.program.Section.{Section}
+use Rattle.gq_model.specs.machine.Scenario.{components}
+use Rattle.gq_model.specs.machine.Step.{section_for}
+use Rattle.gq_model.specs.machine.World as world
+use Rattle.gq_trade.specs.declared.session.Spot.{Spot}
+use Rattle.gq_trade.specs.declared.session.Spot.TheVariants.{InLeaf, InSession, InObject}
+use Rattle.gq_prepared.specs.Prepared.{names_of}
+use Rattle.gq_machine.specs.Machines.{Machine}
+use Rattle.gq_machine.specs.declared.told.Asked.{Asked}
+use Rattle.gq_machine.specs.declared.told.Holding.{Holding}
+use Rattle.gq_machine.specs.declared.told.Holding.TheVariants as holding
+use Rattle.gq_machine.specs.declared.told.SessionState.{SessionState}
+
+-- REQUESTS
+
+-- the level at which a session of this level is once a request of it is taken
+abbrev pub level_then : world.Ask → ℕ → ℕ
+level_then world.Ask_open level = level
+level_then world.Ask_upgrade level = suc level
+level_then world.Ask_close level = level
+level_then (world.Ask_call value) level = level
+
+abbrev pub level_in : Option world.Session → ℕ
+level_in None = 0
+level_in (Some s) = s.level
+
+-- the section that a request starts
+abbrev pub requested : world.World → world.Request → Section
+requested w r = section_for r.ask (level_then r.ask (level_in (world.session_at w r.session)))
+
+-- a request, as it is told
+abbrev pub asked_in : world.World → world.Request → Asked
+asked_in w r = record { session = r.session; section = requested w r }
+
+-- the first request of a session among these
+abbrev pub request_of : ℕ → List world.Request → Option world.Request
+request_of k [] = None
+request_of k (r ∷ rest) = if r.session == k then Some r else request_of k rest
+
+-- SESSIONS
+
+-- it tells of the k-th session, which is there; of its service by the number of its interface
+pub record IsToldOf (m : Machine) (k : ℕ) (told : SessionState) : Type 0 where
+  pub session : world.Session
+  pub there : world.session_at m.world k ≡ Some session
+  pub client : told.client ≡ session.client
+  pub server : told.server ≡ session.server
+  pub service : get_or (names_of m.scenario) told.service [] ≡ session.service
+  pub level : told.level ≡ session.level
+  pub donation : told.donation ≡ record { ram = session.donation.ram; caps = session.donation.caps }
+  pub accepted : told.accepted ≡ session.accepted
+  -- client and server are leaves, and the service is one of those that there are
+  pub client_there : told.client < length (components m.scenario)
+  pub server_there : told.server < length (components m.scenario)
+  pub service_there : told.service < length m.scenario.interfaces
+  -- a level has one figure
+  pub level_low : told.level ≤ 3
+
+-- SLOTS
+
+-- it is a slot of a leaf, or one of a session that is there
+abbrev pub HasSpot : Machine → Spot → Type 0
+HasSpot m (InLeaf x i) = (x < length (components m.scenario)) × (i < 64)
+HasSpot m (InSession k i) = IsTrue (is_some (world.session_at m.world k)) × (i < 8)
+HasSpot m (InObject k) = IsTrue (is_some (world.session_at m.world k))
+
+-- what a slot holds, without its bytes; a link and a mark that a reply is awaited name their session
+abbrev pub holding_of : world.Slot → Holding
+holding_of world.Empty = holding.Nothing
+holding_of (world.Bytes form n bytes) = holding.Bytes form n
+holding_of (world.Pool n entries) = holding.Pool n (length entries)
+holding_of (world.Link k) = holding.Session k
+holding_of (world.Waiting k) = holding.Session k

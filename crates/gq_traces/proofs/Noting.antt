@@ -1,0 +1,134 @@
+-- Accounts and sessions that are noted anew.
+use Rattle.std.proofs.Common.{◌≡◌, ◌∙◌, ◌<◌, ◌≤◌, ◌+◌, ℕ, zero, suc, List, [], ◌∷◌, ◌++◌, length, map, take, get_or, Option, Some, None, IfSome, refl, ap}
+use Rattle.std.proofs.Common.{sym, subst}
+use Rattle.std.proofs.Common.{arith, drop, option_map, inl, inr, ◌⊎◌}
+use Rattle.std.specs.Prelude.{slice_get, slice_set}
+use Rattle.std.proofs.lemmas.Bool.Decides.{eqb_tells}
+use Rattle.std.proofs.lemmas.List.{take_all}
+use Rattle.gq_model.specs.machine.Accounts.{Account, accounts}
+use Rattle.gq_model.specs.machine.Scenario.{Scenario}
+use Rattle.gq_model.specs.machine.World as model
+use Rattle.gq_model.proofs.Small.{none_some}
+use Rattle.gq_init.specs.Told.{Told, told_of}
+use Rattle.gq_world.specs.Lines.{accounts_by, all_accounts}
+use Rattle.gq_world.specs.Worlds.{World}
+use Rattle.gq_traces.specs.Trace.{standing_of, told_in, told_session}
+use Rattle.gq_traces.specs.declared.noted.Notes.{Notes}
+use Rattle.gq_traces.specs.declared.sessions.ToldSession.{ToldSession}
+use Rattle.gq_traces.specs.internal.Noted.{AreNoted, IsTold, seen_session, standing_in}
+
+pub get_set_same : {A : Type 0} (xs : List A) (k : ℕ) (y d : A) → k < length xs → get_or (slice_set xs k y) k d ≡ y
+get_set_same [] k y d less = absurd (omega (arith, less))
+get_set_same (x ∷ xs) zero y d less = refl
+get_set_same (x ∷ xs) (suc k) y d less = get_set_same xs k y d (omega (arith, less))
+
+pub get_set_other : {A : Type 0} (xs : List A) (k j : ℕ) (y d : A) → (j ≡ k → ⊥) → get_or (slice_set xs k y) j d ≡ get_or xs j d
+get_set_other [] k j y d other = refl
+get_set_other (x ∷ xs) zero zero y d other = absurd (other refl)
+get_set_other (x ∷ xs) zero (suc j) y d other = refl
+get_set_other (x ∷ xs) (suc k) zero y d other = refl
+get_set_other (x ∷ xs) (suc k) (suc j) y d other = get_set_other xs k j y d (λ e. other (ap suc e))
+
+pub none_more : {A : Type 0} (xs : List (Option A)) → ((k : ℕ) → get_or xs k None ≡ None) → (k : ℕ) → get_or (xs ++ None ∷ []) k None ≡ None
+none_more [] h zero = refl
+none_more [] h (suc k) = refl
+none_more (x ∷ xs) h zero = h 0
+none_more (x ∷ xs) h (suc k) = none_more xs (λ j. h (suc j)) k
+
+-- an account more is noted
+pub accounts_more : (xs : List Told) (all : List Account) (n k : ℕ) (y : Told) → k ≡ n → n < length xs → n < length all
+    → IfSome (slice_get all n) (λ a. y ≡ told_of a) → map standing_in (take n xs) ≡ map standing_of (take n all)
+    → map standing_in (take (n + 1) (slice_set xs k y)) ≡ map standing_of (take (n + 1) all)
+accounts_more xs all n k y at less fewer told so_far =
+    subst (λ j. map standing_in (take (n + 1) (slice_set xs j y)) ≡ map standing_of (take (n + 1) all)) (sym at)
+    (let one : n + 1 ≡ suc n = omega arith in
+    subst (λ m. map standing_in (take m (slice_set xs n y)) ≡ map standing_of (take m all)) (sym one) (by xs all n less fewer told so_far))
+  where
+    by : (xs : List Told) (all : List Account) (n : ℕ) → n < length xs → n < length all → IfSome (slice_get all n) (λ a. y ≡ told_of a)
+        → map standing_in (take n xs) ≡ map standing_of (take n all) → map standing_in (take (suc n) (slice_set xs n y)) ≡ map standing_of (take (suc n) all)
+    by [] all n less fewer told so_far = absurd (omega (arith, less))
+    by (x ∷ xs) [] n less fewer told so_far = absurd (omega (arith, fewer))
+    by (x ∷ xs) (a ∷ all) zero less fewer told so_far = ap (λ z. standing_in z ∷ []) told
+    by (x ∷ xs) (a ∷ all) (suc n) less fewer told so_far =
+        λ i. first so_far i ∷ by xs all n (omega (arith, less)) (omega (arith, fewer)) told (rest so_far) i
+      where
+        first : standing_in x ∷ map standing_in (take n xs) ≡ standing_of a ∷ map standing_of (take n all) → standing_in x ≡ standing_of a
+        first e = ap (λ l. get_or l 0 (standing_in x)) e
+
+        rest : standing_in x ∷ map standing_in (take n xs) ≡ standing_of a ∷ map standing_of (take n all)
+            → map standing_in (take n xs) ≡ map standing_of (take n all)
+        rest e = ap (drop 1) e
+
+pub accounts_all : (xs : List Told) (all : List Account) (n : ℕ) → length xs ≡ length all → length all ≤ n
+    → map standing_in (take n xs) ≡ map standing_of (take n all) → map standing_in xs ≡ map standing_of all
+accounts_all xs all n same few h =
+    ap (map standing_in) (sym (take_all n xs (omega (arith, same, few)))) ∙ h ∙ ap (map standing_of) (take_all n all few)
+
+pub length_set : {A : Type 0} (xs : List A) (k : ℕ) (y : A) → length (slice_set xs k y) ≡ length xs
+length_set [] k y = refl
+length_set (x ∷ xs) zero y = refl
+length_set (x ∷ xs) (suc k) y = ap suc (length_set xs k y)
+
+-- a session more is noted
+pub told_more : (s : Scenario) (w : model.World) (xs : List (Option ToldSession)) (n : ℕ) (y : Option ToldSession) → n < length xs → IsTold s w n y
+    → ((k : ℕ) → k < n → IsTold s w k (get_or xs k None)) → (k : ℕ) → k < n + 1 → IsTold s w k (get_or (slice_set xs n y) k None)
+told_more s w xs n y less told so_far k below = elim (eqb_tells k n) [
+  | inl t ↦ subst (λ j. IsTold s w j (get_or (slice_set xs n y) j None)) (sym t.1) (subst (IsTold s w n) (sym (get_set_same xs n y None less)) told)
+  | inr o ↦ (let other = o.1 in subst (IsTold s w k) (sym (get_set_other xs n k y None other)) (so_far k (below_other k n below other)))
+]
+  where
+    below_other : (k n : ℕ) → k < n + 1 → (k ≡ n → ⊥) → k < n
+    below_other k n less other = grind (arith, less, other)
+
+pub others_more : (xs old : List (Option ToldSession)) (n : ℕ) (y : Option ToldSession)
+    → ((k : ℕ) → n ≤ k → get_or xs k None ≡ get_or old k None) → (k : ℕ) → n + 1 ≤ k → get_or (slice_set xs n y) k None ≡ get_or old k None
+others_more xs old n y h k above =
+    get_set_other xs n k y None (λ e. omega (arith, above, e)) ∙ h k (omega (arith, above))
+
+-- WHAT IS NOTED THEN
+
+none_told : (w : model.World) (k : ℕ) → length w.sessions ≤ k → told_session w k ≡ None
+none_told w k few = ap (λ o. told_in w k (model.joined o)) (past w.sessions k few)
+  where
+    past : {A : Type 0} (xs : List A) (k : ℕ) → length xs ≤ k → slice_get xs k ≡ None
+    past [] k few = refl
+    past (x ∷ xs) zero few = absurd (omega (arith, few))
+    past (x ∷ xs) (suc k) few = past xs k (omega (arith, few))
+
+pub noted_all : (w : World) (old new : Notes) (count most : ℕ) → count ≡ length w.world.sessions → count ≤ most → old.count ≤ most → most ≤ 16449
+    → ((k : ℕ) → old.count ≤ k → get_or old.sessions.items k None ≡ None)
+    → ((k : ℕ) → k < most → IsTold w.scenario w.world k (get_or new.sessions.items k None))
+    → ((k : ℕ) → most ≤ k → get_or new.sessions.items k None ≡ get_or old.sessions.items k None)
+    → length new.sessions.items ≡ 16449 → new.count ≡ count → map standing_in new.accounts.items ≡ map standing_of (all_accounts w)
+    → AreNoted w.scenario w.world new
+unfolding all_accounts accounts_by
+noted_all w old new count most is less few room none told others long now accounts = record {
+  accounts = accounts;
+  sessions = λ k below. elim (le_or_lt most k) [
+    | inl over ↦ subst (IsTold w.scenario w.world k) (sym (nothing k over)) (record {
+      is = sym (none_told w.world k (omega (arith, over, less, is)));
+      known = tt;
+    })
+    | inr under ↦ told k under
+  ];
+  room = long;
+  count = now ∙ is;
+  few = omega (arith, now, less, room);
+  beyond = λ k over. elim (le_or_lt most k) [
+    | inl above ↦ nothing k above
+    | inr under ↦ by_told k under (omega (arith, over, now, is))
+  ];
+}
+  where
+    nothing : (k : ℕ) → most ≤ k → get_or new.sessions.items k None ≡ None
+    nothing k over = others k over ∙ none k (omega (arith, over, few))
+
+    le_or_lt : (m k : ℕ) → (m ≤ k) ⊎ (k < m)
+    le_or_lt m k = grind arith
+
+    none_seen : (t : Option ToldSession) → option_map (seen_session w.scenario) t ≡ None → t ≡ None
+    none_seen None e = refl
+    none_seen (Some t) e = absurd (none_some (sym e))
+
+    by_told : (k : ℕ) → k < most → length w.world.sessions ≤ k → get_or new.sessions.items k None ≡ None
+    by_told k under over = none_seen (get_or new.sessions.items k None) ((told k under).is ∙ none_told w.world k over)

@@ -1,0 +1,146 @@
+-- A trace, from bytes to bytes.
+use Rattle.std.proofs.Common.{◌≡◌, ◌∙◌, ◌+◌, ℕ, Bool, true, false, List, [], ◌++◌, arith, Option, Result, Ok, Err, codes, decimal, refl, ap, sym, subst}
+use Rattle.std.proofs.Common.{append_assoc, append-nil}
+use Rattle.std.specs.Io.KnownBytes.{Appends}
+use Rattle.gq_init.specs.Counts.{Writes, written_to}
+use Rattle.gq_init.specs.declared.counted.Counted.{Counted}
+use Rattle.gq_init.proofs.Known.{appends_both, appends_nothing}
+use Rattle.gq_model.specs.machine.Accounts.{account_lines, accounts}
+use Rattle.gq_model.specs.machine.Scenario.{Scenario, components, system}
+use Rattle.gq_model.specs.texts.Turns.{Turned, turned}
+use Rattle.gq_model.specs.rules.Accept.{Budget, budgets, step_budgets}
+use Rattle.gq_machine.specs.Machines.{Machine}
+use Rattle.gq_load.specs.Load.{Fault, loaded}
+use Rattle.gq_load.specs.Faults.{Refuses, load_fault_text}
+use Rattle.gq_load.specs.declared.fault.LoadFault.{LoadFault}
+use Rattle.gq_load.specs.declared.fault.LoadError.TheVariants as error
+use Rattle.gq_world.specs.Lines.{accounts_by}
+use Rattle.gq_world.specs.Outcomes.{GivesOf, IsFaultOf, WritesAs}
+use Rattle.gq_world.specs.Whole.{Written, refused_with, with_scenario}
+use Rattle.gq_world.specs.Worlds.{World}
+use Rattle.gq_world.specs.declared.fault.RunFault.{RunFault}
+use Rattle.gq_world.specs.declared.fault.RunFault.TheVariants as fault
+use Rattle.gq_world.proofs.Commands.{cut_short, nothing_written, since}
+use Rattle.gq_world.proofs.Fronts.{front_after}
+use Rattle.gq_traces.specs.Trace.{Traced, after_all, all_text, start_traced, trace_text}
+use Rattle.gq_traces.specs.Written.{trace_from, trace_written, with_turns}
+use Rattle.gq_traces.specs.declared.trace.Tracing.{Tracing}
+use Rattle.gq_traces.specs.internal.Telling.{Goes, IsOn, IsTurnsFault, TellsTurns, budgets_of, turns_in}
+use Rattle.gq_traces.proofs.Going.{goes_both}
+
+-- the line of the end
+abbrev pub end_line : ℕ → List ℕ
+end_line n = codes "end after " ++ decimal n ++ codes " turns\n"
+
+-- the lines of the accounts, as they are written
+abbrev pub lines_by : Machine → List ℕ → List ℕ
+lines_by m b = account_lines m.scenario.version (accounts_by m.scenario m.world b)
+
+module _ (all : Bool) (s : Scenario) (turns : List (ℕ × ℕ)) where
+  abbrev pub first : Traced
+  first = start_traced (system s)
+
+  abbrev pub last : Traced
+  last = after_all (system s) turns first
+
+  -- the lines of the accounts, by the machine and the budgets that were read
+  lines_are : (w : World) (m : Machine) (b : List Budget) → w.scenario ≡ s → last.world ≡ w.world → m ≡ record { scenario = w.scenario; world = w.world }
+      → b ≡ budgets w.scenario → lines_by m (step_budgets b) ≡ account_lines s.version (accounts s last.world (budgets_of s))
+  unfolding accounts_by
+  lines_are w m b same at is by =
+      ap (λ (z : Machine). account_lines z.scenario.version (accounts z.scenario z.world (step_budgets b))) is
+      ∙ ap (λ (z : List Budget). account_lines w.scenario.version (accounts w.scenario w.world (step_budgets z))) by
+      ∙ ap (λ (z : Scenario). account_lines z.version (accounts z w.world (step_budgets (budgets z)))) same
+      ∙ ap (λ v. account_lines s.version (accounts s v (budgets_of s))) (sym at)
+
+  -- the whole text, by them
+  pub whole_is : (n : ℕ) (lines : List ℕ) → last.turns ≡ n → lines ≡ account_lines s.version (accounts s last.world (budgets_of s))
+      → (all_text all s (budgets_of s) turns first ++ end_line n) ++ lines ≡ trace_text all s turns
+  whole_is n lines count are =
+      let told = all_text all s (budgets_of s) turns first in
+      append_assoc told (end_line n) lines
+      ∙ ap (λ l. told ++ (end_line n ++ l)) are
+      ∙ ap (λ m. told ++ (end_line m ++ account_lines s.version (accounts s last.world (budgets_of s)))) (sym count)
+
+  module _ {W : Type 0} (contents : W → Option (List ℕ)) (old : World) (new : World) (before after : Tracing) (a b c : Counted W) (was now : Bool) (n : ℕ)
+      (scenario : old.scenario ≡ s) (on : IsOn before.programs.items before.aheads.items old 0 first) (count : n ≡ turns_in turns)
+      (told : TellsTurns contents (all_text all s (budgets_of s) turns) (after_all (system s) turns) 0 (turns_in turns) old new before after a b true was)
+      (ended : Goes contents b c was now (end_line n)) where
+    goes : Goes contents a c true now (all_text all s (budgets_of s) turns first ++ end_line n)
+    goes = goes_both contents a b c true was now (all_text all s (budgets_of s) turns first) (end_line n) (told.written first on) ended
+
+    on_then : IsOn after.programs.items after.aheads.items new (0 + turns_in turns) last
+    on_then = told.on first on
+
+    -- the whole, by the lines of the accounts
+    pub then : (m : Machine) (d : List Budget) → m ≡ record { scenario = new.scenario; world = new.world } → d ≡ budgets new.scenario
+        → (all_text all s (budgets_of s) turns first ++ end_line n) ++ lines_by m (step_budgets d) ≡ trace_text all s turns
+    then m d is by =
+        let at = on_then.count in
+        let number : last.turns ≡ n = omega (arith, at, count) in
+        whole_is n (lines_by m (step_budgets d)) number (lines_are new m d (told.scenario ∙ scenario) on_then.world is by)
+
+    -- a write failed before the accounts
+    pub failed : {A : Type 0} → now ≡ false → WritesAs {A = A} contents (Ok (trace_text all s turns)) a c (Err fault.Write)
+    failed {A = A} stopped =
+        let rest = account_lines s.version (accounts s last.world (budgets_of s)) in
+        let at = on_then.count in
+        let number : last.turns ≡ n = omega (arith, at, count) in
+        let text = all_text all s (budgets_of s) turns first ++ end_line n in
+        cut_short {A = ⊥} contents (Ok (trace_text all s turns)) (trace_text all s turns) refl a c (Err fault.Write) fault.Write refl
+        (record {
+          written = tt;
+          counted = tt;
+          front = front_after (written_to contents a) (written_to contents a) (written_to contents c) [] text rest (trace_text all s turns)
+              (appends_nothing (written_to contents a)) (goes.front refl stopped) (sym (whole_is n rest number refl));
+          raised = goes.raised refl stopped;
+        })
+
+    -- the accounts were written after it, or a front of them
+    pub since_then : {A E : Type 0} (e : Counted W) (m : Machine) (d : List Budget) (r : Result A E) → now ≡ true
+        → m ≡ record { scenario = new.scenario; world = new.world } → d ≡ budgets new.scenario → Writes contents c e (lines_by m (step_budgets d)) r
+        → Writes contents a e (trace_text all s turns) r
+    since_then e m d r going is by h =
+        let text = all_text all s (budgets_of s) turns first ++ end_line n in
+        let lines = lines_by m (step_budgets d) in
+        since contents a c e lines (trace_text all s turns) r (goes.counted going)
+        (λ more. subst (Appends (written_to contents a) (written_to contents e)) (then m d is by)
+        (appends_both (written_to contents a) (written_to contents c) (written_to contents e) text lines (goes.written going) more))
+        (λ front. front_after (written_to contents a) (written_to contents c) (written_to contents e) text lines [] (trace_text all s turns) (goes.written
+        going) front
+        (sym (then m d is by) ∙ ap (λ l. text ++ l) (sym (append-nil lines)))) h
+
+-- TEXTS
+
+-- turns that are not read
+pub turns_refused : {W A : Type 0} (contents : W → Option (List ℕ)) (all : Bool) (s : Scenario) (text : List ℕ) (f : RunFault) (out : Counted W)
+    → IsTurnsFault f (turned (components s) text) → WritesAs {A = A} contents (trace_from all s text) out out (Err f)
+turns_refused contents all s text (fault.Load f) out h = absurd h
+turns_refused contents all s text (fault.NoComponent name) out h = absurd h
+turns_refused contents all s text (fault.Turns f line) out h =
+    nothing_written contents (trace_from all s text) out (fault.Turns f line) tt (ap (λ (t : Turned). with_turns t (trace_text all s)) h)
+turns_refused contents all s text fault.Memory out h = nothing_written contents (trace_from all s text) out fault.Memory tt tt
+turns_refused contents all s text fault.Write out h = absurd h
+
+-- turns that are read
+pub turns_given : (all : Bool) (s : Scenario) (text : List ℕ) (turns taken : List (ℕ × ℕ)) → turned (components s) text ≡ Ok turns → taken ≡ turns
+    → Ok (trace_text all s taken) ≡ trace_from all s text
+turns_given all s text turns taken reads is =
+    ap (λ (l : List (ℕ × ℕ)). Ok (trace_text all s l)) is ∙ sym (ap (λ (t : Turned). with_turns t (trace_text all s)) reads)
+
+-- a scenario that is loaded
+pub scenario_given : (all : Bool) (scenario turns : List ℕ) (s : Scenario) → loaded scenario ≡ Ok s → trace_written all scenario turns ≡ trace_from all s turns
+scenario_given all scenario turns s load = ap (λ l. with_scenario l (λ r. trace_from all r turns)) load
+
+load_by : (f : LoadFault) (l : Result Scenario Fault) (go : Scenario → Written) → Refuses (error.Fault f) l
+    → with_scenario l go ≡ Err (refused_with (load_fault_text f))
+load_by f (Ok s) go h = absurd h
+load_by f (Err g) go h = ap (λ t. Err (refused_with t)) (sym h)
+
+-- why nothing is loaded is why nothing is written
+pub load_is : (all : Bool) (f : RunFault) (scenario turns : List ℕ) → GivesOf f scenario → IsFaultOf f (trace_written all scenario turns)
+load_is all (fault.Load f) scenario turns h = load_by f (loaded scenario) (λ s. trace_from all s turns) h
+load_is all (fault.NoComponent name) scenario turns h = absurd h
+load_is all (fault.Turns f line) scenario turns h = absurd h
+load_is all fault.Memory scenario turns h = tt
+load_is all fault.Write scenario turns h = absurd h

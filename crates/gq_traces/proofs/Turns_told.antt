@@ -1,0 +1,159 @@
+-- Turns that are told.
+use Rattle.std.proofs.Common.{◌≡◌, ◌∙◌, ◌+◌, ℕ, zero, suc, Bool, List, [], ◌∷◌, ◌++◌, length, take, Option, Some, None, refl, ap, sym, subst, arith}
+use Rattle.std.proofs.Common.{append_assoc, append-nil, drop}
+use Rattle.std.proofs.lemmas.List.{take_at}
+use Rattle.std.specs.Prelude.{Ok, slice_get, slice_set}
+use Rattle.gq_model.specs.machine.Doing.{Event}
+use Rattle.gq_model.specs.machine.Scenario.{Component, Scenario, System, components, system}
+use Rattle.gq_model.specs.machine.Step.{next}
+use Rattle.gq_model.specs.machine.World as model
+use Rattle.gq_model.proofs.Small.{none_some, some_same}
+use Rattle.gq_machine.specs.Machines.{Machine}
+use Rattle.gq_views.specs.Tree.{label_of}
+use Rattle.gq_world.specs.Worlds.{World}
+use Rattle.gq_traces.specs.Places.{Ahead, Place}
+use Rattle.gq_traces.specs.Trace.{Due, Traced, after_all, after_due, after_step, after_turn, after_turns, all_text, changes, due, due_by, due_in, due_text}
+use Rattle.gq_traces.specs.Trace.{head_line}
+use Rattle.gq_traces.specs.Trace.{step_text, told_step, turn_text, turns_text}
+use Rattle.gq_traces.specs.declared.numbered.Numbered.{Numbered as Entries}
+use Rattle.gq_traces.specs.declared.tracker.Ahead as places
+use Rattle.gq_traces.specs.declared.tracker.Due as stated
+use Rattle.gq_traces.specs.internal.Flat.{AllStand, AreAheads}
+use Rattle.gq_traces.specs.internal.Telling.{GoesOn, IsDue, IsOn, TellsDue, due_of, place_of, turns_in}
+use Rattle.gq_traces.proofs.Leaves_standing.{all_stand, stand_long}
+
+-- A TURN THAT IS NO STEP
+
+no_due : (o : Option Due) → IsDue None o → o ≡ None
+no_due None h = refl
+no_due (Some d) h = absurd h
+
+some_due : (c : stated.Due) (o : Option Due) → IsDue (Some c) o → (d : Due) × (o ≡ Some d) × (place_of c ≡ d.place)
+some_due c None h = absurd h
+some_due c (Some d) h = (d, refl, h)
+
+-- what a trace that is on the way can do is what the world can
+pub due_on : (s : Scenario) (w : World) (x : ℕ) (t : Traced) → t.world ≡ w.world → due (system s) x t ≡ due_of s w.world x t.aheads
+due_on s w x t at = ap (λ (v : model.World). due_of s v x t.aheads) at
+
+label_is : (s : Scenario) (w : model.World) (x : ℕ) (ts : List Ahead) (d : Due) → due_of s w x ts ≡ Some d
+    → label_of (slice_get (components s) x) ≡ d.component.label
+label_is s w x ts d e = by (slice_get (components s) x) (slice_get w.leaves x) (slice_get ts x) e
+  where
+    by_place : (c : Component) (a : Ahead) (o : Option Place) → due_by c a o ≡ Some d → label_of (Some c) ≡ d.component.label
+    by_place c a None e = absurd (none_some e)
+    by_place c a (Some p) e = ap (λ (z : Due). z.component.label) (some_same e)
+
+    by : (c : Option Component) (l : Option model.Leaf) (a : Option Ahead) → due_in w x c l a ≡ Some d → label_of c ≡ d.component.label
+    by (Some c) (Some l) (Some a) e = by_place c _ _ e
+    by None l a e = absurd (none_some e)
+    by (Some c) None a e = absurd (none_some e)
+    by (Some c) (Some l) None e = absurd (none_some e)
+
+module _ (all : Bool) (s : Scenario) (b : List ℕ) (x : ℕ) where
+  module _ (programs : List Entries) (stands : List places.Ahead) (old : World) (turns : ℕ) (t : Traced) (on : IsOn programs stands old turns t) where
+    module _ (none : IsDue None (due_of s old.world x t.aheads)) where
+      idle_is : due (system s) x t ≡ None
+      idle_is = due_on s old x t on.world ∙ no_due (due_of s old.world x t.aheads) none
+
+      pub idle_text : [] ≡ turn_text all s b x t
+      idle_text = sym (ap (due_text all s b x t) idle_is)
+
+      pub idle_on : (new : World) → new ≡ old → IsOn programs stands new (turns + 1) (after_turn (system s) x t)
+      idle_on new same =
+          let count = on.count in
+          subst (IsOn programs stands new (turns + 1)) (sym (ap (after_due (system s) x t) idle_is))
+          (record { world = on.world ∙ ap (λ (v : World). v.world) (sym same); aheads = on.aheads; count = omega (arith, count) })
+
+    module _ (c : stated.Due) (some : IsDue (Some c) (due_of s old.world x t.aheads)) (new : World) (event : Event)
+        (goes : next (system s) old.world x ≡ Ok (new.world, event)) where
+      d : (d : Due) × (due_of s old.world x t.aheads ≡ Some d) × (place_of c ≡ d.place)
+      d = some_due c (due_of s old.world x t.aheads) some
+
+      step_is : due (system s) x t ≡ Some d.0
+      step_is = due_on s old x t on.world ∙ d.1
+
+      next_is : next (system s) t.world x ≡ Ok (new.world, event)
+      next_is = ap (λ (v : model.World). next (system s) v x) on.world ∙ goes
+
+      pub step_text_is : told_step all (head_line (turns + 1) (label_of (slice_get (components s) x)) (place_of c))
+          (changes s b (label_of (slice_get (components s) x)) old.world new.world event) ≡ turn_text all s b x t
+      step_text_is =
+          let label = label_is s old.world x t.aheads d.0 d.1 in
+          let place = d.2 in
+          let count = on.count in
+          let number : turns + 1 ≡ suc t.turns = omega (arith, count) in
+          let at = sym on.world in
+          (λ i. told_step all (head_line (number i) (label i) (place i)) (changes s b (label i) (at i) new.world event))
+          ∙ sym (ap (due_text all s b x t) step_is ∙ ap (step_text all s b t d.0) next_is)
+
+      pub step_on : (after : List places.Ahead) → ((e : Due) → due_of s old.world x t.aheads ≡ Some e → AreAheads programs after (slice_set t.aheads x e.ahead))
+          → IsOn programs after new (turns + 1) (after_turn (system s) x t)
+      step_on after aheads =
+          let count = on.count in
+          subst (IsOn programs after new (turns + 1)) (sym (ap (after_due (system s) x t) step_is ∙ ap (after_step x t d.0) next_is))
+          (record { world = refl; aheads = aheads d.0 d.1; count = omega (arith, count) })
+
+-- MANY TURNS
+
+pub turns_more : (all : Bool) (s : Scenario) (b : List ℕ) (x n : ℕ) (t : Traced)
+    → turns_text all s b x n t ++ turn_text all s b x (after_turns (system s) x n t) ≡ turns_text all s b x (suc n) t
+turns_more all s b x zero t = sym (append-nil (turn_text all s b x t))
+turns_more all s b x (suc n) t =
+    append_assoc (turn_text all s b x t) (turns_text all s b x n (after_turn (system s) x t)) _
+    ∙ ap (λ l. turn_text all s b x t ++ l) (turns_more all s b x n (after_turn (system s) x t))
+
+pub after_more : (s : System) (x n : ℕ) (t : Traced) → after_turn s x (after_turns s x n t) ≡ after_turns s x (suc n) t
+after_more s x zero t = refl
+after_more s x (suc n) t = after_more s x n (after_turn s x t)
+
+pub all_more : (all : Bool) (s : Scenario) (b : List ℕ) (turns : List (ℕ × ℕ)) (p : ℕ × ℕ) (t : Traced)
+    → all_text all s b turns t ++ turns_text all s b p.0 p.1 (after_all (system s) turns t) ≡ all_text all s b (turns ++ p ∷ []) t
+all_more all s b [] p t = sym (append-nil (turns_text all s b p.0 p.1 t))
+all_more all s b (q ∷ turns) p t =
+    append_assoc (turns_text all s b q.0 q.1 t) (all_text all s b turns (after_turns (system s) q.0 q.1 t)) _
+    ∙ ap (λ l. turns_text all s b q.0 q.1 t ++ l) (all_more all s b turns p (after_turns (system s) q.0 q.1 t))
+
+pub after_all_more : (s : System) (turns : List (ℕ × ℕ)) (p : ℕ × ℕ) (t : Traced)
+    → after_turns s p.0 p.1 (after_all s turns t) ≡ after_all s (turns ++ p ∷ []) t
+after_all_more s [] p t = refl
+after_all_more s (q ∷ turns) p t = after_all_more s turns p (after_turns s q.0 q.1 t)
+
+pub turns_in_more : (turns : List (ℕ × ℕ)) (p : ℕ × ℕ) → turns_in (turns ++ p ∷ []) ≡ turns_in turns + p.1
+turns_in_more [] p = omega arith
+turns_in_more (q ∷ turns) p = let h = turns_in_more turns p in omega (arith, h)
+
+-- WHERE THE LEAVES STAND
+
+pub told_due : (P Q : List Entries) (A B : List places.Ahead) (m : Machine) (w : World) (x : ℕ) (o : Option stated.Due) → P ≡ Q → A ≡ B
+    → m ≡ record { scenario = w.scenario; world = w.world } → TellsDue P A m.scenario m.world x o → TellsDue Q B w.scenario w.world x o
+told_due P Q A B m w x o p a is h =
+    subst (λ (n : Machine). TellsDue Q B n.scenario n.world x o) is (subst (λ C. TellsDue Q C m.scenario m.world x o) a
+    (subst (λ R. TellsDue R A m.scenario m.world x o) p h))
+
+pub told_stands : (P Q : List Entries) (A B C : List places.Ahead) (m : Machine) (w : World) (x : ℕ) → P ≡ Q → A ≡ B
+    → m ≡ record { scenario = w.scenario; world = w.world } → GoesOn P A C m.scenario m.world x → GoesOn Q B C w.scenario w.world x
+told_stands P Q A B C m w x p a is h =
+    subst (λ (n : Machine). GoesOn Q B C n.scenario n.world x) is (subst (λ D. GoesOn Q D C m.scenario m.world x) a
+    (subst (λ R. GoesOn R A C m.scenario m.world x) p h))
+
+stand_list : (all : List Entries) (stands : List places.Ahead) → AllStand all stands → (ts : List Ahead) × AreAheads all stands ts
+stand_list [] [] h = ([], tt)
+stand_list [] (a ∷ stands) h = absurd h
+stand_list (e ∷ all) [] h = absurd h
+stand_list (e ∷ all) (a ∷ stands) h = let rest = stand_list all stands h.1 in (h.0.ahead ∷ rest.0, (h.0.is, rest.1))
+
+pub stand_then : (P : List Entries) (A B : List places.Ahead) (w : World) (x : ℕ) (c : stated.Due) → AllStand P A
+    → TellsDue P A w.scenario w.world x (Some c) → GoesOn P A B w.scenario w.world x → AllStand P B
+stand_then P A B w x c stands due goes =
+    let ts = stand_list P A stands in
+    let d = some_due c (due_of w.scenario w.world x ts.0) (due ts.0 ts.1) in
+    all_stand P B (slice_set ts.0 x d.0.ahead) (goes ts.0 d.0 ts.1 d.1)
+
+-- what is in a vector once its slice was changed
+pub items_then : (P : List Entries) (A B : List places.Ahead) (len : ℕ) → len ≡ length A → AllStand P A → AllStand P B
+    → take len (B ++ drop (length B) A) ≡ B
+items_then P A B len long a b =
+    let old = stand_long P A a in
+    let new = stand_long P B b in
+    take_at B (drop (length B) A) len (omega (arith, long, old, new))

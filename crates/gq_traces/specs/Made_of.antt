@@ -1,0 +1,32 @@
+-- How the items of an account add up to it.
+use Rattle.std.specs.Prelude.{◌≡◌, ℕ, ◌+◌, if◌then◌else◌, Bool, true, false, List, [], ◌∷◌, Some, slice_get}
+use Rattle.gq_model.specs.machine.Amounts.{Resource, part}
+use Rattle.gq_model.specs.machine.Scenario.{Component, Scenario, components, system}
+use Rattle.gq_model.specs.machine.Sums.{held, quota}
+use Rattle.gq_model.specs.machine.World.{Leaf, World}
+use Rattle.gq_model.specs.Promises.{EachOf}
+use Rattle.gq_traces.specs.State.{Item, Role, Given, Handed, Held, Lent, Received, is_live, leaf_items}
+
+abbrev pub same_role : Role → Role → Bool
+same_role Given Given = true
+same_role Handed Handed = true
+same_role Held Held = true
+same_role Lent Lent = true
+same_role Received Received = true
+same_role _ _ = false
+
+-- the amounts of one role, of one resource, added
+abbrev pub sum_of : Role → Resource → List Item → ℕ
+sum_of role r [] = 0
+sum_of role r (i ∷ rest) = (if same_role role i.role then part r i.amount else 0) + sum_of role r rest
+
+-- of the x-th leaf: what it holds is what it has used; what it is given and what it receives are its quota and what it lends
+pub record LeafAddsUp (s : Scenario) (w : World) (x : ℕ) (c : Component) (leaf : Leaf) (r : Resource) : Type 0 where
+  pub used : sum_of Held r (leaf_items (system s) w x c leaf leaf.phase) ≡ held r w x leaf
+  pub quota_is : sum_of Given r (leaf_items (system s) w x c leaf leaf.phase) + sum_of Received r (leaf_items (system s) w x c leaf leaf.phase)
+      ≡ quota r w x c leaf + sum_of Lent r (leaf_items (system s) w x c leaf leaf.phase)
+
+-- of each leaf that lives, of each resource that is counted
+abbrev pub LeavesAddUp : Scenario → World → Type 0
+LeavesAddUp s w = (x : ℕ) (c : Component) (leaf : Leaf) → slice_get (components s) x ≡ Some c → slice_get w.leaves x ≡ Some leaf → is_live leaf.phase ≡ true
+    → EachOf (system s).counted (LeafAddsUp s w x c leaf)

@@ -1,0 +1,74 @@
+-- What was noted of a world, and what is told by that.
+use Rattle.std.specs.Prelude.{◌≡◌, if◌then◌else◌, ◌≤◌, ℕ, ◌<◌, List, [], Option, Some, None, get_or, length, map, option_map}
+use Rattle.gq_model.specs.machine.Accounts.{accounts}
+use Rattle.gq_model.specs.machine.Scenario.{Scenario, components, system}
+use Rattle.gq_model.specs.machine.World.{World}
+use Rattle.gq_model.specs.rules.Accept.{budgets, step_budgets}
+use Rattle.gq_init.specs.Told.{Told}
+use Rattle.gq_prepared.specs.Prepared.{names_of}
+use Rattle.gq_world.specs.Lines.{all_accounts}
+use Rattle.gq_world.specs.Worlds as worlds
+use Rattle.gq_traces.specs.Trace as trace
+use Rattle.gq_traces.specs.Trace.{Standing, same_told, session_line, told_session, using_of, standing_of}
+use Rattle.gq_traces.specs.declared.noted.Notes.{Notes}
+use Rattle.gq_traces.specs.declared.sessions.ToldSession.{ToldSession}
+
+-- the service of this number
+abbrev pub service_at : Scenario → ℕ → List ℕ
+service_at s n = get_or (names_of s) n []
+
+-- what is told of a session, with the name of its service
+abbrev pub seen_session : Scenario → ToldSession → trace.ToldSession
+seen_session s t = record {
+  client = t.client;
+  server = t.server;
+  service = service_at s t.service;
+  level = t.level;
+  donation = record { ram = t.donation.ram; caps = t.donation.caps };
+  requested = t.requested;
+}
+
+-- client and server are leaves, the service is one of those that there are, and the level has one figure
+pub record IsKnown (s : Scenario) (t : ToldSession) : Type 0 where
+  pub client : t.client < length (components s)
+  pub server : t.server < length (components s)
+  pub service : t.service < length s.interfaces
+  pub level : t.level ≤ 3
+
+abbrev pub AreKnown : Scenario → Option ToldSession → Type 0
+AreKnown s None = Unit {0}
+AreKnown s (Some t) = IsKnown s t
+
+-- it is what is told of the k-th session
+pub record IsTold (s : Scenario) (w : World) (k : ℕ) (t : Option ToldSession) : Type 0 where
+  pub is : option_map (seen_session s) t ≡ told_session w k
+  pub known : AreKnown s t
+
+-- an account but for the steps of its leaf
+abbrev pub standing_in : Told → Standing
+standing_in a = record { quota = a.quota; leaf = using_of a.leaf }
+
+-- nothing is noted of a number that was not used
+abbrev pub IsBeyond : Notes → Type 0
+IsBeyond n = (k : ℕ) → n.count ≤ k → get_or n.sessions.items k None ≡ None
+
+-- it is noted how each account stands, and what is told of each session
+pub record AreNoted (s : Scenario) (w : World) (n : Notes) : Type 0 where
+  pub accounts : map standing_in n.accounts.items ≡ map standing_of (accounts s w (step_budgets (budgets s)))
+  pub sessions : (k : ℕ) → k < 16449 → IsTold s w k (get_or n.sessions.items k None)
+  pub room : length n.sessions.items ≡ 16449
+  pub count : n.count ≡ length w.sessions
+  pub few : n.count ≤ 16449
+  pub beyond : IsBeyond n
+
+-- the noted accounts and sessions can be noted anew
+pub record CanRenew (w : worlds.World) (n : Notes) : Type 0 where
+  pub accounts : length n.accounts.items ≡ length (all_accounts w)
+  pub room : length n.sessions.items ≡ 16449
+  pub few : n.count ≤ 16449
+  pub beyond : IsBeyond n
+
+-- the line of the k-th session, of which this was noted, if it is another one now
+abbrev pub told_change : Scenario → ℕ → Option ToldSession → World → List ℕ
+told_change s k noted w =
+    if same_told (option_map (seen_session s) noted) (told_session w k) then [] else session_line s.version (system s) k (told_session w k)

@@ -1,0 +1,206 @@
+-- What is written of steps: the first line of a step before the first of what follows, or at once where all steps are told; and nothing more after a failed
+-- write.
+use Rattle.std.specs.Prelude.{◌≡◌, ℕ, ◌+◌, ◌++◌, Ok, Err, Bool, true, false, List, [], ◌∷◌, Option, Some, None, drop, slice_get, slice_set, codes, decimal, map}
+use Rattle.std.specs.Prelude.{MatchOption}
+use Rattle.std.specs.Io.KnownBytes.{Appends}
+use Rattle.gq_init.specs.Counts.{failures_of, written_to}
+use Rattle.gq_init.specs.Writes.{IsFront, IsRaised}
+use Rattle.gq_init.specs.declared.counted.Counted.{Counted}
+use Rattle.gq_model.specs.declared.program.Section.{Section}
+use Rattle.gq_model.specs.machine.Doing.{Event}
+use Rattle.gq_model.specs.machine.Run.{line_of}
+use Rattle.gq_model.specs.machine.Step.{next}
+use Rattle.gq_model.specs.texts.Fault_texts.{section_word}
+use Rattle.gq_model.specs.machine.Scenario.{Component, Scenario, components, system}
+use Rattle.gq_model.specs.machine.World as model
+use Rattle.gq_model.specs.rules.Accept.{budgets, step_budgets}
+use Rattle.gq_model.specs.texts.Turns.{Turned}
+use Rattle.gq_views.specs.Listing.{loop_text}
+use Rattle.gq_views.specs.Tree.{label_of}
+use Rattle.gq_world.specs.Worlds as worlds
+use Rattle.gq_world.specs.declared.fault.RunFault.{RunFault}
+use Rattle.gq_world.specs.declared.fault.RunFault.TheVariants as fault
+use Rattle.gq_traces.specs.Places.{Ahead, Place, ahead, body_in, next_place, past, place, section_at}
+use Rattle.gq_traces.specs.Written.{tells_all}
+use Rattle.gq_traces.specs.Trace.{Due, Traced, changes, due_in, head_line, told_step}
+use Rattle.gq_traces.specs.declared.noted.Notes.{Notes}
+use Rattle.gq_traces.specs.declared.trace.Tracing.{Tracing}
+use Rattle.gq_traces.specs.internal.Noted.{AreNoted}
+use Rattle.gq_traces.specs.declared.steps.Head.{Head}
+use Rattle.gq_traces.specs.declared.telling.Progress.{Progress}
+use Rattle.gq_traces.specs.declared.telling.Telling.{Telling}
+use Rattle.gq_traces.specs.declared.numbered.Entry.{Entry}
+use Rattle.gq_traces.specs.declared.numbered.Numbered.{Numbered as Entries}
+use Rattle.gq_traces.specs.declared.numbered.Way.{Way}
+use Rattle.gq_traces.specs.declared.numbered.Way.TheVariants as way
+use Rattle.gq_traces.specs.declared.tracker.Ahead as places
+use Rattle.gq_traces.specs.declared.tracker.Due as stated
+use Rattle.gq_traces.specs.declared.tracker.Statement.{Statement}
+use Rattle.gq_traces.specs.declared.tracker.Statement.TheVariants as statement
+use Rattle.gq_traces.specs.internal.Flat.{AllStand, AreAheads, ArePrograms, IsAhead, IsProgramOf, programs_of}
+
+-- WRITES
+
+-- Text was written after which all went well so far, or a front of it; or nothing, where a write had failed before.
+pub record Goes {W : Type 0} (contents : W → Option (List ℕ)) (old new : Counted W) (was now : Bool) (text : List ℕ) : Type 0 where
+  pub well : now ≡ true → was ≡ true
+  pub written : now ≡ true → Appends (written_to contents old) (written_to contents new) text
+  pub counted : now ≡ true → failures_of new ≡ failures_of old
+  pub failed : was ≡ false → now ≡ false
+  pub silent : was ≡ false → new ≡ old
+  pub front : was ≡ true → now ≡ false → IsFront (written_to contents old) (written_to contents new) text
+  pub raised : was ≡ true → now ≡ false → IsRaised (failures_of old) (failures_of new)
+
+-- whether the first line of a step is written, once this was told of it
+abbrev pub has_begun : Bool → List ℕ → Bool
+has_begun true text = true
+has_begun false [] = false
+has_begun false (c ∷ text) = true
+
+-- what is written then
+abbrev pub more_told : Bool → List ℕ → List ℕ → List ℕ
+more_told true head text = text
+more_told false head text = told_step false head text
+
+-- more of a step was told, and its first line before it, if that was not written
+pub record Tells {W : Type 0} (contents : W → Option (List ℕ)) (old new : Counted W) (was now : Progress) (head text : List ℕ) : Type 0 where
+  pub goes : Goes contents old new was.going now.going (more_told was.begun head text)
+  pub begun : now.begun ≡ has_begun was.begun text
+
+-- PLACES
+
+-- the first line of a statement, behind a blank
+abbrev pub statement_text : Statement → List ℕ
+statement_text statement.Nothing = []
+statement_text (statement.Plain text) = codes " " ++ text.now
+statement_text statement.If = codes " if"
+statement_text (statement.Loop n) = codes " " ++ loop_text n
+
+abbrev pub place_of : stated.Due → Place
+place_of d = place d.section d.number (statement_text d.statement)
+
+abbrev pub head_text : Scenario → Head → List ℕ
+head_text s h = head_line h.turn (label_of (slice_get (components s) h.leaf)) (place_of h.due)
+
+abbrev pub IsDue : Option stated.Due → Option Due → Type 0
+IsDue None None = Unit {0}
+IsDue None (Some d) = ⊥
+IsDue (Some c) None = ⊥
+IsDue (Some c) (Some d) = place_of c ≡ d.place
+
+abbrev pub due_of : Scenario → model.World → ℕ → List Ahead → Option Due
+due_of s w x aheads = due_in w x (slice_get (components s) x) (slice_get w.leaves x) (slice_get aheads x)
+
+-- it is told where the leaf stands
+abbrev pub TellsDue : List Entries → List places.Ahead → Scenario → model.World → ℕ → Option stated.Due → Type 0
+TellsDue programs stands s w x due = (aheads : List Ahead) → AreAheads programs stands aheads → IsDue due (due_of s w x aheads)
+
+-- it is told where the leaf takes its next step, as one that takes steps of its own
+abbrev pub StepTold : List Entries → List places.Ahead → Scenario → model.World → ℕ → stated.Due → Type 0
+StepTold programs stands s w x due =
+    (c : Component) (l : model.Leaf) (aheads : List Ahead) (t : Ahead) → slice_get (components s) x ≡ Some c → slice_get w.leaves x ≡ Some l
+    → AreAheads programs stands aheads → slice_get aheads x ≡ Some t → place_of due ≡ next_place c (section_at l.current) t.todo t.loops
+
+-- the leaf stands past its next step, as one that takes steps of its own
+abbrev pub PassesOwn : List Entries → List places.Ahead → List places.Ahead → model.World → ℕ → Type 0
+PassesOwn programs old new w x =
+    (l : model.Leaf) (aheads : List Ahead) (t : Ahead) → slice_get w.leaves x ≡ Some l → AreAheads programs old aheads → slice_get aheads x ≡ Some t
+    → AreAheads programs new (slice_set aheads x (past l.operands t.todo t.loops))
+
+-- the leaf stands at the start of a section
+abbrev pub PassesRequest : List Entries → List places.Ahead → List places.Ahead → ℕ → Section → Type 0
+PassesRequest programs old new x section =
+    (cs : List Component) (c : Component) (aheads : List Ahead) → ArePrograms programs (map (λ d. d.node.program) cs) → slice_get cs x ≡ Some c
+    → AreAheads programs old aheads → AreAheads programs new (slice_set aheads x (ahead (body_in c section)))
+
+-- the leaf stands past the step that it can take
+abbrev pub GoesOn : List Entries → List places.Ahead → List places.Ahead → Scenario → model.World → ℕ → Type 0
+GoesOn programs old new s w x =
+    (aheads : List Ahead) (d : Due) → AreAheads programs old aheads → due_of s w x aheads ≡ Some d → AreAheads programs new (slice_set aheads x d.ahead)
+
+-- the first line of a statement of this way, behind a blank
+abbrev pub way_text : Way → List ℕ
+way_text (way.Plain text next) = codes " " ++ text.items
+way_text (way.If arm other) = codes " if"
+way_text (way.Loop n body next) = codes " " ++ loop_text n
+
+-- the place of an entry
+abbrev pub entry_place : Section → Entry → Place
+entry_place section e = place section e.number (way_text e.way)
+
+-- it is the place of the next step of a leaf that stands so in this section
+abbrev pub PlaceIs : Entries → places.Ahead → Section → stated.Due → Type 0
+PlaceIs es a section due =
+    (c : Component) (t : Ahead) → IsProgramOf es c.node.program → IsAhead es.entries.items a t → place_of due ≡ next_place c section t.todo t.loops
+
+-- the top of these operands
+abbrev pub IsTop : Option ℕ → List ℕ → Type 0
+IsTop top operands = MatchOption top (operands ≡ []) (λ a. operands ≡ a ∷ drop 1 operands)
+
+-- STEPS
+
+-- the first line of a step, up to its statement
+abbrev pub head_front : Scenario → Head → List ℕ
+head_front s h =
+    codes "turn " ++ decimal h.turn ++ codes " " ++ label_of (slice_get (components s) h.leaf) ++ codes " " ++ section_word h.due.section ++ codes " at "
+    ++ decimal h.due.number
+
+-- the step was taken, and the line that it gives was told
+pub record TakesStep {W : Type 0} (contents : W → Option (List ℕ)) (old new : worlds.World) (out_old out_new : Counted W) (was now : Progress) (h : Head)
+    : Type 0 where
+  pub scenario : new.scenario ≡ old.scenario
+  pub stopped : new.stopped ≡ old.stopped
+  pub event : Event
+  pub goes : next (system old.scenario) old.world h.leaf ≡ Ok (new.world, event)
+  pub tells : Tells contents out_old out_new was now (head_text old.scenario h) (line_of (label_of (slice_get (components old.scenario) h.leaf)) event)
+
+-- the step budgets of a scenario
+abbrev pub budgets_of : Scenario → List ℕ
+budgets_of s = step_budgets (budgets s)
+
+-- the step was taken, and what it changes was told and noted
+pub record TellsStep {W : Type 0} (contents : W → Option (List ℕ)) (telling : Telling) (old new : worlds.World) (notes : Notes) (out_old out_new : Counted W)
+    (was now : Bool) (h : Head) : Type 0 where
+  pub scenario : new.scenario ≡ old.scenario
+  pub stopped : new.stopped ≡ old.stopped
+  pub event : Event
+  pub goes : next (system old.scenario) old.world h.leaf ≡ Ok (new.world, event)
+  pub tells : Goes contents out_old out_new was now (told_step (tells_all telling) (head_text old.scenario h)
+      (changes old.scenario (budgets_of old.scenario) (label_of (slice_get (components old.scenario) h.leaf)) old.world new.world event))
+  pub noted : AreNoted new.scenario new.world notes
+
+-- TURNS
+
+-- a trace on the way
+pub record IsOn (programs : List Entries) (stands : List places.Ahead) (w : worlds.World) (turns : ℕ) (t : Traced) : Type 0 where
+  pub world : t.world ≡ w.world
+  pub aheads : AreAheads programs stands t.aheads
+  pub count : t.turns ≡ turns
+
+-- how many turns a list has
+abbrev pub turns_in : List (ℕ × ℕ) → ℕ
+turns_in [] = 0
+turns_in (p ∷ turns) = p.1 + turns_in turns
+
+-- a trace can go on: the programs are those of the leaves, each of which stands somewhere, and the world is noted
+pub record CanTrace (w : worlds.World) (t : Tracing) : Type 0 where
+  pub programs : ArePrograms t.programs.items (programs_of w.scenario)
+  pub stands : AllStand t.programs.items t.aheads.items
+  pub noted : AreNoted w.scenario w.world t.notes
+
+-- Turns were told: of each trace that was on the way there, the text was written, and the trace that goes on from there is on the way.
+pub record TellsTurns {W : Type 0} (contents : W → Option (List ℕ)) (text : Traced → List ℕ) (go : Traced → Traced) (turns more : ℕ)
+    (old new : worlds.World) (before after : Tracing) (out_old out_new : Counted W) (was now : Bool) : Type 0 where
+  pub scenario : new.scenario ≡ old.scenario
+  pub can : CanTrace new after
+  pub written : (t : Traced) → IsOn before.programs.items before.aheads.items old turns t → Goes contents out_old out_new was now (text t)
+  pub on : (t : Traced) → IsOn before.programs.items before.aheads.items old turns t
+      → IsOn after.programs.items after.aheads.items new (turns + more) (go t)
+
+-- why turns are not read
+abbrev pub IsTurnsFault : RunFault → Turned → Type 0
+IsTurnsFault (fault.Load f) t = ⊥
+IsTurnsFault (fault.NoComponent name) t = ⊥
+IsTurnsFault (fault.Turns f line) t = t ≡ Err (f, line)
+IsTurnsFault fault.Memory t = Unit {0}
+IsTurnsFault fault.Write t = ⊥

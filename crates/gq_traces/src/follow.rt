@@ -1,0 +1,75 @@
+// Turns that are taken untold, with where each leaf stands on the way.
+ghost use Rattle.std.specs.Prelude.{◌≡◌, ◌<◌, false, length, IfOk};
+ghost use Rattle.gq_model.specs.machine.Scenario.{components, system};
+ghost use Rattle.gq_model.specs.machine.World.{start};
+ghost use Rattle.gq_world.specs.Worlds.{AreBelow};
+ghost use Rattle.gq_traces.specs.Trace.{after_all, after_turn, after_turns, start_traced};
+ghost use Rattle.gq_traces.specs.internal.Follows.{Follows, IsAt, IsFollowed};
+
+use crate::numbered::{Numbered, all_numbered};
+use crate::tracker::{Ahead, first_aheads, go_on, next_due};
+use arrayvec::ArrayVec;
+use gq_init::TurnItem;
+use gq_scenario::scenario::LeafNo;
+use gq_world::world::World;
+use std::alloc::{AllocError, Global};
+
+/// The programs of a world, and where all leaves stand in them.
+#[derive(Drop)]
+pub(crate) struct Followed {
+    pub programs: Vec<Numbered>,
+    pub aheads: Vec<Ahead>,
+}
+
+impl Followed {
+    /// At the start of a world. Refused only for want of host memory.
+    pub(crate) fn new(alloc: Global, world: &World) -> Result<Followed, AllocError>
+        requires { world.now.world ≡ start (system world.now.scenario) }
+        ensures followed { IfOk result (λ f. IsFollowed f world.now) }
+        ensures at { IfOk result (λ f. IsAt f world.now (start_traced (system world.now.scenario))) }
+    {
+        let programs = all_numbered(alloc, world.table())?;
+        let aheads = first_aheads(alloc, programs.as_slice())?;
+        Ok(Followed { programs, aheads })
+    }
+}
+
+// One turn of a leaf. It takes no host memory.
+fn take_turn(world: &mut World, followed: &mut Followed, leaf: LeafNo)
+    requires leaf { leaf < length (components world.old.scenario) }
+    requires followed { IsFollowed followed.old world.old }
+    ensures { Follows (after_turn (system world.old.scenario) leaf) world.old world.new followed.old followed.new }
+{
+    let programs = followed.programs.as_slice();
+    let machine = world.machine();
+    match next_due(programs, followed.aheads.as_slice(), machine, leaf) {
+        None => (),
+        Some(_due) => {
+            go_on(programs, followed.aheads.as_mut_slice(), machine, leaf);
+            let mut text = ArrayVec::new();
+            let _event = world.step(leaf, &mut text);
+        }
+    }
+}
+
+// So many turns of a leaf. They take no host memory.
+fn take_turns(world: &mut World, followed: &mut Followed, leaf: LeafNo, count: u32)
+    requires leaf { leaf < length (components world.old.scenario) }
+    requires followed { IsFollowed followed.old world.old }
+    ensures { Follows (after_turns (system world.old.scenario) leaf count) world.old world.new followed.old followed.new }
+{
+    for _turn in 0..count {
+        take_turn(world, followed, leaf);
+    }
+}
+
+/// All turns of a list. They take no host memory.
+pub(crate) fn take_all(world: &mut World, followed: &mut Followed, turns: &[TurnItem])
+    requires leaves { AreBelow (length (components world.old.scenario)) turns.now }
+    requires followed { IsFollowed followed.old world.old }
+    ensures { Follows (after_all (system world.old.scenario) turns.now) world.old world.new followed.old followed.new }
+{
+    for item in turns {
+        take_turns(world, followed, item.leaf(), item.count());
+    }
+}

@@ -1,0 +1,282 @@
+// What is told of a step.
+ghost use Rattle.std.specs.Prelude.{◌≡◌, ℕ, ◌<◌, ◌≤◌, if◌then◌else◌, [], Some, None, get_or, length, map, max, slice_get};
+ghost use Rattle.gq_model.specs.machine.Accounts.{Account};
+ghost use Rattle.gq_model.specs.machine.Scenario.{components, system};
+ghost use Rattle.gq_init.specs.Told.{Told};
+ghost use Rattle.gq_model.specs.machine.World as model;
+ghost use Rattle.gq_resolve.specs.NodeTables.{node_rows};
+ghost use Rattle.gq_world.specs.Lines.{all_accounts};
+ghost use Rattle.gq_traces.specs.Trace.{account_change, account_changes, session_changes};
+ghost use Rattle.gq_traces.specs.internal.Noted.{AreKnown, AreNoted, standing_in, told_change};
+ghost use Rattle.gq_traces.specs.Written.{tells_all};
+ghost use Rattle.gq_traces.specs.internal.Telling.{Goes, TakesStep, Tells, TellsStep, head_front, head_text, statement_text};
+
+use crate::noted::{Notes, counted, same_account};
+use crate::sessions::{label_of, same_told, session_line, told_session};
+use crate::telling::{Progress, Telling, write_on};
+use crate::tracker::{Due, Statement};
+use crate::words::{Line, extend, extend_entry, extend_place};
+use arrayvec::ArrayVec;
+use gq_init::NodeTable;
+use gq_init::account_line::account_line;
+use gq_init::counted::Counted;
+use gq_init::leaf_line::text_line;
+use gq_machine::event::Event;
+use gq_scenario::node::NodeNo;
+use gq_scenario::scenario::LeafNo;
+use gq_world::world::World;
+use std::io::Write;
+
+/// What the first line of a step tells: the number of its turn, its leaf and its place.
+#[derive(Clone, Copy)]
+pub(crate) struct Head<'a> {
+    pub turn: u32,
+    pub leaf: LeafNo,
+    pub due: Due<'a>,
+}
+
+// The first line of a step, up to its statement.
+fn head_line(table: &NodeTable, head: &Head<'_>) -> Line
+    requires { head.now.leaf < length (components table.now) }
+    ensures { result.items ≡ head_front table.now head.now }
+{
+    let mut line = ArrayVec::new();
+    extend_entry(&mut line, b"turn", u64::from(head.turn));
+    extend(&mut line, b" ");
+    extend(&mut line, label_of(table, head.leaf));
+    extend(&mut line, b" ");
+    extend_place(&mut line, head.due.section, head.due.number);
+    line
+}
+
+// Writes the statement of a place, behind a blank.
+pub(crate) fn write_statement<W: Write>(
+    statement: Statement<'_>,
+    going: bool,
+    out: &mut Counted<W>,
+) -> bool
+    ensures { Goes W.contents out.old out.new going result (statement_text statement.entry) }
+{
+    match statement {
+        Statement::Nothing => going,
+        Statement::Plain(text) => {
+            let going = write_on(out, going, b" ");
+            write_on(out, going, text)
+        }
+        Statement::If => write_on(out, going, b" if"),
+        Statement::Loop(count) => {
+            let mut line = ArrayVec::new();
+            extend_entry(&mut line, b" loop", u64::from(count));
+            write_on(out, going, line.as_slice())
+        }
+    }
+}
+
+// Writes the first line of a step.
+fn write_head<W: Write>(
+    table: &NodeTable,
+    head: &Head<'_>,
+    going: bool,
+    out: &mut Counted<W>,
+) -> bool
+    requires { head.now.leaf < length (components table.now) }
+    ensures { Goes W.contents out.old out.new going result (head_text table.now head.now) }
+{
+    let line = head_line(table, head);
+    let going = write_on(out, going, line.as_slice());
+    let going = write_statement(head.due.statement, going, out);
+    write_on(out, going, b"\n")
+}
+
+// Writes the first line of a step where all are told.
+fn begin<W: Write>(
+    table: &NodeTable,
+    telling: Telling,
+    head: &Head<'_>,
+    going: bool,
+    out: &mut Counted<W>,
+) -> Progress
+    requires { head.now.leaf < length (components table.now) }
+    ensures begun { result.begun ≡ tells_all telling }
+    ensures goes { Goes W.contents out.old out.new going result.going (if tells_all telling then head_text table.now head.now else []) }
+{
+    match telling {
+        Telling::Changes => Progress {
+            going,
+            begun: false,
+        },
+        Telling::All => Progress {
+            going: write_head(table, head, going, out),
+            begun: true,
+        },
+    }
+}
+
+// Writes a line of a step, and before it the first line, if that was not written.
+fn tell<W: Write>(
+    table: &NodeTable,
+    head: &Head<'_>,
+    progress: Progress,
+    line: &[u8],
+    out: &mut Counted<W>,
+) -> Progress
+    requires leaf { head.now.leaf < length (components table.now) }
+    requires some { 0 < length line.now }
+    ensures { Tells W.contents out.old out.new progress result (head_text table.now head.now) line.now }
+{
+    if progress.begun {
+        return Progress {
+            going: write_on(out, progress.going, line),
+            begun: true,
+        };
+    }
+    let going = write_head(table, head, progress.going, out);
+    Progress {
+        going: write_on(out, going, line),
+        begun: true,
+    }
+}
+
+// Takes the step, and tells the line that it gives.
+fn tell_line<W: Write>(
+    world: &mut World,
+    head: &Head<'_>,
+    progress: Progress,
+    out: &mut Counted<W>,
+) -> Progress
+    requires leaf { head.now.leaf < length (components world.old.scenario) }
+    ensures { TakesStep W.contents world.old world.new out.old out.new progress result head.now }
+{
+    let mut text = ArrayVec::new();
+    match world.step(head.leaf, &mut text) {
+        Event::Line => {
+            let table = world.table();
+            let line = text_line(label_of(table, head.leaf), text.as_slice());
+            tell(table, head, progress, line.as_slice(), out)
+        }
+        Event::Idle | Event::Quiet | Event::Finished => progress,
+    }
+}
+
+// Tells the account of a node, if it stands otherwise than it was noted.
+fn tell_account<W: Write>(
+    world: &World,
+    head: &Head<'_>,
+    progress: Progress,
+    node: NodeNo,
+    notes: &Notes,
+    out: &mut Counted<W>,
+) -> Progress
+    requires leaf { head.now.leaf < length (components world.now.scenario) }
+    requires leaves { length world.now.world.leaves ≡ length (components world.now.scenario) }
+    requires node { node < length (node_rows world.now.scenario) }
+    requires noted { node < length notes.now.accounts.items }
+    ensures { (a : Account) → (b : Told) → slice_get (all_accounts world.now) node ≡ Some a → slice_get notes.now.accounts.items node ≡ Some b
+        → Tells W.contents out.old out.new progress result (head_text world.now.scenario head.now)
+        (account_change world.now.scenario.version (standing_in b) a) }
+{
+    let account = world.account(node);
+    if same_account(&notes.accounts[node.index()], &account) {
+        return progress;
+    }
+    let table = world.table();
+    let line = account_line(table.scenario().version(), table.label(node), &account);
+    tell(table, head, progress, line.as_slice(), out)
+}
+
+// Tells the accounts of all nodes that stand otherwise than they were noted.
+fn tell_accounts<W: Write>(
+    world: &World,
+    head: &Head<'_>,
+    progress: Progress,
+    notes: &Notes,
+    out: &mut Counted<W>,
+) -> Progress
+    requires leaf { head.now.leaf < length (components world.now.scenario) }
+    requires leaves { length world.now.world.leaves ≡ length (components world.now.scenario) }
+    requires noted { length notes.now.accounts.items ≡ length (all_accounts world.now) }
+    ensures { Tells W.contents out.old out.new progress result (head_text world.now.scenario head.now)
+        (account_changes world.now.scenario.version (map standing_in notes.now.accounts.items) (all_accounts world.now)) }
+{
+    let mut progress = progress;
+    for number in 0..world.nodes() {
+        let node = NodeNo::new(number as u32);
+        progress = tell_account(world, head, progress, node, notes, out);
+    }
+    progress
+}
+
+// Tells a session, if it is new, gone or another one than was noted.
+fn tell_session<W: Write>(
+    world: &World,
+    head: &Head<'_>,
+    progress: Progress,
+    session: usize,
+    notes: &Notes,
+    out: &mut Counted<W>,
+) -> Progress
+    requires leaf { head.now.leaf < length (components world.now.scenario) }
+    requires leaves { length world.now.world.leaves ≡ length (components world.now.scenario) }
+    requires session { session < 16449 }
+    requires room { length notes.now.sessions.items ≡ 16449 }
+    requires known { AreKnown world.now.scenario (get_or notes.now.sessions.items session None) }
+    ensures { Tells W.contents out.old out.new progress result (head_text world.now.scenario head.now)
+        (told_change world.now.scenario session (get_or notes.now.sessions.items session None) world.now.world) }
+{
+    let table = world.table();
+    let told = told_session(world.machine(), session);
+    if same_told(table, &notes.sessions[session], &told) {
+        return progress;
+    }
+    let line = session_line(table, session, &told);
+    tell(table, head, progress, line.as_slice(), out)
+}
+
+// Tells all sessions that are new, gone or others than were noted.
+fn tell_sessions<W: Write>(
+    world: &World,
+    head: &Head<'_>,
+    progress: Progress,
+    notes: &Notes,
+    out: &mut Counted<W>,
+) -> Progress
+    requires leaf { head.now.leaf < length (components world.now.scenario) }
+    requires leaves { length world.now.world.leaves ≡ length (components world.now.scenario) }
+    requires room { length notes.now.sessions.items ≡ 16449 }
+    requires count { notes.now.count ≤ 16449 }
+    requires known { (k : ℕ) → k < 16449 → AreKnown world.now.scenario (get_or notes.now.sessions.items k None) }
+    ensures { (old : model.World) → AreNoted world.now.scenario old notes.now
+        → Tells W.contents out.old out.new progress result (head_text world.now.scenario head.now)
+        (session_changes world.now.scenario.version (system world.now.scenario) old world.now.world 0
+        (max (length old.sessions) (length world.now.world.sessions))) }
+{
+    let mut progress = progress;
+    let count = world.machine().session_count().max(notes.count);
+    for session in 0..count {
+        progress = tell_session(world, head, progress, session, notes, out);
+    }
+    progress
+}
+
+/// Takes the step of this head, and tells what it changes of what was noted; then the world is noted anew.
+pub(crate) fn tell_step<W: Write>(
+    world: &mut World,
+    notes: &mut Notes,
+    head: &Head<'_>,
+    telling: Telling,
+    going: bool,
+    out: &mut Counted<W>,
+) -> bool
+    requires leaf { head.now.leaf < length (components world.old.scenario) }
+    requires noted { AreNoted world.old.scenario world.old.world notes.old }
+    ensures { TellsStep W.contents telling world.old world.new notes.new out.old out.new going result head.now }
+{
+    counted(world);
+    let progress = begin(world.table(), telling, head, going, out);
+    let progress = tell_line(world, head, progress, out);
+    counted(world);
+    let progress = tell_accounts(world, head, progress, notes, out);
+    let progress = tell_sessions(world, head, progress, notes, out);
+    notes.renew(world);
+    progress.going
+}

@@ -1,0 +1,231 @@
+// What each turn of a run did, told.
+ghost use Rattle.std.specs.Prelude.{◌≡◌, ◌+◌, ◌<◌, ◌≤◌, ◌++◌, true, false, codes, decimal, length, Ok, IfOk, IfErr};
+ghost use Rattle.gq_model.specs.machine.Scenario.{components, system};
+ghost use Rattle.gq_model.specs.machine.World.{start};
+ghost use Rattle.gq_world.specs.Outcomes.{WritesAs};
+ghost use Rattle.gq_world.specs.internal.Going.{AreBelow};
+ghost use Rattle.gq_traces.specs.Trace.{after_all, after_turn, after_turns, all_text, start_traced, trace_text, turn_text, turns_text};
+ghost use Rattle.gq_traces.specs.Written.{tells_all, trace_from, trace_written};
+ghost use Rattle.gq_traces.specs.internal.Telling.{CanTrace, Goes, IsOn, IsTurnsFault, TellsTurns, budgets_of, turns_in};
+ghost use Rattle.gq_model.specs.texts.Turns.{turned};
+
+use crate::noted::{Notes, counted};
+use crate::numbered::{Numbered, all_numbered};
+use crate::steps::{Head, tell_step};
+use crate::telling::{Telling, write_on};
+use crate::tracker::{Ahead, first_aheads, go_on, next_due};
+use crate::words::{extend, extend_entry};
+use arrayvec::ArrayVec;
+use gq_init::TurnItem;
+use gq_init::counted::Counted;
+use gq_init::turns::{TurnsError, read_items};
+use gq_scenario::scenario::LeafNo;
+use gq_world::RunFault;
+use gq_world::account_lines::write_accounts;
+use gq_world::world::World;
+use std::alloc::{AllocError, Global};
+use std::io::Write;
+
+// A trace on the way: the programs, where all leaves stand in them, and what is noted of the world.
+#[derive(Drop)]
+struct Tracing {
+    programs: Vec<Numbered>,
+    aheads: Vec<Ahead>,
+    notes: Notes,
+}
+
+impl Tracing {
+    // At the start of a world. Refused only for want of host memory.
+    fn new(alloc: Global, world: &World) -> Result<Tracing, AllocError>
+        requires { world.now.world ≡ start (system world.now.scenario) }
+        ensures can { IfOk result (λ t. CanTrace world.now t) }
+        ensures on { IfOk result (λ t. IsOn t.programs.items t.aheads.items world.now 0 (start_traced (system world.now.scenario))) }
+    {
+        let programs = all_numbered(alloc, world.table())?;
+        let aheads = first_aheads(alloc, programs.as_slice())?;
+        let notes = Notes::new(alloc, world)?;
+        Ok(Tracing {
+            programs,
+            aheads,
+            notes,
+        })
+    }
+}
+
+// One turn of a leaf, before which there were so many, told if it is a step. It takes no host memory.
+fn tell_turn<W: Write>(
+    world: &mut World,
+    tracing: &mut Tracing,
+    telling: Telling,
+    turns: u32,
+    leaf: LeafNo,
+    going: bool,
+    out: &mut Counted<W>,
+) -> bool
+    requires leaf { leaf < length (components world.old.scenario) }
+    requires few { turns < 1000000 }
+    requires can { CanTrace world.old tracing.old }
+    ensures { TellsTurns W.contents (turn_text (tells_all telling) world.old.scenario (budgets_of world.old.scenario) leaf)
+        (after_turn (system world.old.scenario) leaf) turns 1 world.old world.new tracing.old tracing.new out.old out.new going result }
+{
+    counted(world);
+    let programs = tracing.programs.as_slice();
+    let stands = tracing.aheads.as_slice();
+    let Some(due) = next_due(programs, stands, world.machine(), leaf) else {
+        return going;
+    };
+    go_on(
+        programs,
+        tracing.aheads.as_mut_slice(),
+        world.machine(),
+        leaf,
+    );
+    let head = Head {
+        turn: turns + 1,
+        leaf,
+        due,
+    };
+    tell_step(world, &mut tracing.notes, &head, telling, going, out)
+}
+
+// So many turns of a leaf, before which there were so many of all. They take no host memory.
+fn tell_turns<W: Write>(
+    world: &mut World,
+    tracing: &mut Tracing,
+    telling: Telling,
+    turns: u32,
+    item: &TurnItem,
+    going: bool,
+    out: &mut Counted<W>,
+) -> bool
+    requires leaf { item.now.0 < length (components world.old.scenario) }
+    requires few { turns + item.now.1 ≤ 1000000 }
+    requires can { CanTrace world.old tracing.old }
+    ensures { TellsTurns W.contents (turns_text (tells_all telling) world.old.scenario (budgets_of world.old.scenario) item.now.0 item.now.1)
+        (after_turns (system world.old.scenario) item.now.0 item.now.1) turns item.now.1 world.old world.new tracing.old tracing.new out.old out.new going
+        result }
+{
+    let mut going = going;
+    for number in 0..item.count() {
+        going = tell_turn(
+            world,
+            tracing,
+            telling,
+            turns + number,
+            item.leaf(),
+            going,
+            out,
+        );
+    }
+    going
+}
+
+// All turns of a list, and how many they were. They take no host memory.
+fn tell_all<W: Write>(
+    world: &mut World,
+    tracing: &mut Tracing,
+    telling: Telling,
+    turns: &[TurnItem],
+    out: &mut Counted<W>,
+) -> (bool, u32)
+    requires leaves { AreBelow (length (components world.old.scenario)) turns.now }
+    requires few { turns_in turns.now ≤ 1000000 }
+    requires can { CanTrace world.old tracing.old }
+    ensures count { result.1 ≡ turns_in turns.now }
+    ensures told { TellsTurns W.contents (all_text (tells_all telling) world.old.scenario (budgets_of world.old.scenario) turns.now)
+        (after_all (system world.old.scenario) turns.now) 0 (turns_in turns.now) world.old world.new tracing.old tracing.new out.old out.new true result.0 }
+{
+    let mut going = true;
+    let mut taken = 0;
+    for item in turns {
+        going = tell_turns(world, tracing, telling, taken, item, going, out);
+        taken += item.count();
+    }
+    (going, taken)
+}
+
+// Writes how many turns there were.
+fn write_end<W: Write>(turns: u32, going: bool, out: &mut Counted<W>) -> bool
+    ensures { Goes W.contents out.old out.new going result (codes "end after " ++ decimal turns ++ codes " turns\n") }
+{
+    let mut line = ArrayVec::new();
+    extend_entry(&mut line, b"end after", u64::from(turns));
+    extend(&mut line, b" turns\n");
+    write_on(out, going, line.as_slice())
+}
+
+// The turns of a text, of the leaves of a world.
+fn turns_of(alloc: Global, world: &World, turns: &[u8]) -> Result<Vec<TurnItem>, RunFault<'static>>
+    ensures read { IfOk result (λ t. turned (components world.now.scenario) turns.now ≡ Ok t.items) }
+    ensures refused { IfErr result (λ f. IsTurnsFault f (turned (components world.now.scenario) turns.now)) }
+{
+    match read_items(alloc, turns, world.table()) {
+        Ok(turns) => Ok(turns),
+        Err(TurnsError::Memory(_)) => Err(RunFault::Memory),
+        Err(TurnsError::Fault { fault, line }) => Err(RunFault::Turns { fault, line }),
+    }
+}
+
+// Takes all turns of a list from the start of a world, and writes what they did and then the accounts of all nodes.
+fn write_trace<W: Write>(
+    world: &mut World,
+    tracing: &mut Tracing,
+    telling: Telling,
+    turns: &[TurnItem],
+    out: &mut Counted<W>,
+) -> Result<(), RunFault<'static>>
+    requires leaves { AreBelow (length (components world.old.scenario)) turns.now }
+    requires few { turns_in turns.now ≤ 1000000 }
+    requires can { CanTrace world.old tracing.old }
+    requires on { IsOn tracing.old.programs.items tracing.old.aheads.items world.old 0 (start_traced (system world.old.scenario)) }
+    ensures { WritesAs W.contents (Ok (trace_text (tells_all telling) world.old.scenario turns.now)) out.old out.new result }
+{
+    let (going, taken) = tell_all(world, tracing, telling, turns, out);
+    let going = write_end(taken, going, out);
+    if !going {
+        return Err(RunFault::Write);
+    }
+    counted(world);
+    match write_accounts(world.machine(), world.budgets(), out) {
+        Ok(()) => Ok(()),
+        Err(_) => Err(RunFault::Write),
+    }
+}
+
+// Reads turns, takes all of them from the start of a world, and writes what they did.
+fn trace_world<W: Write>(
+    alloc: Global,
+    world: &mut World,
+    turns: &[u8],
+    telling: Telling,
+    out: &mut Counted<W>,
+) -> Result<(), RunFault<'static>>
+    requires start { world.old.world ≡ start (system world.old.scenario) }
+    requires running { world.old.stopped ≡ false }
+    ensures { WritesAs W.contents (trace_from (tells_all telling) world.old.scenario turns.now) out.old out.new result }
+{
+    let turns = turns_of(alloc, world, turns)?;
+    let mut tracing = Tracing::new(alloc, world)?;
+    write_trace(world, &mut tracing, telling, turns.as_slice(), out)
+}
+
+/// Writes what each turn of a run did. A step is told by a line with the number of its turn, its leaf and its place in the text of the program, and below it by
+/// the line that it writes, the account of each node that it changes in anything but its steps, and each session that it changes; steps of which there is
+/// nothing of this are told where all are asked for. Then come how many turns there were, and the accounts of all nodes.
+///
+/// Nothing is written where the scenario or the turns are refused, or where host memory is, which no turn takes. After a failed write a front of the text was
+/// written.
+pub fn trace<W: Write>(
+    alloc: Global,
+    scenario: &[u8],
+    turns: &[u8],
+    telling: Telling,
+    out: &mut Counted<W>,
+) -> Result<(), RunFault<'static>>
+    ensures { WritesAs W.contents (trace_written (tells_all telling) scenario.now turns.now) out.old out.new result }
+{
+    let mut world = World::load(alloc, scenario)?;
+    let traced = trace_world(alloc, &mut world, turns, telling, out);
+    world.end();
+    traced
+}

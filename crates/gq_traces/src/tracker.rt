@@ -1,0 +1,354 @@
+// Where each leaf stands in the text of its program.
+ghost use Rattle.std.specs.Prelude.{◌≡◌, ◌<◌, ◌∷◌, [], List, ℕ, suc, nat_lt, true, Some, None, drop, get_or, length, map, slice_get, IfOk, IfNone, IfSome};
+ghost use Rattle.gq_model.specs.machine.Scenario.{Component, components};
+ghost use Rattle.gq_statements.specs.Statements.{current_seen};
+ghost use Rattle.gq_traces.specs.declared.numbered.Entry.{Entry};
+ghost use Rattle.gq_traces.specs.Places.{chosen, place, section_at, start_aheads};
+ghost use Rattle.gq_traces.specs.internal.Flat.{AllStand, AreAheads, ArePrograms, Passes, Stands, another_round, programs_of};
+ghost use Rattle.gq_traces.specs.internal.Telling.{GoesOn, IsTop, PassesOwn, PassesRequest, PlaceIs, StepTold, TellsDue, entry_place, place_of};
+ghost use Rattle.gq_traces.specs.internal.Telling.{statement_text, way_text};
+
+use crate::numbered::{Next, Numbered, Part, Way};
+use arrayvec::ArrayVec;
+use gq_machine::machine::Machine;
+use gq_machine::told::Asked;
+use gq_model::limits::GREATEST_DEPTH;
+use gq_model::phase::Phase;
+use gq_model::program::Section;
+use gq_scenario::scenario::LeafNo;
+use gq_statements::Current;
+use std::alloc::{AllocError, Global};
+
+/// A loop that was entered: the place of its entry, and the round in which it is, from 0.
+#[derive(Clone, Copy)]
+pub(crate) struct Round {
+    pub place: usize,
+    pub round: u16,
+}
+
+impl Default for Round {
+    fn default() -> Round {
+        Round { place: 0, round: 0 }
+    }
+}
+
+/// What a leaf has before it: a statement or the end of a list, and the loops that it is in, the innermost first.
+#[derive(Drop)]
+pub(crate) struct Ahead {
+    next: Next,
+    loops: ArrayVec<Round, GREATEST_DEPTH>,
+}
+
+/// What a place has of a statement.
+#[derive(Clone, Copy)]
+pub(crate) enum Statement<'a> {
+    /// Nothing, at the end and at the start of a section.
+    Nothing,
+    /// The text of one with no statement in it.
+    Plain(&'a [u8]),
+    /// An `if`.
+    If,
+    /// A loop that goes round so often.
+    Loop(u16),
+}
+
+/// The place of the step that a leaf takes next: its section, its number there, and its statement.
+#[derive(Clone, Copy)]
+pub(crate) struct Due<'a> {
+    pub section: Section,
+    pub number: u64,
+    pub statement: Statement<'a>,
+}
+
+impl Ahead {
+    // At the start of a section.
+    fn new(part: Part) -> Ahead
+        ensures next { result.next ≡ part.first }
+        ensures loops { result.loops.items ≡ [] }
+    {
+        Ahead {
+            next: part.first,
+            loops: ArrayVec::new(),
+        }
+    }
+
+    // Into a loop.
+    fn enter(&mut self, place: usize, body: Next)
+        requires { length self.old.loops.items < GREATEST_DEPTH }
+        ensures next { self.new.next ≡ body }
+        ensures loops { self.new.loops.items ≡ record { place = place; round = 0 } ∷ self.old.loops.items }
+    {
+        self.loops.insert(0, Round { place, round: 0 });
+        self.next = body;
+    }
+
+    // Past a statement. An `if` goes by the top operand.
+    fn pass(&mut self, numbered: &Numbered, top: Option<u32>, place: usize)
+        requires stands { Stands numbered.now.entries.items self.old }
+        requires next { self.old.next ≡ Some place }
+        ensures { (operands : List ℕ) → IsTop top operands → Passes numbered.now.entries.items self.old self.new operands }
+    {
+        match &numbered.entries[place].way {
+            Way::Plain(_, next) => self.next = *next,
+            Way::If(arm, other) => self.next = chosen(top, *arm, *other),
+            Way::Loop(_, body, _) => self.enter(place, *body),
+        }
+    }
+
+    // Into the next round of the innermost loop.
+    fn go_round(&mut self, body: Next)
+        requires some { 0 < length self.old.loops.items }
+        requires low { (get_or self.old.loops.items 0 (record { place = 0; round = 0 })).round < 65535 }
+        ensures next { self.new.next ≡ body }
+        ensures loops { self.new.loops.items ≡ another_round self.old.loops.items }
+    {
+        self.loops[0].round += 1;
+        self.next = body;
+    }
+
+    // Out of the innermost loop.
+    fn leave(&mut self, next: Next)
+        requires some { 0 < length self.old.loops.items }
+        ensures next { self.new.next ≡ next }
+        ensures loops { self.new.loops.items ≡ drop 1 self.old.loops.items }
+    {
+        let _left = self.loops.remove(0);
+        self.next = next;
+    }
+
+    // The innermost loop that the leaf is in.
+    fn innermost(&self) -> Option<Round>
+        ensures none { IfNone result (self.now.loops.items ≡ []) }
+        ensures some { IfSome result (λ r. self.now.loops.items ≡ r ∷ drop 1 self.now.loops.items) }
+    {
+        if self.loops.is_empty() {
+            return None;
+        }
+        Some(self.loops[0])
+    }
+
+    // Past the end of a list of statements.
+    fn pass_end(&mut self, numbered: &Numbered)
+        requires stands { Stands numbered.now.entries.items self.old }
+        requires next { self.old.next ≡ None }
+        ensures { (operands : List ℕ) → Passes numbered.now.entries.items self.old self.new operands }
+    {
+        match self.innermost() {
+            None => (),
+            Some(innermost) => self.pass_body(numbered, innermost),
+        }
+    }
+
+    // Past the end of the body of a loop: to its next round, or to what follows it.
+    fn pass_body(&mut self, numbered: &Numbered, innermost: Round)
+        requires stands { Stands numbered.now.entries.items self.old }
+        requires next { self.old.next ≡ None }
+        requires innermost { self.old.loops.items ≡ innermost ∷ drop 1 self.old.loops.items }
+        ensures { (operands : List ℕ) → Passes numbered.now.entries.items self.old self.new operands }
+    {
+        match &numbered.entries[innermost.place].way {
+            Way::Plain(_text, _next) => (),
+            Way::If(_arm, _other) => (),
+            Way::Loop(count, body, next) => {
+                if has_round(innermost.round, *count) {
+                    self.go_round(*body);
+                } else {
+                    self.leave(*next);
+                }
+            }
+        }
+    }
+
+    // Past the next step of a leaf that takes steps of its own and has this top operand.
+    fn pass_step(&mut self, numbered: &Numbered, top: Option<u32>)
+        requires stands { Stands numbered.now.entries.items self.old }
+        ensures { (operands : List ℕ) → IsTop top operands → Passes numbered.now.entries.items self.old self.new operands }
+    {
+        match self.next {
+            Some(place) => self.pass(numbered, top, place),
+            None => self.pass_end(numbered),
+        }
+    }
+
+    // The place of the next step, in this section.
+    fn place<'a>(&self, numbered: &'a Numbered, section: Section) -> Due<'a>
+        requires { Stands numbered.now.entries.items self.now }
+        ensures { PlaceIs numbered.now self.now section result }
+    {
+        match self.next {
+            Some(place) => entry_place(numbered, place, section),
+            None => self.end_place(numbered, section),
+        }
+    }
+
+    // The place of the end of a list of statements, in this section.
+    fn end_place<'a>(&self, numbered: &'a Numbered, section: Section) -> Due<'a>
+        requires stands { Stands numbered.now.entries.items self.now }
+        requires next { self.now.next ≡ None }
+        ensures { PlaceIs numbered.now self.now section result }
+    {
+        match self.innermost() {
+            None => Due {
+                section,
+                number: u64::from(numbered.part(section).size) + 1,
+                statement: Statement::Nothing,
+            },
+            Some(innermost) => entry_place(numbered, innermost.place, section),
+        }
+    }
+}
+
+// The place of an entry, in this section.
+fn entry_place<'a>(numbered: &'a Numbered, place: usize, section: Section) -> Due<'a>
+    requires { place < length numbered.now.entries.items }
+    ensures { (e : Entry) → slice_get numbered.now.entries.items place ≡ Some e → place_of result ≡ entry_place section e }
+{
+    let entry = &numbered.entries[place];
+    Due {
+        section,
+        number: entry.number as u64,
+        statement: statement_of(&entry.way),
+    }
+}
+
+// Whether a loop that goes round so often has another round after this one.
+fn has_round(round: u16, count: u16) -> bool
+    ensures more { result ≡ nat_lt (suc round) count }
+    ensures low { result ≡ true → round < 65535 }
+{
+    u32::from(round) + 1 < u32::from(count)
+}
+
+// One of two places, by the top operand.
+fn chosen(top: Option<u32>, arm: Next, other: Next) -> Next
+    ensures { (operands : List ℕ) → IsTop top operands → result ≡ chosen operands arm other }
+{
+    match top {
+        None | Some(0) => other,
+        Some(_) => arm,
+    }
+}
+
+// What a place has of a statement of this way.
+fn statement_of(way: &Way) -> Statement<'_>
+    ensures { statement_text result ≡ way_text way.now }
+{
+    match way {
+        Way::Plain(text, _) => Statement::Plain(text.as_slice()),
+        Way::If(_, _) => Statement::If,
+        Way::Loop(count, _, _) => Statement::Loop(*count),
+    }
+}
+
+// The section that a leaf is in.
+fn section_of(current: Option<Current>) -> Section
+    ensures { result ≡ section_at (current_seen current) }
+{
+    match current {
+        None => Section::Main,
+        Some(current) => current.section,
+    }
+}
+
+/// All leaves at the start of their programs. Refused only for want of host memory.
+pub(crate) fn first_aheads(alloc: Global, programs: &[Numbered]) -> Result<Vec<Ahead>, AllocError>
+    ensures { (cs : List Component) → ArePrograms programs.now (map (λ c. c.node.program) cs)
+        → IfOk result (λ aheads. AreAheads programs.now aheads.items (start_aheads cs)) }
+{
+    let mut aheads = Vec::new(alloc);
+    for numbered in programs {
+        aheads.push(Ahead::new(numbered.part(Section::Main)))?;
+    }
+    Ok(aheads)
+}
+
+// The place of the next step of a leaf that takes steps of its own.
+fn step_due<'a>(
+    programs: &'a [Numbered],
+    aheads: &[Ahead],
+    machine: &Machine,
+    leaf: LeafNo,
+) -> Due<'a>
+    requires leaf { leaf < length (components machine.now.scenario) }
+    requires programs { ArePrograms programs.now (programs_of machine.now.scenario) }
+    requires aheads { AllStand programs.now aheads.now }
+    ensures { StepTold programs.now aheads.now machine.now.scenario machine.now.world leaf result }
+{
+    let section = section_of(machine.current(leaf));
+    aheads[leaf.index()].place(&programs[leaf.index()], section)
+}
+
+// The place of the step that takes a request.
+fn request_due(asked: Asked) -> Due<'static>
+    ensures { place_of result ≡ place asked.section 0 [] }
+{
+    Due {
+        section: asked.section,
+        number: 0,
+        statement: Statement::Nothing,
+    }
+}
+
+/// The place of the step that a leaf takes next, if it can take one.
+pub(crate) fn next_due<'a>(
+    programs: &'a [Numbered],
+    aheads: &[Ahead],
+    machine: &Machine,
+    leaf: LeafNo,
+) -> Option<Due<'a>>
+    requires leaf { leaf < length (components machine.now.scenario) }
+    requires leaves { length machine.now.world.leaves ≡ length (components machine.now.scenario) }
+    requires programs { ArePrograms programs.now (programs_of machine.now.scenario) }
+    requires aheads { AllStand programs.now aheads.now }
+    ensures { TellsDue programs.now aheads.now machine.now.scenario machine.now.world leaf result }
+{
+    match machine.phase(leaf) {
+        Phase::Pending | Phase::Blocked | Phase::Exited => None,
+        Phase::Serving => match machine.oldest(leaf) {
+            None => None,
+            Some(asked) => Some(request_due(asked)),
+        },
+        Phase::Running => Some(step_due(programs, aheads, machine, leaf)),
+        Phase::Handling => Some(step_due(programs, aheads, machine, leaf)),
+    }
+}
+
+// Goes on past the next step of a leaf that takes steps of its own.
+fn pass_own(programs: &[Numbered], aheads: &mut [Ahead], machine: &Machine, leaf: LeafNo)
+    requires leaf { leaf < length (components machine.now.scenario) }
+    requires programs { ArePrograms programs.now (programs_of machine.now.scenario) }
+    requires aheads { AllStand programs.now aheads.old }
+    ensures { PassesOwn programs.now aheads.old aheads.new machine.now.world leaf }
+{
+    let top = machine.top(leaf);
+    aheads[leaf.index()].pass_step(&programs[leaf.index()], top);
+}
+
+// Goes on at the start of the section of a request.
+fn pass_request(programs: &[Numbered], aheads: &mut [Ahead], leaf: LeafNo, section: Section)
+    requires leaf { leaf < length programs.now }
+    requires aheads { length aheads.old ≡ length programs.now }
+    ensures { PassesRequest programs.now aheads.old aheads.new leaf section }
+{
+    let part = programs[leaf.index()].part(section);
+    aheads[leaf.index()] = Ahead::new(part);
+}
+
+/// Goes on past the step that a leaf takes next, which it can take and has not taken yet.
+pub(crate) fn go_on(programs: &[Numbered], aheads: &mut [Ahead], machine: &Machine, leaf: LeafNo)
+    requires leaf { leaf < length (components machine.now.scenario) }
+    requires leaves { length machine.now.world.leaves ≡ length (components machine.now.scenario) }
+    requires programs { ArePrograms programs.now (programs_of machine.now.scenario) }
+    requires aheads { AllStand programs.now aheads.old }
+    ensures { GoesOn programs.now aheads.old aheads.new machine.now.scenario machine.now.world leaf }
+{
+    match machine.phase(leaf) {
+        Phase::Pending | Phase::Blocked | Phase::Exited => (),
+        Phase::Serving => match machine.oldest(leaf) {
+            None => (),
+            Some(asked) => pass_request(programs, aheads, leaf, asked.section),
+        },
+        Phase::Running => pass_own(programs, aheads, machine, leaf),
+        Phase::Handling => pass_own(programs, aheads, machine, leaf),
+    }
+}

@@ -1,0 +1,102 @@
+#!/usr/bin/env python3
+"""tests/run_traces.py PROGRAM: holds `trade trace` and `trade state` against `trade run`, over all examples and all cases of runs.
+
+The lines of a trace that begin with `[`, with the account lines at its end, are the run's text, with `--all` and without. The lines of a state that are not
+indented are the run's account lines; of a leaf that lives the lines `holds` add up to what it has used, and its quantum with what it receives less what it lends
+to its quota; of an init its quantum less what it hands on; so for capabilities. The last line is 'N passed, M failed', and the exit status is 1 where one failed.
+"""
+import pathlib
+import re
+import subprocess
+import sys
+
+TOP = pathlib.Path(__file__).resolve().parent.parent
+SECONDS = 120
+ITEM = re.compile(r" +(quantum|hands|holds|lends|receives) (\d+)(?: caps (\d+))?")
+ACCOUNT = re.compile(r"account .* quota (\d+)(?: used (\d+))?(?: caps (\d+))?(?: taken (\d+))?(?: steps \S+ (\w+))?$")
+
+
+def told(program, *words):
+    """What the program writes, where it is done."""
+    ran = subprocess.run([program, *map(str, words)], stdin=subprocess.DEVNULL, stdout=subprocess.PIPE, stderr=subprocess.DEVNULL, timeout=SECONDS)
+    return ran.stdout.decode() if ran.returncode == 0 else None
+
+
+def runs():
+    """The scenario and the turns of each run."""
+    for turns in sorted((TOP / "examples").glob("*.turns")):
+        yield turns.parent / f"{turns.name.split('.')[0]}.toml", turns
+    for folder in sorted((TOP / "tests" / "cases").iterdir()):
+        if (folder / "command").read_text().split()[0] in ("run", "trace", "state") and (folder / "turns").exists():
+            yield folder / "scenario.toml", folder / "turns"
+
+
+def of_trace(text):
+    """What a trace has of the run's text."""
+    lines = text.splitlines(keepends=True)
+    last = max((i for i, line in enumerate(lines) if line.startswith("end after ")), default=len(lines))
+    return "".join([line for line in lines[:last] if line.startswith("[")] + lines[last + 1 :])
+
+
+def adds_up(block):
+    """Whether the items below an account line, the first of a block, add up to it."""
+    account = ACCOUNT.match(block[0])
+    if account is None:
+        return False
+    quota, used, caps, taken, phase = account.groups()
+    if phase in ("pending", "exited"):
+        return not any(ITEM.match(line) for line in block[1:])
+    sums = {}
+    for what, *amount in (item.groups() for item in map(ITEM.match, block[1:]) if item):
+        old = sums.get(what, (0, 0))
+        sums[what] = tuple(old[i] + int(amount[i] or 0) for i in (0, 1))
+    given, received, handed, lent, held = (sums.get(what, (0, 0)) for what in ("quantum", "receives", "hands", "lends", "holds"))
+    left = tuple(given[i] + received[i] - handed[i] - lent[i] for i in (0, 1))
+    return left == (int(quota), int(caps or 0)) and held == (int(used or 0), int(taken or 0))
+
+
+def blocks(text):
+    """The account lines of a state, each with the lines below it."""
+    found = []
+    for line in text.splitlines():
+        if line.startswith(" "):
+            found[-1].append(line)
+        else:
+            found.append([line])
+    return found
+
+
+def faults(program, run, scenario, turns):
+    """What of the trace and the state of a run is not as the run's text says."""
+    for words in (["trace"], ["trace", "--all"]):
+        text = told(program, *words, scenario, turns)
+        if text is None or of_trace(text) != run:
+            yield " ".join(words)
+    state = told(program, "state", scenario, turns)
+    if state is None:
+        yield "state"
+        return
+    accounts = [line for line in run.splitlines() if line.startswith("account ")]
+    if [block[0] for block in blocks(state)] != accounts:
+        yield "accounts of state"
+    yield from (f"items of {block[0]}" for block in blocks(state) if not adds_up(block))
+
+
+def main(words):
+    if len(words) != 1:
+        sys.exit(__doc__)
+    program, passed, failed = str(pathlib.Path(words[0]).resolve()), 0, 0
+    for scenario, turns in runs():
+        run = told(program, "run", scenario, turns)
+        if run is None:
+            continue
+        found = list(faults(program, run, scenario, turns))
+        passed, failed = passed + (not found), failed + bool(found)
+        for fault in found:
+            print(f"FAILED {scenario}, {turns.name}: {fault}")
+    print(f"{passed} passed, {failed} failed")
+    return 1 if failed or not passed else 0
+
+
+if __name__ == "__main__":
+    sys.exit(main(sys.argv[1:]))

@@ -1,0 +1,54 @@
+#!/usr/bin/env python3
+"""tests/run_viewer.py PROGRAM: tests the page that shows a run, over all examples with their turns and with those of `trade turns`.
+
+The tests are `viewer/test.mjs`, which node's own test runner runs; where node is not there, this says so, and passes. It ends with 0 where all tests passed.
+"""
+import os
+import pathlib
+import shutil
+import subprocess
+import sys
+import tempfile
+
+TOP = pathlib.Path(__file__).resolve().parent.parent
+
+
+def told(program, *words):
+    """What the program writes."""
+    return subprocess.run([program, *words], stdin=subprocess.DEVNULL, stdout=subprocess.PIPE, check=True).stdout
+
+
+def put_pair(folder, name, tree, trace):
+    """Puts the two texts of a run where the tests look for them."""
+    (folder / f"{name}.tree").write_bytes(tree)
+    (folder / f"{name}.trace").write_bytes(trace)
+
+
+def put_runs(program, folder):
+    """The texts of all examples: over each of their lists of turns, and over turns that bring all work to rest, with all steps."""
+    for scenario in sorted((TOP / "examples").glob("*.toml")):
+        tree, made = told(program, "tree", scenario), folder / f"{scenario.stem}.turns"
+        made.write_bytes(told(program, "turns", scenario))
+        put_pair(folder, f"{scenario.stem}-made", tree, told(program, "trace", "--all", scenario, made))
+        for turns in sorted(scenario.parent.glob(f"{scenario.stem}.*turns")):
+            put_pair(folder, turns.stem, tree, told(program, "trace", scenario, turns))
+
+
+def main():
+    program, node = str(pathlib.Path(sys.argv[1]).resolve()), shutil.which("node")
+    if node is None:
+        print("The page was not tested, as node is not there.")
+        return 0
+    with tempfile.TemporaryDirectory() as room:
+        put_runs(program, pathlib.Path(room))
+        known = {**os.environ, "VIEWER_DATA": room}
+        done = subprocess.run([node, "--test", TOP / "viewer" / "test.mjs"], env=known, stdout=subprocess.PIPE, stderr=subprocess.STDOUT, text=True)
+    lines = done.stdout.splitlines()
+    if done.returncode != 0:
+        print("\n".join(lines))
+    print("The page: " + ", ".join(line.removeprefix("# ") for line in lines if line.startswith(("# pass ", "# fail "))))
+    return done.returncode
+
+
+if __name__ == "__main__":
+    sys.exit(main())

@@ -1,0 +1,169 @@
+"use strict";
+// The drawing of components as boxes and of sessions as arrows. The shapes are made once for a size of the frame; a step from event to event changes them.
+
+/** What a leaf shows at each detail of layout.js, as numbers of its place in an unscaled box: undefined where it isn't shown. */
+const LEAF_PARTS = {
+  labels: { name: 16, pill: 21, caps: 33, bar: 42, barHeight: 7, use: 60 },
+  full: { name: 16, pill: 21, caps: 33, bar: 42, barHeight: 7, use: 60 },
+  short: { name: 13, bar: 18, barHeight: 6, use: 36 },
+  least: { name: 13, bar: 17, barHeight: 4 },
+};
+
+class BoxView {
+  constructor(run, frame, choose) {
+    Object.assign(this, { run, frame, choose, plan: layout(run.nodes, frame) });
+    const { detail, boxes, ways } = this.plan;
+    this.parts = LEAF_PARTS[detail];
+    this.inits = run.nodes.filter(n => !n.leaf).map(n => this.makeInit(n, boxes[n.number]));
+    this.leaves = run.nodes.filter(n => n.leaf).map(n => this.makeLeaf(n, boxes[n.number]));
+    this.ways = ways.map(way => this.makeWay(way));
+    this.svg = makeSvg("svg", { width: frame.width, height: frame.height, role: "img", class: detail === "labels" ? "" : "many" },
+      ...this.inits.map(i => i.group), ...this.ways.map(w => w.group), ...this.inits.map(i => i.head), ...this.leaves.map(l => l.group),
+      ...this.ways.map(w => w.label));
+  }
+  group(box, attributes) {
+    return makeSvg("g", { transform: `translate(${box.x} ${box.y}) scale(${this.plan.scale})`, ...attributes });
+  }
+  unscaled(box) { return { width: box.width / this.plan.scale, height: box.height / this.plan.scale }; }
+
+  makeInit(node, box) {
+    const group = this.group(box, {}), { width, height } = this.unscaled(box);
+    const title = makeSvg("title"), head = this.group(box, { class: "head" }), name = fit(node.name, width - 20, NAME_FONT);
+    const left = makeSvg("text", { class: "soft", x: width - 9, y: 16, "text-anchor": "end" });
+    group.append(title, makeSvg("rect", { class: "frame", width, height, rx: 8 }));
+    head.append(makeSvg("text", { class: "name", x: 9, y: 16 }, name), left);
+    return { node, group, head, title, left, room: width - 30 - widthOf(name, NAME_FONT) };
+  }
+  makeLeaf(node, box) {
+    const { parts } = this, { width, height } = this.unscaled(box), group = this.group(box, {});
+    const part = { node, group, width, title: makeSvg("title"), mark: makeSvg("path", { class: "glyph" }) };
+    const name = fit(node.name, width - (parts.pill ? 18 : 30), NAME_FONT), nameAt = parts.pill ? 10 : 24;
+    const service = fit(node.provides ?? "", width - 30 - widthOf(name, NAME_FONT)), colour = `fill:var(${serverColour(this.run, node.number)})`;
+    group.append(part.title, makeSvg("rect", { class: "box", width, height, rx: 6 }));
+    if (node.provides !== undefined) group.append(makeSvg("rect", { y: 5, width: 4, height: height - 10, style: colour }));
+    group.append(makeSvg("text", { class: "name", x: nameAt, y: parts.name }, name));
+    if (parts.pill) {
+      part.pill = makeSvg("rect", { class: "pill", x: 9, y: parts.pill, height: 16, rx: 8 });
+      part.phase = makeSvg("text", { class: "phase", x: 28, y: parts.pill + 12 });
+      group.append(makeSvg("text", { class: "soft", x: width - 8, y: parts.name, "text-anchor": "end" }, service), part.pill, part.phase);
+      part.caps = makeSvg("text", { x: width - 8, y: parts.caps, "text-anchor": "end" });
+      group.append(part.caps);
+    }
+    part.mark.setAttribute("transform", parts.pill ? `translate(14 ${parts.pill + 3})` : `translate(9 ${parts.name - 9.5})`);
+    part.quota = makeSvg("rect", { class: "quota", x: 9, y: parts.bar, height: parts.barHeight, rx: 2 });
+    part.used = makeSvg("rect", { class: "used", x: 9, y: parts.bar, height: parts.barHeight, rx: 2 });
+    group.append(part.mark, part.quota, part.used);
+    if (parts.use) group.append(part.use = makeSvg("text", { x: 9, y: parts.use }));
+    group.addEventListener("click", () => this.choose(node.number));
+    return part;
+  }
+  makeWay(way) {
+    const { points, client, server, service } = way, [x, y] = points.at(-1), size = this.plan.scale, colour = `var(${serverColour(this.run, server)})`;
+    const part = { way, group: makeSvg("g"), label: makeSvg("g"), title: makeSvg("title"), path: makeSvg("path", { d: wayPath(points) }), mine: false };
+    part.tip = makeSvg("path", { class: "tip", d: `M${x} ${y}l${-8 * size} ${-4 * size}v${8 * size}z`, style: `fill:${colour}` });
+    part.group.append(part.title, part.path, part.tip);
+    part.name = `${this.run.nodes[client].name} to ${this.run.nodes[server].name}: ${service}`;
+    part.colour = colour;
+    if (this.plan.detail === "labels") {
+      const [[sx, sy]] = points, text = (dy, more) => makeSvg("text", { x: 5, y: dy, ...more });
+      part.label.setAttribute("transform", `translate(${sx} ${sy}) scale(${size})`);
+      part.label.append(part.above = text(-4, {}), part.below = text(12, { class: "soft" }));
+    }
+    return part;
+  }
+
+  /** Shows a state; `acts` is the leaf of the event, `chosen` a node or undefined. */
+  update(state, acts, chosen) {
+    for (const init of this.inits) {
+      const account = state.accounts[init.node.number];
+      if (isNew(init, account.row)) this.updateInit(init, account);
+    }
+    for (const leaf of this.leaves) {
+      const { number } = leaf.node, account = state.accounts[number];
+      if (isNew(leaf, `${account.row} ${number === acts} ${number === chosen}`)) this.updateLeaf(leaf, account, number === acts, number === chosen);
+    }
+    const open = new Map();
+    for (const session of state.sessions) {
+      const key = `${session.client} ${session.service}`;
+      if (open.has(key)) open.get(key).push(session); else open.set(key, [session]);
+    }
+    for (const part of this.ways) {
+      const sessions = open.get(`${part.way.client} ${part.way.service}`) ?? [], { client, server } = part.way, mine = client === chosen || server === chosen;
+      if (isNew(part, `${sessions.map(s => s.row)} ${mine}`)) this.updateWay(part, sessions, mine ? " mine" : "");
+    }
+    this.svg.classList.toggle("choosing", chosen !== undefined && this.run.nodes[chosen].leaf);
+    const turn = this.run.events.turn[state.event];
+    const told = `${counted(this.run.nodes.length, "component")} and ${counted(state.sessions.length, "open session")} at turn ${grouped(turn)}`;
+    setAttributes(this.svg, { "aria-label": told });
+  }
+  updateInit({ node, title, left, room }, account) {
+    const { two } = this.run, free = bytes(account.quota), some = two ? `, ${caps(account.caps)}` : "";
+    const full = `${free} of ${bytes(node.quantum)}${two ? `, ${account.caps} of ${caps(node.caps)}` : ""} left`;
+    setText(left, firstFit([full, `${free}${some} left`, `${free} left`, free], room));
+    const capsTitle = two ? `, and ${account.caps} of ${caps(node.caps)}` : "";
+    setText(title, `${node.label}: ${counted(account.quota, "byte")} of ${counted(node.quantum, "byte")}${capsTitle} not handed to children`);
+  }
+  updateLeaf(part, account, acts, chosen) {
+    const { node, width } = part, most = this.run.greatest[node.number].quota, room = width - 18;
+    const live = account.phase !== "pending" && account.phase !== "exited";
+    setAttributes(part.group, { class: `leaf ${account.phase} ${acts ? "acts" : ""} ${chosen ? "chosen" : ""}` });
+    setGlyph(part.mark, account.phase);
+    setAttributes(part.quota, { width: room * account.quota / most });
+    setAttributes(part.used, { width: room * account.used / most });
+    const capsUse = `${account.taken} of ${caps(account.caps)}`, use = `${bytes(account.used)} of ${bytes(account.quota)} used`;
+    if (part.pill) {
+      const pillWidth = widthOf(account.phase, BOLD_FONT) + 26;
+      setAttributes(part.pill, { width: pillWidth, style: `fill:var(--${account.phase})` });
+      setText(part.phase, account.phase);
+      const texts = this.run.two && live ? [capsUse, `${account.taken}/${caps(account.caps)}`, `${account.taken}/${account.caps}`] : [""];
+      setText(part.caps, firstFit(texts, width - pillWidth - 23));
+    }
+    if (part.use) {
+      const texts = live ? [use, use.replace(" used", "")] : [account.phase === "exited" ? "all given back" : `starts after ${node.after}`];
+      setText(part.use, firstFit(texts, width - 16));
+    }
+    const facts = [`${node.label}, ${account.phase}`, `${grouped(account.used)} of ${counted(account.quota, "byte")} used`];
+    if (node.provides !== undefined) facts[0] += `, provides ${node.provides}`;
+    if (this.run.two) facts.push(`${capsUse} taken`);
+    facts.push(`${grouped(account.steps)} of ${counted(node.steps, "step")}`, `the bar has room for the greatest quota of this run: ${counted(most, "byte")}`);
+    setText(part.title, facts.join("\n"));
+  }
+  updateWay(part, sessions, mine) {
+    const told = sessions.find(s => s.stage === AT_HAND) ?? sessions.find(s => s.stage === WAITS) ?? sessions[0];
+    const kind = !told ? "closed" : ["", "idle", "waits", "hand"][told.stage];
+    setAttributes(part.path, { class: `way ${kind}${mine}`, style: told ? `stroke:${part.colour}` : "" });
+    setAttributes(part.tip, { class: `tip${mine}`, display: told ? "inline" : "none" });
+    setText(part.title, told ? `${part.name}\n${sessions.map(s => sessionTold(this.run, s)).join("\n")}` : `${part.name}, not open`);
+    if (!part.above) return;
+    const room = this.plan.strip / this.plan.scale - 10, service = `${sessions.length > 1 ? `${sessions.length} × ` : ""}${part.way.service}`;
+    const request = told?.request ? `${told.request} ${STAGES[told.stage]}` : "", level = `${service} L${told?.level}`;
+    const texts = request ? [`${level} ${request}`, `${service} ${request}`, request] : [level, service];
+    setText(part.above, told ? firstFit(texts, room, request ? BOLD_FONT : TEXT_FONT) : "");
+    setAttributes(part.above, { class: request ? "asked" : "" });
+    const sum = { lends: sessions.reduce((total, s) => total + s.lends, 0), caps: sessions.reduce((total, s) => total + s.caps, 0) };
+    setText(part.below, told ? fit(lent(this.run, sum), room) : "");
+  }
+}
+
+/** Whether a part has something else to show than it shows, by a key of what it shows. */
+function isNew(part, key) {
+  const differs = part.shown !== key;
+  part.shown = key;
+  return differs;
+}
+
+/** The path of a way: straight where it stays at its height, else in a bend. */
+function wayPath(points) {
+  let path = `M${points[0][0]} ${points[0][1]}`;
+  for (let i = 1; i < points.length; i++) {
+    const [x, y] = points[i - 1], [toX, toY] = points[i], bend = Math.max(12, (toX - x) / 2);
+    path += y === toY ? `L${toX} ${toY}` : `C${x + bend} ${y} ${toX - bend} ${toY} ${toX} ${toY}`;
+  }
+  return path;
+}
+
+/** All that the trace tells of a session. */
+function sessionTold(run, session) {
+  const request = session.request ? `, ${session.request} ${STAGES[session.stage]}` : "";
+  return `session ${session.number} at level ${session.level}, lends ${counted(session.lends, "byte")}${run.two ? ` and ${caps(session.caps)}` : ""}${request}`;
+}

@@ -1,0 +1,15 @@
+// The page's plain scripts, for node: they are run in the order in which the page has them, and their functions are handed out.
+import { readFileSync } from "node:fs";
+import { join } from "node:path";
+import { fileURLToPath } from "node:url";
+import { runInThisContext } from "node:vm";
+
+export const viewer = fileURLToPath(new URL("..", import.meta.url));
+for (const name of ["read.js", "state.js", "timeline.js", "layout.js"]) {
+  runInThisContext(readFileSync(join(viewer, name), "utf8"), { filename: join(viewer, name) });
+}
+const NAMES = [
+  "readTree", "readTrace", "Malformed", "STAGES", "NOBODY", "stateAt", "accountAt", "accountLine", "accountChanges", "sessionChanges", "nextOf", "linesUpTo",
+  "lineText", "bytes", "sentence", "changeWords", "sessionWords", "layout", "wholeWindow", "windowAround", "columnEvents", "bandOf", "laneOf", "marksOf",
+];
+export const page = runInThisContext(`({ ${NAMES} })`);
