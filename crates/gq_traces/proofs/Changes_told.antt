@@ -12,7 +12,7 @@ use Rattle.gq_world.specs.Worlds.{World}
 use Rattle.gq_traces.specs.Trace.{Standing, account_change, account_changes, same_told, session_change, session_changes, session_line, told_session}
 use Rattle.gq_traces.specs.declared.noted.Notes.{Notes}
 use Rattle.gq_traces.specs.declared.telling.Progress.{Progress}
-use Rattle.gq_traces.specs.internal.Noted.{AreNoted, standing_in, told_change}
+use Rattle.gq_traces.specs.internal.Noted.{SessionsNoted, standing_in, told_change}
 use Rattle.gq_traces.specs.internal.Telling.{Tells}
 use Rattle.gq_traces.proofs.Going.{tells_both, tells_nothing, tells_text}
 
@@ -125,7 +125,7 @@ module _ {W : Type 0} (contents : W → Option (List ℕ)) where
       (sym (append-nil h.text) ∙ ap (λ n. h.text ++ session_changes s.version (system s) old new k n) (sym none) ∙ h.all) h.tells
 
   -- a session by what was noted of it
-  pub change_noted : (s : Scenario) (old new : model.World) (k : ℕ) (notes : Notes) → AreNoted s old notes → k < 16449
+  pub change_noted : (s : Scenario) (old new : model.World) (k : ℕ) (notes : Notes) → SessionsNoted s old notes → k < 16449
       → told_change s k (get_or notes.sessions.items k None) new ≡ session_change s.version (system s) old new k
   change_noted s old new k notes h less =
       ap (λ o. if same_told o (told_session new k) then [] else session_line s.version (system s) k (told_session new k)) (h.sessions k less).is

@@ -9,13 +9,14 @@ use Rattle.gq_model.specs.machine.Accounts.{Account, accounts}
 use Rattle.gq_model.specs.machine.Scenario.{Scenario}
 use Rattle.gq_model.specs.machine.World as model
 use Rattle.gq_model.proofs.Small.{none_some}
-use Rattle.gq_init.specs.Told.{Told, told_of}
+use Rattle.gq_laws.proofs.linking.Worlds.{set_else}
+use Rattle.gq_init.specs.Told.{Told}
 use Rattle.gq_world.specs.Lines.{accounts_by, all_accounts}
 use Rattle.gq_world.specs.Worlds.{World}
 use Rattle.gq_traces.specs.Trace.{standing_of, told_in, told_session}
 use Rattle.gq_traces.specs.declared.noted.Notes.{Notes}
 use Rattle.gq_traces.specs.declared.sessions.ToldSession.{ToldSession}
-use Rattle.gq_traces.specs.internal.Noted.{AreNoted, IsTold, seen_session, standing_in}
+use Rattle.gq_traces.specs.internal.Noted.{AreNoted, IsTold, SessionsNoted, seen_session, standing_in}
 
 pub get_set_same : {A : Type 0} (xs : List A) (k : ℕ) (y d : A) → k < length xs → get_or (slice_set xs k y) k d ≡ y
 get_set_same [] k y d less = absurd (omega (arith, less))
@@ -37,18 +38,18 @@ none_more (x ∷ xs) h (suc k) = none_more xs (λ j. h (suc j)) k
 
 -- an account more is noted
 pub accounts_more : (xs : List Told) (all : List Account) (n k : ℕ) (y : Told) → k ≡ n → n < length xs → n < length all
-    → IfSome (slice_get all n) (λ a. y ≡ told_of a) → map standing_in (take n xs) ≡ map standing_of (take n all)
+    → IfSome (slice_get all n) (λ a. standing_in y ≡ standing_of a) → map standing_in (take n xs) ≡ map standing_of (take n all)
     → map standing_in (take (n + 1) (slice_set xs k y)) ≡ map standing_of (take (n + 1) all)
 accounts_more xs all n k y at less fewer told so_far =
     subst (λ j. map standing_in (take (n + 1) (slice_set xs j y)) ≡ map standing_of (take (n + 1) all)) (sym at)
     (let one : n + 1 ≡ suc n = omega arith in
     subst (λ m. map standing_in (take m (slice_set xs n y)) ≡ map standing_of (take m all)) (sym one) (by xs all n less fewer told so_far))
   where
-    by : (xs : List Told) (all : List Account) (n : ℕ) → n < length xs → n < length all → IfSome (slice_get all n) (λ a. y ≡ told_of a)
+    by : (xs : List Told) (all : List Account) (n : ℕ) → n < length xs → n < length all → IfSome (slice_get all n) (λ a. standing_in y ≡ standing_of a)
         → map standing_in (take n xs) ≡ map standing_of (take n all) → map standing_in (take (suc n) (slice_set xs n y)) ≡ map standing_of (take (suc n) all)
     by [] all n less fewer told so_far = absurd (omega (arith, less))
     by (x ∷ xs) [] n less fewer told so_far = absurd (omega (arith, fewer))
-    by (x ∷ xs) (a ∷ all) zero less fewer told so_far = ap (λ z. standing_in z ∷ []) told
+    by (x ∷ xs) (a ∷ all) zero less fewer told so_far = ap (λ z. z ∷ []) told
     by (x ∷ xs) (a ∷ all) (suc n) less fewer told so_far =
         λ i. first so_far i ∷ by xs all n (omega (arith, less)) (omega (arith, fewer)) told (rest so_far) i
       where
@@ -85,6 +86,11 @@ pub others_more : (xs old : List (Option ToldSession)) (n : ℕ) (y : Option Tol
 others_more xs old n y h k above =
     get_set_other xs n k y None (λ e. omega (arith, above, e)) ∙ h k (omega (arith, above))
 
+-- of what is noted from a number on the same stays
+pub later_more : {A : Type 0} (xs olds : List A) (n : ℕ) (y : A) → ((k : ℕ) → n ≤ k → slice_get xs k ≡ slice_get olds k) → (k : ℕ) → n + 1 ≤ k
+    → slice_get (slice_set xs n y) k ≡ slice_get olds k
+later_more xs olds n y h k over = set_else xs n k y (λ e. omega (arith, over, e)) ∙ h k (omega (arith, over))
+
 -- WHAT IS NOTED THEN
 
 none_told : (w : model.World) (k : ℕ) → length w.sessions ≤ k → told_session w k ≡ None
@@ -95,15 +101,13 @@ none_told w k few = ap (λ o. told_in w k (model.joined o)) (past w.sessions k f
     past (x ∷ xs) zero few = absurd (omega (arith, few))
     past (x ∷ xs) (suc k) few = past xs k (omega (arith, few))
 
-pub noted_all : (w : World) (old new : Notes) (count most : ℕ) → count ≡ length w.world.sessions → count ≤ most → old.count ≤ most → most ≤ 16449
+-- the sessions
+pub sessions_all : (w : World) (old new : Notes) (count most : ℕ) → count ≡ length w.world.sessions → count ≤ most → old.count ≤ most → most ≤ 16449
     → ((k : ℕ) → old.count ≤ k → get_or old.sessions.items k None ≡ None)
     → ((k : ℕ) → k < most → IsTold w.scenario w.world k (get_or new.sessions.items k None))
     → ((k : ℕ) → most ≤ k → get_or new.sessions.items k None ≡ get_or old.sessions.items k None)
-    → length new.sessions.items ≡ 16449 → new.count ≡ count → map standing_in new.accounts.items ≡ map standing_of (all_accounts w)
-    → AreNoted w.scenario w.world new
-unfolding all_accounts accounts_by
-noted_all w old new count most is less few room none told others long now accounts = record {
-  accounts = accounts;
+    → length new.sessions.items ≡ 16449 → new.count ≡ count → SessionsNoted w.scenario w.world new
+sessions_all w old new count most is less few room none told others long now = record {
   sessions = λ k below. elim (le_or_lt most k) [
     | inl over ↦ subst (IsTold w.scenario w.world k) (sym (nothing k over)) (record {
       is = sym (none_told w.world k (omega (arith, over, less, is)));
@@ -132,3 +136,30 @@ noted_all w old new count most is less few room none told others long now accoun
 
     by_told : (k : ℕ) → k < most → length w.world.sessions ≤ k → get_or new.sessions.items k None ≡ None
     by_told k under over = none_seen (get_or new.sessions.items k None) ((told k under).is ∙ none_told w.world k over)
+
+-- accounts and sessions
+pub noted_both : (w : World) (n : Notes) → map standing_in n.accounts.items ≡ map standing_of (all_accounts w) → SessionsNoted w.scenario w.world n
+    → AreNoted w.scenario w.world n
+unfolding all_accounts accounts_by
+noted_both w n accounts h =
+    record { accounts = accounts; sessions = h.sessions; room = h.room; count = h.count; few = h.few; beyond = h.beyond }
+
+pub sessions_of : (s : Scenario) (w : model.World) (n m : Notes) → AreNoted s w n → m.sessions ≡ n.sessions → m.count ≡ n.count → SessionsNoted s w m
+sessions_of s w n m h sessions count =
+    let few = h.few in
+    record {
+      sessions = λ k less. subst (IsTold s w k) (ap (λ l. get_or l.items k None) (sym sessions)) (h.sessions k less);
+      room = ap (λ l. length l.items) sessions ∙ h.room;
+      count = count ∙ h.count;
+      few = omega (arith, few, count);
+      beyond = λ k over. ap (λ l. get_or l.items k None) sessions ∙ h.beyond k (omega (arith, over, count));
+    }
+
+pub noted_all : (w : World) (old new : Notes) (count most : ℕ) → count ≡ length w.world.sessions → count ≤ most → old.count ≤ most → most ≤ 16449
+    → ((k : ℕ) → old.count ≤ k → get_or old.sessions.items k None ≡ None)
+    → ((k : ℕ) → k < most → IsTold w.scenario w.world k (get_or new.sessions.items k None))
+    → ((k : ℕ) → most ≤ k → get_or new.sessions.items k None ≡ get_or old.sessions.items k None)
+    → length new.sessions.items ≡ 16449 → new.count ≡ count → map standing_in new.accounts.items ≡ map standing_of (all_accounts w)
+    → AreNoted w.scenario w.world new
+noted_all w old new count most is less few room none told others long now accounts =
+    noted_both w new accounts (sessions_all w old new count most is less few room none told others long now)

@@ -36,6 +36,11 @@ noted_count s old w notes same at noted count =
     sym (length-map notes.accounts.items standing_in) ∙ ap length noted.accounts ∙ length-map (accounts s old (budgets_of s)) standing_of
     ∙ (λ i. length (accounts (sym same i) (sym at i) (budgets_of (sym same i)))) ∙ count ∙ ap (λ (r : Scenario). length (node_rows r)) same
 
+-- the first line of a step where all are told, and what follows
+begun_then : (all : Bool) (head text : List ℕ) → (if all then head else []) ++ more_told all head text ≡ told_step all head text
+begun_then true head text = refl
+begun_then false head text = refl
+
 module _ {W : Type 0} (contents : W → Option (List ℕ)) where
   pub step_begins : (all : Bool) (s r : Scenario) (h : Head) (a b : Counted W) (was : Bool) (p : Progress) → r ≡ s
       → Goes contents a b was p.going (if all then head_text r h else []) → Goes contents a b was p.going (if all then head_text s h else [])
@@ -61,9 +66,15 @@ module _ {W : Type 0} (contents : W → Option (List ℕ)) where
       (max (length old.sessions) (length new.world.sessions)))) same sessions in
       let whole = tells_both contents b d e p r t head _ _ (tells_both contents b c d p q r head _ _ line accounts_then) sessions_then in
       goes_text contents a e was t.going _ _
-      (ap (λ u. (if all then head else []) ++ more_told u head all_told) begun ∙ by all head all_told)
+      (ap (λ u. (if all then head else []) ++ more_told u head all_told) begun ∙ begun_then all head all_told)
       (goes_both contents a b e was p.going t.going _ _ begins whole.goes)
-    where
-      by : (all : Bool) (head text : List ℕ) → (if all then head else []) ++ more_told all head text ≡ told_step all head text
-      by true head text = refl
-      by false head text = refl
+
+  -- of a step nothing is told but its line
+  pub step_line : (all : Bool) (s : Scenario) (h : Head) (text line : List ℕ) (a b c : Counted W) (was : Bool) (p q : Progress) → p.begun ≡ all
+      → text ≡ line → Goes contents a b was p.going (if all then head_text s h else []) → Tells contents b c p q (head_text s h) line
+      → Goes contents a c was q.going (told_step all (head_text s h) text)
+  step_line all s h text line a b c was p q begun same begins told =
+      let head = head_text s h in
+      goes_text contents a c was q.going _ _
+      (ap (λ u. (if all then head else []) ++ more_told u head line) begun ∙ (begun_then all head line ∙ ap (told_step all head) (sym same)))
+      (goes_both contents a b c was p.going q.going _ _ begins told.goes)

@@ -5,4 +5,5 @@ pub mod Trace
 pub mod State
 pub mod Made_of
 pub mod Written
+pub mod Lines_of
 pub mod internal

@@ -34,6 +34,7 @@ pub mod state_laws;
 mod steps;
 pub mod telling;
 pub mod trace;
+pub mod trace_laws;
 mod tracker;
 pub mod turns;
 mod words;

@@ -4,12 +4,14 @@ ghost use Rattle.gq_model.specs.machine.Scenario.{components};
 ghost use Rattle.gq_resolve.specs.NodeTables.{node_rows};
 ghost use Rattle.gq_world.specs.Lines.{all_accounts};
 ghost use Rattle.gq_traces.specs.Trace.{same_phase, same_standing, same_using, standing_of, using_of};
-ghost use Rattle.gq_traces.specs.internal.Noted.{AreNoted, CanRenew, IsTold, standing_in};
+ghost use Rattle.gq_traces.specs.internal.Noted.{AreNoted, CanRenew, IsTold, IsUse, standing_in};
 
 use crate::sessions::{ToldSession, same_amount, told_session};
 use gq_init::account::{Account, LeafAccount};
+use gq_machine::machine::Machine;
 use gq_model::phase::Phase;
 use gq_scenario::node::NodeNo;
+use gq_scenario::scenario::LeafNo;
 use gq_tariff::Amount;
 use gq_world::world::World;
 use std::alloc::{AllocError, Global};
@@ -24,6 +26,28 @@ pub(crate) struct Notes {
     pub sessions: Vec<Option<ToldSession>>,
     // How many numbers of sessions have been used.
     pub count: usize,
+}
+
+/// What a leaf holds and what it does.
+#[derive(Clone, Copy)]
+pub(crate) struct Use {
+    pub used: Amount,
+    pub phase: Phase,
+}
+
+/// What a leaf holds and what it does now.
+pub(crate) fn use_of(machine: &Machine, leaf: LeafNo) -> Use
+    requires leaf { leaf < length (components machine.now.scenario) }
+    requires leaves { length machine.now.world.leaves ≡ length (components machine.now.scenario) }
+    ensures { IsUse machine.now.scenario machine.now.world leaf result }
+{
+    Use {
+        used: Amount {
+            ram: machine.used(leaf),
+            caps: machine.caps_used(leaf),
+        },
+        phase: machine.phase(leaf),
+    }
 }
 
 /// A world has a leaf for each component, and an account for each node. It does nothing.
@@ -84,8 +108,8 @@ fn quota_of(account: &Account) -> Amount
     }
 }
 
-// Whether two phases are one.
-fn same_phase(a: Phase, b: Phase) -> bool
+/// Whether two phases are one.
+pub(crate) fn same_phase(a: Phase, b: Phase) -> bool
     ensures { result ≡ same_phase a b }
 {
     match (a, b) {
@@ -130,8 +154,8 @@ impl Notes {
         Ok(notes)
     }
 
-    /// Notes a world anew. It takes no host memory.
-    pub(crate) fn renew(&mut self, world: &World)
+    // Notes a world anew. It takes no host memory.
+    fn renew(&mut self, world: &World)
         requires leaves { length world.now.world.leaves ≡ length (components world.now.scenario) }
         requires can { CanRenew world.now self.old }
         ensures { AreNoted world.now.scenario world.now.world self.new }

@@ -1,18 +1,16 @@
 // What is told of a step.
-ghost use Rattle.std.specs.Prelude.{◌≡◌, ℕ, ◌<◌, ◌≤◌, if◌then◌else◌, [], Some, None, get_or, length, map, max, slice_get};
-ghost use Rattle.gq_model.specs.machine.Accounts.{Account};
-ghost use Rattle.gq_model.specs.machine.Scenario.{components, system};
-ghost use Rattle.gq_init.specs.Told.{Told};
+ghost use Rattle.std.specs.Prelude.{◌≡◌, ℕ, ◌<◌, ◌≤◌, if◌then◌else◌, [], None, get_or, length};
+ghost use Rattle.gq_model.specs.machine.Scenario.{components};
 ghost use Rattle.gq_model.specs.machine.World as model;
 ghost use Rattle.gq_resolve.specs.NodeTables.{node_rows};
 ghost use Rattle.gq_world.specs.Lines.{all_accounts};
-ghost use Rattle.gq_traces.specs.Trace.{account_change, account_changes, session_changes};
-ghost use Rattle.gq_traces.specs.internal.Noted.{AreKnown, AreNoted, standing_in, told_change};
+ghost use Rattle.gq_traces.specs.internal.Noted.{AreKnown, AreNoted, SessionsNoted};
 ghost use Rattle.gq_traces.specs.Written.{tells_all};
-ghost use Rattle.gq_traces.specs.internal.Telling.{Goes, TakesStep, Tells, TellsStep, head_front, head_text, statement_text};
+ghost use Rattle.gq_traces.specs.internal.Telling.{Goes, TakesStep, Tells, TellsAccounts, TellsNode, TellsOwn, TellsSession, TellsSessions, TellsStep};
+ghost use Rattle.gq_traces.specs.internal.Telling.{head_front, head_text, statement_text};
 
-use crate::noted::{Notes, counted, same_account};
-use crate::sessions::{label_of, same_told, session_line, told_session};
+use crate::noted::{Notes, counted, same_account, same_phase, use_of};
+use crate::sessions::{label_of, same_amount, same_told, session_line, told_session};
 use crate::telling::{Progress, Telling, write_on};
 use crate::tracker::{Due, Statement};
 use crate::words::{Line, extend, extend_entry, extend_place};
@@ -158,22 +156,20 @@ fn tell_line<W: Write>(
     }
 }
 
-// Tells the account of a node, if it stands otherwise than it was noted.
+// Tells the account of a node, if it stands otherwise than it was noted, and notes it anew.
 fn tell_account<W: Write>(
     world: &World,
     head: &Head<'_>,
     progress: Progress,
     node: NodeNo,
-    notes: &Notes,
+    notes: &mut Notes,
     out: &mut Counted<W>,
 ) -> Progress
     requires leaf { head.now.leaf < length (components world.now.scenario) }
     requires leaves { length world.now.world.leaves ≡ length (components world.now.scenario) }
     requires node { node < length (node_rows world.now.scenario) }
-    requires noted { node < length notes.now.accounts.items }
-    ensures { (a : Account) → (b : Told) → slice_get (all_accounts world.now) node ≡ Some a → slice_get notes.now.accounts.items node ≡ Some b
-        → Tells W.contents out.old out.new progress result (head_text world.now.scenario head.now)
-        (account_change world.now.scenario.version (standing_in b) a) }
+    requires noted { node < length notes.old.accounts.items }
+    ensures { TellsNode W.contents world.now node notes.old notes.new out.old out.new progress result head.now }
 {
     let account = world.account(node);
     if same_account(&notes.accounts[node.index()], &account) {
@@ -181,22 +177,22 @@ fn tell_account<W: Write>(
     }
     let table = world.table();
     let line = account_line(table.scenario().version(), table.label(node), &account);
+    notes.accounts[node.index()] = account;
     tell(table, head, progress, line.as_slice(), out)
 }
 
-// Tells the accounts of all nodes that stand otherwise than they were noted.
+// Tells the accounts of all nodes that stand otherwise than they were noted, and notes them anew.
 fn tell_accounts<W: Write>(
     world: &World,
     head: &Head<'_>,
     progress: Progress,
-    notes: &Notes,
+    notes: &mut Notes,
     out: &mut Counted<W>,
 ) -> Progress
     requires leaf { head.now.leaf < length (components world.now.scenario) }
     requires leaves { length world.now.world.leaves ≡ length (components world.now.scenario) }
-    requires noted { length notes.now.accounts.items ≡ length (all_accounts world.now) }
-    ensures { Tells W.contents out.old out.new progress result (head_text world.now.scenario head.now)
-        (account_changes world.now.scenario.version (map standing_in notes.now.accounts.items) (all_accounts world.now)) }
+    requires noted { length notes.old.accounts.items ≡ length (all_accounts world.now) }
+    ensures { TellsAccounts W.contents world.now notes.old notes.new out.old out.new progress result head.now }
 {
     let mut progress = progress;
     for number in 0..world.nodes() {
@@ -206,59 +202,78 @@ fn tell_accounts<W: Write>(
     progress
 }
 
-// Tells a session, if it is new, gone or another one than was noted.
+// Tells a session, if it is new, gone or another one than was noted, and notes it anew.
 fn tell_session<W: Write>(
     world: &World,
     head: &Head<'_>,
     progress: Progress,
     session: usize,
-    notes: &Notes,
+    notes: &mut Notes,
     out: &mut Counted<W>,
 ) -> Progress
     requires leaf { head.now.leaf < length (components world.now.scenario) }
     requires leaves { length world.now.world.leaves ≡ length (components world.now.scenario) }
     requires session { session < 16449 }
-    requires room { length notes.now.sessions.items ≡ 16449 }
-    requires known { AreKnown world.now.scenario (get_or notes.now.sessions.items session None) }
-    ensures { Tells W.contents out.old out.new progress result (head_text world.now.scenario head.now)
-        (told_change world.now.scenario session (get_or notes.now.sessions.items session None) world.now.world) }
+    requires room { length notes.old.sessions.items ≡ 16449 }
+    requires known { AreKnown world.now.scenario (get_or notes.old.sessions.items session None) }
+    ensures { TellsSession W.contents world.now session notes.old notes.new out.old out.new progress result head.now }
 {
     let table = world.table();
     let told = told_session(world.machine(), session);
     if same_told(table, &notes.sessions[session], &told) {
         return progress;
     }
+    notes.sessions[session] = told;
     let line = session_line(table, session, &told);
     tell(table, head, progress, line.as_slice(), out)
 }
 
-// Tells all sessions that are new, gone or others than were noted.
+// Tells all sessions that are new, gone or others than were noted, and notes them anew.
 fn tell_sessions<W: Write>(
     world: &World,
     head: &Head<'_>,
     progress: Progress,
-    notes: &Notes,
+    notes: &mut Notes,
     out: &mut Counted<W>,
 ) -> Progress
     requires leaf { head.now.leaf < length (components world.now.scenario) }
     requires leaves { length world.now.world.leaves ≡ length (components world.now.scenario) }
-    requires room { length notes.now.sessions.items ≡ 16449 }
-    requires count { notes.now.count ≤ 16449 }
-    requires known { (k : ℕ) → k < 16449 → AreKnown world.now.scenario (get_or notes.now.sessions.items k None) }
-    ensures { (old : model.World) → AreNoted world.now.scenario old notes.now
-        → Tells W.contents out.old out.new progress result (head_text world.now.scenario head.now)
-        (session_changes world.now.scenario.version (system world.now.scenario) old world.now.world 0
-        (max (length old.sessions) (length world.now.world.sessions))) }
+    requires room { length notes.old.sessions.items ≡ 16449 }
+    requires count { notes.old.count ≤ 16449 }
+    requires known { (k : ℕ) → k < 16449 → AreKnown world.now.scenario (get_or notes.old.sessions.items k None) }
+    ensures { (old : model.World) → SessionsNoted world.now.scenario old notes.old
+        → TellsSessions W.contents old world.now notes.old notes.new out.old out.new progress result head.now }
 {
     let mut progress = progress;
-    let count = world.machine().session_count().max(notes.count);
+    let now = world.machine().session_count();
+    let count = now.max(notes.count);
     for session in 0..count {
         progress = tell_session(world, head, progress, session, notes, out);
     }
+    notes.count = now;
     progress
 }
 
-/// Takes the step of this head, and tells what it changes of what was noted; then the world is noted anew.
+// Tells the account of the leaf of the step, if it stands otherwise than it was noted, and notes it anew.
+fn tell_own<W: Write>(
+    world: &World,
+    head: &Head<'_>,
+    progress: Progress,
+    notes: &mut Notes,
+    out: &mut Counted<W>,
+) -> Progress
+    requires leaf { head.now.leaf < length (components world.now.scenario) }
+    requires leaves { length world.now.world.leaves ≡ length (components world.now.scenario) }
+    requires noted { length notes.old.accounts.items ≡ length (all_accounts world.now) }
+    ensures { TellsOwn W.contents world.now notes.old notes.new out.old out.new progress result head.now }
+{
+    counted(world);
+    let node = world.table().node(head.leaf);
+    tell_account(world, head, progress, node, notes, out)
+}
+
+/// Takes the step of this head, and tells what it changes of what was noted; then that is noted anew. A step that leaves its leaf in its phase changes no
+/// session, and of the accounts that of the leaf alone, where it holds more or less than before.
 pub(crate) fn tell_step<W: Write>(
     world: &mut World,
     notes: &mut Notes,
@@ -272,11 +287,19 @@ pub(crate) fn tell_step<W: Write>(
     ensures { TellsStep W.contents telling world.old world.new notes.new out.old out.new going result head.now }
 {
     counted(world);
+    let before = use_of(world.machine(), head.leaf);
     let progress = begin(world.table(), telling, head, going, out);
     let progress = tell_line(world, head, progress, out);
     counted(world);
+    let after = use_of(world.machine(), head.leaf);
+    if same_phase(before.phase, after.phase) {
+        if same_amount(before.used, after.used) {
+            return progress.going;
+        }
+        let progress = tell_own(world, head, progress, notes, out);
+        return progress.going;
+    }
     let progress = tell_accounts(world, head, progress, notes, out);
     let progress = tell_sessions(world, head, progress, notes, out);
-    notes.renew(world);
     progress.going
 }

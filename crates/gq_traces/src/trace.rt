@@ -3,7 +3,7 @@ ghost use Rattle.std.specs.Prelude.{◌≡◌, ◌+◌, ◌<◌, ◌≤◌, ◌+
 ghost use Rattle.gq_model.specs.machine.Scenario.{components, system};
 ghost use Rattle.gq_model.specs.machine.World.{start};
 ghost use Rattle.gq_world.specs.Outcomes.{WritesAs};
-ghost use Rattle.gq_world.specs.internal.Going.{AreBelow};
+ghost use Rattle.gq_world.specs.Worlds.{AreBelow};
 ghost use Rattle.gq_traces.specs.Trace.{after_all, after_turn, after_turns, all_text, start_traced, trace_text, turn_text, turns_text};
 ghost use Rattle.gq_traces.specs.Written.{tells_all, trace_from, trace_written};
 ghost use Rattle.gq_traces.specs.internal.Telling.{CanTrace, Goes, IsOn, IsTurnsFault, TellsTurns, budgets_of, turns_in};

@@ -1,8 +1,11 @@
 -- What was noted of a world, and what is told by that.
-use Rattle.std.specs.Prelude.{◌≡◌, if◌then◌else◌, ◌≤◌, ℕ, ◌<◌, List, [], Option, Some, None, get_or, length, map, option_map}
+use Rattle.std.specs.Prelude.{◌≡◌, if◌then◌else◌, ◌≤◌, ℕ, ◌<◌, List, [], Option, Some, None, get_or, length, map, option_map, slice_get, slice_set}
+use Rattle.std.specs.Prelude.{IfSome}
 use Rattle.gq_model.specs.machine.Accounts.{accounts}
+use Rattle.gq_model.specs.machine.Amounts.{Ram, Caps}
 use Rattle.gq_model.specs.machine.Scenario.{Scenario, components, system}
-use Rattle.gq_model.specs.machine.World.{World}
+use Rattle.gq_model.specs.machine.Sums.{held}
+use Rattle.gq_model.specs.machine.World.{Leaf, World}
 use Rattle.gq_model.specs.rules.Accept.{budgets, step_budgets}
 use Rattle.gq_init.specs.Told.{Told}
 use Rattle.gq_prepared.specs.Prepared.{names_of}
@@ -11,6 +14,7 @@ use Rattle.gq_world.specs.Worlds as worlds
 use Rattle.gq_traces.specs.Trace as trace
 use Rattle.gq_traces.specs.Trace.{Standing, same_told, session_line, told_session, using_of, standing_of}
 use Rattle.gq_traces.specs.declared.noted.Notes.{Notes}
+use Rattle.gq_traces.specs.declared.noted.Use.{Use}
 use Rattle.gq_traces.specs.declared.sessions.ToldSession.{ToldSession}
 
 -- the service of this number
@@ -61,12 +65,36 @@ pub record AreNoted (s : Scenario) (w : World) (n : Notes) : Type 0 where
   pub few : n.count ≤ 16449
   pub beyond : IsBeyond n
 
+-- so it is noted of the sessions
+pub record SessionsNoted (s : Scenario) (w : World) (n : Notes) : Type 0 where
+  pub sessions : (k : ℕ) → k < 16449 → IsTold s w k (get_or n.sessions.items k None)
+  pub room : length n.sessions.items ≡ 16449
+  pub count : n.count ≡ length w.sessions
+  pub few : n.count ≤ 16449
+  pub beyond : IsBeyond n
+
+-- it is the phase of the x-th leaf, and what it holds, of capabilities where they are counted
+pub record IsUse (s : Scenario) (w : World) (x : ℕ) (u : Use) : Type 0 where
+  pub leaf : Leaf
+  pub there : slice_get w.leaves x ≡ Some leaf
+  pub phase : u.phase ≡ leaf.phase
+  pub ram : u.used.ram ≡ held Ram w x leaf
+  pub caps : s.version ≡ 2 → u.used.caps ≡ held Caps w x leaf
+
 -- the noted accounts and sessions can be noted anew
 pub record CanRenew (w : worlds.World) (n : Notes) : Type 0 where
   pub accounts : length n.accounts.items ≡ length (all_accounts w)
   pub room : length n.sessions.items ≡ 16449
   pub few : n.count ≤ 16449
   pub beyond : IsBeyond n
+
+-- the account of the n-th node is noted anew
+pub record IsRenewed (w : worlds.World) (n : ℕ) (old new : Notes) : Type 0 where
+  pub now : Told
+  pub is : IfSome (slice_get (all_accounts w) n) (λ a. standing_in now ≡ standing_of a)
+  pub accounts : new.accounts.items ≡ slice_set old.accounts.items n now
+  pub sessions : new.sessions ≡ old.sessions
+  pub count : new.count ≡ old.count
 
 -- the line of the k-th session, of which this was noted, if it is another one now
 abbrev pub told_change : Scenario → ℕ → Option ToldSession → World → List ℕ

@@ -1,12 +1,14 @@
 -- What is written of steps: the first line of a step before the first of what follows, or at once where all steps are told; and nothing more after a failed
 -- write.
 use Rattle.std.specs.Prelude.{◌≡◌, ℕ, ◌+◌, ◌++◌, Ok, Err, Bool, true, false, List, [], ◌∷◌, Option, Some, None, drop, slice_get, slice_set, codes, decimal, map}
-use Rattle.std.specs.Prelude.{MatchOption}
+use Rattle.std.specs.Prelude.{MatchOption, get_or, length, max}
 use Rattle.std.specs.Io.KnownBytes.{Appends}
 use Rattle.gq_init.specs.Counts.{failures_of, written_to}
+use Rattle.gq_init.specs.Told.{Told}
 use Rattle.gq_init.specs.Writes.{IsFront, IsRaised}
 use Rattle.gq_init.specs.declared.counted.Counted.{Counted}
 use Rattle.gq_model.specs.declared.program.Section.{Section}
+use Rattle.gq_model.specs.machine.Accounts.{Account}
 use Rattle.gq_model.specs.machine.Doing.{Event}
 use Rattle.gq_model.specs.machine.Run.{line_of}
 use Rattle.gq_model.specs.machine.Step.{next}
@@ -15,17 +17,20 @@ use Rattle.gq_model.specs.machine.Scenario.{Component, Scenario, components, sys
 use Rattle.gq_model.specs.machine.World as model
 use Rattle.gq_model.specs.rules.Accept.{budgets, step_budgets}
 use Rattle.gq_model.specs.texts.Turns.{Turned}
+use Rattle.gq_scenario.specs.Sizes.{leaf_places}
 use Rattle.gq_views.specs.Listing.{loop_text}
 use Rattle.gq_views.specs.Tree.{label_of}
+use Rattle.gq_world.specs.Lines.{all_accounts}
 use Rattle.gq_world.specs.Worlds as worlds
 use Rattle.gq_world.specs.declared.fault.RunFault.{RunFault}
 use Rattle.gq_world.specs.declared.fault.RunFault.TheVariants as fault
 use Rattle.gq_traces.specs.Places.{Ahead, Place, ahead, body_in, next_place, past, place, section_at}
 use Rattle.gq_traces.specs.Written.{tells_all}
-use Rattle.gq_traces.specs.Trace.{Due, Traced, changes, due_in, head_line, told_step}
+use Rattle.gq_traces.specs.Trace.{Due, Traced, account_change, account_changes, changes, due_in, head_line, session_changes, standing_of, told_step}
 use Rattle.gq_traces.specs.declared.noted.Notes.{Notes}
+use Rattle.gq_traces.specs.declared.sessions.ToldSession.{ToldSession}
 use Rattle.gq_traces.specs.declared.trace.Tracing.{Tracing}
-use Rattle.gq_traces.specs.internal.Noted.{AreNoted}
+use Rattle.gq_traces.specs.internal.Noted.{AreNoted, IsRenewed, IsTold, SessionsNoted, standing_in, told_change}
 use Rattle.gq_traces.specs.declared.steps.Head.{Head}
 use Rattle.gq_traces.specs.declared.telling.Progress.{Progress}
 use Rattle.gq_traces.specs.declared.telling.Telling.{Telling}
@@ -153,6 +158,51 @@ pub record TakesStep {W : Type 0} (contents : W → Option (List ℕ)) (old new 
   pub event : Event
   pub goes : next (system old.scenario) old.world h.leaf ≡ Ok (new.world, event)
   pub tells : Tells contents out_old out_new was now (head_text old.scenario h) (line_of (label_of (slice_get (components old.scenario) h.leaf)) event)
+
+-- The account of the n-th node was told, if it stands otherwise than it was noted, and is noted anew.
+pub record TellsNode {W : Type 0} (contents : W → Option (List ℕ)) (w : worlds.World) (n : ℕ) (old new : Notes) (out_old out_new : Counted W)
+    (was now : Progress) (h : Head) : Type 0 where
+  pub told : (a : Account) (b : Told) → slice_get (all_accounts w) n ≡ Some a → slice_get old.accounts.items n ≡ Some b
+      → Tells contents out_old out_new was now (head_text w.scenario h) (account_change w.scenario.version (standing_in b) a)
+  pub renewed : IsRenewed w n old new
+
+-- so were the accounts of all nodes
+pub record TellsAccounts {W : Type 0} (contents : W → Option (List ℕ)) (w : worlds.World) (old new : Notes) (out_old out_new : Counted W)
+    (was now : Progress) (h : Head) : Type 0 where
+  pub told : Tells contents out_old out_new was now (head_text w.scenario h)
+      (account_changes w.scenario.version (map standing_in old.accounts.items) (all_accounts w))
+  pub accounts : map standing_in new.accounts.items ≡ map standing_of (all_accounts w)
+  pub sessions : new.sessions ≡ old.sessions
+  pub count : new.count ≡ old.count
+
+-- and that of the step's leaf, at its place
+pub record TellsOwn {W : Type 0} (contents : W → Option (List ℕ)) (w : worlds.World) (old new : Notes) (out_old out_new : Counted W) (was now : Progress)
+    (h : Head) : Type 0 where
+  pub place : ℕ
+  pub at : slice_get (leaf_places 1 w.scenario.nodes) h.leaf ≡ Some place
+  pub account : Account
+  pub there : slice_get (all_accounts w) place ≡ Some account
+  pub noted : Told
+  pub before : slice_get old.accounts.items place ≡ Some noted
+  pub tells : TellsNode contents w place old new out_old out_new was now h
+
+-- The k-th session was told, if it is another one than was noted, and is noted anew.
+pub record TellsSession {W : Type 0} (contents : W → Option (List ℕ)) (w : worlds.World) (k : ℕ) (old new : Notes) (out_old out_new : Counted W)
+    (was now : Progress) (h : Head) : Type 0 where
+  pub told : Tells contents out_old out_new was now (head_text w.scenario h) (told_change w.scenario k (get_or old.sessions.items k None) w.world)
+  pub seen : Option ToldSession
+  pub is : IsTold w.scenario w.world k seen
+  pub sessions : new.sessions.items ≡ slice_set old.sessions.items k seen
+  pub accounts : new.accounts ≡ old.accounts
+  pub count : new.count ≡ old.count
+
+-- so were all sessions, where they were noted of this world
+pub record TellsSessions {W : Type 0} (contents : W → Option (List ℕ)) (before : model.World) (w : worlds.World) (old new : Notes)
+    (out_old out_new : Counted W) (was now : Progress) (h : Head) : Type 0 where
+  pub told : Tells contents out_old out_new was now (head_text w.scenario h) (session_changes w.scenario.version (system w.scenario) before w.world 0
+      (max (length before.sessions) (length w.world.sessions)))
+  pub noted : SessionsNoted w.scenario w.world new
+  pub accounts : new.accounts ≡ old.accounts
 
 -- the step budgets of a scenario
 abbrev pub budgets_of : Scenario → List ℕ

@@ -3,7 +3,9 @@ use Rattle.std.proofs.Common.{◌≡◌, ◌∙◌, arith, refl, subst}
 use Rattle.std.specs.Prelude.{IfSome, slice_get}
 use Rattle.gq_init.specs.Told.{told_of}
 use Rattle.gq_world.specs.Lines.{all_accounts}
+use Rattle.gq_traces.specs.internal.Noted.{standing_in}
 use Rattle.gq_traces.proofs.Noting.{accounts_all, accounts_more, length_set}
+use Rattle.gq_traces.proofs.Same_told.{stands_as}
 use Rattle.gq_traces.proofs.noted.Notes.renew_accounts.Goals as goal
 
 pub loop-number-preserved : goal.loop-number-preserved
@@ -14,7 +16,8 @@ loop-number-preserved c =
     let less = c.loop-number-test.true in
     let count = c.nodes-number-end.ensures.accounts in
     let long = l.invariant.long in
-    let told = subst (λ n. IfSome (slice_get all n) (λ a. c.account.result ≡ told_of a)) c.new.ensures c.account.ensures.told in
+    let told = stands_as (slice_get all l.number) c.account.result (standing_in c.account.result) refl
+    (subst (λ n. IfSome (slice_get all n) (λ a. c.account.result ≡ told_of a)) c.new.ensures c.account.ensures.told) in
     record {
       accounts = accounts_more xs all l.number l.number c.account.result refl (omega (arith, less, count, long)) (omega (arith, less, count)) told
           l.invariant.accounts;
