@@ -17,11 +17,12 @@ other turns and what the run over them writes.
 A table is a file in tests/tables: many small cases of one frame. Its key `case` has them, and each says
   line            the line on standard error, after `trade: `, of a case that is refused; without it the case passes,
   wrong           the leaf and the number of the first wrong step, of a run with tests,
-  out             what is written to standard output, where it passes,
+  out             what is written to standard output, where it passes, or by `faults`, of which paths are the files' names alone,
   status          where it is neither 0 for what passes nor 1 for what is refused.
 `command`, `scenario` and `turns` are as above, in a case or in the table for all cases; `words` are the words of a command
 line as they are. In all of them `<name>` stands for what the case, or else the table, has under this name; [N, TEXT] there
-is N times the text.
+is N times the text. A case with `of` has the scenario that the table has under that name, with the text `old` in it, which stands there
+once, replaced by `new`.
 
 Names after PROGRAM are those of the cases or tables to run; without any, all are run. The last line is 'N passed, M failed',
 and the exit status is 1 where a case failed.
@@ -53,12 +54,13 @@ def scenario_of(folder):
     return text.ljust(int(length), b"#") if length else text
 
 
-def words_of(command, files):
-    """The words of a command of a case, with the files of its scenario and its turns."""
+def words_of(command, files, turns):
+    """The words of a command of a case, with the files of its scenario and its turns; `faults` is given turns where there are some."""
     name, *more = command.split(" ")
     if "SCENARIO" in more:
         return [name, *(str(files[0]) if word == "SCENARIO" else word for word in more)]
-    return [name, *map(str, files if name in OF_TURNS else files[:1]), *more]
+    takes_turns = name in OF_TURNS or (name == "faults" and turns)
+    return [name, *map(str, files if takes_turns else files[:1]), *more]
 
 
 def result_of(program, command, scenario, turns):
@@ -73,9 +75,10 @@ def result_of(program, command, scenario, turns):
         elif command == "unverified":
             program, words = str(UNVERIFIED), list(map(str, paths))
         elif isinstance(command, str):
-            words = words_of(command, paths)
+            words = words_of(command, paths, turns)
         ran = subprocess.run([program, *words], input=given, capture_output=True, timeout=SECONDS)
-    return ran.stdout, ran.stderr, ran.returncode
+    out = ran.stdout.replace(room.encode() + b"/", b"") if command == "faults" else ran.stdout
+    return out, ran.stderr, ran.returncode
 
 
 def filled(text, words):
@@ -87,11 +90,22 @@ def filled(text, words):
     return text
 
 
+def changed(words):
+    """The scenario of a case that has the one of a name with a change, and else its own."""
+    if "of" not in words:
+        return words.get("scenario", "")
+    text, old = words[words["of"]], words.get("old", "")
+    if old and text.count(old) != 1:
+        raise ValueError(f"{old!r} does not stand once in {words['of']}")
+    return text.replace(old, words["new"]) if old else text
+
+
 def tabled(table):
     """The command, the scenario, the turns and the wanted result of each case of a table."""
     for case in table["case"]:
         words = {**table, **case}
         words |= {name: value[1] * value[0] for name, value in words.items() if name not in ("case", "words") and isinstance(value, list)}
+        words["scenario"] = changed(words)
         scenario, turns, out = (filled(words.get(key, ""), words).encode() for key in ("scenario", "turns", "out"))
         line = b"trade: " + words["line"].encode() + b"\n" if "line" in words else b""
         line = b"wrong " + words["wrong"].encode() + b"\n" if "wrong" in words else line

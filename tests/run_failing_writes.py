@@ -3,7 +3,8 @@
 
 Standard output is a full device, or a pipe whose reader closes it after some bytes. The program then has to tell `trade: file fault` and to end with
 status 4, and what the reader has got is a front of what the run writes where all is written. The runs are those of the examples, and one of 200,000 lines,
-which is longer than a pipe holds; and so are tried the other commands, over each example, and those that read nothing. The last line is 'N passed, M failed', and the exit status is 1 where a run failed.
+which is longer than a pipe holds; and so are tried the other commands, over each example, and those that read nothing, and `faults` over a scenario and turns
+that have many. The last line is 'N passed, M failed', and the exit status is 1 where a run failed.
 """
 import os
 import pathlib
@@ -34,6 +35,9 @@ end
 end
 """
 '''
+
+
+FAULTY = 'version = 1\nram = "64K"\n' + "".join(f"key{place} = 1\n" for place in range(5000)) + 'start = []\n'
 
 
 def first_leaf(nodes):
@@ -94,6 +98,16 @@ def results(program, room):
         yield f"{name}, whole", True, bool(text)
         yield f"{name} to a full device", FAULT, to_full_device(program, words)
         yield f"{name} to a closed pipe", (b"", FAULT), to_closed_pipe(program, words, 0)
+    faulty, wrong = room / "faulty.toml", room / "wrong"
+    faulty.write_text(FAULTY)
+    wrong.write_text("no turn\n" * 5000)
+    for name, words in (("faults", [str(faulty)]), ("faults of turns", [str(EXAMPLES / "hello.toml"), str(wrong)])):
+        words = ["faults", *words]
+        text = subprocess.run([program, *words], capture_output=True, timeout=SECONDS).stdout
+        yield f"{name}, whole", True, text.count(b"\n") >= 10_000
+        yield f"{name} to a full device", FAULT, to_full_device(program, words)
+        for count in (0, 1, 17, 65536, 65537, 100_000):
+            yield f"{name} to a pipe closed after {count}", (text[:count], FAULT), to_closed_pipe(program, words, count)
     scenario, turns = room / "long.toml", room / "turns"
     scenario.write_text(LONG)
     turns.write_text(f"a {3 * LINES + 10}\n")

@@ -1,10 +1,10 @@
 #!/usr/bin/env python3
-"""Hands texts of any bytes to `trade check`, `run`, `tree`, `turns`, `races`, `trace`, `state` and `list`: run_hostile_texts.py PROGRAM
+"""Hands texts of any bytes to `trade check`, `run`, `tree`, `turns`, `races`, `trace`, `state`, `faults` and `list`: run_hostile_texts.py PROGRAM
 
 Long, deep and broken texts have to be refused with the line that is told beside each; texts made of a scenario by random changes, always the same
-ones, have to be done or refused, by `check` and by `tree` with the same line. A refusal is one line on standard error, with nothing on standard output and exit status 1. The program may take
-no more memory than 64 MiB and 50 times the text; 640 times, where the text is one of tables that have one key each, since the TOML reader takes room for
-fifteen keys for each table. The last line is 'N passed, M failed', and the exit status is 1 where one failed.
+ones, have to be done or refused, by `check`, `tree` and `faults` with the same line. A refusal is one line on standard error, with nothing on standard output
+(but for `faults`, of which the first line there has the same fault) and exit status 1. The program may take no more memory than 64 MiB and 50 times the text;
+640 times, where the text is one of tables that have one key each, since the TOML reader takes room for fifteen keys for each table. The last line is 'N passed, M failed', and the exit status is 1 where one failed.
 """
 import pathlib
 import random
@@ -124,6 +124,19 @@ def is_tree(stdout, stderr, status):
     return status == 0 and not stderr and first.startswith(b"init quantum ") and all(re.match(rb" {2,}([\w-]+ quantum|opens [\w-]+ of init -> )", line) for line in others)
 
 
+def first_fault(told):
+    """The fault that `faults` tells first."""
+    return told.split(b"\n")[0].split(b": ", 1)[-1]
+
+
+def are_faults(got, checked):
+    """Faults of which the first is the one that `check` tells, in lines of printable characters; none where that is done."""
+    told, stderr, status = got
+    if checked[2] == 0:
+        return got == (b"", b"", 0)
+    return (b"trade: " + first_fault(told) + b"\n", stderr, status) == (checked[1], *checked[1:])
+
+
 def main():
     program = sys.argv[1]
     passed = failed = 0
@@ -131,9 +144,10 @@ def main():
         room = pathlib.Path(folder)
         given = [(text, TIMES) for text in texts()] + [(text, TIMES_OF_TABLES) for text in tables()]
         for (name, text, line), times in given:
-            for words in (["check"], ["run"], ["tree"], ["tree", "--dot"], ["turns"], ["races"], ["trace"], ["state"], ["list"]):
+            for words in (["check"], ["run"], ["tree"], ["tree", "--dot"], ["turns"], ["races"], ["trace"], ["state"], ["faults"], ["list"]):
                 got = result_of(program, words, room, text, times)
-                if got == (b"", f"trade: {line}\n".encode(), 1):
+                told = first_fault(got[0]) if words == ["faults"] else b""
+                if (told, *got[1:]) == (line.encode() if words == ["faults"] else b"", f"trade: {line}\n".encode(), 1):
                     passed += 1
                 else:
                     failed += 1
@@ -142,12 +156,12 @@ def main():
         samples = sorted((TOP / "tests" / "cases").glob("check-*/scenario.toml"))
         for _ in range(CHANGES):
             text = changed(source.choice(samples).read_bytes(), source)
-            got, tree = (result_of(program, [word], room, text) for word in ("check", "tree"))
-            if is_refusal(*got) and tree == got or is_done(*got) and is_tree(*tree):
+            got, tree, faults = (result_of(program, [word], room, text) for word in ("check", "tree", "faults"))
+            if (is_refusal(*got) and tree == got or is_done(*got) and is_tree(*tree)) and are_faults(faults, got):
                 passed += 1
             else:
                 failed += 1
-                print(f"FAILED check and tree of {text!r}: {got}, {tree}")
+                print(f"FAILED check, tree and faults of {text!r}: {got}, {tree}, {faults}")
     print(f"{passed} passed, {failed} failed")
     sys.exit(1 if failed else 0)
 

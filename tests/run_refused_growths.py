@@ -5,6 +5,7 @@ The runs are that of each example, with paths and in the stored form, and those 
 of a scenario, its tree and its graph, the code of a leaf, and its program as text; and those that read no file: what a code means, and the version. For each growth that the run asks for, one after the
 other, the program is run with that growth refused. It then has to write nothing to standard output, to tell
 `trade: host memory refused`, and to end with status 3. With none refused it has to write the text of the example or the case.
+So are run some texts of the table of faults, of which a front may have been written before a growth is refused.
 
 Turns take no host memory: each case of a run, also traced and told at its end, asks for as many growths where each line of its turns has one turn as where it has all of its own.
 
@@ -34,6 +35,9 @@ OF_DESIGNERS = "list-every-statement", "list-a-program-given-as-code", "tree-ini
 OF_RUNS = "turns-inits", "turns-version-2", "races-stores-of-a-shared-server", "trace-an-upgrade-and-a-buffer", "trace-all-inits", "state-in-a-call", "state-version-2"
 OF_TURNS = {"run", "trace", "state"}
 RULES = TOP / "tests" / "tables" / "rule.toml"
+FAULTS = TOP / "tests" / "tables" / "faults.toml"
+# Of each kind one: of no TOML, of tables, of counts and names, of texts and codes, of rules, of routes, of budgets and of turns.
+SOME_FAULTS = {"S1", "S2", "S3", "S4", "S5", "S6", "S7", "M1", "C2", "V12", "V13", "V14", "V18", "S8", "S9", "S10", "S11", "S12", "S13", "S14", "B1", "B2", "B3", "U1"}
 SOURCE = TOP / "tests" / "refuse_growth.c"
 SECONDS = 120
 REFUSED = b"", b"trade: host memory refused\n", 3
@@ -76,6 +80,26 @@ def runs():
         command, *more = (case / "command").read_text().split()
         files = [str(case / "scenario.toml")] + ([str(case / "turns")] if command in OF_TURNS else [])
         yield name, [command, *files, *more], b"", (case / "stdout").read_bytes()
+
+
+def faulty(program, shared, room):
+    """What was wanted and what came of each refused growth of the first text with each of some faults."""
+    codes, scenario, turns = set(SOME_FAULTS), room / "scenario.toml", room / "turns"
+    for _, text, given, wanted in tabled(tomllib.loads(FAULTS.read_text())):
+        code = wanted[1].split(b": ")[-1].split(b" ")[0].decode().strip()
+        if code not in codes:
+            continue
+        codes.remove(code)
+        scenario.write_bytes(text)
+        turns.write_bytes(given)
+        words = ["faults", str(scenario), *([str(turns)] if given else [])]
+        (out, *rest), growths = result_of(program, shared, room, words, b"", 0)
+        yield f"faults of {code}, refused: none", wanted, (out.replace(f"{room}/".encode(), b""), *rest)
+        yield f"faults of {code}, refused: any", True, growths > 0
+        for number in range(1, growths + 1):
+            (front, *ends), _ = result_of(program, shared, room, words, b"", number)
+            yield f"faults of {code}, refused: growth {number} of {growths}", (True, *REFUSED[1:]), (out.startswith(front), *ends)
+    yield "faults that the table lacks", set(), codes
 
 
 def works(benchmark, shared, room):
@@ -130,7 +154,7 @@ def main(words):
                     continue
                 failed += 1
                 print(f"FAILED {name}, refused: {what}\n  wanted {wanted}\n  got    {got}")
-        for what, wanted, got in itertools.chain(turns_alone(program, shared, room), works(benchmark, shared, room)):
+        for what, wanted, got in itertools.chain(faulty(program, shared, room), turns_alone(program, shared, room), works(benchmark, shared, room)):
             if wanted == got:
                 passed += 1
             else:

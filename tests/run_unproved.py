@@ -49,7 +49,7 @@ def put_case(room, name, command, scenario, turns):
     if command == "stored":
         words, given = [], scenario + (b"%%\n" + turns if turns else b"")
     elif isinstance(command, str):
-        words = words_of(command, files)
+        words = words_of(command, files, turns)
     (room / "cases" / name).write_bytes(given)
     (room / "cases" / f"{name}.args").write_text("".join(f"{word}\n" for word in words))
     return words, given

@@ -1,19 +1,19 @@
 -- Inputs that were read, and what is asked of them.
-use Rattle.std.proofs.Common.{◌≡◌, ◌≢◌, List, ℕ, Option, Result, Ok, Err, OnOk, Global, option_map, refl, subst}
+use Rattle.std.proofs.Common.{◌≡◌, ◌≢◌, Bool, true, false, List, ℕ, Option, Result, Ok, Err, OnOk, Global, Some, None, option_map, refl, subst}
 use Rattle.std.specs.Prelude.{String, string_bytes}
-use Rattle.gq_world.specs.Outcomes.{IsCutShort}
+use Rattle.gq_world.specs.Outcomes.{IsCutShort, IsWhole}
 use Rattle.gq_cli.specs.declared.execute.Fault.{Fault}
 use Rattle.gq_cli.specs.declared.execute.Fault.TheVariants.{Refused, Write}
-use Rattle.gq_cli.specs.Ends.{Ended, IsKnown}
+use Rattle.gq_cli.specs.Ends.{Ended, EndedFaults, IsKnown}
 use Rattle.gq_command.specs.declared.command.Command.{Command}
-use Rattle.gq_command.specs.declared.command.Command.TheVariants.{OfScenario, OfLeaf, OfTurns, Rule, Version, Stored, Help}
+use Rattle.gq_command.specs.declared.command.Command.TheVariants.{OfScenario, OfLeaf, OfTurns, Faults, Rule, Version, Stored, Help}
 use Rattle.gq_command.specs.declared.command.TurnsCommand.{TurnsCommand}
 use Rattle.gq_command.specs.declared.command.TurnsCommand.TheVariants.{Run, Trace, TraceAll, State}
 use Rattle.gq_init.specs.declared.counted.Counted.{Counted}
 use Rattle.gq_rule_texts.specs.Rules.{Table}
 use Rattle.gq_command.specs.Stored.{parted}
-use Rattle.gq_cli.specs.Executed.{Asked, Of_scenario, Of_leaf, Of_both, Of_nothing, Executes, IsInput, IsRefusal, IsTold, IsUpheldBy, ReadsBoth}
-use Rattle.gq_cli.specs.Executed.{rules_written, version_written, written_of}
+use Rattle.gq_cli.specs.Executed.{Asked, Of_scenario, Of_leaf, Of_both, Of_faults, Of_nothing, Executes, IsInput, IsRefusal, IsTold, IsUpheldBy, ReadsBoth}
+use Rattle.gq_cli.specs.Executed.{TellsAll, rules_written, version_written, writes_refusals, written_of}
 
 module _ (scenario scenario_left turns turns_left : Option (List ℕ)) (asked : List ℕ → List ℕ → Asked) (holds : Asked → Type 0) where
   pub reads_both : (s t s' t' : List ℕ) → IsInput scenario scenario_left s → IsInput turns turns_left t → s' ≡ s → t' ≡ t → holds (asked s' t')
@@ -45,6 +45,15 @@ executes_by table (OfTurns command s t) scenario scenario_left turns turns_left 
   scenario_read = h.scenario_read;
   turns_read = h.turns_read;
   so = so (Of_both command h.scenario_text h.turns_text) h.so;
+}
+executes_by table (Faults a None) scenario scenario_left turns turns_left P Q so h =
+    record { text = h.text; read = h.read; so = so (Of_faults (string_bytes a) h.text None) h.so }
+executes_by table (Faults a (Some b)) scenario scenario_left turns turns_left P Q so h = record {
+  scenario_text = h.scenario_text;
+  turns_text = h.turns_text;
+  scenario_read = h.scenario_read;
+  turns_read = h.turns_read;
+  so = so (Of_faults (string_bytes a) h.scenario_text (Some (string_bytes b, h.turns_text))) h.so;
 }
 executes_by table Stored scenario scenario_left turns turns_left P Q so h =
     record { text = h.text; read = h.read; so = so (Of_both Run (parted h.text).0 (parted h.text).1) h.so }
@@ -86,3 +95,34 @@ upheld_otherwise scenario scenario_left turns turns_left command (Ok done) befor
       so = not_run command r.scenario_text r.turns_text before after ne;
     }
 upheld_otherwise scenario scenario_left turns turns_left command (Err fault) before after ne ended = tt {0}
+
+-- what a command comes to, whether all that is wrong is asked for or something else
+module _ (table : Table) (command : Command) (scenario scenario_left turns turns_left before after : Option (List ℕ)) where
+  abbrev Come : (Asked → Type 0) → Type 0
+  Come = Executes table command scenario scenario_left turns turns_left
+
+  pub done_either : (b : Bool) → writes_refusals command ≡ b → (writes_refusals command ≡ false → Come (Ended {A = Unit {0}} (Ok tt) before after))
+      → (writes_refusals command ≡ true → Come (EndedFaults {A = Unit {0}} (Ok tt) before after)) → Come (λ asked. IsWhole (written_of asked) before after)
+  done_either true e h g = g e
+  done_either false e h g = h e
+
+  module _ {E : Type 0} (contents : E → Option (List ℕ)) (old new : Counted E) (f : Fault) (line : String Global) (is : f ≡ Refused line)
+      (told : IsTold contents old new (string_bytes line)) where
+    pub refused_either : (b : Bool) → writes_refusals command ≡ b
+        → (writes_refusals command ≡ false → IsKnown {A = Unit {0}} (Err f) → Come (Ended {A = Unit {0}} (Err f) before after))
+        → (writes_refusals command ≡ true → IsKnown {A = Unit {0}} (Err f) → Come (EndedFaults {A = Unit {0}} (Err f) before after))
+        → Come (λ asked. IsRefusal contents asked old new)
+    refused_either false e h g =
+        refused_told (Unit {0}) contents old new table command scenario scenario_left turns turns_left f line before after is (h e) told
+    refused_either true e h g =
+        executes_by table command scenario scenario_left turns turns_left (EndedFaults {A = Unit {0}} (Err (Refused line)) before after)
+        (λ asked. IsRefusal contents asked old new) (λ asked r. record { line = string_bytes line; refused = r.0; told = told })
+        (subst (λ x. IsKnown {A = Unit {0}} (Err x) → Come (EndedFaults {A = Unit {0}} (Err x) before after)) is (g e) (tt {0}))
+
+  -- all that is wrong was told
+  pub all_told : (f : Fault) (line : String Global) → f ≡ Refused line
+      → (IsKnown {A = Unit {0}} (Err f) → Come (EndedFaults {A = Unit {0}} (Err f) before after)) → Come (λ asked. TellsAll asked before after)
+  all_told f line is h =
+      executes_by table command scenario scenario_left turns turns_left (EndedFaults {A = Unit {0}} (Err (Refused line)) before after)
+      (λ asked. TellsAll asked before after) (λ asked r. r.1)
+      (subst (λ x. IsKnown {A = Unit {0}} (Err x) → Come (EndedFaults {A = Unit {0}} (Err x) before after)) is h (tt {0}))

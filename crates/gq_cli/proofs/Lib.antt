@@ -1,3 +1,4 @@
 pub mod Inputs
 pub mod Runs
 pub mod Told
+mod Faults_told

@@ -4,16 +4,22 @@ use Rattle.std.specs.Io.KnownBytes.{Appends, Consumes, IsAtEnd}
 use Rattle.gq_init.specs.declared.counted.Counted.{Counted}
 use Rattle.gq_init.specs.Counts.{written_to, failures_of}
 use Rattle.gq_init.specs.Writes.{IsFront, IsRaised}
-use Rattle.gq_world.specs.Whole.{Written, refused_with, run_written, check_written, asm_written}
+use Rattle.gq_load.specs.Load.{loaded}
+use Rattle.gq_model.specs.machine.Scenario.{components}
+use Rattle.gq_model.specs.texts.Turns.{Turned, turned}
+use Rattle.gq_world.specs.Whole.{Written, refused_with, with_scenario, turn_fault_text, run_written, check_written, asm_written}
 use Rattle.gq_world.specs.Headline.{WritesPromised}
 use Rattle.gq_views.specs.Written.{list_written, tree_written, graph_written}
 use Rattle.gq_traces.specs.Written.{state_written, trace_written, turns_written}
 use Rattle.gq_races.specs.Written.{races_written}
+use Rattle.gq_faults.specs.Faults.{fault_lines}
+use Rattle.gq_faults.specs.Told.{WritesFaults}
+use Rattle.gq_faults.specs.Turn_faults.{lines_of_both, told_of}
 use Rattle.gq_rule_texts.specs.declared.table.Rule.{Rule as RuleText}
 use Rattle.gq_rule_texts.specs.Rules.{Table, lines_of_all, rule_of}
 use Rattle.gq_command.specs.Stored.{parted}
 use Rattle.gq_command.specs.declared.command.Command.{Command}
-use Rattle.gq_command.specs.declared.command.Command.TheVariants.{OfScenario, OfLeaf, OfTurns, Rule, Version, Stored, Help}
+use Rattle.gq_command.specs.declared.command.Command.TheVariants.{OfScenario, OfLeaf, OfTurns, Faults, Rule, Version, Stored, Help}
 use Rattle.gq_command.specs.declared.command.ScenarioCommand.{ScenarioCommand}
 use Rattle.gq_command.specs.declared.command.ScenarioCommand.TheVariants.{Check, Tree, Graph, Turns, Races}
 use Rattle.gq_command.specs.declared.command.LeafCommand.{LeafCommand}
@@ -35,7 +41,13 @@ reads_scenario _ = true
 -- the turns are read apart from the scenario only where they have a file of their own
 abbrev pub reads_turns : Command → Bool
 reads_turns (OfTurns command scenario turns) = true
+reads_turns (Faults scenario (Some turns)) = true
 reads_turns _ = false
+
+-- what is wrong is written before the texts are refused
+abbrev pub writes_refusals : Command → Bool
+writes_refusals (Faults scenario turns) = true
+writes_refusals _ = false
 
 -- what is told without reading is never refused, but for a code that no rule has
 abbrev pub is_never_refused : Command → Bool
@@ -78,6 +90,15 @@ both_written Trace scenario turns = trace_written false scenario turns
 both_written TraceAll scenario turns = trace_written true scenario turns
 both_written State scenario turns = state_written scenario turns
 
+-- nothing is to be written of a scenario that is accepted, nor of turns that are taken; what is refused is refused as `check` and `run` refuse it
+abbrev pub none_written : Turned → Written
+none_written (Ok turns) = Ok []
+none_written (Err fault) = Err (refused_with (turn_fault_text fault.0 fault.1))
+
+abbrev pub faults_written : List ℕ → Option (List ℕ) → Written
+faults_written scenario None = with_scenario (loaded scenario) (λ s. Ok [])
+faults_written scenario (Some turns) = with_scenario (loaded scenario) (λ s. none_written (turned (components s) turns))
+
 -- the text of a rule, where there is one of that code
 abbrev pub rule_text : List ℕ → Option RuleText → Written
 rule_text code (Some rule) = Ok rule.text.now
@@ -92,11 +113,12 @@ rules_written table None = Ok (lines_of_all table)
 abbrev pub version_written : Written
 version_written = Ok (codes "trade 1.0.0\n")
 
--- what a command is to write: of a scenario, of a leaf, of a scenario and turns, or what no input decides
+-- what a command is to write: of a scenario, of a leaf, of a scenario and turns, all that is wrong with the files at these paths, or what no input decides
 pub data Asked : Type 0 where
   Of_scenario : (command : ScenarioCommand) (scenario : List ℕ) → Asked
   Of_leaf : (command : LeafCommand) (scenario leaf : List ℕ) → Asked
   Of_both : (command : TurnsCommand) (scenario turns : List ℕ) → Asked
+  Of_faults : (path scenario : List ℕ) (turns : Option (List ℕ × List ℕ)) → Asked
   Of_nothing : (written : Written) → Asked
 
 -- its text by the definition, or the line that refuses it
@@ -104,6 +126,7 @@ abbrev pub written_of : Asked → Written
 written_of (Of_scenario command scenario) = scenario_written command scenario
 written_of (Of_leaf command scenario leaf) = leaf_written command scenario leaf
 written_of (Of_both command scenario turns) = both_written command scenario turns
+written_of (Of_faults path scenario turns) = faults_written scenario (option_map (λ t. t.1) turns)
 written_of (Of_nothing written) = written
 
 -- the line that refuses it is the definition's
@@ -114,6 +137,13 @@ IsRefusedBy asked line = written_of asked ≡ Err line
 abbrev pub IsUpheldBy : Asked → (before after : Option (List ℕ)) → Type 0
 IsUpheldBy (Of_both Run scenario turns) before after = WritesPromised scenario turns before after
 IsUpheldBy _ before after = Unit {0}
+
+-- all that is wrong was told: with the scenario, or else with the turns
+abbrev pub TellsAll : Asked → (before after : Option (List ℕ)) → Type 0
+TellsAll (Of_faults path scenario None) before after = WritesFaults path (fault_lines scenario) before after
+TellsAll (Of_faults path scenario (Some turns)) before after =
+    WritesFaults (told_of (loaded scenario) path turns.0) (lines_of_both scenario turns.1) before after
+TellsAll _ before after = Unit {0}
 
 -- a scenario was read, and this holds of what is asked of it
 pub record ReadsScenario (scenario scenario_left : Option (List ℕ)) (asked : List ℕ → Asked) (holds : Asked → Type 0) : Type 0 where
@@ -142,6 +172,10 @@ Executes table (OfLeaf command a leaf) scenario scenario_left turns turns_left h
     ReadsScenario scenario scenario_left (λ text. Of_leaf command text (string_bytes leaf)) holds
 Executes table (OfTurns command a b) scenario scenario_left turns turns_left holds =
     ReadsBoth scenario scenario_left turns turns_left (Of_both command) holds
+Executes table (Faults a None) scenario scenario_left turns turns_left holds =
+    ReadsScenario scenario scenario_left (λ text. Of_faults (string_bytes a) text None) holds
+Executes table (Faults a (Some b)) scenario scenario_left turns turns_left holds =
+    ReadsBoth scenario scenario_left turns turns_left (λ text other. Of_faults (string_bytes a) text (Some (string_bytes b, other))) holds
 Executes table Stored scenario scenario_left turns turns_left holds = RunsStored scenario scenario_left holds
 Executes table (Rule code) scenario scenario_left turns turns_left holds = holds (Of_nothing (rules_written table (option_map string_bytes code)))
 Executes table Version scenario scenario_left turns turns_left holds = holds (Of_nothing version_written)

@@ -6,12 +6,12 @@ ghost use Rattle.gq_world.specs.Outcomes.{GivesOf, IsCutShort, IsWhole, WritesAs
 ghost use Rattle.gq_world.specs.Whole.{refused_with, run_written};
 ghost use Rattle.gq_world.specs.Headline.{WritesPromised};
 ghost use Rattle.gq_command.specs.Input.{GivesAtMost};
-ghost use Rattle.gq_cli.specs.Ends.{Ended, IsKnown, IsSilent, IsToldAs, LeavesWriter};
+ghost use Rattle.gq_cli.specs.Ends.{Ended, EndedFaults, IsKnown, IsSilent, IsToldAs, IsUntold, LeavesWriter, refusal_fault};
 ghost use Rattle.gq_cli.specs.internal.Running.{RefusesAs};
 ghost use Rattle.gq_cli.specs.Executed.{Executes, IsRefusal, IsTold, IsUpheldBy, ReadsBoth, ReadsScenario, ReadsText, RunsStored};
-ghost use Rattle.gq_cli.specs.Executed.{Of_both, Of_leaf, Of_nothing, Of_scenario};
+ghost use Rattle.gq_cli.specs.Executed.{Of_both, Of_faults, Of_leaf, Of_nothing, Of_scenario, TellsAll};
 ghost use Rattle.gq_cli.specs.Executed.{both_written, is_never_refused, leaf_written, reads_scenario, reads_turns, rules_written};
-ghost use Rattle.gq_cli.specs.Executed.{scenario_written, status_line, version_written, written_of};
+ghost use Rattle.gq_cli.specs.Executed.{scenario_written, status_line, version_written, writes_refusals, written_of};
 ghost use Rattle.gq_cli.specs.declared.execute.Fault.TheVariants as fault;
 ghost use Rattle.gq_command.specs.declared.command.TurnsCommand.TheVariants.{Run};
 
@@ -20,6 +20,10 @@ use gq_command::command::{Command, LeafCommand, ScenarioCommand, TurnsCommand, V
 use gq_command::input::{InputError, read_input};
 use gq_command::status::Status;
 use gq_command::stored::parted;
+use gq_faults::fault::TellError;
+use gq_faults::faults::{File, faults};
+use gq_faults::laws::first_turn_fault_laws;
+use gq_faults::turns::{Refused, faults_of_both};
 use gq_init::counted::{Counted, put};
 use gq_races::races::races;
 use gq_rule_texts::{Rule, rule_of, write_rules};
@@ -78,11 +82,12 @@ impl From<InputError> for Fault {
 ///
 /// `OfScenario` reads the scenario and writes the budget of each leaf, a tree or a graph; `OfLeaf` reads the scenario and writes the code
 /// of a leaf, or its program as text; `OfTurns` reads the scenario and then the turns, each whole, and runs it, or tells what its turns
-/// did, or what its accounts are made of; `Stored` reads both from `scenario`, parted by a line `%%`. `Rule`, `Version` and `Help` read
-/// nothing: of a code the text of its rule in `rules` is written, and without one the line of each rule. All of it goes to `out`. Each
-/// reader is asked for 18 MiB and one byte at most; more, or a read that fails, is a file fault. Nothing goes to `out` where the scenario,
-/// the turns or a word are refused, where host memory is, or where a read failed; after a failed write a front of the text went out. A
-/// failed write on `err` changes nothing.
+/// did, or what its accounts are made of; `Stored` reads both from `scenario`, parted by a line `%%`. `Faults` reads the scenario, and
+/// then the turns where it has a path of some, and writes all that is wrong, each fault with its place, before they are refused. `Rule`,
+/// `Version` and `Help` read nothing: of a code the text of its rule in `rules` is written, and without one the line of each rule. All of
+/// it goes to `out`. Each reader is asked for 18 MiB and one byte at most; more, or a read that fails, is a file fault. Nothing goes to
+/// `out` where the scenario, the turns or a word are refused, but for `Faults`, where host memory is, or where a read failed; after a
+/// failed write a front of the text went out. A failed write on `err` changes nothing.
 pub fn execute<R: Read, T: Read, W: Write, E: Write>(
     alloc: Global,
     rules: &[&[Rule]],
@@ -103,13 +108,18 @@ pub fn execute<R: Read, T: Read, W: Write, E: Write>(
     // The texts, or a word, are refused by the line that was told.
     ensures refused { result ≡ Status.Refused → Executes rules.now command.now (R.remaining scenario.old) (R.remaining scenario.new) (T.remaining turns.old)
         (T.remaining turns.new) (λ asked. IsRefusal E.contents asked err.old err.new) }
-    ensures unwritten { result ≡ Status.Refused → out.new ≡ out.old }
+    ensures unwritten { writes_refusals command.now ≡ false → result ≡ Status.Refused → out.new ≡ out.old }
+
+    // Where all that is wrong is asked for, it was told before the texts are refused.
+    ensures faults { writes_refusals command.now ≡ true → result ≡ Status.Refused → Executes rules.now command.now (R.remaining scenario.old)
+        (R.remaining scenario.new) (T.remaining turns.old) (T.remaining turns.new)
+        (λ asked. TellsAll asked (written_to W.contents out.old) (written_to W.contents out.new)) }
 
     // Host memory was refused, and nothing was written.
-    ensures silent { result ≡ Status.HostMemory → out.new ≡ out.old }
+    ensures silent { writes_refusals command.now ≡ false → result ≡ Status.HostMemory → out.new ≡ out.old }
 
     // A read failed and nothing was written, or a write failed and a front of the text was written.
-    ensures cut { result ≡ Status.FileFault → ((reads_scenario command.now ≡ true) × (out.new ≡ out.old))
+    ensures cut { writes_refusals command.now ≡ false → result ≡ Status.FileFault → ((reads_scenario command.now ≡ true) × (out.new ≡ out.old))
         ⊎ (Executes rules.now command.now (R.remaining scenario.old) (R.remaining scenario.new) (T.remaining turns.old) (T.remaining turns.new)
         (λ asked. IsCutShort (written_of asked) (written_to W.contents out.old) (written_to W.contents out.new))
         × IsRaised (failures_of out.old) (failures_of out.new)) }
@@ -178,11 +188,16 @@ fn perform<R: Read, T: Read, W: Write>(
     turns: &mut T,
     out: &mut Counted<W>,
 ) -> Result<(), Fault>
-    ensures ended { IsKnown result → Executes rules.now command.now (R.remaining scenario.old) (R.remaining scenario.new) (T.remaining turns.old)
-        (T.remaining turns.new) (Ended result (written_to W.contents out.old) (written_to W.contents out.new)) }
+    ensures ended { writes_refusals command.now ≡ false → IsKnown result → Executes rules.now command.now (R.remaining scenario.old)
+        (R.remaining scenario.new) (T.remaining turns.old) (T.remaining turns.new)
+        (Ended result (written_to W.contents out.old) (written_to W.contents out.new)) }
+    ensures faults { writes_refusals command.now ≡ true → IsKnown result → Executes rules.now command.now (R.remaining scenario.old)
+        (R.remaining scenario.new) (T.remaining turns.old) (T.remaining turns.new)
+        (EndedFaults result (written_to W.contents out.old) (written_to W.contents out.new)) }
     ensures upheld { OnOk result (Executes rules.now command.now (R.remaining scenario.old) (R.remaining scenario.new) (T.remaining turns.old)
         (T.remaining turns.new) (λ asked. IsUpheldBy asked (written_to W.contents out.old) (written_to W.contents out.new))) }
-    ensures leaves { LeavesWriter out.old out.new result }
+    ensures counted { OnOk result (failures_of out.new ≡ failures_of out.old) }
+    ensures leaves { writes_refusals command.now ≡ false → LeavesWriter out.old out.new result }
     ensures unread { reads_scenario command.now ≡ false → IfErr result (λ f. f ≢ fault.Read) }
     ensures help { is_never_refused command.now ≡ true → IfErr result (λ f. f ≡ fault.Write) }
     ensures scenario_unread { reads_scenario command.now ≡ false → scenario.new ≡ scenario.old }
@@ -196,6 +211,10 @@ fn perform<R: Read, T: Read, W: Write>(
             of_leaf(alloc, *command, scenario, leaf.as_str(), out)
         }
         Command::OfTurns(command, _, _) => of_turns(alloc, *command, scenario, turns, out),
+        Command::Faults(path, None) => of_faults(alloc, path.as_str(), scenario, out),
+        Command::Faults(path, Some(other)) => {
+            of_both_faults(alloc, path.as_str(), other.as_str(), scenario, turns, out)
+        }
         Command::Rule(Some(code)) => of_code(alloc, rules, code.as_str(), out),
         Command::Rule(None) => of_all_codes(rules, out),
         Command::Version => show(VERSION, out),
@@ -439,6 +458,112 @@ fn write_scenario<W: Write>(
         ScenarioCommand::Graph => graph(alloc, scenario, out),
         ScenarioCommand::Turns => turns(alloc, scenario, out),
         ScenarioCommand::Races => races(alloc, scenario, out),
+    }
+}
+
+// Tells all that is wrong with the scenario that a reader has, whose file has this path.
+fn of_faults<R: Read, W: Write>(
+    alloc: Global,
+    path: &str,
+    scenario: &mut R,
+    out: &mut Counted<W>,
+) -> Result<(), Fault>
+    ensures ended { IsKnown result → ReadsScenario (R.remaining scenario.old) (R.remaining scenario.new) (λ text. Of_faults path.now text None)
+        (EndedFaults result (written_to W.contents out.old) (written_to W.contents out.new)) }
+    ensures counted { OnOk result (failures_of out.new ≡ failures_of out.old) }
+    ensures most { GivesAtMost 18874369 (R.remaining scenario.old) (R.remaining scenario.new) }
+{
+    let input = read_input(alloc, scenario)?;
+    of_faults_text(alloc, path, input.as_slice(), out)
+}
+
+// Tells all that is wrong with a scenario, whose file has this path.
+fn of_faults_text<W: Write>(
+    alloc: Global,
+    path: &str,
+    scenario: &[u8],
+    out: &mut Counted<W>,
+) -> Result<(), Fault>
+    ensures ended { IsKnown result → EndedFaults result (written_to W.contents out.old) (written_to W.contents out.new)
+        (Of_faults path.now scenario.now None) }
+    ensures counted { OnOk result (failures_of out.new ≡ failures_of out.old) }
+{
+    let file = File {
+        path,
+        text: scenario,
+    };
+    match faults(alloc, file, out) {
+        Ok(None) => Ok(()),
+        Ok(Some(fault)) => Err(told(alloc, RunFault::Load(fault))),
+        Err(error) => Err(untold(error)),
+    }
+}
+
+// Why not all that is wrong was told.
+fn untold(error: TellError) -> Fault
+    ensures { IsUntold result }
+{
+    match error {
+        TellError::Memory => Fault::Memory,
+        TellError::Write => Fault::Write,
+    }
+}
+
+// Tells all that is wrong with the scenario that one reader has, or with the turns that another has; their files have these paths.
+fn of_both_faults<R: Read, T: Read, W: Write>(
+    alloc: Global,
+    path: &str,
+    turns_path: &str,
+    scenario: &mut R,
+    turns: &mut T,
+    out: &mut Counted<W>,
+) -> Result<(), Fault>
+    ensures ended { IsKnown result → ReadsBoth (R.remaining scenario.old) (R.remaining scenario.new) (T.remaining turns.old) (T.remaining turns.new)
+        (λ text other. Of_faults path.now text (Some (turns_path.now, other)))
+        (EndedFaults result (written_to W.contents out.old) (written_to W.contents out.new)) }
+    ensures counted { OnOk result (failures_of out.new ≡ failures_of out.old) }
+    ensures scenario_most { GivesAtMost 18874369 (R.remaining scenario.old) (R.remaining scenario.new) }
+    ensures turns_most { GivesAtMost 18874369 (T.remaining turns.old) (T.remaining turns.new) }
+{
+    let scenario = read_input(alloc, scenario)?;
+    let turns = read_input(alloc, turns)?;
+    let scenario = File {
+        path,
+        text: scenario.as_slice(),
+    };
+    let turns = File {
+        path: turns_path,
+        text: turns.as_slice(),
+    };
+    of_both_files(alloc, scenario, turns, out)
+}
+
+// Tells all that is wrong with a scenario, or with turns.
+fn of_both_files<W: Write>(
+    alloc: Global,
+    scenario: File<'_>,
+    turns: File<'_>,
+    out: &mut Counted<W>,
+) -> Result<(), Fault>
+    ensures ended { IsKnown result → EndedFaults result (written_to W.contents out.old) (written_to W.contents out.new)
+        (Of_faults scenario.entry.path.now scenario.entry.text.now (Some (turns.entry.path.now, turns.entry.text.now))) }
+    ensures counted { OnOk result (failures_of out.new ≡ failures_of out.old) }
+{
+    first_turn_fault_laws();
+    match faults_of_both(alloc, scenario, turns, out) {
+        Ok(None) => Ok(()),
+        Ok(Some(refused)) => Err(told(alloc, refusal_of(refused))),
+        Err(error) => Err(untold(error)),
+    }
+}
+
+// The fault of a run for which a scenario and turns are refused.
+fn refusal_of(refused: Refused) -> RunFault<'static>
+    ensures { result ≡ refusal_fault refused }
+{
+    match refused {
+        Refused::Scenario(fault) => RunFault::Load(fault),
+        Refused::Turns { fault, line } => RunFault::Turns { fault, line },
     }
 }
 

@@ -12,7 +12,7 @@ use Rattle.gq_command.specs.CommandLine.{IsAsked, IsMisused, IsWanted, Wanted, S
 use Rattle.gq_command.specs.CommandLine.{trade, wanted, wanted_in}
 use Rattle.gq_command.specs.internal.Entries.{IsShown}
 use Rattle.gq_command.specs.declared.command.Command.{Command}
-use Rattle.gq_command.specs.declared.command.Command.TheVariants.{OfScenario, OfLeaf, OfTurns, Rule, Version, Stored, Help}
+use Rattle.gq_command.specs.declared.command.Command.TheVariants.{OfScenario, OfLeaf, OfTurns, Faults, Rule, Version, Stored, Help}
 use Rattle.gq_command.specs.declared.command.ScenarioCommand.TheVariants.{Check, Tree, Graph}
 use Rattle.gq_command.specs.declared.command.LeafCommand.TheVariants as of_a_leaf
 use Rattle.gq_command.specs.declared.command.TurnsCommand.TheVariants.{Run}
@@ -41,6 +41,7 @@ pub asked-ok : (words : List Text) (found : Option (Text × List Row)) (command 
 asked-ok words found (OfScenario command scenario) ne passes is h = (ne, ap₂ chosen passes (sym is) ∙ h)
 asked-ok words found (OfLeaf command scenario leaf) ne passes is h = (ne, ap₂ chosen passes (sym is) ∙ h)
 asked-ok words found (OfTurns command scenario turns) ne passes is h = (ne, ap₂ chosen passes (sym is) ∙ h)
+asked-ok words found (Faults scenario turns) ne passes is h = (ne, ap₂ chosen passes (sym is) ∙ h)
 asked-ok words found (Rule code) ne passes is h = (ne, ap₂ chosen passes (sym is) ∙ h)
 asked-ok words found Version ne passes is h = absurd h
 asked-ok words found Stored ne passes is h = absurd h
@@ -79,6 +80,7 @@ pub asked-err : (words : List Text) (error : Error) (command : Command) → word
 asked-err words error (OfScenario command scenario) ne kinds h = absurd h
 asked-err words error (OfLeaf command scenario leaf) ne kinds h = absurd h
 asked-err words error (OfTurns command scenario turns) ne kinds h = absurd h
+asked-err words error (Faults scenario turns) ne kinds h = absurd h
 asked-err words error (Rule code) ne kinds h = absurd h
 asked-err words error Stored ne kinds h = absurd h
 asked-err words error Version ne kinds h =

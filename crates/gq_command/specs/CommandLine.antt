@@ -8,7 +8,7 @@ use Rattle.std.specs.Str.{bytes_eq}
 use Rattle.clap.specs.declared.builder.action.ArgAction.TheVariants.{SetTrue}
 use Rattle.clap.specs.declared.error.kind.ErrorKind.TheVariants.{DisplayHelp, DisplayVersion}
 use Rattle.gq_command.specs.declared.command.Command.{Command}
-use Rattle.gq_command.specs.declared.command.Command.TheVariants.{OfScenario, OfLeaf, OfTurns, Rule as RuleOf, Version, Stored, Help}
+use Rattle.gq_command.specs.declared.command.Command.TheVariants.{OfScenario, OfLeaf, OfTurns, Faults, Rule as RuleOf, Version, Stored, Help}
 use Rattle.gq_command.specs.declared.command.ScenarioCommand.{ScenarioCommand}
 use Rattle.gq_command.specs.declared.command.ScenarioCommand.TheVariants.{Check, Tree, Graph, Turns, Races}
 use Rattle.gq_command.specs.declared.command.LeafCommand.{LeafCommand}
@@ -40,6 +40,10 @@ of_leaf name = with_rule (of_scenario name) (word_rule (codes "LEAF"))
 abbrev pub of_turns : Text → App
 of_turns name = with_rule (of_scenario name) (word_rule (codes "TURNS"))
 
+-- `NAME SCENARIO [TURNS]`
+abbrev pub of_maybe_turns : Text → App
+of_maybe_turns name = with_rule (of_scenario name) (new_rule (codes "TURNS"))
+
 -- `NAME [CODE]`
 abbrev pub of_code : Text → App
 of_code name = with_rule (new_app name) (new_rule (codes "CODE"))
@@ -56,6 +60,7 @@ commands =
     ∷ of_scenario (codes "races")
     ∷ with_rule (of_turns (codes "trace")) (option_rule (codes "all"))
     ∷ of_turns (codes "state")
+    ∷ of_maybe_turns (codes "faults")
     ∷ of_code (codes "rule")
     ∷ []
 
@@ -70,11 +75,13 @@ trade =
 
 -- WHAT THEY ASK FOR
 
--- what is wanted of the file of a scenario alone, of a leaf of it, or of it and the file of turns; or what a code means, or without one of all
+-- what is wanted of the file of a scenario alone, of a leaf of it, or of it and the file of turns; all that is wrong with it, and with turns;
+-- or what a code means, or without one of all
 pub data Wanted : Type 0 where
   Scenario_wanted : (command : ScenarioCommand) (scenario : Text) → Wanted
   Leaf_wanted : (command : LeafCommand) (scenario leaf : Text) → Wanted
   Turns_wanted : (command : TurnsCommand) (scenario turns : Text) → Wanted
+  Faults_wanted : (scenario : Text) (turns : Option Text) → Wanted
   Rule_wanted : (code : Option Text) → Wanted
 
 -- the parser says `true` of an option that was given
@@ -116,8 +123,8 @@ wanted_with scenario rows None None None = None
 abbrev pub wanted_of : Text → List Row → Option Wanted
 wanted_of name rows =
     if bytes_eq name (codes "rule") then Some (Rule_wanted (first_of (codes "CODE") rows))
-    else option_and_then (λ scenario. wanted_with scenario rows (scenario_command name rows) (leaf_command name) (turns_command name rows))
-    (first_of (codes "SCENARIO") rows)
+    else option_and_then (λ scenario. if bytes_eq name (codes "faults") then Some (Faults_wanted scenario (first_of (codes "TURNS") rows))
+    else wanted_with scenario rows (scenario_command name rows) (leaf_command name) (turns_command name rows)) (first_of (codes "SCENARIO") rows)
 
 abbrev pub wanted_in : Option (Text × List Row) → Option Wanted
 wanted_in = option_and_then (λ p. wanted_of p.0 p.1)
@@ -131,6 +138,7 @@ abbrev pub IsWanted : Option Wanted → Command → Type 0
 IsWanted found (OfScenario command scenario) = found ≡ Some (Scenario_wanted command (string_bytes scenario))
 IsWanted found (OfLeaf command scenario leaf) = found ≡ Some (Leaf_wanted command (string_bytes scenario) (string_bytes leaf))
 IsWanted found (OfTurns command scenario turns) = found ≡ Some (Turns_wanted command (string_bytes scenario) (string_bytes turns))
+IsWanted found (Faults scenario turns) = found ≡ Some (Faults_wanted (string_bytes scenario) (option_map string_bytes turns))
 IsWanted found (RuleOf code) = found ≡ Some (Rule_wanted (option_map string_bytes code))
 IsWanted found _ = ⊥
 

@@ -53,6 +53,8 @@ pub enum Command {
     OfLeaf(LeafCommand, String, String),
     /// Do this with the scenario at the first path and the turns at the second.
     OfTurns(TurnsCommand, String, String),
+    /// Tell all that is wrong with the scenario at the first path and, where there is a second, with the turns there.
+    Faults(String, Option<String>),
     /// Tell what this code of a fault means, or without one list all.
     Rule(Option<String>),
     /// Tell which version of the program this is.

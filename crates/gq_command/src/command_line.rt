@@ -14,9 +14,10 @@ use clap::error::ErrorKind;
 use std::alloc::{AllocError, Global};
 
 /// The command that the words after the program's name ask for: none of them is `Stored`; `check` and `tree` with a path are
-/// `OfScenario`, `asm` and `list` with a path and a name `OfLeaf`, and `run`, `trace` and `state` with two paths are `OfTurns`; `rule` is
-/// `Rule` with the code after it, if any; `--version` and `-V` are `Version`, and `help`, `--help` and `-h` are `Help` with the text to
-/// show. Of options, `tree` has `--dot` and `trace` has `--all`, before or after the paths.
+/// `OfScenario`, `asm` and `list` with a path and a name `OfLeaf`, and `run`, `trace` and `state` with two paths are `OfTurns`; `faults`
+/// with a path, and one more if there is one, is `Faults`; `rule` is `Rule` with the code after it, if any; `--version` and `-V` are
+/// `Version`, and `help`, `--help` and `-h` are `Help` with the text to show. Of options, `tree` has `--dot` and `trace` has `--all`,
+/// before or after the paths.
 ///
 /// Other words are `Usage`; `Memory` is the host's refusal, which can meet any words but none.
 pub fn command<'a>(alloc: Global, words: &'a [&'a str]) -> Result<Command, CommandError>
@@ -42,6 +43,8 @@ enum Wanted<'a> {
     OfLeaf(LeafCommand, &'a str, &'a str),
     // Of the files of a scenario and of turns.
     OfTurns(TurnsCommand, &'a str, &'a str),
+    // Of the file of a scenario, and that of turns where there is one.
+    Faults(&'a str, Option<&'a str>),
     // What a code means, or without one all codes.
     Rule(Option<&'a str>),
 }
@@ -68,6 +71,9 @@ fn wanted_of<'a>(name: &str, found: &ArgMatches<'a>) -> Option<Wanted<'a>>
         return Some(Wanted::Rule(first_named(found, "CODE")));
     }
     let scenario = first_named(found, "SCENARIO")?;
+    if name == "faults" {
+        return Some(Wanted::Faults(scenario, first_named(found, "TURNS")));
+    }
     if let Some(command) = scenario_command(name, found) {
         return Some(Wanted::OfScenario(command, scenario));
     }
@@ -134,6 +140,14 @@ fn command_of(alloc: Global, wanted: Wanted<'_>) -> Result<Command, CommandError
         },
         Wanted::OfTurns(command, scenario, turns) => match both_owned(alloc, scenario, turns) {
             Ok((scenario, turns)) => Ok(Command::OfTurns(command, scenario, turns)),
+            Err(refused) => Err(CommandError::Memory(refused)),
+        },
+        Wanted::Faults(scenario, None) => match String::from_str(alloc, scenario) {
+            Ok(scenario) => Ok(Command::Faults(scenario, None)),
+            Err(refused) => Err(CommandError::Memory(refused)),
+        },
+        Wanted::Faults(scenario, Some(turns)) => match both_owned(alloc, scenario, turns) {
+            Ok((scenario, turns)) => Ok(Command::Faults(scenario, Some(turns))),
             Err(refused) => Err(CommandError::Memory(refused)),
         },
         Wanted::Rule(None) => Ok(Command::Rule(None)),

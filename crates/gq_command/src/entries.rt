@@ -28,6 +28,8 @@ pub(crate) enum Takes {
     Leaf,
     // The file of a scenario, and that of turns.
     Turns,
+    // The file of a scenario, and that of turns or nothing.
+    MaybeTurns,
     // The code of a fault, or nothing.
     Code,
 }
@@ -117,6 +119,14 @@ const STATE: Entry<'static> = Entry {
     usage: "trade state <SCENARIO> <TURNS>",
 };
 
+const FAULTS: Entry<'static> = Entry {
+    name: "faults",
+    takes: Takes::MaybeTurns,
+    flag: None,
+    about: "Print all that is wrong with the scenario in the file SCENARIO, or with the turns in the file TURNS, each with its place",
+    usage: "trade faults <SCENARIO> [TURNS]",
+};
+
 const RULE: Entry<'static> = Entry {
     name: "rule",
     takes: Takes::Code,
@@ -126,8 +136,8 @@ const RULE: Entry<'static> = Entry {
 };
 
 // All commands.
-const ENTRIES: [Entry<'static>; 10] = [
-    CHECK, RUN, ASM, LIST, TREE, TURNS, RACES, TRACE, STATE, RULE,
+const ENTRIES: [Entry<'static>; 11] = [
+    CHECK, RUN, ASM, LIST, TREE, TURNS, RACES, TRACE, STATE, FAULTS, RULE,
 ];
 
 const ABOUT: &str = "Runs components that trade memory and capabilities under quotas";
@@ -138,7 +148,8 @@ const AFTER: &str = "\
 A check prints a line for each leaf: the bytes of its own quantum and the steps that it uses at most.
 A run prints what the components write, and after the last turn a line on the account of each.
 Without a command, standard input has both: the scenario, a line that is %%, and the turns.
-A refusal has a code, as S13 or V12: `trade rule V12` says what it means and what to do.
+A refusal has a code, as S13 or V12: `trade rule V12` says what it means and what to do, and
+`trade faults` where in the file it stands, with all other faults that can be told at once.
 
 Exit status:
   0  done, also when help or the version was asked for
@@ -149,6 +160,7 @@ Exit status:
 
 Examples:
   trade check hello.toml
+  trade faults hello.toml
   trade run hello.toml hello.turns
   trade turns hello.toml > hello.turns
   trade trace hello.toml hello.turns
@@ -217,6 +229,11 @@ fn with_words<'a>(alloc: Global, name: &'a str, takes: Takes) -> Result<Command<
         Takes::Scenario => of_scenario(alloc, name),
         Takes::Leaf => with_second(alloc, name, "LEAF", "The name of the leaf"),
         Takes::Turns => with_second(alloc, name, "TURNS", "The file of the turns"),
+        Takes::MaybeTurns => {
+            let command = of_scenario(alloc, name)?;
+            let turns = Arg::new(alloc, "TURNS").help("The file of the turns");
+            command.arg(turns)
+        }
         Takes::Code => {
             let code = Arg::new(alloc, "CODE").help("The code of a fault");
             Command::new(alloc, name).arg(code)

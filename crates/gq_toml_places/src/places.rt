@@ -10,7 +10,8 @@ use crate::tree::{ROOT, Spot, Step, Tree};
 use std::alloc::{AllocError, Global};
 use std::marker::Model;
 
-/// Where each table, key and value of a TOML text stands. Of a text that is no TOML, what stands before it stops being one.
+/// Where each table, key and value of a TOML text stands, to which at most sixteen keys and elements lead. Of a text that is no TOML, what stands before it
+/// stops being one.
 #[derive(Drop)]
 pub struct Places<'t> {
     text: &'t str,

@@ -523,9 +523,15 @@ fn path_into(alloc: Global, depth: usize) -> Result<Vec<Step<'static>>, AllocErr
 }
 
 #[test]
-fn goes_as_deep_as_toml_does(rt: HostRuntime) -> Result<(), Fail> {
-    let inside = depth_known(rt.alloc(), 79)?;
+fn goes_sixteen_deep(rt: HostRuntime) -> Result<(), Fail> {
+    let inside = depth_known(rt.alloc(), 14)?;
+    let deeper = depth_known(rt.alloc(), 15)?;
+    let deepest = depth_known(rt.alloc(), 79)?;
     let past = depth_known(rt.alloc(), 80)?;
-    assert_eq!(rt; [inside, past], [(true, true), (false, false)]);
+    let known = [inside, deeper, deepest, past];
+    assert_eq!(rt;
+        known,
+        [(true, true), (true, false), (true, false), (false, false)]
+    );
     Ok(())
 }

@@ -12,6 +12,13 @@ pub enum Step<'p> {
 /// The number of the document's own table.
 pub(crate) const ROOT: usize = 0;
 
+// How many keys and elements a path of a document has at most that is noted. What stands deeper has no place of its own, so that a text of tables within one
+// another takes no more room than its tables do.
+const DEEPEST: u32 = 16;
+
+// So many keys of a table stand in a list, and further ones in a map, whose first key takes room for fifteen.
+const FEW: usize = 4;
+
 /// Where something stands, as offsets into the text.
 #[derive(Clone, Copy, Debug, PartialEq, Eq)]
 pub(crate) struct Spot {
@@ -21,18 +28,53 @@ pub(crate) struct Spot {
     pub value: usize,
 }
 
-// A key, an element or a table, and what stands below it.
+// The keys of a table, with the numbers of their nodes.
+#[derive(Drop)]
+struct Keys {
+    few: Vec<(String, usize)>,
+    more: BTreeMap<String, usize>,
+}
+
+impl Keys {
+    fn new(alloc: Global) -> Keys {
+        Keys {
+            few: Vec::new(alloc),
+            more: BTreeMap::new(alloc),
+        }
+    }
+
+    fn insert(&mut self, name: String, node: usize) -> Result<(), AllocError> {
+        if self.few.len() < FEW {
+            self.few.push((name, node))?;
+        } else {
+            self.more.insert(name, node)?;
+        }
+        Ok(())
+    }
+
+    fn get(&self, name: &str) -> Option<usize> {
+        for (key, node) in &self.few {
+            if key.as_str() == name {
+                return Some(*node);
+            }
+        }
+        self.more.get(name).copied()
+    }
+}
+
+// A key, an element or a table, how many keys and elements lead to it, and what stands below it.
 #[derive(Drop)]
 struct Node {
     spot: Spot,
+    depth: u32,
     below: Below,
 }
 
 #[derive(Drop)]
 enum Below {
     Nothing,
-    /// The keys of a table, with the numbers of their nodes.
-    Keys(BTreeMap<String, usize>),
+    /// The keys of a table.
+    Keys(Keys),
     /// The elements of an array that are tables or arrays, in order, with their numbers.
     Elements(Vec<Element>),
 }
@@ -72,23 +114,31 @@ impl Tree {
             alloc,
             nodes: Vec::new(alloc),
         };
-        tree.add(Kind::Table, Spot { key: 0, value: 0 })?;
+        tree.add(Kind::Table, 0, Spot { key: 0, value: 0 })?;
         Ok(tree)
     }
 
     // A node that nothing leads to yet.
-    fn add(&mut self, kind: Kind, spot: Spot) -> Result<usize, AllocError> {
+    fn add(&mut self, kind: Kind, depth: u32, spot: Spot) -> Result<usize, AllocError> {
         let number = self.nodes.len();
         let below = match kind {
             Kind::Scalar => Below::Nothing,
-            Kind::Table => Below::Keys(BTreeMap::new(self.alloc)),
+            Kind::Table => Below::Keys(Keys::new(self.alloc)),
             Kind::Array => Below::Elements(Vec::new(self.alloc)),
         };
-        self.nodes.push(Node { spot, below })?;
+        self.nodes.push(Node { spot, depth, below })?;
         Ok(number)
     }
 
-    // A new key of a table. In what is no table nothing leads to it.
+    // How deep what is below a node stands; nothing where that is too deep to be noted.
+    fn depth_below(&self, number: usize) -> Option<u32> {
+        match self.nodes.get(number) {
+            Some(node) if node.depth < DEEPEST => Some(node.depth + 1),
+            _ => None,
+        }
+    }
+
+    // A new key of a table; the table itself where it would stand too deep. In what is no table nothing leads to it.
     fn add_key(
         &mut self,
         table: usize,
@@ -96,7 +146,10 @@ impl Tree {
         kind: Kind,
         spot: Spot,
     ) -> Result<usize, AllocError> {
-        let number = self.add(kind, spot)?;
+        let Some(depth) = self.depth_below(table) else {
+            return Ok(table);
+        };
+        let number = self.add(kind, depth, spot)?;
         if let Some(
             Node {
                 below: Below::Keys(keys),
@@ -109,7 +162,7 @@ impl Tree {
         Ok(number)
     }
 
-    // A new element of an array, after those that it has.
+    // A new element of an array, after those that it has; the array itself where it would stand too deep.
     fn add_element(
         &mut self,
         array: usize,
@@ -117,7 +170,10 @@ impl Tree {
         kind: Kind,
         spot: Spot,
     ) -> Result<usize, AllocError> {
-        let number = self.add(kind, spot)?;
+        let Some(depth) = self.depth_below(array) else {
+            return Ok(array);
+        };
+        let number = self.add(kind, depth, spot)?;
         if let Some(
             Node {
                 below: Below::Elements(elements),
@@ -222,7 +278,7 @@ impl Tree {
                     below: Below::Keys(keys),
                     ..
                 },
-            ) => keys.get(name).copied(),
+            ) => keys.get(name),
             _ => None,
         }
     }

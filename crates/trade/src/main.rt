@@ -89,7 +89,7 @@ fn execute_to(
     err: &mut Counted<Stderr>,
 ) -> Status {
     match command {
-        Command::OfTurns(_, scenario, turns) => {
+        Command::OfTurns(_, scenario, turns) | Command::Faults(scenario, Some(turns)) => {
             let (mut scenario, mut turns) = match open(rt, scenario.as_str(), turns.as_str()) {
                 Ok(files) => files,
                 Err(_) => return tell(err, Status::FileFault),
@@ -99,7 +99,9 @@ fn execute_to(
             drop(turns);
             status
         }
-        Command::OfScenario(_, scenario) | Command::OfLeaf(_, scenario, _) => {
+        Command::OfScenario(_, scenario)
+        | Command::OfLeaf(_, scenario, _)
+        | Command::Faults(scenario, None) => {
             let mut scenario = match File::open(rt, scenario.as_str()) {
                 Ok(file) => file,
                 Err(_) => return tell(err, Status::FileFault),

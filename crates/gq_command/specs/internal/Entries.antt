@@ -5,19 +5,20 @@ use Rattle.clap.specs.declared.builder.command.Command.{Command as Parser}
 use Rattle.clap.specs.declared.builder.command.Command.TheViews.{out-Command}
 use Rattle.clap.specs.declared.error.kind.ErrorKind.{ErrorKind}
 use Rattle.clap.specs.declared.error.kind.ErrorKind.TheVariants.{DisplayHelp, DisplayVersion}
-use Rattle.gq_command.specs.CommandLine.{of_scenario, of_leaf, of_turns, of_code, option_rule}
+use Rattle.gq_command.specs.CommandLine.{of_scenario, of_leaf, of_turns, of_maybe_turns, of_code, option_rule}
 use Rattle.gq_command.specs.declared.command.Command.{Command}
 use Rattle.gq_command.specs.declared.command.Command.TheVariants.{Version, Help}
 use Rattle.gq_command.specs.declared.entries.Entry.{Entry}
 use Rattle.gq_command.specs.declared.entries.Flag.{Flag}
 use Rattle.gq_command.specs.declared.entries.Takes.{Takes}
-use Rattle.gq_command.specs.declared.entries.Takes.TheVariants.{Scenario, Leaf, Turns, Code}
+use Rattle.gq_command.specs.declared.entries.Takes.TheVariants.{Scenario, Leaf, Turns, MaybeTurns, Code}
 
 -- the command of this name that takes these words
 abbrev pub taking : Takes → Text → App
 taking Scenario name = of_scenario name
 taking Leaf name = of_leaf name
 taking Turns name = of_turns name
+taking MaybeTurns name = of_maybe_turns name
 taking Code name = of_code name
 
 -- with its option, where it has one

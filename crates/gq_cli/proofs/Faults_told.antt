@@ -1,0 +1,117 @@
+-- All that is wrong was told, and then the texts are refused by the line of the first.
+use Rattle.std.proofs.Common.{◌≡◌, ◌∙◌, List, ℕ, [], ◌∷◌, Option, Result, Ok, Err, Some, None, IsOk, map, refl, ap, sym, subst}
+use Rattle.std.specs.Prelude.{string_bytes}
+use Rattle.std.specs.Io.KnownBytes.{Appends}
+use Rattle.gq_init.proofs.Known.{appends_nothing}
+use Rattle.gq_load.specs.Faults.{Prints, load_fault_text}
+use Rattle.gq_load.specs.Load.{Fault, fault_text, loaded}
+use Rattle.gq_load.specs.declared.fault.LoadFault.{LoadFault}
+use Rattle.gq_model.proofs.Small.{none_some, some_same}
+use Rattle.gq_model.specs.declared.fault.TurnFault.{TurnFault}
+use Rattle.gq_model.specs.machine.Scenario.{Component, Scenario, components}
+use Rattle.gq_model.specs.texts.Turns.{Turned, turned}
+use Rattle.gq_world.specs.Outcomes.{IsWhole, run_fault_text}
+use Rattle.gq_world.specs.Whole.{Written, refused_with, turn_fault_text, with_scenario}
+use Rattle.gq_world.specs.declared.fault.RunFault.TheVariants as faults
+use Rattle.gq_faults.specs.Faults.{fault_lines, refusal_of}
+use Rattle.gq_faults.specs.Lists.{first}
+use Rattle.gq_faults.specs.Told.{WritesFaults}
+use Rattle.gq_faults.specs.Turn_faults.{Answers, fault_of_turns, lines_from, lines_of_both, told_of, turn_fault_line, turn_faults}
+use Rattle.gq_faults.specs.declared.turns.Refused as why
+use Rattle.gq_faults.specs.declared.turns.Refused.TheVariants as answers
+use Rattle.gq_cli.specs.Ends.{EndedFaults, IsKnown, IsToldAs, IsUntold, refusal_fault}
+use Rattle.gq_cli.specs.Executed.{Of_faults, faults_written, none_written}
+use Rattle.gq_cli.specs.declared.execute.Fault as untold
+use Rattle.gq_cli.specs.declared.execute.Fault.TheVariants.{Refused, Memory, Read, Write}
+
+nothing : (before after : Option (List ℕ)) → after ≡ before → Appends before after []
+nothing before after e = subst (λ o. Appends before o []) (sym e) (appends_nothing before)
+
+-- A SCENARIO
+
+module _ (path text : List ℕ) (before after : Option (List ℕ)) where
+  refused_line : (f : LoadFault) (line : List ℕ) → Prints f (refusal_of (loaded text)) → line ≡ refused_with (load_fault_text f)
+      → faults_written text None ≡ Err line
+  refused_line f line h e = by (loaded text) h
+    where
+      by : (r : Result Scenario Fault) → Prints f (refusal_of r) → with_scenario r (λ s. Ok []) ≡ Err line
+      by (Ok s) h = absurd h
+      by (Err fault) h = ap Err (ap refused_with (sym h) ∙ sym e)
+
+  pub refused_ends : (f : LoadFault) (r : untold.Fault) → Prints f (refusal_of (loaded text)) → WritesFaults path (fault_lines text) before after
+      → IsToldAs (faults.Load f) r → IsKnown {A = Unit {0}} (Err r) → EndedFaults {A = Unit {0}} (Err r) before after (Of_faults path text None)
+  refused_ends f (Refused line) h w told known = (refused_line f (string_bytes line) h told.2, w)
+  refused_ends f Memory h w told known = absurd known
+  refused_ends f Read h w told known = absurd told
+  refused_ends f Write h w told known = tt {0}
+
+  pub none_ends : IsOk (loaded text) → after ≡ before → IsWhole (faults_written text None) before after
+  none_ends h e = by (loaded text) h
+    where
+      by : (r : Result Scenario Fault) → IsOk r → IsWhole (with_scenario r (λ s. Ok [])) before after
+      by (Ok s) h = record { text = []; given = refl; written = nothing before after e }
+      by (Err fault) h = absurd cc
+
+-- A SCENARIO AND TURNS
+
+module _ (path other text turns : List ℕ) (before after : Option (List ℕ)) where
+  turns_line : (t : Turned) (fault : TurnFault) (k : ℕ) (line : List ℕ) → fault_of_turns t ≡ Some (fault, k)
+      → line ≡ refused_with (turn_fault_text fault k) → none_written t ≡ Err line
+  turns_line (Ok ts) fault k line h e = absurd (none_some h)
+  turns_line (Err p) fault k line h e = ap Err (ap (λ (q : TurnFault × ℕ). refused_with (turn_fault_text q.0 q.1)) (some_same h) ∙ sym e)
+
+  both_line : (w : why.Refused) (line : List ℕ) → Answers (Some w) (loaded text) turns → line ≡ refused_with (run_fault_text (refusal_fault w))
+      → faults_written text (Some turns) ≡ Err line
+  both_line w line h e = by (loaded text) w h e
+    where
+      by : (r : Result Scenario Fault) (w : why.Refused) → Answers (Some w) r turns → line ≡ refused_with (run_fault_text (refusal_fault w))
+          → with_scenario r (λ s. none_written (turned (components s) turns)) ≡ Err line
+      by (Err fault) (answers.Scenario f) h e = ap Err (ap refused_with (sym h) ∙ sym e)
+      by (Err fault) (answers.Turns f k) h e = absurd h
+      by (Ok s) (answers.Scenario f) h e = absurd h
+      by (Ok s) (answers.Turns f k) h e = turns_line (turned (components s) turns) f k line h e
+
+  pub both_ends : (w : why.Refused) (r : untold.Fault) → Answers (Some w) (loaded text) turns
+      → WritesFaults (told_of (loaded text) path other) (lines_of_both text turns) before after → IsToldAs (refusal_fault w) r
+      → IsKnown {A = Unit {0}} (Err r) → EndedFaults {A = Unit {0}} (Err r) before after (Of_faults path text (Some (other, turns)))
+  both_ends w (Refused line) h f told known = (both_line w (string_bytes line) h told.2, f)
+  both_ends w Memory h f told known = absurd known
+  both_ends w Read h f told known = absurd told
+  both_ends w Write h f told known = tt {0}
+
+  -- nothing was told
+  told_none : (front : List ℕ) (faults : List (List ℕ)) → faults ≡ [] → WritesFaults front faults before after → Appends before after []
+  told_none front faults e h = by (subst (λ l. WritesFaults front l before after) e h)
+    where
+      by : WritesFaults front [] before after → Appends before after []
+      by h = subst (Appends before after) h.told h.written
+
+  no_fault : (xs : List (TurnFault × ℕ)) → first xs ≡ None → xs ≡ []
+  no_fault [] e = refl
+  no_fault (x ∷ xs) e = absurd (none_some (sym e))
+
+  pub both_none : ((cs : List Component) (t : List ℕ) → first (turn_faults cs t) ≡ fault_of_turns (turned cs t)) → Answers None (loaded text) turns
+      → WritesFaults (told_of (loaded text) path other) (lines_of_both text turns) before after → IsWhole (faults_written text (Some turns)) before after
+  both_none law h f = by (loaded text) h f
+    where
+      by : (r : Result Scenario Fault) → Answers None r turns → WritesFaults (told_of r path other) (lines_from r text turns) before after
+          → IsWhole (with_scenario r (λ s. none_written (turned (components s) turns))) before after
+      by (Err fault) h f = absurd h
+      by (Ok s) h f = record {
+        text = [];
+        given = whole (turned (components s) turns) h;
+        written = told_none other (map turn_fault_line (turn_faults (components s) turns))
+            (ap (map turn_fault_line) (no_fault (turn_faults (components s) turns) (law (components s) turns ∙ h))) f;
+      }
+        where
+          whole : (t : Turned) → fault_of_turns t ≡ None → none_written t ≡ Ok []
+          whole (Ok ts) e = refl
+          whole (Err p) e = absurd (none_some (sym e))
+
+-- who does not tell all is not refused
+pub untold_ends : (r : untold.Fault) (path text : List ℕ) (turns : Option (List ℕ × List ℕ)) (before after : Option (List ℕ)) → IsUntold r
+    → IsKnown {A = Unit {0}} (Err r) → EndedFaults {A = Unit {0}} (Err r) before after (Of_faults path text turns)
+untold_ends (Refused line) path text turns before after h known = absurd h
+untold_ends Memory path text turns before after h known = absurd known
+untold_ends Read path text turns before after h known = absurd h
+untold_ends Write path text turns before after h known = tt {0}

@@ -1,0 +1,29 @@
+use Rattle.std.proofs.Common.{◌++◌, length, map, filter}
+use Rattle.std.specs.Prelude.{codes}
+use Rattle.toml.specs.Data.{get_member}
+use Rattle.toml.specs.View.{table_view}
+use Rattle.gq_scenario.specs.Document.{is_long, keys_of, routes_at, table_of}
+use Rattle.gq_scenario.specs.Keys.{TooMany}
+use Rattle.gq_faults.specs.Documents.{is_inner, is_leaf, long_lists, too_many}
+use Rattle.gq_faults.specs.Lists.{all_found, when}
+use Rattle.gq_faults.specs.Nodes.{node_of}
+use Rattle.gq_faults.proofs.Counted.{count_told, counts_is}
+use Rattle.gq_faults.proofs.Telling.{tells_more}
+use Rattle.gq_faults.proofs.counts.tell_counts.Goals as goal
+
+pub returns : goal.returns
+returns g c =
+    let path = c.args.teller.now.path.now in
+    let top = table_view c.args.top.now in
+    let nodes = map node_of c.args.nodes.now in
+    let a = too_many (length (filter is_leaf nodes)) in
+    let b = too_many (length (filter is_inner nodes)) in
+    let d = too_many (length (keys_of (table_of (get_member (codes "interface") top)))) in
+    let e = when (is_long (routes_at (codes "default-route") top)) TooMany in
+    rw (counts_is nodes top c.requires)
+    (tells_more path (a ++ b ++ d ++ e) (all_found long_lists nodes) _ _ _ _ _ _ (tt {0}) _
+    (tells_more path (a ++ b ++ d) e _ _ _ _ _ _ (tt {0}) _
+    (tells_more path (a ++ b) d _ _ _ _ _ _ (tt {0}) _
+    (tells_more path a b _ _ _ _ _ _ (tt {0}) _ (count_told path _ _ _ _ _ _ _ c.count_leaves.ensures c.in_ok-tell_crowd.ensures)
+    (count_told path _ _ _ _ _ _ _ c.count_inits.ensures c.in_ok-tell_crowd-2.ensures))
+    (count_told path _ _ _ _ _ _ _ c.count_interfaces.ensures c.in_ok-tell_interfaces.ensures)) c.in_ok-tell_long.ensures) c.tell_all_lists.ensures)

@@ -1,0 +1,56 @@
+use Rattle.std.proofs.Common.{◌≡◌, ◌+◌, [], ◌∷◌, map, drop, Err, Ok, ap, sym}
+use Rattle.std.specs.Prelude.{codes}
+use Rattle.std.proofs.lemmas.Result.{err_from_is_err_and}
+use Rattle.toml.specs.View.{table_view}
+use Rattle.gq_scenario.specs.Reading.{document_text}
+use Rattle.gq_faults.specs.Lists.{all_found}
+use Rattle.gq_faults.specs.Documents.{named, names_faults, names_twice}
+use Rattle.gq_faults.specs.Nodes.{node_of}
+use Rattle.gq_faults.specs.Seen.{seen_after}
+use Rattle.gq_faults.proofs.Seen.{none_seen, twice_next, twice_end}
+use Rattle.gq_faults.proofs.Telling.{tells_early, told_as, next_told, none_told}
+use Rattle.gq_faults.proofs.names.tell_names.Goals as goal
+
+pub returns-in_err-tell_twice : goal.returns-in_err-tell_twice
+returns-in_err-tell_twice g c =
+    let p = err_from_is_err_and c.from_residual-in_err-tell_twice.result c.from_residual-in_err-tell_twice.ensures.1 in
+    let names = c.loop-node.invariant.0 in
+    rw (p.1, p.2) (c.loop-node.invariant.2 _ _ (Err c.in_err-tell_twice.field-0.0)
+    (tells_early c.args.teller.now.path.now (map document_text (names_twice names (named (node_of c.node-item.result)))) _ _ _ _ _ c.in_err-tell_twice.field-0.0
+    (c.in_err-tell_twice.ensures.told names c.loop-node.invariant.1)))
+
+pub loop-node-init : goal.loop-node-init
+loop-node-init g c =
+    let path = c.args.teller.now.path.now in
+    let first = codes "init" ∷ [] in
+    let same : names_faults (table_view c.args.top.now) ≡ names_twice first (all_found named (map node_of c.args.nodes.now)) =
+    ap (λ ns. names_twice first (all_found named ns)) (sym c.requires) in (
+      first,
+      c.in_ok-was_seen.ensures.seen [] (none_seen c.new-seen.result c.new-seen.ensures.empty),
+      λ after n r h. told_as path (map document_text (names_twice first (all_found named (map node_of c.args.nodes.now))))
+          (map document_text (names_faults (table_view c.args.top.now))) _ after _ n r (ap (map document_text) (sym same)) h,
+    )
+
+pub loop-node-preserved : goal.loop-node-preserved
+loop-node-preserved g c =
+    let names = c.loop-node.invariant.0 in
+    let xs = c.args.nodes.now in
+    let i = c.loop-node.node-index in
+    let x = c.node-item.result in
+    let own = named (node_of x) in (
+      seen_after names own,
+      c.in_ok-tell_twice.ensures.seen names c.loop-node.invariant.1,
+      λ after n r h. c.loop-node.invariant.2 after n r
+          (next_told c.args.teller.now.path.now (names_twice names (all_found named (map node_of (drop i xs)))) (names_twice names own)
+          (names_twice (seen_after names own) (all_found named (map node_of (drop (i + 1) xs)))) _ _ after _ _ n tt r
+          (twice_next names xs i x c.loop-node-test.true c.node-item.is) (c.in_ok-tell_twice.ensures.told names c.loop-node.invariant.1) h),
+    )
+
+pub returns : goal.returns
+returns g c =
+    let names = c.loop-node.invariant.0 in
+    let xs = c.args.nodes.now in
+    let i = c.loop-node.node-index in
+    c.loop-node.invariant.2 _ _ (Ok tt)
+    (none_told c.args.teller.now.path.now (names_twice names (all_found named (map node_of (drop i xs)))) _ _ tt
+    (twice_end names xs i c.loop-node-test.false))

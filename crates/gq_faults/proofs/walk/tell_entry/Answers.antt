@@ -1,0 +1,22 @@
+use Rattle.std.proofs.Common.{◌≡◌, Some, None, sym, List}
+use Rattle.toml.specs.Data.{Members, as_table}
+use Rattle.toml.specs.View.{view, table_view}
+use Rattle.gq_scenario.specs.Keys.{DocumentFault}
+use Rattle.gq_scenario.specs.Tables.{interface_keys}
+use Rattle.gq_scenario.specs.Trees.{version_number}
+use Rattle.gq_faults.specs.Documents.{table_faults}
+use Rattle.gq_faults.proofs.Telling.{tells_none}
+use Rattle.gq_faults.proofs.Values.{in_table_at, in_table_none}
+use Rattle.gq_faults.proofs.walk.tell_entry.Goals as goal
+
+pub returns-in_default : goal.returns-in_default
+returns-in_default g c =
+    let f : Members → List DocumentFault = λ entries. table_faults (interface_keys (version_number c.args.version) entries) entries in
+    let none : as_table (view c.args.value.now) ≡ None = sym (rw c.in_default.is at c.as_table.ensures) in
+    rw (in_table_none f (view c.args.value.now) none) (tells_none c.args.teller.now.path.now _ _ tt)
+
+pub returns : goal.returns
+returns g c =
+    let f : Members → List DocumentFault = λ entries. table_faults (interface_keys (version_number c.args.version) entries) entries in
+    let is : as_table (view c.args.value.now) ≡ Some (table_view c.in-Some.table.now) = sym (rw c.in-Some.is at c.as_table.ensures) in
+    rw (in_table_at f (view c.args.value.now) (table_view c.in-Some.table.now) is) c.tell_interface.ensures

@@ -1,0 +1,36 @@
+use Rattle.std.proofs.Common.{◌+◌, map, drop, Err, Ok}
+use Rattle.std.proofs.lemmas.Result.{err_from_is_err_and}
+use Rattle.toml.specs.View.{view, items_view}
+use Rattle.gq_scenario.specs.Keys.{listed}
+use Rattle.gq_scenario.specs.Reading.{document_text}
+use Rattle.gq_scenario.specs.Tables.{route_keys}
+use Rattle.gq_faults.specs.Documents.{in_table, in_tables, table_faults}
+use Rattle.gq_faults.proofs.Telling.{tells_early, next_told, none_told}
+use Rattle.gq_faults.proofs.Values.{values_next, values_end}
+use Rattle.gq_faults.proofs.walk.tell_list.Goals as goal
+
+pub returns-in_err-tell_listed : goal.returns-in_err-tell_listed
+returns-in_err-tell_listed g c =
+    let p = err_from_is_err_and c.from_residual.result c.from_residual.ensures.1 in
+    rw (p.1, p.2) (c.loop-index.invariant _ _ (Err c.in_err-tell_listed.field-0.0)
+    (tells_early c.args.teller.now.path.now (map document_text (in_table (table_faults route_keys) (view c.index-values-index.result))) _ _ _ _ _
+    c.in_err-tell_listed.field-0.0 c.in_err-tell_listed.ensures))
+
+pub loop-index-preserved : goal.loop-index-preserved
+loop-index-preserved g c = λ after n r h.
+    let f = table_faults route_keys in
+    let vs = c.args.values.now in
+    let i = c.loop-index.index in
+    let v = c.index-values-index.result in
+    c.loop-index.invariant after n r
+    (next_told c.args.teller.now.path.now (in_tables f (listed (items_view (drop i vs)))) (in_table f (view v))
+    (in_tables f (listed (items_view (drop (i + 1) vs)))) _ _ after _ _ n tt r
+    (values_next f vs i v c.loop-index-test.true c.index-values-index.is) c.in_ok-tell_listed.ensures h)
+
+pub returns : goal.returns
+returns g c =
+    let f = table_faults route_keys in
+    let vs = c.args.values.now in
+    let i = c.loop-index.index in
+    c.loop-index.invariant _ _ (Ok tt)
+    (none_told c.args.teller.now.path.now (in_tables f (listed (items_view (drop i vs)))) _ _ tt (values_end f vs i c.loop-index-test.false))

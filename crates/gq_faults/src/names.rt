@@ -1,0 +1,119 @@
+// Names that stand twice in a document.
+ghost use Rattle.std.specs.Prelude.{◌≡◌, ◌∷◌, [], ℕ, List, true, IfOk, OnOk, map, option_map};
+ghost use Rattle.gq_model.specs.machine.Lists.{any_of};
+ghost use Rattle.gq_model.specs.machine.Program.{text_eq};
+ghost use Rattle.gq_model.specs.texts.Letters.{is_name};
+ghost use Rattle.gq_scenario.specs.Keys.{NameTwice};
+ghost use Rattle.toml.specs.View.{table_view};
+ghost use Rattle.gq_faults.specs.Lists.{listed_if};
+ghost use Rattle.gq_faults.specs.Documents.{named, names_faults, names_twice, nodes_in};
+ghost use Rattle.gq_faults.specs.Nodes.{node_of};
+ghost use Rattle.gq_faults.specs.Seen.{AreSeen, seen_after};
+ghost use Rattle.gq_faults.specs.Told.{TellsOf};
+
+use crate::fault::TellError;
+use crate::found::{Detail, Spot};
+use crate::nodes::NodeAt;
+use crate::path::with_step;
+use crate::tables::tell_fault;
+use crate::tell::Teller;
+use gq_init::counted::Counted;
+use gq_model::letters::is_name;
+use gq_model::program::Name;
+use gq_reader::value::text_at;
+use gq_scenario::fault::ScenarioFault;
+use gq_scenario::key::Key;
+use gq_toml_places::Step;
+use std::alloc::AllocError;
+use std::collections::BTreeSet;
+use std::io::Write;
+use toml::Table;
+
+// The name of a node that is not too deep, where it is one.
+fn name_of<'d>(node: &NodeAt<'d>) -> Option<&'d str>
+    ensures { listed_if (option_map (λ name. name.now) result) ≡ named (node_of node.now) }
+{
+    let text = text_at(node.table, Key::Name)?;
+    if !node.is_deep && is_name(text.as_bytes()) {
+        Some(text)
+    } else {
+        None
+    }
+}
+
+// Puts a name among those that were seen, and tells whether it was there.
+fn was_seen<'d>(seen: &mut BTreeSet<&'d str>, name: &'d str) -> Result<bool, AllocError>
+    ensures known { (names : List (List ℕ)) → AreSeen seen.old names → IfOk result (λ known. known ≡ any_of (text_eq name.now) names) }
+    ensures seen { (names : List (List ℕ)) → AreSeen seen.old names → OnOk result (AreSeen seen.new (name.now ∷ names)) }
+{
+    Ok(!seen.insert(name)?)
+}
+
+// That a name stands for the second time.
+fn tell_name<W: Write>(
+    teller: &Teller<'_>,
+    out: &mut Counted<W>,
+    node: &NodeAt<'_>,
+    text: &str,
+) -> Result<(), TellError>
+    requires { is_name text.now ≡ true }
+    ensures { TellsOf W.contents teller.now.path.now (NameTwice text.now ∷ []) out.old out.new result }
+{
+    let Some(name) = Name::new(text.as_bytes()) else {
+        unreachable!()
+    };
+    let table = node.place.way(teller.alloc())?;
+    let way = with_step(
+        teller.alloc(),
+        table.as_slice(),
+        Step::Key(Key::Name.word()),
+    )?;
+    let fault = ScenarioFault::NameTwice(name);
+    tell_fault(
+        teller,
+        out,
+        fault,
+        way.as_slice(),
+        Spot::Value,
+        &Detail::Nothing,
+    )
+}
+
+// That the name of a node was seen before; then it is among those that were.
+fn tell_twice<'d, W: Write>(
+    teller: &Teller<'_>,
+    out: &mut Counted<W>,
+    seen: &mut BTreeSet<&'d str>,
+    node: &NodeAt<'d>,
+) -> Result<(), TellError>
+    ensures told { (names : List (List ℕ)) → AreSeen seen.old names
+        → TellsOf W.contents teller.now.path.now (names_twice names (named (node_of node.now))) out.old out.new result }
+    ensures seen { (names : List (List ℕ)) → AreSeen seen.old names → OnOk result (AreSeen seen.new (seen_after names (named (node_of node.now)))) }
+{
+    let Some(text) = name_of(node) else {
+        return Ok(());
+    };
+    if was_seen(seen, text)? {
+        tell_name(teller, out, node, text)
+    } else {
+        Ok(())
+    }
+}
+
+/// Tells each name that was seen before, of which `init` is the root's.
+pub(crate) fn tell_names<W: Write>(
+    teller: &Teller<'_>,
+    out: &mut Counted<W>,
+    top: &Table,
+    nodes: &[NodeAt<'_>],
+) -> Result<(), TellError>
+    requires { map node_of nodes.now ≡ nodes_in (table_view top.now) }
+    ensures { TellsOf W.contents teller.now.path.now (names_faults (table_view top.now)) out.old out.new result }
+{
+    let mut seen = BTreeSet::new(teller.alloc());
+    was_seen(&mut seen, "init")?;
+    for node in nodes {
+        tell_twice(teller, out, &mut seen, node)?;
+    }
+    Ok(())
+}

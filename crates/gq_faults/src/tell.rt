@@ -1,0 +1,145 @@
+// The lines of faults: each with its place, and its details below it.
+ghost use Rattle.std.specs.Prelude.{◌≡◌, ◌∷◌, [], IfOk, string_bytes};
+ghost use Rattle.gq_faults.specs.Told.{IsTold, Tells, lines_found};
+
+use crate::details::push_detail;
+use crate::fault::TellError;
+use crate::found::{Detail, Found, Spot};
+use crate::words::Details;
+use gq_init::counted::{Counted, put};
+use gq_toml_places::{Places, Position, Step};
+use std::alloc::{AllocError, Global};
+use std::io::Write;
+
+// The text of a fault at a place of the file of this path, with its details.
+fn told_text(
+    alloc: Global,
+    path: &str,
+    position: Position,
+    fault: &str,
+    details: &Details,
+) -> Result<Vec<u8>, AllocError>
+    ensures { IfOk result (λ text. IsTold path.now fault.now text.items) }
+{
+    let (line, column) = (position.line, position.column);
+    let front = format!(in alloc; "{path}:{line}:{column}: {fault}\n")?;
+    let mut text = Vec::from_slice(alloc, front.as_bytes())?;
+    text.extend_from_slice(details.lines())?;
+    Ok(text)
+}
+
+/// Writes a fault at a place of the file of this path, with its details.
+pub(crate) fn put_fault<W: Write>(
+    alloc: Global,
+    path: &str,
+    position: Position,
+    fault: &str,
+    details: &Details,
+    out: &mut Counted<W>,
+) -> Result<(), TellError>
+    ensures { Tells W.contents path.now (fault.now ∷ []) out.old out.new result }
+{
+    let text = told_text(alloc, path, position, fault, details)?;
+    match put(out, text.as_slice()) {
+        Ok(()) => Ok(()),
+        Err(_) => Err(TellError::Write),
+    }
+}
+
+/// Puts the text of a line of a file, without the blanks around it, at the end of details.
+pub(crate) fn push_line(told: &mut Details, line: &str) -> Result<(), AllocError> {
+    let line = line.trim_matches(is_blank);
+    if line.is_empty() {
+        return Ok(());
+    }
+    told.quoted(line)?;
+    told.end()
+}
+
+// Whether a letter stands between words.
+fn is_blank(letter: char) -> bool {
+    letter == ' ' || letter == '\t' || letter == '\r'
+}
+
+/// Tells faults of the file of a scenario.
+#[derive(Drop)]
+pub(crate) struct Teller<'f> {
+    alloc: Global,
+    path: &'f str,
+    places: Places<'f>,
+}
+
+impl<'f> Teller<'f> {
+    /// Of a file of this path and this text.
+    pub fn new(alloc: Global, path: &'f str, text: &'f str) -> Result<Teller<'f>, AllocError>
+        ensures { IfOk result (λ teller. teller.path.now ≡ path.now) }
+    {
+        let places = Places::read(alloc, text)?;
+        Ok(Teller {
+            alloc,
+            path,
+            places,
+        })
+    }
+
+    pub fn alloc(&self) -> Global {
+        self.alloc
+    }
+
+    // Where a spot of what a way leads to is, and what is told of the line there.
+    fn place(
+        &self,
+        way: &[Step<'_>],
+        spot: Spot,
+        details: &mut Details,
+    ) -> Result<Position, AllocError> {
+        let at = match spot {
+            Spot::Table => self.places.table(way),
+            Spot::Key => self.places.key(way),
+            Spot::Value => self.places.value(way),
+            Spot::Line(line) => {
+                let content = self.places.content_line(self.alloc, way, line)?;
+                push_line(details, content.text.as_str())?;
+                content.at
+            }
+        };
+        Ok(self.places.position(at))
+    }
+
+    /// Writes a fault of this line at a spot of what a way leads to.
+    pub fn tell<W: Write>(
+        &self,
+        out: &mut Counted<W>,
+        fault: &str,
+        way: &[Step<'_>],
+        spot: Spot,
+        detail: &Detail<'_>,
+    ) -> Result<(), TellError>
+        ensures { Tells W.contents self.now.path.now (fault.now ∷ []) out.old out.new result }
+    {
+        let mut details = Details::new(self.alloc);
+        let position = self.place(way, spot, &mut details)?;
+        push_detail(&mut details, detail)?;
+        put_fault(self.alloc, self.path, position, fault, &details, out)
+    }
+
+    /// Writes faults that were found.
+    pub fn tell_each<W: Write>(
+        &self,
+        out: &mut Counted<W>,
+        found: &[Found<'_>],
+    ) -> Result<(), TellError>
+        ensures { Tells W.contents self.now.path.now (lines_found found.now) out.old out.new result }
+    {
+        for fault in found {
+            self.tell(
+                out,
+                fault.line.as_str(),
+                fault.path.as_slice(),
+                fault.spot,
+                &fault.detail,
+            )?;
+        }
+        Ok(())
+    }
+}

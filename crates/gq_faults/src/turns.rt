@@ -1,0 +1,264 @@
+// All lines of a text of turns that are wrong.
+ghost use Rattle.std.specs.Prelude.{◌≡◌, ◌+◌, ◌^◌, ◌<◌, ◌≤◌, ◌∷◌, ◌++◌, [], length, map, option_map, unwrap_or, IfOk, IfSome, Some};
+ghost use Rattle.gq_model.specs.machine.Scenario.{components};
+ghost use Rattle.gq_model.specs.texts.Letters.{lines};
+ghost use Rattle.gq_model.specs.texts.Turns.{greatest_turns};
+ghost use Rattle.gq_scenario.specs.Lines.{length_left};
+ghost use Rattle.gq_load.specs.Load.{loaded};
+ghost use Rattle.gq_faults.specs.Lists.{first, listed_if};
+ghost use Rattle.gq_faults.specs.Told.{Tells};
+ghost use Rattle.gq_faults.specs.Turn_faults.{Answers, faults_left, line_faults, lines_of_both, told_fault, told_of};
+ghost use Rattle.gq_faults.specs.Turn_faults.{turn_fault_line, turn_faults, turns_after};
+
+use crate::fault::TellError;
+use crate::faults::{File, faults};
+use crate::tell::{push_line, put_fault};
+use crate::words::Details;
+use gq_init::counted::Counted;
+use gq_init::names::NameIndex;
+use gq_init::turns::next_turn;
+use gq_load::accepted::Accepted;
+use gq_load::fault::{LoadError, LoadFault};
+use gq_model::fault::TurnFault;
+use gq_model::limits::{GREATEST_TURNS, GREATEST_TURNS_TEXT};
+use gq_resolve::NodeTable;
+use gq_scenario::lines::next_line;
+use gq_scenario::scenario::LeafNo;
+use gq_toml_places::Position;
+use std::alloc::Global;
+use std::io::Write;
+
+/// A line that is wrong, numbered from 1.
+#[derive(Clone, Copy)]
+struct Wrong<'t> {
+    fault: TurnFault,
+    line: u64,
+    text: &'t [u8],
+    /// How many turns the lines before it and it itself are.
+    total: u64,
+}
+
+// The fault that is told of a line that says this after so many turns: that there are too many is told once.
+fn told_fault(
+    said: &Result<Option<(LeafNo, u32)>, TurnFault>,
+    before: Option<u32>,
+) -> Option<TurnFault>
+    ensures { result ≡ told_fault said.now before }
+{
+    match said {
+        Ok(_) => None,
+        Err(TurnFault::TooMany) if before.is_none() => None,
+        Err(fault) => Some(*fault),
+    }
+}
+
+// How many turns there are after a line that says this; `None` once there were too many.
+fn turns_after(said: &Result<Option<(LeafNo, u32)>, TurnFault>, before: Option<u32>) -> Option<u32>
+    requires few { unwrap_or before 0 ≤ greatest_turns }
+    requires fits { IfOk said.now (λ turn. IfSome turn (λ t. unwrap_or before 0 + t.1 ≤ greatest_turns)) }
+    ensures turns { result ≡ turns_after said.now before }
+    ensures few { unwrap_or result 0 ≤ greatest_turns }
+{
+    match said {
+        Ok(None) => before,
+        Ok(Some((_, count))) => match before {
+            Some(total) => Some(total + *count),
+            None => None,
+        },
+        Err(TurnFault::TooMany) => None,
+        Err(_) => before,
+    }
+}
+
+// The number at the end of a line.
+fn count_of(line: &[u8]) -> u64 {
+    let mut number = 0_u64;
+    for byte in line {
+        number = match *byte {
+            digit @ b'0'..=b'9' => number
+                .saturating_mul(10)
+                .saturating_add(u64::from(digit - b'0')),
+            _ => 0,
+        };
+    }
+    number
+}
+
+// The first line of a text, which has this number and is wrong, after so many turns.
+fn wrong_line<'t>(fault: TurnFault, line: u64, text: &'t [u8], before: u32) -> Wrong<'t>
+    ensures fault { result.fault ≡ fault }
+    ensures line { result.line ≡ line }
+{
+    let (text, _) = next_line(text);
+    Wrong {
+        fault,
+        line,
+        text,
+        total: u64::from(before).saturating_add(count_of(text)),
+    }
+}
+
+// A walk over the lines of a text.
+#[derive(Clone, Copy, Drop)]
+struct Lines<'t> {
+    left: Option<&'t [u8]>,
+    /// How many lines were read.
+    line: u64,
+    /// How many turns these are; `None` once there were too many.
+    total: Option<u32>,
+}
+
+impl<'t> Lines<'t> {
+    // Reads the next line, with which the text that is left begins, and tells whether it is wrong.
+    fn read(&mut self, text: &'t [u8], table: &NodeTable, names: &NameIndex) -> Option<Wrong<'t>>
+        requires few { unwrap_or self.old.total 0 ≤ greatest_turns }
+        requires numbered { self.old.line + 1 < 2 ^ 64 }
+        ensures faults { faults_left (components table.now) self.old.line self.old.total (Some text.now)
+            ≡ listed_if (option_map (λ wrong. (wrong.fault, wrong.line)) result)
+            ++ faults_left (components table.now) self.new.line self.new.total (option_map (λ rest. rest.now) self.new.left) }
+        ensures few { unwrap_or self.new.total 0 ≤ greatest_turns }
+        ensures numbered { self.new.line ≡ self.old.line + 1 }
+        ensures shorter { length_left (option_map (λ rest. rest.now) self.new.left) ≤ length text.now }
+    {
+        let before = self.total;
+        let (said, after) = next_turn(text, before.unwrap_or(0), table, names);
+        self.left = after;
+        self.line += 1;
+        self.total = turns_after(&said, before);
+        let fault = told_fault(&said, before)?;
+        Some(wrong_line(fault, self.line, text, before.unwrap_or(0)))
+    }
+}
+
+/// Why a scenario and turns are refused.
+#[derive(Drop)]
+pub enum Refused {
+    /// The scenario is.
+    Scenario(LoadFault),
+    /// The turns are, by their first line that is wrong; 0 where the text is too long.
+    Turns { fault: TurnFault, line: u64 },
+}
+
+// Writes a fault of turns.
+fn put_turn_fault<W: Write>(
+    alloc: Global,
+    path: &str,
+    fault: TurnFault,
+    line: u64,
+    details: &Details,
+    out: &mut Counted<W>,
+) -> Result<(), TellError>
+    ensures { Tells W.contents path.now (turn_fault_line (fault, line) ∷ []) out.old out.new result }
+{
+    let said = format!(in alloc; "{fault} line {line}")?;
+    let position = Position {
+        line: line.max(1) as usize,
+        column: 1,
+    };
+    put_fault(alloc, path, position, said.as_str(), details, out)
+}
+
+// Writes a line that is wrong.
+fn tell_wrong<W: Write>(
+    alloc: Global,
+    path: &str,
+    wrong: &Wrong<'_>,
+    out: &mut Counted<W>,
+) -> Result<(), TellError>
+    ensures { Tells W.contents path.now (turn_fault_line (wrong.now.fault, wrong.now.line) ∷ []) out.old out.new result }
+{
+    let mut details = Details::new(alloc);
+    push_line(
+        &mut details,
+        str::from_utf8(wrong.text).unwrap_or("this is no UTF-8"),
+    )?;
+    if wrong.fault == TurnFault::TooMany {
+        details.more_than(wrong.total, "turns", u64::from(GREATEST_TURNS))?;
+    }
+    put_turn_fault(alloc, path, wrong.fault, wrong.line, &details, out)
+}
+
+// Writes that a text of turns is too long.
+fn tell_too_long<W: Write>(
+    alloc: Global,
+    file: File<'_>,
+    out: &mut Counted<W>,
+) -> Result<(), TellError>
+    ensures { Tells W.contents file.entry.path.now (turn_fault_line (TurnFault.TooMany, 0) ∷ []) out.old out.new result }
+{
+    let mut details = Details::new(alloc);
+    details.more_than(file.text.len() as u64, "bytes", GREATEST_TURNS_TEXT as u64)?;
+    put_turn_fault(alloc, file.path, TurnFault::TooMany, 0, &details, out)
+}
+
+// Writes all lines of a text of turns that are wrong, and answers the first.
+fn tell_lines<W: Write>(
+    alloc: Global,
+    file: File<'_>,
+    table: &NodeTable,
+    out: &mut Counted<W>,
+) -> Result<Option<(TurnFault, u64)>, TellError>
+    requires { length file.text.now ≤ 2 ^ 24 }
+    ensures told { Tells W.contents file.entry.path.now (map turn_fault_line (line_faults (components table.now) 1 (Some 0) (lines file.entry.text.now)))
+        out.old out.new result }
+    ensures first { IfOk result (λ answer. answer ≡ first (line_faults (components table.now) 1 (Some 0) (lines file.entry.text.now))) }
+{
+    let names = NameIndex::of(table);
+    let mut reading = Lines {
+        left: Some(file.text),
+        line: 0,
+        total: Some(0),
+    };
+    let mut first: Option<(TurnFault, u64)> = None;
+    while let Some(text) = reading.left {
+        if let Some(wrong) = reading.read(text, table, &names) {
+            tell_wrong(alloc, file.path, &wrong, out)?;
+            first = first.or(Some((wrong.fault, wrong.line)));
+        }
+    }
+    Ok(first)
+}
+
+// Writes all faults of a text of turns, and answers the first.
+fn tell_turns<W: Write>(
+    alloc: Global,
+    file: File<'_>,
+    table: &NodeTable,
+    out: &mut Counted<W>,
+) -> Result<Option<(TurnFault, u64)>, TellError>
+    ensures told { Tells W.contents file.entry.path.now (map turn_fault_line (turn_faults (components table.now) file.entry.text.now)) out.old out.new result }
+    ensures first { IfOk result (λ answer. answer ≡ first (turn_faults (components table.now) file.entry.text.now)) }
+{
+    if file.text.len() > GREATEST_TURNS_TEXT {
+        tell_too_long(alloc, file, out)?;
+        return Ok(Some((TurnFault::TooMany, 0)));
+    }
+    tell_lines(alloc, file, table, out)
+}
+
+/// Writes all that is wrong with a scenario, as `faults` does; where that is accepted, all that is wrong with a text of turns: that it is too long, or each
+/// line of another form, each name that is no leaf's, and the first line at which there are too many turns. The first of these is the one that `run` tells
+/// (`laws`). Answers why `run` refuses both, if it does. Ends early where host memory is refused or a write fails; then a front of the text was written.
+pub fn faults_of_both<W: Write>(
+    alloc: Global,
+    scenario: File<'_>,
+    turns: File<'_>,
+    out: &mut Counted<W>,
+) -> Result<Option<Refused>, TellError>
+    ensures told { Tells W.contents (told_of (loaded scenario.entry.text.now) scenario.entry.path.now turns.entry.path.now)
+        (lines_of_both scenario.entry.text.now turns.entry.text.now) out.old out.new result }
+    ensures answer { IfOk result (λ answer. Answers answer (loaded scenario.entry.text.now) turns.entry.text.now) }
+{
+    if let Some(fault) = faults(alloc, scenario, out)? {
+        return Ok(Some(Refused::Scenario(fault)));
+    }
+    let accepted = match Accepted::read(alloc, scenario.text) {
+        Ok(accepted) => accepted,
+        Err(LoadError::Memory) => return Err(TellError::Memory),
+        Err(LoadError::Fault(_)) => unreachable!(),
+    };
+    match tell_turns(alloc, turns, accepted.table(), out)? {
+        Some((fault, line)) => Ok(Some(Refused::Turns { fault, line })),
+        None => Ok(None),
+    }
+}
