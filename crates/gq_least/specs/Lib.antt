@@ -1,0 +1,4 @@
+pub mod Alike
+pub mod Unsized
+pub mod Size
+pub mod Least
