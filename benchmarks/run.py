@@ -380,6 +380,52 @@ def growth(trade):
         row(others, f"{(whole - idle) / 600000 * 1e9:.1f}")
 
 
+def taken(trade, words, *texts):
+    """The least processor milliseconds of some runs of these words over these texts, whatever their status, and the bytes that one writes."""
+    with tempfile.TemporaryDirectory() as room:
+        paths = [os.path.join(room, str(place)) for place in range(len(texts))]
+        for path, text in zip(paths, texts):
+            with open(path, "wb") as file:
+                file.write(text if isinstance(text, bytes) else text.encode())
+        told, least = os.path.join(room, "told"), []
+        for _ in range(ROUNDS):
+            with open(told, "wb") as out:
+                running = subprocess.Popen([trade, *words, *paths], stdout=out, stderr=subprocess.DEVNULL)
+                _, _, used = os.wait4(running.pid, 0)
+            least.append(used.ru_utime + used.ru_stime)
+        return min(least) * 1e3, os.path.getsize(told)
+
+
+def in_words(milliseconds, size):
+    return f"{milliseconds:.1f} ms, {size / 1024:.0f} KiB"
+
+
+def designers(trade):
+    """What the commands of designers take beside `run` and `check` of the same texts."""
+    service = '[interface.echo]\narg = 1000\nreply = 2000\nneed = "8K"\nobject = 100\n'
+    server = ("srv", 'quantum = 0\nprovides = "echo"', "main\nend\nopen\nend\ncall 0\npush 2\nmul\nend\nclose 0\nend")
+    client = ("cli", 'quantum = "16K"', rounds("open o0 echo 8192, push 21, call o0, drop, close o0"))
+    many = system([(f"l{n}", 'quantum = "4K"', rounds("index 0, push 16, mul, drop")) for n in range(64)])
+    table("Turns", "`run`", "`trace`", "`trace --all`", "`state`")
+    for name, scenario_text, turns in [
+        ("a million of numbers", system([("a", 'quantum = "4K"', rounds("index 0, push 16, mul, push 3, add, drop"))]), "a 1000000\n"),
+        ("a million, of which half write lines", system([("a", 'quantum = "4K"', rounds("index 0, out"))]), "a 1000000\n"),
+        ("a million of 64 leaves", many, "".join(f"l{n % 64} 10\n" for n in range(100000))),
+        ("600,000 of sessions, opened, called and closed", system([server, client], service), "srv 1\n" + "cli 3\nsrv 3\n" * 100000),
+    ]:
+        row(name, *(in_words(*taken(trade, words, scenario_text, turns)) for words in (["run"], ["trace"], ["trace", "--all"], ["state"])))
+    faulty = 'version = 1\nram = "64K"\n' + "".join(f"key{place} = 1\n" for place in range(10000)) + "start = []\n"
+    broken = scenario(64, program(["push 1", "out"] * 500 + ["add"]))
+    table("Scenario", "`check`", "`tree`", "`races`", "`turns`", "`faults`")
+    for name, text in [
+        ("64 leaves, 1 MiB", greatest()),
+        ("64 leaves that go round", many),
+        ("10,000 unknown keys", faulty),
+        ("64 leaves that break a rule", broken),
+    ]:
+        row(name, *(in_words(*taken(trade, [word], text)) for word in ("check", "tree", "races", "turns", "faults")))
+
+
 def main():
     benchmark, trade = sys.argv[1], sys.argv[2]
     programs(benchmark, trade)
@@ -392,6 +438,7 @@ def main():
     trades(benchmark)
     runs(trade)
     growth(trade)
+    designers(trade)
 
 
 if __name__ == "__main__":
