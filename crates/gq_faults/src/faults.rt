@@ -88,17 +88,19 @@ fn tell_scenario<W: Write>(
     teller.tell_each(out, found.as_slice())
 }
 
-// Writes the faults of a document, which is that of a text; where there is none, those of the scenario that it describes.
+// Writes the faults of a document, which is that of a text; where there is none, those of the scenario that it describes. The document goes before the text
+// is read once more, so that no more than one stands at once.
 fn tell_text<W: Write>(
     teller: &Teller<'_>,
     text: &[u8],
-    top: &Table,
+    top: Table,
     out: &mut Counted<W>,
 ) -> Result<(), TellError>
-    requires { document_in text.now ≡ Ok (table_view top.now) }
+    requires { document_in text.now ≡ Ok (table_view top) }
     ensures { Tells W.contents teller.now.path.now (fault_lines text.now) out.old out.new result }
 {
-    tell_document(teller, out, top)?;
+    tell_document(teller, out, &top)?;
+    drop(top);
     match read_scenario(teller.alloc(), text) {
         Ok(scenario) => tell_scenario(teller, &scenario, out),
         Err(ScenarioError::Memory(_)) => Err(TellError::Memory),
@@ -122,7 +124,7 @@ pub fn tell_faults<W: Write>(
         Ok(top) => {
             let text = str::from_utf8(file.text).unwrap_or("");
             let teller = Teller::new(alloc, file.path, text)?;
-            tell_text(&teller, file.text, &top, out)
+            tell_text(&teller, file.text, top, out)
         }
         Err(ScenarioError::Memory(_)) => Err(TellError::Memory),
         Err(ScenarioError::Fault(fault)) => tell_stop(alloc, file, fault, out),
