@@ -15,6 +15,7 @@ use Rattle.gq_verify.specs.Counting.{saturated}
 use Rattle.gq_budget.specs.Leaves.{leaves_from, leaves_of, leads_for, leads_from, leads_of}
 use Rattle.gq_budget.specs.Counts.{Counted, AreCountsOf, Agree, AgreeFor, AgreeWhereAsked, asks}
 use Rattle.gq_budget.specs.Budgets.{budgets_from, budgets_of}
+use Rattle.gq_budget.specs.Times.{row_of, table_of, times_table}
 use Rattle.gq_budget.specs.internal.Counted.{costs_of}
 use Rattle.gq_budget.specs.internal.Sums.{products}
 use Rattle.gq_budget.specs.internal.Rounds.{askers_in, leaf_askers, askers_by, askers_for, all_asks, asked_sum, often, leaf_round, round, rounds, budgets_by}
@@ -25,16 +26,6 @@ abbrev most : ℕ
 most = 2 ^ 64 - 1
 
 -- TABLES
-
--- how often these sections run
-abbrev row_of : (Section → ℕ) → List (Section × Statements) → List ℕ
-row_of f [] = []
-row_of f (p ∷ rest) = saturated (f p.0) ∷ row_of f rest
-
--- how often those of the leaves from the x-th on run
-abbrev table_of : (ℕ → Section → ℕ) → ℕ → List Component → List (List ℕ)
-table_of f x [] = []
-table_of f x (c ∷ rest) = row_of (f x) c.node.program.sections ∷ table_of f (suc x) rest
 
 has_parts : (f : Section → ℕ) (row : List ℕ) (k : ℕ) (ps : List (Section × Statements)) → ((i : ℕ) → get_or row (k + i) 0 ≡ get_or (row_of f ps) i 0) →
     HasParts row f k ps
@@ -198,37 +189,32 @@ module _ (system : System) (ns : List Counted) (counts : AreCountsOf ns (leaves_
     rounds_kept (suc n) =
         ap (λ table. round (all_asks ns ns rows) table) (rounds_kept n) ∙ all_kept (now_table n) (times (suc n) system) (next_kept n)
 
-    -- so the budgets by the last round are those of the system
-    pub budgets_kept : (uses : ℕ) → uses ≡ length ns → budgets_by ns (rounds (suc uses) (all_asks ns ns rows) []) ≡ budgets_of system
-    budgets_kept uses u =
-        let n : uses ≡ length system.components = u ∙ as_many system.components ns counts in
-        ap (λ n. budgets_by ns (rounds (suc n) (all_asks ns ns rows) [])) n
-        ∙ (ap (λ table. budgets_by ns table) (rounds_kept (length system.components)) ∙ steps_from 0 system.components ns counts)
-      where
-        as_many : (cs : List Component) (ms : List Counted) → AreCountsOf ms (leaves_from system cs) → length ms ≡ length cs
-        as_many [] [] h = refl
-        as_many [] (m ∷ ms) h = absurd h
-        as_many (c ∷ rest) [] h = absurd h
-        as_many (c ∷ rest) (m ∷ ms) h = ap suc (as_many rest ms h.1)
+    -- the last round has how often sections run
+    pub times_kept : (uses : ℕ) → uses ≡ length system.components → rounds (suc uses) (all_asks ns ns rows) [] ≡ times_table system
+    times_kept uses u = ap (λ n. rounds (suc n) (all_asks ns ns rows) []) u ∙ rounds_kept (length system.components)
 
-        -- the steps of a leaf's sections
-        steps_kept : (f : Section → ℕ) (ps : List (Section × Statements)) → saturated (products (costs_of ps) (row_of f ps)) ≡ saturated (steps_of f ps)
-        steps_kept f [] = refl
-        steps_kept f (p ∷ rest) =
-            product_and most (saturated (section_cost p.0 p.1)) (saturated (f p.0)) (section_cost p.0 p.1) (f p.0) (products (costs_of rest) (row_of f rest))
-            (steps_of f rest) (twice (section_cost p.0 p.1)) (twice (f p.0)) (steps_kept f rest)
-          where
-            twice : (n : ℕ) → saturated (saturated n) ≡ saturated n
-            twice n = omega arith
+  -- so the budgets by that are those of the system
+  pub budgets_kept : budgets_by ns (times_table system) ≡ budgets_of system
+  budgets_kept = steps_from 0 system.components ns counts
+    where
+      -- the steps of a leaf's sections
+      steps_kept : (f : Section → ℕ) (ps : List (Section × Statements)) → saturated (products (costs_of ps) (row_of f ps)) ≡ saturated (steps_of f ps)
+      steps_kept f [] = refl
+      steps_kept f (p ∷ rest) =
+          product_and most (saturated (section_cost p.0 p.1)) (saturated (f p.0)) (section_cost p.0 p.1) (f p.0) (products (costs_of rest) (row_of f rest))
+          (steps_of f rest) (twice (section_cost p.0 p.1)) (twice (f p.0)) (steps_kept f rest)
+        where
+          twice : (n : ℕ) → saturated (saturated n) ≡ saturated n
+          twice n = omega arith
 
-        steps_from : (x : ℕ) (cs : List Component) (ms : List Counted) → AreCountsOf ms (leaves_from system cs) →
-            budgets_by ms (table_of (times (length system.components) system) x cs) ≡ budgets_from system x cs
-        steps_from x [] [] h = refl
-        steps_from x [] (m ∷ ms) h = absurd h
-        steps_from x (c ∷ rest) [] h = absurd h
-        steps_from x (c ∷ rest) (m ∷ ms) h =
-            let f = times (length system.components) system in
-            let more = budgets_by ms (table_of f (suc x) rest) in
-            ap (λ (costs : List ℕ). saturated (products costs (row_of (f x) c.node.program.sections)) ∷ more) h.0.costs
-            ∙ (ap (λ (n : ℕ). n ∷ more) (steps_kept (f x) c.node.program.sections)
-            ∙ ap (λ (l : List ℕ). saturated (step_budget system x c) ∷ l) (steps_from (suc x) rest ms h.1))
+      steps_from : (x : ℕ) (cs : List Component) (ms : List Counted) → AreCountsOf ms (leaves_from system cs) →
+          budgets_by ms (table_of (times (length system.components) system) x cs) ≡ budgets_from system x cs
+      steps_from x [] [] h = refl
+      steps_from x [] (m ∷ ms) h = absurd h
+      steps_from x (c ∷ rest) [] h = absurd h
+      steps_from x (c ∷ rest) (m ∷ ms) h =
+          let f = times (length system.components) system in
+          let more = budgets_by ms (table_of f (suc x) rest) in
+          ap (λ (costs : List ℕ). saturated (products costs (row_of (f x) c.node.program.sections)) ∷ more) h.0.costs
+          ∙ (ap (λ (n : ℕ). n ∷ more) (steps_kept (f x) c.node.program.sections)
+          ∙ ap (λ (l : List ℕ). saturated (step_budget system x c) ∷ l) (steps_from (suc x) rest ms h.1))

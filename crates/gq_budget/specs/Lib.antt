@@ -1,4 +1,5 @@
 pub mod Leaves
 pub mod Counts
 pub mod Budgets
+pub mod Times
 pub mod internal

@@ -4,6 +4,7 @@ ghost use Rattle.gq_model.specs.machine.Scenario.{System};
 ghost use Rattle.gq_budget.specs.Leaves.{leaves_of, leads_of};
 ghost use Rattle.gq_budget.specs.Budgets.{budgets_of};
 ghost use Rattle.gq_budget.specs.Counts.{AreCountsOf, AgreeWhereAsked};
+ghost use Rattle.gq_budget.specs.Times.{times_table};
 ghost use Rattle.gq_budget.specs.internal.Rounds.{rounds, budgets_by};
 
 use crate::asks::{LeafAsks, all_asks};
@@ -36,6 +37,22 @@ fn times(alloc: Global, asks: &[LeafAsks<'_>], uses: usize) -> Result<Vec<Number
     }
 }
 
+/// How often each section of each of the leaves of a system runs at most; 2^64 - 1 where it is more often. `leads` tells for each leaf which leaves' routes for
+/// the service that it provides lead to it; of a leaf that asks for no section of that service it may tell anything. Refused only for want of host memory.
+pub(crate) fn counted_times(
+    alloc: Global,
+    leaves: &[CountedLeaf],
+    leads: &[Vec<bool>],
+) -> Result<Vec<Numbers>, AllocError>
+    ensures { (system : System) → AreCountsOf leaves.now (leaves_of system)
+        → AgreeWhereAsked leaves.now leaves.now (map (λ v. v.items) leads.now) (leads_of system) →
+        IfOk result (λ often. often.items ≡ times_table system) }
+{
+    let asks = all_asks(alloc, leaves, leads)?;
+    let often = times(alloc, &asks, leaves.len())?;
+    Ok(often)
+}
+
 /// The greatest number of steps of each of the leaves of a system, whose sections are counted, so that no program need be there any more; 2^64 - 1 where there
 /// are more. `leads` tells for each leaf which leaves' routes for the service that it provides lead to it; of a leaf that asks for no section of that service
 /// it may tell anything. Refused only for want of host memory.
@@ -48,8 +65,7 @@ pub fn counted_budgets(
         → AgreeWhereAsked leaves.now leaves.now (map (λ v. v.items) leads.now) (leads_of system) →
         IfOk result (λ steps. steps.items ≡ budgets_of system) }
 {
-    let asks = all_asks(alloc, leaves, leads)?;
-    let often = times(alloc, &asks, leaves.len())?;
+    let often = counted_times(alloc, leaves, leads)?;
     let steps = budgets(alloc, leaves, &often)?;
     Ok(steps)
 }

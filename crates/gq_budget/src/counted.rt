@@ -1,5 +1,7 @@
 // Leaves whose sections are counted.
-ghost use Rattle.std.specs.Prelude.{◌≡◌, ◌++◌, IfOk, OnOk, option_copied};
+ghost use Rattle.std.specs.Prelude.{◌≡◌, ◌++◌, [], IfOk, OnOk, get_or, option_copied};
+ghost use Rattle.gq_verify.specs.Counting.{saturated};
+ghost use Rattle.gq_verify.specs.Requested.{requests_for};
 ghost use Rattle.gq_budget.specs.Counts.{IsCountOf, asks};
 ghost use Rattle.gq_budget.specs.internal.Rounds.{askers_in};
 
@@ -74,7 +76,7 @@ impl CountedLeaf {
     }
 
     /// The sections of its program, in their order.
-    pub(crate) fn sections(&self) -> &[Section]
+    pub fn sections(&self) -> &[Section]
         ensures { result.now ≡ self.now.sections }
     {
         self.sections.as_slice()
@@ -85,6 +87,23 @@ impl CountedLeaf {
         ensures { result.now ≡ self.now.costs }
     {
         &self.costs
+    }
+
+    /// How often the section at a place among those of its program asks for a section of a service; 2^64 - 1 where it is more often.
+    pub fn requests_for(&self, part: usize, service: &Service<'_>, section: Section) -> u64
+        ensures { result ≡ saturated (requests_for (get_or self.now.requests part []) service.now section) }
+    {
+        match self.requests.get(part) {
+            Some(requests) => requests.count_for(service, section),
+            None => 0,
+        }
+    }
+
+    /// The greatest number of steps of the section at a place among those of its program.
+    pub fn cost(&self, part: usize) -> u64
+        ensures { result ≡ get_or self.now.costs part 0 }
+    {
+        self.costs.at(part)
     }
 
     /// Puts the requests of its sections for those of a service at the end of a list, as those of the leaf of a number.

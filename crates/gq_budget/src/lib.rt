@@ -20,4 +20,4 @@ mod steps;
 
 pub use counted::CountedLeaf;
 pub use leaf::Leaf;
-pub use steps::steps_of;
+pub use steps::{Times, steps_of, times_of};

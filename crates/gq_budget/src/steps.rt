@@ -4,12 +4,14 @@ ghost use Rattle.gq_model.specs.machine.Scenario as model;
 ghost use Rattle.gq_model.specs.machine.Scenario.{system};
 ghost use Rattle.gq_budget.specs.Budgets.{budgets_of};
 ghost use Rattle.gq_budget.specs.Counts.{AreCountsOf};
+ghost use Rattle.gq_budget.specs.Times.{time_at, times_table};
 ghost use Rattle.gq_resolve.specs.Served.{AreServers, server_among};
 ghost use Rattle.gq_budget.specs.Leaves.{leaves_of};
 ghost use Rattle.gq_budget.specs.internal.Leads.{AreTold, leads_to, leads_row, leads_rows};
 
-use crate::budgets::counted_budgets;
+use crate::budgets::{counted_budgets, counted_times};
 use crate::counted::CountedLeaf;
+use crate::numbers::Numbers;
 use gq_model::program::Name;
 use gq_resolve::component::Component;
 use gq_resolve::routes::{Routes, server_of};
@@ -154,6 +156,51 @@ fn leads_rows(
         rows.push(leads(alloc, components, routes, counted, leaf, component)?)?;
     }
     Ok(rows)
+}
+
+/// How often each section of each leaf runs at most.
+#[derive(Drop)]
+pub struct Times {
+    often: Vec<Numbers>,
+}
+
+impl Model for Times {
+    ghost use Rattle.std.specs.Prelude.{ℕ, List};
+
+    ghost Value = { List (List ℕ) };
+
+    ghost view = { λ t. t.often.items };
+}
+
+impl Times {
+    /// How often the section at a place among those of a leaf's program runs; 2^64 - 1 where it is more often.
+    pub fn often(&self, leaf: usize, part: usize) -> u64
+        ensures { result ≡ time_at self.now leaf part }
+    {
+        match self.often.get(leaf) {
+            Some(numbers) => numbers.at(part),
+            None => 0,
+        }
+    }
+}
+
+/// How often each section of each leaf of a scenario runs at most, by who may ask for it. Refused only for want of host memory.
+pub fn times_of(
+    alloc: Global,
+    scenario: &Scenario,
+    components: &[Component<'_>],
+    routes: &Routes,
+    counted: &[CountedLeaf],
+) -> Result<Times, AllocError>
+    requires components { components.now ≡ model.components scenario.now }
+    requires routes { AreServers scenario.now routes.now }
+    requires counted { AreCountsOf counted.now (leaves_of (system scenario.now)) }
+    ensures { IfOk result (λ t. t ≡ times_table (system scenario.now)) }
+{
+    let _count = scenario.leaf_count();
+    let rows = leads_rows(alloc, components, routes, counted)?;
+    let often = counted_times(alloc, counted, rows.as_slice())?;
+    Ok(Times { often })
 }
 
 /// The step budgets of a scenario's leaves, in their order, which are counted and have these routes: the steps of a leaf's `main`, and those of its

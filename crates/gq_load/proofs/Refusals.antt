@@ -25,15 +25,15 @@ first_same system [] = refl
 first_same system (c ∷ rest) = ap (or_first (leaf_refusal system.interfaces c)) (first_same system rest)
 
 -- an error for one of several reasons is one for the first
-gives_here : (e : LoadError) (a b : Option Refusal) → PrintsFault e (refused a) → PrintsFault e (refused (or_first a b))
+pub gives_here : (e : LoadError) (a b : Option Refusal) → PrintsFault e (refused a) → PrintsFault e (refused (or_first a b))
 gives_here error.Memory a b h = tt
 gives_here (error.Fault f) None b h = absurd h
 gives_here (error.Fault f) (Some why) b h = h
 
-gives_next : (e : LoadError) (a b : Option Refusal) → a ≡ None → PrintsFault e (refused b) → PrintsFault e (refused (or_first a b))
+pub gives_next : (e : LoadError) (a b : Option Refusal) → a ≡ None → PrintsFault e (refused b) → PrintsFault e (refused (or_first a b))
 gives_next e a b none h = subst (λ a. PrintsFault e (refused (or_first a b))) (sym none) h
 
-none_both : (a b : Option Refusal) → a ≡ None → b ≡ None → or_first a b ≡ None
+pub none_both : (a b : Option Refusal) → a ≡ None → b ≡ None → or_first a b ≡ None
 none_both a b e f = ap (λ a. or_first a b) e ∙ f
 
 -- a program that is refused
@@ -41,11 +41,11 @@ pub for_program : (s : Scenario) (e : LoadError) → PrintsFault e (refused (fir
 for_program s e h =
     gives_here e (program_refusal (system s) (components s)) _ (subst (λ o. PrintsFault e (refused o)) (first_same (system s) (components s)) h)
 
-programs_none : (s : Scenario) → first_refusal s.interfaces (components s) ≡ None → program_refusal (system s) (components s) ≡ None
+pub programs_none : (s : Scenario) → first_refusal s.interfaces (components s) ≡ None → program_refusal (system s) (components s) ≡ None
 programs_none s none = sym (first_same (system s) (components s)) ∙ none
 
 -- a scenario that is not resolved
-resolve_gives : (s : Scenario) (e : ResolveError) → Finds {A = Unit {0}} (Err e) (unresolved s)
+pub resolve_gives : (s : Scenario) (e : ResolveError) → Finds {A = Unit {0}} (Err e) (unresolved s)
     → PrintsFault (load_error_of e) (refused (not_resolved (unresolved s)))
 resolve_gives s (resolve.Memory why) h = tt
 resolve_gives s (resolve.Fault why) h = rw h refl
@@ -95,7 +95,7 @@ kept_are s fit =
 
 -- FAULTS OF A SCENARIO
 
-fault_here : (e : LoadError) (a b : Option Fault) → PrintsFault e a → PrintsFault e (or_first a b)
+pub fault_here : (e : LoadError) (a b : Option Fault) → PrintsFault e a → PrintsFault e (or_first a b)
 fault_here error.Memory a b h = tt
 fault_here (error.Fault f) None b h = absurd h
 fault_here (error.Fault f) (Some why) b h = h

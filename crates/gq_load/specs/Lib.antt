@@ -2,4 +2,5 @@ pub mod Load
 pub mod Faults
 pub mod Named
 pub mod Unverified
+pub mod Unsized
 pub mod internal

@@ -30,6 +30,7 @@ pub mod loaded;
 pub mod named;
 mod over;
 pub mod programs;
+pub mod quantities;
 pub mod read;
 pub mod surveys;
 pub mod unverified;

@@ -3,3 +3,4 @@ pub mod Sizes
 mod Noted
 pub mod Rising
 pub mod Skipped
+pub mod Unbounded

@@ -1,10 +1,13 @@
 -- Interfaces as they are kept: at most 64, in the order of their names.
-use Rattle.std.specs.Prelude.{ℕ, nat_le, Bool, true, false, ◌&&◌, List, [], ◌∷◌, length, Option, Some, None, if◌then◌else◌}
+use Rattle.std.specs.Prelude.{ℕ, suc, map, nat_le, Bool, true, false, ◌&&◌, List, [], ◌∷◌, length, Option, Some, None, if◌then◌else◌}
 use Rattle.std.specs.Ordering.{nat_cmp, is_lt}
 use Rattle.std.specs.Cmp.Lexicographic.{slice_cmp}
 use Rattle.gq_model.specs.machine.Amounts.{Resource, Ram, Caps, Amount, amount, counted_in}
 use Rattle.gq_model.specs.machine.Lists.{any_of}
+use Rattle.gq_model.specs.machine.Program.{text_eq}
 use Rattle.gq_model.specs.machine.Scenario.{Interface, Interfaces}
+use Rattle.gq_program.specs.declared.interface.Counts.{Counts}
+use Rattle.gq_program.specs.declared.interface.Counts.TheVariants.{Nothing, Bytes, BytesAndCaps}
 
 -- version 2 alone counts capabilities
 abbrev pub version_of : Option ℕ → ℕ
@@ -27,6 +30,40 @@ interface_of arg reply need caps object upgrades buffer =
       buffer = buffer;
       counted = counted_in (version_of caps);
     }
+
+-- its sessions may cost no more than is given for them, or anything
+abbrev pub bounded_by : Bool → Interface → Interface
+bounded_by true i = i
+bounded_by false i = record i { counted = [] }
+
+-- the capabilities of an amount alone
+abbrev pub capped : Amount → Amount
+capped a = amount 0 a.caps
+
+-- an interface that asks for no bytes, and whose sessions may cost anything
+abbrev pub unbounded : Interface → Interface
+unbounded i = record i { need = capped i.need; upgrades = map capped i.upgrades; counted = [] }
+
+abbrev pub unbounded_entry : List ℕ × Interface → List ℕ × Interface
+unbounded_entry e = (e.0, unbounded e.1)
+
+-- the same of all
+abbrev pub all_unbounded : Interfaces → Interfaces
+all_unbounded = map unbounded_entry
+
+-- where the interface of a service stands among these, of which the first is the k-th
+abbrev pub place_from : ℕ → List ℕ → Interfaces → Option ℕ
+place_from k service [] = None
+place_from k service (e ∷ rest) = if text_eq service e.0 then Some k else place_from (suc k) service rest
+
+abbrev pub place_in : List ℕ → Interfaces → Option ℕ
+place_in = place_from 0
+
+-- what is counted of a session
+abbrev pub counted_by : Counts → List Resource
+counted_by Nothing = []
+counted_by Bytes = Ram ∷ []
+counted_by BytesAndCaps = Ram ∷ Caps ∷ []
 
 abbrev pub is_caps : Resource → Bool
 is_caps Ram = false

@@ -1,13 +1,15 @@
 // What services ask of their clients, and give them.
-ghost use Rattle.std.specs.Prelude.{◌≡◌, ◌≤◌, ◌<◌, ◌++◌, ◌∷◌, [], length, if◌then◌else◌, IsTrue, Some, None, option_copied};
+ghost use Rattle.std.specs.Prelude.{◌≡◌, ◌≤◌, ◌<◌, ◌++◌, ◌∷◌, [], length, if◌then◌else◌, IsTrue, Some, None, IfOk, option_copied};
 ghost use Rattle.gq_model.specs.machine.Amounts.{Ram, Caps, amount};
 ghost use Rattle.gq_model.specs.machine.Scenario.{interface_in};
 ghost use Rattle.gq_program.specs.Interfaces.{interface_of, or_none, need_caps, is_before, is_rising, are_interfaces};
+ghost use Rattle.gq_program.specs.Interfaces.{all_unbounded, counted_by, place_in, unbounded};
 
 use crate::spelling::same_text;
 use arrayvec::ArrayVec;
 pub use gq_model::limits::{GREATEST_INTERFACES, GREATEST_LEVEL};
 use gq_model::program::Name;
+use std::alloc::{AllocError, Global};
 use std::marker::Model;
 
 /// How many there are of what the letters of a name are mixed to.
@@ -58,6 +60,17 @@ impl Upgrade {
     }
 }
 
+/// Of what a session may cost no more than is given for it.
+#[derive(Clone, Copy)]
+pub enum Counts {
+    /// It may cost anything: quantities are not judged.
+    Nothing,
+    /// Bytes alone, as in version 1.
+    Bytes,
+    /// Bytes and capabilities, as in version 2.
+    BytesAndCaps,
+}
+
 /// What a service asks of its clients, and gives them.
 #[derive(Drop)]
 pub struct Interface {
@@ -68,16 +81,18 @@ pub struct Interface {
     object: u32,
     upgrades: ArrayVec<Upgrade, GREATEST_LEVEL>,
     buffer: u32,
+    // Whether its sessions may cost no more than is given for them.
+    is_bounded: bool,
 }
 
 impl Model for Interface {
     ghost use Rattle.std.specs.Prelude.{◌≤◌};
     ghost use Rattle.gq_model.specs.machine.Scenario.{Interface};
-    ghost use Rattle.gq_program.specs.Interfaces.{interface_of, or_none};
+    ghost use Rattle.gq_program.specs.Interfaces.{bounded_by, interface_of, or_none};
 
     ghost Value = { Interface };
 
-    ghost view = { λ i. interface_of i.arg i.reply i.need_ram i.need_caps i.object i.upgrades.items i.buffer };
+    ghost view = { λ i. bounded_by i.is_bounded (interface_of i.arg i.reply i.need_ram i.need_caps i.object i.upgrades.items i.buffer) };
 
     ghost invariant = { λ i. (or_none i.need_caps ≤ 65536) × (i.object ≤ 65536) × (i.buffer ≤ 1048576) };
 }
@@ -97,6 +112,27 @@ impl Interface {
             object: 0,
             upgrades: ArrayVec::new(),
             buffer: 0,
+            is_bounded: true,
+        }
+    }
+
+    /// The same where it asks for no bytes, and its sessions may cost anything: what is left of it once its quantities are left out.
+    pub fn unbounded(&self) -> Interface
+        ensures { result ≡ unbounded self.now }
+    {
+        let mut upgrades = ArrayVec::new();
+        for upgrade in self.upgrades() {
+            upgrades.push(Upgrade::new(0, upgrade.caps()));
+        }
+        Interface {
+            arg: self.arg,
+            reply: self.reply,
+            need_ram: 0,
+            need_caps: self.need_caps,
+            object: self.object,
+            upgrades,
+            buffer: self.buffer,
+            is_bounded: false,
         }
     }
 
@@ -151,7 +187,11 @@ impl Interface {
         ensures caps { result ≡ need_caps self.now }
         ensures small { or_none result ≤ 65536 }
     {
-        self.need_caps
+        if self.is_bounded {
+            self.need_caps
+        } else {
+            None
+        }
     }
 
     /// The capabilities that are given with a request to open, at most 65536; 0 in version 1.
@@ -162,11 +202,15 @@ impl Interface {
         self.need_caps.unwrap_or(0)
     }
 
-    /// Whether capabilities are counted, as version 2 alone does.
-    pub fn counts_caps(&self) -> bool
-        ensures { self.now.counted ≡ Ram ∷ (if result then Caps ∷ [] else []) }
+    /// Of what its sessions may cost no more than is given for them.
+    pub fn counts(&self) -> Counts
+        ensures { self.now.counted ≡ counted_by result }
     {
-        self.need_caps.is_some()
+        match (self.is_bounded, self.need_caps) {
+            (false, _) => Counts::Nothing,
+            (true, None) => Counts::Bytes,
+            (true, Some(_)) => Counts::BytesAndCaps,
+        }
     }
 
     /// The bytes of the object of a session, at most 65536.
@@ -265,6 +309,32 @@ impl Interfaces {
         } else {
             None
         }
+    }
+
+    /// The same, each without its quantities. Refused only for want of host memory.
+    pub fn unbounded(&self, alloc: Global) -> Result<Interfaces, AllocError>
+        ensures { IfOk result (λ i. i ≡ all_unbounded self.now) }
+    {
+        let mut entries = Vec::new(alloc);
+        for (service, interface) in self.entries() {
+            entries.push((service.copied(), interface.unbounded()))?;
+        }
+        Ok(Interfaces {
+            entries,
+            places: self.places,
+        })
+    }
+
+    /// Where the interface of the service with this name stands among them, if it does.
+    pub fn place(&self, name: &[u8]) -> Option<usize>
+        ensures { result ≡ place_in name.now self.now }
+    {
+        for (place, (service, _interface)) in self.entries().iter().enumerate() {
+            if same_text(name, service.as_bytes()) {
+                return Some(place);
+            }
+        }
+        None
     }
 
     /// Each with the name of its service, in the order of the names.

@@ -36,7 +36,7 @@ pub mod spare;
 pub mod spelling;
 
 pub use gq_model::program::{Form, Instruction, Name, Operator, Place, Section, Text, Width};
-pub use interface::{Interface, Interfaces, Upgrade};
+pub use interface::{Counts, Interface, Interfaces, Upgrade};
 pub use program::{Body, Program, Statement};
 pub use shapes::{
     Bare, Shape, WithAmount, WithBytes, WithNumber, WithSlot, shape_of_opcode, shape_of_word,

@@ -13,7 +13,7 @@ use crate::state::State;
 use gq_caps::{Bank, Kind, Link};
 use gq_model::fault::Rule;
 use gq_model::limits::SESSION_SLOTS;
-use gq_program::{Instruction, Interface, Name, Place, Section, Upgrade};
+use gq_program::{Counts, Instruction, Interface, Name, Place, Section, Upgrade};
 use gq_tariff::Amount;
 use gq_tariff::price::price_slice;
 
@@ -169,12 +169,14 @@ pub fn session_cost(interface: &Interface, bank: &Bank<SESSION_SLOTS>) -> Amount
 fn covered(interface: &Interface, level: u8, state: &State) -> Result<(), Rule>
     ensures { after result state.now ≡ covered interface.now.counted interface.now level state.now }
 {
-    let counts_caps = interface.counts_caps();
     let need = need_of(interface, level);
     let cost = session_cost(interface, state.bank());
-    must(cost.ram <= need.ram, Rule::OverNeed)?;
-    if counts_caps {
-        must(cost.caps <= need.caps, Rule::OverCaps)?;
+    match interface.counts() {
+        Counts::Nothing => Ok(()),
+        Counts::Bytes => must(cost.ram <= need.ram, Rule::OverNeed),
+        Counts::BytesAndCaps => {
+            must(cost.ram <= need.ram, Rule::OverNeed)?;
+            must(cost.caps <= need.caps, Rule::OverCaps)
+        }
     }
-    Ok(())
 }

@@ -6,3 +6,4 @@ pub mod Preorder
 pub mod Names
 pub mod Nodes_counted
 pub mod Differing
+pub mod Emptied

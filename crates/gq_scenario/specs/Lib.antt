@@ -9,4 +9,5 @@ pub mod Sizes
 pub mod Targets
 pub mod Trees
 pub mod Made
+pub mod Unsized
 pub mod internal

@@ -16,6 +16,7 @@ pub mod key;
 pub mod lines;
 pub mod node;
 pub mod places;
+pub mod quantities;
 pub mod scenario;
 pub mod source;
 pub mod tree;

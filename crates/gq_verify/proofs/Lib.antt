@@ -9,3 +9,5 @@ pub mod Counts_rights
 pub mod Slots
 pub mod Keys
 pub mod Outside
+pub mod Visited
+pub mod Shown

@@ -5,3 +5,4 @@ pub mod Counting
 pub mod Requested
 pub mod Askers
 pub mod Rights
+pub mod Visits

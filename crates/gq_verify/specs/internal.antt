@@ -6,3 +6,4 @@ pub mod Requesting
 pub mod Adding
 pub mod Alike
 pub mod Keys
+pub mod Visiting

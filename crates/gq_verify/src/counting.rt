@@ -68,7 +68,7 @@ fn count_instruction(
 }
 
 /// Makes the change of an instruction to the slots, if it makes one. Operands are not gone on with, since no request depends on them.
-fn change_slots(context: &Context<'_>, state: &mut State, instruction: &Instruction)
+pub(crate) fn change_slots(context: &Context<'_>, state: &mut State, instruction: &Instruction)
     ensures { FromAlike context.now state.old (Do instruction.now Done) (λ s.
         AreAlike state.new (state_or s (at 1 (judged context.now s instruction.now)))) }
 {

@@ -24,6 +24,7 @@ mod sizes;
 mod starts;
 mod steps;
 mod verified;
+mod visits;
 
 pub use asked::{Asker, Requests};
 pub use fault::Fault;
@@ -31,3 +32,4 @@ pub use service::Service;
 pub use starts::Starts;
 pub use steps::section_cost;
 pub use verified::{Verified, verify};
+pub use visits::Visitor;

@@ -9,6 +9,7 @@ ghost use Rattle.gq_verify.specs.Counting.{saturated};
 ghost use Rattle.gq_verify.specs.Requested.{requests_for};
 ghost use Rattle.gq_verify.specs.Faults.{known_fault};
 ghost use Rattle.gq_verify.specs.Subjects.{subject_of, cost_in};
+ghost use Rattle.gq_verify.specs.Visits.{Shows, section_sights};
 
 use crate::asked::Requests;
 use crate::fault::Fault;
@@ -17,8 +18,9 @@ use crate::requests::section_counts;
 use crate::sections::program_fault;
 use crate::starts::Starts;
 use crate::steps::section_cost;
+use crate::visits::{Visitor, visit};
 use gq_program::{Interfaces, Name, Program, Section};
-use gq_rules::Subject;
+use gq_rules::{Context, Subject};
 use gq_tariff::Amount;
 use std::alloc::{AllocError, Global};
 use std::marker::Model;
@@ -78,6 +80,33 @@ impl<'a> Verified<'a> {
         match subject.body(section) {
             Some(body) => Some(section_cost(section, body)),
             None => None,
+        }
+    }
+
+    /// What the program is judged by.
+    pub fn subject(&self) -> &Subject<'a>
+        ensures { result.now ≡ self.now }
+    {
+        &self.subject
+    }
+
+    /// Shows the points of a section, where it is there. It goes over the statements once, and takes no host memory.
+    pub fn visit<V: Visitor>(&self, section: Section, visitor: &mut V)
+        requires { IsTrue (is_section section) }
+        ensures { Shows V.leads visitor.old (section_sights self.now section) visitor.new }
+    {
+        let subject = &self.subject;
+        if let Some(body) = subject.body(section) {
+            let mut state = self.starts.start_of(subject, section);
+            let mut number = 0;
+            visitor.point(number, &state);
+            visit(
+                &Context::new(subject, section),
+                &mut state,
+                &mut number,
+                body,
+                visitor,
+            );
         }
     }
 

@@ -25,4 +25,4 @@ pub mod listing;
 #[cfg(test)]
 mod rows;
 pub mod tree;
-mod words;
+pub mod words;

@@ -7,14 +7,14 @@ use itoa::Buffer;
 use std::alloc::AllocError;
 
 // Puts a number at the end of a text.
-pub(crate) fn push_number(text: &mut Vec<u8>, number: u64) -> Result<(), AllocError>
+pub fn push_number(text: &mut Vec<u8>, number: u64) -> Result<(), AllocError>
     ensures { OnOk result (text.new.items ≡ text.old.items ++ decimal number) }
 {
     text.extend_from_slice(Buffer::new().format(number).as_bytes())
 }
 
 // Puts a number at the end of a text, behind a blank.
-pub(crate) fn push_amount(text: &mut Vec<u8>, number: u64) -> Result<(), AllocError>
+pub fn push_amount(text: &mut Vec<u8>, number: u64) -> Result<(), AllocError>
     ensures { OnOk result (text.new.items ≡ text.old.items ++ codes " " ++ decimal number) }
 {
     text.extend_from_slice(b" ")?;
@@ -22,7 +22,7 @@ pub(crate) fn push_amount(text: &mut Vec<u8>, number: u64) -> Result<(), AllocEr
 }
 
 // Puts a word and a number at the end of a text, each behind a blank.
-pub(crate) fn push_entry(text: &mut Vec<u8>, word: &[u8], number: u64) -> Result<(), AllocError>
+pub fn push_entry(text: &mut Vec<u8>, word: &[u8], number: u64) -> Result<(), AllocError>
     ensures { OnOk result (text.new.items ≡ text.old.items ++ entry word.now number) }
 {
     text.extend_from_slice(b" ")?;
@@ -31,7 +31,7 @@ pub(crate) fn push_entry(text: &mut Vec<u8>, word: &[u8], number: u64) -> Result
 }
 
 // Puts two blanks for each block around at the end of a text.
-pub(crate) fn push_indent(text: &mut Vec<u8>, depth: usize) -> Result<(), AllocError>
+pub fn push_indent(text: &mut Vec<u8>, depth: usize) -> Result<(), AllocError>
     ensures { OnOk result (text.new.items ≡ text.old.items ++ indent depth) }
 {
     let mut left = depth;
@@ -43,14 +43,14 @@ pub(crate) fn push_indent(text: &mut Vec<u8>, depth: usize) -> Result<(), AllocE
 }
 
 // Ends a line.
-pub(crate) fn end_line(text: &mut Vec<u8>) -> Result<(), AllocError>
+pub fn end_line(text: &mut Vec<u8>) -> Result<(), AllocError>
     ensures { OnOk result (text.new.items ≡ text.old.items ++ 10 ∷ []) }
 {
     text.extend_from_slice(b"\n")
 }
 
 // Puts a line of these words at the end of a text.
-pub(crate) fn push_line(text: &mut Vec<u8>, depth: usize, words: &[u8]) -> Result<(), AllocError>
+pub fn push_line(text: &mut Vec<u8>, depth: usize, words: &[u8]) -> Result<(), AllocError>
     ensures { OnOk result (text.new.items ≡ text.old.items ++ line depth words.now) }
 {
     push_indent(text, depth)?;
