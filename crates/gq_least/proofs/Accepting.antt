@@ -28,9 +28,10 @@ use Rattle.gq_laws.proofs.paying.Places.{starts_after}
 use Rattle.gq_laws.proofs.paying.Servers.{holds_at, all_known}
 use Rattle.gq_laws.proofs.turning.Whole_worlds.{each_get}
 use Rattle.gq_least.specs.Alike.{SubjectsAsOne, PointsAsOne, LeavesAsOne, NodesAsOne, LevelsAsOne, ComponentsAsOne, AllComponents}
-use Rattle.gq_least.specs.Size.{Gift, all_gifts, unsized_refusal, own_by, least_caps, leaf_least, quantum_of, least_at, children_least, root_least}
+use Rattle.gq_least.specs.Size.{Gift, all_gifts, refusal_without, own_by, least_caps, leaf_least, quantum_of, least_at, children_least, root_least}
 use Rattle.gq_least.specs.Size.{section_points}
-use Rattle.gq_least.specs.Unsized.{unbounded, unsized}
+use Rattle.gq_program.specs.Interfaces.{unbounded}
+use Rattle.gq_scenario.specs.Unsized.{unsized}
 use Rattle.gq_least.specs.Least.{caps_of, sum_at, sized, NoneShort, IsSettled, HasWholePages, IsAcceptedSized}
 use Rattle.gq_least.proofs.Enough.{sufficient}
 use Rattle.gq_least.proofs.Fitting.{IsFree, IsSufficient, HasLevel, found_least, found_free, map_length, fits_least, allows, along, settled_caps}
@@ -176,7 +177,7 @@ own_first : (n : ℕ) (r : Resource) (all : System) (c : Component) → own_by (
 own_first zero r all c = omega arith
 own_first (suc n) r all c = grind arith
 
-module _ (s : Scenario) (formed : IsWellFormed s) (settled : IsSettled s) (judged : unsized_refusal s ≡ None) (quiet : NoneShort s) where
+module _ (s : Scenario) (formed : IsWellFormed s) (settled : IsSettled s) (judged : refusal_without s ≡ None) (quiet : NoneShort s) where
   abbrev u : Scenario
   u = unsized s
 

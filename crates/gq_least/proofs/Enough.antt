@@ -21,7 +21,7 @@ use Rattle.gq_least.specs.Size.{session_cost, short_line, short_lines, short_in,
 use Rattle.gq_least.proofs.Meeting.{Each, each_both, each_so}
 use Rattle.gq_least.proofs.Summing.{least_of_gifts, sum_needs}
 use Rattle.gq_least.proofs.Costing.{point_needed}
-use Rattle.gq_least.specs.Unsized.{unbounded}
+use Rattle.gq_program.specs.Interfaces.{unbounded}
 use Rattle.gq_least.proofs.Fitting.{map_length, IsFree, IsSufficient, HasLevel, Enough, Fits, found_free}
 
 -- SECTIONS

@@ -24,7 +24,7 @@ use Rattle.gq_least.specs.Alike.{Along, Allows, Affords, ContextsAsOne, StatesAs
 use Rattle.gq_least.specs.Alike.{levels_for}
 use Rattle.gq_least.specs.Size.{gifts, opens_from, Gift, Given, least_gift, is_up_to, is_named, needed, ram_sum, least_caps, caps_sum, rounds, sum_in}
 use Rattle.gq_least.specs.Size.{section_points, session_cost}
-use Rattle.gq_least.specs.Unsized.{unbounded}
+use Rattle.gq_program.specs.Interfaces.{unbounded}
 use Rattle.gq_least.specs.Least.{caps_of, sum_at, least_interface, least_interfaces, least_upgrades}
 use Rattle.gq_least.proofs.Judging.{linked_back, same_interface}
 use Rattle.gq_least.proofs.Costing.{cost_ram, cost_caps}

@@ -8,7 +8,8 @@ use Rattle.gq_model.specs.machine.Scenario.{components_of, components, interface
 use Rattle.gq_model.specs.rules.Use.{subject}
 use Rattle.gq_model.proofs.Small.{none_some, some_same}
 use Rattle.gq_least.specs.Alike.{AreAsOne, AllAsOne, ProvideAsOne, SubjectsAsOne, LeavesAsOne, InitsAsOne, NodesAsOne, ComponentsAsOne, AllComponents}
-use Rattle.gq_least.specs.Unsized.{unbounded, without_quanta}
+use Rattle.gq_program.specs.Interfaces.{unbounded}
+use Rattle.gq_scenario.specs.Unsized.{without_quanta}
 use Rattle.gq_least.proofs.Fitting.{free, found_again, map_length}
 use Rattle.gq_least.proofs.Routing.{components_so}
 

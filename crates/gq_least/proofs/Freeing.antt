@@ -15,7 +15,7 @@ use Rattle.gq_model.specs.rules.Flow.{at, flow, state_or, context, body, points,
 use Rattle.gq_model.specs.rules.Verdict.{program_fault}
 use Rattle.gq_least.specs.Alike.{Affords, Allows, Along, ContextsAsOne, SubjectsAsOne, StatesAsOne, PointsAsOne}
 use Rattle.gq_least.specs.Size.{gifts, section_points}
-use Rattle.gq_least.specs.Unsized.{unbounded}
+use Rattle.gq_program.specs.Interfaces.{unbounded}
 use Rattle.gq_least.proofs.Fitting.{free, found_again}
 use Rattle.gq_least.proofs.Passing.{flows_through, program_so, starts}
 use Rattle.gq_least.proofs.Flowing.{points_so}

@@ -16,13 +16,13 @@ use Rattle.gq_laws.proofs.verified.Session_costs.{need_first}
 use Rattle.gq_least.specs.Alike.{AreAsOne, ProvideAsOne, ComponentsAsOne, ScenariosAsOne}
 use Rattle.gq_least.specs.Size.{Gift, gifts, gifts_in, all_gifts, asked_above, needed, ram_sum, sum_in, opens_from, least_need}
 use Rattle.gq_least.specs.Size.{short_line, short_lines, short_in, all_short}
-use Rattle.gq_least.specs.Unsized.{unsized}
+use Rattle.gq_scenario.specs.Unsized.{unsized}
 use Rattle.gq_least.proofs.Meeting.{Each, both_each, each_so}
 use Rattle.gq_least.proofs.Bounding.{Pays, PaysNext, opens_given, gifts_given, sum_small}
 use Rattle.gq_least.proofs.Passing.{flows_through}
 use Rattle.gq_least.proofs.Freeing.{gifts_free}
 use Rattle.gq_least.proofs.Freed_scenarios.{pair_of, found_both, none_counted}
-use Rattle.gq_least.proofs.Sections.{section_found}
+use Rattle.gq_model.proofs.Section_laws.{section_found}
 use Rattle.gq_least.proofs.Needing.{both, interfaces, subjects, fine, needs}
 
 -- SUMS

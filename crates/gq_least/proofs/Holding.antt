@@ -16,7 +16,7 @@ use Rattle.gq_laws.proofs.paying.Places.{Placed, all_placed}
 use Rattle.gq_laws.proofs.verified.Sound_systems.{is_resolved}
 use Rattle.gq_least.specs.Alike.{AreAsOne, AllAsOne, ProvideAsOne, NodesAsOne, ScenariosAsOne, caps_for, caps_needed, levels_for}
 use Rattle.gq_least.specs.Size.{Gift, all_gifts, least_at, unless_after, children_least, root_least, least_caps}
-use Rattle.gq_least.specs.Unsized.{unsized}
+use Rattle.gq_scenario.specs.Unsized.{unsized}
 use Rattle.gq_least.specs.Least.{caps_of, sum_at, least_nodes, sized, IsWithin, NodesWithin, AreEnough, HasWholePages, HasLeast}
 use Rattle.gq_least.proofs.Summing.{need_ram, need_caps}
 use Rattle.gq_least.proofs.Fitting.{found_least, sums_rise}

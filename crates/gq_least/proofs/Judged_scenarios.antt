@@ -1,5 +1,7 @@
 -- A scenario passes what is judged, where any that differs from it in quantities alone is accepted.
-use Rattle.std.proofs.Common.{◌≡◌, ℕ, zero, suc, ◌+◌, ◌||◌, false, List, [], ◌∷◌, ◌++◌, Option, Some, None, refl, ap, sym, ◌∙◌, subst, arith, nat_le, nat_lt}
+use Rattle.std.proofs.Common.{◌≡◌, ℕ, zero, suc, ◌+◌, ◌||◌, true, false, List, [], ◌∷◌, ◌++◌, Option, Some, None, refl, ap, sym, ◌∙◌, subst, arith}
+use Rattle.std.proofs.Common.{nat_le, nat_lt}
+use Rattle.std.proofs.lemmas.Bool.Decides.{nat_tests}
 use Rattle.std.specs.Prelude.{slice_get, is_some, if◌then◌else◌, codes}
 use Rattle.gq_model.specs.machine.Amounts.{Resource, Ram, Caps, Amount, amount, part}
 use Rattle.gq_model.specs.machine.Lists.{or_first}
@@ -15,8 +17,8 @@ use Rattle.gq_laws.proofs.paying.Places.{starts_after}
 use Rattle.gq_laws.proofs.progress.Lasting.{afters_fit}
 use Rattle.gq_laws.proofs.verified.Sound_systems.{is_resolved}
 use Rattle.gq_least.specs.Alike.{AllComponents, ScenariosAsOne}
-use Rattle.gq_least.specs.Size.{unsized_refusal}
-use Rattle.gq_least.specs.Unsized.{without_quanta, unsized}
+use Rattle.gq_least.specs.Size.{refusal_without}
+use Rattle.gq_scenario.specs.Unsized.{without_quanta, unsized}
 use Rattle.gq_least.proofs.Freeing.{AnyStep, AnyState, fits_free, free_allows, any_along}
 use Rattle.gq_least.proofs.Freed_scenarios.{pair_of, none_counted}
 use Rattle.gq_least.proofs.Needing.{both, subjects, fine}
@@ -41,17 +43,22 @@ hands_nothing r (Leaf_node node rest) =
     (λ i. first_handed node.after (no_part r i) + hands_nothing r rest i) ∙ (λ i. first_nothing node.after i + 0)
 hands_nothing r (Init_node node children rest) = (λ i. no_part r i + hands_nothing r rest i)
 
-none_exceeds : (r : Resource) (name : List ℕ) (ns : Nodes) → exceeds r name (amount 0 0) (without_quanta ns) ≡ None
-none_exceeds r name ns = (λ i. if◌then◌else◌ (nat_le (hands_nothing r ns i) (no_part r i)) None (Some (exceeded r name)))
+zero_within : (n : ℕ) → nat_le 0 n ≡ true
+zero_within n = grind (arith, nat_tests)
+
+none_exceeds : (r : Resource) (name : List ℕ) (quantum : Amount) (ns : Nodes) → exceeds r name quantum (without_quanta ns) ≡ None
+none_exceeds r name quantum ns =
+    (λ i. if◌then◌else◌ (nat_le (hands_nothing r ns i) (part r quantum)) None (Some (exceeded r name)))
+    ∙ (λ i. if◌then◌else◌ (zero_within (part r quantum) i) None (Some (exceeded r name)))
 
 none_first : (r : Resource) (ns : Nodes) → first_exceeding r (without_quanta ns) ≡ None
 none_first r End = refl
 none_first r (Leaf_node node rest) = none_first r rest
 none_first r (Init_node node children rest) =
-    (λ i. or_first (none_exceeds r node.name children i) (or_first (none_first r children i) (none_first r rest i)))
+    (λ i. or_first (none_exceeds r node.name (amount 0 0) children i) (or_first (none_first r children i) (none_first r rest i)))
 
 quanta_none : (r : Resource) (s : Scenario) → quanta_fault r (unsized s) ≡ None
-quanta_none r s = (λ i. or_first (none_exceeds r (codes "init") s.nodes i) (none_first r s.nodes i))
+quanta_none r s = (λ i. or_first (none_exceeds r (codes "init") s.total s.nodes i) (none_first r s.nodes i))
 
 -- these components are handed nothing
 abbrev Bare : List Component → Type 0
@@ -153,5 +160,5 @@ module _ (t s : Scenario) (sound : IsSound t) (alike : ScenariosAsOne t s) where
       ap (λ n. steps_refusal all.components (budgets_from n all 0 all.components)) (sym alike.version)
       ∙ steps_none t.version mine all 0 mine.components all.components pairs (λ y c d o. budget_so mine all pairs asks y c d o) few_steps
 
-  pub is_judged : unsized_refusal s ≡ None
+  pub is_judged : refusal_without s ≡ None
   is_judged = (λ i. or_first (programs_none i) (or_first (not_resolved (resolved_none i)) (steps_fit i)))

@@ -22,7 +22,7 @@ use Rattle.gq_laws.proofs.verified.Sound_systems.{sure_of}
 use Rattle.gq_least.specs.Alike.{AreAsOne, AllAsOne, ProvideAsOne, SubjectsAsOne, PointsAsOne, ComponentsAsOne, AllComponents, ScenariosAsOne, caps_for}
 use Rattle.gq_least.specs.Alike.{caps_needed, levels_for}
 use Rattle.gq_least.specs.Size.{Given, session_cost, section_points, is_up_to, is_named, leaf_needed, needed, caps_sum, rounds, least_caps, sum_in}
-use Rattle.gq_least.specs.Unsized.{unsized}
+use Rattle.gq_scenario.specs.Unsized.{unsized}
 use Rattle.gq_least.proofs.Fitting.{free}
 use Rattle.gq_least.proofs.Meeting.{Each, each_so}
 use Rattle.gq_least.proofs.Bounding.{points_covered}
@@ -30,7 +30,8 @@ use Rattle.gq_least.proofs.Passing.{flows_through}
 use Rattle.gq_least.proofs.Freeing.{points_free}
 use Rattle.gq_least.proofs.Freed_scenarios.{all_free, nodes_free, components_both, pair_of, subjects_both, found_both, none_counted}
 use Rattle.gq_least.proofs.Lowering.{Within, greatest_under, greatest_lower, session_lower}
-use Rattle.gq_least.proofs.Sections.{section_found, outside_main}
+use Rattle.gq_model.proofs.Section_laws.{section_found}
+use Rattle.gq_least.proofs.Sections.{outside_main}
 use Rattle.gq_least.proofs.Meeting.{greatest_each}
 
 -- WHAT IS COUNTED

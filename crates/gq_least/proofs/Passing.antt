@@ -17,6 +17,7 @@ use Rattle.gq_model.specs.rules.Flow.{start_of, has_link, is_space_kind, bank_is
 use Rattle.gq_model.specs.rules.Verdict.{first_unwanted, is_wanted, same_truth, fault_of, first_fault, walked, program_fault}
 use Rattle.gq_model.specs.machine.Lists.{or_first}
 use Rattle.gq_model.proofs.Small.{equal_self, or_first_none}
+use Rattle.gq_model.proofs.Section_laws.{same_self}
 use Rattle.gq_model.proofs.Rules_laws.{must_holds, at_ok, none_left_ok, kinds_are, accepted, section_flows, then_ok, within_same}
 use Rattle.gq_laws.proofs.stating.Rules.{top_there}
 use Rattle.gq_least.specs.Alike.{SubjectsAsOne, ContextsAsOne, KindsAsOne, BanksAsOne, StatesAsOne, ProvideAsOne, Along, Allows}
@@ -32,13 +33,6 @@ flows_through v section e = by (section_in section v.program.sections) refl
         → (end : State) × (flow (context v section) (start_of v section) (body v section) ≡ Ok end)
     by None f = (start_of v section, ap (λ x. flow (context v section) (start_of v section) (body_of x)) f)
     by (Some list) f = let p = section_flows v section list e f in (p.0, p.2)
-
-pub same_self : (section : Section) → same_section section section ≡ true
-same_self Main = refl
-same_self Opening = refl
-same_self (Upgrading l) = equal_self l
-same_self (Calling l) = equal_self l
-same_self (Closing l) = equal_self l
 
 -- a section of a list is found in it
 section_there : (front : List (Section × Statements)) (p : Section × Statements) (rest : List (Section × Statements))

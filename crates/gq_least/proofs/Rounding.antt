@@ -27,14 +27,16 @@ use Rattle.gq_least.specs.Alike.{AreAsOne, AllAsOne, KindsAsOne, BanksAsOne, Sta
 use Rattle.gq_least.specs.Alike.{levels_for}
 use Rattle.gq_least.specs.Size.{Given, slot_cost, slots_cost, session_cost, section_points, is_up_to, is_named, leaf_needed, needed, caps_sum, least_caps}
 use Rattle.gq_least.specs.Size.{rounds, sum_in}
-use Rattle.gq_least.specs.Unsized.{unbounded, unsized}
+use Rattle.gq_program.specs.Interfaces.{unbounded}
+use Rattle.gq_scenario.specs.Unsized.{unsized}
 use Rattle.gq_least.specs.Least.{IsSettled}
 use Rattle.gq_least.proofs.Costing.{both_sums}
 use Rattle.gq_least.proofs.Fitting.{found_free}
 use Rattle.gq_least.proofs.Freed_scenarios.{pair_of, found_both}
 use Rattle.gq_least.proofs.Meeting.{Each}
 use Rattle.gq_least.proofs.Needing.{counts_of, need_upward, both, interfaces, points_so, points_paid, named_is}
-use Rattle.gq_least.proofs.Sections.{section_found, outside_main}
+use Rattle.gq_model.proofs.Section_laws.{section_found}
+use Rattle.gq_least.proofs.Sections.{outside_main}
 
 -- LISTS
 

@@ -13,7 +13,7 @@ use Rattle.gq_model.proofs.Component_laws.{components_count}
 use Rattle.gq_model.proofs.Small.{none_some, some_same}
 use Rattle.gq_least.specs.Alike.{NodesAsOne}
 use Rattle.gq_least.specs.Size.{least_at, children_least, root_least}
-use Rattle.gq_least.specs.Unsized.{without_quanta}
+use Rattle.gq_scenario.specs.Unsized.{without_quanta}
 use Rattle.gq_least.specs.Least.{caps_of, least_nodes}
 use Rattle.gq_least.proofs.Owning.{handed_ram, handed_caps}
 

@@ -25,7 +25,7 @@ use Rattle.std.proofs.Common.{inl, inr, cond}
 use Rattle.gq_least.specs.Alike.{ComponentsAsOne, AllComponents, ScenariosAsOne}
 use Rattle.gq_least.specs.Size.{is_named, own_by, least_caps, quantum_of, leaf_least, least_at, unless_after, children_least}
 use Rattle.gq_least.specs.Size as size
-use Rattle.gq_least.specs.Unsized.{unsized}
+use Rattle.gq_scenario.specs.Unsized.{unsized}
 use Rattle.gq_least.proofs.Lowering.{own_least}
 use Rattle.gq_least.proofs.Freed_scenarios.{pair_of}
 use Rattle.gq_least.proofs.Needing.{Counts, counts_of, both, caps_within, points_so}

@@ -6,7 +6,7 @@ use Rattle.gq_model.specs.machine.Scenario.{Interface, Interfaces, Nodes, End, L
 use Rattle.gq_model.specs.rules.Kinds.{need_of}
 use Rattle.gq_laws.specs.Sound.{IsSound}
 use Rattle.gq_least.specs.Size.{Gift, all_gifts, all_short, children_least, least_at, least_caps, needed, ram_sum, root_least}
-use Rattle.gq_least.specs.Unsized.{unsized}
+use Rattle.gq_scenario.specs.Unsized.{unsized}
 
 -- capabilities are 0 in version 1
 abbrev pub caps_of : ℕ → ℕ → ℕ

@@ -1,4 +1,3 @@
 pub mod Alike
-pub mod Unsized
 pub mod Size
 pub mod Least

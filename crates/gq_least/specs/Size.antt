@@ -23,13 +23,13 @@ use Rattle.gq_model.specs.rules.Resolve.{unresolved}
 use Rattle.gq_model.specs.rules.Rules.{judged, link_kind}
 use Rattle.gq_model.specs.rules.Use.{subject}
 use Rattle.gq_model.specs.texts.Fault_texts.{section_word}
-use Rattle.gq_least.specs.Unsized.{unsized}
+use Rattle.gq_scenario.specs.Unsized.{unsized}
 
 -- WHAT IS JUDGED
 
 -- the first reason to refuse it that no quantity decides
-abbrev pub unsized_refusal : Scenario → Option Refusal
-unsized_refusal s =
+abbrev pub refusal_without : Scenario → Option Refusal
+refusal_without s =
     let free = unsized s in
     let all = system free in
     or_first (program_refusal all all.components) (or_first (not_resolved (unresolved free)) (steps_refusal all.components (budgets free)))
@@ -201,42 +201,7 @@ abbrev pub root_least : Resource → ℕ → ℕ
 root_least Ram n = max 4096 (up n)
 root_least Caps n = max 1 n
 
--- TEXT
-
--- what a quantity is, and what it is at least
-abbrev pub pair_entries : List ℕ → ℕ → ℕ → List ℕ
-pair_entries word n least = entry word n ++ entry (codes "least") least
-
-abbrev pub node_line : ℕ → List ℕ → Amount → Amount → List ℕ
-node_line version label has least =
-    codes "size " ++ label ++ pair_entries (codes "quantum") has.ram least.ram ++ told version (pair_entries (codes "caps") has.caps least.caps) ++ 10 ∷ []
-
-abbrev pub need_line : ℕ → List ℕ → Amount → Amount → List ℕ
-need_line version name has least =
-    codes "size " ++ name ++ pair_entries (codes "need") has.ram least.ram ++ told version (pair_entries (codes "caps") has.caps least.caps) ++ 10 ∷ []
-
-abbrev pub upgrade_line : ℕ → List ℕ → ℕ → Amount → Amount → List ℕ
-upgrade_line version name l has least =
-    codes "size " ++ name ++ codes " upgrade " ++ decimal l ++ codes " " ++ decimal has.ram ++ entry (codes "least") least.ram
-    ++ told version (pair_entries (codes "caps") has.caps least.caps) ++ 10 ∷ []
-
--- what an upgrade to level l has to add at least
-abbrev pub upgrade_least : System → List Gift → List ℕ → Interface → ℕ → Amount
-upgrade_least all given service i zero = amount (ram_sum all given service i 0) (least_caps all service 0)
-upgrade_least all given service i (suc l) =
-    amount (ram_sum all given service i (suc l) - ram_sum all given service i l) (least_caps all service (suc l) - least_caps all service l)
-
-abbrev pub upgrade_lines : ℕ → System → List Gift → List ℕ → Interface → ℕ → List Amount → List ℕ
-upgrade_lines version all given service i l [] = []
-upgrade_lines version all given service i l (a ∷ rest) =
-    upgrade_line version service l a (upgrade_least all given service i l) ++ upgrade_lines version all given service i (suc l) rest
-
--- interfaces with their own numbers; what is least is of the system without quantities
-abbrev pub interface_lines : ℕ → System → List Gift → Interfaces → List ℕ
-interface_lines version all given [] = []
-interface_lines version all given (e ∷ rest) =
-    need_line version e.0 e.1.need (upgrade_least all given e.0 e.1 0) ++ upgrade_lines version all given e.0 e.1 1 e.1.upgrades
-    ++ interface_lines version all given rest
+-- STATEMENTS THAT OPEN SESSIONS FOR LESS THAN THEY NEED
 
 abbrev pub open_at : ℕ → Instruction → List (ℕ × List ℕ × ℕ)
 open_at k (Open place service n) = (k, service, n) ∷ []
@@ -272,21 +237,3 @@ short_in all given c (p ∷ rest) = short_lines all given c p.0 (opens_from 1 p.
 abbrev pub all_short : System → List Gift → List Component → List ℕ
 all_short all given [] = []
 all_short all given (c ∷ rest) = short_in all given c c.node.program.sections ++ all_short all given rest
-
--- the lines of these nodes, below this label, of which the first leaf is the x-th
-abbrev pub node_lines : ℕ → System → List ℕ → ℕ → Nodes → List ℕ
-node_lines version all label x End = []
-node_lines version all label x (Leaf_node node rest) =
-    node_line version (below label node.name) node.quantum (amount (least_at Ram all x) (least_at Caps all x)) ++ node_lines version all label (suc x) rest
-node_lines version all label x (Init_node node children rest) =
-    node_line version (below label node.name) node.quantum (amount (children_least Ram all x children) (children_least Caps all x children))
-    ++ node_lines version all (below label node.name) x children ++ node_lines version all label (x + leaf_count children) rest
-
-abbrev pub size_text : Scenario → List ℕ
-size_text s =
-    let all = system (unsized s) in
-    let given = all_gifts all all.components in
-    interface_lines s.version all given s.interfaces ++ all_short all given all.components
-    ++ node_line s.version (codes "init") s.total
-    (amount (root_least Ram (children_least Ram all 0 s.nodes)) (root_least Caps (children_least Caps all 0 s.nodes)))
-    ++ node_lines s.version all (codes "init") 0 s.nodes

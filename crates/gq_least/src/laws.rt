@@ -4,7 +4,7 @@ ghost use Rattle.gq_model.specs.machine.Scenario.{Scenario};
 ghost use Rattle.gq_laws.specs.Sound.{IsSound, IsWellFormed};
 ghost use Rattle.gq_least.specs.Alike.{ScenariosAsOne};
 ghost use Rattle.gq_least.specs.Least.{AreEnough, HasLeast, HasWholePages, IsAcceptedSized, IsSettled, NoneShort, sized};
-ghost use Rattle.gq_least.specs.Size.{unsized_refusal};
+ghost use Rattle.gq_least.specs.Size.{refusal_without};
 
 /// What `size` tells of a scenario is what would be found by trying. It does nothing.
 ///
@@ -22,9 +22,9 @@ ghost use Rattle.gq_least.specs.Size.{unsized_refusal};
 /// `least`: where such a one is accepted, its numbers are not less than the least ones.
 pub fn least_laws()
     ensures accepted { (s : Scenario) → IsSound s → HasWholePages s → HasLeast s }
-    ensures sized { (s : Scenario) → IsWellFormed s → IsSettled s → unsized_refusal s ≡ None → NoneShort s → IsAcceptedSized s }
+    ensures sized { (s : Scenario) → IsWellFormed s → IsSettled s → refusal_without s ≡ None → NoneShort s → IsAcceptedSized s }
     ensures short { (s t : Scenario) → ScenariosAsOne t s → IsSound t → NoneShort s }
-    ensures judged { (s t : Scenario) → ScenariosAsOne t s → IsSound t → unsized_refusal s ≡ None }
+    ensures judged { (s t : Scenario) → ScenariosAsOne t s → IsSound t → refusal_without s ≡ None }
     ensures settled { (s t : Scenario) → ScenariosAsOne t s → IsSound t → IsSettled s }
     ensures least { (s t : Scenario) → ScenariosAsOne t s → IsSound t → HasWholePages t → AreEnough (sized s) t }
 {}

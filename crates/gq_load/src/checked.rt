@@ -14,8 +14,10 @@ use gq_scenario::fault::ScenarioError;
 use gq_scenario::scenario::Scenario;
 use std::alloc::Global;
 
-// The lines of the budgets of a scenario's leaves, or its first fault.
-fn scenario_lines(alloc: Global, scenario: &Scenario) -> Result<Vec<u8>, LoadError>
+/// A line for each budget of a leaf of a scenario, in preorder, where the verifier accepts it.
+///
+/// Refused as `Accepted::read` is of a scenario that was read. It takes host memory for one program at a time, beside what the scenario's size asks for.
+pub fn scenario_lines(alloc: Global, scenario: &Scenario) -> Result<Vec<u8>, LoadError>
     ensures lines { IfOk result (λ lines. lines.items ≡ budget_lines scenario.now) }
     ensures faultless { IfOk result (λ lines. scenario_fault scenario.now ≡ None) }
     ensures refused { IfErr result (λ e. PrintsFault e (scenario_fault scenario.now)) }

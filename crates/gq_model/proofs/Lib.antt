@@ -6,6 +6,7 @@ pub mod Results
 pub mod Shapes
 pub mod Component_laws
 pub mod Rules_laws
+pub mod Section_laws
 pub mod Sums_laws
 -- code and operands: what is spelled is read back
 pub mod Code_laws

@@ -11,3 +11,6 @@ pub mod Keys
 pub mod Outside
 pub mod Visited
 pub mod Shown
+pub mod Kept_by
+pub mod Left
+pub mod There

@@ -6,3 +6,4 @@ pub mod Requested
 pub mod Askers
 pub mod Rights
 pub mod Visits
+pub mod Sections

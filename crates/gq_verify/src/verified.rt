@@ -8,6 +8,7 @@ ghost use Rattle.gq_model.specs.rules.Verdict.{verdict, verified, program_fault}
 ghost use Rattle.gq_verify.specs.Counting.{saturated};
 ghost use Rattle.gq_verify.specs.Requested.{requests_for};
 ghost use Rattle.gq_verify.specs.Faults.{known_fault};
+ghost use Rattle.gq_verify.specs.Sections.{AreThere};
 ghost use Rattle.gq_verify.specs.Subjects.{subject_of, cost_in};
 ghost use Rattle.gq_verify.specs.Visits.{Shows, section_sights};
 
@@ -19,7 +20,7 @@ use crate::sections::program_fault;
 use crate::starts::Starts;
 use crate::steps::section_cost;
 use crate::visits::{Visitor, visit};
-use gq_program::{Interfaces, Name, Program, Section};
+use gq_program::{Body, Interfaces, Name, Program, Section};
 use gq_rules::{Context, Subject};
 use gq_tariff::Amount;
 use std::alloc::{AllocError, Global};
@@ -88,6 +89,16 @@ impl<'a> Verified<'a> {
         ensures { result.now ≡ self.now }
     {
         &self.subject
+    }
+
+    /// The sections of its program, each of which is found by its name.
+    pub fn sections(&self) -> &[(Section, Body)]
+        ensures sections { result.now ≡ self.now.program.sections }
+        ensures there { AreThere result.now result.now }
+    {
+        let program = self.subject.program();
+        program.laws();
+        program.sections()
     }
 
     /// Shows the points of a section, where it is there. It goes over the statements once, and takes no host memory.

@@ -31,7 +31,7 @@ pub fn push_entry(text: &mut Vec<u8>, word: &[u8], number: u64) -> Result<(), Al
 }
 
 // Puts two blanks for each block around at the end of a text.
-pub fn push_indent(text: &mut Vec<u8>, depth: usize) -> Result<(), AllocError>
+pub(crate) fn push_indent(text: &mut Vec<u8>, depth: usize) -> Result<(), AllocError>
     ensures { OnOk result (text.new.items ≡ text.old.items ++ indent depth) }
 {
     let mut left = depth;
@@ -50,7 +50,7 @@ pub fn end_line(text: &mut Vec<u8>) -> Result<(), AllocError>
 }
 
 // Puts a line of these words at the end of a text.
-pub fn push_line(text: &mut Vec<u8>, depth: usize, words: &[u8]) -> Result<(), AllocError>
+pub(crate) fn push_line(text: &mut Vec<u8>, depth: usize, words: &[u8]) -> Result<(), AllocError>
     ensures { OnOk result (text.new.items ≡ text.old.items ++ line depth words.now) }
 {
     push_indent(text, depth)?;
