@@ -1,0 +1,17 @@
+pub mod Gifts_shown
+pub mod Slot_costs
+pub mod Saturating
+pub mod There
+pub mod Rounds
+pub mod Asked
+pub mod Least_gifts
+pub mod Most
+pub mod Providers
+pub mod Rows
+pub mod Eight
+pub mod Subjects
+pub mod Sized_texts
+pub mod Interfaces_told
+pub mod Short_told
+pub mod Least_leaves
+pub mod Nodes_told

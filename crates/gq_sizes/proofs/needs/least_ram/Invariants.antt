@@ -1,0 +1,13 @@
+use Rattle.std.proofs.Common.{◌≡◌, ◌++◌, drop, map}
+use Rattle.gq_model.specs.machine.Scenario.{System}
+use Rattle.gq_model.specs.rules.Use.{subject}
+use Rattle.gq_least.specs.Size.{all_gifts}
+use Rattle.gq_sizes.specs.Tables.{ram_rows}
+use Rattle.gq_sizes.proofs.needs.least_ram.Given as goal
+
+-- the rows so far, with those of the interfaces that are left, are all
+abbrev pub invariant-loop-service : goal.invariant-loop-service
+invariant-loop-service l =
+    (all : System) → l.components ≡ all.components → l.leaves ≡ map (subject all) all.components →
+    l.sums.items ++ ram_rows all (all_gifts all all.components) (drop l.service-index l.service-items)
+    ≡ ram_rows all (all_gifts all all.components) l.service-items

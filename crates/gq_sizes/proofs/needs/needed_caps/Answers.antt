@@ -1,0 +1,28 @@
+use Rattle.std.proofs.Common.{◌∙◌, max, ap, arith}
+use Rattle.std.proofs.lemmas.Slice.Zip.{Zip-more, either_empty_from_Zip}
+use Rattle.std.specs.Slice.Iter.{iter_rest}
+use Rattle.std.specs.Iterator.Adapters.{zip_first, zip_second}
+use Rattle.gq_model.specs.machine.Amounts.{Caps}
+use Rattle.gq_least.specs.Size.{leaf_needed}
+use Rattle.gq_sizes.specs.Kept.{given_in}
+use Rattle.gq_sizes.proofs.Providers.{needed_none, kept_next}
+use Rattle.gq_sizes.proofs.needs.needed_caps.Goals as goal
+
+pub loop-component-preserved : goal.loop-component-preserved
+loop-component-preserved c i =
+    let s = c.loop-component.component-iterator in
+    let t = c.next.new.self in
+    let m = Zip-more s t c.next.result (c.in-Some.component, c.in-Some.verified) c.in-Some.is c.next.ensures.steps in
+    let given = given_in c.args.given.now.interfaces.now c.args.given.now.sums.now in
+    kept_next (λ v. leaf_needed given Caps v i c.args.level) c.args.service.now (iter_rest (zip_first s)) (iter_rest (zip_first t))
+    (iter_rest (zip_second s)) (iter_rest (zip_second t)) c.in-Some.component.now c.in-Some.verified.now c.loop-component.most c.max-most.result _ m.0 m.1
+    (c.max-most.ensures ∙ ap (max c.loop-component.most) (c.provider_caps-needed.ensures i)) (c.loop-component.invariant i)
+
+pub returns : goal.returns
+returns c i =
+    let s = c.loop-component.component-iterator in
+    let m = either_empty_from_Zip s c.next.new.self c.next.result c.in-None.is c.next.ensures.steps in
+    let given = given_in c.args.given.now.interfaces.now c.args.given.now.sums.now in
+    let none = needed_none (λ v. leaf_needed given Caps v i c.args.level) c.args.service.now (iter_rest (zip_first s)) (iter_rest (zip_second s)) m in
+    let whole = c.loop-component.invariant i in
+    omega (arith, none, whole)

@@ -1,0 +1,19 @@
+-- What was found is told.
+use Rattle.std.proofs.Common.{◌∙◌}
+use Rattle.gq_sizes.proofs.Sized_texts.{leaves_are, right_programs}
+use Rattle.gq_sizes.proofs.size.text_of.Goals as goal
+
+pub all_verified-requires : goal.all_verified-requires
+all_verified-requires c =
+    right_programs c.args.free.now c.interfaces.result.now c.args.components.now c.as_slice-programs.result.now c.requires.faultless c.interfaces.ensures
+    c.requires.components (c.as_slice-programs.ensures.value ∙ c.requires.programs)
+
+pub sums_of-requires : goal.sums_of-requires
+sums_of-requires c =
+    leaves_are c.args.free.now c.interfaces.result.now c.args.components.now c.as_slice-programs.result.now c.as_slice.result.now c.interfaces.ensures
+    c.requires.components (c.as_slice-programs.ensures.value ∙ c.requires.programs) (c.as_slice.ensures.value ∙ c.in_ok-leaves.ensures)
+
+pub least_leaves-requires-clause-leaves : goal.least_leaves-requires-clause-leaves
+least_leaves-requires-clause-leaves c =
+    leaves_are c.args.free.now c.interfaces.result.now c.args.components.now c.as_slice-programs.result.now c.as_slice-2.result.now c.interfaces.ensures
+    c.requires.components (c.as_slice-programs.ensures.value ∙ c.requires.programs) (c.as_slice-2.ensures.value ∙ c.in_ok-leaves.ensures)

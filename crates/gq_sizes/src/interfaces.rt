@@ -1,0 +1,167 @@
+// The lines of interfaces.
+ghost use Rattle.std.specs.Prelude.{◌≡◌, ◌+◌, ◌-◌, ◌^◌, ◌<◌, ◌≤◌, ◌++◌, List, [], OnOk, get_or, length};
+ghost use Rattle.gq_model.specs.machine.Amounts.{amount};
+ghost use Rattle.gq_model.specs.machine.Scenario as model;
+ghost use Rattle.gq_scenario.specs.Trees.{version_number};
+ghost use Rattle.gq_verify.specs.Counting.{saturated};
+ghost use Rattle.gq_least.specs.Size.{Gift, least_caps, ram_sum};
+ghost use Rattle.gq_sizes.specs.Size_text.{interface_lines, need_least, need_line, upgrade_line, upgrade_lines};
+ghost use Rattle.gq_sizes.specs.Tables.{caps_rows, ram_rows, row};
+
+use crate::needs::Needs;
+use crate::places::{push_caps, push_pair};
+use crate::points::LEVELS;
+use gq_model::program::Name;
+use gq_program::{Interface, Interfaces, Upgrade};
+use gq_scenario::scenario::Version;
+use gq_tariff::Amount;
+use gq_views::words::{end_line, push_amount, push_entry, push_number};
+use std::alloc::AllocError;
+
+/// The least sums of need and upgrades, of each interface up to each level.
+#[derive(Drop)]
+pub(crate) struct Sums {
+    pub ram: Needs,
+    pub caps: Needs,
+}
+
+/// The sum up to a level of the interface at a place; nothing where there is none.
+fn sum_at(sums: &[[u64; LEVELS]], place: usize, level: usize) -> u64
+    ensures sum { result ≡ get_or (get_or sums.now place []) level 0 }
+    ensures small { result < 2 ^ 64 }
+{
+    match sums.get(place) {
+        Some(sums) => match sums.get(level) {
+            Some(sum) => *sum,
+            None => 0,
+        },
+        None => 0,
+    }
+}
+
+impl Sums {
+    /// What a session of the interface at a place needs at least, to be opened.
+    pub fn need(&self, place: usize) -> Amount
+        ensures least { result ≡ amount (get_or (get_or self.now.ram.items place []) 0 0) (get_or (get_or self.now.caps.items place []) 0 0) }
+        ensures small { get_or (get_or self.now.ram.items place []) 0 0 < 2 ^ 64 }
+    {
+        Amount {
+            ram: sum_at(self.ram.as_slice(), place, 0),
+            caps: sum_at(self.caps.as_slice(), place, 0),
+        }
+    }
+
+    /// What has to be added at least for the level above one.
+    fn upgrade(&self, place: usize, level: usize) -> Amount
+        requires { level < 3 }
+        ensures least { result ≡ amount
+            (get_or (get_or self.now.ram.items place []) (level + 1) 0 - get_or (get_or self.now.ram.items place []) level 0)
+            (get_or (get_or self.now.caps.items place []) (level + 1) 0 - get_or (get_or self.now.caps.items place []) level 0) }
+        ensures small { get_or (get_or self.now.ram.items place []) level 0 < 2 ^ 64 }
+        ensures small_above { get_or (get_or self.now.ram.items place []) (level + 1) 0 < 2 ^ 64 }
+    {
+        let ram = self.ram.as_slice();
+        let caps = self.caps.as_slice();
+        Amount {
+            ram: sum_at(ram, place, level + 1).saturating_sub(sum_at(ram, place, level)),
+            caps: sum_at(caps, place, level + 1).saturating_sub(sum_at(caps, place, level)),
+        }
+    }
+}
+
+/// Puts the line of what a session needs to be opened at the end of a text.
+fn push_need(
+    text: &mut Vec<u8>,
+    version: Version,
+    service: &Name,
+    interface: &Interface,
+    least: Amount,
+) -> Result<(), AllocError>
+    ensures { OnOk result (text.new.items ≡ text.old.items ++ need_line (version_number version) service.now interface.now.need least) }
+{
+    text.extend_from_slice(b"size ")?;
+    text.extend_from_slice(service.as_bytes())?;
+    push_pair(text, b"need", u64::from(interface.need()), least.ram)?;
+    push_caps(text, version, u64::from(interface.given_caps()), least.caps)?;
+    end_line(text)
+}
+
+/// Puts the line of what is added for a level at the end of a text.
+fn push_upgrade(
+    text: &mut Vec<u8>,
+    version: Version,
+    service: &Name,
+    level: usize,
+    upgrade: &Upgrade,
+    least: Amount,
+) -> Result<(), AllocError>
+    ensures { OnOk result (text.new.items ≡ text.old.items ++ upgrade_line (version_number version) service.now level upgrade.now least) }
+{
+    text.extend_from_slice(b"size ")?;
+    text.extend_from_slice(service.as_bytes())?;
+    text.extend_from_slice(b" upgrade ")?;
+    push_number(text, level as u64)?;
+    push_amount(text, u64::from(upgrade.ram()))?;
+    push_entry(text, b"least", least.ram)?;
+    push_caps(text, version, u64::from(upgrade.caps()), least.caps)?;
+    end_line(text)
+}
+
+/// Puts the lines of upgrades of the interface at a place at the end of a text.
+fn push_upgrades(
+    text: &mut Vec<u8>,
+    version: Version,
+    service: &Name,
+    upgrades: &[Upgrade],
+    sums: &Sums,
+    place: usize,
+) -> Result<(), AllocError>
+    requires { length upgrades.now ≤ 3 }
+    ensures { (all : model.System) (given : List Gift) (i : model.Interface)
+        → get_or sums.now.ram.items place [] ≡ row (ram_sum all given service.now i)
+        → get_or sums.now.caps.items place [] ≡ row (λ l. saturated (least_caps all service.now l))
+        → OnOk result (text.new.items ≡ text.old.items ++ upgrade_lines (version_number version) all given service.now i 0 upgrades.now) }
+{
+    for (level, upgrade) in upgrades.iter().enumerate() {
+        let least = sums.upgrade(place, level);
+        push_upgrade(text, version, service, level + 1, upgrade, least)?;
+    }
+    Ok(())
+}
+
+/// Puts the lines of the interface at a place at the end of a text.
+fn push_interface(
+    text: &mut Vec<u8>,
+    version: Version,
+    entry: &(Name, Interface),
+    sums: &Sums,
+    place: usize,
+) -> Result<(), AllocError>
+    ensures { (all : model.System) (given : List Gift)
+        → get_or sums.now.ram.items place [] ≡ row (ram_sum all given entry.now.0 entry.now.1)
+        → get_or sums.now.caps.items place [] ≡ row (λ l. saturated (least_caps all entry.now.0 l))
+        → OnOk result (text.new.items ≡ text.old.items
+        ++ need_line (version_number version) entry.now.0 entry.now.1.need (need_least all given entry.now.0 entry.now.1)
+        ++ upgrade_lines (version_number version) all given entry.now.0 entry.now.1 0 entry.now.1.upgrades) }
+{
+    let (service, interface) = entry;
+    push_need(text, version, service, interface, sums.need(place))?;
+    push_upgrades(text, version, service, interface.upgrades(), sums, place)
+}
+
+/// Puts the lines of all interfaces at the end of a text.
+pub(crate) fn push_interfaces(
+    text: &mut Vec<u8>,
+    version: Version,
+    interfaces: &Interfaces,
+    sums: &Sums,
+) -> Result<(), AllocError>
+    ensures { (all : model.System) (given : List Gift) → sums.now.ram.items ≡ ram_rows all given interfaces.now
+        → sums.now.caps.items ≡ caps_rows all interfaces.now
+        → OnOk result (text.new.items ≡ text.old.items ++ interface_lines (version_number version) all given interfaces.now) }
+{
+    for (place, entry) in interfaces.entries().iter().enumerate() {
+        push_interface(text, version, entry, sums, place)?;
+    }
+    Ok(())
+}

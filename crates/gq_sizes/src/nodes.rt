@@ -1,0 +1,177 @@
+// The lines of nodes.
+ghost use Rattle.std.specs.Prelude.{◌≡◌, ◌+◌, ◌≤◌, ◌++◌, ◌∷◌, [], IfOk, OnOk, codes, max};
+ghost use Rattle.gq_tariff.specs.Prices.{up};
+ghost use Rattle.gq_model.specs.machine.Accounts.{leaf_count};
+ghost use Rattle.gq_model.specs.machine.Amounts.{amount};
+ghost use Rattle.gq_model.specs.machine.Scenario as model;
+ghost use Rattle.gq_model.specs.machine.Scenario.{below};
+ghost use Rattle.gq_scenario.specs.Trees.{nodes_of, version_number};
+ghost use Rattle.gq_verify.specs.Counting.{saturated};
+ghost use Rattle.gq_sizes.specs.Size_text.{init_least_told, node_line, node_lines, root_least_told};
+ghost use Rattle.gq_sizes.specs.Tables.{leasts_from};
+
+use crate::leaves::{least_at, least_of_children};
+use crate::places::{push_caps, push_pair};
+use gq_scenario::scenario::{Node, Nodes, Quantum, Scenario, Version};
+use gq_tariff::Amount;
+use gq_tariff::price::{PAGE, round_up};
+use gq_views::words::end_line;
+use std::alloc::{AllocError, Global};
+
+/// Puts the line of a node at the end of a text.
+fn push_node(
+    text: &mut Vec<u8>,
+    version: Version,
+    label: &[u8],
+    quantum: Quantum,
+    least: Amount,
+) -> Result<(), AllocError>
+    ensures { OnOk result (text.new.items ≡ text.old.items ++ node_line (version_number version) label.now quantum least) }
+{
+    text.extend_from_slice(b"size ")?;
+    text.extend_from_slice(label)?;
+    push_pair(text, b"quantum", quantum.ram(), least.ram)?;
+    push_caps(text, version, u64::from(quantum.caps()), least.caps)?;
+    end_line(text)
+}
+
+/// The label of what bears this name below.
+fn below(alloc: Global, label: &[u8], name: &[u8]) -> Result<Vec<u8>, AllocError>
+    ensures { IfOk result (λ l. l.items ≡ below label.now name.now) }
+{
+    let mut longer = Vec::from_slice(alloc, label)?;
+    longer.extend_from_slice(b" -> ")?;
+    longer.extend_from_slice(name)?;
+    Ok(longer)
+}
+
+/// Puts the lines of nodes below this label at the end of a text, of which the first leaf has a number; and tells the number of the leaf after them.
+#[cycle(nodes)]
+fn push_nodes(
+    alloc: Global,
+    text: &mut Vec<u8>,
+    version: Version,
+    label: &[u8],
+    nodes: &Nodes,
+    least: &[Amount],
+    first: usize,
+) -> Result<usize, AllocError>
+    requires { first + leaf_count nodes.now ≤ 64 }
+    ensures lines { (all : model.System) → least.now ≡ leasts_from all 0 all.components
+        → OnOk result (text.new.items ≡ text.old.items ++ node_lines (version_number version) all label.now first nodes.now) }
+    ensures next { IfOk result (λ next. next ≡ first + leaf_count nodes.now) }
+{
+    let mut next = first;
+    for node in nodes.nodes() {
+        next = push_below(alloc, text, version, label, node, least, next)?;
+    }
+    Ok(next)
+}
+
+/// Puts the lines of a node below this label, and of those in it, at the end of a text, of which the first leaf has a number; and tells the number of the leaf
+/// after it.
+#[cycle(nodes)]
+fn push_below(
+    alloc: Global,
+    text: &mut Vec<u8>,
+    version: Version,
+    label: &[u8],
+    node: &Node,
+    least: &[Amount],
+    first: usize,
+) -> Result<usize, AllocError>
+    requires { first + leaf_count (nodes_of (node.now ∷ [])) ≤ 64 }
+    ensures lines { (all : model.System) → least.now ≡ leasts_from all 0 all.components
+        → OnOk result (text.new.items ≡ text.old.items ++ node_lines (version_number version) all label.now first (nodes_of (node.now ∷ []))) }
+    ensures next { IfOk result (λ next. next ≡ first + leaf_count (nodes_of (node.now ∷ []))) }
+{
+    match node {
+        Node::Leaf(leaf) => {
+            let label = below(alloc, label, leaf.name().as_bytes())?;
+            let needed = least_at(least, first);
+            let pushed = push_node(text, version, label.as_slice(), leaf.quantum(), needed);
+            drop(label);
+            pushed?;
+            Ok(first + 1)
+        }
+        Node::Init(init, children) => {
+            let label = below(alloc, label, init.name().as_bytes())?;
+            let pushed = push_init(
+                alloc,
+                text,
+                version,
+                label.as_slice(),
+                init.quantum(),
+                children,
+                least,
+                first,
+            );
+            drop(label);
+            pushed
+        }
+    }
+}
+
+/// Puts the lines of an init with this label, and of its children, at the end of a text, of which the first leaf has a number; and tells the number of the
+/// leaf after them.
+#[cycle(nodes)]
+fn push_init(
+    alloc: Global,
+    text: &mut Vec<u8>,
+    version: Version,
+    label: &[u8],
+    quantum: Quantum,
+    children: &Nodes,
+    least: &[Amount],
+    first: usize,
+) -> Result<usize, AllocError>
+    requires { first + leaf_count children.now ≤ 64 }
+    ensures lines { (all : model.System) → least.now ≡ leasts_from all 0 all.components
+        → OnOk result (text.new.items ≡ text.old.items ++ node_line (version_number version) label.now quantum (init_least_told all first children.now)
+        ++ node_lines (version_number version) all label.now first children.now) }
+    ensures next { IfOk result (λ next. next ≡ first + leaf_count children.now) }
+{
+    let (needed, _after) = least_of_children(children, least, first);
+    push_node(text, version, label, quantum, needed)?;
+    push_nodes(alloc, text, version, label, children, least, first)
+}
+
+/// Whole pages, at least one; 2^64 - 1 where they are more.
+fn whole_pages(bytes: u64) -> u64
+    ensures { result ≡ saturated (max 4096 (up bytes)) }
+{
+    if bytes > u64::MAX - (PAGE - 1) {
+        return u64::MAX;
+    }
+    round_up(bytes).max(PAGE)
+}
+
+/// What the whole system needs at least, whose nodes need so much: whole pages, at least one, and at least one capability.
+fn root_least(needed: Amount) -> Amount
+    ensures { result ≡ amount (saturated (max 4096 (up needed.ram))) (max 1 needed.caps) }
+{
+    Amount {
+        ram: whole_pages(needed.ram),
+        caps: needed.caps.max(1),
+    }
+}
+
+/// Puts the lines of the root and of all nodes at the end of a text.
+pub(crate) fn push_tree(
+    alloc: Global,
+    text: &mut Vec<u8>,
+    scenario: &Scenario,
+    least: &[Amount],
+) -> Result<(), AllocError>
+    ensures { (all : model.System) → least.now ≡ leasts_from all 0 all.components
+        → OnOk result (text.new.items ≡ text.old.items
+        ++ node_line scenario.now.version (codes "init") scenario.now.total (root_least_told all scenario.now.nodes)
+        ++ node_lines scenario.now.version all (codes "init") 0 scenario.now.nodes) }
+{
+    let _leaves = scenario.leaf_count();
+    let version = scenario.version();
+    let (needed, _after) = least_of_children(scenario.nodes(), least, 0);
+    push_node(text, version, b"init", scenario.total(), root_least(needed))?;
+    push_nodes(alloc, text, version, b"init", scenario.nodes(), least, 0)?;
+    Ok(())
+}

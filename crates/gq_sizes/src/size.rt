@@ -1,0 +1,187 @@
+// How much is enough.
+ghost use Rattle.std.specs.Prelude.{◌≡◌, None, IfOk, IfErr, IsOkAnd, map};
+ghost use Rattle.gq_model.specs.machine.Scenario as model;
+ghost use Rattle.gq_model.specs.machine.Scenario.{system};
+ghost use Rattle.gq_model.specs.rules.Accept as accept;
+ghost use Rattle.gq_scenario.specs.Unsized.{unsized};
+ghost use Rattle.gq_load.specs.Faults.{PrintsFault, Refuses};
+ghost use Rattle.gq_load.specs.Unsized.{unsized_fault};
+ghost use Rattle.gq_world.specs.Outcomes.{WritesAs};
+ghost use Rattle.gq_least.specs.Size.{all_gifts};
+ghost use Rattle.gq_sizes.specs.Judged.{fault_without, judged_without};
+ghost use Rattle.gq_sizes.specs.Size_text.{size_text};
+ghost use Rattle.gq_sizes.specs.Tables.{AreOf, caps_rows, leasts_from, ram_rows};
+ghost use Rattle.gq_sizes.specs.Written.{size_written};
+
+use crate::interfaces::{Sums, push_interfaces};
+use crate::judged::read;
+use crate::leaves::{least_of_leaves, owns};
+use crate::needs::{least_caps, least_ram};
+use crate::nodes::push_tree;
+use crate::points::Given;
+use crate::programs::all_verified;
+use crate::sections::levels_are_low;
+use crate::shorts::push_shorts;
+use gq_init::counted::{Counted, put};
+use gq_load::budget::Budget;
+use gq_load::fault::LoadError;
+use gq_load::quantities::{Unsized, judge_unsized};
+use gq_program::program::Program;
+use gq_resolve::component::{Component, components};
+use gq_scenario::quantities::without_quantities;
+use gq_scenario::scenario::Scenario;
+use gq_tariff::Amount;
+use gq_verify::Verified;
+use gq_world::RunFault;
+use std::alloc::{AllocError, Global};
+use std::io::Write;
+
+/// The least sums of need and upgrades of each interface of a scenario without its quantities.
+fn sums_of(
+    alloc: Global,
+    free: &Scenario,
+    components: &[Component<'_>],
+    leaves: &[Verified<'_>],
+) -> Result<Sums, AllocError>
+    requires { AreOf (system free.now) components.now leaves.now free.now.interfaces }
+    ensures ram { IfOk result (λ s. s.ram.items ≡ ram_rows (system free.now) (all_gifts (system free.now) components.now) free.now.interfaces) }
+    ensures caps { IfOk result (λ s. s.caps.items ≡ caps_rows (system free.now) free.now.interfaces) }
+{
+    let interfaces = free.interfaces();
+    let ram = least_ram(alloc, components, leaves, interfaces)?;
+    let caps = least_caps(alloc, components, leaves, interfaces)?;
+    Ok(Sums { ram, caps })
+}
+
+/// What each leaf of a scenario without its quantities needs at least, by these least sums.
+fn least_leaves(
+    alloc: Global,
+    free: &Scenario,
+    components: &[Component<'_>],
+    leaves: &[Verified<'_>],
+    budgets: &[Budget],
+    sums: &Sums,
+) -> Result<Vec<Amount>, AllocError>
+    requires leaves { AreOf (system free.now) components.now leaves.now free.now.interfaces }
+    requires budgets { budgets.now ≡ accept.budgets free.now }
+    requires caps { sums.now.caps.items ≡ caps_rows (system free.now) free.now.interfaces }
+    ensures { IfOk result (λ least. least.items ≡ leasts_from (system free.now) 0 components.now) }
+{
+    levels_are_low(leaves);
+    let given = Given {
+        interfaces: free.interfaces(),
+        sums: sums.caps.as_slice(),
+    };
+    let owns = owns(alloc, leaves, budgets, &given)?;
+    least_of_leaves(alloc, components, owns.as_slice())
+}
+
+/// The text of a scenario, of which all this is least.
+fn pushed(
+    alloc: Global,
+    scenario: &Scenario,
+    free: &Scenario,
+    components: &[Component<'_>],
+    programs: &[Program],
+    sums: &Sums,
+    least: &[Amount],
+) -> Result<Vec<u8>, AllocError>
+    requires free { free.now ≡ unsized scenario.now }
+    requires components { components.now ≡ model.components free.now }
+    requires programs { programs.now ≡ map (λ c. c.node.program) components.now }
+    requires ram { sums.now.ram.items ≡ ram_rows (system free.now) (all_gifts (system free.now) components.now) free.now.interfaces }
+    requires caps { sums.now.caps.items ≡ caps_rows (system free.now) free.now.interfaces }
+    requires least { least.now ≡ leasts_from (system free.now) 0 components.now }
+    ensures { IfOk result (λ text. text.items ≡ size_text scenario.now) }
+{
+    let mut text = Vec::new(alloc);
+    push_interfaces(&mut text, scenario.version(), scenario.interfaces(), sums)?;
+    push_shorts(&mut text, free.interfaces(), sums, components, programs)?;
+    push_tree(alloc, &mut text, scenario, least)?;
+    Ok(text)
+}
+
+/// The text of a scenario, of which this is found without its quantities.
+fn text_of(
+    alloc: Global,
+    scenario: &Scenario,
+    free: &Scenario,
+    components: &[Component<'_>],
+    found: &Unsized,
+) -> Result<Vec<u8>, AllocError>
+    requires free { free.now ≡ unsized scenario.now }
+    requires components { components.now ≡ model.components free.now }
+    requires programs { found.now.programs.items ≡ map (λ c. c.node.program) components.now }
+    requires budgets { found.now.budgets.items ≡ accept.budgets free.now }
+    requires faultless { unsized_fault free.now ≡ None }
+    ensures { IfOk result (λ text. text.items ≡ size_text scenario.now) }
+{
+    let programs = found.programs.as_slice();
+    let leaves = all_verified(alloc, components, programs, free.interfaces())?;
+    let sums = sums_of(alloc, free, components, leaves.as_slice())?;
+    let budgets = found.budgets.as_slice();
+    let least = least_leaves(alloc, free, components, leaves.as_slice(), budgets, &sums)?;
+    pushed(
+        alloc,
+        scenario,
+        free,
+        components,
+        programs,
+        &sums,
+        least.as_slice(),
+    )
+}
+
+/// The text of a scenario, by this one without its quantities; or the first fault of this one.
+fn free_text(alloc: Global, scenario: &Scenario, free: &Scenario) -> Result<Vec<u8>, LoadError>
+    requires { free.now ≡ unsized scenario.now }
+    ensures text { IfOk result (λ text. text.items ≡ size_text scenario.now) }
+    ensures faultless { IfOk result (λ text. unsized_fault free.now ≡ None) }
+    ensures refused { IfErr result (λ e. PrintsFault e (unsized_fault free.now)) }
+{
+    let components = components(alloc, free)?;
+    let found = judge_unsized(alloc, free, components.as_slice())?;
+    Ok(text_of(alloc, scenario, free, components.as_slice(), &found)?)
+}
+
+/// The text of a scenario, or its first fault that no quantity decides.
+fn scenario_text(alloc: Global, scenario: &Scenario) -> Result<Vec<u8>, LoadError>
+    ensures text { IfOk result (λ text. text.items ≡ size_text scenario.now) }
+    ensures faultless { IfOk result (λ text. fault_without scenario.now ≡ None) }
+    ensures refused { IfErr result (λ e. PrintsFault e (fault_without scenario.now)) }
+{
+    let free = without_quantities(alloc, scenario)?;
+    let text = free_text(alloc, scenario, &free);
+    drop(free);
+    text
+}
+
+/// The text of the scenario of a text.
+fn judged_text(alloc: Global, text: &[u8]) -> Result<Vec<u8>, LoadError>
+    ensures text { IfOk result (λ t. IsOkAnd (judged_without text.now) (λ s. t.items ≡ size_text s)) }
+    ensures refused { IfErr result (λ e. Refuses e (judged_without text.now)) }
+{
+    let scenario = read(alloc, text)?;
+    let text = scenario_text(alloc, &scenario);
+    drop(scenario);
+    text
+}
+
+/// Writes what each interface, leaf and init of a scenario has, and the least that it needs: with the least quantities in place of its own the scenario is
+/// accepted, unless an `open` gives less than a session of its interface needs; such statements have a line of their own. Bytes, and in version 2
+/// capabilities; a number above 2^64 - 1 is told as 2^64 - 1. It tells it of every scenario that passes the rules that quantities do not decide, accepted
+/// or not; another is refused by the first of them, in the words of `check`. Nothing is written where it is refused, or where host memory is. After a
+/// failed write a front of the text was written.
+pub fn size<W: Write>(
+    alloc: Global,
+    scenario: &[u8],
+    out: &mut Counted<W>,
+) -> Result<(), RunFault<'static>>
+    ensures { WritesAs W.contents (size_written scenario.now) out.old out.new result }
+{
+    let text = judged_text(alloc, scenario)?;
+    match put(out, text.as_slice()) {
+        Ok(()) => Ok(()),
+        Err(_) => Err(RunFault::Write),
+    }
+}
