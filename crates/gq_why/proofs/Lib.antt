@@ -1,0 +1,15 @@
+mod Shown_points
+mod First_highest
+mod Eight
+mod Counted
+mod Own_lines
+mod Need_lines
+mod Levels
+mod Sums
+mod Times
+mod Step_limits
+mod Counted_steps
+mod Known_steps
+mod Step_lines
+mod Named
+mod Leaf_texts

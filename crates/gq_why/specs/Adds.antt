@@ -1,0 +1,50 @@
+-- What each number that is told of a leaf is made of adds up to it.
+use Rattle.std.specs.Prelude.{◌≡◌, ℕ, ◌+◌, ◌*◌, false, List, [], ◌∷◌, Option, Some, None, slice_get, sum_by}
+use Rattle.gq_tariff.specs.Prices.{classes}
+use Rattle.gq_model.specs.declared.program.Form.TheVariants.{Slice}
+use Rattle.gq_model.specs.declared.program.Section.{Section}
+use Rattle.gq_model.specs.declared.program.Section.TheVariants.{Main}
+use Rattle.gq_model.specs.machine.Amounts.{Resource}
+use Rattle.gq_model.specs.machine.Program.{Statements}
+use Rattle.gq_model.specs.machine.Scenario.{Interface, Scenario, System, Component, system}
+use Rattle.gq_model.specs.rules.Budgets.{own, section_cost}
+use Rattle.gq_model.specs.rules.Kinds.{Kind, Memory, State, Subject, in_main, kind_price, kinds_cost, session_cost}
+use Rattle.gq_model.specs.rules.Use.{from_leaves, step_budget}
+use Rattle.gq_scenario.specs.Unsized.{unsized}
+use Rattle.gq_load.specs.Unsized.{unsized_fault}
+use Rattle.gq_why.specs.Why.{Point, highest, kind_cost, often, places_at, places_cost, points_of}
+
+-- a number at a point, if there is one
+abbrev pub number_at : (State → ℕ) → Option Point → ℕ
+number_at f None = 0
+number_at f (Some p) = f p.state
+
+-- what slots hold and have lent is the sum over their lines
+abbrev pub ItemsAddUp : Type 0
+ItemsAddUp = (r : Resource) (kinds : List Kind) → sum_by (kind_cost r) kinds ≡ kinds_cost r kinds
+
+-- what a session costs is the sum over the lines of its object and its slots
+abbrev pub SessionsAddUp : Type 0
+SessionsAddUp = (r : Resource) (i : Interface) (bank : List Kind) →
+    kind_price r (Memory Slice i.object) + sum_by (kind_cost r) bank ≡ session_cost r i bank
+
+-- the lines of the places of these classes
+abbrev pub classes_sum : Resource → List Point → List ℕ → ℕ
+classes_sum r points [] = 0
+classes_sum r points (c ∷ cs) = places_cost r c (number_at (places_at c) (highest (places_at c) points)) + classes_sum r points cs
+
+-- what a leaf uses of its own is the sum over the line of its slots and those of places
+abbrev pub OwnAddsUp : Type 0
+OwnAddsUp = (r : Resource) (v : Subject) → let points = points_of v Main in
+    number_at (λ s. kinds_cost r s.own) (highest (λ s. kinds_cost r s.own) points) + classes_sum r points classes ≡ own r v
+
+-- the steps of a leaf are the sum over the products of its sections
+abbrev pub StepsAddUp : Type 0
+StepsAddUp = (all : System) (x : ℕ) (c : Component) →
+    sum_by (λ (p : Section × Statements). often all x p.0 * section_cost p.0 p.1) c.node.program.sections ≡ step_budget all x c
+
+-- how often a section but `main` runs is the sum over the products of those that ask for it
+abbrev pub TimesAddUp : Type 0
+TimesAddUp = (s : Scenario) → unsized_fault (unsized s) ≡ None → let all = system (unsized s) in
+    (x : ℕ) (c : Component) (service : List ℕ) (section : Section) → slice_get all.components x ≡ Some c → c.node.provides ≡ Some service →
+    in_main section ≡ false → from_leaves (often all) all x service section 0 all.components ≡ often all x section

@@ -1,0 +1,5 @@
+pub mod Why
+pub mod Kept
+pub mod Adds
+pub mod Written
+pub mod internal

@@ -1,0 +1,148 @@
+// What a leaf's numbers are made of, and where.
+ghost use Rattle.std.specs.Prelude.{◌≡◌, ◌<◌, None, Ok, IfErr, IfOk, length, map};
+ghost use Rattle.gq_model.specs.machine.Scenario as model;
+ghost use Rattle.gq_model.specs.rules.Accept as accept;
+ghost use Rattle.gq_model.specs.rules.Verdict.{program_fault};
+ghost use Rattle.gq_resolve.specs.Served.{AreServers};
+ghost use Rattle.gq_scenario.specs.Unsized.{unsized};
+ghost use Rattle.gq_verify.specs.Subjects.{subject_of};
+ghost use Rattle.gq_load.specs.Faults.{PrintsFault};
+ghost use Rattle.gq_load.specs.Unsized.{unsized_fault};
+ghost use Rattle.gq_load.specs.internal.Surveys.{AreSurveys};
+ghost use Rattle.gq_world.specs.Outcomes.{IsBefore, IsFaultOf, WritesAs};
+ghost use Rattle.gq_why.specs.Why.{why_text};
+ghost use Rattle.gq_why.specs.Written.{leaf_number, why_from, why_of, why_written};
+
+use crate::need::push_needs;
+use crate::own::push_owns;
+use crate::steps::push_steps;
+use gq_init::counted::{Counted, put};
+use gq_load::fault::{LoadError, LoadFault};
+use gq_load::quantities::{Unsized, judge_unsized};
+use gq_program::Interfaces;
+use gq_program::program::Program;
+use gq_reader::reader::read_scenario;
+use gq_resolve::component::{Component, components};
+use gq_scenario::fault::ScenarioError;
+use gq_scenario::lines::same_bytes;
+use gq_scenario::quantities::without_quantities;
+use gq_scenario::scenario::{LeafNo, Scenario};
+use gq_verify::{Verified, verify};
+use gq_world::RunFault;
+use std::alloc::{AllocError, Global};
+use std::io::Write;
+
+/// The number of the leaf of this name.
+fn numbered(scenario: &Scenario, name: &[u8]) -> Option<LeafNo>
+    ensures { result ≡ leaf_number name.now 0 (model.components scenario.now) }
+{
+    for place in 0..scenario.leaf_count() {
+        let leaf = LeafNo::new(place as u32);
+        if same_bytes(name, scenario.leaf(leaf).name().as_bytes()) {
+            return Some(leaf);
+        }
+    }
+    None
+}
+
+/// What the verifier says of a program that breaks no rule.
+fn verified<'a>(
+    component: &Component<'_>,
+    program: &'a Program,
+    interfaces: &'a Interfaces,
+) -> Verified<'a>
+    requires { program_fault (subject_of program.now component.now.node.provides interfaces.now) ≡ None }
+    ensures { result ≡ subject_of program.now component.now.node.provides interfaces.now }
+{
+    match verify(program, component.leaf().provides(), interfaces) {
+        Ok(verified) => verified,
+        Err(_) => unreachable!(),
+    }
+}
+
+/// The text of a leaf of a scenario, of which this is found without its quantities.
+fn text_of(
+    alloc: Global,
+    scenario: &Scenario,
+    free: &Scenario,
+    components: &[Component<'_>],
+    found: &Unsized,
+    leaf: LeafNo,
+) -> Result<Vec<u8>, AllocError>
+    requires free { free.now ≡ unsized scenario.now }
+    requires components { components.now ≡ model.components free.now }
+    requires programs { found.now.programs.items ≡ map (λ c. c.node.program) components.now }
+    requires surveys { AreSurveys free.now.interfaces components.now found.now.surveys.owns.items found.now.surveys.counted.items
+        (map (λ v. v.items) found.now.surveys.opened.items) }
+    requires servers { AreServers free.now found.now.routes }
+    requires budgets { found.now.budgets.items ≡ accept.budgets free.now }
+    requires faultless { unsized_fault free.now ≡ None }
+    requires there { leaf < length (model.components scenario.now) }
+    ensures { IfOk result (λ text. text.items ≡ why_text scenario.now leaf) }
+{
+    let programs = found.programs.as_slice();
+    let component = &components[leaf.index()];
+    let program = &programs[leaf.index()];
+    let verified = verified(component, program, free.interfaces());
+    let quantum = scenario.leaf(leaf).quantum();
+    let mut text = Vec::new(alloc);
+    push_owns(&mut text, scenario.version(), &verified, quantum)?;
+    push_needs(&mut text, scenario, &verified, component)?;
+    push_steps(alloc, &mut text, free, components, found, leaf)?;
+    Ok(text)
+}
+
+/// The text of a leaf of a scenario.
+fn leaf_text(alloc: Global, scenario: &Scenario, leaf: LeafNo) -> Result<Vec<u8>, LoadError>
+    requires { leaf < length (model.components scenario.now) }
+    ensures text { IfOk result (λ text. text.items ≡ why_text scenario.now leaf) }
+    ensures faultless { IfOk result (λ text. unsized_fault (unsized scenario.now) ≡ None) }
+    ensures refused { IfErr result (λ e. PrintsFault e (unsized_fault (unsized scenario.now))) }
+{
+    let free = without_quantities(alloc, scenario)?;
+    let components = components(alloc, &free)?;
+    let found = judge_unsized(alloc, &free, components.as_slice())?;
+    Ok(text_of(alloc, scenario, &free, components.as_slice(), &found, leaf)?)
+}
+
+/// The text of the leaf of this name.
+fn named_text<'a>(
+    alloc: Global,
+    scenario: &Scenario,
+    name: &'a str,
+) -> Result<Vec<u8>, RunFault<'a>>
+    ensures text { IfOk result (λ text. why_from (Ok scenario.now) name.now ≡ Ok text.items) }
+    ensures refused { IfErr result (λ f. IsFaultOf f (why_from (Ok scenario.now) name.now)) }
+    ensures before { IfErr result (λ f. IsBefore f) }
+{
+    let Some(leaf) = numbered(scenario, name.as_bytes()) else {
+        return Err(RunFault::NoComponent(name));
+    };
+    Ok(leaf_text(alloc, scenario, leaf)?)
+}
+
+/// Writes what the numbers of a leaf are made of: what it uses of its own account, what a session of each level needs, and its steps, each with the point where
+/// it is greatest, what is held there, and who asks how often. Bytes, in version 2 capabilities, and steps. It tells it of every scenario that passes the rules
+/// that quantities do not decide; another is refused by the first of them, in the words of `check`. Nothing is written where it is refused, where no leaf has
+/// the name, or where host memory is refused. After a failed write a front of the text was written.
+pub fn why<'a, W: Write>(
+    alloc: Global,
+    scenario: &[u8],
+    name: &'a str,
+    out: &mut Counted<W>,
+) -> Result<(), RunFault<'a>>
+    ensures { WritesAs W.contents (why_written scenario.now name.now) out.old out.new result }
+{
+    let scenario = match read_scenario(alloc, scenario) {
+        Ok(scenario) => scenario,
+        Err(ScenarioError::Memory(_)) => return Err(RunFault::Memory),
+        Err(ScenarioError::Fault(fault)) => return Err(RunFault::Load(LoadFault::Scenario(fault))),
+    };
+    let text = named_text(alloc, &scenario, name);
+    drop(scenario);
+    let text = text?;
+    match put(out, text.as_slice()) {
+        Ok(()) => Ok(()),
+        Err(_) => Err(RunFault::Write),
+    }
+}
