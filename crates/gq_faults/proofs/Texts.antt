@@ -2,14 +2,16 @@
 use Rattle.std.proofs.Common.{◌≡◌, ℕ, List, [], ◌∷◌, ◌++◌, map, Option, Some, None, Result, Ok, Err, refl, ap, sym, ◌∙◌, subst}
 use Rattle.toml.specs.Data.{Members}
 use Rattle.gq_model.specs.machine.Scenario.{Scenario}
-use Rattle.gq_scenario.specs.Document.{described, document_fault}
+use Rattle.gq_model.specs.machine.Lists.{or_first}
+use Rattle.gq_scenario.specs.Document.{described, document_fault, walk_fault}
 use Rattle.gq_scenario.specs.Keys.{DocumentFault}
 use Rattle.gq_scenario.specs.Reading.{ReadFault, Bad_document, document_in, document_text, read_text, described_or, read_from, scenario_in}
-use Rattle.gq_scenario.specs.Words.{IsRead, scenario_fault_text}
+use Rattle.gq_scenario.specs.Words.{IsRead, SameFault, scenario_fault_text}
 use Rattle.gq_scenario.specs.declared.fault.ScenarioFault.{ScenarioFault}
 use Rattle.gq_scenario.specs.declared.fault.ScenarioError.TheVariants as errors
 use Rattle.std.specs.Prelude.{MatchResult}
 use Rattle.gq_load.specs.Load.{Fault, Unread, fault_text}
+use Rattle.gq_reader.proofs.Described.{fault_read}
 use Rattle.gq_faults.specs.Documents.{document_faults}
 use Rattle.gq_faults.specs.Faults.{scenario_faults, faults_in, faults_from, fault_lines}
 use Rattle.gq_faults.specs.Lists.{or_else, first}
@@ -41,13 +43,21 @@ module _ (text : List ℕ) (top : Members) (is : document_in text ≡ Ok top) wh
   none_here : (s : Scenario) → scenario_in text ≡ Ok s → document_faults top ≡ []
   none_here s e = first_none (document_faults top) (first_of_document top ∙ (by_fault top s (document_fault top) (sym read_is ∙ e)).0)
 
-  pub lines_of_scenario : (s : Scenario) → scenario_in text ≡ Ok s
-      → fault_lines text ≡ map document_text (document_faults top) ++ map fault_text (scenario_faults s)
-  lines_of_scenario s e =
+  pub lines_of_described : (s : Scenario) → scenario_in text ≡ Ok s → fault_lines text ≡ map fault_text (scenario_faults s)
+  lines_of_described s e =
       lines_are
       ∙ (ap (λ l. map fault_text (or_else (map bad l) (scenario_faults (described top)))) (none_here s e)
-      ∙ (ap (λ t. map fault_text (scenario_faults t)) (by_fault top s (document_fault top) (sym read_is ∙ e)).1
-      ∙ ap (λ l. map document_text l ++ map fault_text (scenario_faults s)) (sym (none_here s e))))
+      ∙ ap (λ t. map fault_text (scenario_faults t)) (by_fault top s (document_fault top) (sym read_is ∙ e)).1)
+
+  -- the fault of its tables is that of the text
+  by_walk : (f : ScenarioFault) (o rest : Option DocumentFault) → SameFault (Some f) o → SameFault (Some f) (or_first o rest)
+  by_walk f None rest h = absurd cc
+  by_walk f (Some d) rest h = h
+
+  pub refused_by_walk : (f : ScenarioFault) → SameFault (Some f) (walk_fault top) → IsRead (Err (errors.Fault f)) (scenario_in text)
+  refused_by_walk f h =
+      subst (λ (r : Result Scenario ReadFault). IsRead (Err (errors.Fault f)) r) (sym read_is)
+      (fault_read top f (document_fault top) (by_walk f (walk_fault top) _ h))
 
   some_there : (l : List DocumentFault) (d : DocumentFault) → first l ≡ Some d
       → map fault_text (or_else (map bad l) (scenario_faults (described top))) ≡ map document_text l
@@ -71,3 +81,14 @@ by_answer f (Err why) h = ap (λ l. l ∷ []) (sym h)
 pub lines_of_stop : (text : List ℕ) (f : ScenarioFault) → MatchResult (document_in text) (λ top. ⊥) (λ why. scenario_fault_text f ≡ read_text why)
     → fault_lines text ≡ scenario_fault_text f ∷ []
 lines_of_stop text f h = by_answer f (document_in text) h
+
+-- a text that is read as a scenario has the faults of that
+pub lines_of_scenario : (text : List ℕ) (s : Scenario) → scenario_in text ≡ Ok s → fault_lines text ≡ map fault_text (scenario_faults s)
+lines_of_scenario text s e = by (document_in text) refl e
+  where
+    by : (r : Result Members ReadFault) → document_in text ≡ r → scenario_in text ≡ Ok s → fault_lines text ≡ map fault_text (scenario_faults s)
+    by (Ok top) is e = lines_of_described text top is s e
+    by (Err why) is e = absurd (never (sym (ap (read_from document_fault) is) ∙ e))
+      where
+        never : ◌≡◌ {A = Result Scenario ReadFault} (Err why) (Ok s) → ⊥
+        never e = cc

@@ -1,12 +1,13 @@
 // All that is wrong with a scenario, with its place in the file.
-ghost use Rattle.std.specs.Prelude.{◌≡◌, ◌∷◌, [], Ok, IfNone, IfOk, IfSome, IsOk, map};
+ghost use Rattle.std.specs.Prelude.{◌≡◌, ◌∷◌, [], Ok, map};
 ghost use Rattle.toml.specs.View.{table_view};
-ghost use Rattle.gq_scenario.specs.Reading.{document_in};
+ghost use Rattle.gq_scenario.specs.Reading.{document_in, scenario_in};
 ghost use Rattle.gq_scenario.specs.Words.{scenario_fault_text};
-ghost use Rattle.gq_load.specs.Faults.{Prints};
-ghost use Rattle.gq_load.specs.Load.{fault_text, loaded};
-ghost use Rattle.gq_faults.specs.Faults.{fault_lines, refusal_of, scenario_faults};
-ghost use Rattle.gq_faults.specs.Told.{Tells};
+ghost use Rattle.gq_load.specs.Load.{fault_text};
+ghost use Rattle.gq_faults.specs.Answered.{TellsText};
+ghost use Rattle.gq_faults.specs.Documents.{document_faults};
+ghost use Rattle.gq_faults.specs.Faults.{scenario_faults};
+ghost use Rattle.gq_faults.specs.Told.{Tells, TellsOf};
 
 use crate::bytes::position_in;
 use crate::document::tell_document;
@@ -15,11 +16,12 @@ use crate::stages::scenario_faults;
 use crate::tell::{Teller, push_line, put_fault};
 use crate::words::Details;
 use gq_init::counted::Counted;
-use gq_load::checked::checked_lines;
+use gq_load::checked::scenario_lines;
 use gq_load::fault::{LoadError, LoadFault};
 use gq_model::limits::GREATEST_SCENARIO;
 use gq_reader::document::read_document;
 use gq_reader::reader::read_scenario;
+use gq_reader::walk::walk_fault;
 use gq_scenario::fault::{ScenarioError, ScenarioFault};
 use gq_scenario::scenario::Scenario;
 use gq_toml_places::{Places, Position, not_toml};
@@ -65,10 +67,10 @@ fn stop_of(alloc: Global, text: &[u8], details: &mut Details) -> Result<Position
 fn tell_stop<W: Write>(
     alloc: Global,
     file: File<'_>,
-    fault: ScenarioFault,
+    fault: &ScenarioFault,
     out: &mut Counted<W>,
 ) -> Result<(), TellError>
-    ensures { Tells W.contents file.entry.path.now (scenario_fault_text fault ∷ []) out.old out.new result }
+    ensures { Tells W.contents file.entry.path.now (scenario_fault_text fault.now ∷ []) out.old out.new result }
 {
     let mut details = Details::new(alloc);
     let position = stop_of(alloc, file.text, &mut details)?;
@@ -76,80 +78,121 @@ fn tell_stop<W: Write>(
     put_fault(alloc, file.path, position, line.as_str(), &details, out)
 }
 
-// Writes the faults of a scenario.
+// Writes the faults of a document, which is that of a text.
+fn tell_tables<W: Write>(
+    alloc: Global,
+    file: File<'_>,
+    top: &Table,
+    out: &mut Counted<W>,
+) -> Result<(), TellError>
+    ensures { TellsOf W.contents file.entry.path.now (document_faults (table_view top.now)) out.old out.new result }
+{
+    let text = str::from_utf8(file.text).unwrap_or("");
+    let teller = Teller::new(alloc, file.path, text)?;
+    tell_document(&teller, out, top)
+}
+
+// Writes the faults of a scenario, which is that of a text.
 fn tell_scenario<W: Write>(
-    teller: &Teller<'_>,
+    alloc: Global,
+    file: File<'_>,
     scenario: &Scenario,
     out: &mut Counted<W>,
 ) -> Result<(), TellError>
-    ensures { Tells W.contents teller.now.path.now (map fault_text (scenario_faults scenario.now)) out.old out.new result }
+    ensures { Tells W.contents file.entry.path.now (map fault_text (scenario_faults scenario.now)) out.old out.new result }
 {
-    let found = scenario_faults(teller.alloc(), scenario)?;
+    let found = scenario_faults(alloc, scenario)?;
+    let text = str::from_utf8(file.text).unwrap_or("");
+    let teller = Teller::new(alloc, file.path, text)?;
     teller.tell_each(out, found.as_slice())
 }
 
-// Writes the faults of a document, which is that of a text; where there is none, those of the scenario that it describes. The document goes before the text
-// is read once more, so that no more than one stands at once.
-fn tell_text<W: Write>(
-    teller: &Teller<'_>,
-    text: &[u8],
-    top: Table,
-    out: &mut Counted<W>,
-) -> Result<(), TellError>
-    requires { document_in text.now ≡ Ok (table_view top) }
-    ensures { Tells W.contents teller.now.path.now (fault_lines text.now) out.old out.new result }
-{
-    tell_document(teller, out, &top)?;
-    drop(top);
-    match read_scenario(teller.alloc(), text) {
-        Ok(scenario) => tell_scenario(teller, &scenario, out),
-        Err(ScenarioError::Memory(_)) => Err(TellError::Memory),
-        Err(ScenarioError::Fault(_)) => Ok(()),
-    }
-}
-
-/// Writes all that is wrong with a scenario and can be told at once, each fault as `PATH:LINE:COLUMN: FAULT` with its details below it: the faults of the first
-/// stage that has any. These are: that the text is no document; all faults of its tables, counts and names; the first of each program's text or code; the rule
-/// that each program breaks first; all of quanta, leaves that start after others, routes and cycles; all of budgets. Writes nothing where the scenario is
-/// accepted; the first fault is the one that `check` tells (`laws`). Ends early where host memory is refused or a write fails; then a front of the text was
-/// written.
-pub fn tell_faults<W: Write>(
+// Writes the faults of a scenario, which is that of a text, and answers why it is refused, if it is. It is judged as `check` does it; where it is accepted,
+// nothing more is done.
+fn faults_of_scenario<W: Write>(
     alloc: Global,
     file: File<'_>,
-    out: &mut Counted<W>,
-) -> Result<(), TellError>
-    ensures { Tells W.contents file.entry.path.now (fault_lines file.entry.text.now) out.old out.new result }
-{
-    match read_document(alloc, file.text) {
-        Ok(top) => {
-            let text = str::from_utf8(file.text).unwrap_or("");
-            let teller = Teller::new(alloc, file.path, text)?;
-            tell_text(&teller, file.text, top, out)
-        }
-        Err(ScenarioError::Memory(_)) => Err(TellError::Memory),
-        Err(ScenarioError::Fault(fault)) => tell_stop(alloc, file, fault, out),
-    }
-}
-
-/// Writes the same, and answers why the scenario is refused, if it is: the fault that `check` tells. Nothing is written where it is accepted.
-pub fn faults<W: Write>(
-    alloc: Global,
-    file: File<'_>,
+    scenario: &Scenario,
     out: &mut Counted<W>,
 ) -> Result<Option<LoadFault>, TellError>
-    ensures told { Tells W.contents file.entry.path.now (fault_lines file.entry.text.now) out.old out.new result }
-    ensures accepted { IfOk result (λ fault. IfNone fault (IsOk (loaded file.entry.text.now) × (out.new ≡ out.old))) }
-    ensures refused { IfOk result (λ fault. IfSome fault (λ f. Prints f (refusal_of (loaded file.entry.text.now)))) }
+    requires { scenario_in file.text.now ≡ Ok scenario.now }
+    ensures { TellsText W.contents file.entry.path.now file.entry.text.now out.old out.new result }
 {
-    match checked_lines(alloc, file.text) {
+    match scenario_lines(alloc, scenario) {
         Ok(lines) => {
             drop(lines);
             Ok(None)
         }
         Err(LoadError::Memory) => Err(TellError::Memory),
         Err(LoadError::Fault(fault)) => {
-            tell_faults(alloc, file, out)?;
+            tell_scenario(alloc, file, scenario, out)?;
             Ok(Some(fault))
+        }
+    }
+}
+
+// Writes the faults of a document, which is that of a text and whose tables have none, or of the scenario that it describes; and answers why it is refused, if
+// it is. The document goes before the scenario is judged.
+fn faults_of_described<W: Write>(
+    alloc: Global,
+    file: File<'_>,
+    top: Table,
+    out: &mut Counted<W>,
+) -> Result<Option<LoadFault>, TellError>
+    requires { document_in file.text.now ≡ Ok (table_view top) }
+    ensures { TellsText W.contents file.entry.path.now file.entry.text.now out.old out.new result }
+{
+    match read_scenario(alloc, file.text) {
+        Ok(scenario) => {
+            drop(top);
+            faults_of_scenario(alloc, file, &scenario, out)
+        }
+        Err(ScenarioError::Memory(_)) => Err(TellError::Memory),
+        Err(ScenarioError::Fault(fault)) => {
+            tell_tables(alloc, file, &top, out)?;
+            Ok(Some(LoadFault::Scenario(fault)))
+        }
+    }
+}
+
+// Writes the faults of a document, which is that of a text, or of the scenario that it describes; and answers why it is refused, if it is. Where its tables
+// have faults the text is not read again, since a document of tables alone takes much host memory.
+fn faults_of_document<W: Write>(
+    alloc: Global,
+    file: File<'_>,
+    top: Table,
+    out: &mut Counted<W>,
+) -> Result<Option<LoadFault>, TellError>
+    requires { document_in file.text.now ≡ Ok (table_view top) }
+    ensures { TellsText W.contents file.entry.path.now file.entry.text.now out.old out.new result }
+{
+    match walk_fault(&top) {
+        Some(fault) => {
+            tell_tables(alloc, file, &top, out)?;
+            Ok(Some(LoadFault::Scenario(fault)))
+        }
+        None => faults_of_described(alloc, file, top, out),
+    }
+}
+
+/// Writes all that is wrong with a scenario and can be told at once, each fault as `PATH:LINE:COLUMN: FAULT` with its details below it: the faults of the first
+/// stage that has any. These are: that the text is no document; all faults of its tables, counts and names; the first of each program's text or code; the rule
+/// that each program breaks first; all of quanta, leaves that start after others, routes and cycles; all of budgets. Answers why the scenario is refused, if it
+/// is: the fault that `check` tells, which is the first of these (`laws`). Nothing is written where it is accepted. Ends early where host memory is refused or
+/// a write fails; then a front of the text was written.
+pub fn faults<W: Write>(
+    alloc: Global,
+    file: File<'_>,
+    out: &mut Counted<W>,
+) -> Result<Option<LoadFault>, TellError>
+    ensures { TellsText W.contents file.entry.path.now file.entry.text.now out.old out.new result }
+{
+    match read_document(alloc, file.text) {
+        Ok(top) => faults_of_document(alloc, file, top, out),
+        Err(ScenarioError::Memory(_)) => Err(TellError::Memory),
+        Err(ScenarioError::Fault(fault)) => {
+            tell_stop(alloc, file, &fault, out)?;
+            Ok(Some(LoadFault::Scenario(fault)))
         }
     }
 }

@@ -1,9 +1,14 @@
+use Rattle.std.proofs.Common.{ap, map, ◌∙◌}
+use Rattle.gq_load.specs.Load.{fault_text}
+use Rattle.gq_faults.specs.Faults.{scenario_faults}
 use Rattle.gq_faults.specs.Told.{lines_found}
 use Rattle.gq_faults.proofs.Telling.{told_as}
-use Rattle.std.proofs.Common.{ap, ◌∙◌}
+use Rattle.gq_faults.proofs.Told_texts.{path_told}
 use Rattle.gq_faults.proofs.faults.tell_scenario.Goals as goal
 
 pub returns : goal.returns
 returns g c =
-    told_as c.args.teller.now.path.now (lines_found c.as_slice.result.now) _ _ _ _ _ _ (ap lines_found c.as_slice.ensures.value
-    ∙ c.in_ok-found.ensures) c.tell_each.ensures
+    let lines = map fault_text (scenario_faults c.args.scenario.now) in
+    path_told lines _ _ _ _ c.in_ok-teller.teller.path.now c.args.file.path.now _ c.in_ok-teller.ensures
+    (told_as c.in_ok-teller.teller.path.now (lines_found c.as_slice.result.now) lines _ _ _ _ _
+    (ap lines_found c.as_slice.ensures.value ∙ c.in_ok-found.ensures) c.tell_each.ensures)
