@@ -416,14 +416,14 @@ def designers(trade):
         row(name, *(in_words(*taken(trade, words, scenario_text, turns)) for words in (["run"], ["trace"], ["trace", "--all"], ["state"])))
     faulty = 'version = 1\nram = "64K"\n' + "".join(f"key{place} = 1\n" for place in range(10000)) + "start = []\n"
     broken = scenario(64, program(["push 1", "out"] * 500 + ["add"]))
-    table("Scenario", "`check`", "`tree`", "`races`", "`turns`", "`faults`")
+    table("Scenario", "`check`", "`tree`", "`size`", "`races`", "`turns`", "`faults`")
     for name, text in [
         ("64 leaves, 1 MiB", greatest()),
         ("64 leaves that go round", many),
         ("10,000 unknown keys", faulty),
         ("64 leaves that break a rule", broken),
     ]:
-        row(name, *(in_words(*taken(trade, [word], text)) for word in ("check", "tree", "races", "turns", "faults")))
+        row(name, *(in_words(*taken(trade, [word], text)) for word in ("check", "tree", "size", "races", "turns", "faults")))
 
 
 def main():

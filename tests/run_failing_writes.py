@@ -49,11 +49,11 @@ def commands():
     """The name and the words of each command that is no run: over each example, and without one."""
     for scenario in sorted(EXAMPLES.glob("*.toml")):
         leaf = first_leaf(tomllib.loads(scenario.read_text())["start"])
-        for words in (["check"], ["tree"], ["tree", "--dot"], ["turns"]):
+        for words in (["check"], ["tree"], ["tree", "--dot"], ["size"], ["turns"]):
             yield f"{' '.join(words)} of {scenario.name}", [*words, str(scenario)]
         for words in (["trace"], ["trace", "--all"], ["state"]):
             yield f"{' '.join(words)} of {scenario.name}", [*words, str(scenario), str(scenario.with_suffix(".turns"))]
-        for word in ("asm", "list"):
+        for word in ("asm", "list", "why"):
             yield f"{word} of {leaf} of {scenario.name}", [word, str(scenario), leaf]
     for words in (["rule"], ["rule", "V12"], ["--version"], ["--help"]):
         yield " ".join(words), words

@@ -1,11 +1,11 @@
 #!/usr/bin/env python3
-"""Hands texts of any bytes to `trade check`, `run`, `tree`, `turns`, `races`, `trace`, `state`, `faults` and `list`: run_hostile_texts.py PROGRAM
+"""Hands texts of any bytes to the commands of a program that read a scenario: run_hostile_texts.py PROGRAM
 
 Long, deep and broken texts have to be refused with the line that is told beside each; texts made of a scenario by random changes, always the same
-ones, have to be done or refused, by `check`, `tree` and `faults` with the same line. A refusal is one line on standard error, with nothing on standard output
-(but for `faults`, of which the first line there has the same fault) and exit status 1. The program may take no more memory than 64 MiB and 50 times the text;
-640 times, where the text is one of tables that have one key each, since the TOML reader takes room for fifteen keys for each table, and twice that
-for `faults`. The last line is 'N passed, M failed', and the exit status is 1 where one failed.
+ones, have to be done or refused, by `check`, `tree` and `faults` with the same line; of those that are done `size` tells no quantity that is less than its
+least one. A refusal is one line on standard error, with nothing on standard output (but for `faults`, of which the first line there has the same fault) and
+exit status 1. The program may take no more memory than 64 MiB and 50 times the text; 640 times, where the text is one of tables that have one key each, since
+the TOML reader takes room for fifteen keys for each table. The last line is 'N passed, M failed', and the exit status is 1 where one failed.
 """
 import pathlib
 import random
@@ -19,6 +19,8 @@ TOP = pathlib.Path(__file__).resolve().parent.parent
 SECONDS = 120
 CHANGES = 400
 OF_TURNS = {"run", "trace", "state"}
+OF_LEAVES = {"list", "why"}
+COMMANDS = [[word] for word in ("check", "run", "tree", "size", "turns", "races", "trace", "state", "faults", "list", "why")] + [["tree", "--dot"]]
 # The program may take so many times the text, beside 64 MiB.
 TIMES, TIMES_OF_TABLES = 50, 640
 
@@ -98,7 +100,7 @@ def result_of(program, words, room, text, times=TIMES):
     turns = room / "turns"
     turns.write_bytes(b"")
     most = 64 * 2**20 + times * len(text)
-    files = [str(path)] + ([str(turns)] if words[0] in OF_TURNS else []) + (["a"] if words == ["list"] else [])
+    files = [str(path)] + ([str(turns)] if words[0] in OF_TURNS else []) + (["a"] if words[0] in OF_LEAVES else [])
     ran = subprocess.run(
         [program, *words, *files],
         capture_output=True,
@@ -125,6 +127,14 @@ def is_tree(stdout, stderr, status):
     return status == 0 and not stderr and first.startswith(b"init quantum ") and all(re.match(rb" {2,}([\w-]+ quantum|opens [\w-]+ of init -> )", line) for line in others)
 
 
+def is_size(stdout, stderr, status):
+    """The least quantities of a scenario that is accepted: no `open` is short, and no quantity of a node or need is less than its least one."""
+    lines = stdout.splitlines()
+    pairs = [pair for line in lines if b" upgrade " not in line for pair in re.findall(rb" (?:need|quantum|caps) (\d+) least (\d+)", line)]
+    told = bool(pairs) and all(line.startswith(b"size ") for line in lines)
+    return status == 0 and not stderr and told and all(int(has) >= int(least) for has, least in pairs)
+
+
 def first_fault(told):
     """The fault that `faults` tells first."""
     return told.split(b"\n")[0].split(b": ", 1)[-1]
@@ -145,9 +155,8 @@ def main():
         room = pathlib.Path(folder)
         given = [(text, TIMES) for text in texts()] + [(text, TIMES_OF_TABLES) for text in tables()]
         for (name, text, line), times in given:
-            for words in (["check"], ["run"], ["tree"], ["tree", "--dot"], ["turns"], ["races"], ["trace"], ["state"], ["faults"], ["list"]):
-                # `faults` reads the text again for each of its stages, and what it let go of is not all used again.
-                got = result_of(program, words, room, text, 2 * times if words == ["faults"] else times)
+            for words in COMMANDS:
+                got = result_of(program, words, room, text, times)
                 told = first_fault(got[0]) if words == ["faults"] else b""
                 if (told, *got[1:]) == (line.encode() if words == ["faults"] else b"", f"trade: {line}\n".encode(), 1):
                     passed += 1
@@ -158,12 +167,13 @@ def main():
         samples = sorted((TOP / "tests" / "cases").glob("check-*/scenario.toml"))
         for _ in range(CHANGES):
             text = changed(source.choice(samples).read_bytes(), source)
-            got, tree, faults = (result_of(program, [word], room, text) for word in ("check", "tree", "faults"))
-            if (is_refusal(*got) and tree == got or is_done(*got) and is_tree(*tree)) and are_faults(faults, got):
+            got, tree, size, faults = (result_of(program, [word], room, text) for word in ("check", "tree", "size", "faults"))
+            refused = is_refusal(*got) and tree == got and (size == got or is_refusal(*size) or size[2] == 0)
+            if (refused or is_done(*got) and is_tree(*tree) and is_size(*size)) and are_faults(faults, got):
                 passed += 1
             else:
                 failed += 1
-                print(f"FAILED check, tree and faults of {text!r}: {got}, {tree}, {faults}")
+                print(f"FAILED check, tree, size and faults of {text!r}: {got}, {tree}, {size}, {faults}")
     print(f"{passed} passed, {failed} failed")
     sys.exit(1 if failed else 0)
 

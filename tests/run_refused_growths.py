@@ -32,6 +32,7 @@ EXAMPLES = TOP / "examples"
 CASES = TOP / "tests" / "cases"
 SOME_CASES = "code-run", "check-two-leaves", "check-client-and-server", "check-two-inits-deep", "asm-hello", "asm-code-in-capitals"
 OF_DESIGNERS = "list-every-statement", "list-a-program-given-as-code", "tree-inits", "graph-inits", "tree-version-2", "graph-a-leaf-after-another"
+OF_SIZES = "size-servers-of-servers", "size-of-an-open-that-gives-too-little", "why-every-statement", "why-a-server-of-two"
 OF_RUNS = "turns-inits", "turns-version-2", "races-stores-of-a-shared-server", "trace-an-upgrade-and-a-buffer", "trace-all-inits", "state-in-a-call", "state-version-2"
 OF_TURNS = {"run", "trace", "state"}
 RULES = TOP / "tests" / "tables" / "rule.toml"
@@ -75,7 +76,7 @@ def runs():
         if status == 0:
             yield " ".join(words), words, b"", text
     yield "--version", ["--version"], b"", b"trade 1.0.0\n"
-    for name in SOME_CASES + OF_DESIGNERS + OF_RUNS:
+    for name in SOME_CASES + OF_DESIGNERS + OF_SIZES + OF_RUNS:
         case = CASES / name
         command, *more = (case / "command").read_text().split()
         files = [str(case / "scenario.toml")] + ([str(case / "turns")] if command in OF_TURNS else [])

@@ -12,6 +12,8 @@ use Rattle.gq_world.specs.Headline.{WritesPromised}
 use Rattle.gq_views.specs.Written.{list_written, tree_written, graph_written}
 use Rattle.gq_traces.specs.Written.{state_written, trace_written, turns_written}
 use Rattle.gq_races.specs.Written.{races_written}
+use Rattle.gq_sizes.specs.Written.{size_written}
+use Rattle.gq_why.specs.Written.{why_written}
 use Rattle.gq_faults.specs.Faults.{fault_lines}
 use Rattle.gq_faults.specs.Told.{WritesFaults}
 use Rattle.gq_faults.specs.Turn_faults.{lines_of_both, told_of}
@@ -21,7 +23,7 @@ use Rattle.gq_command.specs.Stored.{parted}
 use Rattle.gq_command.specs.declared.command.Command.{Command}
 use Rattle.gq_command.specs.declared.command.Command.TheVariants.{OfScenario, OfLeaf, OfTurns, Faults, Rule, Version, Stored, Help}
 use Rattle.gq_command.specs.declared.command.ScenarioCommand.{ScenarioCommand}
-use Rattle.gq_command.specs.declared.command.ScenarioCommand.TheVariants.{Check, Tree, Graph, Turns, Races}
+use Rattle.gq_command.specs.declared.command.ScenarioCommand.TheVariants.{Check, Tree, Graph, Turns, Races, Size}
 use Rattle.gq_command.specs.declared.command.LeafCommand.{LeafCommand}
 use Rattle.gq_command.specs.declared.command.LeafCommand.TheVariants as of_a_leaf
 use Rattle.gq_command.specs.declared.command.TurnsCommand.{TurnsCommand}
@@ -77,11 +79,13 @@ scenario_written Tree scenario = tree_written scenario
 scenario_written Graph scenario = graph_written scenario
 scenario_written Turns scenario = turns_written scenario
 scenario_written Races scenario = races_written scenario
+scenario_written Size scenario = size_written scenario
 
 -- of a leaf of it
 abbrev pub leaf_written : LeafCommand → List ℕ → List ℕ → Written
 leaf_written of_a_leaf.Asm scenario leaf = asm_written scenario leaf
 leaf_written of_a_leaf.List scenario leaf = list_written scenario leaf
+leaf_written of_a_leaf.Why scenario leaf = why_written scenario leaf
 
 -- of it and turns
 abbrev pub both_written : TurnsCommand → List ℕ → List ℕ → Written

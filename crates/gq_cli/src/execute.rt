@@ -27,6 +27,7 @@ use gq_faults::turns::{Refused, faults_of_both};
 use gq_init::counted::{Counted, put};
 use gq_races::races::races;
 use gq_rule_texts::{Rule, rule_of, write_rules};
+use gq_sizes::size::size;
 use gq_traces::state::state;
 use gq_traces::telling::Telling;
 use gq_traces::trace::trace;
@@ -34,6 +35,7 @@ use gq_traces::turns::turns;
 use gq_views::graph::graph;
 use gq_views::list::list;
 use gq_views::tree::tree;
+use gq_why::why::why;
 use gq_world::asm::asm;
 use gq_world::check::check;
 use gq_world::fault::RunFault;
@@ -458,6 +460,7 @@ fn write_scenario<W: Write>(
         ScenarioCommand::Graph => graph(alloc, scenario, out),
         ScenarioCommand::Turns => turns(alloc, scenario, out),
         ScenarioCommand::Races => races(alloc, scenario, out),
+        ScenarioCommand::Size => size(alloc, scenario, out),
     }
 }
 
@@ -614,6 +617,7 @@ fn write_leaf<'a, W: Write>(
     match command {
         LeafCommand::Asm => asm(alloc, scenario, leaf, out),
         LeafCommand::List => list(alloc, scenario, leaf, out),
+        LeafCommand::Why => why(alloc, scenario, leaf, out),
     }
 }
 

@@ -10,7 +10,7 @@ use Rattle.clap.specs.declared.error.kind.ErrorKind.TheVariants.{DisplayHelp, Di
 use Rattle.gq_command.specs.declared.command.Command.{Command}
 use Rattle.gq_command.specs.declared.command.Command.TheVariants.{OfScenario, OfLeaf, OfTurns, Faults, Rule as RuleOf, Version, Stored, Help}
 use Rattle.gq_command.specs.declared.command.ScenarioCommand.{ScenarioCommand}
-use Rattle.gq_command.specs.declared.command.ScenarioCommand.TheVariants.{Check, Tree, Graph, Turns, Races}
+use Rattle.gq_command.specs.declared.command.ScenarioCommand.TheVariants.{Check, Tree, Graph, Turns, Races, Size}
 use Rattle.gq_command.specs.declared.command.LeafCommand.{LeafCommand}
 use Rattle.gq_command.specs.declared.command.LeafCommand.TheVariants as of_a_leaf
 use Rattle.gq_command.specs.declared.command.TurnsCommand.{TurnsCommand}
@@ -56,6 +56,8 @@ commands =
     ∷ of_leaf (codes "asm")
     ∷ of_leaf (codes "list")
     ∷ with_rule (of_scenario (codes "tree")) (option_rule (codes "dot"))
+    ∷ of_scenario (codes "size")
+    ∷ of_leaf (codes "why")
     ∷ of_scenario (codes "turns")
     ∷ of_scenario (codes "races")
     ∷ with_rule (of_turns (codes "trace")) (option_rule (codes "all"))
@@ -98,12 +100,14 @@ scenario_command name rows =
     else if bytes_eq name (codes "tree") then Some (if is_given (codes "dot") rows then Graph else Tree)
     else if bytes_eq name (codes "turns") then Some Turns
     else if bytes_eq name (codes "races") then Some Races
+    else if bytes_eq name (codes "size") then Some Size
     else None
 
 abbrev pub leaf_command : Text → Option LeafCommand
 leaf_command name =
     if bytes_eq name (codes "asm") then Some of_a_leaf.Asm
     else if bytes_eq name (codes "list") then Some of_a_leaf.List
+    else if bytes_eq name (codes "why") then Some of_a_leaf.Why
     else None
 
 abbrev pub turns_command : Text → List Row → Option TurnsCommand

@@ -20,6 +20,8 @@ pub enum ScenarioCommand {
     Turns,
     /// To write the statements by which the outcome could depend on the turns.
     Races,
+    /// To write what each quantity is at least.
+    Size,
 }
 
 /// What is asked of a leaf of a scenario.
@@ -29,6 +31,8 @@ pub enum LeafCommand {
     Asm,
     /// To write the text of its program.
     List,
+    /// To write what its numbers are made of.
+    Why,
 }
 
 /// What is asked of a scenario and turns.

@@ -96,6 +96,7 @@ fn scenario_command(name: &str, found: &ArgMatches<'_>) -> Option<ScenarioComman
         "tree" => Some(ScenarioCommand::Tree),
         "turns" => Some(ScenarioCommand::Turns),
         "races" => Some(ScenarioCommand::Races),
+        "size" => Some(ScenarioCommand::Size),
         _ => None,
     }
 }
@@ -107,6 +108,7 @@ fn leaf_command(name: &str) -> Option<LeafCommand>
     match name {
         "asm" => Some(LeafCommand::Asm),
         "list" => Some(LeafCommand::List),
+        "why" => Some(LeafCommand::Why),
         _ => None,
     }
 }

@@ -119,6 +119,22 @@ const STATE: Entry<'static> = Entry {
     usage: "trade state <SCENARIO> <TURNS>",
 };
 
+const SIZE: Entry<'static> = Entry {
+    name: "size",
+    takes: Takes::Scenario,
+    flag: None,
+    about: "Print the least quantities under which the scenario in the file SCENARIO is accepted",
+    usage: "trade size <SCENARIO>",
+};
+
+const WHY: Entry<'static> = Entry {
+    name: "why",
+    takes: Takes::Leaf,
+    flag: None,
+    about: "Print what the numbers of the leaf LEAF of the scenario in the file SCENARIO are made of",
+    usage: "trade why <SCENARIO> <LEAF>",
+};
+
 const FAULTS: Entry<'static> = Entry {
     name: "faults",
     takes: Takes::MaybeTurns,
@@ -136,8 +152,8 @@ const RULE: Entry<'static> = Entry {
 };
 
 // All commands.
-const ENTRIES: [Entry<'static>; 11] = [
-    CHECK, RUN, ASM, LIST, TREE, TURNS, RACES, TRACE, STATE, FAULTS, RULE,
+const ENTRIES: [Entry<'static>; 13] = [
+    CHECK, RUN, ASM, LIST, TREE, SIZE, WHY, TURNS, RACES, TRACE, STATE, FAULTS, RULE,
 ];
 
 const ABOUT: &str = "Runs components that trade memory and capabilities under quotas";
