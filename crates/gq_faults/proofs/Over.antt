@@ -1,7 +1,7 @@
 -- Leaves that use more than they are given, one after the other.
 use Rattle.std.proofs.Common.{◌≡◌, ◌<◌, ◌≤◌, ◌+◌, ℕ, suc, Bool, true, false, cond, Some, None, List, [], ◌∷◌, ◌++◌, length}
 use Rattle.std.proofs.Common.{map, get_or, drop, refl, ap, sym, ◌∙◌, append-nil}
-use Rattle.std.specs.Prelude.{nat_le, not, ◌-◌}
+use Rattle.std.specs.Prelude.{nat_le, not}
 use Rattle.std.proofs.lemmas.List.{drop_more, drop_all}
 use Rattle.gq_model.specs.machine.Amounts.{Resource, Ram, Caps, part}
 use Rattle.gq_model.specs.machine.Scenario.{Component, Scenario, System, components, system}

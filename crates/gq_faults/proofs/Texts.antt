@@ -1,5 +1,5 @@
 -- The faults of a text by how far it can be read.
-use Rattle.std.proofs.Common.{◌≡◌, ℕ, List, [], ◌∷◌, ◌++◌, map, Option, Some, None, Result, Ok, Err, refl, ap, sym, ◌∙◌, subst}
+use Rattle.std.proofs.Common.{◌≡◌, ℕ, List, [], ◌∷◌, map, Option, Some, None, Result, Ok, Err, refl, ap, sym, ◌∙◌, subst}
 use Rattle.toml.specs.Data.{Members}
 use Rattle.gq_model.specs.machine.Scenario.{Scenario}
 use Rattle.gq_model.specs.machine.Lists.{or_first}

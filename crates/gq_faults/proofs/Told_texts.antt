@@ -1,5 +1,5 @@
 -- What is told and answered of a text by how it is judged.
-use Rattle.std.proofs.Common.{◌≡◌, ◌∙◌, ℕ, List, [], map, Option, Some, None, Result, Ok, Err, refl, ap, sym, subst}
+use Rattle.std.proofs.Common.{◌≡◌, ◌∙◌, ℕ, List, map, Option, Some, None, Result, Ok, Err, refl, ap, sym, subst}
 use Rattle.std.specs.Prelude.{IsOk, MatchResult}
 use Rattle.toml.specs.Data.{Members}
 use Rattle.gq_init.specs.Counts.{failures_of, written_to}
@@ -15,7 +15,7 @@ use Rattle.gq_load.specs.Load.{Fault, fault_text, loaded, loaded_from, loaded_or
 use Rattle.gq_load.specs.declared.fault.LoadFault.{LoadFault}
 use Rattle.gq_load.specs.declared.fault.LoadFault.TheVariants as load
 use Rattle.gq_faults.specs.Answered.{TellsText}
-use Rattle.gq_faults.specs.Faults.{fault_lines, faults_of, refusal_of}
+use Rattle.gq_faults.specs.Faults.{fault_lines, refusal_of}
 use Rattle.gq_faults.specs.Told.{Tells, Telling}
 use Rattle.gq_faults.specs.declared.fault.TellError.{TellError}
 use Rattle.gq_faults.specs.declared.fault.TellError.TheVariants.{Memory}

@@ -1,10 +1,10 @@
 -- All faults of a text that are told at once: those of the first stage that has any.
-use Rattle.std.specs.Prelude.{ℕ, suc, nat_le, Bool, not, List, [], ◌∷◌, ◌++◌, length, map, Option, Some, None, Result, Ok, Err, codes}
+use Rattle.std.specs.Prelude.{ℕ, suc, nat_le, not, List, [], ◌∷◌, ◌++◌, length, map, Option, Some, None, Result, Ok, Err, codes}
 use Rattle.toml.specs.Data.{Members}
 use Rattle.gq_model.specs.machine.Amounts.{Resource, Ram, Caps, part}
-use Rattle.gq_model.specs.machine.Routes.{Routed, To, route}
+use Rattle.gq_model.specs.machine.Routes.{route}
 use Rattle.gq_model.specs.machine.Scenario.{Scenario, Nodes, End, Leaf_node, Init_node, Component, System, components, system}
-use Rattle.gq_model.specs.rules.Accept.{Refusal, Bad_program, Not_resolved, Over_own, Over_steps, Budget, bad_program, budgets}
+use Rattle.gq_model.specs.rules.Accept.{Refusal, Not_resolved, Over_own, Over_steps, Budget, bad_program, budgets}
 use Rattle.gq_model.specs.rules.Resolve.{Unresolved, Bad_after, Cycle, exceeds, is_bad_after, with_name, unrouted}
 use Rattle.gq_model.specs.rules.Use.{services, reaches, subject}
 use Rattle.gq_model.specs.rules.Verdict.{program_fault, greatest_cost}
