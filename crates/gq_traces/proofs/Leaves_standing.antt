@@ -84,6 +84,13 @@ all_stand (e ∷ all) [] ts h = absurd h
 all_stand (e ∷ all) (a ∷ stands) [] h = absurd h
 all_stand (e ∷ all) (a ∷ stands) (t ∷ ts) h = (record { ahead = t; is = h.0 }, all_stand all stands ts h.1)
 
+-- each leaf that stands somewhere stands at something
+pub stand_list : (all : List Entries) (stands : List places.Ahead) → AllStand all stands → (ts : List Ahead) × AreAheads all stands ts
+stand_list [] [] h = ([], tt)
+stand_list [] (a ∷ stands) h = absurd h
+stand_list (e ∷ all) [] h = absurd h
+stand_list (e ∷ all) (a ∷ stands) h = let rest = stand_list all stands h.1 in (h.0.ahead ∷ rest.0, (h.0.is, rest.1))
+
 -- AT THE START OF A SECTION
 
 pub at_start : (es : Entries) (body : Statements) (p : Part) (a : places.Ahead) → IsPart es body p → a.next ≡ p.first → a.loops.items ≡ []
@@ -151,28 +158,19 @@ pub from_some : {A : Type 0} (o : Option A) (P : A → Type 0) (a : A) → o ≡
 from_some None P a e h = absurd (none_some e)
 from_some (Some b) P a e h = subst P (some_same e) h
 
-module _ (cs : List Component) (all : List Entries) (stands : List places.Ahead) (x : ℕ) (programs : ArePrograms all (map program cs)) (less : x < length cs)
-    (k n : ℕ) (at_k : k ≡ x) (at_n : n ≡ x) (es : Entries) (a : places.Ahead) (is : es ≡ get_or all n es) (at : a ≡ get_or stands k a) where
-  within : x < length all
-  within = let long = programs_long all cs programs in omega (arith, less, long)
-
+module _ (all : List Entries) (stands : List places.Ahead) (x : ℕ) (within : x < length all) (k n : ℕ) (at_k : k ≡ x) (at_n : n ≡ x) (es : Entries)
+    (a : places.Ahead) (is : es ≡ get_or all n es) (at : a ≡ get_or stands k a) where
   is_there : es ≡ get_or all x es
   is_there = is ∙ ap (λ j. get_or all j es) at_n
 
   stands_there : a ≡ get_or stands x a
   stands_there = at ∙ ap (λ j. get_or stands j a) at_k
 
-  pub index_within : n < length all
-  index_within = let h = within in omega (arith, h, at_n)
-
-  pub stand_within : AllStand all stands → k < length stands
-  stand_within h = let long = stand_long all stands h in let w = within in omega (arith, w, long, at_k)
-
   pub stand_here : AllStand all stands → Stands es.entries.items a
   stand_here h = stand_at all stands x es a h within is_there stands_there
 
-  pub program_here : (c : Component) → slice_get cs x ≡ Some c → IsProgramOf es c.node.program
-  program_here c there = program_at all cs x es c programs within is_there there
+  pub program_here : (cs : List Component) (c : Component) → ArePrograms all (map program cs) → slice_get cs x ≡ Some c → IsProgramOf es c.node.program
+  program_here cs c programs there = program_at all cs x es c programs within is_there there
 
   pub ahead_here : (ts : List Ahead) (t : Ahead) → AreAheads all stands ts → slice_get ts x ≡ Some t → IsAhead es.entries.items a t
   ahead_here ts t h there =

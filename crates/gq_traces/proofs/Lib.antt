@@ -46,6 +46,7 @@ mod Staying
 mod Unchanged
 mod One_else
 mod Own_told
+mod Own_turns
 mod Still_noted
 mod Leaves_told
 mod Afters_told

@@ -12,6 +12,7 @@ use Rattle.gq_model.specs.machine.Doing.{Event}
 use Rattle.gq_model.specs.machine.Run.{line_of}
 use Rattle.gq_model.specs.machine.Scenario.{Scenario, components, system}
 use Rattle.gq_model.specs.machine.Step.{next}
+use Rattle.gq_model.specs.machine.World as model
 use Rattle.gq_laws.specs.Stands.{Stands}
 use Rattle.gq_scenario.specs.Sizes.{leaf_places}
 use Rattle.gq_scenario.proofs.Preorder.{components-count}
@@ -38,9 +39,22 @@ told_code : Coded (Option ToldSession)
 told_code = hlevel codes
 
 -- a world by its machine
-use_in : (m : Machine) (w : World) (x : ℕ) (u : Use) → m ≡ record { scenario = w.scenario; world = w.world } → IsUse m.scenario m.world x u
+pub use_in : (m : Machine) (w : World) (x : ℕ) (u : Use) → m ≡ record { scenario = w.scenario; world = w.world } → IsUse m.scenario m.world x u
     → IsUse w.scenario w.world x u
 use_in m w x u is h = subst (λ (n : Machine). IsUse n.scenario n.world x u) is h
+
+-- what was read of a leaf before a step, where the same is read of it after the step
+pub use_still : (s : Scenario) (w : model.World) (x : ℕ) (a b : Use) → IsUse s w x b → same_phase a.phase b.phase ≡ true → same_amount a.used b.used ≡ true
+    → IsUse s w x a
+use_still s w x a b h e f =
+    let q = and_parts _ _ f in
+    record {
+      leaf = h.leaf;
+      there = h.there;
+      phase = phase_is a.phase b.phase e ∙ h.phase;
+      ram = eqb-true a.used.ram b.used.ram q.0 ∙ h.ram;
+      caps = λ two. eqb-true a.used.caps b.used.caps q.1 ∙ h.caps two;
+    }
 
 -- the leaf by what was read of it before and after a step
 same_phase_of : (old new : World) (x : ℕ) (a b : Use) → IsUse old.scenario old.world x a → IsUse new.scenario new.world x b

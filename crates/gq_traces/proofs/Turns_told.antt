@@ -1,5 +1,5 @@
 -- Turns that are told.
-use Rattle.std.proofs.Common.{◌≡◌, ◌∙◌, ◌+◌, ℕ, zero, suc, Bool, List, [], ◌∷◌, ◌++◌, length, take, Option, Some, None, refl, ap, sym, subst, arith}
+use Rattle.std.proofs.Common.{◌≡◌, ◌∙◌, ◌+◌, ℕ, zero, suc, Bool, false, List, [], ◌∷◌, ◌++◌, length, take, Option, Some, None, refl, ap, sym, subst, arith}
 use Rattle.std.proofs.Common.{append_assoc, append-nil, drop}
 use Rattle.std.proofs.lemmas.List.{take_at}
 use Rattle.std.specs.Prelude.{Ok, slice_get, slice_set}
@@ -20,7 +20,7 @@ use Rattle.gq_traces.specs.declared.tracker.Ahead as places
 use Rattle.gq_traces.specs.declared.tracker.Due as stated
 use Rattle.gq_traces.specs.internal.Flat.{AllStand, AreAheads}
 use Rattle.gq_traces.specs.internal.Telling.{GoesOn, IsDue, IsOn, TellsDue, due_of, place_of, turns_in}
-use Rattle.gq_traces.proofs.Leaves_standing.{all_stand, stand_long}
+use Rattle.gq_traces.proofs.Leaves_standing.{all_stand, stand_list, stand_long}
 
 -- A TURN THAT IS NO STEP
 
@@ -65,16 +65,35 @@ module _ (all : Bool) (s : Scenario) (b : List ℕ) (x : ℕ) where
           subst (IsOn programs stands new (turns + 1)) (sym (ap (after_due (system s) x t) idle_is))
           (record { world = on.world ∙ ap (λ (v : World). v.world) (sym same); aheads = on.aheads; count = omega (arith, count) })
 
+    module _ (d : Due) (there : due_of s old.world x t.aheads ≡ Some d) (new : World) (event : Event)
+        (goes : next (system s) old.world x ≡ Ok (new.world, event)) where
+      taken_is : due (system s) x t ≡ Some d
+      taken_is = due_on s old x t on.world ∙ there
+
+      world_is : next (system s) t.world x ≡ Ok (new.world, event)
+      world_is = ap (λ (v : model.World). next (system s) v x) on.world ∙ goes
+
+      -- nothing is told of a step that changes nothing, where changes alone are told
+      pub silent_text : all ≡ false → changes s b (label_of (slice_get (components s) x)) old.world new.world event ≡ [] → [] ≡ turn_text all s b x t
+      silent_text short none =
+          let label = label_is s old.world x t.aheads d there in
+          let at = sym on.world in
+          let head = head_line (suc t.turns) d.component.label d.place in
+          sym (ap (due_text all s b x t) taken_is ∙ ap (step_text all s b t d) world_is
+          ∙ sym (λ i. told_step all head (changes s b (label i) (at i) new.world event)) ∙ ap (told_step all head) none
+          ∙ ap (λ v. told_step v head []) short)
+
+      pub taken_on : (after : List places.Ahead) → AreAheads programs after (slice_set t.aheads x d.ahead)
+          → IsOn programs after new (turns + 1) (after_turn (system s) x t)
+      taken_on after aheads =
+          let count = on.count in
+          subst (IsOn programs after new (turns + 1)) (sym (ap (after_due (system s) x t) taken_is ∙ ap (after_step x t d) world_is))
+          (record { world = refl; aheads = aheads; count = omega (arith, count) })
+
     module _ (c : stated.Due) (some : IsDue (Some c) (due_of s old.world x t.aheads)) (new : World) (event : Event)
         (goes : next (system s) old.world x ≡ Ok (new.world, event)) where
       d : (d : Due) × (due_of s old.world x t.aheads ≡ Some d) × (place_of c ≡ d.place)
       d = some_due c (due_of s old.world x t.aheads) some
-
-      step_is : due (system s) x t ≡ Some d.0
-      step_is = due_on s old x t on.world ∙ d.1
-
-      next_is : next (system s) t.world x ≡ Ok (new.world, event)
-      next_is = ap (λ (v : model.World). next (system s) v x) on.world ∙ goes
 
       pub step_text_is : told_step all (head_line (turns + 1) (label_of (slice_get (components s) x)) (place_of c))
           (changes s b (label_of (slice_get (components s) x)) old.world new.world event) ≡ turn_text all s b x t
@@ -85,14 +104,11 @@ module _ (all : Bool) (s : Scenario) (b : List ℕ) (x : ℕ) where
           let number : turns + 1 ≡ suc t.turns = omega (arith, count) in
           let at = sym on.world in
           (λ i. told_step all (head_line (number i) (label i) (place i)) (changes s b (label i) (at i) new.world event))
-          ∙ sym (ap (due_text all s b x t) step_is ∙ ap (step_text all s b t d.0) next_is)
+          ∙ sym (ap (due_text all s b x t) (taken_is d.0 d.1 new event goes) ∙ ap (step_text all s b t d.0) (world_is d.0 d.1 new event goes))
 
       pub step_on : (after : List places.Ahead) → ((e : Due) → due_of s old.world x t.aheads ≡ Some e → AreAheads programs after (slice_set t.aheads x e.ahead))
           → IsOn programs after new (turns + 1) (after_turn (system s) x t)
-      step_on after aheads =
-          let count = on.count in
-          subst (IsOn programs after new (turns + 1)) (sym (ap (after_due (system s) x t) step_is ∙ ap (after_step x t d.0) next_is))
-          (record { world = refl; aheads = aheads d.0 d.1; count = omega (arith, count) })
+      step_on after aheads = taken_on d.0 d.1 new event goes after (aheads d.0 d.1)
 
 -- MANY TURNS
 
@@ -136,12 +152,6 @@ pub told_stands : (P Q : List Entries) (A B C : List places.Ahead) (m : Machine)
 told_stands P Q A B C m w x p a is h =
     subst (λ (n : Machine). GoesOn Q B C n.scenario n.world x) is (subst (λ D. GoesOn Q D C m.scenario m.world x) a
     (subst (λ R. GoesOn R A C m.scenario m.world x) p h))
-
-stand_list : (all : List Entries) (stands : List places.Ahead) → AllStand all stands → (ts : List Ahead) × AreAheads all stands ts
-stand_list [] [] h = ([], tt)
-stand_list [] (a ∷ stands) h = absurd h
-stand_list (e ∷ all) [] h = absurd h
-stand_list (e ∷ all) (a ∷ stands) h = let rest = stand_list all stands h.1 in (h.0.ahead ∷ rest.0, (h.0.is, rest.1))
 
 pub stand_then : (P : List Entries) (A B : List places.Ahead) (w : World) (x : ℕ) (c : stated.Due) → AllStand P A
     → TellsDue P A w.scenario w.world x (Some c) → GoesOn P A B w.scenario w.world x → AllStand P B

@@ -112,15 +112,7 @@ fn quota_of(account: &Account) -> Amount
 pub(crate) fn same_phase(a: Phase, b: Phase) -> bool
     ensures { result ≡ same_phase a b }
 {
-    match (a, b) {
-        (Phase::Pending, Phase::Pending)
-        | (Phase::Running, Phase::Running)
-        | (Phase::Blocked, Phase::Blocked)
-        | (Phase::Serving, Phase::Serving)
-        | (Phase::Handling, Phase::Handling)
-        | (Phase::Exited, Phase::Exited) => true,
-        _ => false,
-    }
+    a == b
 }
 
 /// Whether two accounts are one but for the steps of their leaf.

@@ -1,15 +1,20 @@
 // What is told of a step.
-ghost use Rattle.std.specs.Prelude.{◌≡◌, ℕ, ◌<◌, ◌≤◌, if◌then◌else◌, [], None, get_or, length};
+ghost use Rattle.std.specs.Prelude.{◌≡◌, ℕ, ◌<◌, ◌≤◌, if◌then◌else◌, List, [], None, get_or, length, slice_get, true};
 ghost use Rattle.gq_model.specs.machine.Scenario.{components};
+ghost use Rattle.gq_model.specs.machine.Run.{line_of};
 ghost use Rattle.gq_model.specs.machine.World as model;
+ghost use Rattle.gq_machine.specs.Events.{event_of};
+ghost use Rattle.gq_views.specs.Tree.{label_of};
+ghost use Rattle.gq_world.specs.Worlds as worlds;
+ghost use Rattle.gq_traces.specs.Trace.{same_amount, same_phase};
 ghost use Rattle.gq_resolve.specs.NodeTables.{node_rows};
 ghost use Rattle.gq_world.specs.Lines.{all_accounts};
-ghost use Rattle.gq_traces.specs.internal.Noted.{AreKnown, AreNoted, SessionsNoted};
+ghost use Rattle.gq_traces.specs.internal.Noted.{AreKnown, AreNoted, SessionsNoted, WasNoted};
 ghost use Rattle.gq_traces.specs.Written.{tells_all};
-ghost use Rattle.gq_traces.specs.internal.Telling.{Goes, TakesStep, Tells, TellsAccounts, TellsNode, TellsOwn, TellsSession, TellsSessions, TellsStep};
-ghost use Rattle.gq_traces.specs.internal.Telling.{head_front, head_text, statement_text};
+ghost use Rattle.gq_traces.specs.internal.Telling.{Goes, IsTaken, Tells, TellsAccounts, TellsChanges, TellsNode, TellsOwn, TellsSession, TellsSessions};
+ghost use Rattle.gq_traces.specs.internal.Telling.{TellsStep, head_front, head_text, statement_text};
 
-use crate::noted::{Notes, counted, same_account, same_phase, use_of};
+use crate::noted::{Notes, Use, counted, same_account, same_phase, use_of};
 use crate::sessions::{label_of, same_amount, same_told, session_line, told_session};
 use crate::telling::{Progress, Telling, write_on};
 use crate::tracker::{Due, Statement};
@@ -31,6 +36,14 @@ pub(crate) struct Head<'a> {
     pub turn: u32,
     pub leaf: LeafNo,
     pub due: Due<'a>,
+}
+
+/// What was read of a step that was taken: what its leaf held and did before it and after it, and what it showed.
+#[derive(Clone, Copy)]
+pub(crate) struct Taken {
+    pub before: Use,
+    pub after: Use,
+    pub event: Event,
 }
 
 // The first line of a step, up to its statement.
@@ -71,6 +84,7 @@ pub(crate) fn write_statement<W: Write>(
 }
 
 // Writes the first line of a step.
+#[inline(never)]
 fn write_head<W: Write>(
     table: &NodeTable,
     head: &Head<'_>,
@@ -135,20 +149,22 @@ fn tell<W: Write>(
     }
 }
 
-// Takes the step, and tells the line that it gives.
+// Tells the line that a step gave.
+#[inline(never)]
 fn tell_line<W: Write>(
-    world: &mut World,
+    table: &NodeTable,
     head: &Head<'_>,
     progress: Progress,
+    event: Event,
+    text: &ArrayVec<u8, 64>,
     out: &mut Counted<W>,
 ) -> Progress
-    requires leaf { head.now.leaf < length (components world.old.scenario) }
-    ensures { TakesStep W.contents world.old world.new out.old out.new progress result head.now }
+    requires leaf { head.now.leaf < length (components table.now) }
+    ensures { Tells W.contents out.old out.new progress result (head_text table.now head.now)
+        (line_of (label_of (slice_get (components table.now) head.now.leaf)) (event_of event text.now.items)) }
 {
-    let mut text = ArrayVec::new();
-    match world.step(head.leaf, &mut text) {
+    match event {
         Event::Line => {
-            let table = world.table();
             let line = text_line(label_of(table, head.leaf), text.as_slice());
             tell(table, head, progress, line.as_slice(), out)
         }
@@ -272,8 +288,39 @@ fn tell_own<W: Write>(
     tell_account(world, head, progress, node, notes, out)
 }
 
-/// Takes the step of this head, and tells what it changes of what was noted; then that is noted anew. A step that leaves its leaf in its phase changes no
-/// session, and of the accounts that of the leaf alone, where it holds more or less than before.
+/// Tells what a step that was taken changes of what was noted; then that is noted anew. A step that leaves its leaf in its phase changes no session, and of the
+/// accounts that of the leaf alone, where it holds more or less than before.
+#[inline(never)]
+pub(crate) fn tell_taken<W: Write>(
+    world: &World,
+    notes: &mut Notes,
+    head: &Head<'_>,
+    taken: Taken,
+    text: &ArrayVec<u8, 64>,
+    progress: Progress,
+    out: &mut Counted<W>,
+) -> Progress
+    requires leaf { head.now.leaf < length (components world.now.scenario) }
+    requires leaves { length world.now.world.leaves ≡ length (components world.now.scenario) }
+    requires noted { WasNoted world.now notes.old }
+    ensures { (old : worlds.World) → IsTaken old world.now head.now.leaf taken text.now.items → AreNoted old.scenario old.world notes.old
+        → TellsChanges W.contents old world.now notes.new out.old out.new progress result head.now (event_of taken.event text.now.items) }
+{
+    let before = taken.before;
+    let after = taken.after;
+    let progress = tell_line(world.table(), head, progress, taken.event, text, out);
+    if same_phase(before.phase, after.phase) {
+        if same_amount(before.used, after.used) {
+            return progress;
+        }
+        return tell_own(world, head, progress, notes, out);
+    }
+    let progress = tell_accounts(world, head, progress, notes, out);
+    tell_sessions(world, head, progress, notes, out)
+}
+
+/// Takes the step of this head, and tells what it changes of what was noted; then that is noted anew.
+#[inline(never)]
 pub(crate) fn tell_step<W: Write>(
     world: &mut World,
     notes: &mut Notes,
@@ -289,17 +336,29 @@ pub(crate) fn tell_step<W: Write>(
     counted(world);
     let before = use_of(world.machine(), head.leaf);
     let progress = begin(world.table(), telling, head, going, out);
-    let progress = tell_line(world, head, progress, out);
+    let mut text = ArrayVec::new();
+    let event = world.step(head.leaf, &mut text);
     counted(world);
     let after = use_of(world.machine(), head.leaf);
-    if same_phase(before.phase, after.phase) {
-        if same_amount(before.used, after.used) {
-            return progress.going;
+    let taken = Taken {
+        before,
+        after,
+        event,
+    };
+    tell_taken(world, notes, head, taken, &text, progress, out).going
+}
+
+/// Whether a step shows no line, and leaves its leaf in its phase with what it holds: then nothing is told of it but its first line.
+#[inline(always)]
+pub(crate) fn is_silent(event: Event, before: &Use, after: &Use) -> bool
+    ensures line { (label text : List ℕ) → result ≡ true → line_of label (event_of event text) ≡ [] }
+    ensures phase { result ≡ true → same_phase before.now.phase after.now.phase ≡ true }
+    ensures used { result ≡ true → same_amount before.now.used after.now.used ≡ true }
+{
+    match event {
+        Event::Line => false,
+        Event::Idle | Event::Quiet | Event::Finished => {
+            same_phase(before.phase, after.phase) && same_amount(before.used, after.used)
         }
-        let progress = tell_own(world, head, progress, notes, out);
-        return progress.going;
     }
-    let progress = tell_accounts(world, head, progress, notes, out);
-    let progress = tell_sessions(world, head, progress, notes, out);
-    progress.going
 }

@@ -3,22 +3,26 @@ ghost use Rattle.std.specs.Prelude.{◌≡◌, ◌+◌, ◌<◌, ◌≤◌, ◌+
 ghost use Rattle.gq_model.specs.machine.Scenario.{components, system};
 ghost use Rattle.gq_model.specs.machine.World.{start};
 ghost use Rattle.gq_world.specs.Outcomes.{WritesAs};
+ghost use Rattle.gq_world.specs.Worlds as worlds;
 ghost use Rattle.gq_world.specs.Worlds.{AreBelow};
 ghost use Rattle.gq_traces.specs.Trace.{after_all, after_turn, after_turns, all_text, start_traced, trace_text, turn_text, turns_text};
 ghost use Rattle.gq_traces.specs.Written.{tells_all, trace_from, trace_written};
-ghost use Rattle.gq_traces.specs.internal.Telling.{CanTrace, Goes, IsOn, IsTurnsFault, TellsTurns, budgets_of, turns_in};
+ghost use Rattle.gq_traces.specs.internal.Noted.{IsUse};
+ghost use Rattle.gq_traces.specs.internal.Telling.{CanTrace, Goes, IsOn, IsOwnTaken, IsTurnsFault, TellsTurns, budgets_of, takes_own, turns_in};
 ghost use Rattle.gq_model.specs.texts.Turns.{turned};
 
-use crate::noted::{Notes, counted};
+use crate::noted::{Notes, Use, counted, use_of};
 use crate::numbered::{Numbered, all_numbered};
-use crate::steps::{Head, tell_step};
-use crate::telling::{Telling, write_on};
-use crate::tracker::{Ahead, first_aheads, go_on, next_due};
+use crate::steps::{Head, Taken, is_silent, tell_step, tell_taken};
+use crate::telling::{Progress, Telling, write_on};
+use crate::tracker::{Ahead, due_in, first_aheads, go_on, next_due, pass_by, section_of};
 use crate::words::{extend, extend_entry};
 use arrayvec::ArrayVec;
 use gq_init::TurnItem;
 use gq_init::counted::Counted;
 use gq_init::turns::{TurnsError, read_items};
+use gq_model::phase::Phase;
+use gq_model::program::Section;
 use gq_scenario::scenario::LeafNo;
 use gq_world::RunFault;
 use gq_world::account_lines::write_accounts;
@@ -32,6 +36,16 @@ struct Tracing {
     programs: Vec<Numbered>,
     aheads: Vec<Ahead>,
     notes: Notes,
+}
+
+// A step of its own that a leaf took in the turn after so many, in this section and with this top operand, and what was read of it.
+#[derive(Clone, Copy)]
+struct Own {
+    turns: u32,
+    leaf: LeafNo,
+    section: Section,
+    top: Option<u32>,
+    taken: Taken,
 }
 
 impl Tracing {
@@ -53,7 +67,8 @@ impl Tracing {
 }
 
 // One turn of a leaf, before which there were so many, told if it is a step. It takes no host memory.
-fn tell_turn<W: Write>(
+#[inline(never)]
+fn tell_any<W: Write>(
     world: &mut World,
     tracing: &mut Tracing,
     telling: Telling,
@@ -88,6 +103,138 @@ fn tell_turn<W: Write>(
     tell_step(world, &mut tracing.notes, &head, telling, going, out)
 }
 
+// Tells a step of its own that a leaf took, where changes alone are told. It takes no host memory.
+#[inline(never)]
+fn tell_own<W: Write>(
+    world: &World,
+    tracing: &mut Tracing,
+    own: &Own,
+    text: &ArrayVec<u8, 64>,
+    going: bool,
+    out: &mut Counted<W>,
+) -> bool
+    requires leaf { own.now.leaf < length (components world.now.scenario) }
+    requires few { own.now.turns < 1000000 }
+    requires taken { (old : worlds.World) × IsOwnTaken old world.now tracing.old own.now text.now.items }
+    ensures { (old : worlds.World) → IsOwnTaken old world.now tracing.old own.now text.now.items
+        → TellsTurns W.contents (turn_text false old.scenario (budgets_of old.scenario) own.now.leaf) (after_turn (system old.scenario) own.now.leaf)
+        own.now.turns 1 old world.now tracing.old tracing.new out.old out.new going result }
+{
+    let programs = tracing.programs.as_slice();
+    let due = due_in(programs, tracing.aheads.as_slice(), own.leaf, own.section);
+    pass_by(programs, tracing.aheads.as_mut_slice(), own.leaf, own.top);
+    let turn = own.turns + 1;
+    let head = Head {
+        turn,
+        leaf: own.leaf,
+        due,
+    };
+    let progress = Progress {
+        going,
+        begun: false,
+    };
+    tell_taken(
+        world,
+        &mut tracing.notes,
+        &head,
+        own.taken,
+        text,
+        progress,
+        out,
+    )
+    .going
+}
+
+// Whether changes alone are told, and a leaf in this phase takes steps of its own.
+fn is_short(telling: Telling, phase: Phase) -> bool
+    ensures tells { result ≡ true → tells_all telling ≡ false }
+    ensures own { result ≡ true → takes_own phase ≡ true }
+{
+    match (telling, phase) {
+        (Telling::Changes, Phase::Running | Phase::Handling) => true,
+        _ => false,
+    }
+}
+
+// One turn of a leaf that takes a step of its own, before which there were so many, told if the step changes something. What the
+// leaf holds and does is known before it and after it. It takes no host memory.
+#[inline(always)]
+fn own_turn<W: Write>(
+    world: &mut World,
+    tracing: &mut Tracing,
+    turns: u32,
+    leaf: LeafNo,
+    before: &mut Use,
+    going: bool,
+    out: &mut Counted<W>,
+) -> bool
+    requires leaf { leaf < length (components world.old.scenario) }
+    requires few { turns < 1000000 }
+    requires can { CanTrace world.old tracing.old }
+    requires before { IsUse world.old.scenario world.old.world leaf before.old }
+    requires own { takes_own before.old.phase ≡ true }
+    ensures told { TellsTurns W.contents (turn_text false world.old.scenario (budgets_of world.old.scenario) leaf)
+        (after_turn (system world.old.scenario) leaf) turns 1 world.old world.new tracing.old tracing.new out.old out.new going result }
+    ensures after { IsUse world.new.scenario world.new.world leaf before.new }
+{
+    counted(world);
+    let top = world.machine().top(leaf);
+    let section = section_of(world.machine().current(leaf));
+    let mut text = ArrayVec::new();
+    let event = world.step(leaf, &mut text);
+    counted(world);
+    let after = use_of(world.machine(), leaf);
+    if is_silent(event, before, &after) {
+        let programs = tracing.programs.as_slice();
+        pass_by(programs, tracing.aheads.as_mut_slice(), leaf, top);
+        return going;
+    }
+    let taken = Taken {
+        before: *before,
+        after,
+        event,
+    };
+    let own = Own {
+        turns,
+        leaf,
+        section,
+        top,
+        taken,
+    };
+    *before = after;
+    tell_own(world, tracing, &own, &text, going, out)
+}
+
+// One turn of a leaf, before which there were so many, told if it is a step. What the leaf holds and does is known before it and after it.
+// It takes no host memory.
+#[inline(always)]
+fn tell_turn<W: Write>(
+    world: &mut World,
+    tracing: &mut Tracing,
+    telling: Telling,
+    turns: u32,
+    leaf: LeafNo,
+    before: &mut Use,
+    going: bool,
+    out: &mut Counted<W>,
+) -> bool
+    requires leaf { leaf < length (components world.old.scenario) }
+    requires few { turns < 1000000 }
+    requires can { CanTrace world.old tracing.old }
+    requires before { IsUse world.old.scenario world.old.world leaf before.old }
+    ensures told { TellsTurns W.contents (turn_text (tells_all telling) world.old.scenario (budgets_of world.old.scenario) leaf)
+        (after_turn (system world.old.scenario) leaf) turns 1 world.old world.new tracing.old tracing.new out.old out.new going result }
+    ensures after { IsUse world.new.scenario world.new.world leaf before.new }
+{
+    if is_short(telling, before.phase) {
+        return own_turn(world, tracing, turns, leaf, before, going, out);
+    }
+    let going = tell_any(world, tracing, telling, turns, leaf, going, out);
+    counted(world);
+    *before = use_of(world.machine(), leaf);
+    going
+}
+
 // So many turns of a leaf, before which there were so many of all. They take no host memory.
 fn tell_turns<W: Write>(
     world: &mut World,
@@ -105,7 +252,9 @@ fn tell_turns<W: Write>(
         (after_turns (system world.old.scenario) item.now.0 item.now.1) turns item.now.1 world.old world.new tracing.old tracing.new out.old out.new going
         result }
 {
+    counted(world);
     let mut going = going;
+    let mut before = use_of(world.machine(), item.leaf());
     for number in 0..item.count() {
         going = tell_turn(
             world,
@@ -113,6 +262,7 @@ fn tell_turns<W: Write>(
             telling,
             turns + number,
             item.leaf(),
+            &mut before,
             going,
             out,
         );

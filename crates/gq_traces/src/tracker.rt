@@ -5,7 +5,8 @@ ghost use Rattle.gq_statements.specs.Statements.{current_seen};
 ghost use Rattle.gq_traces.specs.declared.numbered.Entry.{Entry};
 ghost use Rattle.gq_traces.specs.Places.{chosen, place, section_at, start_aheads};
 ghost use Rattle.gq_traces.specs.internal.Flat.{AllStand, AreAheads, ArePrograms, Passes, Stands, another_round, programs_of};
-ghost use Rattle.gq_traces.specs.internal.Telling.{GoesOn, IsTop, PassesOwn, PassesRequest, PlaceIs, StepTold, TellsDue, entry_place, place_of};
+ghost use Rattle.gq_traces.specs.internal.Telling.{GoesOn, IsTop, PassesBy, PassesOwn, PassesRequest, PlaceIs, PlaceTold, StepTold, TellsDue};
+ghost use Rattle.gq_traces.specs.internal.Telling.{entry_place, place_of};
 ghost use Rattle.gq_traces.specs.internal.Telling.{statement_text, way_text};
 
 use crate::numbered::{Next, Numbered, Part, Way};
@@ -73,6 +74,7 @@ impl Ahead {
     }
 
     // Into a loop.
+    #[inline(never)]
     fn enter(&mut self, place: usize, body: Next)
         requires { length self.old.loops.items < GREATEST_DEPTH }
         ensures next { self.new.next ≡ body }
@@ -83,6 +85,7 @@ impl Ahead {
     }
 
     // Past a statement. An `if` goes by the top operand.
+    #[inline(always)]
     fn pass(&mut self, numbered: &Numbered, top: Option<u32>, place: usize)
         requires stands { Stands numbered.now.entries.items self.old }
         requires next { self.old.next ≡ Some place }
@@ -96,6 +99,7 @@ impl Ahead {
     }
 
     // Into the next round of the innermost loop.
+    #[inline(always)]
     fn go_round(&mut self, body: Next)
         requires some { 0 < length self.old.loops.items }
         requires low { (get_or self.old.loops.items 0 (record { place = 0; round = 0 })).round < 65535 }
@@ -107,6 +111,7 @@ impl Ahead {
     }
 
     // Out of the innermost loop.
+    #[inline(never)]
     fn leave(&mut self, next: Next)
         requires some { 0 < length self.old.loops.items }
         ensures next { self.new.next ≡ next }
@@ -128,6 +133,7 @@ impl Ahead {
     }
 
     // Past the end of a list of statements.
+    #[inline(always)]
     fn pass_end(&mut self, numbered: &Numbered)
         requires stands { Stands numbered.now.entries.items self.old }
         requires next { self.old.next ≡ None }
@@ -140,6 +146,7 @@ impl Ahead {
     }
 
     // Past the end of the body of a loop: to its next round, or to what follows it.
+    #[inline(always)]
     fn pass_body(&mut self, numbered: &Numbered, innermost: Round)
         requires stands { Stands numbered.now.entries.items self.old }
         requires next { self.old.next ≡ None }
@@ -160,6 +167,7 @@ impl Ahead {
     }
 
     // Past the next step of a leaf that takes steps of its own and has this top operand.
+    #[inline(always)]
     fn pass_step(&mut self, numbered: &Numbered, top: Option<u32>)
         requires stands { Stands numbered.now.entries.items self.old }
         ensures { (operands : List ℕ) → IsTop top operands → Passes numbered.now.entries.items self.old self.new operands }
@@ -240,8 +248,8 @@ fn statement_of(way: &Way) -> Statement<'_>
     }
 }
 
-// The section that a leaf is in.
-fn section_of(current: Option<Current>) -> Section
+/// The section that a leaf is in.
+pub(crate) fn section_of(current: Option<Current>) -> Section
     ensures { result ≡ section_at (current_seen current) }
 {
     match current {
@@ -262,6 +270,20 @@ pub(crate) fn first_aheads(alloc: Global, programs: &[Numbered]) -> Result<Vec<A
     Ok(aheads)
 }
 
+/// The place of the next step of a leaf that takes steps of its own, in this section.
+pub(crate) fn due_in<'a>(
+    programs: &'a [Numbered],
+    aheads: &[Ahead],
+    leaf: LeafNo,
+    section: Section,
+) -> Due<'a>
+    requires leaf { leaf < length programs.now }
+    requires aheads { AllStand programs.now aheads.now }
+    ensures { PlaceTold programs.now aheads.now leaf section result }
+{
+    aheads[leaf.index()].place(&programs[leaf.index()], section)
+}
+
 // The place of the next step of a leaf that takes steps of its own.
 fn step_due<'a>(
     programs: &'a [Numbered],
@@ -274,8 +296,7 @@ fn step_due<'a>(
     requires aheads { AllStand programs.now aheads.now }
     ensures { StepTold programs.now aheads.now machine.now.scenario machine.now.world leaf result }
 {
-    let section = section_of(machine.current(leaf));
-    aheads[leaf.index()].place(&programs[leaf.index()], section)
+    due_in(programs, aheads, leaf, section_of(machine.current(leaf)))
 }
 
 // The place of the step that takes a request.
@@ -313,6 +334,16 @@ pub(crate) fn next_due<'a>(
     }
 }
 
+/// Goes on past the next step of a leaf that takes steps of its own and has this top operand.
+#[inline(always)]
+pub(crate) fn pass_by(programs: &[Numbered], aheads: &mut [Ahead], leaf: LeafNo, top: Option<u32>)
+    requires leaf { leaf < length programs.now }
+    requires aheads { AllStand programs.now aheads.old }
+    ensures { (operands : List ℕ) → IsTop top operands → PassesBy programs.now aheads.old aheads.new leaf operands }
+{
+    aheads[leaf.index()].pass_step(&programs[leaf.index()], top);
+}
+
 // Goes on past the next step of a leaf that takes steps of its own.
 fn pass_own(programs: &[Numbered], aheads: &mut [Ahead], machine: &Machine, leaf: LeafNo)
     requires leaf { leaf < length (components machine.now.scenario) }
@@ -320,8 +351,7 @@ fn pass_own(programs: &[Numbered], aheads: &mut [Ahead], machine: &Machine, leaf
     requires aheads { AllStand programs.now aheads.old }
     ensures { PassesOwn programs.now aheads.old aheads.new machine.now.world leaf }
 {
-    let top = machine.top(leaf);
-    aheads[leaf.index()].pass_step(&programs[leaf.index()], top);
+    pass_by(programs, aheads, leaf, machine.top(leaf));
 }
 
 // Goes on at the start of the section of a request.

@@ -88,6 +88,13 @@ pub record CanRenew (w : worlds.World) (n : Notes) : Type 0 where
   pub few : n.count ≤ 16449
   pub beyond : IsBeyond n
 
+-- a world was noted of this scenario, and can be noted anew
+pub record WasNoted (w : worlds.World) (n : Notes) : Type 0 where
+  pub accounts : length n.accounts.items ≡ length (all_accounts w)
+  pub room : length n.sessions.items ≡ 16449
+  pub few : n.count ≤ 16449
+  pub known : (k : ℕ) → k < 16449 → AreKnown w.scenario (get_or n.sessions.items k None)
+
 -- the account of the n-th node is noted anew
 pub record IsRenewed (w : worlds.World) (n : ℕ) (old new : Notes) : Type 0 where
   pub now : Told

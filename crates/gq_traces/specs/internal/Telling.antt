@@ -7,10 +7,12 @@ use Rattle.gq_init.specs.Counts.{failures_of, written_to}
 use Rattle.gq_init.specs.Told.{Told}
 use Rattle.gq_init.specs.Writes.{IsFront, IsRaised}
 use Rattle.gq_init.specs.declared.counted.Counted.{Counted}
+use Rattle.gq_machine.specs.Events.{event_of}
+use Rattle.gq_model.specs.declared.phase.Phase.{Phase}
+use Rattle.gq_model.specs.declared.phase.Phase.TheVariants.{Running, Handling}
 use Rattle.gq_model.specs.declared.program.Section.{Section}
 use Rattle.gq_model.specs.machine.Accounts.{Account}
 use Rattle.gq_model.specs.machine.Doing.{Event}
-use Rattle.gq_model.specs.machine.Run.{line_of}
 use Rattle.gq_model.specs.machine.Step.{next}
 use Rattle.gq_model.specs.texts.Fault_texts.{section_word}
 use Rattle.gq_model.specs.machine.Scenario.{Component, Scenario, components, system}
@@ -20,6 +22,7 @@ use Rattle.gq_model.specs.texts.Turns.{Turned}
 use Rattle.gq_scenario.specs.Sizes.{leaf_places}
 use Rattle.gq_views.specs.Listing.{loop_text}
 use Rattle.gq_views.specs.Tree.{label_of}
+use Rattle.gq_world.specs.Headline.{Standing}
 use Rattle.gq_world.specs.Lines.{all_accounts}
 use Rattle.gq_world.specs.Worlds as worlds
 use Rattle.gq_world.specs.declared.fault.RunFault.{RunFault}
@@ -29,9 +32,11 @@ use Rattle.gq_traces.specs.Written.{tells_all}
 use Rattle.gq_traces.specs.Trace.{Due, Traced, account_change, account_changes, changes, due_in, head_line, session_changes, standing_of, told_step}
 use Rattle.gq_traces.specs.declared.noted.Notes.{Notes}
 use Rattle.gq_traces.specs.declared.sessions.ToldSession.{ToldSession}
+use Rattle.gq_traces.specs.declared.trace.Own.{Own}
 use Rattle.gq_traces.specs.declared.trace.Tracing.{Tracing}
-use Rattle.gq_traces.specs.internal.Noted.{AreNoted, IsRenewed, IsTold, SessionsNoted, standing_in, told_change}
+use Rattle.gq_traces.specs.internal.Noted.{AreNoted, IsRenewed, IsTold, IsUse, SessionsNoted, WasNoted, standing_in, told_change}
 use Rattle.gq_traces.specs.declared.steps.Head.{Head}
+use Rattle.gq_traces.specs.declared.steps.Taken.{Taken}
 use Rattle.gq_traces.specs.declared.telling.Progress.{Progress}
 use Rattle.gq_traces.specs.declared.telling.Telling.{Telling}
 use Rattle.gq_traces.specs.declared.numbered.Entry.{Entry}
@@ -100,11 +105,23 @@ due_of s w x aheads = due_in w x (slice_get (components s) x) (slice_get w.leave
 abbrev pub TellsDue : List Entries → List places.Ahead → Scenario → model.World → ℕ → Option stated.Due → Type 0
 TellsDue programs stands s w x due = (aheads : List Ahead) → AreAheads programs stands aheads → IsDue due (due_of s w x aheads)
 
+-- it is told where the leaf takes its next step, as one that takes steps of its own in this section
+abbrev pub PlaceTold : List Entries → List places.Ahead → ℕ → Section → stated.Due → Type 0
+PlaceTold programs stands x section due =
+    (cs : List Component) (c : Component) (aheads : List Ahead) (t : Ahead) → ArePrograms programs (map (λ d. d.node.program) cs) → slice_get cs x ≡ Some c
+    → AreAheads programs stands aheads → slice_get aheads x ≡ Some t → place_of due ≡ next_place c section t.todo t.loops
+
 -- it is told where the leaf takes its next step, as one that takes steps of its own
 abbrev pub StepTold : List Entries → List places.Ahead → Scenario → model.World → ℕ → stated.Due → Type 0
 StepTold programs stands s w x due =
     (c : Component) (l : model.Leaf) (aheads : List Ahead) (t : Ahead) → slice_get (components s) x ≡ Some c → slice_get w.leaves x ≡ Some l
     → AreAheads programs stands aheads → slice_get aheads x ≡ Some t → place_of due ≡ next_place c (section_at l.current) t.todo t.loops
+
+-- the leaf stands past its next step, as one that takes steps of its own and has these operands
+abbrev pub PassesBy : List Entries → List places.Ahead → List places.Ahead → ℕ → List ℕ → Type 0
+PassesBy programs old new x operands =
+    (aheads : List Ahead) (t : Ahead) → AreAheads programs old aheads → slice_get aheads x ≡ Some t
+    → AreAheads programs new (slice_set aheads x (past operands t.todo t.loops))
 
 -- the leaf stands past its next step, as one that takes steps of its own
 abbrev pub PassesOwn : List Entries → List places.Ahead → List places.Ahead → model.World → ℕ → Type 0
@@ -149,15 +166,6 @@ abbrev pub head_front : Scenario → Head → List ℕ
 head_front s h =
     codes "turn " ++ decimal h.turn ++ codes " " ++ label_of (slice_get (components s) h.leaf) ++ codes " " ++ section_word h.due.section ++ codes " at "
     ++ decimal h.due.number
-
--- the step was taken, and the line that it gives was told
-pub record TakesStep {W : Type 0} (contents : W → Option (List ℕ)) (old new : worlds.World) (out_old out_new : Counted W) (was now : Progress) (h : Head)
-    : Type 0 where
-  pub scenario : new.scenario ≡ old.scenario
-  pub stopped : new.stopped ≡ old.stopped
-  pub event : Event
-  pub goes : next (system old.scenario) old.world h.leaf ≡ Ok (new.world, event)
-  pub tells : Tells contents out_old out_new was now (head_text old.scenario h) (line_of (label_of (slice_get (components old.scenario) h.leaf)) event)
 
 -- The account of the n-th node was told, if it stands otherwise than it was noted, and is noted anew.
 pub record TellsNode {W : Type 0} (contents : W → Option (List ℕ)) (w : worlds.World) (n : ℕ) (old new : Notes) (out_old out_new : Counted W)
@@ -219,7 +227,30 @@ pub record TellsStep {W : Type 0} (contents : W → Option (List ℕ)) (telling 
       (changes old.scenario (budgets_of old.scenario) (label_of (slice_get (components old.scenario) h.leaf)) old.world new.world event))
   pub noted : AreNoted new.scenario new.world notes
 
+-- it was taken, with what was read of it
+pub record IsTaken (old new : worlds.World) (x : ℕ) (t : Taken) (text : List ℕ) : Type 0 where
+  pub stands : Standing old
+  pub scenario : new.scenario ≡ old.scenario
+  pub goes : next (system old.scenario) old.world x ≡ Ok (new.world, event_of t.event text)
+  pub before : IsUse old.scenario old.world x t.before
+  pub after : IsUse new.scenario new.world x t.after
+  pub leaves_before : length old.world.leaves ≡ length (components old.scenario)
+  pub leaves : length new.world.leaves ≡ length (components new.scenario)
+
+-- what it changes was told and noted
+pub record TellsChanges {W : Type 0} (contents : W → Option (List ℕ)) (old new : worlds.World) (notes : Notes) (out_old out_new : Counted W)
+    (was now : Progress) (h : Head) (event : Event) : Type 0 where
+  pub tells : Tells contents out_old out_new was now (head_text old.scenario h)
+      (changes old.scenario (budgets_of old.scenario) (label_of (slice_get (components old.scenario) h.leaf)) old.world new.world event)
+  pub noted : AreNoted new.scenario new.world notes
+
 -- TURNS
+
+-- a leaf takes steps of its own
+abbrev pub takes_own : Phase → Bool
+takes_own Running = true
+takes_own Handling = true
+takes_own _ = false
 
 -- a trace on the way
 pub record IsOn (programs : List Entries) (stands : List places.Ahead) (w : worlds.World) (turns : ℕ) (t : Traced) : Type 0 where
@@ -237,6 +268,15 @@ pub record CanTrace (w : worlds.World) (t : Tracing) : Type 0 where
   pub programs : ArePrograms t.programs.items (programs_of w.scenario)
   pub stands : AllStand t.programs.items t.aheads.items
   pub noted : AreNoted w.scenario w.world t.notes
+
+-- A leaf took a step of its own in this section and with this top operand, before which the trace could go on.
+pub record IsOwnTaken (old new : worlds.World) (t : Tracing) (o : Own) (text : List ℕ) : Type 0 where
+  pub can : CanTrace old t
+  pub taken : IsTaken old new o.leaf o.taken text
+  pub noted : WasNoted new t.notes
+  pub own : takes_own o.taken.before.phase ≡ true
+  pub section : (l : model.Leaf) → slice_get old.world.leaves o.leaf ≡ Some l → o.section ≡ section_at l.current
+  pub top : (l : model.Leaf) → slice_get old.world.leaves o.leaf ≡ Some l → IsTop o.top l.operands
 
 -- Turns were told: of each trace that was on the way there, the text was written, and the trace that goes on from there is on the way.
 pub record TellsTurns {W : Type 0} (contents : W → Option (List ℕ)) (text : Traced → List ℕ) (go : Traced → Traced) (turns more : ℕ)

@@ -1,12 +1,14 @@
 use Rattle.gq_model.specs.machine.Scenario.{system}
 use Rattle.gq_traces.specs.Trace.{after_turns, turns_text}
 use Rattle.gq_traces.specs.Written.{tells_all}
+use Rattle.gq_traces.specs.internal.Noted.{IsUse}
 use Rattle.gq_traces.specs.internal.Telling.{TellsTurns, budgets_of}
 use Rattle.gq_traces.proofs.trace.tell_turns.Given as goal
 
--- the turns so far were told
+-- the turns so far were told, and it is known what the leaf holds and does
 abbrev pub invariant-loop-number : goal.invariant-loop-number
 invariant-loop-number g l =
     TellsTurns g.W.Write.contents
     (turns_text (tells_all l.telling) l.fn.world.scenario (budgets_of l.fn.world.scenario) l.item.0 l.number)
     (after_turns (system l.fn.world.scenario) l.item.0 l.number) l.turns l.number l.fn.world l.world l.fn.tracing l.tracing l.fn.out l.out l.fn.going l.going
+    × IsUse l.world.scenario l.world.world l.item.0 l.before

@@ -7,7 +7,7 @@ use Rattle.gq_traces.specs.Written.{tells_all}
 use Rattle.gq_traces.specs.internal.Telling.{IsOn, TellsDue, budgets_of}
 use Rattle.gq_traces.proofs.Going.{goes_nothing, goes_text}
 use Rattle.gq_traces.proofs.Turns_told.{idle_on, idle_text, items_then, stand_then, step_on, step_text_is, told_due, told_stands}
-use Rattle.gq_traces.proofs.trace.tell_turn.Goals as goal
+use Rattle.gq_traces.proofs.trace.tell_any.Goals as goal
 
 pub returns-in_default : goal.returns-in_default
 returns-in_default g c =
