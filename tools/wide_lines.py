@@ -1,5 +1,6 @@
 #!/usr/bin/env python3
 """tools/wide_lines.py: tells the lines of code, definitions, proofs and documents that have more than 160 characters."""
+import pathlib
 import subprocess
 import sys
 
@@ -13,7 +14,7 @@ def may_be_wide(name, line):
 
 def main():
     listed = subprocess.run(["git", "ls-files", "--cached", "--others", "--exclude-standard", "*.rt", "*.antt", "*.md"], check=True, stdout=subprocess.PIPE, text=True)
-    for name in listed.stdout.splitlines():
+    for name in filter(lambda name: pathlib.Path(name).is_file(), listed.stdout.splitlines()):
         with open(name, encoding="utf-8", errors="replace") as lines:
             for number, line in enumerate(lines, 1):
                 line = line.rstrip("\n")
