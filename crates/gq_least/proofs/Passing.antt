@@ -16,7 +16,7 @@ use Rattle.gq_model.specs.rules.Flow.{Flowed, at, flow_then, is_nil, none_left, 
 use Rattle.gq_model.specs.rules.Flow.{start_of, has_link, is_space_kind, bank_is_empty, main_end, opening_end, calling_end, section_end, section_flow}
 use Rattle.gq_model.specs.rules.Verdict.{first_unwanted, is_wanted, same_truth, fault_of, first_fault, walked, program_fault}
 use Rattle.gq_model.specs.machine.Lists.{or_first}
-use Rattle.gq_model.proofs.Small.{equal_self, or_first_none}
+use Rattle.gq_model.proofs.Small.{or_first_none}
 use Rattle.gq_model.proofs.Section_laws.{same_self}
 use Rattle.gq_model.proofs.Rules_laws.{must_holds, at_ok, none_left_ok, kinds_are, accepted, section_flows, then_ok, within_same}
 use Rattle.gq_laws.proofs.stating.Rules.{top_there}

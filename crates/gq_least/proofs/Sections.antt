@@ -1,19 +1,18 @@
 -- Of which levels a program's sections are.
-use Rattle.std.proofs.Common.{◌≡◌, ℕ, zero, suc, ◌+◌, ◌≤◌, ◌&&◌, ◌||◌, ◌==◌, Bool, true, false, List, [], ◌∷◌, length, Some, None, refl, ap, sym, ◌∙◌, subst}
+use Rattle.std.proofs.Common.{◌≡◌, ℕ, zero, suc, ◌+◌, ◌≤◌, ◌&&◌, ◌||◌, Bool, true, false, List, [], ◌∷◌, length, Some, None, refl, ap, sym, ◌∙◌}
 use Rattle.std.proofs.Common.{arith}
-use Rattle.std.specs.Prelude.{nat_le, slice_get, sum_by, is_some, if◌then◌else◌}
+use Rattle.std.specs.Prelude.{nat_le, is_some, if◌then◌else◌}
 use Rattle.std.proofs.lemmas.Bool.{and_parts, leb-true}
 use Rattle.gq_model.specs.declared.program.Section.{Section}
 use Rattle.gq_model.specs.declared.program.Section.TheVariants.{Main, Opening, Upgrading, Calling, Closing}
-use Rattle.gq_model.specs.machine.Lists.{all_of, any_of, between}
-use Rattle.gq_model.specs.machine.Program.{Program, Statements, all_sections, same_section, section_in, size}
+use Rattle.gq_model.specs.machine.Lists.{any_of}
+use Rattle.gq_model.specs.machine.Program.{Statements, all_sections, same_section, section_in}
 use Rattle.gq_model.specs.machine.Scenario.{Interface}
 use Rattle.gq_model.specs.rules.Kinds.{Subject, in_main, level_of}
 use Rattle.gq_model.specs.rules.Verdict.{is_wanted, same_truth, first_unwanted, program_fault}
-use Rattle.gq_model.specs.texts.Code.{is_body, is_section, section_number, are_sections, greatest_statements, IsProgram}
-use Rattle.gq_model.specs.texts.Operands.{greatest_number}
+use Rattle.gq_model.specs.texts.Code.{is_body, is_section, section_number, are_sections, IsProgram}
 use Rattle.gq_model.proofs.Rules_laws.{accepted, same_section_is}
-use Rattle.gq_model.proofs.Small.{none_some, some_none, some_same}
+use Rattle.gq_model.proofs.Small.{none_some, some_none}
 use Rattle.gq_least.specs.Size.{is_up_to}
 use Rattle.gq_model.proofs.Section_laws.{in_order}
 

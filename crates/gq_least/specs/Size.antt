@@ -3,8 +3,8 @@ use Rattle.std.specs.Prelude.{ℕ, zero, suc, ◌+◌, ◌-◌, ◌*◌, ◌==�
 use Rattle.std.specs.Prelude.{length}
 use Rattle.std.specs.Prelude.{sum_by, Option, Some, None, decimal, codes, slice_get}
 use Rattle.gq_tariff.specs.Prices.{classes, up}
-use Rattle.gq_model.specs.machine.Accounts.{entry, leaf_count, told}
-use Rattle.gq_model.specs.machine.Amounts.{Resource, Ram, Caps, Amount, amount}
+use Rattle.gq_model.specs.machine.Accounts.{entry, leaf_count}
+use Rattle.gq_model.specs.machine.Amounts.{Resource, Ram, Caps, Amount}
 use Rattle.gq_model.specs.machine.Lists.{greatest, or_first}
 use Rattle.gq_model.specs.machine.Prices.{price_memory}
 use Rattle.gq_model.specs.declared.program.Form.TheVariants.{Slice}
@@ -13,8 +13,8 @@ use Rattle.gq_model.specs.declared.program.Instruction.TheVariants.{Open, Upgrad
 use Rattle.gq_model.specs.declared.program.Section.{Section}
 use Rattle.gq_model.specs.declared.program.Section.TheVariants.{Main}
 use Rattle.gq_model.specs.machine.Program.{Statements, Done, Do, If, Loop, size, text_eq}
-use Rattle.gq_model.specs.machine.Scenario.{Interface, Interfaces, Nodes, End, Leaf_node, Init_node, Scenario, Component, System, system}
-use Rattle.gq_model.specs.machine.Scenario.{below, interface_in}
+use Rattle.gq_model.specs.machine.Scenario.{Interface, Nodes, End, Leaf_node, Init_node, Scenario, Component, System, system}
+use Rattle.gq_model.specs.machine.Scenario.{interface_in}
 use Rattle.gq_model.specs.rules.Accept.{Refusal, budgets, not_resolved, program_refusal, steps_refusal}
 use Rattle.gq_model.specs.rules.Budgets.{heap_cost}
 use Rattle.gq_model.specs.rules.Flow.{at, body, context, flow, points, start_of, state_or}

@@ -1,4 +1,4 @@
-use Rattle.std.proofs.Common.{◌≡◌, ◌≤◌, drop, length}
+use Rattle.std.proofs.Common.{◌≡◌, drop}
 use Rattle.gq_model.specs.machine.Scenario.{components}
 use Rattle.gq_why.specs.Written.{leaf_number}
 use Rattle.gq_why.proofs.why.numbered.Given as goal

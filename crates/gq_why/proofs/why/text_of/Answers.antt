@@ -1,8 +1,6 @@
-use Rattle.std.proofs.Common.{◌∙◌, ◌≡◌, ◌<◌, ℕ, List, Some, get_or, length, sym, ap, subst, arith}
-use Rattle.std.specs.Prelude.{option_map, slice_get}
-use Rattle.gq_model.specs.declared.program.Section.{Section}
-use Rattle.gq_model.specs.machine.Program.{Program}
-use Rattle.gq_model.specs.machine.Scenario.{Component, Interfaces, components, system}
+use Rattle.std.proofs.Common.{◌∙◌, ◌≡◌, List, get_or, sym, ap, subst, arith}
+use Rattle.std.specs.Prelude.{slice_get}
+use Rattle.gq_model.specs.machine.Scenario.{Component, Interfaces, system}
 use Rattle.gq_model.specs.rules.Verdict.{program_fault}
 use Rattle.gq_verify.specs.Subjects.{subject_of}
 use Rattle.gq_why.proofs.Leaf_texts.{at_place, breaks_none, leaf_within, lines_are, parts_put, program_within, subject_is}
