@@ -2,11 +2,13 @@
 ghost use Rattle.std.specs.Prelude.{◌≡◌, ◌-◌, ◌<◌, ◌≤◌, [], IfErr, IfOk, IsOk, OnErr, Err, Ok, length};
 ghost use Rattle.gq_model.specs.machine.Scenario.{components, system};
 ghost use Rattle.gq_model.specs.machine.Step.{next};
+ghost use Rattle.gq_bytecode.specs.Nexts.{GoesAlone};
 ghost use Rattle.gq_machine.specs.Bursts.{OutputsLines};
 ghost use Rattle.gq_machine.specs.Countable.{AreCountable, IsCountable};
 ghost use Rattle.gq_machine.specs.Events.{event_of};
 ghost use Rattle.gq_machine.specs.declared.event.Event.TheVariants as event;
 
+use crate::bursts::turns_alone;
 use crate::event::Event;
 use crate::machine::Machine;
 use crate::others::LINE;
@@ -60,6 +62,22 @@ impl Machine {
     {
         lawful(&self.state.slots);
         output_turns(&self.fixed, &mut self.state, leaf.index(), count, lines)
+    }
+
+    /// Turns that a leaf takes alone, at least one and at most so many: each is a step that shows nothing, and changes nothing but what is left to do, the open
+    /// loops, the operands, the locals and the steps of this leaf. It tells how many are left: those before which others have a part in the next step, or it
+    /// would be wrong, or the leaf can't run. It takes no host memory.
+    #[inline(always)]
+    pub fn turns_alone(&mut self, leaf: LeafNo, turns: u32) -> u32
+        requires leaf { leaf < length (components self.old.scenario) }
+        requires some { 0 < turns }
+        requires countable { AreCountable self.old.world leaf turns }
+        ensures scenario { self.new.scenario ≡ self.old.scenario }
+        ensures left { result ≤ turns }
+        ensures alone { GoesAlone (system self.old.scenario) leaf (turns - result) self.old.world self.new.world }
+    {
+        lawful(&self.state.slots);
+        turns_alone(&self.fixed, &mut self.state, leaf.index(), turns)
     }
 
     /// One turn of a leaf whose step is not wrong. After it the line has the text that was given, without label and line feed, and is empty where none was.

@@ -47,6 +47,8 @@ mod Unchanged
 mod One_else
 mod Own_told
 mod Own_turns
+mod Straight
+mod Alone_steps
 mod Still_noted
 mod Leaves_told
 mod Afters_told

@@ -85,13 +85,18 @@ module _ (w : World) (x : ℕ) (u : Use) (is : IsUse w.scenario w.world x u) (ow
       (told (components w.scenario) q.component ts q.ahead are q.component_is aheads q.ahead_is
       ∙ ap (λ s. next_place q.component s q.ahead.todo q.ahead.loops) (at q.leaf q.leaf_is))
 
-  -- where the leaf stands then, by its top operand
-  pub own_goes : (new : List places.Ahead) (top : Option ℕ) → ((operands : List ℕ) → IsTop top operands → PassesBy programs stands new x operands)
-      → ((l : Leaf) → slice_get w.world.leaves x ≡ Some l → IsTop top l.operands) → GoesOn programs stands new w.scenario w.world x
-  own_goes new top passes at ts d aheads e =
+  -- where the leaf stands then
+  pub own_goes_by : (new : List places.Ahead) → ((l : Leaf) → slice_get w.world.leaves x ≡ Some l → PassesBy programs stands new x l.operands)
+      → GoesOn programs stands new w.scenario w.world x
+  own_goes_by new passes ts d aheads e =
       let q = p ts aheads in
       subst (λ (a : Ahead). AreAheads programs new (slice_set ts x a)) (ap (λ (z : Due). z.ahead) (some_same (sym (step_there ts aheads) ∙ e)))
-      (passes q.leaf.operands (at q.leaf q.leaf_is) ts q.ahead aheads q.ahead_is)
+      (passes q.leaf q.leaf_is ts q.ahead aheads q.ahead_is)
+
+  -- by its top operand
+  pub own_goes : (new : List places.Ahead) (top : Option ℕ) → ((operands : List ℕ) → IsTop top operands → PassesBy programs stands new x operands)
+      → ((l : Leaf) → slice_get w.world.leaves x ≡ Some l → IsTop top l.operands) → GoesOn programs stands new w.scenario w.world x
+  own_goes new top passes at = own_goes_by new (λ l there. passes l.operands (at l there))
 
   -- all leaves stand somewhere then
   pub own_stand : (new : List places.Ahead) → AllStand programs stands → GoesOn programs stands new w.scenario w.world x → AllStand programs new

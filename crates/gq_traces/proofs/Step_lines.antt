@@ -9,7 +9,7 @@ use Rattle.gq_model.specs.machine.Accounts.{phase_word, told, used_entry}
 use Rattle.gq_model.specs.machine.Amounts.{Amount}
 use Rattle.gq_model.specs.machine.Doing.{Event, Idle, Quiet, Finished, Line}
 use Rattle.gq_model.specs.machine.Run.{line_of}
-use Rattle.gq_model.specs.machine.Scenario.{Component, Scenario, System, components, system}
+use Rattle.gq_model.specs.machine.Scenario.{Component, Scenario, System, system}
 use Rattle.gq_model.specs.machine.World.{World}
 use Rattle.gq_model.specs.texts.Fault_texts.{section_word}
 use Rattle.gq_views.specs.Tree.{label_of}

@@ -11,7 +11,7 @@ use Rattle.gq_model.specs.machine.Accounts.{account_lines, accounts, text_of}
 use Rattle.gq_model.specs.machine.Doing.{Event, Idle, Stepped}
 use Rattle.gq_model.specs.machine.Program.{Do, Statements}
 use Rattle.gq_model.specs.machine.Run.{Ran, after_step as ran_on, label_at as ran_label, line_of, run, run_on, turn_from, turns_of}
-use Rattle.gq_model.specs.machine.Scenario.{Component, Scenario, System, components, system}
+use Rattle.gq_model.specs.machine.Scenario.{Component, Scenario, System, system}
 use Rattle.gq_model.specs.machine.Step.{next, oldest, step_of}
 use Rattle.gq_model.specs.machine.World.{Leaf, Request, Session, World, session_at, start, start_leaves}
 use Rattle.gq_model.specs.Promises.{IsUpheld}

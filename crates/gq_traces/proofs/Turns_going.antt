@@ -5,7 +5,7 @@ use Rattle.gq_world.specs.Worlds.{World}
 use Rattle.gq_model.specs.machine.Scenario.{Scenario, system}
 use Rattle.gq_traces.specs.Trace.{Traced, after_all, after_turn, after_turns, all_text, turn_text, turns_text}
 use Rattle.gq_traces.specs.declared.trace.Tracing.{Tracing}
-use Rattle.gq_traces.specs.internal.Telling.{CanTrace, IsOn, TellsTurns, budgets_of, turns_in}
+use Rattle.gq_traces.specs.internal.Telling.{CanTrace, IsOn, IsSilent, TellsTurns, budgets_of, turns_in}
 use Rattle.gq_traces.proofs.Going.{goes_both, goes_nothing, goes_text}
 use Rattle.gq_traces.proofs.Turns_told.{after_all_more, all_more, turns_in_more}
 
@@ -47,6 +47,25 @@ module _ {W : Type 0} (contents : W → Option (List ℕ)) where
   turn_as all s r x y turns u v p q a b was now same is h =
       subst (λ (z : Scenario). TellsTurns contents (turn_text all z (budgets_of z) x) (after_turn (system z) x) turns 1 u v p q a b was now) same
       (subst (λ z. TellsTurns contents (turn_text all r (budgets_of r) z) (after_turn (system r) z) turns 1 u v p q a b was now) is h)
+
+  pub some_as : (all : Bool) (s r : Scenario) (x y n turns : ℕ) (u v : World) (p q : Tracing) (a b : Counted W) (was now : Bool) → r ≡ s → y ≡ x
+      → TellsTurns contents (turns_text all r (budgets_of r) y n) (after_turns (system r) y n) turns n u v p q a b was now
+      → TellsTurns contents (turns_text all s (budgets_of s) x n) (after_turns (system s) x n) turns n u v p q a b was now
+  some_as all s r x y n turns u v p q a b was now same is h =
+      subst (λ (z : Scenario). TellsTurns contents (turns_text all z (budgets_of z) x n) (after_turns (system z) x n) turns n u v p q a b was now) same
+      (subst (λ z. TellsTurns contents (turns_text all r (budgets_of r) z n) (after_turns (system r) z n) turns n u v p q a b was now) is h)
+
+  -- turns of which nothing is told
+  pub silent_tells : (all : Bool) (s : Scenario) (x n turns : ℕ) (u v : World) (p q : Tracing) (out : Counted W) (was : Bool) → u.scenario ≡ s
+      → IsSilent all x n u v p q → TellsTurns contents (turns_text all s (budgets_of s) x n) (after_turns (system s) x n) turns n u v p q out out was was
+  silent_tells all s x n turns u v p q out was same h =
+      subst (λ (z : Scenario). TellsTurns contents (turns_text all z (budgets_of z) x n) (after_turns (system z) x n) turns n u v p q out out was was) same
+      (record {
+        scenario = h.scenario;
+        can = h.can;
+        written = λ t on. goes_text contents out out was was [] _ (h.none turns t on) (goes_nothing contents out was);
+        on = λ t on. h.on turns t on;
+      })
 
   -- and so many
   pub turns_as : (all : Bool) (s r : Scenario) (i j : ℕ × ℕ) (turns count : ℕ) (u v : World) (p q : Tracing) (a b : Counted W) (was now : Bool) → r ≡ s → j ≡ i

@@ -123,6 +123,21 @@ pub after_more : (s : System) (x n : ℕ) (t : Traced) → after_turn s x (after
 after_more s x zero t = refl
 after_more s x (suc n) t = after_more s x n (after_turn s x t)
 
+pub turns_sum : (all : Bool) (s : Scenario) (b : List ℕ) (x n m : ℕ) (t : Traced)
+    → turns_text all s b x n t ++ turns_text all s b x m (after_turns (system s) x n t) ≡ turns_text all s b x (n + m) t
+turns_sum all s b x zero m t =
+    let none : m ≡ 0 + m = omega arith in ap (λ k. turns_text all s b x k t) none
+turns_sum all s b x (suc n) m t =
+    let one : suc (n + m) ≡ suc n + m = omega arith in
+    append_assoc (turn_text all s b x t) (turns_text all s b x n (after_turn (system s) x t)) _
+    ∙ ap (λ l. turn_text all s b x t ++ l) (turns_sum all s b x n m (after_turn (system s) x t)) ∙ ap (λ k. turns_text all s b x k t) one
+
+pub after_sum : (s : System) (x n m : ℕ) (t : Traced) → after_turns s x m (after_turns s x n t) ≡ after_turns s x (n + m) t
+after_sum s x zero m t =
+    let none : m ≡ 0 + m = omega arith in ap (λ k. after_turns s x k t) none
+after_sum s x (suc n) m t =
+    let one : suc (n + m) ≡ suc n + m = omega arith in after_sum s x n m (after_turn s x t) ∙ ap (λ k. after_turns s x k t) one
+
 pub all_more : (all : Bool) (s : Scenario) (b : List ℕ) (turns : List (ℕ × ℕ)) (p : ℕ × ℕ) (t : Traced)
     → all_text all s b turns t ++ turns_text all s b p.0 p.1 (after_all (system s) turns t) ≡ all_text all s b (turns ++ p ∷ []) t
 all_more all s b [] p t = sym (append-nil (turns_text all s b p.0 p.1 t))

@@ -260,10 +260,10 @@ module _ (w : World) (x : ℕ) (new : World) (h : LeavesAll w x new) where
 
 -- TEXTS
 
-amount_self : (a : Amount) → same_amount a a ≡ true
+pub amount_self : (a : Amount) → same_amount a a ≡ true
 amount_self a = λ i. equal_self a.ram i && equal_self a.caps i
 
-phase_self : (p : Phase) → same_phase p p ≡ true
+pub phase_self : (p : Phase) → same_phase p p ≡ true
 phase_self Pending = refl
 phase_self Running = refl
 phase_self Blocked = refl

@@ -1,5 +1,5 @@
 -- Each account after the last turn of a run, and what it is made of.
-use Rattle.std.specs.Prelude.{ℕ, zero, suc, ◌+◌, ◌*◌, ◌==◌, ◌&&◌, if◌then◌else◌, Bool, true, false, List, [], ◌∷◌, ◌++◌, length, Option, Some, None, slice_get}
+use Rattle.std.specs.Prelude.{ℕ, zero, suc, ◌*◌, ◌==◌, ◌&&◌, if◌then◌else◌, Bool, true, false, List, [], ◌∷◌, ◌++◌, length, Option, Some, None, slice_get}
 use Rattle.std.specs.Prelude.{decimal, codes}
 use Rattle.gq_tariff.specs.Prices.{classes}
 use Rattle.gq_model.specs.declared.phase.Phase.{Phase}

@@ -3,4 +3,5 @@ pub mod Flat
 pub mod Noted
 pub mod Telling
 pub mod Items
+pub mod Alone
 pub mod Follows

@@ -1,11 +1,13 @@
 // Turns that are taken untold, with where each leaf stands on the way.
-ghost use Rattle.std.specs.Prelude.{◌≡◌, ◌<◌, false, length, IfOk};
+ghost use Rattle.std.specs.Prelude.{◌≡◌, ◌<◌, ◌≤◌, false, length, IfOk};
 ghost use Rattle.gq_model.specs.machine.Scenario.{components, system};
 ghost use Rattle.gq_model.specs.machine.World.{start};
 ghost use Rattle.gq_world.specs.Worlds.{AreBelow};
 ghost use Rattle.gq_traces.specs.Trace.{after_all, after_turn, after_turns, start_traced};
 ghost use Rattle.gq_traces.specs.internal.Follows.{Follows, IsAt, IsFollowed};
 
+use crate::alone::steps_alone;
+use crate::noted::counted;
 use crate::numbered::{Numbered, all_numbered};
 use crate::tracker::{Ahead, first_aheads, go_on, next_due};
 use arrayvec::ArrayVec;
@@ -52,14 +54,40 @@ fn take_turn(world: &mut World, followed: &mut Followed, leaf: LeafNo)
     }
 }
 
+// Turns of a leaf, at least one and at most so many: those that it takes alone from where it stands, or one. It tells how many. They take no host memory.
+#[inline(always)]
+fn take_some(world: &mut World, followed: &mut Followed, leaf: LeafNo, most: u32) -> u32
+    requires leaf { leaf < length (components world.old.scenario) }
+    requires some { 0 < most }
+    requires followed { IsFollowed followed.old world.old }
+    ensures some { 0 < result }
+    ensures few { result ≤ most }
+    ensures follows { Follows (after_turns (system world.old.scenario) leaf result) world.old world.new followed.old followed.new }
+{
+    counted(world);
+    let alone = steps_alone(
+        world,
+        followed.programs.as_slice(),
+        followed.aheads.as_mut_slice(),
+        leaf,
+        most,
+    );
+    if alone > 0 {
+        return alone;
+    }
+    take_turn(world, followed, leaf);
+    1
+}
+
 // So many turns of a leaf. They take no host memory.
 fn take_turns(world: &mut World, followed: &mut Followed, leaf: LeafNo, count: u32)
     requires leaf { leaf < length (components world.old.scenario) }
     requires followed { IsFollowed followed.old world.old }
     ensures { Follows (after_turns (system world.old.scenario) leaf count) world.old world.new followed.old followed.new }
 {
-    for _turn in 0..count {
-        take_turn(world, followed, leaf);
+    let mut done = 0;
+    while done < count {
+        done += take_some(world, followed, leaf, count - done);
     }
 }
 

@@ -2,6 +2,7 @@
 ghost use Rattle.std.specs.Prelude.{◌≡◌, ℕ, ◌<◌, ◌≤◌, IfOk, Some, None, get_or, length, map};
 ghost use Rattle.gq_model.specs.machine.Scenario.{components};
 ghost use Rattle.gq_resolve.specs.NodeTables.{node_rows};
+ghost use Rattle.gq_world.specs.Headline.{Standing};
 ghost use Rattle.gq_world.specs.Lines.{all_accounts};
 ghost use Rattle.gq_traces.specs.Trace.{same_phase, same_standing, same_using, standing_of, using_of};
 ghost use Rattle.gq_traces.specs.internal.Noted.{AreNoted, CanRenew, IsTold, IsUse, standing_in};
@@ -50,8 +51,9 @@ pub(crate) fn use_of(machine: &Machine, leaf: LeafNo) -> Use
     }
 }
 
-/// A world has a leaf for each component, and an account for each node. It does nothing.
+/// A world has a leaf for each component, and an account for each node, and is one from which all that is promised follows. It does nothing.
 pub(crate) fn counted(world: &World)
+    ensures stands { Standing world.now }
     ensures leaves { length world.now.world.leaves ≡ length (components world.now.scenario) }
     ensures accounts { length (all_accounts world.now) ≡ length (node_rows world.now.scenario) }
 {

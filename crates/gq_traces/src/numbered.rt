@@ -48,6 +48,8 @@ pub(crate) struct Part {
 pub(crate) struct Numbered {
     pub entries: Vec<Entry>,
     parts: Vec<Part>,
+    // From each entry on, how many statements stand one after the other that a leaf takes alone, as far as it tells: this says how far to look, and no more.
+    alone: Vec<u32>,
     // While a section is put: how many statements of it are left.
     left: usize,
 }
@@ -78,6 +80,17 @@ fn size_of_all(body: &Body) -> usize
     count
 }
 
+// Whether a leaf takes the step of an instruction alone.
+fn is_alone(instruction: &Instruction) -> bool {
+    match instruction {
+        Instruction::Drop | Instruction::Dup | Instruction::Push(_) | Instruction::Combine(_) =>
+            true,
+        Instruction::Divide(_) | Instruction::Modulo(_) => true,
+        Instruction::Get(_) | Instruction::Set(_) | Instruction::Index(_) => true,
+        _ => false,
+    }
+}
+
 // The text of a statement.
 fn text_of(alloc: Global, instruction: &Instruction) -> Result<Vec<u8>, AllocError>
     ensures { IfOk result (λ text. text.items ≡ instruction_text instruction.now) }
@@ -96,6 +109,7 @@ impl Numbered {
         Numbered {
             entries: Vec::new(alloc),
             parts: Vec::new(alloc),
+            alone: Vec::new(alloc),
             left: 0,
         }
     }
@@ -106,6 +120,7 @@ impl Numbered {
         requires { size (tree_of (statement.now ∷ [])) ≤ self.old.left }
         ensures { IfOk result (λ first. Puts self.old self.new (tree_of (statement.now ∷ [])) next first) }
     {
+        let alone = self.alone_with(statement, next);
         let way = match statement {
             Statement::Plain(instruction) => Way::Plain(text_of(alloc, instruction)?, next),
             Statement::If(arm, other) => {
@@ -118,14 +133,41 @@ impl Numbered {
                 Way::Loop(*count, body, next)
             }
         };
-        self.put_entry(way)
+        self.put_entry(way, alone)
+    }
+
+    // How many statements stand one after the other that a leaf takes alone, from a statement on after which it goes on there.
+    fn alone_with(&self, statement: &Statement, next: Next) -> u32 {
+        match statement {
+            Statement::Plain(instruction) => {
+                if is_alone(instruction) {
+                    self.alone_from(next).saturating_add(1)
+                } else {
+                    0
+                }
+            }
+            Statement::If(_, _) | Statement::Loop(_, _) => 1,
+        }
+    }
+
+    /// How many steps a leaf that goes on there may take alone, one after the other, as far as the program tells. It says how far to look, and no more.
+    #[inline(always)]
+    pub(crate) fn alone_from(&self, next: Next) -> u32 {
+        match next {
+            None => 1,
+            Some(place) => match self.alone.get(place) {
+                None => 0,
+                Some(alone) => *alone,
+            },
+        }
     }
 
     // Puts the entry of the last statement that is left. It tells where it stands.
-    fn put_entry(&mut self, way: Way) -> Result<Next, AllocError>
+    fn put_entry(&mut self, way: Way, alone: u32) -> Result<Next, AllocError>
         requires { 0 < self.old.left }
         ensures { IfOk result (λ first. PutsEntry self.old self.new way first) }
     {
+        self.alone.push(alone)?;
         let place = self.entries.len();
         self.entries.push(Entry {
             number: self.left,

@@ -8,9 +8,10 @@ ghost use Rattle.gq_world.specs.Worlds.{AreBelow};
 ghost use Rattle.gq_traces.specs.Trace.{after_all, after_turn, after_turns, all_text, start_traced, trace_text, turn_text, turns_text};
 ghost use Rattle.gq_traces.specs.Written.{tells_all, trace_from, trace_written};
 ghost use Rattle.gq_traces.specs.internal.Noted.{IsUse};
-ghost use Rattle.gq_traces.specs.internal.Telling.{CanTrace, Goes, IsOn, IsOwnTaken, IsTurnsFault, TellsTurns, budgets_of, takes_own, turns_in};
+ghost use Rattle.gq_traces.specs.internal.Telling.{CanTrace, Goes, IsOn, IsOwnTaken, IsSilent, IsTurnsFault, TellsTurns, budgets_of, takes_own, turns_in};
 ghost use Rattle.gq_model.specs.texts.Turns.{turned};
 
+use crate::alone::steps_alone;
 use crate::noted::{Notes, Use, counted, use_of};
 use crate::numbered::{Numbered, all_numbered};
 use crate::steps::{Head, Taken, is_silent, tell_step, tell_taken};
@@ -235,6 +236,69 @@ fn tell_turn<W: Write>(
     going
 }
 
+// Turns of a leaf of which nothing is told, at most so many: where changes alone are told, those that it takes alone from where it stands. It tells how many.
+// They take no host memory.
+#[inline(always)]
+fn silent_turns(
+    world: &mut World,
+    tracing: &mut Tracing,
+    telling: Telling,
+    leaf: LeafNo,
+    most: u32,
+) -> u32
+    requires leaf { leaf < length (components world.old.scenario) }
+    requires can { CanTrace world.old tracing.old }
+    ensures few { result ≤ most }
+    ensures silent { IsSilent (tells_all telling) leaf result world.old world.new tracing.old tracing.new }
+{
+    match telling {
+        Telling::All => 0,
+        Telling::Changes => {
+            counted(world);
+            steps_alone(
+                world,
+                tracing.programs.as_slice(),
+                tracing.aheads.as_mut_slice(),
+                leaf,
+                most,
+            )
+        }
+    }
+}
+
+// Turns of a leaf, at least one and at most so many, before which there were so many of all: those of which nothing is told, or one that is told if it is a
+// step. What the leaf holds and does is known before them and after them. It tells how many there were. They take no host memory.
+#[inline(always)]
+fn tell_some<W: Write>(
+    world: &mut World,
+    tracing: &mut Tracing,
+    telling: Telling,
+    turns: u32,
+    leaf: LeafNo,
+    most: u32,
+    before: &mut Use,
+    going: bool,
+    out: &mut Counted<W>,
+) -> (bool, u32)
+    requires leaf { leaf < length (components world.old.scenario) }
+    requires some { 0 < most }
+    requires few { turns + most ≤ 1000000 }
+    requires can { CanTrace world.old tracing.old }
+    requires before { IsUse world.old.scenario world.old.world leaf before.old }
+    ensures some { 0 < result.1 }
+    ensures few { result.1 ≤ most }
+    ensures told { TellsTurns W.contents (turns_text (tells_all telling) world.old.scenario (budgets_of world.old.scenario) leaf result.1)
+        (after_turns (system world.old.scenario) leaf result.1) turns result.1 world.old world.new tracing.old tracing.new out.old out.new going result.0 }
+    ensures after { IsUse world.new.scenario world.new.world leaf before.new }
+{
+    let silent = silent_turns(world, tracing, telling, leaf, most);
+    if silent > 0 {
+        return (going, silent);
+    }
+    let going = tell_turn(world, tracing, telling, turns, leaf, before, going, out);
+    (going, 1)
+}
+
 // So many turns of a leaf, before which there were so many of all. They take no host memory.
 fn tell_turns<W: Write>(
     world: &mut World,
@@ -255,17 +319,22 @@ fn tell_turns<W: Write>(
     counted(world);
     let mut going = going;
     let mut before = use_of(world.machine(), item.leaf());
-    for number in 0..item.count() {
-        going = tell_turn(
+    let count = item.count();
+    let mut done = 0;
+    while done < count {
+        let (goes, more) = tell_some(
             world,
             tracing,
             telling,
-            turns + number,
+            turns + done,
             item.leaf(),
+            count - done,
             &mut before,
             going,
             out,
         );
+        going = goes;
+        done += more;
     }
     going
 }

@@ -1,10 +1,13 @@
 // Where each leaf stands in the text of its program.
-ghost use Rattle.std.specs.Prelude.{◌≡◌, ◌<◌, ◌∷◌, [], List, ℕ, suc, nat_lt, true, Some, None, drop, get_or, length, map, slice_get, IfOk, IfNone, IfSome};
+ghost use Rattle.std.specs.Prelude.{◌≡◌, ◌<◌, ◌≤◌, ◌∷◌, [], List, ℕ, suc, nat_lt, true, Option, Some, None, drop, get_or, length, map, slice_get, slice_set};
+ghost use Rattle.std.specs.Prelude.{IfOk, IfNone, IfSome};
 ghost use Rattle.gq_model.specs.machine.Scenario.{Component, components};
 ghost use Rattle.gq_statements.specs.Statements.{current_seen};
 ghost use Rattle.gq_traces.specs.declared.numbered.Entry.{Entry};
 ghost use Rattle.gq_traces.specs.Places.{chosen, place, section_at, start_aheads};
-ghost use Rattle.gq_traces.specs.internal.Flat.{AllStand, AreAheads, ArePrograms, Passes, Stands, another_round, programs_of};
+ghost use Rattle.gq_traces.specs.declared.tracker.Ahead as places;
+ghost use Rattle.gq_traces.specs.internal.Alone.{IsStraight};
+ghost use Rattle.gq_traces.specs.internal.Flat.{AllStand, AreAheads, ArePrograms, Passes, Stands, another_round, plain_after, plain_ahead, programs_of};
 ghost use Rattle.gq_traces.specs.internal.Telling.{GoesOn, IsTop, PassesBy, PassesOwn, PassesRequest, PlaceIs, PlaceTold, StepTold, TellsDue};
 ghost use Rattle.gq_traces.specs.internal.Telling.{entry_place, place_of};
 ghost use Rattle.gq_traces.specs.internal.Telling.{statement_text, way_text};
@@ -166,6 +169,35 @@ impl Ahead {
         }
     }
 
+    // The statements with none in them that the leaf has before it, one after the other, at most so many: how many, and where it goes on after them.
+    #[inline(always)]
+    fn straight(&self, numbered: &Numbered, most: u32) -> (u32, Next)
+        ensures few { result.0 ≤ most }
+        ensures ahead { plain_ahead numbered.now.entries.items result.0 self.now.next ≡ Some result.1 }
+        ensures all { result.0 < most → plain_after numbered.now.entries.items result.1 ≡ None }
+    {
+        let mut next = self.next;
+        let mut count = 0;
+        while count < most {
+            match after_plain(numbered, next) {
+                None => return (count, next),
+                Some(after) => {
+                    next = after;
+                    count += 1;
+                }
+            }
+        }
+        (count, next)
+    }
+
+    // Goes on there.
+    #[inline(always)]
+    fn go_to(&mut self, next: Next)
+        ensures { self.new ≡ record self.old { next = next } }
+    {
+        self.next = next;
+    }
+
     // Past the next step of a leaf that takes steps of its own and has this top operand.
     #[inline(always)]
     fn pass_step(&mut self, numbered: &Numbered, top: Option<u32>)
@@ -203,6 +235,23 @@ impl Ahead {
             },
             Some(innermost) => entry_place(numbered, innermost.place, section),
         }
+    }
+}
+
+// Where a leaf goes on after the statement there, if that has none in it.
+#[inline(always)]
+fn after_plain(numbered: &Numbered, next: Next) -> Option<Next>
+    ensures { result ≡ plain_after numbered.now.entries.items next }
+{
+    let Some(place) = next else {
+        return None;
+    };
+    match numbered.entries.get(place) {
+        None => None,
+        Some(entry) => match &entry.way {
+            Way::Plain(_, after) => Some(*after),
+            Way::If(_, _) | Way::Loop(_, _, _) => None,
+        },
     }
 }
 
@@ -342,6 +391,41 @@ pub(crate) fn pass_by(programs: &[Numbered], aheads: &mut [Ahead], leaf: LeafNo,
     ensures { (operands : List ℕ) → IsTop top operands → PassesBy programs.now aheads.old aheads.new leaf operands }
 {
     aheads[leaf.index()].pass_step(&programs[leaf.index()], top);
+}
+
+/// The statements with none in them that a leaf has before it, one after the other, at most so many: how many, and where it goes on after them.
+#[inline(always)]
+pub(crate) fn straight_in(
+    programs: &[Numbered],
+    aheads: &[Ahead],
+    leaf: LeafNo,
+    most: u32,
+) -> (u32, Next)
+    requires leaf { leaf < length programs.now }
+    requires aheads { length aheads.now ≡ length programs.now }
+    ensures few { result.0 ≤ most }
+    ensures straight { IsStraight programs.now aheads.now leaf result.0 result.1 }
+    ensures all { (n : ℕ) (to : Option ℕ) → IsStraight programs.now aheads.now leaf n to → most ≤ n → result.0 ≡ most }
+{
+    aheads[leaf.index()].straight(&programs[leaf.index()], most)
+}
+
+/// How many steps a leaf may take alone from where it stands, one after the other, as far as its program tells. It says how far to look, and no more.
+#[inline(always)]
+pub(crate) fn alone_in(programs: &[Numbered], aheads: &[Ahead], leaf: LeafNo) -> u32
+    requires leaf { leaf < length programs.now }
+    requires aheads { length aheads.now ≡ length programs.now }
+{
+    programs[leaf.index()].alone_from(aheads[leaf.index()].next)
+}
+
+/// Lets a leaf go on there.
+#[inline(always)]
+pub(crate) fn go_to(aheads: &mut [Ahead], leaf: LeafNo, next: Next)
+    requires { leaf < length aheads.old }
+    ensures { (a : places.Ahead) → slice_get aheads.old leaf ≡ Some a → aheads.new ≡ slice_set aheads.old leaf (record a { next = next }) }
+{
+    aheads[leaf.index()].go_to(next);
 }
 
 // Goes on past the next step of a leaf that takes steps of its own.

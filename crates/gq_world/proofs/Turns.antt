@@ -14,6 +14,7 @@ use Rattle.gq_model.specs.declared.fault.Wrong.{Wrong}
 use Rattle.gq_model.specs.machine.Run.{Ran, after_step, label_at, line_of, turn_from, turns_of}
 use Rattle.gq_model.specs.Promises.{IsUpheld}
 use Rattle.gq_laws.specs.Stands.{Stands}
+use Rattle.gq_bytecode.specs.Nexts.{GoesAlone, leaf_with}
 use Rattle.gq_machine.specs.Events.{event_of}
 use Rattle.gq_machine.specs.Machines.{AreCountable, IsCountable}
 use Rattle.gq_machine.specs.declared.event.Event.{Event}
@@ -102,6 +103,29 @@ has_taken s old w x n same is count less told =
     let leaf = there_is w.leaves x (omega (arith, count, less, few)) in
     let taken : n ≡ leaf.0.steps = subst (λ (o : Option model.Leaf). IfSome o (λ (l : model.Leaf). n ≡ l.steps)) leaf.1 told in
     record { leaf = leaf.0; there = sym (ap (λ (v : model.World). slice_get v.leaves x) is) ∙ leaf.1; taken = sym taken }
+
+-- STEPS THAT A LEAF TAKES ALONE
+
+-- what stands stands after them
+alone_stands : Keeps → (s : Scenario) (x n : ℕ) (w v : model.World) → GoesAlone (system s) x n w v → Stands s w → Stands s v
+alone_stands keeps s x zero w v e h = subst (Stands s) e h
+alone_stands keeps s x (suc n) w v g h =
+    let mid = model.with_leaf w x (leaf_with g.0 g.1) in alone_stands keeps s x n mid v g.5 (keeps s w x mid doing.Quiet h g.4)
+
+-- and the budgets stay
+pub kept_alone : Keeps → (s t : Scenario) (w v : model.World) (all : List Budget) (x n : ℕ) → t ≡ s → GoesAlone (system s) x n w v → IsBudgeted s w all
+    → IsBudgeted t v all
+kept_alone keeps s t w v all x n same goes h =
+    record {
+      stands = subst (λ (r : Scenario). ∥ Stands r v ∥₁) (sym same) (∥∥₁_elim h.stands (hlevel) (λ i. ∣ alone_stands keeps s x n w v goes i ∣₁));
+      budgets_are = h.budgets_are ∙ ap budgets (sym same);
+    }
+
+-- as of the world that contracts see
+pub alone_in : (s : Scenario) (w v : model.World) (old : World) (x n : ℕ) → s ≡ old.scenario → w ≡ old.world → GoesAlone (system s) x n w v
+    → GoesAlone (system old.scenario) x n old.world v
+alone_in s w v old x n a b goes =
+    subst (λ (r : Scenario). GoesAlone (system r) x n old.world v) a (subst (λ (z : model.World). GoesAlone (system s) x n z v) b goes)
 
 -- MANY TURNS
 

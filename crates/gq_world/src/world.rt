@@ -15,6 +15,7 @@ ghost use Rattle.gq_init.specs.Counts.{Writes, written_to, failures_of};
 ghost use Rattle.gq_world.specs.Headline.{Standing, Upheld};
 ghost use Rattle.gq_init.specs.Told.{told_of};
 ghost use Rattle.gq_world.specs.Lines.{all_accounts, accounts_text};
+ghost use Rattle.gq_bytecode.specs.Nexts.{GoesAlone};
 ghost use Rattle.gq_machine.specs.Events.{event_of};
 ghost use Rattle.gq_world.specs.Worlds.{HasTaken, IsTurn, StopsWriting, line_told};
 ghost use Rattle.gq_world.specs.internal.Going.{HasRun, IsCut};
@@ -235,6 +236,22 @@ impl World {
     {
         accepted_laws();
         self.machine.step(leaf, line)
+    }
+
+    /// Turns that a leaf takes alone, at least one and at most so many: each is a step that shows nothing, and changes nothing but what is left to do, the open
+    /// loops, the operands, the locals and the steps of this leaf. It tells how many are left: those before which others have a part in the next step, or the
+    /// leaf can't run. They take no host memory.
+    #[inline(always)]
+    pub fn turns_alone(&mut self, leaf: LeafNo, turns: u32) -> u32
+        requires leaf { leaf < length (components self.old.scenario) }
+        requires some { 0 < turns }
+        ensures scenario { self.new.scenario ≡ self.old.scenario }
+        ensures left { result ≤ turns }
+        ensures alone { GoesAlone (system self.old.scenario) leaf (turns - result) self.old.world self.new.world }
+        ensures stopped { self.new.stopped ≡ self.old.stopped }
+    {
+        accepted_laws();
+        self.machine.turns_alone(leaf, turns)
     }
 
     // Turns of a leaf, at most so many, up to the first that gives a line, and those that show numbers after it. Their lines are put into `lines` and written.

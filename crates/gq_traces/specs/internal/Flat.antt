@@ -1,5 +1,5 @@
 -- Numbered statements as a list of entries, each of which leads to others by their places.
-use Rattle.std.specs.Prelude.{◌≡◌, ◌++◌, ◌-◌, ℕ, suc, ◌+◌, ◌<◌, ◌∷◌, [], List, Option, Some, None, length, map, slice_get}
+use Rattle.std.specs.Prelude.{◌≡◌, ◌++◌, ◌-◌, ℕ, zero, suc, ◌+◌, ◌<◌, ◌∷◌, [], List, Option, Some, None, length, map, slice_get}
 use Rattle.gq_model.specs.declared.program.Section.{Section}
 use Rattle.gq_model.specs.machine.Program.{Program, Statements, size}
 use Rattle.gq_model.specs.machine.Scenario.{Scenario, components}
@@ -144,6 +144,30 @@ AllStand [] [] = Unit {0}
 AllStand [] (a ∷ rest) = ⊥
 AllStand (es ∷ programs) [] = ⊥
 AllStand (es ∷ programs) (a ∷ rest) = Stands es.entries.items a × AllStand programs rest
+
+-- where a leaf goes on after a statement of this way that has none in it
+abbrev pub plain_way : Way → Option (Option ℕ)
+plain_way (way.Plain text next) = Some next
+plain_way (way.If arm other) = None
+plain_way (way.Loop count body next) = None
+
+abbrev pub plain_at : Option Entry → Option (Option ℕ)
+plain_at None = None
+plain_at (Some e) = plain_way e.way
+
+-- where it goes on after the statement there, if that has none in it
+abbrev pub plain_after : List Entry → Option ℕ → Option (Option ℕ)
+plain_after es None = None
+plain_after es (Some place) = plain_at (slice_get es place)
+
+abbrev pub then_plain : Option (Option ℕ) → (Option ℕ → Option (Option ℕ)) → Option (Option ℕ)
+then_plain None go = None
+then_plain (Some next) go = go next
+
+-- and after so many of them, one after the other
+abbrev pub plain_ahead : List Entry → ℕ → Option ℕ → Option (Option ℕ)
+plain_ahead es zero next = Some next
+plain_ahead es (suc n) next = then_plain (plain_after es next) (plain_ahead es n)
 
 -- the innermost loop goes round once more
 abbrev pub another_round : List Round → List Round

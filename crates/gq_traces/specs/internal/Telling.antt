@@ -29,8 +29,10 @@ use Rattle.gq_world.specs.declared.fault.RunFault.{RunFault}
 use Rattle.gq_world.specs.declared.fault.RunFault.TheVariants as fault
 use Rattle.gq_traces.specs.Places.{Ahead, Place, ahead, body_in, next_place, past, place, section_at}
 use Rattle.gq_traces.specs.Written.{tells_all}
-use Rattle.gq_traces.specs.Trace.{Due, Traced, account_change, account_changes, changes, due_in, head_line, session_changes, standing_of, told_step}
+use Rattle.gq_traces.specs.Trace.{Due, Traced, account_change, account_changes, after_turns, changes, due_in, head_line, session_changes, standing_of}
+use Rattle.gq_traces.specs.Trace.{told_step, turns_text}
 use Rattle.gq_traces.specs.declared.noted.Notes.{Notes}
+use Rattle.gq_traces.specs.declared.noted.Use.{Use}
 use Rattle.gq_traces.specs.declared.sessions.ToldSession.{ToldSession}
 use Rattle.gq_traces.specs.declared.trace.Own.{Own}
 use Rattle.gq_traces.specs.declared.trace.Tracing.{Tracing}
@@ -286,6 +288,16 @@ pub record TellsTurns {W : Type 0} (contents : W → Option (List ℕ)) (text : 
   pub written : (t : Traced) → IsOn before.programs.items before.aheads.items old turns t → Goes contents out_old out_new was now (text t)
   pub on : (t : Traced) → IsOn before.programs.items before.aheads.items old turns t
       → IsOn after.programs.items after.aheads.items new (turns + more) (go t)
+
+-- n turns of the x-th leaf, of which nothing is told: each trace that was on the way there goes on so, and the leaf holds and does what it held and did
+pub record IsSilent (all : Bool) (x n : ℕ) (old new : worlds.World) (before after : Tracing) : Type 0 where
+  pub scenario : new.scenario ≡ old.scenario
+  pub can : CanTrace new after
+  pub uses : (u : Use) → IsUse old.scenario old.world x u → IsUse new.scenario new.world x u
+  pub none : (turns : ℕ) (t : Traced) → IsOn before.programs.items before.aheads.items old turns t
+      → [] ≡ turns_text all old.scenario (budgets_of old.scenario) x n t
+  pub on : (turns : ℕ) (t : Traced) → IsOn before.programs.items before.aheads.items old turns t
+      → IsOn after.programs.items after.aheads.items new (turns + n) (after_turns (system old.scenario) x n t)
 
 -- why turns are not read
 abbrev pub IsTurnsFault : RunFault → Turned → Type 0

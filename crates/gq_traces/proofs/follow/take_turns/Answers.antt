@@ -1,19 +1,45 @@
 -- More turns.
-use Rattle.std.proofs.Common.{subst}
+use Rattle.std.proofs.Common.{◌≡◌, ◌+◌, refl, subst, arith}
 use Rattle.gq_model.specs.machine.Scenario.{Scenario, system}
-use Rattle.gq_traces.specs.Trace.{after_turn, after_turns}
+use Rattle.gq_traces.specs.Trace.{after_turns}
 use Rattle.gq_traces.specs.internal.Follows.{Follows}
-use Rattle.gq_traces.proofs.Following.{follows_both, turns_more}
+use Rattle.gq_traces.proofs.Following.{follows_both, follows_none}
+use Rattle.gq_traces.proofs.Turns_told.{after_sum}
 use Rattle.gq_traces.proofs.follow.take_turns.Goals as goal
 
-pub take_turn-requires-clause-followed : goal.take_turn-requires-clause-followed
-take_turn-requires-clause-followed c = c.loop-turn.invariant.followed
+pub loop-done-init : goal.loop-done-init
+loop-done-init c =
+    record {
+      few = omega arith;
+      follows = follows_none (after_turns (system c.args.world.now.scenario) c.args.leaf 0) c.args.world.now c.args.followed.now (λ t. refl)
+          c.requires.followed;
+    }
 
-pub loop-turn-preserved : goal.loop-turn-preserved
-loop-turn-preserved c =
+pub take_some-done-requires-clause-followed : goal.take_some-done-requires-clause-followed
+take_some-done-requires-clause-followed c = c.loop-done.invariant.follows.followed
+
+pub loop-done-preserved : goal.loop-done-preserved
+loop-done-preserved c =
     let s = system c.args.world.now.scenario in
-    let l = c.loop-turn in
-    follows_both (after_turns s c.args.leaf l._turn) (after_turn s c.args.leaf) _ c.args.world.now l.world c.take_turn.new.world c.args.followed.now l.followed
-    c.take_turn.new.followed (turns_more s c.args.leaf l._turn) l.invariant
-    (subst (λ (r : Scenario). Follows (after_turn (system r) c.args.leaf) l.world c.take_turn.new.world l.followed c.take_turn.new.followed)
-    l.invariant.scenario c.take_turn.ensures)
+    let l = c.loop-done in
+    let took = c.take_some-done in
+    let few = took.ensures.few in
+    let within = l.invariant.few in
+    let test = c.loop-done-test.true in
+    record {
+      few = omega (arith, few, within, test);
+      follows = follows_both (after_turns s c.args.leaf l.done) (after_turns s c.args.leaf took.result) (after_turns s c.args.leaf (l.done + took.result))
+          c.args.world.now l.world took.new.world c.args.followed.now l.followed took.new.followed (after_sum s c.args.leaf l.done took.result)
+          l.invariant.follows
+          (subst (λ (r : Scenario). Follows (after_turns (system r) c.args.leaf took.result) l.world took.new.world l.followed took.new.followed)
+          l.invariant.follows.scenario took.ensures.follows);
+    }
+
+pub returns : goal.returns
+returns c =
+    let l = c.loop-done in
+    let over = c.loop-done-test.false in
+    let few = l.invariant.few in
+    let same : l.done ≡ c.args.count = omega (arith, over, few) in
+    subst (λ n. Follows (after_turns (system c.args.world.now.scenario) c.args.leaf n) c.args.world.now l.world c.args.followed.now l.followed) same
+    l.invariant.follows

@@ -1,3 +1,4 @@
+use Rattle.std.proofs.Common.{◌-◌, ◌≤◌}
 use Rattle.gq_model.specs.machine.Scenario.{system}
 use Rattle.gq_traces.specs.Trace.{after_turns, turns_text}
 use Rattle.gq_traces.specs.Written.{tells_all}
@@ -6,9 +7,14 @@ use Rattle.gq_traces.specs.internal.Telling.{TellsTurns, budgets_of}
 use Rattle.gq_traces.proofs.trace.tell_turns.Given as goal
 
 -- the turns so far were told, and it is known what the leaf holds and does
-abbrev pub invariant-loop-number : goal.invariant-loop-number
-invariant-loop-number g l =
-    TellsTurns g.W.Write.contents
-    (turns_text (tells_all l.telling) l.fn.world.scenario (budgets_of l.fn.world.scenario) l.item.0 l.number)
-    (after_turns (system l.fn.world.scenario) l.item.0 l.number) l.turns l.number l.fn.world l.world l.fn.tracing l.tracing l.fn.out l.out l.fn.going l.going
-    × IsUse l.world.scenario l.world.world l.item.0 l.before
+abbrev pub invariant-loop-done : goal.invariant-loop-done
+invariant-loop-done g l = record {
+  few : l.done ≤ l.item.1;
+  told : TellsTurns g.W.Write.contents
+      (turns_text (tells_all l.telling) l.fn.world.scenario (budgets_of l.fn.world.scenario) l.item.0 l.done)
+      (after_turns (system l.fn.world.scenario) l.item.0 l.done) l.turns l.done l.fn.world l.world l.fn.tracing l.tracing l.fn.out l.out l.fn.going l.going;
+  before : IsUse l.world.scenario l.world.world l.item.0 l.before;
+}
+
+abbrev pub decreases-loop-done : goal.decreases-loop-done
+decreases-loop-done g l = l.item.1 - l.done

@@ -1,0 +1,247 @@
+-- Steps that a leaf takes alone, of which nothing is told.
+use Rattle.std.proofs.Common.{◌≡◌, ◌∙◌, ℕ, zero, suc, ◌+◌, ◌<◌, Bool, true, false, List, [], ◌∷◌, ◌++◌, length, Some, Ok, refl, ap, sym, subst, arith}
+use Rattle.std.proofs.Math.Logic.{∥∥₁_elim}
+use Rattle.std.specs.Prelude.{slice_get, slice_set}
+use Rattle.gq_bytecode.specs.Alones.{State}
+use Rattle.gq_bytecode.specs.Nexts.{Active, leaf_with}
+use Rattle.gq_laws.proofs.gathering.Standing.{stands_next}
+use Rattle.gq_laws.proofs.linking.Worlds.{set_here}
+use Rattle.gq_laws.specs.Stands.{Stands}
+use Rattle.gq_model.proofs.Small.{some_same}
+use Rattle.gq_model.specs.declared.phase.Phase.{Phase}
+use Rattle.gq_model.specs.declared.phase.Phase.TheVariants as phase
+use Rattle.gq_model.specs.machine.Amounts.{Ram, Caps}
+use Rattle.gq_model.specs.machine.Doing.{Quiet}
+use Rattle.gq_model.specs.machine.Scenario.{Scenario, components, system}
+use Rattle.gq_model.specs.machine.Step.{next}
+use Rattle.gq_model.specs.machine.Sums.{held}
+use Rattle.gq_model.specs.machine.World as model
+use Rattle.gq_model.specs.machine.World.{Leaf, with_leaf}
+use Rattle.gq_views.specs.Tree.{label_of}
+use Rattle.gq_world.specs.Worlds.{World}
+use Rattle.gq_traces.specs.Trace.{Traced, after_turn, after_turns, changes, turn_text, turns_text}
+use Rattle.gq_traces.specs.declared.follow.Followed.{Followed}
+use Rattle.gq_traces.specs.declared.noted.Notes.{Notes}
+use Rattle.gq_traces.specs.declared.noted.Use.{Use}
+use Rattle.gq_traces.specs.declared.numbered.Numbered.{Numbered as Entries}
+use Rattle.gq_traces.specs.declared.trace.Tracing.{Tracing}
+use Rattle.gq_traces.specs.declared.tracker.Ahead as places
+use Rattle.gq_traces.specs.internal.Alone.{StepsAlone}
+use Rattle.gq_traces.specs.internal.Flat.{AllStand, AreAheads, ArePrograms, programs_of}
+use Rattle.gq_traces.specs.internal.Follows.{Follows, IsFollowed}
+use Rattle.gq_traces.specs.internal.Noted.{AreNoted, IsUse}
+use Rattle.gq_traces.specs.internal.Telling.{CanTrace, GoesOn, IsOn, IsSilent, PassesBy, budgets_of, takes_own}
+use Rattle.gq_traces.proofs.Own_turns.{due_there, own_goes_by, own_stand}
+use Rattle.gq_traces.proofs.Still_noted.{step_left}
+use Rattle.gq_traces.proofs.Turns_told.{silent_text, taken_on}
+use Rattle.gq_traces.proofs.Unchanged.{amount_self, phase_self}
+
+set_long : {A : Type 0} (items : List A) (i : ℕ) (a : A) → length (slice_set items i a) ≡ length items
+set_long [] i a = refl
+set_long (b ∷ items) zero a = refl
+set_long (b ∷ items) (suc i) a = ap suc (set_long items i a)
+
+active_own : (p : Phase) → Active p → takes_own p ≡ true
+active_own phase.Running h = refl
+active_own phase.Handling h = refl
+active_own phase.Pending h = absurd h
+active_own phase.Blocked h = absurd h
+active_own phase.Serving h = absurd h
+active_own phase.Exited h = absurd h
+
+-- WHAT THE LEAF HOLDS AND DOES
+
+module _ (s : Scenario) (x : ℕ) where
+  module _ (w : model.World) (leaf : Leaf) (st : State) (there : slice_get w.leaves x ≡ Some leaf) where
+    pub use_then : (u : Use) → IsUse s w x u → IsUse s (with_leaf w x (leaf_with leaf st)) x u
+    use_then u h =
+        let same : h.leaf ≡ leaf = some_same (sym h.there ∙ there) in
+        record {
+          leaf = leaf_with leaf st;
+          there = set_here w.leaves x (leaf_with leaf st) leaf there;
+          phase = h.phase ∙ ap (λ (l : Leaf). l.phase) same;
+          ram = h.ram ∙ ap (held Ram w x) same;
+          caps = λ two. h.caps two ∙ ap (held Caps w x) same;
+        }
+
+    abbrev use_of : Use
+    use_of = record { used = record { ram = held Ram w x leaf; caps = held Caps w x leaf }; phase = leaf.phase }
+
+    use_is : IsUse s w x use_of
+    use_is = record { leaf = leaf; there = there; phase = refl; ram = refl; caps = λ two. refl }
+
+  pub use_after : (programs : List Entries) (n : ℕ) (w v : model.World) (old new : List places.Ahead) → StepsAlone (system s) programs x n w v old new
+      → (u : Use) → IsUse s w x u → IsUse s v x u
+  use_after programs zero w v old new h u is = subst (λ (z : model.World). IsUse s z x u) h.0 is
+  use_after programs (suc n) w v old new h u is =
+      use_after programs n (with_leaf w x (leaf_with h.0 h.1)) v h.2 new h.7 u (use_then w h.0 h.1 h.3 u is)
+
+-- WHERE IT STANDS
+
+module _ (s : Scenario) (x : ℕ) (less : x < length (components s)) (programs : List Entries) (are : ArePrograms programs (programs_of s)) (stopped : Bool) where
+  abbrev at : model.World → World
+  at w = record { scenario = s; world = w; stopped = stopped }
+
+  module _ (w : model.World) (leaf : Leaf) (st : State) (old mid : List places.Ahead) (there : slice_get w.leaves x ≡ Some leaf) (active : Active leaf.phase)
+      (goes : next (system s) w x ≡ Ok (with_leaf w x (leaf_with leaf st), Quiet)) (passes : PassesBy programs old mid x leaf.operands)
+      (count : length w.leaves ≡ length (components s)) where
+    abbrev then : model.World
+    then = with_leaf w x (leaf_with leaf st)
+
+    abbrev u : Use
+    u = use_of s x w leaf st there
+
+    u_is : IsUse s w x u
+    u_is = use_is s x w leaf st there
+
+    own : takes_own u.phase ≡ true
+    own = active_own leaf.phase active
+
+    goes_on : GoesOn programs old mid s w x
+    goes_on =
+        own_goes_by (at w) x u u_is own less count programs old are mid
+        (λ l here. subst (λ (k : Leaf). PassesBy programs old mid x k.operands) (some_same (sym there ∙ here)) passes)
+
+    stand_then : AllStand programs old → AllStand programs mid
+    stand_then all = own_stand (at w) x u u_is own less count programs old are mid all goes_on
+
+    on_then : (turns : ℕ) (t : Traced) → IsOn programs old (at w) turns t → IsOn programs mid (at then) (turns + 1) (after_turn (system s) x t)
+    on_then turns t on =
+        let d = due_there (at w) x u u_is own less count programs old are t.aheads on.aheads in
+        taken_on false s (budgets_of s) x programs old (at w) turns t on d.0 d.1 (at then) Quiet goes mid (goes_on t.aheads d.0 on.aheads d.1)
+
+    count_then : length then.leaves ≡ length (components s)
+    count_then = set_long w.leaves x (leaf_with leaf st) ∙ count
+
+    -- WHAT IS TOLD
+
+    module _ (stands : ∥ Stands s w ∥₁) (notes : Notes) (noted : AreNoted s w notes) where
+      left : AreNoted s then notes × (changes s (budgets_of s) (label_of (slice_get (components s) x)) w then Quiet ≡ [])
+      left =
+          step_left (at w) (at then) x Quiet (record { scenario = s; world = w }) (record { scenario = s; world = then }) u u stands refl goes refl refl u_is
+          (use_then s x w leaf st there u u_is) (phase_self u.phase) (amount_self u.used) notes noted (label_of (slice_get (components s) x))
+
+      none_told : (turns : ℕ) (t : Traced) → IsOn programs old (at w) turns t → [] ≡ turn_text false s (budgets_of s) x t
+      none_told turns t on =
+          let d = due_there (at w) x u u_is own less count programs old are t.aheads on.aheads in
+          silent_text false s (budgets_of s) x programs old (at w) turns t on d.0 d.1 (at then) Quiet goes refl left.1
+
+      stands_then : ∥ Stands s then ∥₁
+      stands_then = ∥∥₁_elim stands (hlevel) (λ h. ∣ stands_next s w x then Quiet h goes ∣₁)
+
+  -- after so many steps
+  record Gone (n : ℕ) (w v : model.World) (old new : List places.Ahead) : Type 0 where
+    stand : AllStand programs old → AllStand programs new
+    on : (turns : ℕ) (t : Traced) → IsOn programs old (at w) turns t → IsOn programs new (at v) (turns + n) (after_turns (system s) x n t)
+
+  gone : (n : ℕ) (w v : model.World) (old new : List places.Ahead) → StepsAlone (system s) programs x n w v old new
+      → length w.leaves ≡ length (components s) → Gone n w v old new
+  gone zero w v old new h count =
+      subst (λ (z : model.World). Gone 0 w z old new) h.0 (subst (λ l. Gone 0 w w old l) h.1 (record {
+        stand = λ all. all;
+        on = λ turns t on. (let same : turns ≡ turns + 0 = omega arith in subst (λ k. IsOn programs old (at w) k t) same on);
+      }))
+  gone (suc n) w v old new h count =
+      let then = with_leaf w x (leaf_with h.0 h.1) in
+      let on = on_then w h.0 h.1 old h.2 h.3 h.4 h.5 h.6 count in
+      let more = gone n then v h.2 new h.7 (count_then w h.0 h.1 old h.2 h.3 h.4 h.5 h.6 count) in
+      record {
+        stand = λ all. more.stand (stand_then w h.0 h.1 old h.2 h.3 h.4 h.5 h.6 count all);
+        on = λ turns t is. (let same : turns + 1 + n ≡ turns + suc n = omega arith in
+            subst (λ k. IsOn programs new (at v) k (after_turns (system s) x n (after_turn (system s) x t))) same
+            (more.on (turns + 1) (after_turn (system s) x t) (on turns t is)));
+      }
+
+  -- of which nothing is told
+  record Untold (n : ℕ) (w v : model.World) (old new : List places.Ahead) (notes : Notes) : Type 0 where
+    noted : AreNoted s v notes
+    none : (turns : ℕ) (t : Traced) → IsOn programs old (at w) turns t → [] ≡ turns_text false s (budgets_of s) x n t
+
+  untold : (n : ℕ) (w v : model.World) (old new : List places.Ahead) (notes : Notes) → StepsAlone (system s) programs x n w v old new
+      → length w.leaves ≡ length (components s) → ∥ Stands s w ∥₁ → AreNoted s w notes → Untold n w v old new notes
+  untold zero w v old new notes h count stands noted =
+      subst (λ (z : model.World). Untold 0 w z old new notes) h.0
+      (subst (λ l. Untold 0 w w old l notes) h.1 (record { noted = noted; none = λ turns t on. refl }))
+  untold (suc n) w v old new notes h count stands noted =
+      let then = with_leaf w x (leaf_with h.0 h.1) in
+      let none = none_told w h.0 h.1 old h.2 h.3 h.4 h.5 h.6 count stands notes noted in
+      let on = on_then w h.0 h.1 old h.2 h.3 h.4 h.5 h.6 count in
+      let more = untold n then v h.2 new notes h.7 (count_then w h.0 h.1 old h.2 h.3 h.4 h.5 h.6 count)
+      (stands_then w h.0 h.1 old h.2 h.3 h.4 h.5 h.6 count stands notes noted) (left w h.0 h.1 old h.2 h.3 h.4 h.5 h.6 count stands notes noted).0 in
+      record {
+        noted = more.noted;
+        none = λ turns t is. (λ i. none turns t is i ++ more.none (turns + 1) (after_turn (system s) x t) (on turns t is) i);
+      }
+
+-- by lists of other names
+pub steps_as : (s : Scenario) (P Q : List Entries) (A B C D : List places.Ahead) (x n : ℕ) (w v : model.World) → P ≡ Q → A ≡ B → C ≡ D
+    → StepsAlone (system s) P x n w v A C → StepsAlone (system s) Q x n w v B D
+steps_as s P Q A B C D x n w v p a c h =
+    subst (λ R. StepsAlone (system s) R x n w v B D) p
+    (subst (λ l. StepsAlone (system s) P x n w v l D) a (subst (λ l. StepsAlone (system s) P x n w v A l) c h))
+
+-- turns of which nothing is told, of a trace on the way
+pub silent : (old new : World) (before after : Tracing) (x n : ℕ) → new.scenario ≡ old.scenario → x < length (components old.scenario)
+    → ∥ Stands old.scenario old.world ∥₁ → length old.world.leaves ≡ length (components old.scenario) → CanTrace old before
+    → after.programs ≡ before.programs → after.notes ≡ before.notes
+    → StepsAlone (system old.scenario) before.programs.items x n old.world new.world before.aheads.items after.aheads.items
+    → IsSilent false x n old new before after
+silent old new before after x n same less stands count can programs notes steps =
+    let s = old.scenario in
+    let g = gone s x less before.programs.items can.programs old.stopped n old.world new.world before.aheads.items after.aheads.items steps count in
+    let h = untold s x less before.programs.items can.programs old.stopped n old.world new.world before.aheads.items after.aheads.items before.notes steps
+    count stands can.noted in
+    let items = ap (λ p. p.items) programs in
+    record {
+      scenario = same;
+      can = record {
+        programs = subst (λ l. ArePrograms l (programs_of new.scenario)) (sym items)
+            (subst (λ (r : Scenario). ArePrograms before.programs.items (programs_of r)) (sym same) can.programs);
+        stands = subst (λ l. AllStand l after.aheads.items) (sym items) (g.stand can.stands);
+        noted = subst (AreNoted new.scenario new.world) (sym notes) (subst (λ (r : Scenario). AreNoted r new.world before.notes) (sym same) h.noted);
+      };
+      uses = λ u is.
+          subst (λ (r : Scenario). IsUse r new.world x u) (sym same)
+          (use_after s x before.programs.items n old.world new.world before.aheads.items after.aheads.items steps u is);
+      none = λ turns t on. h.none turns t (record { world = on.world; aheads = on.aheads; count = on.count });
+      on = λ turns t on. (let is = g.on turns t (record { world = on.world; aheads = on.aheads; count = on.count }) in record {
+        world = is.world;
+        aheads = subst (λ l. AreAheads l after.aheads.items (after_turns (system s) x n t).aheads) (sym items) is.aheads;
+        count = is.count;
+      });
+    }
+
+-- no turn at all
+pub no_silent : (all : Bool) (w : World) (t : Tracing) (x : ℕ) → CanTrace w t → IsSilent all x 0 w w t t
+no_silent all w t x can =
+    record {
+      scenario = refl;
+      can = can;
+      uses = λ u is. is;
+      none = λ turns v on. refl;
+      on = λ turns v on. (let same : turns ≡ turns + 0 = omega arith in subst (λ k. IsOn t.programs.items t.aheads.items w k v) same on);
+    }
+
+-- turns that are taken untold
+pub followed : (old new : World) (before after : Followed) (x n : ℕ) → new.scenario ≡ old.scenario → new.stopped ≡ old.stopped
+    → x < length (components old.scenario) → length old.world.leaves ≡ length (components old.scenario) → IsFollowed before old
+    → after.programs ≡ before.programs
+    → StepsAlone (system old.scenario) before.programs.items x n old.world new.world before.aheads.items after.aheads.items
+    → Follows (after_turns (system old.scenario) x n) old new before after
+followed old new before after x n same stopped less count h programs steps =
+    let s = old.scenario in
+    let g = gone s x less before.programs.items h.programs old.stopped n old.world new.world before.aheads.items after.aheads.items steps count in
+    let items = ap (λ p. p.items) programs in
+    record {
+      scenario = same;
+      stopped = stopped;
+      followed = record {
+        programs = subst (λ l. ArePrograms l (programs_of new.scenario)) (sym items)
+            (subst (λ (r : Scenario). ArePrograms before.programs.items (programs_of r)) (sym same) h.programs);
+        stand = subst (λ l. AllStand l after.aheads.items) (sym items) (g.stand h.stand);
+      };
+      at = λ t is. (let on = g.on t.turns t (record { world = is.world; aheads = is.aheads; count = refl }) in record {
+        world = on.world;
+        aheads = subst (λ l. AreAheads l after.aheads.items (after_turns (system s) x n t).aheads) (sym items) on.aheads;
+      });
+    }
