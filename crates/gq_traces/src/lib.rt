@@ -18,9 +18,9 @@
 //!
 //! Each of these writes the text of its definition (`specs/Written`) and nothing else, and refuses what `check` and `run` refuse.
 //!
-//! `numbered` has the statements of a program with their numbers, `tracker` where each leaf stands among them, `alone` steps that a leaf takes alone; `noted` has
-//! what is noted of a world, and `sessions` what of a session; `steps` tells a step, by `telling`. `state` tells accounts, by `items`, after turns that `follow`
-//! takes.
+//! `numbered` has the statements of a program with their numbers, `tracker` where each leaf stands among them, `alone` steps of a leaf in one go; `noted` has
+//! what is noted of a world, and `sessions` what of a session; `steps` tells a step, by `telling`. `state` tells accounts, by `items`, after turns that
+//! `follow` takes.
 #![tactic(auto)]
 
 mod alone;
