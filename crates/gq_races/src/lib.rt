@@ -13,8 +13,6 @@
 //! slot, what is in it or what is behind it (`specs/Races`). What does not depend on the turns is said in `gq_determined`.
 #![tactic(auto)]
 
-#[cfg(test)]
-mod cases;
 mod changes;
 mod openers;
 pub mod races;

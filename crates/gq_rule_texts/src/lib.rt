@@ -13,8 +13,6 @@ mod limits;
 mod program;
 mod scenario;
 mod table;
-#[cfg(test)]
-mod tests;
 mod verifier;
 mod write;
 

@@ -19,8 +19,6 @@ mod lines;
 mod places;
 mod reader;
 mod stop;
-#[cfg(test)]
-mod tests;
 mod tree;
 
 pub use contents::ContentLine;

@@ -22,7 +22,5 @@ pub mod laws;
 mod left;
 pub mod list;
 pub mod listing;
-#[cfg(test)]
-mod rows;
 pub mod tree;
 pub mod words;

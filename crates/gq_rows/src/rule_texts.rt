@@ -1,6 +1,6 @@
 // Which codes there are, that each entry has what it should, and how it is written.
-use crate::{Rule, families, rule_of, write_rules};
 use gq_init::counted::{Counted, WriteFault};
+use gq_rule_texts::{Rule, families, rule_of, write_rules};
 use std::alloc::{AllocError, Global};
 use std::io;
 use std::io::{Cursor, Write};

@@ -1,5 +1,5 @@
 // What is told of a server with two clients, which counts in its own memory or in that of each session.
-use crate::races::races;
+use gq_races::races::races;
 use gq_world::Counted;
 use std::alloc::{AllocError, Global};
 use std::io::Cursor;

@@ -1,7 +1,7 @@
 // Places in TOML texts of every form, each as line:column. A path has its steps between slashes; `#2` is an index.
 ghost use Rattle.std.specs.Prelude.{◌≤◌, length};
 
-use crate::{Lines, Places, Step, not_toml};
+use gq_toml_places::{Lines, Places, Step, not_toml};
 use std::alloc::{AllocError, Global};
 use std::test::Fail;
 

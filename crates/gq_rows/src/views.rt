@@ -1,7 +1,7 @@
 // What is told of a small scenario with a client and its server.
-use crate::graph::graph;
-use crate::list::list;
-use crate::tree::tree;
+use gq_views::graph::graph;
+use gq_views::list::list;
+use gq_views::tree::tree;
 use gq_world::{Counted, RunFault};
 use std::alloc::Global;
 use std::io::Cursor;
