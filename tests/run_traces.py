@@ -1,9 +1,10 @@
 #!/usr/bin/env python3
 """tests/run_traces.py PROGRAM: holds `trade trace` and `trade state` against `trade run`, over all examples and all cases of runs.
 
-The lines of a trace that begin with `[`, with the account lines at its end, are the run's text, with `--all` and without. The lines of a state that are not
-indented are the run's account lines; of a leaf that lives the lines `holds` add up to what it has used, and its quantum with what it receives less what it lends
-to its quota; of an init its quantum less what it hands on; so for capabilities. The last line is 'N passed, M failed', and the exit status is 1 where one failed.
+The lines of a trace that begin with `[`, with the account lines at its end, are the run's text, with `--all` and without; and without it the trace is
+what it is with it, but for the steps of which nothing but the first line is told. The lines of a state that are not indented are the run's account lines; of a
+leaf that lives the lines `holds` add up to what it has used, and its quantum with what it receives less what it lends to its quota; of an init its quantum less
+what it hands on; so for capabilities. The last line is 'N passed, M failed', and the exit status is 1 where one failed.
 """
 import pathlib
 import re
@@ -38,6 +39,13 @@ def of_trace(text):
     return "".join([line for line in lines[:last] if line.startswith("[")] + lines[last + 1 :])
 
 
+def changes_in(text):
+    """What a trace of all steps has of those that change something: all lines but the first ones of steps, behind which there is no other."""
+    lines = text.splitlines(keepends=True)
+    heads = [line.startswith(("turn ", "end after ")) for line in lines] + [True]
+    return "".join(line for i, line in enumerate(lines) if not (line.startswith("turn ") and heads[i + 1]))
+
+
 def adds_up(block):
     """Whether the items below an account line, the first of a block, add up to it."""
     account = ACCOUNT.match(block[0])
@@ -68,10 +76,13 @@ def blocks(text):
 
 def faults(program, run, scenario, turns):
     """What of the trace and the state of a run is not as the run's text says."""
-    for words in (["trace"], ["trace", "--all"]):
-        text = told(program, *words, scenario, turns)
-        if text is None or of_trace(text) != run:
-            yield " ".join(words)
+    changes, steps = told(program, "trace", scenario, turns), told(program, "trace", "--all", scenario, turns)
+    if changes is None or of_trace(changes) != run:
+        yield "trace"
+    if steps is None or of_trace(steps) != run:
+        yield "trace --all"
+    if changes is None or steps is None or changes_in(steps) != changes:
+        yield "trace beside trace --all"
     state = told(program, "state", scenario, turns)
     if state is None:
         yield "state"

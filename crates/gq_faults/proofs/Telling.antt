@@ -1,18 +1,22 @@
 -- Faults told one after the other.
 use Rattle.std.proofs.Common.{◌≡◌, ◌<◌, ◌≤◌, ◌+◌, ℕ, List, [], ◌∷◌, ◌++◌, length, map, get_or, drop, Option, Result, Ok, Err, refl, ap, sym, ◌∙◌, subst}
 use Rattle.std.proofs.Common.{append_assoc}
+use Rattle.std.specs.Prelude.{codes, decimal}
 use Rattle.std.proofs.lemmas.List.{drop_more, drop_all}
-use Rattle.gq_faults.specs.Lists.{all_found}
+use Rattle.gq_fault_texts.specs.Lists.{all_found}
+use Rattle.gq_fault_texts.proofs.Behind.{map-append}
 use Rattle.gq_init.proofs.Known.{appends_nothing, appends_both}
 use Rattle.gq_scenario.specs.Keys.{DocumentFault}
 use Rattle.gq_scenario.specs.Reading.{document_text}
-use Rattle.gq_faults.specs.Told.{AreTold, EndsEarly, Telling}
+use Rattle.gq_faults.specs.Told.{AreTold, EndsEarly, Telling, place_text}
 use Rattle.gq_faults.specs.declared.fault.TellError.{TellError}
 use Rattle.gq_faults.specs.declared.fault.TellError.TheVariants.{Memory, Write}
 
-pub map-append : {A B : Type 0} (f : A → B) (xs ys : List A) → map f (xs ++ ys) ≡ map f xs ++ map f ys
-map-append f [] ys = refl
-map-append f (x ∷ xs) ys = ap (λ l. f x ∷ l) (map-append f xs ys)
+-- the line of a fault, and its details
+pub told_is : (path fault details text : List ℕ) (line column : ℕ)
+    → text ≡ path ++ (58 ∷ (decimal line ++ (58 ∷ (decimal column ++ (58 ∷ 32 ∷ (fault ++ 10 ∷ []))))))
+    → text ++ details ≡ place_text path line column ++ fault ++ codes "\n" ++ details
+told_is path fault details text line column e = rw e (simp append_assoc)
 
 both_told : (path : List ℕ) (a b : List (List ℕ)) (x y : List ℕ) → AreTold path a x → AreTold path b y → AreTold path (a ++ b) (x ++ y)
 both_told path [] b x y h k = subst (AreTold path b) (ap (λ t. t ++ y) (sym h)) k

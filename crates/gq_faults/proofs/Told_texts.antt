@@ -19,7 +19,7 @@ use Rattle.gq_faults.specs.Faults.{fault_lines, refusal_of}
 use Rattle.gq_faults.specs.Told.{Tells, Telling}
 use Rattle.gq_faults.specs.declared.fault.TellError.{TellError}
 use Rattle.gq_faults.specs.declared.fault.TellError.TheVariants.{Memory}
-use Rattle.gq_faults.proofs.First_of_scenarios.{none_of_accepted}
+use Rattle.gq_faults.proofs.First_of_texts.{none_of_accepted}
 use Rattle.gq_faults.proofs.Telling.{no_lines, tells_early, told_as}
 
 -- WHY A TEXT IS REFUSED

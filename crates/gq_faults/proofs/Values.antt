@@ -14,7 +14,7 @@ use Rattle.toml.specs.View.{members_view}
 use Rattle.toml.proofs.Views.{Entry}
 use Rattle.gq_scenario.specs.Document.{table_of, keys_of, routes_of}
 use Rattle.gq_scenario.specs.Tables.{version_of, top_keys}
-use Rattle.gq_faults.specs.Lists.{all_found}
+use Rattle.gq_fault_texts.specs.Lists.{all_found}
 use Rattle.gq_faults.specs.Documents.{in_table, in_tables, Node, nodes_below, nodes_in, interfaces_faults}
 use Rattle.gq_faults.specs.Documents.{node_faults, routes_faults, table_faults, walk_faults}
 
@@ -56,10 +56,6 @@ node_step (suc n) entries h = let e : suc n - 1 ≡ n = omega arith in rw e refl
 
 pub one_more : {A : Type 0} (old new mid first rest : List A) (a : A) → mid ≡ old ++ a ∷ [] → new ≡ mid ++ rest → first ≡ a ∷ rest → new ≡ old ++ first
 one_more old new mid first rest a e f h = f ∙ (ap (λ l. l ++ rest) e ∙ (append_assoc old (a ∷ []) rest ∙ ap (λ l. old ++ l) (sym h)))
-
-pub then_more : {A : Type 0} (all old new rest here later : List A) → new ≡ old ++ here → rest ≡ here ++ later → old ++ rest ≡ all → new ++ later ≡ all
-then_more all old new rest here later e f h =
-    ap (λ l. l ++ later) e ∙ (append_assoc old here later ∙ (ap (λ l. old ++ l) (sym f) ∙ h))
 
 -- THE WALK
 

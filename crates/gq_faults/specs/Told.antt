@@ -1,34 +1,14 @@
 -- What is written of faults: a line for each with its place, and its details below it.
-use Rattle.std.specs.Prelude.{◌≡◌, ◌≢◌, ℕ, List, [], ◌∷◌, ◌++◌, map, Option, Result, OnOk, IfErr, codes, decimal, string_bytes}
+use Rattle.std.specs.Prelude.{◌≡◌, ℕ, List, [], ◌∷◌, ◌++◌, map, Option, Result, OnOk, IfErr, codes, decimal}
 use Rattle.std.specs.Io.KnownBytes.{Appends}
 use Rattle.gq_init.specs.Counts.{written_to, failures_of}
 use Rattle.gq_init.specs.Writes.{IsRaised}
 use Rattle.gq_init.specs.declared.counted.Counted.{Counted}
 use Rattle.gq_scenario.specs.Keys.{DocumentFault}
 use Rattle.gq_scenario.specs.Reading.{document_text}
-use Rattle.gq_faults.specs.declared.found.Found.{Found}
+use Rattle.gq_fault_texts.specs.Details.{AreDetails}
 use Rattle.gq_faults.specs.declared.fault.TellError.{TellError}
 use Rattle.gq_faults.specs.declared.fault.TellError.TheVariants.{Memory, Write}
-
--- a text without a line feed
-abbrev pub IsSingle : List ℕ → Type 0
-IsSingle [] = Unit {0}
-IsSingle (c ∷ rest) = (c ≢ 10) × IsSingle rest
-
-abbrev pub AreSingle : List (List ℕ) → Type 0
-AreSingle [] = Unit {0}
-AreSingle (words ∷ rest) = IsSingle words × AreSingle rest
-
--- each on a line of its own, indented by two blanks
-abbrev pub indented : List (List ℕ) → List ℕ
-indented [] = []
-indented (words ∷ rest) = (32 ∷ 32 ∷ words ++ 10 ∷ []) ++ indented rest
-
--- details are such lines
-pub record AreDetails (text : List ℕ) : Type 0 where
-  pub details : List (List ℕ)
-  pub single : AreSingle details
-  pub is : text ≡ indented details
 
 -- a place in a file: its path, a line and a column
 abbrev pub place_text : List ℕ → ℕ → ℕ → List ℕ
@@ -69,10 +49,6 @@ pub record Telling {A : Type 0} (path : List ℕ) (faults : List (List ℕ)) (be
 abbrev pub Tells : {W A : Type 0} → (W → Option (List ℕ)) → List ℕ → List (List ℕ) → Counted W → Counted W → Result A TellError → Type 0
 Tells contents path faults old new result =
     Telling path faults (written_to contents old) (written_to contents new) (failures_of old) (failures_of new) result
-
--- the lines of faults that were found, without their places and details
-abbrev pub lines_found : List Found → List (List ℕ)
-lines_found = map (λ found. string_bytes found.line)
 
 -- the same of faults of a document
 abbrev pub TellsOf : {W A : Type 0} → (W → Option (List ℕ)) → List ℕ → List DocumentFault → Counted W → Counted W → Result A TellError → Type 0

@@ -10,35 +10,19 @@
 //! ```
 //!
 //! Told are the faults of the first stage that has any (`specs/Faults`); the first of them is the one that `check` tells (`laws`). Those of a document are
-//! written as they are found. Those of a scenario that was read are few, and are values first (`found`) that do not know the words of their details. Places are
-//! looked for last, by `gq_toml_places`.
+//! written as they are found. Those of a scenario that was read (`gq_scenario_faults`) are few, and are values first that do not know the words of their
+//! details (`gq_fault_texts`). Places are looked for last, by `gq_toml_places`.
 #![tactic(auto)]
 
-mod after;
-mod budgets;
 mod bytes;
-mod compared;
 mod counts;
-mod details;
 mod document;
 pub mod fault;
 pub mod faults;
-pub mod found;
 pub mod laws;
-mod leaves;
-mod lines;
-mod meant;
 mod names;
 mod nodes;
-mod path;
-mod quanta;
-mod routes;
-mod session;
-mod sources;
-mod stages;
-mod statement;
 mod tables;
 mod tell;
 pub mod turns;
 mod walk;
-mod words;

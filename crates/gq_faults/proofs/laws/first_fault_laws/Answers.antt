@@ -1,4 +1,4 @@
-use Rattle.gq_faults.proofs.First_of_scenarios.{first_of_all}
+use Rattle.gq_faults.proofs.First_of_texts.{first_of_all}
 use Rattle.gq_faults.proofs.laws.first_fault_laws.Goals as goal
 
 pub returns : goal.returns

@@ -1,6 +1,6 @@
 use Rattle.std.proofs.Common.{sym, subst, ◌∙◌}
-use Rattle.gq_faults.specs.Told.{AreDetails}
-use Rattle.gq_faults.proofs.Singles.{told_is}
+use Rattle.gq_fault_texts.specs.Details.{AreDetails}
+use Rattle.gq_faults.proofs.Telling.{told_is}
 use Rattle.gq_faults.proofs.tell.told_text.Goals as goal
 
 pub returns : goal.returns

@@ -1,0 +1,3 @@
+pub mod Lists
+pub mod Details
+pub mod Found_lines

@@ -1,0 +1,277 @@
+// What a rule compared at its place: a section is walked through once more, up to there.
+ghost use Rattle.std.specs.Prelude.{◌≡◌, ◌≤◌, length};
+ghost use Rattle.gq_model.specs.texts.Code.{is_section};
+
+use crate::found::{Compared, Holder, Needed};
+use crate::session::session_cost_of;
+use crate::statement::of_statement;
+use gq_caps::Kind;
+use gq_model::fault::Rule;
+use gq_model::program::Place;
+use gq_program::{Body, Section, Statement};
+use gq_rules::{Context, State, Subject};
+use gq_verify::{Fault, Starts, section_cost};
+use std::alloc::{AllocError, Global};
+
+// No more loops are open at a place.
+const GREATEST_LOOPS: usize = 4;
+
+// A walk through a section, up to the statement of this number.
+#[derive(Drop)]
+struct Search {
+    alloc: Global,
+    rule: Rule,
+    goal: u64,
+    number: u64,
+    /// What was compared there.
+    found: Option<Compared>,
+}
+
+/// What the rule compared that a program breaks first.
+pub fn compared(
+    alloc: Global,
+    subject: &Subject<'_>,
+    fault: &Fault,
+) -> Result<Compared, AllocError> {
+    match fault.rule {
+        Rule::MissingSection => Ok(Compared::Section(fault.section, !subject.has(fault.section))),
+        Rule::BudgetTooLarge => Ok(cost_of(subject, fault.section)),
+        _ => in_section(alloc, subject, fault),
+    }
+}
+
+// How many steps a section takes.
+fn cost_of(subject: &Subject<'_>, section: Section) -> Compared {
+    match subject.body(section) {
+        Some(body) => Compared::Cost(section_cost(section, body)),
+        None => Compared::Nothing,
+    }
+}
+
+// Whether there is a section of this name and level.
+fn is_section(section: Section) -> bool
+    ensures { result ≡ is_section section }
+{
+    match section {
+        Section::Main | Section::Opening => true,
+        Section::Upgrading(level) => 1 <= level && level <= 3,
+        Section::Calling(level) | Section::Closing(level) => level <= 3,
+    }
+}
+
+// What a rule compared at a place of a section.
+fn in_section(alloc: Global, subject: &Subject<'_>, fault: &Fault) -> Result<Compared, AllocError> {
+    if !is_section(fault.section) {
+        return Ok(Compared::Nothing);
+    }
+    let starts = Starts::new(subject);
+    let context = Context::new(subject, fault.section);
+    let mut state = starts.start_of(subject, fault.section);
+    let start = state.copy();
+    if fault.place == 0 {
+        return at_start(alloc, &context, &state, fault.rule);
+    }
+    let Some(body) = subject.body(fault.section) else {
+        return Ok(Compared::Nothing);
+    };
+    let mut search = Search {
+        alloc,
+        rule: fault.rule,
+        goal: fault.place,
+        number: 0,
+        found: None,
+    };
+    search.body(&context, 0, &mut state, body)?;
+    match search.found {
+        Some(found) => Ok(found),
+        None => Ok(at_end(subject, &start, fault, &mut state)),
+    }
+}
+
+// What a rule compared at the start of a section.
+fn at_start(
+    alloc: Global,
+    context: &Context<'_>,
+    state: &State,
+    rule: Rule,
+) -> Result<Compared, AllocError> {
+    match rule {
+        Rule::OverNeed | Rule::OverCaps => session_cost_of(alloc, context, state, rule),
+        _ => Ok(Compared::Nothing),
+    }
+}
+
+// What a rule compared at the end of a section.
+fn at_end(subject: &Subject<'_>, start: &State, fault: &Fault, state: &mut State) -> Compared {
+    match (fault.rule, fault.section) {
+        (Rule::ValueTooLarge, _) => match state.pop() {
+            Ok(reply) => Compared::Value(reply, subject.reply(), Holder::Reply),
+            Err(_) => Compared::Nothing,
+        },
+        (Rule::LinkLeftOpen, _) => first_link(state),
+        (Rule::SessionBankChanged, Section::Opening) => {
+            let wanted = Kind::Space(subject.buffer());
+            Compared::Kinds(Place::Shared(0), wanted, state.bank().kind(0))
+        }
+        (Rule::SessionBankChanged, Section::Calling(_)) => {
+            shared_difference(start.bank().kinds(), state.bank().kinds())
+        }
+        (Rule::SessionBankChanged, _) => first_full(state.bank().kinds()),
+        _ => Compared::Nothing,
+    }
+}
+
+// The number of a slot; banks have few.
+fn u8_of(slot: usize) -> u8 {
+    u8::try_from(slot).unwrap_or(u8::MAX)
+}
+
+// The first own slot that has a link.
+fn first_link(state: &State) -> Compared {
+    for (slot, kind) in state.own().kinds().iter().enumerate() {
+        if matches!(kind, Kind::Link(_)) {
+            return Compared::Slot(Place::Own(u8_of(slot)), Some(*kind), Needed::Empty);
+        }
+    }
+    Compared::Nothing
+}
+
+// The first slot of the session that is not empty.
+fn first_full(kinds: &[Kind]) -> Compared {
+    for (slot, kind) in kinds.iter().enumerate() {
+        if !matches!(kind, Kind::Empty | Kind::Waiting) {
+            return Compared::Slot(Place::Shared(u8_of(slot)), Some(*kind), Needed::Empty);
+        }
+    }
+    Compared::Nothing
+}
+
+// The first slot of which two lists of kinds differ.
+fn difference(first: &[Kind], second: &[Kind]) -> Option<(u8, Kind, Kind)> {
+    for (slot, kind) in first.iter().enumerate() {
+        if let Some(other) = second.get(slot) {
+            if !kind.is_same(other) {
+                return Some((u8_of(slot), *kind, *other));
+            }
+        }
+    }
+    None
+}
+
+fn shared_difference(first: &[Kind], second: &[Kind]) -> Compared {
+    match difference(first, second) {
+        Some((slot, kind, other)) => Compared::Kinds(Place::Shared(slot), kind, other),
+        None => Compared::Nothing,
+    }
+}
+
+// The first slot of which two ways differ, the own ones before those of the session.
+fn joined(first: &State, second: &State) -> Compared {
+    match difference(first.own().kinds(), second.own().kinds()) {
+        Some((slot, kind, other)) => Compared::Kinds(Place::Own(slot), kind, other),
+        None => shared_difference(first.bank().kinds(), second.bank().kinds()),
+    }
+}
+
+impl Search {
+    // Walks through a list of statements, up to the one that is looked for.
+    #[cycle(search)]
+    fn body(
+        &mut self,
+        context: &Context<'_>,
+        loops: usize,
+        state: &mut State,
+        body: &Body,
+    ) -> Result<(), AllocError>
+        requires { length context.now.counts ≤ loops }
+    {
+        for statement in body.statements() {
+            self.statement(context, loops, state, statement)?;
+            if self.found.is_some() {
+                return Ok(());
+            }
+        }
+        Ok(())
+    }
+
+    #[cycle(search)]
+    fn statement(
+        &mut self,
+        context: &Context<'_>,
+        loops: usize,
+        state: &mut State,
+        statement: &Statement,
+    ) -> Result<(), AllocError>
+        requires { length context.now.counts ≤ loops }
+    {
+        self.number = self.number.saturating_add(1);
+        match statement {
+            Statement::Plain(instruction) => {
+                if self.number == self.goal {
+                    let found = of_statement(self.alloc, context, state, instruction, self.rule)?;
+                    self.found = Some(found);
+                } else {
+                    let _judged = context.judged(state, instruction);
+                }
+                Ok(())
+            }
+            Statement::If(arm, other) => self.arms(context, loops, state, arm, other),
+            Statement::Loop(count, body) => self.rounds(context, loops, state, *count, body),
+        }
+    }
+
+    // Walks through both arms of an `if`.
+    #[cycle(search)]
+    fn arms(
+        &mut self,
+        context: &Context<'_>,
+        loops: usize,
+        state: &mut State,
+        arm: &Body,
+        other: &Body,
+    ) -> Result<(), AllocError>
+        requires { length context.now.counts ≤ loops }
+    {
+        let is_goal = self.number == self.goal;
+        if is_goal && self.rule != Rule::JoinDiffers {
+            self.found = Some(Compared::Nothing);
+            return Ok(());
+        }
+        state.drop_operands();
+        let mut second = state.without_operands();
+        self.body(context, loops, state, arm)?;
+        if self.found.is_some() {
+            return Ok(());
+        }
+        self.body(context, loops, &mut second, other)?;
+        if self.found.is_none() && is_goal {
+            self.found = Some(joined(state, &second));
+        }
+        Ok(())
+    }
+
+    // Walks through the body of a loop.
+    #[cycle(search)]
+    fn rounds(
+        &mut self,
+        context: &Context<'_>,
+        loops: usize,
+        state: &mut State,
+        count: u16,
+        body: &Body,
+    ) -> Result<(), AllocError>
+        requires { length context.now.counts ≤ loops }
+    {
+        let is_goal = self.number == self.goal;
+        if loops >= GREATEST_LOOPS || (is_goal && self.rule != Rule::JoinDiffers) {
+            self.found = Some(Compared::Nothing);
+            return Ok(());
+        }
+        let before = state.copy();
+        self.body(&context.inside(count), loops + 1, state, body)?;
+        if self.found.is_none() && is_goal {
+            self.found = Some(joined(&before, state));
+        }
+        Ok(())
+    }
+}

@@ -1,0 +1,425 @@
+// The details of a fault, each on a line of its own.
+use crate::found::{BadAfter, Compared, Detail, Holder, Hop, SessionCost, TableKind, Unit, Where};
+use crate::meant::{keys_of, meant, nearness};
+use crate::words::{Details, crowd_word, holder_word, needed_word, table_word, unit_words};
+use gq_caps::Kind;
+use gq_model::limits::GREATEST_STEPS;
+use gq_model::program::{Name, Place, Section};
+use gq_reader::rules::ValueRule;
+use gq_scenario::key::Key;
+use gq_scenario::tree::GREATEST_COUNT;
+use std::alloc::AllocError;
+use toml::{Table, Value};
+
+/// Puts the details of a fault at the end of a text.
+pub fn push_detail(told: &mut Details, detail: &Detail<'_>) -> Result<(), AllocError> {
+    match detail {
+        Detail::Nothing => Ok(()),
+        Detail::Unknown(kind, key) => unknown(told, *kind, key),
+        Detail::Missing(kind, key) => missing(told, *kind, *key),
+        Detail::Bad(value, rule) => bad(told, value, *rule),
+        Detail::BadEntry(name, is_name) => bad_entry(told, name, *is_name),
+        Detail::Beside(key, other) => beside(told, *key, *other),
+        Detail::TooMany(crowd, count) => {
+            told.number(*count as u64)?;
+            told.text(" ")?;
+            told.text(crowd_word(*crowd))?;
+            at_most(told, GREATEST_COUNT as u64)
+        }
+        Detail::TooDeep(depth) => {
+            told.text("depth ")?;
+            told.number(*depth as u64)?;
+            at_most(told, depth.saturating_sub(1) as u64)
+        }
+        Detail::Rule(compared) => push_compared(told, compared),
+        Detail::Handed { key, handed, has } => {
+            told.text("hands out ")?;
+            told.number(*handed)?;
+            told.text(" at the start, and has ")?;
+            told.text(key)?;
+            told.text(" ")?;
+            told.number(*has)?;
+            told.end()
+        }
+        Detail::After(cause) => after(told, cause),
+        Detail::Routed(hops) => routed(told, hops.as_slice()),
+        Detail::Round(way) => round(told, way.as_slice()),
+        Detail::Own { own, quantum } => uses(told, *own, "quantum", *quantum),
+        Detail::OwnCaps { own, caps } => uses(told, *own, "caps", *caps),
+        Detail::Steps(steps) => too_many_steps(told, *steps),
+    }
+}
+
+// The end of a detail that tells what there may be.
+fn at_most(told: &mut Details, most: u64) -> Result<(), AllocError> {
+    told.text(", and at most ")?;
+    told.number(most)?;
+    told.end()
+}
+
+// How many steps there are, of which the greatest number that is told stands for itself and for more.
+fn too_many_steps(told: &mut Details, steps: u64) -> Result<(), AllocError> {
+    if steps == u64::MAX {
+        told.text("2^64 - 1 steps or more")?;
+    } else {
+        told.count(steps, "step", "steps")?;
+    }
+    at_most(told, GREATEST_STEPS)
+}
+
+// What a leaf uses, and the key that says what it has.
+fn uses(told: &mut Details, own: u64, key: &str, has: u64) -> Result<(), AllocError> {
+    told.text("uses ")?;
+    told.number(own)?;
+    told.text(" at most, and has ")?;
+    told.text(key)?;
+    told.text(" ")?;
+    told.number(has)?;
+    told.end()
+}
+
+// A key that is not known, and the one that was meant.
+fn unknown(told: &mut Details, kind: TableKind, key: &str) -> Result<(), AllocError> {
+    told.quoted(key)?;
+    told.text(" is no key of ")?;
+    told.text(table_word(kind))?;
+    if keys_of(kind).iter().any(|known| known.is(key)) {
+        told.text(" in version 1")?;
+    } else if let Some(known) = meant(kind, key) {
+        told.text(": ")?;
+        told.text(known.word())?;
+        told.text("?")?;
+    }
+    told.end()
+}
+
+// A key that is missing, and those that can stand in its place.
+fn missing(told: &mut Details, kind: TableKind, key: Key) -> Result<(), AllocError> {
+    told.text(table_word(kind))?;
+    told.text(" needs ")?;
+    told.text(match key {
+        Key::Program => "program or code",
+        Key::Service => "service or any-service",
+        Key::Child => "child, any-child or parent",
+        _ => key.word(),
+    })?;
+    told.end()
+}
+
+// A value that does not fit, and what does.
+fn bad(told: &mut Details, value: &Value, rule: ValueRule<'_>) -> Result<(), AllocError> {
+    told.value(value)?;
+    told.text(": wanted is ")?;
+    told.rule(rule)?;
+    told.end()?;
+    match (rule, value) {
+        (ValueRule::Declared(Some(interfaces)), Value::String(text)) => {
+            declared(told, interfaces, text.as_str())
+        }
+        _ => Ok(()),
+    }
+}
+
+// An entry among the interfaces whose key is no name, or whose value is no table.
+fn bad_entry(told: &mut Details, name: &str, is_name: bool) -> Result<(), AllocError> {
+    told.quoted(name)?;
+    told.text(": wanted is ")?;
+    if is_name {
+        told.text("a table")?;
+    } else {
+        told.rule(ValueRule::NameText)?;
+    }
+    told.end()
+}
+
+// The interfaces whose names are near to a text; among too many it is not looked for them.
+fn declared(told: &mut Details, interfaces: &Table, text: &str) -> Result<(), AllocError> {
+    if interfaces.len() > GREATEST_COUNT {
+        return Ok(());
+    }
+    for (name, _) in interfaces.iter() {
+        if nearness(text.as_bytes(), name.as_str().as_bytes()).is_some() {
+            told.quoted(name.as_str())?;
+            told.text("?")?;
+            told.end()?;
+        }
+    }
+    Ok(())
+}
+
+// Two keys of which only one can be there.
+fn beside(told: &mut Details, key: Key, other: Key) -> Result<(), AllocError> {
+    told.text(key.word())?;
+    told.text(" can not stand beside ")?;
+    told.text(other.word())?;
+    told.end()
+}
+
+// What a rule for programs compared.
+fn push_compared(told: &mut Details, compared: &Compared) -> Result<(), AllocError> {
+    match compared {
+        Compared::Nothing => Ok(()),
+        Compared::Operands => told.line("17 operands, and at most 16"),
+        Compared::Slot(place, kind, needed) => {
+            held(told, *place, kind.as_ref())?;
+            told.text(", and needed is ")?;
+            told.text(needed_word(*needed))?;
+            told.end()
+        }
+        Compared::Index(place, index, count, unit) => indexed(told, *place, *index, *count, *unit),
+        Compared::Level(service, level, count) => {
+            told.text("to level ")?;
+            told.number(u64::from(*level))?;
+            told.text(", and ")?;
+            told.name(service)?;
+            told.text(" has ")?;
+            told.count(*count as u64, "upgrade", "upgrades")?;
+            told.end()
+        }
+        Compared::Value(value, most, holder) => valued(told, *value, *most, *holder),
+        Compared::Kinds(place, first, second) => differ(told, *place, first, second),
+        Compared::Donation(service, level, given, needed) => {
+            given_for(told, service, *level, *given, *needed)
+        }
+        Compared::Session(cost) => session(told, cost),
+        Compared::Section(section, is_missing) => sections(told, *section, *is_missing),
+        Compared::Cost(cost) => too_many_steps(told, *cost),
+    }
+}
+
+// What a slot holds; where it is not there that it is not.
+fn held(told: &mut Details, place: Place, kind: Option<&Kind>) -> Result<(), AllocError> {
+    told.place(place)?;
+    match kind {
+        Some(kind) => {
+            told.text(" holds ")?;
+            told.kind(kind)
+        }
+        None => told.text(" is not there"),
+    }
+}
+
+// An index, and what it counts.
+fn indexed(
+    told: &mut Details,
+    place: Place,
+    index: u64,
+    count: u64,
+    unit: Unit,
+) -> Result<(), AllocError> {
+    let (one, more) = unit_words(unit);
+    told.text("an index up to ")?;
+    told.number(index)?;
+    if let Unit::Words = unit {
+        told.text(", for 4 bytes")?;
+    }
+    told.text(", and ")?;
+    told.place(place)?;
+    told.text(" has ")?;
+    told.count(count, one, more)?;
+    told.end()
+}
+
+// A value, and the greatest that may stand there.
+fn valued(told: &mut Details, value: u32, most: u32, holder: Holder) -> Result<(), AllocError> {
+    told.text("a value up to ")?;
+    told.number(u64::from(value))?;
+    told.text(", and ")?;
+    told.text(holder_word(holder))?;
+    if let Holder::Local(local) = holder {
+        told.text(" ")?;
+        told.number(u64::from(local))?;
+    }
+    told.text(" is at most ")?;
+    told.number(u64::from(most))?;
+    told.end()
+}
+
+// What a slot holds on two ways.
+fn differ(told: &mut Details, place: Place, first: &Kind, second: &Kind) -> Result<(), AllocError> {
+    told.place(place)?;
+    told.text(" holds ")?;
+    told.whole_kind(first)?;
+    told.text(" on one way, and ")?;
+    told.whole_kind(second)?;
+    told.text(" on the other")?;
+    told.end()
+}
+
+// What is given, and what is needed.
+fn given_for(
+    told: &mut Details,
+    service: &Name,
+    level: u8,
+    given: u32,
+    needed: u32,
+) -> Result<(), AllocError> {
+    told.text("gives ")?;
+    told.number(u64::from(given))?;
+    if level == 0 {
+        told.text(", and a session of ")?;
+        told.name(service)?;
+    } else {
+        told.text(", and the upgrade of ")?;
+        told.name(service)?;
+        told.text(" to level ")?;
+        told.number(u64::from(level))?;
+    }
+    told.text(" needs ")?;
+    told.number(u64::from(needed))?;
+    told.end()
+}
+
+// What a session costs, with its parts.
+fn session(told: &mut Details, cost: &SessionCost) -> Result<(), AllocError> {
+    told.text("a session at level ")?;
+    told.number(u64::from(cost.level))?;
+    told.text(" costs ")?;
+    told.number(cost.sum)?;
+    told.text(if cost.caps { " caps" } else { "" })?;
+    told.text(", and is given ")?;
+    told.number(cost.given)?;
+    told.end()?;
+    let (object, price) = cost.object;
+    if price > 0 {
+        told.text("  obj slice ")?;
+        told.number(u64::from(object))?;
+        told.text(": ")?;
+        told.number(price)?;
+        told.end()?;
+    }
+    for (slot, kind, price) in &cost.slots {
+        item(told, *slot, kind, *price)?;
+    }
+    Ok(())
+}
+
+// A slot with what it costs, where it costs something.
+fn item(told: &mut Details, slot: u8, kind: &Kind, price: u64) -> Result<(), AllocError> {
+    if price == 0 {
+        return Ok(());
+    }
+    told.text("  ")?;
+    told.place(Place::Shared(slot))?;
+    told.text(" ")?;
+    told.kind(kind)?;
+    told.text(": ")?;
+    told.number(price)?;
+    told.end()
+}
+
+// A section that is missing, or one too many.
+fn sections(told: &mut Details, section: Section, is_missing: bool) -> Result<(), AllocError> {
+    let section = format!(in told.alloc(); "{section}")?;
+    told.text(section.as_str())?;
+    told.text(if is_missing {
+        " is missing"
+    } else {
+        " is one too many: what the leaf provides has no such section"
+    })?;
+    told.end()
+}
+
+// Why a leaf may not start after the one that it names.
+fn after(told: &mut Details, cause: &BadAfter) -> Result<(), AllocError> {
+    match cause {
+        BadAfter::NoLeaf(name) => {
+            told.text("no leaf beside it is named ")?;
+            told.name(name)?;
+        }
+        BadAfter::Provides(name) => {
+            told.name(name)?;
+            told.text(" provides a service")?;
+        }
+        BadAfter::Taken { earlier, named } => {
+            told.name(earlier)?;
+            told.text(" starts after ")?;
+            told.name(named)?;
+            told.text(", too")?;
+        }
+        BadAfter::Quantum { own, named } => exceeds(told, "quantum", *own, *named)?,
+        BadAfter::Caps { own, named } => {
+            exceeds(told, "caps", u64::from(*own), u64::from(*named))?;
+        }
+        BadAfter::Round(names) => {
+            for (place, name) in names.iter().enumerate() {
+                told.text(if place == 0 { "" } else { " after " })?;
+                told.name(name)?;
+            }
+        }
+    }
+    told.end()
+}
+
+// A quantum that is greater than that of the leaf before.
+fn exceeds(told: &mut Details, key: &str, own: u64, named: u64) -> Result<(), AllocError> {
+    told.text(key)?;
+    told.text(" ")?;
+    told.number(own)?;
+    told.text(", and the leaf before has ")?;
+    told.number(named)
+}
+
+// How a route led, an init a line.
+fn routed(told: &mut Details, hops: &[Hop]) -> Result<(), AllocError> {
+    for hop in hops {
+        match hop {
+            Hop::NoEntry(0) => told.text("there is no route")?,
+            Hop::NoEntry(count) => {
+                told.text("none of ")?;
+                told.count(*count as u64, "route", "routes")?;
+                told.text(" is for it")?;
+            }
+            Hop::BeyondRoot => told.text("the root has no parent")?,
+            Hop::Entry(number, is_named, target) => {
+                told.text("route ")?;
+                told.number(*number as u64)?;
+                told.text(if *is_named {
+                    ", for this service,"
+                } else {
+                    ", for any service,"
+                })?;
+                led(told, target)?;
+            }
+        }
+        told.end()?;
+    }
+    Ok(())
+}
+
+// Where an entry led.
+fn led(told: &mut Details, target: &Where) -> Result<(), AllocError> {
+    match target {
+        Where::Parent => told.text(" leads to the parent"),
+        Where::NoChild(name) => {
+            told.text(" leads to child ")?;
+            told.name(name)?;
+            told.text(", which is not there")
+        }
+        Where::Differs(name) => {
+            told.text(" leads to child ")?;
+            told.name(name)?;
+            told.text(", which does not provide it")
+        }
+        Where::NoProvider => told.text(" leads to any child, and none provides it"),
+        Where::Providers(names) => {
+            told.text(" leads to any child, and these provide it: ")?;
+            told.names(names.as_slice())
+        }
+    }
+}
+
+// The way round from a leaf to itself.
+fn round(told: &mut Details, way: &[(Name, Name)]) -> Result<(), AllocError> {
+    for (place, (leaf, service)) in way.iter().enumerate() {
+        told.text(if place == 0 { "" } else { ", " })?;
+        told.name(leaf)?;
+        told.text(" opens ")?;
+        told.name(service)?;
+        told.text(" of ")?;
+        if let Some((server, _)) = way.get((place + 1) % way.len()) {
+            told.name(server)?;
+        }
+    }
+    told.end()
+}

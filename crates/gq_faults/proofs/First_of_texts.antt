@@ -1,0 +1,43 @@
+-- The first of all faults is the one that `check` tells.
+use Rattle.std.proofs.Common.{◌≡◌, ℕ, List, [], map, Option, Some, None, option_map, Result, Ok, Err}
+use Rattle.std.proofs.Common.{refl, ap, ◌∙◌}
+use Rattle.toml.specs.Data.{Members}
+use Rattle.gq_model.specs.machine.Lists.{or_first}
+use Rattle.gq_model.specs.machine.Scenario.{Scenario}
+use Rattle.gq_scenario.specs.Document.{described, document_fault}
+use Rattle.gq_scenario.specs.Keys.{DocumentFault}
+use Rattle.gq_scenario.specs.Reading.{ReadFault, Bad_document, document_in, described_or, read_from}
+use Rattle.gq_load.specs.Load.{Fault, Unread, scenario_fault, loaded_or, loaded_from, loaded}
+use Rattle.gq_fault_texts.specs.Lists.{first}
+use Rattle.gq_fault_texts.proofs.Firsts.{first_else, first_map, first_none}
+use Rattle.gq_scenario_faults.specs.Faults.{scenario_faults}
+use Rattle.gq_scenario_faults.proofs.First_of_scenarios.{first_of_scenario}
+use Rattle.gq_faults.specs.Documents.{document_faults}
+use Rattle.gq_faults.specs.Faults.{faults_from, faults_of, refusal_of}
+use Rattle.gq_faults.proofs.First_of_counts.{first_of_document}
+
+abbrev bad : DocumentFault → Fault
+bad fault = Unread (Bad_document fault)
+
+by_scenario : (s : Scenario) (o : Option Fault) → o ≡ refusal_of (loaded_or s o)
+by_scenario s None = refl
+by_scenario s (Some fault) = refl
+
+by_document : (top : Members) (o : Option DocumentFault)
+    → or_first (option_map bad o) (scenario_fault (described top)) ≡ refusal_of (loaded_from (described_or top o))
+by_document top None = by_scenario (described top) (scenario_fault (described top))
+by_document top (Some fault) = refl
+
+by_text : (r : Result Members ReadFault) → first (faults_from r) ≡ refusal_of (loaded_from (read_from document_fault r))
+by_text (Err why) = refl
+by_text (Ok top) =
+    first_else (map bad (document_faults top)) (scenario_faults (described top)) (option_map bad (document_fault top)) (scenario_fault (described top))
+    (first_map bad (document_faults top) ∙ ap (option_map bad) (first_of_document top)) (first_of_scenario (described top))
+    ∙ by_document top (document_fault top)
+
+pub first_of_all : (text : List ℕ) → first (faults_of text) ≡ refusal_of (loaded text)
+first_of_all text = by_text (document_in text)
+
+-- none is told of a text that is accepted
+pub none_of_accepted : (text : List ℕ) (s : Scenario) → loaded text ≡ Ok s → faults_of text ≡ []
+none_of_accepted text s e = first_none (faults_of text) (first_of_all text ∙ ap refusal_of e)
