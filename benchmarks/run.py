@@ -409,7 +409,7 @@ def designers(trade):
     table("Turns", "`run`", "`trace`", "`trace --all`", "`state`")
     for name, scenario_text, turns in [
         ("a million of numbers", system([("a", 'quantum = "4K"', rounds("index 0, push 16, mul, push 3, add, drop"))]), "a 1000000\n"),
-        ("a million, of which half write lines", system([("a", 'quantum = "4K"', rounds("index 0, out"))]), "a 1000000\n"),
+        ("a million, of which a third write lines", system([("a", 'quantum = "4K"', rounds("index 0, out"))]), "a 1000000\n"),
         ("a million of 64 leaves", many, "".join(f"l{n % 64} 10\n" for n in range(100000))),
         ("600,000 of sessions, opened, called and closed", system([server, client], service), "srv 1\n" + "cli 3\nsrv 3\n" * 100000),
     ]:
