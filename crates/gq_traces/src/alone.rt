@@ -59,8 +59,8 @@ fn straight_alone(
     taken
 }
 
-/// Steps that a leaf takes alone from where it stands, at most so many, as far as they stand one after the other. It tells how many there were: none where
-/// others have a part in the next step, or the leaf can't take one. They take no host memory.
+/// Steps that a leaf takes alone from where it stands, at most so many, as far as they stand one after the other. It tells how many there were. How many it
+/// takes is no promise: it takes none where others have a part in the next step, or the leaf can't take one. They take no host memory.
 #[inline(always)]
 pub(crate) fn steps_alone(
     world: &mut World,

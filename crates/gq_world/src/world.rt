@@ -239,8 +239,8 @@ impl World {
     }
 
     /// Turns that a leaf takes alone, at least one and at most so many: each is a step that shows nothing, and changes nothing but what is left to do, the open
-    /// loops, the operands, the locals and the steps of this leaf. It tells how many are left: those before which others have a part in the next step, or the
-    /// leaf can't run. They take no host memory.
+    /// loops, the operands, the locals and the steps of this leaf. It tells how many are left. How many it takes is no promise, but a matter of time: it goes
+    /// on up to a step in which others have a part, and takes none where the leaf can't run. They take no host memory.
     #[inline(always)]
     pub fn turns_alone(&mut self, leaf: LeafNo, turns: u32) -> u32
         requires leaf { leaf < length (components self.old.scenario) }
