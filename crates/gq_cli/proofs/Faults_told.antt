@@ -14,7 +14,7 @@ use Rattle.gq_world.specs.Outcomes.{IsWhole, run_fault_text}
 use Rattle.gq_world.specs.Whole.{Written, refused_with, turn_fault_text, with_scenario}
 use Rattle.gq_world.specs.declared.fault.RunFault.TheVariants as faults
 use Rattle.gq_faults.specs.Faults.{fault_lines, refusal_of}
-use Rattle.gq_fault_texts.specs.Lists.{first}
+use Rattle.gq_faults.specs.Lists.{first}
 use Rattle.gq_faults.specs.Told.{WritesFaults}
 use Rattle.gq_faults.specs.Turn_faults.{Answers, fault_of_turns, lines_from, lines_of_both, told_of, turn_fault_line, turn_faults}
 use Rattle.gq_faults.specs.declared.turns.Refused as why

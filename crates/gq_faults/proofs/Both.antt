@@ -3,7 +3,7 @@ use Rattle.std.proofs.Common.{◌≡◌, ℕ, List, Some, None, Result, Ok, sym,
 use Rattle.gq_model.specs.machine.Scenario.{Scenario, components}
 use Rattle.gq_model.specs.declared.fault.TurnFault.{TurnFault}
 use Rattle.gq_load.specs.Load.{Fault}
-use Rattle.gq_fault_texts.specs.Lists.{first}
+use Rattle.gq_faults.specs.Lists.{first}
 use Rattle.gq_faults.specs.Turn_faults.{Answers, turn_faults}
 use Rattle.gq_faults.specs.declared.turns.Refused.TheVariants as refused
 use Rattle.gq_faults.proofs.Turn_lines.{first_of_turns}

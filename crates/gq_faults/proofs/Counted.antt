@@ -6,7 +6,7 @@ use Rattle.gq_scenario.specs.Document.{is_long, keys_of, routes_at, routes_in, t
 use Rattle.gq_scenario.specs.Keys.{TooMany, list_length, listed}
 use Rattle.gq_scenario.specs.Reading.{document_text}
 use Rattle.gq_faults.specs.Documents.{Node, counts_faults, is_inner, is_leaf, long_lists, nodes_in, too_many}
-use Rattle.gq_fault_texts.specs.Lists.{all_found, when}
+use Rattle.gq_faults.specs.Lists.{all_found, when}
 use Rattle.gq_faults.specs.Told.{Telling}
 use Rattle.gq_faults.specs.declared.fault.TellError.{TellError}
 use Rattle.gq_faults.proofs.Values.{routes_length}

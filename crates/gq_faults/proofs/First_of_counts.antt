@@ -17,10 +17,10 @@ use Rattle.gq_scenario.specs.Keys.{DocumentFault, NameTwice, TooMany, members_of
 use Rattle.gq_scenario.specs.Document.{interfaces_fault}
 use Rattle.gq_scenario.specs.Tables.{top_keys, init_keys, leaf_keys, version_of}
 use Rattle.gq_reader.proofs.Kept.{kept, fits_or_none, one_there}
-use Rattle.gq_fault_texts.specs.Lists.{when, all_found, first}
+use Rattle.gq_faults.specs.Lists.{when, all_found, first}
 use Rattle.gq_faults.specs.Documents.{in_table, in_tables, Node, nodes_below, nodes_in, is_inner, is_leaf, long_lists, counts_faults, named, names_twice}
 use Rattle.gq_faults.specs.Documents.{keys_of_node, names_faults, walk_faults, document_faults}
-use Rattle.gq_fault_texts.proofs.Firsts.{first_both, first_then, first_when, all_found-append, or_assoc}
+use Rattle.gq_faults.proofs.Firsts.{first_both, first_then, first_when, all_found-append, or_assoc}
 use Rattle.gq_faults.proofs.First_of_documents.{HasParts, lists_of, parts_of, at_table, walk_first}
 
 abbrev node_of : Members → Node

@@ -11,10 +11,10 @@ use Rattle.gq_scenario.specs.Document.{first_of, list_at, table_of, keys_of, is_
 use Rattle.gq_scenario.specs.Keys.{DocumentFault, MissingKey, BadValue, UnknownKey, KeyRule, members_of, is_table, unknown_key, missing_key}
 use Rattle.gq_scenario.specs.Keys.{bad_value, table_fault}
 use Rattle.gq_scenario.specs.Tables.{top_keys, interface_keys, route_keys, version_of}
-use Rattle.gq_fault_texts.specs.Lists.{all_found, first}
+use Rattle.gq_faults.specs.Lists.{all_found, first}
 use Rattle.gq_faults.specs.Documents.{unknown_keys, missing_of, bad_of, table_faults, in_table, in_tables, interfaces_faults, routes_faults, nodes_below}
 use Rattle.gq_faults.specs.Documents.{keys_of_node, nodes_in, own_faults, node_faults, walk_faults}
-use Rattle.gq_fault_texts.proofs.Firsts.{first_both, first_then, first_when, all_found-append, or_assoc}
+use Rattle.gq_faults.proofs.Firsts.{first_both, first_then, first_when, all_found-append, or_assoc}
 use Rattle.std.proofs.lemmas.Bool.{and_parts}
 use Rattle.gq_model.specs.texts.Letters.{is_name}
 use Rattle.gq_scenario.specs.Document.{list_of, walk_fault}

@@ -8,10 +8,10 @@ use Rattle.gq_scenario.specs.Document.{described, document_fault}
 use Rattle.gq_scenario.specs.Keys.{DocumentFault}
 use Rattle.gq_scenario.specs.Reading.{ReadFault, Bad_document, document_in, described_or, read_from}
 use Rattle.gq_load.specs.Load.{Fault, Unread, scenario_fault, loaded_or, loaded_from, loaded}
-use Rattle.gq_fault_texts.specs.Lists.{first}
-use Rattle.gq_fault_texts.proofs.Firsts.{first_else, first_map, first_none}
-use Rattle.gq_scenario_faults.specs.Faults.{scenario_faults}
-use Rattle.gq_scenario_faults.proofs.First_of_scenarios.{first_of_scenario}
+use Rattle.gq_faults.specs.Lists.{first}
+use Rattle.gq_faults.proofs.Firsts.{first_else, first_map, first_none}
+use Rattle.gq_faults.specs.Scenario_faults.{scenario_faults}
+use Rattle.gq_faults.proofs.First_of_scenarios.{first_of_scenario}
 use Rattle.gq_faults.specs.Documents.{document_faults}
 use Rattle.gq_faults.specs.Faults.{faults_from, faults_of, refusal_of}
 use Rattle.gq_faults.proofs.First_of_counts.{first_of_document}

@@ -9,3 +9,12 @@ pub mod Told_texts
 pub mod Seen
 pub mod Turn_lines
 pub mod Both
+pub mod First_of_scenarios
+pub mod Adding
+pub mod Exceeding
+pub mod Over
+pub mod Staged
+pub mod Reached
+pub mod Behind
+pub mod Firsts
+pub mod Singles

@@ -13,7 +13,7 @@ use Rattle.gq_model.specs.machine.Lists.{any_of}
 use Rattle.gq_model.specs.machine.Program.{text_eq}
 use Rattle.gq_model.proofs.Small.{text_is, text_self}
 use Rattle.gq_scenario.specs.Keys.{NameTwice}
-use Rattle.gq_fault_texts.specs.Lists.{all_found, when}
+use Rattle.gq_faults.specs.Lists.{all_found, when}
 use Rattle.gq_faults.specs.Documents.{named, names_twice}
 use Rattle.gq_faults.specs.Nodes.{node_of}
 use Rattle.gq_faults.specs.Seen.{AreSeen, seen_after}

@@ -3,8 +3,8 @@ use Rattle.std.proofs.Common.{◌≡◌, ◌<◌, ◌≤◌, ◌+◌, ℕ, List,
 use Rattle.std.proofs.Common.{append_assoc}
 use Rattle.std.specs.Prelude.{codes, decimal}
 use Rattle.std.proofs.lemmas.List.{drop_more, drop_all}
-use Rattle.gq_fault_texts.specs.Lists.{all_found}
-use Rattle.gq_fault_texts.proofs.Behind.{map-append}
+use Rattle.gq_faults.specs.Lists.{all_found}
+use Rattle.gq_faults.proofs.Behind.{map-append}
 use Rattle.gq_init.proofs.Known.{appends_nothing, appends_both}
 use Rattle.gq_scenario.specs.Keys.{DocumentFault}
 use Rattle.gq_scenario.specs.Reading.{document_text}

@@ -13,10 +13,10 @@ use Rattle.std.specs.Prelude.{MatchResult}
 use Rattle.gq_load.specs.Load.{Fault, Unread, fault_text}
 use Rattle.gq_reader.proofs.Described.{fault_read}
 use Rattle.gq_faults.specs.Documents.{document_faults}
-use Rattle.gq_scenario_faults.specs.Faults.{scenario_faults}
+use Rattle.gq_faults.specs.Scenario_faults.{scenario_faults}
 use Rattle.gq_faults.specs.Faults.{faults_in, faults_from, fault_lines}
-use Rattle.gq_fault_texts.specs.Lists.{or_else, first}
-use Rattle.gq_fault_texts.proofs.Firsts.{first_none}
+use Rattle.gq_faults.specs.Lists.{or_else, first}
+use Rattle.gq_faults.proofs.Firsts.{first_none}
 use Rattle.gq_faults.proofs.First_of_counts.{first_of_document}
 
 abbrev bad : DocumentFault → Fault

@@ -13,7 +13,7 @@ use Rattle.gq_model.specs.texts.Turns.{after_line, greatest_turns, turns_from, t
 use Rattle.gq_scenario.specs.Lines.{lines_left}
 use Rattle.gq_init.specs.TurnLines.{turn_on}
 use Rattle.gq_init.specs.internal.Ahead.{IsLineAhead}
-use Rattle.gq_fault_texts.specs.Lists.{first, listed_if}
+use Rattle.gq_faults.specs.Lists.{first, listed_if}
 use Rattle.gq_faults.specs.Turn_faults.{too_many_at, past_line, line_faults, turn_faults, fault_of_turns, told_fault, turns_after, faults_left}
 
 -- THE FIRST

@@ -14,7 +14,7 @@ use Rattle.toml.specs.View.{members_view}
 use Rattle.toml.proofs.Views.{Entry}
 use Rattle.gq_scenario.specs.Document.{table_of, keys_of, routes_of}
 use Rattle.gq_scenario.specs.Tables.{version_of, top_keys}
-use Rattle.gq_fault_texts.specs.Lists.{all_found}
+use Rattle.gq_faults.specs.Lists.{all_found}
 use Rattle.gq_faults.specs.Documents.{in_table, in_tables, Node, nodes_below, nodes_in, interfaces_faults}
 use Rattle.gq_faults.specs.Documents.{node_faults, routes_faults, table_faults, walk_faults}
 

@@ -7,7 +7,7 @@ use Rattle.gq_model.specs.texts.Letters.{is_name}
 use Rattle.gq_scenario.specs.Document.{name_at, list_at, table_of, keys_of, is_init, is_long, routes_at}
 use Rattle.gq_scenario.specs.Keys.{DocumentFault, MissingKey, BadValue, UnknownKey, NameTwice, TooDeep, TooMany, KeyRule, has, is_bad}
 use Rattle.gq_scenario.specs.Tables.{version_of, top_keys, interface_keys, init_keys, leaf_keys, route_keys}
-use Rattle.gq_fault_texts.specs.Lists.{when, all_found}
+use Rattle.gq_faults.specs.Lists.{when, all_found}
 
 -- TABLES
 

@@ -5,9 +5,9 @@ use Rattle.gq_model.specs.machine.Scenario.{Scenario}
 use Rattle.gq_scenario.specs.Document.{described}
 use Rattle.gq_scenario.specs.Reading.{ReadFault, Bad_document, document_in}
 use Rattle.gq_load.specs.Load.{Fault, Unread, fault_text}
-use Rattle.gq_fault_texts.specs.Lists.{or_else}
+use Rattle.gq_faults.specs.Lists.{or_else}
 use Rattle.gq_faults.specs.Documents.{document_faults}
-use Rattle.gq_scenario_faults.specs.Faults.{scenario_faults}
+use Rattle.gq_faults.specs.Scenario_faults.{scenario_faults}
 
 -- the faults of a document, or of the scenario that it describes
 abbrev pub faults_in : Members → List Fault

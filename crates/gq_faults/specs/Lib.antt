@@ -5,3 +5,8 @@ pub mod Faults
 pub mod Answered
 pub mod Seen
 pub mod Turn_faults
+pub mod Scenario_faults
+pub mod Uses
+pub mod Lists
+pub mod Details
+pub mod Found_lines

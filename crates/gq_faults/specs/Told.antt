@@ -6,7 +6,7 @@ use Rattle.gq_init.specs.Writes.{IsRaised}
 use Rattle.gq_init.specs.declared.counted.Counted.{Counted}
 use Rattle.gq_scenario.specs.Keys.{DocumentFault}
 use Rattle.gq_scenario.specs.Reading.{document_text}
-use Rattle.gq_fault_texts.specs.Details.{AreDetails}
+use Rattle.gq_faults.specs.Details.{AreDetails}
 use Rattle.gq_faults.specs.declared.fault.TellError.{TellError}
 use Rattle.gq_faults.specs.declared.fault.TellError.TheVariants.{Memory, Write}
 

@@ -6,17 +6,17 @@ ghost use Rattle.gq_scenario.specs.Document.{is_long, keys_of, routes_at, table_
 ghost use Rattle.gq_scenario.specs.Keys.{TooMany};
 ghost use Rattle.gq_scenario.specs.Words.{key_text};
 ghost use Rattle.gq_scenario.specs.Document.{is_init};
-ghost use Rattle.gq_fault_texts.specs.Lists.{all_found, when};
+ghost use Rattle.gq_faults.specs.Lists.{all_found, when};
 ghost use Rattle.gq_faults.specs.Documents.{counts_faults, is_inner, is_leaf, long_lists, nodes_in, too_many};
 ghost use Rattle.gq_faults.specs.Nodes.{node_of};
 ghost use Rattle.gq_faults.specs.Told.{TellsOf};
 
 use crate::fault::TellError;
+use crate::found::{Crowd, Detail, Spot};
 use crate::nodes::NodeAt;
+use crate::path::with_step;
 use crate::tables::tell_fault;
 use crate::tell::Teller;
-use gq_fault_texts::found::{Crowd, Detail, Spot};
-use gq_fault_texts::path::with_step;
 use gq_init::counted::Counted;
 use gq_reader::value::{count_at, has, table_at};
 use gq_scenario::fault::ScenarioFault;

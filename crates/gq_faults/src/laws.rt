@@ -3,7 +3,7 @@ ghost use Rattle.std.specs.Prelude.{◌≡◌, ℕ, List};
 ghost use Rattle.gq_model.specs.machine.Scenario.{Component};
 ghost use Rattle.gq_model.specs.texts.Turns.{turned};
 ghost use Rattle.gq_load.specs.Load.{loaded};
-ghost use Rattle.gq_fault_texts.specs.Lists.{first};
+ghost use Rattle.gq_faults.specs.Lists.{first};
 ghost use Rattle.gq_faults.specs.Faults.{faults_of, refusal_of};
 ghost use Rattle.gq_faults.specs.Turn_faults.{fault_of_turns, turn_faults};
 

@@ -9,20 +9,44 @@
 //! let refused = faults(alloc, File { path: "echo.toml", text: scenario }, &mut out)?;
 //! ```
 //!
-//! Told are the faults of the first stage that has any (`specs/Faults`); the first of them is the one that `check` tells (`laws`). Those of a document are
-//! written as they are found. Those of a scenario that was read (`gq_scenario_faults`) are few, and are values first that do not know the words of their
-//! details (`gq_fault_texts`). Places are looked for last, by `gq_toml_places`.
+//! The faults are those of the first stage that has any (`specs/Faults`); the first of them is the one that `check` prints (`laws`). There are three kinds.
+//!
+//! - Faults of a document (`document`, by `walk`, `tables`, `nodes`, `counts` and `names`) are written as they are found.
+//! - Faults of a scenario that was read (`stages`) are few. They are values first, each with the line that `check` prints, a way into the document (`path`), and
+//!   what was compared (`found`). The stages are: the first fault of each program's text or code, and then the rule that each program breaks first (`sources`,
+//!   with `lines` and `leaves`); quanta, leaves that start after others, routes and cycles (`quanta`, `after`, `routes`); budgets (`budgets`).
+//!   Just the lines of the definition are found (`specs/Scenario_faults`), in its order.
+//! - Faults of turns (`turns`).
+//!
+//! What a rule for programs compared is looked up once more at the place where it is broken (`compared`, by `statement` and `session`). Words are put together
+//! last (`details`, by `words` and `meant`); each detail is a line of its own (`specs/Details`). Places come from `gq_toml_places` (`tell`, `bytes`).
 #![tactic(auto)]
 
+mod after;
+mod budgets;
 mod bytes;
+pub mod compared;
 mod counts;
+pub mod details;
 mod document;
 pub mod fault;
 pub mod faults;
+pub mod found;
 pub mod laws;
+mod leaves;
+mod lines;
+mod meant;
 mod names;
 mod nodes;
+pub mod path;
+mod quanta;
+mod routes;
+mod session;
+mod sources;
+pub mod stages;
+mod statement;
 mod tables;
 mod tell;
 pub mod turns;
 mod walk;
+pub mod words;

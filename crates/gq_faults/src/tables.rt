@@ -7,14 +7,14 @@ ghost use Rattle.gq_model.specs.machine.Program.{text_eq};
 ghost use Rattle.gq_reader.specs.Rules.{rule_of};
 ghost use Rattle.gq_scenario.specs.Keys.{UnknownKey, has, is_bad};
 ghost use Rattle.gq_scenario.specs.Words.{key_text, scenario_fault_text};
-ghost use Rattle.gq_fault_texts.specs.Lists.{all_found, when};
+ghost use Rattle.gq_faults.specs.Lists.{all_found, when};
 ghost use Rattle.gq_faults.specs.Documents.{missing_of, bad_of, unknown_keys, table_faults};
 ghost use Rattle.gq_faults.specs.Told.{Tells, TellsOf};
 
 use crate::fault::TellError;
+use crate::found::{Detail, Spot, TableKind};
+use crate::path::with_step;
 use crate::tell::Teller;
-use gq_fault_texts::found::{Detail, Spot, TableKind};
-use gq_fault_texts::path::with_step;
 use gq_init::counted::Counted;
 use gq_model::letters::is_name;
 use gq_reader::rules::{KeyRule, ValueRule, fits};

@@ -1,12 +1,12 @@
 // The lines of faults: each with its place, and its details below it.
 ghost use Rattle.std.specs.Prelude.{◌≡◌, ◌∷◌, [], IfOk};
 ghost use Rattle.gq_faults.specs.Told.{IsTold, Tells};
-ghost use Rattle.gq_fault_texts.specs.Found_lines.{lines_found};
+ghost use Rattle.gq_faults.specs.Found_lines.{lines_found};
 
+use crate::details::push_detail;
 use crate::fault::TellError;
-use gq_fault_texts::details::push_detail;
-use gq_fault_texts::found::{Detail, Found, Spot};
-use gq_fault_texts::words::Details;
+use crate::found::{Detail, Found, Spot};
+use crate::words::Details;
 use gq_init::counted::{Counted, put};
 use gq_toml_places::{Places, Position, Step};
 use std::alloc::{AllocError, Global};

@@ -5,7 +5,7 @@ ghost use Rattle.gq_model.specs.texts.Letters.{lines};
 ghost use Rattle.gq_model.specs.texts.Turns.{greatest_turns};
 ghost use Rattle.gq_scenario.specs.Lines.{length_left};
 ghost use Rattle.gq_load.specs.Load.{loaded};
-ghost use Rattle.gq_fault_texts.specs.Lists.{first, listed_if};
+ghost use Rattle.gq_faults.specs.Lists.{first, listed_if};
 ghost use Rattle.gq_faults.specs.Told.{Tells};
 ghost use Rattle.gq_faults.specs.Turn_faults.{Answers, faults_left, line_faults, lines_of_both, told_fault, told_of};
 ghost use Rattle.gq_faults.specs.Turn_faults.{turn_fault_line, turn_faults, turns_after};
@@ -13,7 +13,7 @@ ghost use Rattle.gq_faults.specs.Turn_faults.{turn_fault_line, turn_faults, turn
 use crate::fault::TellError;
 use crate::faults::{File, faults};
 use crate::tell::{push_line, put_fault};
-use gq_fault_texts::words::Details;
+use crate::words::Details;
 use gq_init::counted::Counted;
 use gq_init::names::NameIndex;
 use gq_init::turns::next_turn;

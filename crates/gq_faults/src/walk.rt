@@ -8,18 +8,18 @@ ghost use Rattle.gq_scenario.specs.Tables.{top_keys, interface_keys, init_keys, 
 ghost use Rattle.gq_scenario.specs.Trees.{version_number};
 ghost use Rattle.gq_scenario.specs.Reading.{document_text};
 ghost use Rattle.gq_scenario.specs.Words.{key_text, scenario_fault_text};
-ghost use Rattle.gq_fault_texts.specs.Lists.{all_found};
+ghost use Rattle.gq_faults.specs.Lists.{all_found};
 ghost use Rattle.gq_faults.specs.Documents.{in_table, in_tables, interfaces_faults, keys_of_node, node_faults, nodes_in, own_faults};
 ghost use Rattle.gq_faults.specs.Documents.{routes_faults, table_faults, walk_faults};
 ghost use Rattle.gq_faults.specs.Nodes.{node_of};
 ghost use Rattle.gq_faults.specs.Told.{TellsOf};
 
 use crate::fault::TellError;
+use crate::found::{Detail, Spot, TableKind};
 use crate::nodes::NodeAt;
+use crate::path::with_step;
 use crate::tables::{tell_fault, tell_table};
 use crate::tell::Teller;
-use gq_fault_texts::found::{Detail, Spot, TableKind};
-use gq_fault_texts::path::with_step;
 use gq_init::counted::Counted;
 use gq_model::limits::{GREATEST_CAPS, GREATEST_NODE_DEPTH};
 use gq_model::program::Name;

@@ -2,7 +2,7 @@
 use Rattle.std.proofs.Common.{◌≡◌, ℕ, suc, ◌+◌, ◌-◌, max, List, length, ap, sym, ◌∙◌}
 use Rattle.gq_model.specs.machine.Amounts.{Ram}
 use Rattle.gq_model.specs.machine.Scenario.{Interface, System}
-use Rattle.gq_least.specs.Size.{Gift, asked_above, gifts_above, less_gifts, needed, ram_sum}
+use Rattle.gq_sizes.specs.Size.{Gift, asked_above, gifts_above, less_gifts, needed, ram_sum}
 
 pub asked_next : (f : ℕ → ℕ) (given : List Gift) (service : List ℕ) (count l d last rest : ℕ) → count ≡ suc d →
     last ≡ less_gifts (f (l + count)) (gifts_above given service count l) → rest ≡ asked_above f given service d l →

@@ -9,7 +9,7 @@ use Rattle.gq_model.specs.rules.Flow.{at, flow, state_or}
 use Rattle.gq_model.specs.rules.Kinds.{State, Context, inside}
 use Rattle.gq_model.specs.rules.Rules.{judged}
 use Rattle.gq_verify.specs.Visits.{Sight, At_statement, At_point, sights, slots_of}
-use Rattle.gq_least.specs.Size.{Gift, gift_of, gifts}
+use Rattle.gq_sizes.specs.Size.{Gift, gift_of, gifts}
 
 -- what the statements give that are shown
 abbrev pub gifts_shown : List Sight → List Gift

@@ -5,7 +5,7 @@ use Rattle.gq_model.specs.machine.Amounts.{Amount, amount}
 use Rattle.gq_model.specs.machine.Scenario.{Interface, Interfaces, System}
 use Rattle.gq_resolve.proofs.Pushed.{next_is, onto}
 use Rattle.gq_verify.specs.Counting.{saturated}
-use Rattle.gq_least.specs.Size.{Gift, least_caps, ram_sum}
+use Rattle.gq_sizes.specs.Size.{Gift, least_caps, ram_sum}
 use Rattle.gq_sizes.specs.Size_text.{interface_lines, need_least, need_line, upgrade_least, upgrade_line, upgrade_lines}
 use Rattle.gq_sizes.specs.Tables.{caps_rows, ram_rows, row}
 

@@ -9,7 +9,7 @@ use Rattle.gq_model.specs.rules.Kinds.{Subject}
 use Rattle.gq_model.specs.rules.Use.{subject}
 use Rattle.std.specs.Prelude.{map}
 use Rattle.gq_verify.specs.Visits.{Sight, At_statement, At_point, after_all, section_sights, sights_by}
-use Rattle.gq_least.specs.Size.{Gift, all_gifts, gift_of, gifts, gifts_in, least_gift, lesser}
+use Rattle.gq_sizes.specs.Size.{Gift, all_gifts, gift_of, gifts, gifts_in, least_gift, lesser}
 use Rattle.gq_sizes.specs.Needing.{given_at, gifts_of, least_of}
 use Rattle.gq_sizes.proofs.Gifts_shown.{gifts_same, gifts_shown}
 

@@ -27,7 +27,7 @@ use Rattle.gq_scenario.proofs.Tree_counts.{nodes_drop}
 use Rattle.gq_verify.specs.Counting.{saturated}
 use Rattle.gq_verify.specs.Visits.{most_shown, section_sights, sights_by, slots_of}
 use Rattle.gq_verify.proofs.Shown.{most_of_section}
-use Rattle.gq_least.specs.Size.{Given, children_least, is_named, least_caps, leaf_least, own_by, quantum_of, section_points, slots_cost, starts_after}
+use Rattle.gq_sizes.specs.Size.{Given, children_least, is_named, least_caps, leaf_least, own_by, quantum_of, section_points, slots_cost, starts_after}
 use Rattle.gq_sizes.specs.Size_text.{init_least_told, leaf_least_told}
 use Rattle.gq_sizes.specs.Tables.{IsLeast, leasts_from, own_least}
 use Rattle.gq_sizes.proofs.Saturating.{greatest_saturated, saturated_both, saturated_own}

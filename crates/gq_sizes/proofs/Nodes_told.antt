@@ -11,7 +11,7 @@ use Rattle.gq_scenario.specs.declared.scenario.Node.{Node}
 use Rattle.gq_scenario.specs.declared.scenario.Node.TheVariants.{Leaf, Init}
 use Rattle.gq_scenario.proofs.Tree_counts.{nodes_drop}
 use Rattle.gq_verify.specs.Counting.{saturated}
-use Rattle.gq_least.specs.Size.{children_least}
+use Rattle.gq_sizes.specs.Size.{children_least}
 use Rattle.gq_sizes.specs.Size_text.{init_least_told, leaf_least_told, node_line, node_lines, root_least_told}
 
 module _ (v : ℕ) (all : System) (label : List ℕ) where

@@ -6,7 +6,7 @@ use Rattle.gq_model.specs.machine.Scenario.{Component, System}
 use Rattle.gq_model.specs.rules.Kinds.{Subject}
 use Rattle.gq_model.specs.rules.Use.{subject}
 use Rattle.gq_verify.specs.Counting.{saturated}
-use Rattle.gq_least.specs.Size.{is_named}
+use Rattle.gq_sizes.specs.Size.{is_named}
 use Rattle.gq_sizes.specs.Needing.{needed_of}
 
 -- over the leaves of a system

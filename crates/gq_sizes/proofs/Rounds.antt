@@ -16,7 +16,7 @@ use Rattle.gq_model.specs.rules.Use.{subject}
 use Rattle.gq_model.proofs.Small.{text_is, text_self}
 use Rattle.gq_program.specs.Interfaces.{place_from}
 use Rattle.gq_verify.specs.Counting.{saturated}
-use Rattle.gq_least.specs.Size.{Given, caps_sum, is_named, is_up_to, leaf_needed, needed, rounds, section_points, session_cost, sum_in}
+use Rattle.gq_sizes.specs.Size.{Given, caps_sum, is_named, is_up_to, leaf_needed, needed, rounds, section_points, session_cost, sum_in}
 use Rattle.gq_sizes.specs.Kept.{given_in, sum_at}
 use Rattle.gq_sizes.specs.Needing.{AreLow}
 use Rattle.gq_sizes.specs.Tables.{AreOf, IsLeast, caps_rows, round_rows, row, sum_rows}

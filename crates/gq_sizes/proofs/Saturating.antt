@@ -13,7 +13,7 @@ use Rattle.gq_model.specs.rules.Budgets.{heap_cost}
 use Rattle.gq_model.specs.rules.Kinds.{Kind, Empty_kind, Memory, Pool_kind, Link_kind, State, Subject, kind_price}
 use Rattle.gq_model.specs.rules.Use.{subject}
 use Rattle.gq_verify.specs.Counting.{saturated}
-use Rattle.gq_least.specs.Size.{Given, is_named, is_up_to, leaf_needed, lent_by, needed, own_by, section_points, session_cost, slot_cost, slots_cost}
+use Rattle.gq_sizes.specs.Size.{Given, is_named, is_up_to, leaf_needed, lent_by, needed, own_by, section_points, session_cost, slot_cost, slots_cost}
 
 saturated_twice : (n : ℕ) → saturated (saturated n) ≡ saturated n
 saturated_twice n = omega arith

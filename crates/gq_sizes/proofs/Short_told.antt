@@ -14,7 +14,7 @@ use Rattle.gq_program.specs.declared.program.Statement.{Statement}
 use Rattle.gq_program.specs.declared.program.Statement.TheVariants.{Plain, If, Loop}
 use Rattle.gq_program.proofs.Sizes.{here_is, size_first}
 use Rattle.gq_resolve.proofs.Pushed.{next_is, onto}
-use Rattle.gq_least.specs.Size.{Gift, Given, all_short, least_need, open_at, opens_from, ram_sum, short_in, short_lines, sum_in}
+use Rattle.gq_sizes.specs.Size.{Gift, Given, all_short, least_need, open_at, opens_from, ram_sum, short_in, short_lines, sum_in}
 use Rattle.gq_sizes.specs.Kept.{given_in, sum_at}
 use Rattle.gq_sizes.specs.Tables.{ram_rows, row}
 use Rattle.gq_sizes.specs.internal.Short_lines.{leaves_by, line_by, lines_by, program_by, sections_by}

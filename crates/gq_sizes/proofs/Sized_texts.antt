@@ -18,7 +18,7 @@ use Rattle.gq_load.specs.Load.{Fault, refused, sources_fault}
 use Rattle.gq_load.specs.Unsized.{unsized_fault, unsized_refusal}
 use Rattle.gq_verify.specs.Counting.{saturated}
 use Rattle.gq_world.specs.Whole.{with_scenario}
-use Rattle.gq_least.specs.Size.{Gift, all_gifts, all_short, asked_above, least_caps, needed, ram_sum}
+use Rattle.gq_sizes.specs.Size.{Gift, all_gifts, all_short, asked_above, least_caps, needed, ram_sum}
 use Rattle.gq_sizes.specs.Needing.{BreakNothing, subjects_by}
 use Rattle.gq_sizes.specs.Size_text.{interface_lines, node_line, node_lines, root_least_told, size_text}
 use Rattle.gq_sizes.specs.Tables.{AreOf, caps_rows, ram_rows, row}

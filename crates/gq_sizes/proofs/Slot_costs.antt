@@ -8,8 +8,8 @@ use Rattle.gq_model.specs.machine.Prices.{price_memory}
 use Rattle.gq_model.specs.machine.Scenario.{Interface}
 use Rattle.gq_model.specs.rules.Kinds.{State, session_cost}
 use Rattle.gq_model.specs.rules.Kinds.{Kind, Empty_kind, Memory, Pool_kind, Link_kind, kind_lent, kind_price, kinds_cost}
-use Rattle.gq_least.specs.Size as size
-use Rattle.gq_least.specs.Size.{Given, lent_by, slot_cost, slots_cost}
+use Rattle.gq_sizes.specs.Size as size
+use Rattle.gq_sizes.specs.Size.{Given, lent_by, slot_cost, slots_cost}
 
 lent_same : (given : Given) (kind : Kind) → lent_by given Ram kind ≡ kind_lent Ram kind
 lent_same given Empty_kind = refl

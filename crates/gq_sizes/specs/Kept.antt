@@ -7,7 +7,7 @@ use Rattle.gq_model.specs.rules.Kinds.{State, kind_places, session_cost}
 use Rattle.gq_program.specs.Interfaces.{place_in}
 use Rattle.gq_verify.specs.Counting.{saturated}
 use Rattle.gq_verify.specs.Visits.{Sight, raised}
-use Rattle.gq_least.specs.Size.{Given, slots_cost}
+use Rattle.gq_sizes.specs.Size.{Given, slots_cost}
 
 -- the sum up to a level of the interface at a place; no section is of a level above 3
 abbrev pub sum_at : Option ℕ → List (List ℕ) → ℕ → ℕ

@@ -5,3 +5,6 @@ pub mod Needing
 pub mod Judged
 pub mod Written
 pub mod internal
+pub mod Alike
+pub mod Size
+pub mod Least

@@ -9,7 +9,7 @@ use Rattle.gq_model.specs.rules.Kinds.{Subject, level_of}
 use Rattle.gq_model.specs.rules.Verdict.{program_fault}
 use Rattle.gq_verify.specs.Subjects.{subject_of}
 use Rattle.gq_verify.specs.Visits.{Sight, At_statement, At_point}
-use Rattle.gq_least.specs.Size.{Gift, Given, gift_of, gifts_in, is_named, is_up_to, least_gift, lesser, section_points, session_cost}
+use Rattle.gq_sizes.specs.Size.{Gift, Given, gift_of, gifts_in, is_named, is_up_to, least_gift, lesser, section_points, session_cost}
 
 -- the greatest number of the leaves that provide a service, each with what it is judged by
 abbrev pub needed_of : (Subject → ℕ) → List ℕ → List Component → List Subject → ℕ

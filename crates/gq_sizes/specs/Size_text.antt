@@ -6,7 +6,7 @@ use Rattle.gq_model.specs.machine.Amounts.{Ram, Caps, Amount, amount}
 use Rattle.gq_model.specs.machine.Scenario.{Interface, Interfaces, Nodes, End, Leaf_node, Init_node, Scenario, System, below, system}
 use Rattle.gq_scenario.specs.Unsized.{unsized}
 use Rattle.gq_verify.specs.Counting.{saturated}
-use Rattle.gq_least.specs.Size.{Gift, all_gifts, all_short, children_least, least_at, least_caps, ram_sum, root_least}
+use Rattle.gq_sizes.specs.Size.{Gift, all_gifts, all_short, children_least, least_at, least_caps, ram_sum, root_least}
 
 -- what a quantity is, and what it is at least
 abbrev pub pair_entries : List ℕ → ℕ → ℕ → List ℕ

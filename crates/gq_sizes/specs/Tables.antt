@@ -5,7 +5,7 @@ use Rattle.gq_model.specs.machine.Scenario.{Interface, Interfaces, Component, Sy
 use Rattle.gq_model.specs.rules.Kinds.{Subject}
 use Rattle.gq_model.specs.rules.Use.{subject}
 use Rattle.gq_verify.specs.Counting.{saturated}
-use Rattle.gq_least.specs.Size.{Gift, Given, caps_sum, least_caps, needed, own_by, ram_sum}
+use Rattle.gq_sizes.specs.Size.{Gift, Given, caps_sum, least_caps, needed, own_by, ram_sum}
 use Rattle.gq_sizes.specs.Size_text.{leaf_least_told}
 
 -- these are the leaves of a system, what each is judged by, and the interfaces

@@ -2,7 +2,7 @@
 ghost use Rattle.std.specs.Prelude.{◌≡◌, ◌≤◌, ◌+◌, ◌-◌, ◌*◌, ◌^◌, ◌∷◌, [], ℕ, List, IsTrue, IfSome};
 ghost use Rattle.gq_model.specs.texts.Code.{is_section};
 ghost use Rattle.gq_verify.specs.Visits.{after_all, section_sights};
-ghost use Rattle.gq_least.specs.Size.{Gift, gifts_above, gifts_in, least_gift};
+ghost use Rattle.gq_sizes.specs.Size.{Gift, gifts_above, gifts_in, least_gift};
 ghost use Rattle.gq_sizes.specs.Needing.{given_at, gift_row, gifts_of, least_of, up_to};
 
 use crate::points::LEVELS;

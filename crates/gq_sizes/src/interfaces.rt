@@ -4,7 +4,7 @@ ghost use Rattle.gq_model.specs.machine.Amounts.{amount};
 ghost use Rattle.gq_model.specs.machine.Scenario as model;
 ghost use Rattle.gq_scenario.specs.Trees.{version_number};
 ghost use Rattle.gq_verify.specs.Counting.{saturated};
-ghost use Rattle.gq_least.specs.Size.{Gift, least_caps, ram_sum};
+ghost use Rattle.gq_sizes.specs.Size.{Gift, least_caps, ram_sum};
 ghost use Rattle.gq_sizes.specs.Size_text.{interface_lines, need_least, need_line, upgrade_line, upgrade_lines};
 ghost use Rattle.gq_sizes.specs.Tables.{caps_rows, ram_rows, row};
 

@@ -1,20 +1,25 @@
-//! How much is enough: the least quantities under which a scenario is accepted.
+//! How much is enough: the least quantities under which a scenario is accepted, and the laws that say so.
 //!
 //! ```rust
+//! use gq_sizes::laws::least_laws;
 //! use gq_sizes::size::size;
 //! use gq_world::Counted;
 //!
 //! let mut out = Counted::new(writer);
 //! // What each interface, leaf and init has, and what it needs at least.
 //! size(alloc, scenario, &mut out)?;
+//! // From here on the proof of this function knows that these quantities are the least ones.
+//! least_laws();
 //! ```
 //!
-//! It looks at the scenario without its quantities (`judged`), whose points it sees by the verifier's walk (`points`).
+//! `size` looks at the scenario without its quantities (`judged`), whose points it sees by the verifier's walk (`points`). The definitions are `specs/Size` (how
+//! much is needed) and `specs/Least` (the scenario with the least quantities in place of its own).
 #![tactic(auto)]
 
 mod gifts;
 mod interfaces;
 mod judged;
+pub mod laws;
 mod leaves;
 mod needs;
 mod nodes;

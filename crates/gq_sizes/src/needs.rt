@@ -5,7 +5,7 @@ ghost use Rattle.gq_model.specs.machine.Scenario.{System};
 ghost use Rattle.gq_model.specs.machine.Scenario as model;
 ghost use Rattle.gq_model.specs.rules.Use.{subject};
 ghost use Rattle.gq_verify.specs.Counting.{saturated};
-ghost use Rattle.gq_least.specs.Size.{Gift, all_gifts, asked_above, is_named, is_up_to, leaf_needed, needed, ram_sum};
+ghost use Rattle.gq_sizes.specs.Size.{Gift, all_gifts, asked_above, is_named, is_up_to, leaf_needed, needed, ram_sum};
 ghost use Rattle.gq_sizes.specs.Kept.{given_in};
 ghost use Rattle.gq_sizes.specs.Needing.{gift_row, needed_of};
 ghost use Rattle.gq_sizes.specs.Tables.{AreOf, caps_rows, ram_rows, round_rows, row, sum_rows};

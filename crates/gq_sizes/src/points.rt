@@ -11,7 +11,7 @@ ghost use Rattle.gq_model.specs.texts.Code.{is_section};
 ghost use Rattle.gq_tariff.specs.Prices.{classes};
 ghost use Rattle.gq_verify.specs.Counting.{saturated};
 ghost use Rattle.gq_verify.specs.Visits.{most_shown, section_sights};
-ghost use Rattle.gq_least.specs.Size.{lent_by, section_points, session_cost, slots_cost};
+ghost use Rattle.gq_sizes.specs.Size.{lent_by, section_points, session_cost, slots_cost};
 ghost use Rattle.gq_sizes.specs.Kept.{given_in, sum_at};
 
 use gq_caps::{Bank, Kind};

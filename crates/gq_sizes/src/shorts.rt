@@ -4,7 +4,7 @@ ghost use Rattle.gq_model.specs.machine.Program.{size};
 ghost use Rattle.gq_model.specs.machine.Scenario as model;
 ghost use Rattle.gq_model.specs.texts.Code.{greatest_statements};
 ghost use Rattle.gq_program.specs.Trees.{tree_of};
-ghost use Rattle.gq_least.specs.Size.{Gift, all_short, open_at, opens_from};
+ghost use Rattle.gq_sizes.specs.Size.{Gift, all_short, open_at, opens_from};
 ghost use Rattle.gq_sizes.specs.Kept.{given_in};
 ghost use Rattle.gq_sizes.specs.Tables.{ram_rows};
 ghost use Rattle.gq_sizes.specs.internal.Short_lines.{leaves_by, line_by, lines_by, program_by, sections_by, short_front, short_text};

@@ -7,7 +7,7 @@ ghost use Rattle.gq_scenario.specs.Unsized.{unsized};
 ghost use Rattle.gq_load.specs.Faults.{PrintsFault, Refuses};
 ghost use Rattle.gq_load.specs.Unsized.{unsized_fault};
 ghost use Rattle.gq_world.specs.Outcomes.{WritesAs};
-ghost use Rattle.gq_least.specs.Size.{all_gifts};
+ghost use Rattle.gq_sizes.specs.Size.{all_gifts};
 ghost use Rattle.gq_sizes.specs.Judged.{fault_without, judged_without};
 ghost use Rattle.gq_sizes.specs.Size_text.{size_text};
 ghost use Rattle.gq_sizes.specs.Tables.{AreOf, caps_rows, leasts_from, ram_rows};

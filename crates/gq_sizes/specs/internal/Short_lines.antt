@@ -5,7 +5,7 @@ use Rattle.gq_model.specs.machine.Accounts.{entry}
 use Rattle.gq_model.specs.machine.Program.{Program, Statements}
 use Rattle.gq_model.specs.machine.Scenario.{Component}
 use Rattle.gq_model.specs.texts.Fault_texts.{section_word}
-use Rattle.gq_least.specs.Size.{Given, opens_from}
+use Rattle.gq_sizes.specs.Size.{Given, opens_from}
 
 -- the front of a line
 abbrev pub short_front : List ℕ → Section → List ℕ

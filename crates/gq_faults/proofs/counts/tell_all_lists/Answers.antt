@@ -1,7 +1,7 @@
 use Rattle.std.proofs.Common.{◌+◌, map, drop, Err, Ok}
 use Rattle.std.proofs.lemmas.Result.{err_from_is_err_and}
 use Rattle.gq_scenario.specs.Reading.{document_text}
-use Rattle.gq_fault_texts.specs.Lists.{all_found}
+use Rattle.gq_faults.specs.Lists.{all_found}
 use Rattle.gq_faults.specs.Documents.{long_lists}
 use Rattle.gq_faults.specs.Nodes.{node_of}
 use Rattle.gq_faults.proofs.Telling.{tells_early, next_told, none_told, each_next, each_end}

@@ -1,6 +1,6 @@
 use Rattle.std.proofs.Common.{ℕ, List, Option, Result, map, drop}
 use Rattle.gq_scenario.specs.Reading.{document_text}
-use Rattle.gq_fault_texts.specs.Lists.{all_found}
+use Rattle.gq_faults.specs.Lists.{all_found}
 use Rattle.gq_faults.specs.Documents.{long_lists}
 use Rattle.gq_faults.specs.Nodes.{node_of}
 use Rattle.gq_faults.specs.Told.{Telling}

@@ -5,7 +5,7 @@ use Rattle.toml.specs.View.{table_view}
 use Rattle.gq_scenario.specs.Document.{is_long, keys_of, routes_at, table_of}
 use Rattle.gq_scenario.specs.Keys.{TooMany}
 use Rattle.gq_faults.specs.Documents.{is_inner, is_leaf, long_lists, too_many}
-use Rattle.gq_fault_texts.specs.Lists.{all_found, when}
+use Rattle.gq_faults.specs.Lists.{all_found, when}
 use Rattle.gq_faults.specs.Nodes.{node_of}
 use Rattle.gq_faults.proofs.Counted.{count_told, counts_is}
 use Rattle.gq_faults.proofs.Telling.{tells_more}

@@ -3,7 +3,7 @@ use Rattle.std.specs.Prelude.{codes}
 use Rattle.toml.specs.View.{table_view}
 use Rattle.gq_scenario.specs.Document.{is_init, is_long, routes_at}
 use Rattle.gq_scenario.specs.Keys.{TooMany}
-use Rattle.gq_fault_texts.specs.Lists.{when}
+use Rattle.gq_faults.specs.Lists.{when}
 use Rattle.gq_faults.proofs.Telling.{tells_more}
 use Rattle.gq_faults.proofs.counts.tell_lists.Goals as goal
 

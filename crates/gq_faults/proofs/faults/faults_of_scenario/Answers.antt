@@ -1,7 +1,7 @@
 use Rattle.std.proofs.Common.{map}
 use Rattle.std.proofs.lemmas.Result.{err_from_is_err_and}
 use Rattle.gq_load.specs.Load.{fault_text}
-use Rattle.gq_scenario_faults.specs.Faults.{scenario_faults}
+use Rattle.gq_faults.specs.Scenario_faults.{scenario_faults}
 use Rattle.gq_faults.proofs.Texts.{lines_of_scenario}
 use Rattle.gq_faults.proofs.Told_texts.{refused_as_judged, tells_accepted, tells_no_more, tells_refused}
 use Rattle.gq_faults.proofs.faults.faults_of_scenario.Goals as goal

@@ -1,7 +1,7 @@
 use Rattle.std.proofs.Common.{ap, map, ◌∙◌}
 use Rattle.gq_load.specs.Load.{fault_text}
-use Rattle.gq_scenario_faults.specs.Faults.{scenario_faults}
-use Rattle.gq_fault_texts.specs.Found_lines.{lines_found}
+use Rattle.gq_faults.specs.Scenario_faults.{scenario_faults}
+use Rattle.gq_faults.specs.Found_lines.{lines_found}
 use Rattle.gq_faults.proofs.Telling.{told_as}
 use Rattle.gq_faults.proofs.Told_texts.{path_told}
 use Rattle.gq_faults.proofs.faults.tell_scenario.Goals as goal

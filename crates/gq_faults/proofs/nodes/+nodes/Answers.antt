@@ -9,7 +9,7 @@ use Rattle.gq_faults.specs.Documents.{in_table, in_tables, nodes_below, Node}
 use Rattle.gq_faults.specs.Nodes.{node_of}
 use Rattle.std.proofs.lemmas.Bool.Decides.{nat_tests}
 use Rattle.gq_faults.proofs.Values.{in_table_at, in_table_none, values_next, node_step, one_more}
-use Rattle.gq_fault_texts.proofs.Behind.{map-append, then_more}
+use Rattle.gq_faults.proofs.Behind.{map-append, then_more}
 use Rattle.gq_faults.proofs.nodes.+nodes.Goals as goal
 
 pub push_nodes-loop-index-preserved : goal.push_nodes-loop-index-preserved

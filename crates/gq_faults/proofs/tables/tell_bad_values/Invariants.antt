@@ -2,7 +2,7 @@ use Rattle.std.proofs.Common.{ℕ, List, Option, Result, map, drop}
 use Rattle.toml.specs.View.{table_view}
 use Rattle.gq_reader.specs.Rules.{rule_of}
 use Rattle.gq_scenario.specs.Reading.{document_text}
-use Rattle.gq_fault_texts.specs.Lists.{all_found}
+use Rattle.gq_faults.specs.Lists.{all_found}
 use Rattle.gq_faults.specs.Documents.{bad_of}
 use Rattle.gq_faults.specs.Told.{Telling}
 use Rattle.gq_faults.specs.declared.fault.TellError.{TellError}

@@ -3,7 +3,7 @@ use Rattle.std.proofs.lemmas.Result.{err_from_is_err_and}
 use Rattle.toml.specs.View.{table_view}
 use Rattle.gq_reader.specs.Rules.{rule_of}
 use Rattle.gq_scenario.specs.Reading.{document_text}
-use Rattle.gq_fault_texts.specs.Lists.{all_found}
+use Rattle.gq_faults.specs.Lists.{all_found}
 use Rattle.gq_faults.specs.Documents.{missing_of}
 use Rattle.gq_faults.proofs.Telling.{tells_early, next_told, none_told, each_next, each_end}
 use Rattle.gq_faults.proofs.tables.tell_missing_keys.Goals as goal

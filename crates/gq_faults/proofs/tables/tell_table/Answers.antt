@@ -1,7 +1,7 @@
 use Rattle.std.proofs.Common.{◌++◌, map}
 use Rattle.toml.specs.View.{table_view}
 use Rattle.gq_reader.specs.Rules.{rule_of}
-use Rattle.gq_fault_texts.specs.Lists.{all_found}
+use Rattle.gq_faults.specs.Lists.{all_found}
 use Rattle.gq_faults.specs.Documents.{missing_of, bad_of, unknown_keys}
 use Rattle.gq_faults.proofs.Telling.{tells_more}
 use Rattle.gq_faults.proofs.tables.tell_table.Goals as goal

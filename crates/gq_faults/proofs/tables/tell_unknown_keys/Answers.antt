@@ -8,7 +8,7 @@ use Rattle.gq_model.specs.machine.Program.{text_eq}
 use Rattle.gq_reader.specs.Rules.{rule_of}
 use Rattle.gq_scenario.specs.Keys.{DocumentFault, UnknownKey}
 use Rattle.gq_scenario.specs.Reading.{document_text}
-use Rattle.gq_fault_texts.specs.Lists.{when}
+use Rattle.gq_faults.specs.Lists.{when}
 use Rattle.gq_faults.specs.Documents.{unknown_keys}
 use Rattle.gq_faults.proofs.Telling.{tells_early, next_told, none_told}
 use Rattle.gq_faults.proofs.tables.tell_unknown_keys.Goals as goal

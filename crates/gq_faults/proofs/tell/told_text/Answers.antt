@@ -1,5 +1,5 @@
 use Rattle.std.proofs.Common.{sym, subst, ◌∙◌}
-use Rattle.gq_fault_texts.specs.Details.{AreDetails}
+use Rattle.gq_faults.specs.Details.{AreDetails}
 use Rattle.gq_faults.proofs.Telling.{told_is}
 use Rattle.gq_faults.proofs.tell.told_text.Goals as goal
 

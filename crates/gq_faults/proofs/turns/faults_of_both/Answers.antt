@@ -1,7 +1,7 @@
 use Rattle.std.proofs.Common.{ap, sym, ◌∙◌}
 use Rattle.gq_model.specs.machine.Scenario.{Scenario, components}
 use Rattle.gq_load.specs.Load.{loaded}
-use Rattle.gq_fault_texts.specs.Lists.{first}
+use Rattle.gq_faults.specs.Lists.{first}
 use Rattle.gq_faults.specs.Turn_faults.{turn_faults}
 use Rattle.gq_faults.proofs.Both.{answers_none, answers_some}
 use Rattle.gq_faults.proofs.turns.faults_of_both.Goals as goal

@@ -5,7 +5,7 @@ use Rattle.gq_model.specs.texts.Letters.{lines}
 use Rattle.gq_model.specs.texts.Turns.{greatest_turns}
 use Rattle.gq_model.specs.declared.fault.TurnFault.{TurnFault}
 use Rattle.gq_scenario.specs.Lines.{length_left}
-use Rattle.gq_fault_texts.specs.Lists.{first}
+use Rattle.gq_faults.specs.Lists.{first}
 use Rattle.gq_faults.specs.Told.{Telling}
 use Rattle.gq_faults.specs.Turn_faults.{faults_left, line_faults, turn_fault_line}
 use Rattle.gq_faults.specs.declared.fault.TellError.{TellError}

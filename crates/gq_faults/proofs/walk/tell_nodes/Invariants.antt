@@ -4,7 +4,7 @@ use Rattle.gq_reader.specs.Rules.{entries_or_none}
 use Rattle.gq_scenario.specs.Document.{keys_of}
 use Rattle.gq_scenario.specs.Reading.{document_text}
 use Rattle.gq_scenario.specs.Trees.{version_number}
-use Rattle.gq_fault_texts.specs.Lists.{all_found}
+use Rattle.gq_faults.specs.Lists.{all_found}
 use Rattle.gq_faults.specs.Documents.{node_faults}
 use Rattle.gq_faults.specs.Nodes.{node_of}
 use Rattle.gq_faults.specs.Told.{Telling}

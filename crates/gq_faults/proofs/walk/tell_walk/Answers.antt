@@ -6,7 +6,7 @@ use Rattle.gq_scenario.specs.Document.{keys_of}
 use Rattle.gq_scenario.specs.Tables.{top_keys}
 use Rattle.gq_scenario.specs.Trees.{version_number}
 use Rattle.gq_faults.specs.Documents.{interfaces_faults, node_faults, routes_faults, table_faults}
-use Rattle.gq_fault_texts.specs.Lists.{all_found}
+use Rattle.gq_faults.specs.Lists.{all_found}
 use Rattle.gq_faults.specs.Nodes.{node_of}
 use Rattle.gq_faults.proofs.Telling.{tells_more}
 use Rattle.gq_faults.proofs.Values.{walk_is}

@@ -1,7 +1,7 @@
 use Rattle.std.proofs.Common.{◌∙◌, ◌+◌, List, ap, sym, drop}
 use Rattle.gq_model.specs.declared.program.Section.{Section}
 use Rattle.gq_model.specs.machine.Program.{Statements, section_in}
-use Rattle.gq_least.specs.Size.{gifts_in, least_gift}
+use Rattle.gq_sizes.specs.Size.{gifts_in, least_gift}
 use Rattle.gq_sizes.specs.Needing.{least_of}
 use Rattle.gq_sizes.proofs.Least_gifts.{least_none, section_more}
 use Rattle.gq_verify.proofs.Left.{next_left, none_left}

@@ -1,6 +1,6 @@
 use Rattle.std.proofs.Common.{◌∙◌, ◌+◌, List, ap, sym, drop}
 use Rattle.gq_model.specs.rules.Kinds.{Subject}
-use Rattle.gq_least.specs.Size.{least_gift}
+use Rattle.gq_sizes.specs.Size.{least_gift}
 use Rattle.gq_sizes.specs.Needing.{gifts_of, least_of}
 use Rattle.gq_sizes.proofs.Least_gifts.{leaf_more, least_none}
 use Rattle.gq_verify.proofs.Left.{next_left, none_left}

@@ -1,5 +1,5 @@
 use Rattle.std.proofs.Common.{◌≡◌, drop}
-use Rattle.gq_least.specs.Size.{least_gift}
+use Rattle.gq_sizes.specs.Size.{least_gift}
 use Rattle.gq_sizes.specs.Needing.{gifts_of, least_of}
 use Rattle.gq_sizes.proofs.gifts.least_gift.Given as goal
 

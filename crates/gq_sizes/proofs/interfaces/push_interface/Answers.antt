@@ -1,7 +1,7 @@
 use Rattle.std.proofs.Common.{◌≡◌, ◌∙◌, ◌++◌, ap, ap₂}
 use Rattle.std.proofs.lemmas.Result.{on_ok_weaker}
 use Rattle.gq_scenario.specs.Trees.{version_number}
-use Rattle.gq_least.specs.Size.{least_caps, ram_sum}
+use Rattle.gq_sizes.specs.Size.{least_caps, ram_sum}
 use Rattle.gq_sizes.specs.Size_text.{need_least, need_line, upgrade_lines}
 use Rattle.gq_sizes.proofs.Interfaces_told.{first_is}
 use Rattle.gq_sizes.proofs.interfaces.push_interface.Goals as goal

@@ -1,7 +1,7 @@
 use Rattle.std.proofs.Common.{◌≡◌, ◌++◌, List, drop}
 use Rattle.gq_model.specs.machine.Scenario.{System}
 use Rattle.gq_scenario.specs.Trees.{version_number}
-use Rattle.gq_least.specs.Size.{Gift}
+use Rattle.gq_sizes.specs.Size.{Gift}
 use Rattle.gq_sizes.specs.Size_text.{interface_lines}
 use Rattle.gq_sizes.specs.Tables.{caps_rows, ram_rows}
 use Rattle.gq_sizes.proofs.interfaces.push_interfaces.Given as goal

@@ -1,6 +1,6 @@
 use Rattle.std.proofs.Common.{◌∙◌, arith}
 use Rattle.gq_scenario.specs.Trees.{version_number}
-use Rattle.gq_least.specs.Size.{least_caps, ram_sum}
+use Rattle.gq_sizes.specs.Size.{least_caps, ram_sum}
 use Rattle.gq_sizes.proofs.Interfaces_told.{step_is, upgrade_put}
 use Rattle.gq_sizes.proofs.interfaces.push_upgrades.Goals as goal
 

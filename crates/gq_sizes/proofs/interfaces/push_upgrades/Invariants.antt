@@ -2,7 +2,7 @@ use Rattle.std.proofs.Common.{◌≡◌, ◌++◌, List, [], drop, get_or}
 use Rattle.gq_model.specs.machine.Scenario.{Interface, System}
 use Rattle.gq_scenario.specs.Trees.{version_number}
 use Rattle.gq_verify.specs.Counting.{saturated}
-use Rattle.gq_least.specs.Size.{Gift, least_caps, ram_sum}
+use Rattle.gq_sizes.specs.Size.{Gift, least_caps, ram_sum}
 use Rattle.gq_sizes.specs.Size_text.{upgrade_lines}
 use Rattle.gq_sizes.specs.Tables.{row}
 use Rattle.gq_sizes.proofs.interfaces.push_upgrades.Given as goal

@@ -1,5 +1,5 @@
 use Rattle.std.proofs.Common.{◌≡◌, ◌∙◌, suc, ◌-◌, ap, arith, sym}
-use Rattle.gq_least.specs.Size.{starts_after}
+use Rattle.gq_sizes.specs.Size.{starts_after}
 use Rattle.gq_sizes.proofs.Least_leaves.{along_none, along_some, along_zero, at_place, name_there, own_there}
 use Rattle.gq_sizes.proofs.leaves.+least_along.Goals as goal
 

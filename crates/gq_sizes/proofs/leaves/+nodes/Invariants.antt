@@ -5,7 +5,7 @@ use Rattle.gq_model.specs.machine.Scenario.{System}
 use Rattle.gq_scenario.specs.Sizes.{node_count}
 use Rattle.gq_scenario.specs.Trees.{nodes_of}
 use Rattle.gq_verify.specs.Counting.{saturated}
-use Rattle.gq_least.specs.Size.{children_least}
+use Rattle.gq_sizes.specs.Size.{children_least}
 use Rattle.gq_sizes.specs.Tables.{leasts_from}
 use Rattle.gq_sizes.proofs.leaves.+nodes.Given as goal
 

@@ -1,7 +1,7 @@
 use Rattle.std.proofs.Common.{◌∙◌, ap}
 use Rattle.gq_model.specs.machine.Amounts.{Ram, Caps, amount}
 use Rattle.gq_verify.specs.Counting.{saturated}
-use Rattle.gq_least.specs.Size.{least_at, unless_after}
+use Rattle.gq_sizes.specs.Size.{least_at, unless_after}
 use Rattle.gq_sizes.proofs.Least_leaves.{least_told}
 use Rattle.gq_sizes.proofs.leaves.at_start.Goals as goal
 

@@ -1,5 +1,5 @@
 use Rattle.std.proofs.Common.{◌≡◌, drop}
-use Rattle.gq_least.specs.Size.{starts_after}
+use Rattle.gq_sizes.specs.Size.{starts_after}
 use Rattle.gq_sizes.proofs.leaves.starts_after.Given as goal
 
 -- it is among those that are left

@@ -4,7 +4,7 @@ use Rattle.gq_model.specs.machine.Amounts.{Caps}
 use Rattle.gq_model.specs.machine.Lists.{greatest}
 use Rattle.gq_model.specs.machine.Program.{section_in}
 use Rattle.gq_verify.specs.Counting.{saturated}
-use Rattle.gq_least.specs.Size.{is_up_to, section_points, session_cost}
+use Rattle.gq_sizes.specs.Size.{is_up_to, section_points, session_cost}
 use Rattle.gq_sizes.specs.Kept.{given_in}
 use Rattle.gq_sizes.specs.Needing.{section_needed}
 use Rattle.gq_sizes.proofs.Most.{counts_kept, counts_kept_not, kept_more, kept_none}

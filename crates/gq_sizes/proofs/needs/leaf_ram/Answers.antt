@@ -3,7 +3,7 @@ use Rattle.std.specs.Prelude.{if◌then◌else◌}
 use Rattle.gq_model.specs.machine.Amounts.{Ram}
 use Rattle.gq_model.specs.machine.Lists.{greatest}
 use Rattle.gq_model.specs.machine.Program.{section_in}
-use Rattle.gq_least.specs.Size.{is_up_to, section_points, session_cost}
+use Rattle.gq_sizes.specs.Size.{is_up_to, section_points, session_cost}
 use Rattle.gq_sizes.specs.Needing.{section_needed}
 use Rattle.gq_sizes.proofs.Most.{counts, counts_not, most_more, most_none}
 use Rattle.gq_verify.proofs.There.{there_now}

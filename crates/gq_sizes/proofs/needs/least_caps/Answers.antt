@@ -2,7 +2,7 @@ use Rattle.std.proofs.Common.{◌≡◌, ◌∙◌, ℕ, List, length, ap, sym, 
 use Rattle.std.proofs.lemmas.Bool.{eqb-true}
 use Rattle.std.specs.Cmp.Lexicographic.{pointwise}
 use Rattle.std.proofs.Math.Dec.{eqb}
-use Rattle.gq_least.specs.Size.{rounds}
+use Rattle.gq_sizes.specs.Size.{rounds}
 use Rattle.gq_sizes.specs.Kept.{given_in}
 use Rattle.gq_sizes.specs.Tables.{round_rows, sum_rows}
 use Rattle.gq_sizes.proofs.Rounds.{last_sums, next_sums, pointwise_is}

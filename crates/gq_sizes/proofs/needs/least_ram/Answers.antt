@@ -1,6 +1,6 @@
 use Rattle.std.proofs.Common.{◌∙◌, ℕ, List, length, ap}
 use Rattle.gq_model.specs.machine.Scenario.{Interface}
-use Rattle.gq_least.specs.Size.{all_gifts, ram_sum}
+use Rattle.gq_sizes.specs.Size.{all_gifts, ram_sum}
 use Rattle.gq_sizes.specs.Needing.{gifts_of}
 use Rattle.gq_sizes.specs.Tables.{ram_rows, row}
 use Rattle.gq_sizes.proofs.Least_gifts.{same_gifts}

@@ -1,7 +1,7 @@
 use Rattle.std.proofs.Common.{◌≡◌, ◌++◌, drop, map}
 use Rattle.gq_model.specs.machine.Scenario.{System}
 use Rattle.gq_model.specs.rules.Use.{subject}
-use Rattle.gq_least.specs.Size.{all_gifts}
+use Rattle.gq_sizes.specs.Size.{all_gifts}
 use Rattle.gq_sizes.specs.Tables.{ram_rows}
 use Rattle.gq_sizes.proofs.needs.least_ram.Given as goal
 

@@ -3,7 +3,7 @@ use Rattle.std.proofs.lemmas.Slice.Zip.{Zip-more, either_empty_from_Zip}
 use Rattle.std.specs.Slice.Iter.{iter_rest}
 use Rattle.std.specs.Iterator.Adapters.{zip_first, zip_second}
 use Rattle.gq_model.specs.machine.Amounts.{Caps}
-use Rattle.gq_least.specs.Size.{leaf_needed}
+use Rattle.gq_sizes.specs.Size.{leaf_needed}
 use Rattle.gq_sizes.specs.Kept.{given_in}
 use Rattle.gq_sizes.proofs.Providers.{needed_none, kept_next}
 use Rattle.gq_sizes.proofs.needs.needed_caps.Goals as goal

@@ -4,7 +4,7 @@ use Rattle.std.specs.Slice.Iter.{iter_rest}
 use Rattle.std.specs.Iterator.Adapters.{zip_first, zip_second}
 use Rattle.gq_model.specs.machine.Amounts.{Ram}
 use Rattle.gq_model.specs.rules.Kinds.{Subject}
-use Rattle.gq_least.specs.Size.{leaf_needed}
+use Rattle.gq_sizes.specs.Size.{leaf_needed}
 use Rattle.gq_sizes.proofs.Providers.{needed_none, needed_next}
 use Rattle.gq_sizes.proofs.needs.needed_ram.Goals as goal
 

@@ -2,7 +2,7 @@ use Rattle.std.proofs.Common.{◌≡◌, max}
 use Rattle.std.specs.Slice.Iter.{iter_rest}
 use Rattle.std.specs.Iterator.Adapters.{zip_first, zip_second}
 use Rattle.gq_model.specs.machine.Amounts.{Ram}
-use Rattle.gq_least.specs.Size.{leaf_needed}
+use Rattle.gq_sizes.specs.Size.{leaf_needed}
 use Rattle.gq_sizes.specs.Needing.{needed_of}
 use Rattle.gq_sizes.proofs.needs.needed_ram.Given as goal
 

@@ -2,7 +2,7 @@ use Rattle.std.proofs.Common.{◌∙◌, ℕ, List, ap}
 use Rattle.gq_model.specs.machine.Amounts.{Caps}
 use Rattle.gq_model.specs.machine.Scenario.{Interface}
 use Rattle.gq_verify.specs.Counting.{saturated}
-use Rattle.gq_least.specs.Size.{leaf_needed, needed}
+use Rattle.gq_sizes.specs.Size.{leaf_needed, needed}
 use Rattle.gq_sizes.specs.Kept.{given_in}
 use Rattle.gq_sizes.specs.Tables.{round_rows, row}
 use Rattle.gq_sizes.proofs.Providers.{needed_is}

@@ -1,5 +1,5 @@
 use Rattle.std.proofs.Common.{◌≡◌, ◌∙◌, ◌-◌, ◌≤◌, ℕ, List, max, get_or, ap, arith}
-use Rattle.gq_least.specs.Size.{ram_sum}
+use Rattle.gq_sizes.specs.Size.{ram_sum}
 use Rattle.gq_sizes.proofs.Asked.{need, sum_first, sum_next}
 use Rattle.gq_sizes.proofs.Rounds.{row_get}
 use Rattle.gq_sizes.proofs.Rows.{row_of}

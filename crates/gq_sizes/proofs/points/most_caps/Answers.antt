@@ -4,7 +4,7 @@ use Rattle.gq_model.specs.rules.Kinds.{State}
 use Rattle.gq_verify.specs.Counting.{saturated}
 use Rattle.gq_verify.specs.Visits.{Sight, raised, section_sights}
 use Rattle.gq_verify.proofs.Shown.{most_of_section}
-use Rattle.gq_least.specs.Size.{section_points, session_cost, slots_cost}
+use Rattle.gq_sizes.specs.Size.{section_points, session_cost, slots_cost}
 use Rattle.gq_sizes.specs.Kept.{RaisesCaps, given_in}
 use Rattle.gq_sizes.specs.declared.points.MostCaps.{MostCaps}
 use Rattle.gq_verify.proofs.Kept_by.{all_raised, shows_by}

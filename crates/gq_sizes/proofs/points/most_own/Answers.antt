@@ -7,7 +7,7 @@ use Rattle.gq_model.specs.rules.Kinds.{State, kind_places}
 use Rattle.gq_verify.specs.Counting.{saturated}
 use Rattle.gq_verify.specs.Visits.{Sight, raised, section_sights}
 use Rattle.gq_verify.proofs.Shown.{shows_most}
-use Rattle.gq_least.specs.Size.{slots_cost}
+use Rattle.gq_sizes.specs.Size.{slots_cost}
 use Rattle.gq_sizes.specs.Kept.{AreFewMore, RaisesOwn, RaisesPlaces, given_in}
 use Rattle.gq_sizes.specs.declared.points.MostOwn.{MostOwn}
 use Rattle.gq_sizes.proofs.Eight.{of_eight}

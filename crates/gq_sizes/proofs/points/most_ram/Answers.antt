@@ -3,7 +3,7 @@ use Rattle.gq_model.specs.machine.Amounts.{Ram}
 use Rattle.gq_model.specs.rules.Kinds.{State, session_cost}
 use Rattle.gq_verify.specs.Visits.{Sight, raised, section_sights}
 use Rattle.gq_verify.proofs.Shown.{most_of_section}
-use Rattle.gq_least.specs.Size.{section_points}
+use Rattle.gq_sizes.specs.Size.{section_points}
 use Rattle.gq_sizes.specs.Kept.{RaisesRam}
 use Rattle.gq_sizes.specs.declared.points.MostRam.{MostRam}
 use Rattle.gq_verify.proofs.Kept_by.{all_raised, shows_by}

@@ -1,7 +1,7 @@
 use Rattle.std.proofs.Common.{◌≡◌, ◌+◌, ◌*◌, ◌++◌, ◌∷◌, [], drop}
 use Rattle.gq_model.specs.machine.Program.{size}
 use Rattle.gq_program.specs.Trees.{tree_of}
-use Rattle.gq_least.specs.Size.{opens_from}
+use Rattle.gq_sizes.specs.Size.{opens_from}
 use Rattle.gq_sizes.specs.Kept.{given_in}
 use Rattle.gq_sizes.specs.internal.Short_lines.{lines_by}
 use Rattle.gq_sizes.proofs.shorts.+statements.Given as goal

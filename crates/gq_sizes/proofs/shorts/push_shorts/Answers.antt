@@ -1,6 +1,6 @@
 use Rattle.std.proofs.Common.{◌∙◌, ◌++◌, ap, map, sym}
 use Rattle.std.proofs.lemmas.Result.{on_ok_weaker}
-use Rattle.gq_least.specs.Size.{all_short}
+use Rattle.gq_sizes.specs.Size.{all_short}
 use Rattle.gq_sizes.specs.Kept.{given_in}
 use Rattle.gq_sizes.proofs.Short_told.{least_is, leaves_are}
 use Rattle.gq_sizes.proofs.shorts.push_shorts.Goals as goal

@@ -1,7 +1,7 @@
 -- The lines that are put one after the other.
 use Rattle.std.proofs.Common.{◌∙◌, ap, map, sym}
 use Rattle.gq_model.specs.machine.Scenario.{Component, system}
-use Rattle.gq_least.specs.Size.{all_gifts}
+use Rattle.gq_sizes.specs.Size.{all_gifts}
 use Rattle.gq_sizes.specs.Tables.{leasts_from, ram_rows}
 use Rattle.gq_sizes.proofs.Sized_texts.{caps_told, ram_told, text_is}
 use Rattle.gq_sizes.proofs.size.pushed.Goals as goal

@@ -1,7 +1,7 @@
 -- The rows of the interfaces of the scenario without quantities.
 use Rattle.std.proofs.Common.{◌∙◌, ap, sym}
 use Rattle.gq_model.specs.machine.Scenario.{system}
-use Rattle.gq_least.specs.Size.{all_gifts}
+use Rattle.gq_sizes.specs.Size.{all_gifts}
 use Rattle.gq_sizes.specs.Tables.{caps_rows, ram_rows}
 use Rattle.gq_sizes.proofs.size.sums_of.Goals as goal
 

@@ -2,8 +2,8 @@ use Rattle.std.proofs.Common.{◌≡◌, ◌+◌, ◌∷◌, ◌++◌, [], drop,
 use Rattle.std.specs.Prelude.{string_bytes}
 use Rattle.std.proofs.lemmas.List.{drop_all}
 use Rattle.std.proofs.lemmas.Result.{err_from_is_err_and}
-use Rattle.gq_fault_texts.specs.Found_lines.{lines_found}
-use Rattle.gq_fault_texts.specs.declared.found.Found.{Found}
+use Rattle.gq_faults.specs.Found_lines.{lines_found}
+use Rattle.gq_faults.specs.declared.found.Found.{Found}
 use Rattle.gq_faults.proofs.Telling.{tells_early, next_lines, no_lines, lines_next}
 use Rattle.gq_faults.proofs.tell.Teller.tell_each.Goals as goal
 

@@ -1,6 +1,6 @@
 use Rattle.std.proofs.Common.{ℕ, List, Option, Result, drop}
 use Rattle.gq_faults.specs.Told.{Telling}
-use Rattle.gq_fault_texts.specs.Found_lines.{lines_found}
+use Rattle.gq_faults.specs.Found_lines.{lines_found}
 use Rattle.gq_faults.specs.declared.fault.TellError.{TellError}
 use Rattle.gq_faults.proofs.tell.Teller.tell_each.Given as goal
 

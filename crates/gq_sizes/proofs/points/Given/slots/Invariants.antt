@@ -3,7 +3,7 @@ use Rattle.gq_caps.specs.Known.{all_known}
 use Rattle.gq_model.specs.machine.Amounts.{Caps}
 use Rattle.gq_verify.specs.Counting.{saturated}
 use Rattle.gq_sizes.specs.Kept.{given_in}
-use Rattle.gq_least.specs.Size.{slots_cost}
+use Rattle.gq_sizes.specs.Size.{slots_cost}
 use Rattle.gq_sizes.proofs.points.Given.slots.Given as goal
 
 -- so much of the slots so far

@@ -6,7 +6,7 @@ use Rattle.gq_caps.specs.declared.totals.Measure.TheVariants.{Places}
 use Rattle.gq_model.specs.machine.Amounts.{Caps}
 use Rattle.gq_model.specs.rules.Kinds.{Kind, kind_places}
 use Rattle.gq_verify.specs.Counting.{saturated}
-use Rattle.gq_least.specs.Size.{slots_cost}
+use Rattle.gq_sizes.specs.Size.{slots_cost}
 use Rattle.gq_sizes.specs.Kept.{given_in}
 use Rattle.gq_sizes.proofs.Eight.{of_eight}
 use Rattle.gq_sizes.proofs.points.MostOwnVisitor.point.Goals as goal

@@ -1,3 +1,0 @@
-pub mod Lists
-pub mod Details
-pub mod Found_lines

@@ -1,0 +1,243 @@
+// A fault of a scenario as a value: what `check` says of it, where it stands in the document, and what was compared.
+ghost use Rattle.std.specs.Prelude.{◌≡◌, ◌∷◌, ◌++◌, [], OnOk};
+ghost use Rattle.gq_load.specs.Faults.{load_fault_text};
+ghost use Rattle.gq_faults.specs.Found_lines.{lines_found};
+
+use gq_caps::Kind;
+use gq_load::fault::LoadFault;
+use gq_model::program::{Name, Place, Section};
+use gq_reader::rules::ValueRule;
+use gq_scenario::key::Key;
+use gq_toml_places::Step;
+use std::alloc::{AllocError, Global};
+use toml::Value;
+
+/// A fault of a scenario. It does not know the words of its details.
+#[derive(Drop)]
+pub struct Found<'d> {
+    /// The line that `check` tells of it.
+    pub line: String,
+    /// The way from the document's own table to what is wrong.
+    pub path: Vec<Step<'d>>,
+    /// Which of the places of what the path leads to is wrong.
+    pub spot: Spot,
+    /// What was compared, with its numbers.
+    pub detail: Detail<'d>,
+}
+
+/// A place of what a path leads to.
+#[derive(Clone, Copy, Debug, PartialEq, Eq)]
+pub enum Spot {
+    /// The header of a table.
+    Table,
+    /// The key.
+    Key,
+    /// The value.
+    Value,
+    /// A line of a text, numbered from 1.
+    Line(usize),
+}
+
+/// The tables of a document, by the keys that they have.
+#[derive(Clone, Copy, Debug, PartialEq, Eq)]
+pub enum TableKind {
+    Top,
+    Interface,
+    Init,
+    Leaf,
+    Route,
+}
+
+/// What a scenario has too many of.
+#[derive(Clone, Copy, Debug, PartialEq, Eq)]
+pub enum Crowd {
+    Interfaces,
+    Leaves,
+    Inits,
+    Routes,
+}
+
+/// What was compared.
+#[derive(Drop)]
+pub enum Detail<'d> {
+    /// Nothing beside what the fault itself says.
+    Nothing,
+    /// A key, which no table of this kind has.
+    Unknown(TableKind, &'d str),
+    /// A key that is missing from a table of this kind.
+    Missing(TableKind, Key),
+    /// A value at a key, and the values that fit.
+    Bad(&'d Value, ValueRule<'d>),
+    /// An entry among the interfaces: whether its key is a name; then its value is no table.
+    BadEntry(&'d str, bool),
+    /// A key, and another that is there and beside which it can not stand.
+    Beside(Key, Key),
+    /// So many of these, of which there may be 64.
+    TooMany(Crowd, usize),
+    /// The levels of a node below the root.
+    TooDeep(usize),
+    /// What a rule for programs compared.
+    Rule(Compared),
+    /// What an init hands out at the start, of bytes or of capabilities, and what it has, at this key.
+    Handed {
+        key: &'static str,
+        handed: u64,
+        has: u64,
+    },
+    /// Why a leaf may not start after the one that it names.
+    After(BadAfter),
+    /// How a route led, from the leaf's own init on.
+    Routed(Vec<Hop>),
+    /// The way round from a leaf to itself: each leaf, with the service that it opens of the next one.
+    Round(Vec<(Name, Name)>),
+    /// What a leaf uses of its own account at most, and what it is handed, in bytes.
+    Own {
+        own: u64,
+        quantum: u64,
+    },
+    /// The same in capabilities.
+    OwnCaps {
+        own: u64,
+        caps: u64,
+    },
+    /// How many steps a leaf may take.
+    Steps(u64),
+}
+
+/// What a rule for programs compared.
+#[derive(Drop)]
+pub enum Compared {
+    /// Nothing beside what the statement says.
+    Nothing,
+    /// 17 operands.
+    Operands,
+    /// What a slot holds, and what the statement needs there.
+    Slot(Place, Option<Kind>, Needed),
+    /// An index of at most this number, of a slot that has so many of these.
+    Index(Place, u64, u64, Unit),
+    /// An upgrade to this level, of a service with so many.
+    Level(Name, u8, usize),
+    /// A value of at most the first number, where at most the second may stand.
+    Value(u32, u32, Holder),
+    /// What a slot holds on two ways.
+    Kinds(Place, Kind, Kind),
+    /// What an `open`, or an upgrade to a level from 1, gives, and what a session of the service needs for it.
+    Donation(Name, u8, u32, u32),
+    /// What the current session costs, with its parts, and what is given for it.
+    Session(SessionCost),
+    /// A section that is missing, or one too many.
+    Section(Section, bool),
+    /// How many steps a section takes.
+    Cost(u64),
+}
+
+/// What a statement needs in a slot.
+#[derive(Clone, Copy, Debug, PartialEq, Eq)]
+pub enum Needed {
+    /// A slot that is there.
+    There,
+    Empty,
+    /// What can be freed.
+    Memory,
+    /// What has bytes.
+    Bytes,
+    Pool,
+    Link,
+}
+
+/// What an index counts.
+#[derive(Clone, Copy, Debug, PartialEq, Eq)]
+pub enum Unit {
+    Bytes,
+    /// Four bytes at once.
+    Words,
+    Entries,
+    BytesOfAnEntry,
+}
+
+/// What a value is for.
+#[derive(Clone, Copy, Debug, PartialEq, Eq)]
+pub enum Holder {
+    Local(u8),
+    Argument,
+    Reply,
+}
+
+/// What a session costs its server at a point.
+#[derive(Drop)]
+pub struct SessionCost {
+    /// Whether capabilities are counted, and not bytes.
+    pub caps: bool,
+    /// The sum of the items.
+    pub sum: u64,
+    /// What is given for a session of this level.
+    pub given: u64,
+    pub level: u8,
+    /// The bytes of the object, and its price.
+    pub object: (u32, u64),
+    /// The slots that are not empty, with what each costs.
+    pub slots: Vec<(u8, Kind, u64)>,
+}
+
+/// Why a leaf may not start after the one that it names.
+#[derive(Drop)]
+pub enum BadAfter {
+    /// No leaf of the same init has this name.
+    NoLeaf(Name),
+    /// This leaf provides a service.
+    Provides(Name),
+    /// An earlier leaf starts after the same one.
+    Taken { earlier: Name, named: Name },
+    /// The named leaf has fewer bytes.
+    Quantum { own: u64, named: u64 },
+    /// The named leaf has fewer capabilities.
+    Caps { own: u32, named: u32 },
+    /// The leaf comes after itself, by these.
+    Round(Vec<Name>),
+}
+
+/// How a route led at one init.
+#[derive(Drop)]
+pub enum Hop {
+    /// No entry of the list fits, of so many.
+    NoEntry(usize),
+    /// The entry of this number, from 1, decided, for this service or for any.
+    Entry(usize, bool, Where),
+    /// The question went beyond the root.
+    BeyondRoot,
+}
+
+/// Where an entry of a route led.
+#[derive(Drop)]
+pub enum Where {
+    Parent,
+    /// No child has this name.
+    NoChild(Name),
+    /// The child of this name is an init, or a leaf that does not provide the service.
+    Differs(Name),
+    /// None of the children provides the service.
+    NoProvider,
+    /// These children provide it.
+    Providers(Vec<Name>),
+}
+
+/// Puts a fault at the end of those that were found.
+pub fn push_fault<'d>(
+    alloc: Global,
+    found: &mut Vec<Found<'d>>,
+    fault: &LoadFault,
+    path: Vec<Step<'d>>,
+    spot: Spot,
+    detail: Detail<'d>,
+) -> Result<(), AllocError>
+    ensures { OnOk result (lines_found found.new.items ≡ lines_found found.old.items ++ load_fault_text fault.now ∷ []) }
+{
+    let line = format!(in alloc; "{fault}")?;
+    found.push(Found {
+        line,
+        path,
+        spot,
+        detail,
+    })?;
+    Ok(())
+}

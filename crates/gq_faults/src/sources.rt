@@ -1,0 +1,230 @@
+// The first fault of each text and code, and the rule that each program breaks first.
+ghost use Rattle.std.specs.Prelude.{◌≡◌, ◌++◌, None, IfOk, OnOk, map, option_map};
+ghost use Rattle.gq_model.specs.rules.Verdict.{program_fault};
+ghost use Rattle.gq_model.specs.texts.Fault_texts.{refusal_text};
+ghost use Rattle.gq_load.specs.Faults.{load_fault_text};
+ghost use Rattle.gq_load.specs.declared.fault.LoadError.TheVariants as load;
+ghost use Rattle.gq_load.specs.Load.{fault_text, source_fault, sources_fault};
+ghost use Rattle.gq_load.specs.internal.Judged.{judged_by, leaf_refusal};
+ghost use Rattle.gq_verify.specs.Faults.{known_fault};
+ghost use Rattle.gq_faults.specs.Lists.{all_found, listed_if};
+ghost use Rattle.gq_faults.specs.Scenario_faults.{sources_faults};
+ghost use Rattle.gq_faults.specs.Found_lines.{lines_found};
+
+use crate::compared::compared;
+use crate::found::{Compared, Detail, Found, Spot, push_fault};
+use crate::leaves::way_to;
+use crate::lines::line_of;
+use gq_load::fault::{LoadError, LoadFault};
+use gq_load::programs::read_program;
+use gq_program::{Interfaces, Program};
+use gq_resolve::component::Component;
+use gq_rules::Subject;
+use gq_scenario::key::Key;
+use gq_scenario::scenario::Leaf;
+use gq_scenario::source::Source;
+use gq_toml_places::Step;
+use gq_verify::{Fault, verify};
+use std::alloc::{AllocError, Global};
+
+// The key at which a leaf has its program.
+fn source_key(leaf: &Leaf) -> Key {
+    match leaf.source() {
+        Source::Text(_) => Key::Program,
+        Source::Code(_) => Key::Code,
+    }
+}
+
+// Where a fault of a program's text stands; code has no lines.
+fn text_spot(leaf: &Leaf, fault: &LoadFault) -> Spot {
+    match (leaf.source(), fault) {
+        (Source::Text(_), LoadFault::Text { line, .. }) => Spot::Line(*line as usize),
+        _ => Spot::Key,
+    }
+}
+
+// Where a rule is broken.
+fn rule_spot(leaf: &Leaf, fault: &Fault) -> Spot {
+    match leaf.source() {
+        Source::Text(text) => match line_of(text.as_slice(), fault.section, fault.place) {
+            Some(line) => Spot::Line(line),
+            None => Spot::Key,
+        },
+        Source::Code(_) => Spot::Key,
+    }
+}
+
+// The fault that an error tells.
+fn told(error: LoadError) -> Result<LoadFault, AllocError>
+    ensures { IfOk result (λ fault. error ≡ load.Fault fault) }
+{
+    match error {
+        LoadError::Memory => Err(AllocError),
+        LoadError::Fault(fault) => Ok(fault),
+    }
+}
+
+// The fault of the text or the code of a leaf, if it has one.
+fn read_fault(alloc: Global, leaf: &Leaf) -> Result<Option<LoadFault>, AllocError>
+    ensures { IfOk result (λ fault. option_map load_fault_text fault ≡ option_map fault_text (source_fault leaf.now.name leaf.now.source)) }
+{
+    match read_program(alloc, leaf) {
+        Ok(program) => {
+            drop(program);
+            Ok(None)
+        }
+        Err(error) => Ok(Some(told(error)?)),
+    }
+}
+
+// The same at the end of those that were found.
+fn push_source(
+    alloc: Global,
+    found: &mut Vec<Found<'static>>,
+    component: &Component<'_>,
+    leaves: &[Vec<Step<'static>>],
+    place: usize,
+) -> Result<(), AllocError>
+    ensures { OnOk result (lines_found found.new.items
+        ≡ lines_found found.old.items ++ map fault_text (listed_if (source_fault component.now.node.name component.now.node.source))) }
+{
+    let leaf = component.leaf();
+    match read_fault(alloc, leaf)? {
+        Some(fault) => {
+            let way = way_to(alloc, leaves, place, source_key(leaf))?;
+            push_fault(
+                alloc,
+                found,
+                &fault,
+                way,
+                text_spot(leaf, &fault),
+                Detail::Nothing,
+            )
+        }
+        None => Ok(()),
+    }
+}
+
+/// The first fault of each text and code.
+pub(crate) fn push_sources(
+    alloc: Global,
+    found: &mut Vec<Found<'static>>,
+    components: &[Component<'_>],
+    leaves: &[Vec<Step<'static>>],
+) -> Result<(), AllocError>
+    ensures { OnOk result (lines_found found.new.items ≡ lines_found found.old.items ++ map fault_text (sources_faults components.now)) }
+{
+    for (place, component) in components.iter().enumerate() {
+        push_source(alloc, found, component, leaves, place)?;
+    }
+    Ok(())
+}
+
+// What a rule compared.
+fn detail_of(
+    alloc: Global,
+    leaf: &Leaf,
+    program: &Program,
+    interfaces: &Interfaces,
+    fault: &Fault,
+) -> Result<Compared, AllocError> {
+    let provided = match leaf.provides() {
+        Some(service) => interfaces.named(service.as_bytes()),
+        None => None,
+    };
+    let subject = Subject::new(program, provided, interfaces);
+    compared(alloc, &subject, fault)
+}
+
+// The program of a leaf whose text or code is one.
+fn read(alloc: Global, leaf: &Leaf) -> Result<Program, AllocError>
+    requires { source_fault leaf.now.name leaf.now.source ≡ None }
+    ensures { IfOk result (λ p. p ≡ leaf.now.program) }
+{
+    match read_program(alloc, leaf) {
+        Ok(program) => Ok(program),
+        Err(error) => {
+            let fault = told(error)?;
+            drop(fault);
+            unreachable!()
+        }
+    }
+}
+
+// The rule that a program breaks first, if it breaks one.
+fn broken(component: &Component<'_>, program: &Program, interfaces: &Interfaces) -> Option<Fault>
+    requires { program.now ≡ component.now.node.program }
+    ensures { option_map known_fault result ≡ program_fault (judged_by interfaces.now component.now) }
+{
+    match verify(program, component.leaf().provides(), interfaces) {
+        Ok(_) => None,
+        Err(fault) => Some(fault),
+    }
+}
+
+// The same at the end of those that were found.
+fn push_judged(
+    alloc: Global,
+    found: &mut Vec<Found<'static>>,
+    component: &Component<'_>,
+    program: &Program,
+    interfaces: &Interfaces,
+    way: Vec<Step<'static>>,
+) -> Result<(), AllocError>
+    requires { program.now ≡ component.now.node.program }
+    ensures { OnOk result (lines_found found.new.items
+        ≡ lines_found found.old.items ++ map refusal_text (listed_if (leaf_refusal interfaces.now component.now))) }
+{
+    let leaf = component.leaf();
+    match broken(component, program, interfaces) {
+        Some(fault) => {
+            let detail = detail_of(alloc, leaf, program, interfaces, &fault)?;
+            let spot = rule_spot(leaf, &fault);
+            let fault = LoadFault::Rule {
+                leaf: leaf.name().copied(),
+                rule: fault.rule,
+                section: fault.section,
+                place: fault.place,
+            };
+            push_fault(alloc, found, &fault, way, spot, Detail::Rule(detail))
+        }
+        None => Ok(()),
+    }
+}
+
+// The same of a leaf whose text or code is a program.
+fn push_rule(
+    alloc: Global,
+    found: &mut Vec<Found<'static>>,
+    component: &Component<'_>,
+    interfaces: &Interfaces,
+    leaves: &[Vec<Step<'static>>],
+    place: usize,
+) -> Result<(), AllocError>
+    requires { source_fault component.now.node.name component.now.node.source ≡ None }
+    ensures { OnOk result (lines_found found.new.items
+        ≡ lines_found found.old.items ++ map refusal_text (listed_if (leaf_refusal interfaces.now component.now))) }
+{
+    let leaf = component.leaf();
+    let way = way_to(alloc, leaves, place, source_key(leaf))?;
+    let program = read(alloc, leaf)?;
+    push_judged(alloc, found, component, &program, interfaces, way)
+}
+
+/// The rule that each program breaks first, where all texts and codes are programs.
+pub(crate) fn push_rules(
+    alloc: Global,
+    found: &mut Vec<Found<'static>>,
+    components: &[Component<'_>],
+    interfaces: &Interfaces,
+    leaves: &[Vec<Step<'static>>],
+) -> Result<(), AllocError>
+    requires { sources_fault components.now ≡ None }
+    ensures { OnOk result (lines_found found.new.items
+        ≡ lines_found found.old.items ++ map refusal_text (all_found (λ c. listed_if (leaf_refusal interfaces.now c)) components.now)) }
+{
+    for (place, component) in components.iter().enumerate() {
+        push_rule(alloc, found, component, interfaces, leaves, place)?;
+    }
+    Ok(())
+}

@@ -1,4 +1,0 @@
-use Rattle.gq_scenario_faults.proofs.stages.found_in.Goals as goal
-
-pub returns : goal.returns
-returns c = c.in_ok-push_all.ensures
