@@ -3,8 +3,8 @@
 
 Standard output is a full device, or a pipe whose reader closes it after some bytes. The program then has to tell `trade: file fault` and to end with
 status 4, and what the reader has got is a front of what the run writes where all is written. The runs are those of the examples, and one of 200,000 lines,
-which is longer than a pipe holds; and so are tried the other commands, over each example, and those that read nothing, and `faults` over a scenario and turns
-that have many. The last line is 'N passed, M failed', and the exit status is 1 where a run failed.
+which is longer than a pipe holds; and so are tried the other commands, over each example, and those that read nothing, and `faults` over scenarios and turns
+that have one fault and many. Each command prints one short text at least, which leaves the program's buffer only at its end. The last line is 'N passed, M failed', and the exit status is 1 where a run failed.
 """
 import os
 import pathlib
@@ -55,6 +55,7 @@ def commands():
             yield f"{' '.join(words)} of {scenario.name}", [*words, str(scenario), str(scenario.with_suffix(".turns"))]
         for word in ("asm", "list", "why"):
             yield f"{word} of {leaf} of {scenario.name}", [word, str(scenario), leaf]
+    yield "races of shared_count.toml", ["races", str(EXAMPLES / "shared_count.toml")]
     for words in (["rule"], ["rule", "V12"], ["--version"], ["--help"]):
         yield " ".join(words), words
 
@@ -96,6 +97,15 @@ def results(program, room):
     for name, words in commands():
         text = whole(program, words)
         yield f"{name}, whole", True, bool(text)
+        yield f"{name} to a full device", FAULT, to_full_device(program, words)
+        yield f"{name} to a closed pipe", (b"", FAULT), to_closed_pipe(program, words, 0)
+    one, none = room / "one.toml", room / "none"
+    one.write_text('version = 1\nram = "64K"\nkey = 1\nstart = []\n')
+    none.write_text("no turn\n")
+    for name, words in (("faults, one", [str(one)]), ("faults of turns, one", [str(EXAMPLES / "hello.toml"), str(none)])):
+        words = ["faults", *words]
+        ran = subprocess.run([program, *words], capture_output=True, timeout=SECONDS)
+        yield f"{name}, whole", (1, True), (ran.returncode, 0 < len(ran.stdout) < 65536)
         yield f"{name} to a full device", FAULT, to_full_device(program, words)
         yield f"{name} to a closed pipe", (b"", FAULT), to_closed_pipe(program, words, 0)
     faulty, wrong = room / "faulty.toml", room / "wrong"

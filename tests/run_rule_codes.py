@@ -1,13 +1,15 @@
 #!/usr/bin/env python3
-"""tests/run_rule_codes.py: holds the table of `trade rule` against the documents.
+"""tests/run_rule_codes.py [PROGRAM]: holds the table of `trade rule` against the documents, and the program against the table.
 
 The codes and names in crates/gq_rule_texts/src have to be those that docs/SCENARIOS.md and docs/MACHINE.md list: no code is missing in one of both, none is
 twice in the table, and each has one name. The example of each rule has to show its code and name, and a command that a text names has to be one of the program's
-(crates/gq_command/src/entries.rt). It wants no program. The last line is 'N passed, M failed', and the exit status is 1 where one failed.
+(crates/gq_command/src/entries.rt). With PROGRAM, what it prints for `rule` has to be the lines of the whole table in their order, and for each code its text:
+so `main` hands over the table that is proved of. The last line is 'N passed, M failed', and the exit status is 1 where one failed.
 """
 import collections
 import pathlib
 import re
+import subprocess
 import sys
 
 TOP = pathlib.Path(__file__).resolve().parent.parent
@@ -19,6 +21,7 @@ ENTRY = re.compile(r'entry!\(\s*"([SMCVBUX]\d+)",\s*"(\w+)",\s*"((?:[^"\\]|\\.)*
 # The first cell of a row of a document's table: a code and its name, perhaps with the leaf before it, as a fault of budgets has.
 LISTED = re.compile(r"^\| (?:LEAF)?`(?:: )?([SMCVBUX]\d+) (\w+)", re.MULTILINE)
 NAMED = re.compile(r"`trade ([a-z]+)")
+FILES = ("scenario", "program", "verifier", "limits")
 
 
 def listed():
@@ -50,9 +53,34 @@ def findings():
         yield f"the commands in the text of {code}", f"there is no {sorted(unknown)}" if unknown else None
 
 
+def plain(literal):
+    """The text of a string literal."""
+    return re.sub(r"\\\n\s*", "", literal).replace('\\"', '"').replace("\\\\", "\\")
+
+
+def printed(program):
+    """What is wrong with what the program prints of rules."""
+    entries = [[plain(part) for part in entry] for name in FILES for entry in ENTRY.findall((SOURCES / f"{name}.rt").read_text())]
+    order = sorted(entries, key=lambda entry: ("SMCVBUX".index(entry[0][0]), int(entry[0][1:])))
+    wanted = "".join(f"{code} {name}: {rule}\n" for code, name, rule, _, _ in order)
+    yield "the lines of `rule`", differs(wanted, said(program, "rule"))
+    for code, name, _, text, example in order:
+        yield f"the text of {code}", differs(f"{code} {name}\n\n{text}\n\nExample: {example}\n", said(program, "rule", code.lower()))
+
+
+def said(program, *words):
+    """What the program prints."""
+    return subprocess.run([program, *words], capture_output=True, text=True, timeout=60, check=False).stdout
+
+
+def differs(wanted, got):
+    """What is wrong where two texts differ."""
+    return None if wanted == got else f"wanted {wanted[:200]!r}, got {got[:200]!r}"
+
+
 def main():
     passed = failed = 0
-    for what, wrong in findings():
+    for what, wrong in [*findings(), *(it for program in sys.argv[1:] for it in printed(program))]:
         if wrong is None:
             passed += 1
         else:

@@ -29,6 +29,8 @@ class Crates:
     def __init__(self, at=TOP):
         page = subprocess.run(["rt", "doc"], capture_output=True, text=True, check=True).stdout.strip()
         self.kit, self.at, self.found = pathlib.Path(page).parent, pathlib.Path(at).resolve(), {}
+        # Whether a tool prints how long each check takes.
+        self.times = False
         self.uses = listed(self.at)
 
     def own(self, name):

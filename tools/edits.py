@@ -14,11 +14,15 @@ IMPL = re.compile(r"( *)impl\b")
 
 @dataclasses.dataclass
 class Edit:
-    """A must-fail edit: its file, the texts that it changes in which files, and the functions within whose bodies they stand (none where one does not)."""
+    """A must-fail edit: its file, the texts that it changes in which files, and the functions within whose bodies they stand (none where one does not).
+
+    One that is not within bodies may still have functions: those that it says it is for.
+    """
 
     path: pathlib.Path
     pairs: list
     functions: set
+    is_within_bodies: bool = True
 
     @property
     def name(self):
@@ -58,7 +62,8 @@ def read_edit(path, sources):
     for file, old, new in pairs:
         functions.append(function_at(sources, file, texts[file], texts[file].find(old)))
         texts[file] = replaced(texts[file], old, new)
-    if declared or None not in functions:
+    edit.is_within_bodies = None not in functions
+    if declared or edit.is_within_bodies:
         edit.functions = declared or set(functions)
     return edit
 

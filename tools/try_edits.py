@@ -1,5 +1,5 @@
 #!/usr/bin/env python3
-"""tools/try_edits.py [--at FOLDER] [--jobs N] [CRATE..]: tries the must-fail edits of all crates, or of these: the prover has to refuse each.
+"""tools/try_edits.py [--at FOLDER] [--jobs N] [--anew] [--times] [CRATE..]: tries the must-fail edits of all crates, or of these: the prover has to refuse each.
 
 The edits of a crate are tried together, in one copy of its sources and one check of the functions that they change. That serves as well as a check for each,
 as a function is proved from what the functions that it calls promise, and not from their bodies: an edit in one body can break no goal of another function.
@@ -11,10 +11,15 @@ one that was not refused beside others, is tried alone, as the toolchain's own `
 
 The libraries are read below FOLDER, a copy of the repository in which `rt ci` has passed (else the repository itself). It ends with 0 where each edit was
 refused.
+
+That an edit was refused is kept in the user's cache folder, by a checksum of all that its verdict depends on: the toolchain, these tools, the edit, and all
+sources of its crate and of the crates below it. While none of them changes, the edit is not tried again. --anew tries all. --times prints on standard error
+how many seconds each check took, and of which edits it was.
 """
 import argparse
 import concurrent.futures
 import dataclasses
+import hashlib
 import os
 import pathlib
 import re
@@ -22,10 +27,13 @@ import shutil
 import subprocess
 import sys
 import tempfile
+import time
 
 from crates import PARTS, TOP, Crates
 from edits import BadEdit, cycle_named, read_edit, replaced
 
+# Where it is kept which edits were refused.
+KEPT = pathlib.Path(os.environ.get("XDG_CACHE_HOME") or pathlib.Path.home() / ".cache") / "fozhattu" / "edits"
 # What is said of a text that can't be read, where one that is only false reads well.
 UNREADABLE = re.compile(r"is not in scope|has no field|is no name|operand is missing|expected the end|cannot continue")
 # What a proof file says where an edit took away a name, and so nothing of a contract.
@@ -34,6 +42,48 @@ ABOUT_NAMES = re.compile(r"has no field|is not in scope|has no `|was not admitte
 NOT_STATED = "antt did not admit its contract or its `statement`"
 # What is said of a goal that can't be proved, for certain.
 IS_FALSE = "allow values at which this goal is false"
+
+
+class Verdicts:
+    """Which edits were refused in earlier runs over the same sources."""
+
+    def __init__(self, crates, is_anew):
+        self.crates, self.is_anew, self.sums = crates, is_anew, {}
+
+    def sum_of(self, name):
+        """A checksum of all that the check of a crate reads: its sources, those of the crates below it, the toolchain and these tools."""
+        if name not in self.sums:
+            total = hashlib.sha256((self.crates.kit / "KIT-ID").read_bytes())
+            for tool in ("try_edits.py", "edits.py", "crates.py"):
+                total.update((TOP / "tools" / tool).read_bytes())
+            for crate in [*self.crates.below(name), name]:
+                total.update(repr((crate, self.crates.uses[crate])).encode())
+                for part in PARTS:
+                    for path in sorted((self.crates.folder(crate) / part).rglob("*")):
+                        if path.is_file():
+                            total.update(repr((str(path.relative_to(self.crates.at)), path.read_bytes())).encode())
+            self.sums[name] = total.hexdigest()
+        return self.sums[name]
+
+    def path(self, name, edit):
+        """Where it is kept that an edit of a crate was refused."""
+        return KEPT / hashlib.sha256(repr((self.sum_of(name), edit.name, edit.path.read_bytes())).encode()).hexdigest()
+
+    def refused(self, name, edit):
+        """What was said when an edit was refused, or nothing where that is not known."""
+        path = self.path(name, edit)
+        return path.read_text(encoding="utf-8") if not self.is_anew and path.is_file() else ""
+
+    def keep(self, name, edit, why):
+        """Keeps that an edit was refused. Where the cache can't be written it is tried again next time."""
+        path = self.path(name, edit)
+        try:
+            path.parent.mkdir(parents=True, exist_ok=True)
+            made = path.with_suffix(f".{os.getpid()}")
+            made.write_text(why, encoding="utf-8")
+            made.replace(path)
+        except OSError:
+            pass
 
 
 @dataclasses.dataclass
@@ -57,7 +107,10 @@ def check(crates, name, edits, kept, more=()):
                 path = pathlib.Path(room, file)
                 path.write_text(replaced(path.read_text(encoding="utf-8"), old, new), encoding="utf-8")
         how = {"stdin": subprocess.DEVNULL, "stdout": subprocess.PIPE, "stderr": subprocess.STDOUT, "text": True, "errors": "replace"}
+        start = time.monotonic()
         ran = subprocess.run(crates.check(name, ["--incremental", kept, *more]), cwd=room, check=False, **how)
+    if crates.times:
+        print(f"{time.monotonic() - start:.0f} s: {name}: {' '.join(edit.path.stem for edit in edits)}", file=sys.stderr, flush=True)
     return told(name, ran.returncode, ran.stdout.rstrip("\n").split("\n"))
 
 
@@ -138,7 +191,9 @@ def parted(edits):
 
 
 def collide(one, other):
-    """Whether two edits can't be tried in one check."""
+    """Whether two edits can't be tried in one check. One that changes more than bodies, as that of a law, breaks others, and goes by itself."""
+    if not (one.is_within_bodies and other.is_within_bodies):
+        return True
     cycles = {cycle for _, cycle in one.functions if cycle} & {cycle for _, cycle in other.functions if cycle}
     both = [(pair, another) for pair in one.pairs for another in other.pairs if pair[0] == another[0]]
     texts = any(old in text or text in old or old in put for (_, old, _), (_, text, put) in both)
@@ -187,22 +242,28 @@ def only_of(edits):
     return [word for edit in edits for path, _ in sorted(edit.functions) for word in ("--only", path)]
 
 
-def try_crate(crates, name):
-    """Tries the edits of a crate. Gives a line for each, and whether it was refused."""
+def try_crate(crates, name, verdicts):
+    """Tries the edits of a crate, but for those of which the verdict is known. Gives a line for each, and whether it was refused."""
     edits, lines = [], []
     for path in sorted((TOP / "crates" / name / "must-fail").glob("*.edit")):
         try:
             edits.append(read_edit(path, crates.folder(name)))
         except (BadEdit, OSError, UnicodeError) as error:
             lines.append((False, f"{name}/{path.name}: BAD EDIT: {error}"))
+    known = {edit.name: verdicts.refused(name, edit) for edit in edits}
+    lines += [(True, f"{edit}: {why}, as in an earlier run") for edit, why in known.items() if why]
+    edits = [edit for edit in edits if not known[edit.name]]
     with tempfile.TemporaryDirectory(prefix="rt-edits-") as kept:
         found = try_together(crates, name, [edit for edit in edits if edit.functions], kept)
         for edit in edits:
             if edit.name in found:
-                lines.append((True, f"{edit.name}: refused at {found[edit.name][:160]}"))
+                refused, why = True, f"refused at {found[edit.name][:160]}"
             else:
                 refused, why = try_alone(crates, name, edit, kept)
-                lines.append((refused, f"{edit.name}: {'refused, alone' if refused else 'NOT REFUSED'}: {why}"))
+                why = f"{'refused, alone' if refused else 'NOT REFUSED'}: {why}"
+            if refused:
+                verdicts.keep(name, edit, why)
+            lines.append((refused, f"{edit.name}: {why}"))
     return lines
 
 
@@ -216,13 +277,17 @@ def main():
     parser = argparse.ArgumentParser(description=__doc__, formatter_class=argparse.RawDescriptionHelpFormatter)
     parser.add_argument("--at", default=TOP, metavar="FOLDER")
     parser.add_argument("--jobs", type=int, default=len(os.sched_getaffinity(0)), metavar="N")
+    parser.add_argument("--anew", action="store_true")
+    parser.add_argument("--times", action="store_true")
     parser.add_argument("crates", nargs="*", metavar="CRATE")
     given = parser.parse_args()
     crates = Crates(given.at)
+    crates.times = given.times
+    verdicts = Verdicts(crates, given.anew)
     names = sorted(given.crates or crates.uses, key=lambda name: -weight(crates, name))
     lines, pool = [], concurrent.futures.ThreadPoolExecutor(given.jobs)
     try:
-        for tried in concurrent.futures.as_completed([pool.submit(try_crate, crates, name) for name in names if weight(crates, name)]):
+        for tried in concurrent.futures.as_completed([pool.submit(try_crate, crates, name, verdicts) for name in names if weight(crates, name)]):
             for refused, line in tried.result():
                 print(f"must-fail {line}", flush=True)
                 lines.append((refused, line))
