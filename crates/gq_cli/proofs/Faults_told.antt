@@ -1,8 +1,9 @@
 -- All that is wrong was told, and then the texts are refused by the line of the first.
-use Rattle.std.proofs.Common.{◌≡◌, ◌∙◌, List, ℕ, [], ◌∷◌, Option, Result, Ok, Err, Some, None, IsOk, map, refl, ap, sym, subst}
+use Rattle.std.proofs.Common.{◌≡◌, ◌∙◌, ◌⊎◌, inl, inr, List, ℕ, [], ◌∷◌, Option, Result, Ok, Err, Some, None, IsOk, map, refl, ap, sym, subst, length}
 use Rattle.std.specs.Prelude.{string_bytes}
-use Rattle.std.specs.Io.KnownBytes.{Appends}
-use Rattle.gq_init.proofs.Known.{appends_nothing}
+use Rattle.std.proofs.Math.Seq.{take-length}
+use Rattle.std.specs.Io.KnownBytes.{Appends, Keeps}
+use Rattle.gq_init.proofs.Known.{appends_kept, appends_nothing}
 use Rattle.gq_load.specs.Faults.{Prints, load_fault_text}
 use Rattle.gq_load.specs.Load.{Fault, fault_text, loaded}
 use Rattle.gq_load.specs.declared.fault.LoadFault.{LoadFault}
@@ -15,12 +16,14 @@ use Rattle.gq_world.specs.Whole.{Written, refused_with, turn_fault_text, with_sc
 use Rattle.gq_world.specs.declared.fault.RunFault.TheVariants as faults
 use Rattle.gq_faults.specs.Faults.{fault_lines, refusal_of}
 use Rattle.gq_faults.specs.Lists.{first}
-use Rattle.gq_faults.specs.Told.{WritesFaults}
+use Rattle.gq_faults.specs.Told.{EndsEarly, WritesFaults, WritesPrefix}
 use Rattle.gq_faults.specs.Turn_faults.{Answers, fault_of_turns, lines_from, lines_of_both, told_of, turn_fault_line, turn_faults}
 use Rattle.gq_faults.specs.declared.turns.Refused as why
 use Rattle.gq_faults.specs.declared.turns.Refused.TheVariants as answers
 use Rattle.gq_cli.specs.Ends.{EndedFaults, IsKnown, IsToldAs, IsUntold, refusal_fault}
-use Rattle.gq_cli.specs.Executed.{Of_faults, faults_written, none_written}
+use Rattle.gq_faults.specs.declared.fault.TellError.{TellError}
+use Rattle.gq_faults.specs.declared.fault.TellError.TheVariants as errors
+use Rattle.gq_cli.specs.Executed.{Asked, Of_faults, TellsPrefix, faults_written, none_written}
 use Rattle.gq_cli.specs.declared.execute.Fault as untold
 use Rattle.gq_cli.specs.declared.execute.Fault.TheVariants.{Refused, Memory, Read, Write}
 
@@ -38,12 +41,14 @@ module _ (path text : List ℕ) (before after : Option (List ℕ)) where
       by (Ok s) h = absurd h
       by (Err fault) h = ap Err (ap refused_with (sym h) ∙ sym e)
 
-  pub refused_ends : (f : LoadFault) (r : untold.Fault) → Prints f (refusal_of (loaded text)) → WritesFaults path (fault_lines text) before after
-      → IsToldAs (faults.Load f) r → IsKnown {A = Unit {0}} (Err r) → EndedFaults {A = Unit {0}} (Err r) before after (Of_faults path text None)
-  refused_ends f (Refused line) h w told known = (refused_line f (string_bytes line) h told.2, w)
-  refused_ends f Memory h w told known = absurd known
-  refused_ends f Read h w told known = absurd told
-  refused_ends f Write h w told known = tt {0}
+  pub refused_ends : (f : LoadFault) (r : untold.Fault) (m n : ℕ) → Prints f (refusal_of (loaded text)) → WritesFaults path (fault_lines text) before after
+      → (r ≡ Write) ⊎ IsToldAs (faults.Load f) r → IsKnown {A = Unit {0}} (Err r)
+      → EndedFaults {A = Unit {0}} (Err r) before after m n (Of_faults path text None)
+  refused_ends f (Refused line) m n h w (inl e) known = absurd cc
+  refused_ends f (Refused line) m n h w (inr told) known = (refused_line f (string_bytes line) h told.2, w)
+  refused_ends f Memory m n h w told known = absurd known
+  refused_ends f Read m n h w told known = absurd known
+  refused_ends f Write m n h w told known = inr w
 
   pub none_ends : IsOk (loaded text) → after ≡ before → IsWhole (faults_written text None) before after
   none_ends h e = by (loaded text) h
@@ -71,13 +76,14 @@ module _ (path other text turns : List ℕ) (before after : Option (List ℕ)) w
       by (Ok s) (answers.Scenario f) h e = absurd h
       by (Ok s) (answers.Turns f k) h e = turns_line (turned (components s) turns) f k line h e
 
-  pub both_ends : (w : why.Refused) (r : untold.Fault) → Answers (Some w) (loaded text) turns
-      → WritesFaults (told_of (loaded text) path other) (lines_of_both text turns) before after → IsToldAs (refusal_fault w) r
-      → IsKnown {A = Unit {0}} (Err r) → EndedFaults {A = Unit {0}} (Err r) before after (Of_faults path text (Some (other, turns)))
-  both_ends w (Refused line) h f told known = (both_line w (string_bytes line) h told.2, f)
-  both_ends w Memory h f told known = absurd known
-  both_ends w Read h f told known = absurd told
-  both_ends w Write h f told known = tt {0}
+  pub both_ends : (w : why.Refused) (r : untold.Fault) (m n : ℕ) → Answers (Some w) (loaded text) turns
+      → WritesFaults (told_of (loaded text) path other) (lines_of_both text turns) before after → (r ≡ Write) ⊎ IsToldAs (refusal_fault w) r
+      → IsKnown {A = Unit {0}} (Err r) → EndedFaults {A = Unit {0}} (Err r) before after m n (Of_faults path text (Some (other, turns)))
+  both_ends w (Refused line) m n h f (inl e) known = absurd cc
+  both_ends w (Refused line) m n h f (inr told) known = (both_line w (string_bytes line) h told.2, f)
+  both_ends w Memory m n h f told known = absurd known
+  both_ends w Read m n h f told known = absurd known
+  both_ends w Write m n h f told known = inr f
 
   -- nothing was told
   told_none : (front : List ℕ) (faults : List (List ℕ)) → faults ≡ [] → WritesFaults front faults before after → Appends before after []
@@ -108,10 +114,29 @@ module _ (path other text turns : List ℕ) (before after : Option (List ℕ)) w
           whole (Ok ts) e = refl
           whole (Err p) e = absurd (none_some (sym e))
 
--- who does not tell all is not refused
-pub untold_ends : (r : untold.Fault) (path text : List ℕ) (turns : Option (List ℕ × List ℕ)) (before after : Option (List ℕ)) → IsUntold r
-    → IsKnown {A = Unit {0}} (Err r) → EndedFaults {A = Unit {0}} (Err r) before after (Of_faults path text turns)
-untold_ends (Refused line) path text turns before after h known = absurd h
-untold_ends Memory path text turns before after h known = absurd known
-untold_ends Read path text turns before after h known = absurd h
-untold_ends Write path text turns before after h known = tt {0}
+-- WHERE NOT ALL WAS WRITTEN
+
+-- what was written stays so
+pub kept_faults : (path : List ℕ) (faults : List (List ℕ)) (before mid after : Option (List ℕ)) → WritesFaults path faults before mid → Keeps mid after
+    → WritesFaults path faults before after
+kept_faults path faults before mid after h k =
+    record { text = h.text; told = h.told; written = appends_kept before mid after h.text h.written k }
+
+-- the whole is a prefix
+pub whole_prefix : (path : List ℕ) (faults : List (List ℕ)) (before after : Option (List ℕ)) → WritesFaults path faults before after
+    → WritesPrefix path faults before after
+whole_prefix path faults before after h =
+    record { text = h.text; told = h.told; written = (length h.text, subst (Appends before after) (sym (take-length h.text)) h.written) }
+
+-- who does not write all of it was refused host memory, or a write failed
+pub untold_ends : (error : TellError) (r : untold.Fault) (asked : Asked) (before after : Option (List ℕ)) (m n : ℕ) → IsUntold error r
+    → TellsPrefix asked before after → EndsEarly error m n → IsKnown {A = Unit {0}} (Err r) → EndedFaults {A = Unit {0}} (Err r) before after m n asked
+untold_ends error (Refused line) asked before after m n h prefix ends known = absurd (never error h)
+  where
+    never : (error : TellError) → IsUntold error (Refused line) → ⊥
+    never errors.Memory h = cc
+    never errors.Write h = cc
+untold_ends error Memory asked before after m n h prefix ends known = absurd known
+untold_ends error Read asked before after m n h prefix ends known = absurd known
+untold_ends errors.Memory Write asked before after m n h prefix ends known = absurd cc
+untold_ends errors.Write Write asked before after m n h prefix ends known = inl (prefix, ends)

@@ -13,7 +13,7 @@ use Rattle.gq_init.specs.declared.counted.Counted.{Counted}
 use Rattle.gq_rule_texts.specs.Rules.{Table}
 use Rattle.gq_command.specs.Stored.{parted}
 use Rattle.gq_cli.specs.Executed.{Asked, Of_scenario, Of_leaf, Of_both, Of_faults, Of_nothing, Executes, IsInput, IsRefusal, IsTold, IsUpheldBy, ReadsBoth}
-use Rattle.gq_cli.specs.Executed.{TellsAll, rules_written, version_written, writes_refusals, written_of}
+use Rattle.gq_cli.specs.Executed.{TellsAll, TellsPart, rules_written, version_written, writes_refusals, written_of}
 
 module _ (scenario scenario_left turns turns_left : Option (List ℕ)) (asked : List ℕ → List ℕ → Asked) (holds : Asked → Type 0) where
   pub reads_both : (s t s' t' : List ℕ) → IsInput scenario scenario_left s → IsInput turns turns_left t → s' ≡ s → t' ≡ t → holds (asked s' t')
@@ -97,12 +97,12 @@ upheld_otherwise scenario scenario_left turns turns_left command (Ok done) befor
 upheld_otherwise scenario scenario_left turns turns_left command (Err fault) before after ne ended = tt {0}
 
 -- what a command comes to, whether all that is wrong is asked for or something else
-module _ (table : Table) (command : Command) (scenario scenario_left turns turns_left before after : Option (List ℕ)) where
+module _ (table : Table) (command : Command) (scenario scenario_left turns turns_left before after : Option (List ℕ)) (m n : ℕ) where
   abbrev Come : (Asked → Type 0) → Type 0
   Come = Executes table command scenario scenario_left turns turns_left
 
   pub done_either : (b : Bool) → writes_refusals command ≡ b → (writes_refusals command ≡ false → Come (Ended {A = Unit {0}} (Ok tt) before after))
-      → (writes_refusals command ≡ true → Come (EndedFaults {A = Unit {0}} (Ok tt) before after)) → Come (λ asked. IsWhole (written_of asked) before after)
+      → (writes_refusals command ≡ true → Come (EndedFaults {A = Unit {0}} (Ok tt) before after m n)) → Come (λ asked. IsWhole (written_of asked) before after)
   done_either true e h g = g e
   done_either false e h g = h e
 
@@ -110,19 +110,24 @@ module _ (table : Table) (command : Command) (scenario scenario_left turns turns
       (told : IsTold contents old new (string_bytes line)) where
     pub refused_either : (b : Bool) → writes_refusals command ≡ b
         → (writes_refusals command ≡ false → IsKnown {A = Unit {0}} (Err f) → Come (Ended {A = Unit {0}} (Err f) before after))
-        → (writes_refusals command ≡ true → IsKnown {A = Unit {0}} (Err f) → Come (EndedFaults {A = Unit {0}} (Err f) before after))
+        → (writes_refusals command ≡ true → IsKnown {A = Unit {0}} (Err f) → Come (EndedFaults {A = Unit {0}} (Err f) before after m n))
         → Come (λ asked. IsRefusal contents asked old new)
     refused_either false e h g =
         refused_told (Unit {0}) contents old new table command scenario scenario_left turns turns_left f line before after is (h e) told
     refused_either true e h g =
-        executes_by table command scenario scenario_left turns turns_left (EndedFaults {A = Unit {0}} (Err (Refused line)) before after)
+        executes_by table command scenario scenario_left turns turns_left (EndedFaults {A = Unit {0}} (Err (Refused line)) before after m n)
         (λ asked. IsRefusal contents asked old new) (λ asked r. record { line = string_bytes line; refused = r.0; told = told })
-        (subst (λ x. IsKnown {A = Unit {0}} (Err x) → Come (EndedFaults {A = Unit {0}} (Err x) before after)) is (g e) (tt {0}))
+        (subst (λ x. IsKnown {A = Unit {0}} (Err x) → Come (EndedFaults {A = Unit {0}} (Err x) before after m n)) is (g e) (tt {0}))
 
   -- all that is wrong was told
   pub all_told : (f : Fault) (line : String Global) → f ≡ Refused line
-      → (IsKnown {A = Unit {0}} (Err f) → Come (EndedFaults {A = Unit {0}} (Err f) before after)) → Come (λ asked. TellsAll asked before after)
+      → (IsKnown {A = Unit {0}} (Err f) → Come (EndedFaults {A = Unit {0}} (Err f) before after m n)) → Come (λ asked. TellsAll asked before after)
   all_told f line is h =
-      executes_by table command scenario scenario_left turns turns_left (EndedFaults {A = Unit {0}} (Err (Refused line)) before after)
+      executes_by table command scenario scenario_left turns turns_left (EndedFaults {A = Unit {0}} (Err (Refused line)) before after m n)
       (λ asked. TellsAll asked before after) (λ asked r. r.1)
-      (subst (λ x. IsKnown {A = Unit {0}} (Err x) → Come (EndedFaults {A = Unit {0}} (Err x) before after)) is h (tt {0}))
+      (subst (λ x. IsKnown {A = Unit {0}} (Err x) → Come (EndedFaults {A = Unit {0}} (Err x) before after m n)) is h (tt {0}))
+
+  -- not all of it was written
+  pub part_told : (f : Fault) → f ≡ Write → (IsKnown {A = Unit {0}} (Err f) → Come (EndedFaults {A = Unit {0}} (Err f) before after m n))
+      → Come (λ asked. TellsPart asked before after m n)
+  part_told f is h = subst (λ x. IsKnown {A = Unit {0}} (Err x) → Come (EndedFaults {A = Unit {0}} (Err x) before after m n)) is h (tt {0})

@@ -7,7 +7,9 @@ use Rattle.gq_world.specs.Outcomes.{IsCutShort, IsWhole, run_fault_text}
 use Rattle.gq_world.specs.Whole.{refused_with}
 use Rattle.gq_world.specs.declared.fault.RunFault.{RunFault}
 use Rattle.gq_world.specs.declared.fault.RunFault.TheVariants as faults
-use Rattle.gq_cli.specs.Executed.{Asked, IsRefusedBy, TellsAll, written_of}
+use Rattle.gq_cli.specs.Executed.{Asked, IsRefusedBy, TellsAll, TellsPart, written_of}
+use Rattle.gq_faults.specs.declared.fault.TellError.{TellError}
+use Rattle.gq_faults.specs.declared.fault.TellError.TheVariants as errors
 use Rattle.gq_faults.specs.declared.turns.Refused as refused
 use Rattle.gq_faults.specs.declared.turns.Refused.TheVariants as answers
 use Rattle.gq_cli.specs.declared.execute.Fault.{Fault}
@@ -29,13 +31,13 @@ Ended (Err Memory) before after asked = ⊥
 Ended (Err Read) before after asked = ⊥
 Ended (Err Write) before after asked = IsCutShort (written_of asked) before after
 
--- nothing was wrong and nothing was written, or all that is wrong was told before the texts are refused by this line
-abbrev pub EndedFaults : {A : Type 0} → Result A Fault → (before after : Option (List ℕ)) → Asked → Type 0
-EndedFaults (Ok u) before after asked = IsWhole (written_of asked) before after
-EndedFaults (Err (Refused line)) before after asked = IsRefusedBy asked (string_bytes line) × TellsAll asked before after
-EndedFaults (Err Memory) before after asked = ⊥
-EndedFaults (Err Read) before after asked = ⊥
-EndedFaults (Err Write) before after asked = Unit {0}
+-- nothing was wrong and nothing was written, or all that is wrong was written before the texts are refused by this line, or not all of it could be written
+abbrev pub EndedFaults : {A : Type 0} → Result A Fault → (before after : Option (List ℕ)) → ℕ → ℕ → Asked → Type 0
+EndedFaults (Ok u) before after m n asked = IsWhole (written_of asked) before after
+EndedFaults (Err (Refused line)) before after m n asked = IsRefusedBy asked (string_bytes line) × TellsAll asked before after
+EndedFaults (Err Memory) before after m n asked = ⊥
+EndedFaults (Err Read) before after m n asked = ⊥
+EndedFaults (Err Write) before after m n asked = TellsPart asked before after m n
 
 -- why a command was not done is why what it calls was not: with the line of a refusal, or host memory for that line was refused
 abbrev pub IsToldAs : RunFault → Fault → Type 0
@@ -64,12 +66,10 @@ IsUnread Memory = Unit {0}
 IsUnread Read = Unit {0}
 IsUnread Write = ⊥
 
--- why not all that is wrong was told: nothing is refused
-abbrev pub IsUntold : Fault → Type 0
-IsUntold (Refused line) = ⊥
-IsUntold Memory = Unit {0}
-IsUntold Read = ⊥
-IsUntold Write = Unit {0}
+-- why not all that is wrong was written, as a fault of the command
+abbrev pub IsUntold : TellError → Fault → Type 0
+IsUntold errors.Memory fault = fault ≡ Memory
+IsUntold errors.Write fault = fault ≡ Write
 
 -- the fault of a run for which a scenario and turns are refused
 abbrev pub refusal_fault : refused.Refused → RunFault

@@ -1,5 +1,6 @@
 -- What a command does: what it reads, writes and tells.
-use Rattle.std.specs.Prelude.{◌≡◌, ◌⊎◌, ℕ, ◌≤◌, Bool, true, false, List, [], ◌++◌, length, Option, Some, None, option_map, Ok, Err, codes, string_bytes}
+use Rattle.std.specs.Prelude.{◌≡◌, ◌⊎◌, ℕ, ◌≤◌, Bool, true, false, List, [], ◌++◌, length, Option, Some, None, option_map, Ok, Err, IsOkAnd}
+use Rattle.std.specs.Prelude.{codes, string_bytes}
 use Rattle.std.specs.Io.KnownBytes.{Appends, Consumes, IsAtEnd}
 use Rattle.gq_init.specs.declared.counted.Counted.{Counted}
 use Rattle.gq_init.specs.Counts.{written_to, failures_of}
@@ -10,12 +11,14 @@ use Rattle.gq_model.specs.texts.Turns.{Turned, turned}
 use Rattle.gq_world.specs.Whole.{Written, refused_with, with_scenario, turn_fault_text, run_written, check_written, asm_written}
 use Rattle.gq_world.specs.Headline.{WritesPromised}
 use Rattle.gq_views.specs.Written.{list_written, tree_written, graph_written}
+use Rattle.gq_traces.specs.Rests.{WritesToRest}
 use Rattle.gq_traces.specs.Written.{state_written, trace_written, turns_written}
-use Rattle.gq_races.specs.Written.{races_written}
+use Rattle.gq_races.specs.Races.{IsRaceFree}
+use Rattle.gq_races.specs.Written.{WroteNothing, races_written}
 use Rattle.gq_sizes.specs.Written.{size_written}
 use Rattle.gq_why.specs.Written.{why_written}
 use Rattle.gq_faults.specs.Faults.{fault_lines}
-use Rattle.gq_faults.specs.Told.{WritesFaults}
+use Rattle.gq_faults.specs.Told.{WritesFaults, WritesPrefix}
 use Rattle.gq_faults.specs.Turn_faults.{lines_of_both, told_of}
 use Rattle.gq_rule_texts.specs.declared.table.Rule.{Rule as RuleText}
 use Rattle.gq_rule_texts.specs.Rules.{Table, lines_of_all, rule_of}
@@ -137,9 +140,11 @@ written_of (Of_nothing written) = written
 abbrev pub IsRefusedBy : Asked → List ℕ → Type 0
 IsRefusedBy asked line = written_of asked ≡ Err line
 
--- where it is a run, what was written is the text of one that upholds what is promised
+-- what a command promises beside its text: a run upholds every promise; turns lead to rest; where no race was written there is none
 abbrev pub IsUpheldBy : Asked → (before after : Option (List ℕ)) → Type 0
 IsUpheldBy (Of_both Run scenario turns) before after = WritesPromised scenario turns before after
+IsUpheldBy (Of_scenario Turns scenario) before after = WritesToRest scenario before after
+IsUpheldBy (Of_scenario Races scenario) before after = WroteNothing before after → IsOkAnd (loaded scenario) IsRaceFree
 IsUpheldBy _ before after = Unit {0}
 
 -- all that is wrong was told: with the scenario, or else with the turns
@@ -148,6 +153,17 @@ TellsAll (Of_faults path scenario None) before after = WritesFaults path (fault_
 TellsAll (Of_faults path scenario (Some turns)) before after =
     WritesFaults (told_of (loaded scenario) path turns.0) (lines_of_both scenario turns.1) before after
 TellsAll _ before after = Unit {0}
+
+-- a prefix of such a text was written
+abbrev pub TellsPrefix : Asked → (before after : Option (List ℕ)) → Type 0
+TellsPrefix (Of_faults path scenario None) before after = WritesPrefix path (fault_lines scenario) before after
+TellsPrefix (Of_faults path scenario (Some turns)) before after =
+    WritesPrefix (told_of (loaded scenario) path turns.0) (lines_of_both scenario turns.1) before after
+TellsPrefix _ before after = Unit {0}
+
+-- it was not written to its end: a write failed, which was counted, and a prefix was written; or all of it was written, and did not leave the writer
+abbrev pub TellsPart : Asked → (before after : Option (List ℕ)) → ℕ → ℕ → Type 0
+TellsPart asked before after m n = (TellsPrefix asked before after × IsRaised m n) ⊎ TellsAll asked before after
 
 -- a scenario was read, and this holds of what is asked of it
 pub record ReadsScenario (scenario scenario_left : Option (List ℕ)) (asked : List ℕ → Asked) (holds : Asked → Type 0) : Type 0 where

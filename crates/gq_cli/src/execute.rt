@@ -1,5 +1,6 @@
 //! Doing what a command line asks for.
 ghost use Rattle.std.specs.Prelude.{◌≡◌, ◌≢◌, ◌⊎◌, ◌++◌, true, false, codes, string_bytes, None, Ok, Some, Err, IfErr, OnOk};
+ghost use Rattle.std.specs.Io.KnownBytes.{Keeps};
 ghost use Rattle.gq_init.specs.Counts.{written_to, failures_of};
 ghost use Rattle.gq_init.specs.Writes.{IsRaised};
 ghost use Rattle.gq_world.specs.Outcomes.{GivesOf, IsCutShort, IsWhole, WritesAs};
@@ -9,7 +10,7 @@ ghost use Rattle.gq_command.specs.Input.{GivesAtMost};
 ghost use Rattle.gq_cli.specs.Ends.{Ended, EndedFaults, IsKnown, IsSilent, IsToldAs, IsUntold, LeavesWriter, refusal_fault};
 ghost use Rattle.gq_cli.specs.internal.Running.{RefusesAs};
 ghost use Rattle.gq_cli.specs.Executed.{Executes, IsRefusal, IsTold, IsUpheldBy, ReadsBoth, ReadsScenario, ReadsText, RunsStored};
-ghost use Rattle.gq_cli.specs.Executed.{Of_both, Of_faults, Of_leaf, Of_nothing, Of_scenario, TellsAll};
+ghost use Rattle.gq_cli.specs.Executed.{Of_both, Of_faults, Of_leaf, Of_nothing, Of_scenario, TellsAll, TellsPart, TellsPrefix};
 ghost use Rattle.gq_cli.specs.Executed.{both_written, is_never_refused, leaf_written, reads_scenario, reads_turns, rules_written};
 ghost use Rattle.gq_cli.specs.Executed.{scenario_written, status_line, version_written, writes_refusals, written_of};
 ghost use Rattle.gq_cli.specs.declared.execute.Fault.TheVariants as fault;
@@ -80,16 +81,17 @@ impl From<InputError> for Fault {
     }
 }
 
-/// Does what a command asks for, and tells on `err`, in one line, why it was not done.
+/// Does what a command asks for, and returns the exit status. If the command was not done, it writes one line on `err` that says why.
 ///
-/// `OfScenario` reads the scenario and writes the budget of each leaf, a tree or a graph; `OfLeaf` reads the scenario and writes the code
-/// of a leaf, or its program as text; `OfTurns` reads the scenario and then the turns, each whole, and runs it, or tells what its turns
-/// did, or what its accounts are made of; `Stored` reads both from `scenario`, parted by a line `%%`. `Faults` reads the scenario, and
-/// then the turns where it has a path of some, and writes all that is wrong, each fault with its place, before they are refused. `Rule`,
-/// `Version` and `Help` read nothing: of a code the text of its rule in `rules` is written, and without one the line of each rule. All of
-/// it goes to `out`. Each reader is asked for 18 MiB and one byte at most; more, or a read that fails, is a file fault. Nothing goes to
-/// `out` where the scenario, the turns or a word are refused, but for `Faults`, where host memory is, or where a read failed; after a
-/// failed write a front of the text went out. A failed write on `err` changes nothing.
+/// - `OfScenario` and `OfLeaf` read the scenario. `OfTurns` reads the scenario and then the turns, each whole. `Stored` reads both from
+///   `scenario`, separated by a line `%%`. Each writes the text of its command to `out`.
+/// - `Faults` reads the scenario, and the turns if it has their path. It writes every fault with its place before the texts are refused.
+/// - `Rule`, `Version` and `Help` read nothing. `Rule` writes the text of the code's rule in `rules`, or without a code the line of each.
+///
+/// Each reader is asked for 18 MiB and one byte at most; more, or a read that fails, is a file fault. If the texts or a word are refused,
+/// if the host refuses memory, or if a read fails, nothing goes to `out`. After a failed write a prefix of the text did. Two things differ
+/// for `Faults`: it may also stop after a prefix where the host refuses memory, and it flushes `out` before the texts are refused. A
+/// failed write on `err` changes nothing.
 pub fn execute<R: Read, T: Read, W: Write, E: Write>(
     alloc: Global,
     rules: &[&[Rule]],
@@ -116,6 +118,14 @@ pub fn execute<R: Read, T: Read, W: Write, E: Write>(
     ensures faults { writes_refusals command.now ≡ true → result ≡ Status.Refused → Executes rules.now command.now (R.remaining scenario.old)
         (R.remaining scenario.new) (T.remaining turns.old) (T.remaining turns.new)
         (λ asked. TellsAll asked (written_to W.contents out.old) (written_to W.contents out.new)) }
+
+    // Where it was not told to its end, a prefix of it was; where a text was not read, nothing.
+    ensures faults_cut { writes_refusals command.now ≡ true → result ≡ Status.FileFault → (out.new ≡ out.old)
+        ⊎ Executes rules.now command.now (R.remaining scenario.old) (R.remaining scenario.new) (T.remaining turns.old) (T.remaining turns.new)
+        (λ asked. TellsPart asked (written_to W.contents out.old) (written_to W.contents out.new) (failures_of out.old) (failures_of out.new)) }
+    ensures faults_stopped { writes_refusals command.now ≡ true → result ≡ Status.HostMemory → (out.new ≡ out.old)
+        ⊎ Executes rules.now command.now (R.remaining scenario.old) (R.remaining scenario.new) (T.remaining turns.old) (T.remaining turns.new)
+        (λ asked. TellsPrefix asked (written_to W.contents out.old) (written_to W.contents out.new)) }
 
     // Host memory was refused, and nothing was written.
     ensures silent { writes_refusals command.now ≡ false → result ≡ Status.HostMemory → out.new ≡ out.old }
@@ -195,7 +205,11 @@ fn perform<R: Read, T: Read, W: Write>(
         (Ended result (written_to W.contents out.old) (written_to W.contents out.new)) }
     ensures faults { writes_refusals command.now ≡ true → IsKnown result → Executes rules.now command.now (R.remaining scenario.old)
         (R.remaining scenario.new) (T.remaining turns.old) (T.remaining turns.new)
-        (EndedFaults result (written_to W.contents out.old) (written_to W.contents out.new)) }
+        (EndedFaults result (written_to W.contents out.old) (written_to W.contents out.new) (failures_of out.old) (failures_of out.new)) }
+    ensures stopped { writes_refusals command.now ≡ true → result ≡ Err fault.Memory → (out.new ≡ out.old)
+        ⊎ Executes rules.now command.now (R.remaining scenario.old) (R.remaining scenario.new) (T.remaining turns.old) (T.remaining turns.new)
+        (λ asked. TellsPrefix asked (written_to W.contents out.old) (written_to W.contents out.new)) }
+    ensures failed_read { writes_refusals command.now ≡ true → result ≡ Err fault.Read → out.new ≡ out.old }
     ensures upheld { OnOk result (Executes rules.now command.now (R.remaining scenario.old) (R.remaining scenario.new) (T.remaining turns.old)
         (T.remaining turns.new) (λ asked. IsUpheldBy asked (written_to W.contents out.old) (written_to W.contents out.new))) }
     ensures counted { OnOk result (failures_of out.new ≡ failures_of out.old) }
@@ -422,6 +436,8 @@ fn of_scenario<R: Read, W: Write>(
 ) -> Result<(), Fault>
     ensures ended { IsKnown result → ReadsScenario (R.remaining scenario.old) (R.remaining scenario.new) (Of_scenario command)
         (Ended result (written_to W.contents out.old) (written_to W.contents out.new)) }
+    ensures upheld { OnOk result (ReadsScenario (R.remaining scenario.old) (R.remaining scenario.new) (Of_scenario command)
+        (λ asked. IsUpheldBy asked (written_to W.contents out.old) (written_to W.contents out.new))) }
     ensures leaves { LeavesWriter out.old out.new result }
     ensures most { GivesAtMost 18874369 (R.remaining scenario.old) (R.remaining scenario.new) }
 {
@@ -437,6 +453,7 @@ fn of_scenario_text<W: Write>(
     out: &mut Counted<W>,
 ) -> Result<(), Fault>
     ensures ended { IsKnown result → Ended result (written_to W.contents out.old) (written_to W.contents out.new) (Of_scenario command scenario.now) }
+    ensures upheld { OnOk result (IsUpheldBy (Of_scenario command scenario.now) (written_to W.contents out.old) (written_to W.contents out.new)) }
     ensures leaves { LeavesWriter out.old out.new result }
 {
     match write_scenario(alloc, command, scenario, out) {
@@ -452,7 +469,8 @@ fn write_scenario<W: Write>(
     scenario: &[u8],
     out: &mut Counted<W>,
 ) -> Result<(), RunFault<'static>>
-    ensures { WritesAs W.contents (scenario_written command scenario.now) out.old out.new result }
+    ensures writes { WritesAs W.contents (scenario_written command scenario.now) out.old out.new result }
+    ensures upheld { OnOk result (IsUpheldBy (Of_scenario command scenario.now) (written_to W.contents out.old) (written_to W.contents out.new)) }
 {
     match command {
         ScenarioCommand::Check => check(alloc, scenario, out),
@@ -472,7 +490,11 @@ fn of_faults<R: Read, W: Write>(
     out: &mut Counted<W>,
 ) -> Result<(), Fault>
     ensures ended { IsKnown result → ReadsScenario (R.remaining scenario.old) (R.remaining scenario.new) (λ text. Of_faults path.now text None)
-        (EndedFaults result (written_to W.contents out.old) (written_to W.contents out.new)) }
+        (EndedFaults result (written_to W.contents out.old) (written_to W.contents out.new) (failures_of out.old) (failures_of out.new)) }
+    ensures stopped { result ≡ Err fault.Memory → (out.new ≡ out.old)
+        ⊎ ReadsScenario (R.remaining scenario.old) (R.remaining scenario.new) (λ text. Of_faults path.now text None)
+        (λ asked. TellsPrefix asked (written_to W.contents out.old) (written_to W.contents out.new)) }
+    ensures failed_read { result ≡ Err fault.Read → out.new ≡ out.old }
     ensures counted { OnOk result (failures_of out.new ≡ failures_of out.old) }
     ensures most { GivesAtMost 18874369 (R.remaining scenario.old) (R.remaining scenario.new) }
 {
@@ -488,7 +510,10 @@ fn of_faults_text<W: Write>(
     out: &mut Counted<W>,
 ) -> Result<(), Fault>
     ensures ended { IsKnown result → EndedFaults result (written_to W.contents out.old) (written_to W.contents out.new)
-        (Of_faults path.now scenario.now None) }
+        (failures_of out.old) (failures_of out.new) (Of_faults path.now scenario.now None) }
+    ensures stopped { result ≡ Err fault.Memory
+        → TellsPrefix (Of_faults path.now scenario.now None) (written_to W.contents out.old) (written_to W.contents out.new) }
+    ensures read { IfErr result (λ f. f ≢ fault.Read) }
     ensures counted { OnOk result (failures_of out.new ≡ failures_of out.old) }
 {
     let file = File {
@@ -497,14 +522,26 @@ fn of_faults_text<W: Write>(
     };
     match faults(alloc, file, out) {
         Ok(None) => Ok(()),
-        Ok(Some(fault)) => Err(told(alloc, RunFault::Load(fault))),
+        Ok(Some(fault)) => Err(refused_after(alloc, RunFault::Load(fault), out)),
         Err(error) => Err(untold(error)),
+    }
+}
+
+// Why texts are refused, once all that is wrong with them has left the writer: the line of the refusal is made.
+fn refused_after<W: Write>(alloc: Global, fault: RunFault<'_>, out: &mut Counted<W>) -> Fault
+    ensures bytes { Keeps (written_to W.contents out.old) (written_to W.contents out.new) }
+    ensures failures { failures_of out.new ≡ failures_of out.old }
+    ensures told { (result ≡ fault.Write) ⊎ IsToldAs fault.entry result }
+{
+    match out.flush() {
+        Ok(()) => told(alloc, fault),
+        Err(_) => Fault::Write,
     }
 }
 
 // Why not all that is wrong was told.
 fn untold(error: TellError) -> Fault
-    ensures { IsUntold result }
+    ensures { IsUntold error result }
 {
     match error {
         TellError::Memory => Fault::Memory,
@@ -523,7 +560,12 @@ fn of_both_faults<R: Read, T: Read, W: Write>(
 ) -> Result<(), Fault>
     ensures ended { IsKnown result → ReadsBoth (R.remaining scenario.old) (R.remaining scenario.new) (T.remaining turns.old) (T.remaining turns.new)
         (λ text other. Of_faults path.now text (Some (turns_path.now, other)))
-        (EndedFaults result (written_to W.contents out.old) (written_to W.contents out.new)) }
+        (EndedFaults result (written_to W.contents out.old) (written_to W.contents out.new) (failures_of out.old) (failures_of out.new)) }
+    ensures stopped { result ≡ Err fault.Memory → (out.new ≡ out.old)
+        ⊎ ReadsBoth (R.remaining scenario.old) (R.remaining scenario.new) (T.remaining turns.old) (T.remaining turns.new)
+        (λ text other. Of_faults path.now text (Some (turns_path.now, other)))
+        (λ asked. TellsPrefix asked (written_to W.contents out.old) (written_to W.contents out.new)) }
+    ensures failed_read { result ≡ Err fault.Read → out.new ≡ out.old }
     ensures counted { OnOk result (failures_of out.new ≡ failures_of out.old) }
     ensures scenario_most { GivesAtMost 18874369 (R.remaining scenario.old) (R.remaining scenario.new) }
     ensures turns_most { GivesAtMost 18874369 (T.remaining turns.old) (T.remaining turns.new) }
@@ -549,13 +591,18 @@ fn of_both_files<W: Write>(
     out: &mut Counted<W>,
 ) -> Result<(), Fault>
     ensures ended { IsKnown result → EndedFaults result (written_to W.contents out.old) (written_to W.contents out.new)
+        (failures_of out.old) (failures_of out.new)
         (Of_faults scenario.entry.path.now scenario.entry.text.now (Some (turns.entry.path.now, turns.entry.text.now))) }
+    ensures stopped { result ≡ Err fault.Memory
+        → TellsPrefix (Of_faults scenario.entry.path.now scenario.entry.text.now (Some (turns.entry.path.now, turns.entry.text.now)))
+        (written_to W.contents out.old) (written_to W.contents out.new) }
+    ensures read { IfErr result (λ f. f ≢ fault.Read) }
     ensures counted { OnOk result (failures_of out.new ≡ failures_of out.old) }
 {
     first_turn_fault_laws();
     match faults_of_both(alloc, scenario, turns, out) {
         Ok(None) => Ok(()),
-        Ok(Some(refused)) => Err(told(alloc, refusal_of(refused))),
+        Ok(Some(refused)) => Err(refused_after(alloc, refusal_of(refused), out)),
         Err(error) => Err(untold(error)),
     }
 }

@@ -10,7 +10,6 @@ ghost use Rattle.gq_code.specs.internal.Bodies.{instruction_at, put_at, placed, 
 ghost use Rattle.gq_code.specs.Decoded.{IsDecoded};
 ghost use Rattle.gq_code.specs.declared.decode.DecodeError.TheVariants.{Memory, Fault};
 
-use crate::opcodes::shape_with;
 use crate::operands::{
     cut, number, open, pool, say, with_amount, with_bytes, with_number, with_slot,
 };
@@ -18,8 +17,8 @@ use crate::program_code::NO_LIMIT;
 use gq_model::fault::CodeFault;
 use gq_model::limits::{GREATEST_DEPTH, GREATEST_STATEMENTS, LOCALS};
 use gq_model::program::{Instruction, Section};
-use gq_program::Shape;
 use gq_program::program::{Body, Program, Statement};
+use gq_program::{Shape, shape_of_opcode};
 use std::alloc::{AllocError, AllocFailed, Global};
 use thiserror::Error;
 
@@ -203,7 +202,7 @@ fn push_coded<'a>(
     ensures read { Reads (λ p. (body.new, (p.0, p.1.now))) result (placed body.old (instruction_at op before bytes.now)) }
     ensures rest { IfOk result (λ p. length p.1.now ≤ length bytes.now) }
 {
-    let Some(shape) = shape_with(op) else {
+    let Some(shape) = shape_of_opcode(op) else {
         return Err(DecodeError::Fault(CodeFault::UnknownOpcode));
     };
     let count = one_more(before)?;

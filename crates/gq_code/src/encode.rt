@@ -1,14 +1,15 @@
 // Programs as bytes.
 ghost use Rattle.std.specs.Prelude.{◌≡◌, ℕ, ◌+◌, ◌<◌, OnOk, IfOk, IsTrue, length, ◌++◌, ◌∷◌, []};
 ghost use Rattle.gq_model.specs.machine.Program.{spelled};
-ghost use Rattle.gq_model.specs.texts.Operands.{opcode, operator_code, slot_code, is_slot, is_slot_or_object, operands, in_range, operands_code};
+ghost use Rattle.gq_model.specs.texts.Operands.{opcode, slot_code, is_slot, is_slot_or_object, operands, in_range, operands_code};
 ghost use Rattle.gq_model.specs.texts.Operands.{instruction_code};
 ghost use Rattle.gq_model.specs.machine.Lists.{all_of};
 ghost use Rattle.gq_model.specs.texts.Code.{body_code, body_length};
 ghost use Rattle.gq_program.specs.Trees.{tree_of};
 ghost use Rattle.gq_code.specs.Codes.{has_code};
 
-use gq_model::program::{Form, Instruction, Operator, Place, Width};
+use gq_model::program::{Instruction, Place};
+use gq_program::Shape;
 use gq_program::program::{Body, Statement};
 use std::alloc::{AllocError, Global};
 
@@ -24,54 +25,11 @@ pub(crate) fn write_number(out: &mut Vec<u8>, width: usize, number: u64) -> Resu
     Ok(())
 }
 
-/// The number by which code names an operator.
-fn operator_code(operator: Operator) -> u8
-    ensures { result ≡ operator_code operator }
-{
-    match operator {
-        Operator::Add => 0x06,
-        Operator::Subtract => 0x07,
-        Operator::Multiply => 0x08,
-        Operator::And => 0x0b,
-        Operator::Equal => 0x0c,
-        Operator::Less => 0x0d,
-    }
-}
-
-/// The number by which code names an instruction.
+/// Returns the number by which code names an instruction.
 pub fn opcode(instruction: &Instruction) -> u8
     ensures { result ≡ opcode instruction.now }
 {
-    match instruction {
-        Instruction::Say(_) => 0x01,
-        Instruction::Out => 0x02,
-        Instruction::Push(_) => 0x03,
-        Instruction::Drop => 0x04,
-        Instruction::Dup => 0x05,
-        Instruction::Combine(operator) => operator_code(*operator),
-        Instruction::Divide(_) => 0x09,
-        Instruction::Modulo(_) => 0x0a,
-        Instruction::Get(_) => 0x0e,
-        Instruction::Set(_) => 0x0f,
-        Instruction::Index(_) => 0x10,
-        Instruction::Make(Form::Space, _, _) => 0x20,
-        Instruction::Make(Form::Slice, _, _) => 0x21,
-        Instruction::Make(Form::Block, _, _) => 0x22,
-        Instruction::MakePool(_, _, _) => 0x23,
-        Instruction::Free(_) => 0x24,
-        Instruction::Load(Width::Byte, _) => 0x25,
-        Instruction::Store(Width::Byte, _) => 0x26,
-        Instruction::Load(Width::Word, _) => 0x27,
-        Instruction::Store(Width::Word, _) => 0x28,
-        Instruction::Take(_) => 0x29,
-        Instruction::Give(_) => 0x2a,
-        Instruction::Peek(_) => 0x2b,
-        Instruction::Poke(_) => 0x2c,
-        Instruction::Open(_, _, _) => 0x30,
-        Instruction::Upgrade(_, _) => 0x31,
-        Instruction::Call(_) => 0x32,
-        Instruction::Close(_) => 0x33,
-    }
+    Shape::of(instruction).opcode()
 }
 
 /// Puts a slot at the end: session slots follow the own ones, and the object follows them.

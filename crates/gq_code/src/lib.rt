@@ -12,7 +12,6 @@
 pub mod decode;
 pub mod encode;
 pub mod laws;
-mod opcodes;
 mod operands;
 pub mod program_code;
 

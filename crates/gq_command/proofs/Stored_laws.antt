@@ -3,8 +3,8 @@ use Rattle.std.proofs.Common.{◌≡◌, ◌≢◌, ◌∙◌, ◌<◌, ◌-◌,
 use Rattle.std.proofs.Common.{length-append, append_assoc, append-nil, arith, codes, eqb-true, ne_eqb, Option, Some, None, Bor, option_map, unwrap_or}
 use Rattle.std.proofs.Math.Seq.{take-append_seam}
 use Rattle.gq_model.specs.machine.Program.{text_eq}
-use Rattle.gq_model.specs.texts.Letters.{onto_first}
-use Rattle.gq_command.specs.Stored.{IsFirstLine, lines_of, is_border, fed, joined, parted_lines, parted}
+use Rattle.gq_model.specs.texts.Letters.{fed_lines, onto_first}
+use Rattle.gq_command.specs.Stored.{IsFirstLine, is_border, fed, joined, parted_lines, parted}
 
 -- BORDERS
 
@@ -48,44 +48,44 @@ onto-nothing : (c : ℕ) (lines : List (List ℕ)) → onto_first c lines ≡ on
 onto-nothing c [] = refl
 onto-nothing c (line ∷ rest) = refl
 
-pub lines-at_start : (text : List ℕ) → lines_of text ≡ onto [] (lines_of text)
+pub lines-at_start : (text : List ℕ) → fed_lines text ≡ onto [] (fed_lines text)
 lines-at_start [] = refl
 lines-at_start (c ∷ rest) = go (c == 10)
   where
-    go : (b : Bool) → cond b ([] ∷ lines_of rest) (onto_first c (lines_of rest)) ≡ onto [] (cond b ([] ∷ lines_of rest) (onto_first c (lines_of rest)))
+    go : (b : Bool) → cond b ([] ∷ fed_lines rest) (onto_first c (fed_lines rest)) ≡ onto [] (cond b ([] ∷ fed_lines rest) (onto_first c (fed_lines rest)))
     go true = refl
-    go false = onto-nothing c (lines_of rest)
+    go false = onto-nothing c (fed_lines rest)
 
 fed-onto_first : (c : ℕ) (lines : List (List ℕ)) (t : List ℕ) → fed (onto_first c lines) t ≡ 10 ∷ t
 fed-onto_first c [] t = refl
 fed-onto_first c (line ∷ rest) t = refl
 
 -- a text has a line
-pub fed-lines : (text t : List ℕ) → fed (lines_of text) t ≡ 10 ∷ t
+pub fed-lines : (text t : List ℕ) → fed (fed_lines text) t ≡ 10 ∷ t
 fed-lines [] t = refl
 fed-lines (c ∷ rest) t = go (c == 10)
   where
-    go : (b : Bool) → fed (cond b ([] ∷ lines_of rest) (onto_first c (lines_of rest))) t ≡ 10 ∷ t
+    go : (b : Bool) → fed (cond b ([] ∷ fed_lines rest) (onto_first c (fed_lines rest))) t ≡ 10 ∷ t
     go true = refl
-    go false = fed-onto_first c (lines_of rest) t
+    go false = fed-onto_first c (fed_lines rest) t
 
 joined-onto_first : (c : ℕ) (lines : List (List ℕ)) → joined (onto_first c lines) ≡ c ∷ joined lines
 joined-onto_first c [] = refl
 joined-onto_first c (line ∷ rest) = refl
 
 -- the lines of a text, joined again, are the text
-pub joined-lines : (text : List ℕ) → joined (lines_of text) ≡ text
+pub joined-lines : (text : List ℕ) → joined (fed_lines text) ≡ text
 joined-lines [] = refl
 joined-lines (c ∷ rest) = go (joined-lines rest) (c == 10) refl
   where
-    go : joined (lines_of rest) ≡ rest → (b : Bool) → (c == 10) ≡ b → joined (cond b ([] ∷ lines_of rest) (onto_first c (lines_of rest))) ≡ c ∷ rest
-    go below true e = fed-lines rest (joined (lines_of rest)) ∙ ap₂ (λ (x : ℕ) (y : List ℕ). x ∷ y) (sym (eqb-true _ _ e)) below
-    go below false e = joined-onto_first c (lines_of rest) ∙ ap (λ (y : List ℕ). c ∷ y) below
+    go : joined (fed_lines rest) ≡ rest → (b : Bool) → (c == 10) ≡ b → joined (cond b ([] ∷ fed_lines rest) (onto_first c (fed_lines rest))) ≡ c ∷ rest
+    go below true e = fed-lines rest (joined (fed_lines rest)) ∙ ap₂ (λ (x : ℕ) (y : List ℕ). x ∷ y) (sym (eqb-true _ _ e)) below
+    go below false e = joined-onto_first c (fed_lines rest) ∙ ap (λ (y : List ℕ). c ∷ y) below
 
 -- a byte that is no line feed goes to the line
-pub lines-next : (front rest : List ℕ) (c : ℕ) → c ≢ 10 → onto front (lines_of (c ∷ rest)) ≡ onto (front ++ c ∷ []) (lines_of rest)
+pub lines-next : (front rest : List ℕ) (c : ℕ) → c ≢ 10 → onto front (fed_lines (c ∷ rest)) ≡ onto (front ++ c ∷ []) (fed_lines rest)
 lines-next front rest c ne =
-    ap (λ b. onto front (cond b ([] ∷ lines_of rest) (onto_first c (lines_of rest)))) (ne_eqb c 10 ne) ∙ onto-more front c (lines_of rest)
+    ap (λ b. onto front (cond b ([] ∷ fed_lines rest) (onto_first c (fed_lines rest)))) (ne_eqb c 10 ne) ∙ onto-more front c (fed_lines rest)
 
 -- PARTS
 
@@ -105,7 +105,7 @@ parted-start input = record { front = []; text = refl; parts = refl }
 parted-next : (rest line more : List ℕ) → IsFirstLine rest line (Some more) → is_border line ≡ false → parted rest ≡ behind (line ++ 10 ∷ []) (parted more)
 parted-next rest line more first plain =
     ap parted_lines first.1
-    ∙ ap (λ b. cond b ([], joined (lines_of more)) (line ++ fed (lines_of more) (parted more).0, (parted more).1)) plain
+    ∙ ap (λ b. cond b ([], joined (fed_lines more)) (line ++ fed (fed_lines more) (parted more).0, (parted more).1)) plain
     ∙ ap (λ (t : List ℕ). (line ++ t, (parted more).1)) (fed-lines more (parted more).0)
     ∙ ap (λ (t : List ℕ). (t, (parted more).1)) (sym (append_assoc line (10 ∷ []) (parted more).0))
 
@@ -127,7 +127,7 @@ parted-border rest line None first bounded =
     ap parted_lines first.1 ∙ ap (λ b. cond b ([], []) (line ++ [], [])) bounded
 parted-border rest line (Some more) first bounded =
     ap parted_lines first.1
-    ∙ ap (λ b. cond b ([], joined (lines_of more)) (line ++ fed (lines_of more) (parted more).0, (parted more).1)) bounded
+    ∙ ap (λ b. cond b ([], joined (fed_lines more)) (line ++ fed (fed_lines more) (parted more).0, (parted more).1)) bounded
     ∙ ap (λ (t : List ℕ). ([], t)) (joined-lines more)
 
 take_front : (input front rest : List ℕ) → input ≡ front ++ rest → take (length input - length rest) input ≡ front

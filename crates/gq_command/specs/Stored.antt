@@ -1,11 +1,7 @@
 -- The stored form of a run: the scenario, a line that is `%%`, and the turns.
-use Rattle.std.specs.Prelude.{◌≡◌, ℕ, ◌==◌, if◌then◌else◌, Bool, List, [], ◌∷◌, ◌++◌, codes, Option, Some, None}
+use Rattle.std.specs.Prelude.{◌≡◌, ℕ, if◌then◌else◌, Bool, List, [], ◌∷◌, ◌++◌, codes, Option, Some, None}
 use Rattle.gq_model.specs.machine.Program.{text_eq}
-use Rattle.gq_model.specs.texts.Letters.{pieces, without_return}
-
--- what stands between the line feeds of a text; never empty
-abbrev pub lines_of : List ℕ → List (List ℕ)
-lines_of text = pieces (λ c. c == 10) text
+use Rattle.gq_model.specs.texts.Letters.{fed_lines, without_return}
 
 -- the line between scenario and turns is `%%`, a carriage return after it aside
 abbrev pub is_border : List ℕ → Bool
@@ -29,9 +25,9 @@ parted_lines (line ∷ rest) =
 
 -- the scenario and the turns in a text: without a border all is scenario
 abbrev pub parted : List ℕ → List ℕ × List ℕ
-parted text = parted_lines (lines_of text)
+parted text = parted_lines (fed_lines text)
 
 -- the first line of a text, and the text after it, if it has a line feed
 abbrev pub IsFirstLine : List ℕ → List ℕ → Option (List ℕ) → Type 0
-IsFirstLine text line None = (text ≡ line) × (lines_of text ≡ line ∷ [])
-IsFirstLine text line (Some rest) = (text ≡ line ++ 10 ∷ rest) × (lines_of text ≡ line ∷ lines_of rest)
+IsFirstLine text line None = (text ≡ line) × (fed_lines text ≡ line ∷ [])
+IsFirstLine text line (Some rest) = (text ≡ line ++ 10 ∷ rest) × (fed_lines text ≡ line ∷ fed_lines rest)

@@ -13,13 +13,16 @@ use clap::ArgMatches;
 use clap::error::ErrorKind;
 use std::alloc::{AllocError, Global};
 
-/// The command that the words after the program's name ask for: none of them is `Stored`; `check` and `tree` with a path are
-/// `OfScenario`, `asm` and `list` with a path and a name `OfLeaf`, and `run`, `trace` and `state` with two paths are `OfTurns`; `faults`
-/// with a path, and one more if there is one, is `Faults`; `rule` is `Rule` with the code after it, if any; `--version` and `-V` are
-/// `Version`, and `help`, `--help` and `-h` are `Help` with the text to show. Of options, `tree` has `--dot` and `trace` has `--all`,
-/// before or after the paths.
+/// Returns the command that the words after the program's name ask for. No words are `Stored`. The first word is the command's name.
 ///
-/// Other words are `Usage`; `Memory` is the host's refusal, which can meet any words but none.
+/// - A command of `ScenarioCommand` with a path is `OfScenario`. Its options stand before or after the path, as those of all commands do.
+/// - A command of `LeafCommand` with a path and a name is `OfLeaf`.
+/// - A command of `TurnsCommand` with two paths is `OfTurns`.
+/// - `faults` with a path, and perhaps a second one, is `Faults`.
+/// - `rule`, perhaps with a code, is `Rule`.
+/// - `--version` and `-V` are `Version`; `help`, `--help` and `-h` are `Help` with the text to show.
+///
+/// Fails with `Usage` for other words, and with `Memory` where the host refuses memory, which it can for any words but none.
 pub fn command<'a>(alloc: Global, words: &'a [&'a str]) -> Result<Command, CommandError>
     ensures asked { IfOk result (IsAsked (map (λ word. word.now) words.now)) }
     ensures misused { IfErr result (IsMisused (map (λ word. word.now) words.now)) }

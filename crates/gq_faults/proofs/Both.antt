@@ -1,11 +1,20 @@
 -- Why a scenario and turns are refused.
-use Rattle.std.proofs.Common.{◌≡◌, ℕ, List, Some, None, Result, Ok, sym, subst, ◌∙◌}
+use Rattle.std.proofs.Common.{◌≡◌, ℕ, List, [], map, Option, Some, None, Result, Ok, Err, ap, refl, sym, subst, ◌∙◌}
 use Rattle.gq_model.specs.machine.Scenario.{Scenario, components}
 use Rattle.gq_model.specs.declared.fault.TurnFault.{TurnFault}
-use Rattle.gq_load.specs.Load.{Fault}
+use Rattle.gq_load.specs.Load.{Fault, fault_text, loaded}
+use Rattle.gq_faults.specs.Faults.{fault_lines}
 use Rattle.gq_faults.specs.Lists.{first}
-use Rattle.gq_faults.specs.Turn_faults.{Answers, turn_faults}
+use Rattle.gq_init.specs.Counts.{failures_of, written_to}
+use Rattle.gq_init.specs.declared.counted.Counted.{Counted}
+use Rattle.gq_faults.specs.Told.{Telling, Tells, WritesPrefix}
+use Rattle.gq_faults.specs.Turn_faults.{Answers, lines_from, lines_of_both, told_of, turn_fault_line, turn_faults}
+use Rattle.gq_faults.specs.declared.fault.TellError.{TellError}
+use Rattle.gq_faults.specs.declared.fault.TellError.TheVariants.{Memory}
+use Rattle.std.specs.Prelude.{IfNone}
 use Rattle.gq_faults.specs.declared.turns.Refused.TheVariants as refused
+use Rattle.gq_faults.proofs.First_of_texts.{none_of_accepted}
+use Rattle.gq_faults.proofs.Telling.{prefix_of_none, tells_memory}
 use Rattle.gq_faults.proofs.Turn_lines.{first_of_turns}
 
 module _ (r : Result Scenario Fault) (s : Scenario) (turns : List ℕ) (accepted : r ≡ Ok s) where
@@ -16,3 +25,29 @@ module _ (r : Result Scenario Fault) (s : Scenario) (turns : List ℕ) (accepted
       → Answers (Some (refused.Turns fault line)) r turns
   answers_some fault line h =
       subst (λ o. Answers (Some (refused.Turns fault line)) o turns) (sym accepted) (sym (h ∙ first_of_turns (components s) turns))
+
+-- of one that is accepted nothing was told, and then host memory was refused
+pub both_memory : {W A F : Type 0} (P : Type 0) (contents : W → Option (List ℕ)) (path : List ℕ) (lines : List (List ℕ)) (old new : Counted W)
+    (fault : Option F) → fault ≡ None → IfNone fault (P × (new ≡ old)) → Tells {W = W} {A = A} contents path lines old new (Err Memory)
+both_memory {W = W} {A = A} P contents path lines old new None e h =
+    subst (λ (o : Counted W). Tells {W = W} {A = A} contents path lines old o (Err Memory)) (sym h.1)
+    (tells_memory path lines (written_to contents old) (failures_of old))
+both_memory P contents path lines old new (Some f) e h = absurd cc
+
+-- who ends early in telling of a scenario ends early in telling of both: of one that is accepted nothing was told
+pub both_early : {A B : Type 0} (path other text turns : List ℕ) (before after : Option (List ℕ)) (m n : ℕ) (e : TellError)
+    → Telling {A = A} path (fault_lines text) before after m n (Err e)
+    → Telling {A = B} (told_of (loaded text) path other) (lines_of_both text turns) before after m n (Err e)
+both_early {B = B} path other text turns before after m n e h = by (loaded text) refl
+  where
+    by : (r : Result Scenario Fault) → loaded text ≡ r → Telling {A = B} (told_of r path other) (lines_from r text turns) before after m n (Err e)
+    by (Err fault) is = record { told = tt; counted = tt; cut = h.cut; ended = h.ended }
+    by (Ok s) is =
+        let none : fault_lines text ≡ [] = ap (map fault_text) (none_of_accepted text s is) in
+        record {
+          told = tt;
+          counted = tt;
+          cut = prefix_of_none path other (map turn_fault_line (turn_faults (components s) turns)) before after
+              (subst (λ (l : List (List ℕ)). WritesPrefix path l before after) none h.cut);
+          ended = h.ended;
+        }

@@ -2,6 +2,7 @@ pub mod First_of_documents
 pub mod First_of_counts
 pub mod Telling
 pub mod Values
+pub mod Known_keys
 pub mod Counted
 pub mod First_of_texts
 pub mod Texts

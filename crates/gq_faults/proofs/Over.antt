@@ -8,15 +8,23 @@ use Rattle.gq_model.specs.machine.Scenario.{Component, Scenario, System, compone
 use Rattle.gq_model.specs.rules.Accept.{Refusal, Over_own, Over_steps, Budget, budget, budgets, budgets_from}
 use Rattle.gq_model.specs.rules.Use.{step_budget}
 use Rattle.gq_model.specs.rules.Verdict.{greatest_cost}
+use Rattle.gq_model.specs.texts.Fault_texts.{refusal_text}
 use Rattle.gq_verify.specs.Counting.{saturated}
+use Rattle.gq_load.specs.Faults.{Prints, load_fault_text}
+use Rattle.gq_load.specs.Load.{refused}
+use Rattle.gq_load.specs.Over.{over_refusal}
+use Rattle.gq_load.specs.declared.fault.LoadFault.{LoadFault}
+use Rattle.gq_load.specs.declared.over.Limit.{Limit}
+use Rattle.gq_load.specs.declared.over.Limit.TheVariants as limits
 use Rattle.gq_load.specs.internal.Budgets.{kept_from}
 use Rattle.gq_load.proofs.Budgets.{steps_kept}
 use Rattle.gq_faults.specs.Lists.{when}
+use Rattle.gq_faults.specs.Over.{over_limit}
 use Rattle.gq_faults.specs.Scenario_faults.{over_own, over_steps, over_budgets}
 use Rattle.gq_faults.proofs.Behind.{map-append}
 
 module _ {C : Type 0} (t : Refusal → C) (cs : List Component) (bs : List Budget) (i : ℕ) where
-  pub own_next : (r : Resource) (c : Component) (b : Budget) → i < length cs → i < length bs → c ≡ get_or cs i c → b ≡ get_or bs i b
+  own_next : (r : Resource) (c : Component) (b : Budget) → i < length cs → i < length bs → c ≡ get_or cs i c → b ≡ get_or bs i b
       → map t (over_own r (drop i cs) (drop i bs)) ≡ map t (over_own r (c ∷ []) (b ∷ [])) ++ map t (over_own r (drop (i + 1) cs) (drop (i + 1) bs))
   own_next r c b h k at_c at_b =
       rw (drop_more cs i c h, ← at_c, drop_more bs i b k, ← at_b)
@@ -24,18 +32,53 @@ module _ {C : Type 0} (t : Refusal → C) (cs : List Component) (bs : List Budge
       (over_own r (drop (i + 1) cs) (drop (i + 1) bs))
       ∙ ap (λ l. map t l ++ map t (over_own r (drop (i + 1) cs) (drop (i + 1) bs))) (sym (append-nil _)))
 
-  pub own_end : (r : Resource) → length cs ≤ i → map t (over_own r (drop i cs) (drop i bs)) ≡ []
+  own_end : (r : Resource) → length cs ≤ i → map t (over_own r (drop i cs) (drop i bs)) ≡ []
   own_end r past = rw (drop_all i cs past) refl
 
-  pub steps_next : (c : Component) (b : Budget) → i < length cs → i < length bs → c ≡ get_or cs i c → b ≡ get_or bs i b
+  steps_next : (c : Component) (b : Budget) → i < length cs → i < length bs → c ≡ get_or cs i c → b ≡ get_or bs i b
       → map t (over_steps (drop i cs) (drop i bs)) ≡ map t (over_steps (c ∷ []) (b ∷ [])) ++ map t (over_steps (drop (i + 1) cs) (drop (i + 1) bs))
   steps_next c b h k at_c at_b =
       rw (drop_more cs i c h, ← at_c, drop_more bs i b k, ← at_b)
       (map-append t (when (not (nat_le b.steps greatest_cost)) (Over_steps c.node.name)) (over_steps (drop (i + 1) cs) (drop (i + 1) bs))
       ∙ ap (λ l. map t l ++ map t (over_steps (drop (i + 1) cs) (drop (i + 1) bs))) (sym (append-nil _)))
 
-  pub steps_end : length cs ≤ i → map t (over_steps (drop i cs) (drop i bs)) ≡ []
+  steps_end : length cs ≤ i → map t (over_steps (drop i cs) (drop i bs)) ≡ []
   steps_end past = rw (drop_all i cs past) refl
+
+  -- the same of any limit
+  pub over_next : (l : Limit) (c : Component) (b : Budget) → i < length cs → i < length bs → c ≡ get_or cs i c → b ≡ get_or bs i b
+      → map t (over_limit l (drop i cs) (drop i bs)) ≡ map t (over_limit l (c ∷ []) (b ∷ [])) ++ map t (over_limit l (drop (i + 1) cs) (drop (i + 1) bs))
+  over_next limits.Ram c b h k at_c at_b = own_next Ram c b h k at_c at_b
+  over_next limits.Steps c b h k at_c at_b = steps_next c b h k at_c at_b
+  over_next limits.Caps c b h k at_c at_b = own_next Caps c b h k at_c at_b
+
+  pub over_end : (l : Limit) → length cs ≤ i → map t (over_limit l (drop i cs) (drop i bs)) ≡ []
+  over_end limits.Ram past = own_end Ram past
+  over_end limits.Steps past = steps_end past
+  over_end limits.Caps past = own_end Caps past
+
+-- ONE LEAF
+
+test_passed : (t : Bool) (x : Refusal) → cond t None (Some x) ≡ None → map refusal_text (when (not t) x ++ []) ≡ []
+test_passed true x e = refl
+test_passed false x e = absurd cc
+
+test_failed : (t : Bool) (x : Refusal) (f : LoadFault) → Prints f (refused (cond t None (Some x)))
+    → map refusal_text (when (not t) x ++ []) ≡ load_fault_text f ∷ []
+test_failed true x f h = absurd h
+test_failed false x f h = ap (λ l. l ∷ []) (sym h)
+
+module _ (c : Component) (b : Budget) where
+  pub none_over : (l : Limit) → over_refusal l (c ∷ []) (b ∷ []) ≡ None → map refusal_text (over_limit l (c ∷ []) (b ∷ [])) ≡ []
+  none_over limits.Ram e = test_passed (nat_le (part Ram b.own) (part Ram c.node.quantum)) _ e
+  none_over limits.Steps e = test_passed (nat_le b.steps greatest_cost) _ e
+  none_over limits.Caps e = test_passed (nat_le (part Caps b.own) (part Caps c.node.quantum)) _ e
+
+  pub one_over : (l : Limit) (f : LoadFault) → Prints f (refused (over_refusal l (c ∷ []) (b ∷ [])))
+      → map refusal_text (over_limit l (c ∷ []) (b ∷ [])) ≡ load_fault_text f ∷ []
+  one_over limits.Ram f h = test_failed (nat_le (part Ram b.own) (part Ram c.node.quantum)) _ f h
+  one_over limits.Steps f h = test_failed (nat_le b.steps greatest_cost) _ f h
+  one_over limits.Caps f h = test_failed (nat_le (part Caps b.own) (part Caps c.node.quantum)) _ f h
 
 -- BUDGETS AS FAR AS THEY ARE KEPT
 

@@ -1,14 +1,17 @@
 -- Faults told one after the other.
-use Rattle.std.proofs.Common.{◌≡◌, ◌<◌, ◌≤◌, ◌+◌, ℕ, List, [], ◌∷◌, ◌++◌, length, map, get_or, drop, Option, Result, Ok, Err, refl, ap, sym, ◌∙◌, subst}
-use Rattle.std.proofs.Common.{append_assoc}
-use Rattle.std.specs.Prelude.{codes, decimal}
-use Rattle.std.proofs.lemmas.List.{drop_more, drop_all}
+use Rattle.std.proofs.Common.{◌≡◌, ◌<◌, ◌≤◌, ◌+◌, ℕ, zero, suc, List, [], ◌∷◌, ◌++◌, length, map, get_or, drop, Option, Result, Ok, Err, refl, ap, sym, ◌∙◌}
+use Rattle.std.proofs.Common.{append_assoc, take, subst}
+use Rattle.std.specs.Prelude.{IsErrAnd, codes, decimal}
+use Rattle.std.specs.Io.KnownBytes.{Appends}
+use Rattle.std.proofs.lemmas.List.{drop_more, drop_all, take-append-drop}
+use Rattle.std.proofs.Math.Seq.{take-append_seam}
 use Rattle.gq_faults.specs.Lists.{all_found}
 use Rattle.gq_faults.proofs.Behind.{map-append}
 use Rattle.gq_init.proofs.Known.{appends_nothing, appends_both}
+use Rattle.gq_init.specs.Writes.{IsFront}
 use Rattle.gq_scenario.specs.Keys.{DocumentFault}
 use Rattle.gq_scenario.specs.Reading.{document_text}
-use Rattle.gq_faults.specs.Told.{AreTold, EndsEarly, Telling, place_text}
+use Rattle.gq_faults.specs.Told.{AreTold, EndsEarly, IsTold, Telling, WritesFaults, WritesPrefix, place_text}
 use Rattle.gq_faults.specs.declared.fault.TellError.{TellError}
 use Rattle.gq_faults.specs.declared.fault.TellError.TheVariants.{Memory, Write}
 
@@ -28,10 +31,89 @@ early_after : (e : TellError) (a b c : ℕ) → b ≡ a → EndsEarly e b c → 
 early_after Memory a b c e h = h ∙ e
 early_after Write a b c e h = subst (λ n. EndsEarly Write n c) e h
 
+-- PREFIXES
+
+-- any faults can be told
+some_text : (path : List ℕ) (faults : List (List ℕ)) → (text : List ℕ) × AreTold path faults text
+some_text path [] = ([], refl)
+some_text path (fault ∷ faults) =
+    let line = place_text path 1 1 ++ fault ++ codes "\n" ++ [] in
+    let told : IsTold path fault line =
+    record { line = 1; column = 1; details = []; form = record { details = []; single = tt; is = refl }; is = refl } in
+    let more = some_text path faults in
+    (line ++ more.0, (line, more.0, told, more.1, refl))
+
+-- what a text begins with is a prefix of it
+front_of : (before after : Option (List ℕ)) (begun rest : List ℕ) → Appends before after begun → IsFront before after (begun ++ rest)
+front_of before after begun rest h = (length begun, subst (Appends before after) (sym (take-append_seam begun rest)) h)
+
+-- a prefix of one text is a prefix of that text and another
+front_before : (before after : Option (List ℕ)) (a b : List ℕ) → IsFront before after a → IsFront before after (a ++ b)
+front_before before after a b h =
+    let parts : take h.0 a ++ (drop h.0 a ++ b) ≡ a ++ b =
+    sym (append_assoc (take h.0 a) (drop h.0 a) b) ∙ ap (λ t. t ++ b) (take-append-drop h.0 a) in
+    subst (IsFront before after) parts (front_of before after (take h.0 a) (drop h.0 a ++ b) h.1)
+
+-- after one text a prefix of another was written
+front_after : (before between after : Option (List ℕ)) (a b : List ℕ) → Appends before between a → IsFront between after b
+    → IsFront before after (a ++ b)
+front_after before between after a b w h =
+    let parts : (a ++ take h.0 b) ++ drop h.0 b ≡ a ++ b =
+    append_assoc a (take h.0 b) (drop h.0 b) ∙ ap (λ t. a ++ t) (take-append-drop h.0 b) in
+    subst (IsFront before after) parts
+    (front_of before after (a ++ take h.0 b) (drop h.0 b) (appends_both before between after a (take h.0 b) w h.1))
+
+-- nothing was written
+pub prefix_none : (path : List ℕ) (faults : List (List ℕ)) (before : Option (List ℕ)) → WritesPrefix path faults before before
+prefix_none path faults before =
+    let any = some_text path faults in record { text = any.0; told = any.1; written = (0, appends_nothing before) }
+
+-- of no faults nothing is a prefix but nothing
+pub prefix_of_none : (path other : List ℕ) (faults : List (List ℕ)) (before after : Option (List ℕ)) → WritesPrefix path [] before after
+    → WritesPrefix other faults before after
+prefix_of_none path other faults before after h =
+    let any = some_text other faults in
+    let written = subst (IsFront before after) h.told h.written in
+    record { text = any.0; told = any.1; written = (0, subst (Appends before after) (none written.0) written.1) }
+  where
+    none : (k : ℕ) → take {A = ℕ} k [] ≡ []
+    none zero = refl
+    none (suc k) = refl
+
+-- a prefix of the first of them
+prefix_first : (path : List ℕ) (x y : List (List ℕ)) (before after : Option (List ℕ)) → WritesPrefix path x before after
+    → WritesPrefix path (x ++ y) before after
+prefix_first path x y before after h =
+    let any = some_text path y in
+    record {
+      text = h.text ++ any.0;
+      told = both_told path x y h.text any.0 h.told any.1;
+      written = front_before before after h.text any.0 h.written;
+    }
+
+-- these, and a prefix of those behind them
+prefix_both : (path : List ℕ) (x y : List (List ℕ)) (before between after : Option (List ℕ)) → WritesFaults path x before between
+    → WritesPrefix path y between after → WritesPrefix path (x ++ y) before after
+prefix_both path x y before between after h j = record {
+  text = h.text ++ j.text;
+  told = both_told path x y h.text j.text h.told j.told;
+  written = front_after before between after h.text j.text h.written j.written;
+}
+
 module _ (path : List ℕ) where
   -- nothing was told
   pub tells_none : {A : Type 0} (before : Option (List ℕ)) (m : ℕ) (a : A) → Telling path [] before before m m (Ok a)
-  tells_none before m a = record { told = record { text = []; told = refl; written = appends_nothing before }; counted = refl; cut = tt }
+  tells_none before m a = record { told = record { text = []; told = refl; written = appends_nothing before }; counted = refl; cut = tt; ended = tt }
+
+  -- host memory was refused before anything was told
+  pub tells_memory : {A : Type 0} (all : List (List ℕ)) (before : Option (List ℕ)) (m : ℕ) → Telling {A = A} path all before before m m (Err Memory)
+  tells_memory all before m = record { told = tt; counted = tt; cut = prefix_none path all before; ended = refl }
+
+  pub memory_ends : {A : Type 0} (all : List (List ℕ)) (before : Option (List ℕ)) (m : ℕ) (r : Result A TellError) → IsErrAnd r (λ e. e ≡ Memory)
+      → Telling path all before before m m r
+  memory_ends all before m (Ok a) h = absurd h
+  memory_ends {A = A} all before m (Err e) h =
+      subst (λ (f : TellError). Telling {A = A} path all before before m m (Err f)) (sym h) (tells_memory all before m)
 
   -- these were told, and then those
   pub tells_both : {A B : Type 0} (x y : List (List ℕ)) (before between after : Option (List ℕ)) (m k n : ℕ) (u : A) (r : Result B TellError)
@@ -44,13 +126,36 @@ module _ (path : List ℕ) where
     };
     counted = j.counted ∙ h.counted;
     cut = tt;
+    ended = tt;
   }
-  tells_both x y before between after m k n u (Err e) h j = record { told = tt; counted = tt; cut = early_after e m k n h.counted j.cut }
+  tells_both x y before between after m k n u (Err e) h j = record {
+    told = tt;
+    counted = tt;
+    cut = prefix_both path x y before between after h.told j.cut;
+    ended = early_after e m k n h.counted j.ended;
+  }
 
   -- who ends early tells no more
-  pub tells_early : {A B : Type 0} (x y : List (List ℕ)) (before after : Option (List ℕ)) (m n : ℕ) (e : TellError)
-      → Telling {A = A} path x before after m n (Err e) → Telling {A = B} path y before after m n (Err e)
-  tells_early x y before after m n e h = record { told = tt; counted = tt; cut = h.cut }
+  pub tells_early : {A B : Type 0} (all x y : List (List ℕ)) (before after : Option (List ℕ)) (m n : ℕ) (e : TellError) → all ≡ x ++ y
+      → Telling {A = A} path x before after m n (Err e) → Telling {A = B} path all before after m n (Err e)
+  tells_early all x y before after m n e is h = record {
+    told = tt;
+    counted = tt;
+    cut = subst (λ (l : List (List ℕ)). WritesPrefix path l before after) (sym is) (prefix_first path x y before after h.cut);
+    ended = h.ended;
+  }
+
+  -- the same for faults of a document
+  pub tells_fewer : {A B : Type 0} (all x y : List DocumentFault) (before after : Option (List ℕ)) (m n : ℕ) (e : TellError) → all ≡ x ++ y
+      → Telling {A = A} path (map document_text x) before after m n (Err e) → Telling {A = B} path (map document_text all) before after m n (Err e)
+  tells_fewer all x y before after m n e is h =
+      tells_early (map document_text all) (map document_text x) (map document_text y) before after m n e
+      (ap (map document_text) is ∙ map-append document_text x y) h
+
+  -- of the faults of a document the first part was begun
+  pub tells_begun : {A : Type 0} (x y : List DocumentFault) (before after : Option (List ℕ)) (m n : ℕ) (e : TellError)
+      → Telling {A = A} path (map document_text x) before after m n (Err e) → Telling {A = A} path (map document_text (x ++ y)) before after m n (Err e)
+  tells_begun x y before after m n e h = tells_fewer (x ++ y) x y before after m n e refl h
 
   -- the same for faults of a document
   pub tells_more : {A B : Type 0} (x y : List DocumentFault) (before between after : Option (List ℕ)) (m k n : ℕ) (u : A) (r : Result B TellError)

@@ -20,7 +20,7 @@ use Rattle.gq_faults.specs.Told.{Tells, Telling}
 use Rattle.gq_faults.specs.declared.fault.TellError.{TellError}
 use Rattle.gq_faults.specs.declared.fault.TellError.TheVariants.{Memory}
 use Rattle.gq_faults.proofs.First_of_texts.{none_of_accepted}
-use Rattle.gq_faults.proofs.Telling.{no_lines, tells_early, told_as}
+use Rattle.gq_faults.proofs.Telling.{no_lines, tells_memory, told_as}
 
 -- WHY A TEXT IS REFUSED
 
@@ -75,16 +75,22 @@ module _ {W : Type 0} (contents : W → Option (List ℕ)) (path text : List ℕ
       → Tells contents path lines old new (Ok a) → TellsText contents path text old new (Ok (Some f))
   tells_refused {A = A} lines a f same prints h =
       let all : Tells {A = A} contents path (fault_lines text) old new (Ok a) = told_as path lines (fault_lines text) _ _ _ _ (Ok a) (sym same) h in
-      record { told = record { told = all.told; counted = all.counted; cut = tt }; accepted = tt; refused = prints }
+      record { told = record { told = all.told; counted = all.counted; cut = tt; ended = tt }; accepted = tt; refused = prints }
 
   -- it ended early
-  pub tells_no_more : {A : Type 0} (lines : List (List ℕ)) (e : TellError) → Tells {A = A} contents path lines old new (Err e)
-      → TellsText contents path text old new (Err e)
-  tells_no_more lines e h = record { told = tells_early path lines (fault_lines text) _ _ _ _ e h; accepted = tt; refused = tt }
+  pub tells_no_more : {A : Type 0} (lines : List (List ℕ)) (e : TellError) → fault_lines text ≡ lines
+      → Tells {A = A} contents path lines old new (Err e) → TellsText contents path text old new (Err e)
+  tells_no_more {A = A} lines e same h =
+      let all : Tells {A = A} contents path (fault_lines text) old new (Err e) = told_as path lines (fault_lines text) _ _ _ _ (Err e) (sym same) h in
+      record { told = record { told = tt; counted = tt; cut = all.cut; ended = all.ended }; accepted = tt; refused = tt }
 
 -- nothing is told for want of host memory
 pub tells_nothing : {W : Type 0} (contents : W → Option (List ℕ)) (path text : List ℕ) (out : Counted W) → TellsText contents path text out out (Err Memory)
-tells_nothing contents path text out = record { told = record { told = tt; counted = tt; cut = refl }; accepted = tt; refused = tt }
+tells_nothing contents path text out = record {
+  told = tells_memory path (fault_lines text) (written_to contents out) (failures_of out);
+  accepted = tt;
+  refused = tt;
+}
 
 -- the path is the file's
 pub path_told : {A : Type 0} (lines : List (List ℕ)) (before after : Option (List ℕ)) (m n : ℕ) (path other : List ℕ) (r : Result A TellError) → path ≡ other

@@ -8,5 +8,6 @@ pub mod Turn_faults
 pub mod Scenario_faults
 pub mod Uses
 pub mod Lists
+pub mod Over
 pub mod Details
 pub mod Found_lines

@@ -1,8 +1,8 @@
 -- What is written of faults: a line for each with its place, and its details below it.
-use Rattle.std.specs.Prelude.{◌≡◌, ℕ, List, [], ◌∷◌, ◌++◌, map, Option, Result, OnOk, IfErr, codes, decimal}
+use Rattle.std.specs.Prelude.{◌≡◌, ℕ, List, [], ◌∷◌, ◌++◌, map, Option, Result, OnOk, OnErr, IfErr, codes, decimal}
 use Rattle.std.specs.Io.KnownBytes.{Appends}
 use Rattle.gq_init.specs.Counts.{written_to, failures_of}
-use Rattle.gq_init.specs.Writes.{IsRaised}
+use Rattle.gq_init.specs.Writes.{IsFront, IsRaised}
 use Rattle.gq_init.specs.declared.counted.Counted.{Counted}
 use Rattle.gq_scenario.specs.Keys.{DocumentFault}
 use Rattle.gq_scenario.specs.Reading.{document_text}
@@ -34,16 +34,23 @@ pub record WritesFaults (path : List ℕ) (faults : List (List ℕ)) (before aft
   pub told : AreTold path faults text
   pub written : Appends before after text
 
--- who does not tell all faults was refused host memory, or a write failed, which was counted
+-- a prefix of a text that tells them was written
+pub record WritesPrefix (path : List ℕ) (faults : List (List ℕ)) (before after : Option (List ℕ)) : Type 0 where
+  pub text : List ℕ
+  pub told : AreTold path faults text
+  pub written : IsFront before after text
+
+-- who does not tell all faults was refused host memory, and no write failed; or a write failed, which was counted
 abbrev pub EndsEarly : TellError → ℕ → ℕ → Type 0
 EndsEarly Memory before after = after ≡ before
 EndsEarly Write before after = IsRaised before after
 
--- who tells faults: they were written, and no write failed; or it ended early. Before it so many writes had failed, and after it so many.
+-- who tells faults: they were written, and no write failed; or it ended early, and a prefix was written. Before it m writes had failed, and after it n.
 pub record Telling {A : Type 0} (path : List ℕ) (faults : List (List ℕ)) (before after : Option (List ℕ)) (m n : ℕ) (result : Result A TellError) : Type 0 where
   pub told : OnOk result (WritesFaults path faults before after)
   pub counted : OnOk result (n ≡ m)
-  pub cut : IfErr result (λ fault. EndsEarly fault m n)
+  pub cut : OnErr result (WritesPrefix path faults before after)
+  pub ended : IfErr result (λ fault. EndsEarly fault m n)
 
 -- the same of a writer
 abbrev pub Tells : {W A : Type 0} → (W → Option (List ℕ)) → List ℕ → List (List ℕ) → Counted W → Counted W → Result A TellError → Type 0

@@ -21,7 +21,8 @@ use gq_scenario::scenario::{Leaf, Node};
 use gq_toml_places::Step;
 use std::alloc::{AllocError, Global};
 
-fn is_same(a: &Name, b: &Name) -> bool {
+/// Whether two names are the same.
+pub(crate) fn is_same(a: &Name, b: &Name) -> bool {
     same_bytes(a.as_bytes(), b.as_bytes())
 }
 

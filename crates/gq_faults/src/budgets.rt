@@ -1,13 +1,13 @@
 // Leaves that use more than they are given, or may take too many steps.
 ghost use Rattle.std.specs.Prelude.{◌≡◌, ◌∷◌, [], ◌++◌, None, IfOk, OnOk, length, map};
-ghost use Rattle.gq_model.specs.machine.Amounts.{Ram, Caps};
 ghost use Rattle.gq_model.specs.machine.Scenario as model;
 ghost use Rattle.gq_model.specs.rules.Accept.{budgets};
 ghost use Rattle.gq_model.specs.rules.Resolve.{unresolved};
 ghost use Rattle.gq_model.specs.texts.Fault_texts.{refusal_text};
 ghost use Rattle.gq_resolve.specs.Served.{AreServers};
 ghost use Rattle.gq_load.specs.internal.Surveys.{AreSurveys};
-ghost use Rattle.gq_faults.specs.Scenario_faults.{over_budgets, over_own, over_steps};
+ghost use Rattle.gq_faults.specs.Over.{over_limit};
+ghost use Rattle.gq_faults.specs.Scenario_faults.{over_budgets};
 ghost use Rattle.gq_faults.specs.Found_lines.{lines_found};
 
 use crate::found::{Detail, Found, Spot, push_fault};
@@ -15,8 +15,8 @@ use crate::leaves::way_to;
 use gq_load::accepted::kept_budgets;
 use gq_load::budget::Budget;
 use gq_load::fault::LoadFault;
+use gq_load::over::{Limit, over_fault};
 use gq_load::surveys::Surveys;
-use gq_model::limits::GREATEST_STEPS;
 use gq_resolve::component::Component;
 use gq_resolve::fault::ResolveError;
 use gq_resolve::resolve_opened;
@@ -26,145 +26,58 @@ use gq_scenario::scenario::Scenario;
 use gq_toml_places::Step;
 use std::alloc::{AllocError, Global};
 
-// A leaf that uses more bytes of its own account than its quantum has.
-fn push_ram(
+// The key at which a leaf that uses too much is wrong, and what was compared.
+fn compared(fault: &LoadFault, budget: &Budget) -> (Key, Detail<'static>) {
+    match fault {
+        LoadFault::OverQuantum { own, quantum, .. } => {
+            let (own, quantum) = (*own, *quantum);
+            (Key::Quantum, Detail::Own { own, quantum })
+        }
+        LoadFault::OverCaps { own, caps, .. } => {
+            let (own, caps) = (*own, *caps);
+            (Key::Caps, Detail::OwnCaps { own, caps })
+        }
+        _ => (Key::Name, Detail::Steps(budget.steps())),
+    }
+}
+
+// A leaf that uses more than a limit.
+fn push_over(
     alloc: Global,
     found: &mut Vec<Found<'static>>,
+    limit: Limit,
     component: &Component<'_>,
     budget: &Budget,
     leaves: &[Vec<Step<'static>>],
     place: usize,
 ) -> Result<(), AllocError>
     ensures { OnOk result (lines_found found.new.items
-        ≡ lines_found found.old.items ++ map refusal_text (over_own Ram (component.now ∷ []) (budget.now ∷ []))) }
+        ≡ lines_found found.old.items ++ map refusal_text (over_limit limit (component.now ∷ []) (budget.now ∷ []))) }
 {
-    let leaf = component.leaf();
-    let (own, quantum) = (budget.own(), leaf.quantum().ram());
-    if own <= quantum {
+    let Some(fault) = over_fault(limit, component, budget) else {
         return Ok(());
-    }
-    let fault = LoadFault::OverQuantum {
-        leaf: leaf.name().copied(),
-        own,
-        quantum,
     };
-    let way = way_to(alloc, leaves, place, Key::Quantum)?;
-    push_fault(
-        alloc,
-        found,
-        &fault,
-        way,
-        Spot::Key,
-        Detail::Own { own, quantum },
-    )
+    let (key, detail) = compared(&fault, budget);
+    let way = way_to(alloc, leaves, place, key)?;
+    push_fault(alloc, found, &fault, way, Spot::Key, detail)
 }
 
-// A leaf that may take more than 10^12 steps.
-fn push_steps(
+// All leaves that use more than a limit.
+fn push_all_over(
     alloc: Global,
     found: &mut Vec<Found<'static>>,
-    component: &Component<'_>,
-    budget: &Budget,
-    leaves: &[Vec<Step<'static>>],
-    place: usize,
-) -> Result<(), AllocError>
-    ensures { OnOk result (lines_found found.new.items
-        ≡ lines_found found.old.items ++ map refusal_text (over_steps (component.now ∷ []) (budget.now ∷ []))) }
-{
-    let steps = budget.steps();
-    if steps <= GREATEST_STEPS {
-        return Ok(());
-    }
-    let fault = LoadFault::OverSteps {
-        leaf: component.leaf().name().copied(),
-    };
-    let way = way_to(alloc, leaves, place, Key::Name)?;
-    push_fault(alloc, found, &fault, way, Spot::Key, Detail::Steps(steps))
-}
-
-// A leaf that uses more capabilities of its own account than it is given.
-fn push_caps(
-    alloc: Global,
-    found: &mut Vec<Found<'static>>,
-    component: &Component<'_>,
-    budget: &Budget,
-    leaves: &[Vec<Step<'static>>],
-    place: usize,
-) -> Result<(), AllocError>
-    ensures { OnOk result (lines_found found.new.items
-        ≡ lines_found found.old.items ++ map refusal_text (over_own Caps (component.now ∷ []) (budget.now ∷ []))) }
-{
-    let leaf = component.leaf();
-    let (own, caps) = (budget.own_caps(), u64::from(leaf.quantum().caps()));
-    if own <= caps {
-        return Ok(());
-    }
-    let fault = LoadFault::OverCaps {
-        leaf: leaf.name().copied(),
-        own,
-        caps,
-    };
-    let way = way_to(alloc, leaves, place, Key::Caps)?;
-    push_fault(
-        alloc,
-        found,
-        &fault,
-        way,
-        Spot::Key,
-        Detail::OwnCaps { own, caps },
-    )
-}
-
-// All leaves that use more bytes.
-fn push_all_ram(
-    alloc: Global,
-    found: &mut Vec<Found<'static>>,
+    limit: Limit,
     components: &[Component<'_>],
     budgets: &[Budget],
     leaves: &[Vec<Step<'static>>],
 ) -> Result<(), AllocError>
     requires { length budgets.now ≡ length components.now }
     ensures { OnOk result (lines_found found.new.items
-        ≡ lines_found found.old.items ++ map refusal_text (over_own Ram components.now budgets.now)) }
+        ≡ lines_found found.old.items ++ map refusal_text (over_limit limit components.now budgets.now)) }
 {
     for (place, component) in components.iter().enumerate() {
-        push_ram(alloc, found, component, &budgets[place], leaves, place)?;
-    }
-    Ok(())
-}
-
-// All leaves that may take too many steps.
-fn push_all_steps(
-    alloc: Global,
-    found: &mut Vec<Found<'static>>,
-    components: &[Component<'_>],
-    budgets: &[Budget],
-    leaves: &[Vec<Step<'static>>],
-) -> Result<(), AllocError>
-    requires { length budgets.now ≡ length components.now }
-    ensures { OnOk result (lines_found found.new.items
-        ≡ lines_found found.old.items ++ map refusal_text (over_steps components.now budgets.now)) }
-{
-    for (place, component) in components.iter().enumerate() {
-        push_steps(alloc, found, component, &budgets[place], leaves, place)?;
-    }
-    Ok(())
-}
-
-// All leaves that use more capabilities.
-fn push_all_caps(
-    alloc: Global,
-    found: &mut Vec<Found<'static>>,
-    components: &[Component<'_>],
-    budgets: &[Budget],
-    leaves: &[Vec<Step<'static>>],
-) -> Result<(), AllocError>
-    requires { length budgets.now ≡ length components.now }
-    ensures { OnOk result (lines_found found.new.items
-        ≡ lines_found found.old.items ++ map refusal_text (over_own Caps components.now budgets.now)) }
-{
-    for (place, component) in components.iter().enumerate() {
-        push_caps(alloc, found, component, &budgets[place], leaves, place)?;
+        let budget = &budgets[place];
+        push_over(alloc, found, limit, component, budget, leaves, place)?;
     }
     Ok(())
 }
@@ -208,7 +121,8 @@ pub(crate) fn push_budgets(
 {
     let routes = routes_of(alloc, scenario, components, surveys)?;
     let budgets = kept_budgets(alloc, scenario, components, &routes, surveys)?;
-    push_all_ram(alloc, found, components, budgets.as_slice(), leaves)?;
-    push_all_steps(alloc, found, components, budgets.as_slice(), leaves)?;
-    push_all_caps(alloc, found, components, budgets.as_slice(), leaves)
+    let budgets = budgets.as_slice();
+    push_all_over(alloc, found, Limit::Ram, components, budgets, leaves)?;
+    push_all_over(alloc, found, Limit::Steps, components, budgets, leaves)?;
+    push_all_over(alloc, found, Limit::Caps, components, budgets, leaves)
 }

@@ -1,4 +1,5 @@
 // Lines and columns in texts that need not be UTF-8.
+// No contract: its results are places alone. Tests show them.
 use gq_toml_places::Position;
 
 /// The line and the column of an offset into a text: one more than the line feeds before it, and one more than the bytes since the last of these.

@@ -1,4 +1,5 @@
 // What a rule compared at its place: a section is walked through once more, up to there.
+// No contract of what is found: it is details alone. Tests show it.
 ghost use Rattle.std.specs.Prelude.{◌≡◌, ◌≤◌, length};
 ghost use Rattle.gq_model.specs.texts.Code.{is_section};
 

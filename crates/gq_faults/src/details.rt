@@ -1,5 +1,8 @@
 // The details of a fault, each on a line of its own.
-use crate::found::{BadAfter, Compared, Detail, Holder, Hop, SessionCost, TableKind, Unit, Where};
+// No contract: its results are details alone. Tests show them.
+use crate::found::{
+    BadAfter, Compared, Crowd, Detail, Holder, Hop, Needed, SessionCost, TableKind, Unit, Where,
+};
 use crate::meant::{keys_of, meant, nearness};
 use crate::words::{Details, crowd_word, holder_word, needed_word, table_word, unit_words};
 use gq_caps::Kind;
@@ -20,27 +23,10 @@ pub fn push_detail(told: &mut Details, detail: &Detail<'_>) -> Result<(), AllocE
         Detail::Bad(value, rule) => bad(told, value, *rule),
         Detail::BadEntry(name, is_name) => bad_entry(told, name, *is_name),
         Detail::Beside(key, other) => beside(told, *key, *other),
-        Detail::TooMany(crowd, count) => {
-            told.number(*count as u64)?;
-            told.text(" ")?;
-            told.text(crowd_word(*crowd))?;
-            at_most(told, GREATEST_COUNT as u64)
-        }
-        Detail::TooDeep(depth) => {
-            told.text("depth ")?;
-            told.number(*depth as u64)?;
-            at_most(told, depth.saturating_sub(1) as u64)
-        }
+        Detail::TooMany(crowd, count) => too_many(told, *crowd, *count),
+        Detail::TooDeep(depth) => too_deep(told, *depth),
         Detail::Rule(compared) => push_compared(told, compared),
-        Detail::Handed { key, handed, has } => {
-            told.text("hands out ")?;
-            told.number(*handed)?;
-            told.text(" at the start, and has ")?;
-            told.text(key)?;
-            told.text(" ")?;
-            told.number(*has)?;
-            told.end()
-        }
+        Detail::Handed { key, handed, has } => handed_out(told, key, *handed, *has),
         Detail::After(cause) => after(told, cause),
         Detail::Routed(hops) => routed(told, hops.as_slice()),
         Detail::Round(way) => round(told, way.as_slice()),
@@ -48,6 +34,32 @@ pub fn push_detail(told: &mut Details, detail: &Detail<'_>) -> Result<(), AllocE
         Detail::OwnCaps { own, caps } => uses(told, *own, "caps", *caps),
         Detail::Steps(steps) => too_many_steps(told, *steps),
     }
+}
+
+// How many of a kind there are.
+fn too_many(told: &mut Details, crowd: Crowd, count: usize) -> Result<(), AllocError> {
+    told.number(count as u64)?;
+    told.text(" ")?;
+    told.text(crowd_word(crowd))?;
+    at_most(told, GREATEST_COUNT as u64)
+}
+
+// How deep a node is.
+fn too_deep(told: &mut Details, depth: usize) -> Result<(), AllocError> {
+    told.text("depth ")?;
+    told.number(depth as u64)?;
+    at_most(told, depth.saturating_sub(1) as u64)
+}
+
+// What an init hands out, and what it has at this key.
+fn handed_out(told: &mut Details, key: &str, handed: u64, has: u64) -> Result<(), AllocError> {
+    told.text("hands out ")?;
+    told.number(handed)?;
+    told.text(" at the start, and has ")?;
+    told.text(key)?;
+    told.text(" ")?;
+    told.number(has)?;
+    told.end()
 }
 
 // The end of a detail that tells what there may be.
@@ -160,22 +172,9 @@ fn push_compared(told: &mut Details, compared: &Compared) -> Result<(), AllocErr
     match compared {
         Compared::Nothing => Ok(()),
         Compared::Operands => told.line("17 operands, and at most 16"),
-        Compared::Slot(place, kind, needed) => {
-            held(told, *place, kind.as_ref())?;
-            told.text(", and needed is ")?;
-            told.text(needed_word(*needed))?;
-            told.end()
-        }
+        Compared::Slot(place, kind, needed) => slot(told, *place, kind.as_ref(), *needed),
         Compared::Index(place, index, count, unit) => indexed(told, *place, *index, *count, *unit),
-        Compared::Level(service, level, count) => {
-            told.text("to level ")?;
-            told.number(u64::from(*level))?;
-            told.text(", and ")?;
-            told.name(service)?;
-            told.text(" has ")?;
-            told.count(*count as u64, "upgrade", "upgrades")?;
-            told.end()
-        }
+        Compared::Level(service, level, count) => upgrades(told, service, *level, *count),
         Compared::Value(value, most, holder) => valued(told, *value, *most, *holder),
         Compared::Kinds(place, first, second) => differ(told, *place, first, second),
         Compared::Donation(service, level, given, needed) => {
@@ -185,6 +184,30 @@ fn push_compared(told: &mut Details, compared: &Compared) -> Result<(), AllocErr
         Compared::Section(section, is_missing) => sections(told, *section, *is_missing),
         Compared::Cost(cost) => too_many_steps(told, *cost),
     }
+}
+
+// What a slot holds, and what is needed there.
+fn slot(
+    told: &mut Details,
+    place: Place,
+    kind: Option<&Kind>,
+    needed: Needed,
+) -> Result<(), AllocError> {
+    held(told, place, kind)?;
+    told.text(", and needed is ")?;
+    told.text(needed_word(needed))?;
+    told.end()
+}
+
+// A level, and how many a service has.
+fn upgrades(told: &mut Details, service: &Name, level: u8, count: usize) -> Result<(), AllocError> {
+    told.text("to level ")?;
+    told.number(u64::from(level))?;
+    told.text(", and ")?;
+    told.name(service)?;
+    told.text(" has ")?;
+    told.count(count as u64, "upgrade", "upgrades")?;
+    told.end()
 }
 
 // What a slot holds; where it is not there that it is not.
@@ -272,6 +295,19 @@ fn given_for(
 
 // What a session costs, with its parts.
 fn session(told: &mut Details, cost: &SessionCost) -> Result<(), AllocError> {
+    whole_session(told, cost)?;
+    let (object, price) = cost.object;
+    if price > 0 {
+        object_item(told, object, price)?;
+    }
+    for (slot, kind, price) in &cost.slots {
+        item(told, *slot, kind, *price)?;
+    }
+    Ok(())
+}
+
+// What a session costs.
+fn whole_session(told: &mut Details, cost: &SessionCost) -> Result<(), AllocError> {
     told.text("a session at level ")?;
     told.number(u64::from(cost.level))?;
     told.text(" costs ")?;
@@ -279,19 +315,16 @@ fn session(told: &mut Details, cost: &SessionCost) -> Result<(), AllocError> {
     told.text(if cost.caps { " caps" } else { "" })?;
     told.text(", and is given ")?;
     told.number(cost.given)?;
-    told.end()?;
-    let (object, price) = cost.object;
-    if price > 0 {
-        told.text("  obj slice ")?;
-        told.number(u64::from(object))?;
-        told.text(": ")?;
-        told.number(price)?;
-        told.end()?;
-    }
-    for (slot, kind, price) in &cost.slots {
-        item(told, *slot, kind, *price)?;
-    }
-    Ok(())
+    told.end()
+}
+
+// An object of so many bytes, with what it costs.
+fn object_item(told: &mut Details, bytes: u32, price: u64) -> Result<(), AllocError> {
+    told.text("  obj slice ")?;
+    told.number(u64::from(bytes))?;
+    told.text(": ")?;
+    told.number(price)?;
+    told.end()
 }
 
 // A slot with what it costs, where it costs something.
@@ -323,30 +356,43 @@ fn sections(told: &mut Details, section: Section, is_missing: bool) -> Result<()
 // Why a leaf may not start after the one that it names.
 fn after(told: &mut Details, cause: &BadAfter) -> Result<(), AllocError> {
     match cause {
-        BadAfter::NoLeaf(name) => {
-            told.text("no leaf beside it is named ")?;
-            told.name(name)?;
-        }
-        BadAfter::Provides(name) => {
-            told.name(name)?;
-            told.text(" provides a service")?;
-        }
-        BadAfter::Taken { earlier, named } => {
-            told.name(earlier)?;
-            told.text(" starts after ")?;
-            told.name(named)?;
-            told.text(", too")?;
-        }
-        BadAfter::Quantum { own, named } => exceeds(told, "quantum", *own, *named)?,
-        BadAfter::Caps { own, named } => {
-            exceeds(told, "caps", u64::from(*own), u64::from(*named))?;
-        }
-        BadAfter::Round(names) => {
-            for (place, name) in names.iter().enumerate() {
-                told.text(if place == 0 { "" } else { " after " })?;
-                told.name(name)?;
-            }
-        }
+        BadAfter::NoLeaf(name) => no_leaf(told, name),
+        BadAfter::Provides(name) => provides(told, name),
+        BadAfter::Taken { earlier, named } => taken(told, earlier, named),
+        BadAfter::Quantum { own, named } => exceeds(told, "quantum", *own, *named),
+        BadAfter::Caps { own, named } => exceeds(told, "caps", u64::from(*own), u64::from(*named)),
+        BadAfter::Round(names) => in_a_row(told, names.as_slice()),
+    }
+}
+
+// No leaf beside it has this name.
+fn no_leaf(told: &mut Details, name: &Name) -> Result<(), AllocError> {
+    told.text("no leaf beside it is named ")?;
+    told.name(name)?;
+    told.end()
+}
+
+// A leaf that provides a service.
+fn provides(told: &mut Details, name: &Name) -> Result<(), AllocError> {
+    told.name(name)?;
+    told.text(" provides a service")?;
+    told.end()
+}
+
+// A leaf that starts after the same one.
+fn taken(told: &mut Details, earlier: &Name, named: &Name) -> Result<(), AllocError> {
+    told.name(earlier)?;
+    told.text(" starts after ")?;
+    told.name(named)?;
+    told.text(", too")?;
+    told.end()
+}
+
+// Leaves, each of which starts after the next.
+fn in_a_row(told: &mut Details, names: &[Name]) -> Result<(), AllocError> {
+    for (place, name) in names.iter().enumerate() {
+        told.text(if place == 0 { "" } else { " after " })?;
+        told.name(name)?;
     }
     told.end()
 }
@@ -357,7 +403,8 @@ fn exceeds(told: &mut Details, key: &str, own: u64, named: u64) -> Result<(), Al
     told.text(" ")?;
     told.number(own)?;
     told.text(", and the leaf before has ")?;
-    told.number(named)
+    told.number(named)?;
+    told.end()
 }
 
 // How a route led, an init a line.
@@ -365,26 +412,37 @@ fn routed(told: &mut Details, hops: &[Hop]) -> Result<(), AllocError> {
     for hop in hops {
         match hop {
             Hop::NoEntry(0) => told.text("there is no route")?,
-            Hop::NoEntry(count) => {
-                told.text("none of ")?;
-                told.count(*count as u64, "route", "routes")?;
-                told.text(" is for it")?;
-            }
+            Hop::NoEntry(count) => no_entry(told, *count)?,
             Hop::BeyondRoot => told.text("the root has no parent")?,
-            Hop::Entry(number, is_named, target) => {
-                told.text("route ")?;
-                told.number(*number as u64)?;
-                told.text(if *is_named {
-                    ", for this service,"
-                } else {
-                    ", for any service,"
-                })?;
-                led(told, target)?;
-            }
+            Hop::Entry(number, is_named, target) => entry(told, *number, *is_named, target)?,
         }
         told.end()?;
     }
     Ok(())
+}
+
+// None of so many routes is for a service.
+fn no_entry(told: &mut Details, count: usize) -> Result<(), AllocError> {
+    told.text("none of ")?;
+    told.count(count as u64, "route", "routes")?;
+    told.text(" is for it")
+}
+
+// The route of this number, and where it led.
+fn entry(
+    told: &mut Details,
+    number: usize,
+    is_named: bool,
+    target: &Where,
+) -> Result<(), AllocError> {
+    told.text("route ")?;
+    told.number(number as u64)?;
+    told.text(if is_named {
+        ", for this service,"
+    } else {
+        ", for any service,"
+    })?;
+    led(told, target)
 }
 
 // Where an entry led.

@@ -1,4 +1,5 @@
 // Where the leaves of a scenario stand in its document.
+// No contract: its results are places alone. Tests show them.
 use crate::path::with_step;
 use gq_scenario::key::Key;
 use gq_scenario::scenario::{Node, Nodes};

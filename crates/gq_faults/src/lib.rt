@@ -12,9 +12,9 @@
 //! The faults are those of the first stage that has any (`specs/Faults`); the first of them is the one that `check` prints (`laws`). There are three kinds.
 //!
 //! - Faults of a document (`document`, by `walk`, `tables`, `nodes`, `counts` and `names`) are written as they are found.
-//! - Faults of a scenario that was read (`stages`) are few. They are values first, each with the line that `check` prints, a way into the document (`path`), and
-//!   what was compared (`found`). The stages are: the first fault of each program's text or code, and then the rule that each program breaks first (`sources`,
-//!   with `lines` and `leaves`); quanta, leaves that start after others, routes and cycles (`quanta`, `after`, `routes`); budgets (`budgets`).
+//! - Faults of a scenario that was read (`stages`) are few. They are values first, each with the line that `check` prints, a way into the document (`path`),
+//!   and what was compared (`found`). The stages are: the first fault of each program's text or code, and then the rule that each program breaks first
+//!   (`sources`, with `lines` and `leaves`); quanta, leaves that start after others, routes and cycles (`quanta`, `after`, `routes`); budgets (`budgets`).
 //!   Just the lines of the definition are found (`specs/Scenario_faults`), in its order.
 //! - Faults of turns (`turns`).
 //!

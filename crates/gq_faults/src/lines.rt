@@ -1,4 +1,5 @@
 // On which lines of a program's text its statements stand.
+// No contract: its results are places alone. Tests show them.
 use gq_program::Section;
 use gq_scenario::lines::next_line;
 

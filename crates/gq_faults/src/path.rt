@@ -1,4 +1,5 @@
 // Ways into a document.
+// No contract: its results are places alone. Tests show them.
 use gq_toml_places::Step;
 use std::alloc::{AllocError, Global};
 

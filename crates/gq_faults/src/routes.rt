@@ -2,19 +2,18 @@
 ghost use Rattle.std.specs.Prelude.{◌≡◌, ◌<◌, ◌^◌, ◌++◌, ◌∷◌, [], IfOk, OnOk, length, map, slice_get, Some};
 ghost use Rattle.gq_model.specs.machine.Routes.{route};
 ghost use Rattle.gq_model.specs.machine.Scenario.{Component, System};
-ghost use Rattle.gq_model.specs.rules.Resolve.{Unrouted, Cycle};
+ghost use Rattle.gq_model.specs.rules.Resolve.{Cycle};
 ghost use Rattle.gq_model.specs.rules.Resolve as model;
 ghost use Rattle.gq_model.specs.rules.Use.{services};
 ghost use Rattle.gq_model.specs.texts.Fault_texts.{unresolved_text};
 ghost use Rattle.gq_resolve.specs.Reaching.{reaches_by};
-ghost use Rattle.gq_resolve.specs.Resolved.{fault_of};
-ghost use Rattle.gq_resolve.specs.Routing.{routed_not};
 ghost use Rattle.gq_resolve.specs.Served.{once, server_among};
 ghost use Rattle.gq_faults.specs.Lists.{all_found, listed_if, when};
 ghost use Rattle.gq_faults.specs.Scenario_faults.{cycles, routes_lost, services_lost};
 ghost use Rattle.gq_faults.specs.Uses.{used_of};
 ghost use Rattle.gq_faults.specs.Found_lines.{lines_found};
 
+use crate::after::is_same;
 use crate::found::{Detail, Found, Hop, Spot, Where, push_fault};
 use crate::leaves::way_of;
 use gq_load::fault::LoadFault;
@@ -23,9 +22,9 @@ use gq_resolve::component::Component;
 use gq_resolve::cycle::reaches_itself;
 use gq_resolve::fault::ResolveFault;
 use gq_resolve::routes::server_of;
-use gq_resolve::routing::{Level, RouteFault, route};
+use gq_resolve::routing::{Level, fits, provider, route};
 use gq_resolve::services::once;
-use gq_scenario::lines::same_bytes;
+use gq_resolve::unrouted::unrouted;
 use gq_scenario::scenario::{LeafNo, Node, Nodes, Route, Target};
 use gq_toml_places::Step;
 use std::alloc::{AllocError, Global};
@@ -35,18 +34,6 @@ use std::alloc::{AllocError, Global};
 struct Use {
     service: Name,
     server: usize,
-}
-
-fn is_same(a: &Name, b: &Name) -> bool {
-    same_bytes(a.as_bytes(), b.as_bytes())
-}
-
-// Whether a route is for this service: one for any is.
-fn fits(route: &Route, service: &Name) -> bool {
-    match route.service() {
-        Some(name) => is_same(name, service),
-        None => true,
-    }
 }
 
 // The first route that fits, with its number from 1.
@@ -74,23 +61,12 @@ fn has_child(siblings: &Nodes, name: &Name) -> bool {
         .any(|node| is_same(name_of(node), name))
 }
 
-// Whether a node is a leaf that provides the service.
-fn provides(node: &Node, service: &Name) -> bool {
-    match node {
-        Node::Leaf(leaf) => match leaf.provides() {
-            Some(provided) => is_same(provided, service),
-            None => false,
-        },
-        Node::Init(_, _) => false,
-    }
-}
-
 // The children that provide a service.
 fn providers(alloc: Global, siblings: &Nodes, service: &Name) -> Result<Vec<Name>, AllocError> {
     let mut names = Vec::new(alloc);
     for node in siblings.nodes() {
-        if provides(node, service) {
-            names.push(name_of(node).copied())?;
+        if let Some(name) = provider(node, service) {
+            names.push(name.copied())?;
         }
     }
     Ok(names)
@@ -136,18 +112,6 @@ fn hops(alloc: Global, levels: &[Level<'_>], service: &Name) -> Result<Vec<Hop>,
     }
     hops.push(Hop::BeyondRoot)?;
     Ok(hops)
-}
-
-// The fault of a leaf's service that leads nowhere.
-fn unrouted(why: RouteFault, leaf: &Name, service: &Name) -> ResolveFault
-    ensures { fault_of result ≡ Unrouted (routed_not why) leaf.now service.now }
-{
-    let (leaf, service) = (leaf.copied(), service.copied());
-    match why {
-        RouteFault::NoRoute => ResolveFault::NoRoute { leaf, service },
-        RouteFault::Ambiguous => ResolveFault::Ambiguous { leaf, service },
-        RouteFault::ProvidesDiffers => ResolveFault::ProvidesDiffers { leaf, service },
-    }
 }
 
 // A service of a component that leads nowhere, at the end of what was found.

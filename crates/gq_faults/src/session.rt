@@ -1,4 +1,5 @@
 // What the current session costs its server at a point, with its parts.
+// No contract: its results are details alone. Tests show them.
 use crate::found::{Compared, SessionCost};
 use gq_caps::Kind;
 use gq_model::fault::Rule;

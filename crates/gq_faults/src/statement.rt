@@ -1,4 +1,5 @@
 // What a rule compared at a statement, from what is known before it.
+// No contract: its results are details alone. Tests show them.
 use crate::found::{Compared, Holder, Needed, Unit};
 use crate::session::session_cost_of;
 use gq_caps::Kind;

@@ -1,12 +1,11 @@
 // All faults of a table by the rules of its keys.
-ghost use Rattle.std.specs.Prelude.{◌≡◌, ◌&&◌, ◌∷◌, [], not, map};
-ghost use Rattle.toml.specs.Data.{get_member};
+ghost use Rattle.std.specs.Prelude.{◌∷◌, [], not, map};
 ghost use Rattle.toml.specs.View.{table_view};
 ghost use Rattle.gq_model.specs.machine.Lists.{any_of};
 ghost use Rattle.gq_model.specs.machine.Program.{text_eq};
 ghost use Rattle.gq_reader.specs.Rules.{rule_of};
-ghost use Rattle.gq_scenario.specs.Keys.{UnknownKey, has, is_bad};
-ghost use Rattle.gq_scenario.specs.Words.{key_text, scenario_fault_text};
+ghost use Rattle.gq_scenario.specs.Keys.{UnknownKey};
+ghost use Rattle.gq_scenario.specs.Words.{scenario_fault_text};
 ghost use Rattle.gq_faults.specs.Lists.{all_found, when};
 ghost use Rattle.gq_faults.specs.Documents.{missing_of, bad_of, unknown_keys, table_faults};
 ghost use Rattle.gq_faults.specs.Told.{Tells, TellsOf};
@@ -17,7 +16,7 @@ use crate::path::with_step;
 use crate::tell::Teller;
 use gq_init::counted::Counted;
 use gq_model::letters::is_name;
-use gq_reader::rules::{KeyRule, ValueRule, fits};
+use gq_reader::rules::{KeyRule, ValueRule, fits, is_bad, is_missing, is_ruled};
 use gq_reader::value::{has, value_at};
 use gq_scenario::fault::ScenarioFault;
 use gq_scenario::key::{Key, key_of};
@@ -56,18 +55,6 @@ fn tell_key<W: Write>(
     tell_fault(teller, out, fault, way.as_slice(), Spot::Key, detail)
 }
 
-// Whether one of the rules is for this key.
-fn is_ruled(rules: &[KeyRule<'_>], text: &str) -> bool
-    ensures { result ≡ any_of (λ r. text_eq text.now r.key) (map rule_of rules.now) }
-{
-    for rule in rules {
-        if rule.key.is(text) {
-            return true;
-        }
-    }
-    false
-}
-
 // Tells a key for which there is no rule.
 fn tell_unknown<W: Write>(
     teller: &Teller<'_>,
@@ -104,25 +91,6 @@ fn tell_unknown_keys<W: Write>(
     Ok(())
 }
 
-// Whether one of these keys is there.
-fn has_any(table: &Table, keys: &[Key]) -> bool
-    ensures { result ≡ any_of (has (table_view table.now)) (map key_text keys.now) }
-{
-    for key in keys {
-        if has(table, *key) {
-            return true;
-        }
-    }
-    false
-}
-
-// Whether a required key is missing, and each that can stand in its place too.
-fn is_missing(rule: &KeyRule<'_>, table: &Table) -> bool
-    ensures { result ≡ (rule.now.required && not (any_of (has (table_view table.now)) (key_text rule.now.key ∷ map key_text rule.now.instead.now))) }
-{
-    rule.required && !(has(table, rule.key) || has_any(table, rule.instead))
-}
-
 // Tells a required key that is missing.
 fn tell_missing<W: Write>(
     teller: &Teller<'_>,
@@ -157,16 +125,6 @@ fn tell_missing_keys<W: Write>(
         tell_missing(teller, out, way, kind, rule, table)?;
     }
     Ok(())
-}
-
-// Whether a key is there with a bad value, or beside one with which it can not stand.
-fn is_bad(rule: &KeyRule<'_>, table: &Table) -> bool
-    ensures { result ≡ is_bad (rule_of rule.now) (table_view table.now) (get_member (key_text rule.now.key) (table_view table.now)) }
-{
-    match value_at(table, rule.key) {
-        Some(value) => !fits(rule.value, value) || has_any(table, rule.beside),
-        None => false,
-    }
 }
 
 // The first entry of a table of tables by names that has another key or another value.

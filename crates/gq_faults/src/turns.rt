@@ -238,7 +238,7 @@ fn tell_turns<W: Write>(
 
 /// Writes all that is wrong with a scenario, as `faults` does; where that is accepted, all that is wrong with a text of turns: that it is too long, or each
 /// line of another form, each name that is no leaf's, and the first line at which there are too many turns. The first of these is the one that `run` tells
-/// (`laws`). Answers why `run` refuses both, if it does. Ends early where host memory is refused or a write fails; then a front of the text was written.
+/// (`laws`). Answers why `run` refuses both, if it does. Ends early where host memory is refused or a write fails; then a prefix of the text was written.
 pub fn faults_of_both<W: Write>(
     alloc: Global,
     scenario: File<'_>,

@@ -6,8 +6,7 @@ ghost use Rattle.gq_scenario.specs.Document.{keys_of, name_at};
 ghost use Rattle.gq_scenario.specs.Keys.{TooDeep, listed};
 ghost use Rattle.gq_scenario.specs.Tables.{top_keys, interface_keys, init_keys, leaf_keys, route_keys};
 ghost use Rattle.gq_scenario.specs.Trees.{version_number};
-ghost use Rattle.gq_scenario.specs.Reading.{document_text};
-ghost use Rattle.gq_scenario.specs.Words.{key_text, scenario_fault_text};
+ghost use Rattle.gq_scenario.specs.Words.{key_text};
 ghost use Rattle.gq_faults.specs.Lists.{all_found};
 ghost use Rattle.gq_faults.specs.Documents.{in_table, in_tables, interfaces_faults, keys_of_node, node_faults, nodes_in, own_faults};
 ghost use Rattle.gq_faults.specs.Documents.{routes_faults, table_faults, walk_faults};
@@ -21,12 +20,10 @@ use crate::path::with_step;
 use crate::tables::{tell_fault, tell_table};
 use crate::tell::Teller;
 use gq_init::counted::Counted;
-use gq_model::limits::{GREATEST_CAPS, GREATEST_NODE_DEPTH};
-use gq_model::program::Name;
-use gq_reader::rules::{GREATEST_NUMBER, ValueRule, either, optional, other, required};
-use gq_reader::value::{count_at, has, list_at, table_at, text_at};
-use gq_reader::walk::version_of;
-use gq_scenario::fault::ScenarioFault;
+use gq_model::limits::GREATEST_NODE_DEPTH;
+use gq_reader::keys::{init_rules, interface_rules, leaf_rules, route_rules, top_rules};
+use gq_reader::value::{has, list_at, table_at};
+use gq_reader::walk::{too_deep, version_of};
 use gq_scenario::key::Key;
 use gq_scenario::scenario::Version;
 use gq_toml_places::Step;
@@ -42,22 +39,8 @@ fn tell_top<W: Write>(
 ) -> Result<(), TellError>
     ensures { TellsOf W.contents teller.now.path.now (table_faults (top_keys (version_number version)) (table_view top.now)) out.old out.new result }
 {
-    let number = required(Key::Version, ValueRule::Number(1, 2));
-    let ram = required(Key::Ram, ValueRule::Total);
-    let caps = required(Key::Caps, ValueRule::Number(1, GREATEST_CAPS));
-    let routes = optional(Key::DefaultRoute, ValueRule::Tables);
-    let interfaces = optional(Key::Interface, ValueRule::NamedTables);
-    let start = required(Key::Start, ValueRule::Tables);
-    match version {
-        Version::One => {
-            let rules = [number, ram, routes, interfaces, start];
-            tell_table(teller, out, &[], TableKind::Top, &rules, top)
-        }
-        Version::Two => {
-            let rules = [number, ram, caps, routes, interfaces, start];
-            tell_table(teller, out, &[], TableKind::Top, &rules, top)
-        }
-    }
+    let rules = top_rules(version);
+    tell_table(teller, out, &[], TableKind::Top, rules.as_slice(), top)
 }
 
 // An interface's table.
@@ -71,34 +54,9 @@ fn tell_interface<W: Write>(
     ensures { TellsOf W.contents teller.now.path.now
         (table_faults (interface_keys (version_number version) (table_view table.now)) (table_view table.now)) out.old out.new result }
 {
-    let arg = required(Key::Arg, ValueRule::Number(0, GREATEST_NUMBER));
-    let reply = required(Key::Reply, ValueRule::Number(0, GREATEST_NUMBER));
-    let need = required(Key::Need, ValueRule::Quantity(0, GREATEST_NUMBER));
-    let need_caps = required(Key::NeedCaps, ValueRule::Number(0, GREATEST_CAPS));
-    let object = optional(Key::Object, ValueRule::Quantity(0, 65536));
-    let upgrades = optional(Key::Upgrades, ValueRule::Upgrades);
-    let count = count_at(table, Key::Upgrades);
-    let upgrade_caps = optional(Key::UpgradeCaps, ValueRule::Counts(count));
-    let buffer = optional(Key::Buffer, ValueRule::Quantity(0, 1048576));
-    match version {
-        Version::One => {
-            let rules = [arg, reply, need, object, upgrades, buffer];
-            tell_table(teller, out, way, TableKind::Interface, &rules, table)
-        }
-        Version::Two => {
-            let rules = [
-                arg,
-                reply,
-                need,
-                need_caps,
-                object,
-                upgrades,
-                upgrade_caps,
-                buffer,
-            ];
-            tell_table(teller, out, way, TableKind::Interface, &rules, table)
-        }
-    }
+    let rules = interface_rules(version, table);
+    let kind = TableKind::Interface;
+    tell_table(teller, out, way, kind, rules.as_slice(), table)
 }
 
 // An entry of the interfaces, where it is a table.
@@ -159,18 +117,8 @@ fn tell_route<W: Write>(
 ) -> Result<(), TellError>
     ensures { TellsOf W.contents teller.now.path.now (table_faults route_keys (table_view table.now)) out.old out.new result }
 {
-    let rules = [
-        either(Key::Service, &[Key::AnyService], ValueRule::NameText),
-        other(Key::AnyService, &[Key::Service], ValueRule::True),
-        either(
-            Key::Child,
-            &[Key::AnyChild, Key::Parent],
-            ValueRule::NameText,
-        ),
-        other(Key::AnyChild, &[Key::Child], ValueRule::True),
-        other(Key::Parent, &[Key::Child, Key::AnyChild], ValueRule::True),
-    ];
-    tell_table(teller, out, way, TableKind::Route, &rules, table)
+    let rules = route_rules();
+    tell_table(teller, out, way, TableKind::Route, rules.as_slice(), table)
 }
 
 // A route, where it is a table; the way leads to its list.
@@ -229,22 +177,8 @@ fn tell_init<W: Write>(
 ) -> Result<(), TellError>
     ensures { TellsOf W.contents teller.now.path.now (table_faults (init_keys (version_number version)) (table_view table.now)) out.old out.new result }
 {
-    let name = required(Key::Name, ValueRule::NameText);
-    let quantum = required(Key::Quantum, ValueRule::Quantity(0, 1 << 40));
-    let caps = required(Key::Caps, ValueRule::Number(0, GREATEST_CAPS));
-    let routes = optional(Key::Route, ValueRule::Tables);
-    let start = required(Key::Start, ValueRule::Tables);
-    let default_routes = optional(Key::DefaultRoute, ValueRule::Tables);
-    match version {
-        Version::One => {
-            let rules = [name, quantum, routes, start, default_routes];
-            tell_table(teller, out, way, TableKind::Init, &rules, table)
-        }
-        Version::Two => {
-            let rules = [name, quantum, caps, routes, start, default_routes];
-            tell_table(teller, out, way, TableKind::Init, &rules, table)
-        }
-    }
+    let rules = init_rules(version);
+    tell_table(teller, out, way, TableKind::Init, rules.as_slice(), table)
 }
 
 // A leaf's table, among these interfaces.
@@ -260,24 +194,8 @@ fn tell_leaf<W: Write>(
         (table_faults (leaf_keys (version_number version) (keys_of (entries_or_none (option_map (λ t. table_view t.now) interfaces.entry))))
         (table_view table.now)) out.old out.new result }
 {
-    let name = required(Key::Name, ValueRule::NameText);
-    let quantum = required(Key::Quantum, ValueRule::Quantity(0, 1 << 40));
-    let caps = required(Key::Caps, ValueRule::Number(0, GREATEST_CAPS));
-    let routes = optional(Key::Route, ValueRule::Tables);
-    let provides = optional(Key::Provides, ValueRule::Declared(interfaces));
-    let after = optional(Key::After, ValueRule::NameText);
-    let program = either(Key::Program, &[Key::Code], ValueRule::Text);
-    let code = other(Key::Code, &[Key::Program], ValueRule::Hex);
-    match version {
-        Version::One => {
-            let rules = [name, quantum, routes, provides, after, program, code];
-            tell_table(teller, out, way, TableKind::Leaf, &rules, table)
-        }
-        Version::Two => {
-            let rules = [name, quantum, caps, routes, provides, after, program, code];
-            tell_table(teller, out, way, TableKind::Leaf, &rules, table)
-        }
-    }
+    let rules = leaf_rules(version, interfaces);
+    tell_table(teller, out, way, TableKind::Leaf, rules.as_slice(), table)
 }
 
 // The keys of a node: one with `start` is an init.
@@ -315,16 +233,6 @@ fn tell_own<W: Write>(
     tell_keys(teller, out, way, version, interfaces, table)?;
     tell_routes(teller, out, way, Key::Route, table)?;
     tell_routes(teller, out, way, Key::DefaultRoute, table)
-}
-
-// The fault of a node that is too deep. It is told with a name that is one.
-fn too_deep(table: &Table) -> ScenarioFault
-    ensures { scenario_fault_text result ≡ document_text (TooDeep (name_at (table_view table.now))) }
-{
-    match text_at(table, Key::Name) {
-        Some(name) => ScenarioFault::TooDeep(Name::new(name.as_bytes())),
-        None => ScenarioFault::TooDeep(None),
-    }
 }
 
 // That a node is too deep.

@@ -38,7 +38,7 @@ fn first_free<S: ByteStore>(
     Ok(chain_all(store, chunk, size, places))
 }
 
-/// TakesPlace a free place, which reads 0.
+/// Takes a free place, which reads 0.
 pub fn take<S: ByteStore>(
     store: &mut S,
     bin: &mut Bin,

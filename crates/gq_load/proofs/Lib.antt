@@ -4,6 +4,7 @@ pub mod Texts
 pub mod Leaves
 pub mod Budgets
 pub mod Refusals
+mod Limits
 pub mod Unsized_faults
 pub mod Sound_programs
 pub mod Services

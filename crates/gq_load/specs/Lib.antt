@@ -1,4 +1,5 @@
 pub mod Load
+pub mod Over
 pub mod Faults
 pub mod Named
 pub mod Unverified

@@ -15,7 +15,7 @@ ghost use Rattle.gq_load.specs.Load.{loaded, scenario_fault, refused};
 
 use crate::budget::{Budget, budgets_of};
 use crate::fault::{LoadError, LoadFault};
-use crate::over::{check_caps, check_ram, check_steps};
+use crate::over::{Limit, check_over};
 use crate::programs::read_programs;
 use crate::surveys::{Surveys, survey_programs};
 use gq_budget::steps_of;
@@ -89,9 +89,9 @@ fn check_budgets(components: &[Component<'_>], budgets: &[Budget]) -> Result<(),
     ensures none { OnOk result (budget_refusal components.now budgets.now ≡ None) }
     ensures refused { IfErr result (λ f. Prints f (refused (budget_refusal components.now budgets.now))) }
 {
-    check_ram(components, budgets)?;
-    check_steps(components, budgets)?;
-    check_caps(components, budgets)
+    check_over(Limit::Ram, components, budgets)?;
+    check_over(Limit::Steps, components, budgets)?;
+    check_over(Limit::Caps, components, budgets)
 }
 
 // The routes and the budgets of a scenario whose programs break no rule, or the first reason to refuse it.

@@ -28,7 +28,7 @@ mod judged;
 mod line;
 pub mod loaded;
 pub mod named;
-mod over;
+pub mod over;
 pub mod programs;
 pub mod quantities;
 pub mod read;

@@ -1,68 +1,88 @@
 // Leaves that use more than they are given, or may take too many steps.
-ghost use Rattle.std.specs.Prelude.{◌≡◌, None, length, IfErr, OnOk};
-ghost use Rattle.gq_model.specs.machine.Amounts.{Ram, Caps};
+ghost use Rattle.std.specs.Prelude.{◌≡◌, ◌∷◌, [], None, length, IfErr, OnOk};
+ghost use Rattle.gq_model.specs.machine.Amounts as resources;
 ghost use Rattle.gq_model.specs.rules.Accept.{own_refusal, steps_refusal};
 ghost use Rattle.gq_load.specs.Faults.{Prints};
 ghost use Rattle.gq_load.specs.Load.{refused};
+ghost use Rattle.gq_load.specs.Over.{IsFaultFor, over_refusal};
 
 use crate::budget::Budget;
 use crate::fault::LoadFault;
 use gq_model::limits::GREATEST_STEPS;
 use gq_resolve::component::Component;
 
-// Refuses the first leaf that uses more bytes of its own account than its quantum has.
-pub(crate) fn check_ram(components: &[Component<'_>], budgets: &[Budget]) -> Result<(), LoadFault>
-    requires { length budgets.now ≡ length components.now }
-    ensures none { OnOk result (own_refusal Ram components.now budgets.now ≡ None) }
-    ensures refused { IfErr result (λ f. Prints f (refused (own_refusal Ram components.now budgets.now))) }
-{
-    for (place, component) in components.iter().enumerate() {
-        let own = budgets[place].own();
-        let leaf = component.leaf();
-        let quantum = leaf.quantum().ram();
-        if own > quantum {
-            return Err(LoadFault::OverQuantum {
-                leaf: leaf.name().copied(),
-                own,
-                quantum,
-            });
-        }
-    }
-    Ok(())
+/// What a leaf may use too much of.
+#[derive(Clone, Copy, Debug, PartialEq, Eq)]
+pub enum Limit {
+    /// Bytes of its own account: as many as its quantum has.
+    Ram,
+    /// Steps: 10^12.
+    Steps,
+    /// Capabilities of its own account: as many as it is given.
+    Caps,
 }
 
-// Refuses the first leaf that may take more than 10^12 steps.
-pub(crate) fn check_steps(components: &[Component<'_>], budgets: &[Budget]) -> Result<(), LoadFault>
-    requires { length budgets.now ≡ length components.now }
-    ensures none { OnOk result (steps_refusal components.now budgets.now ≡ None) }
-    ensures refused { IfErr result (λ f. Prints f (refused (steps_refusal components.now budgets.now))) }
+// The fault of a leaf that uses more bytes of its own account than its quantum has.
+fn over_ram(component: &Component<'_>, budget: &Budget) -> Option<LoadFault>
+    ensures { IsFaultFor result (own_refusal resources.Ram (component.now ∷ []) (budget.now ∷ [])) }
 {
-    for (place, component) in components.iter().enumerate() {
-        if budgets[place].steps() > GREATEST_STEPS {
-            return Err(LoadFault::OverSteps {
-                leaf: component.leaf().name().copied(),
-            });
-        }
+    let leaf = component.leaf();
+    let (own, quantum) = (budget.own(), leaf.quantum().ram());
+    if own <= quantum {
+        return None;
     }
-    Ok(())
+    let leaf = leaf.name().copied();
+    Some(LoadFault::OverQuantum { leaf, own, quantum })
 }
 
-// Refuses the first leaf that uses more capabilities of its own account than it is given.
-pub(crate) fn check_caps(components: &[Component<'_>], budgets: &[Budget]) -> Result<(), LoadFault>
+// The fault of a leaf that may take more than 10^12 steps.
+fn over_steps(component: &Component<'_>, budget: &Budget) -> Option<LoadFault>
+    ensures { IsFaultFor result (steps_refusal (component.now ∷ []) (budget.now ∷ [])) }
+{
+    if budget.steps() <= GREATEST_STEPS {
+        return None;
+    }
+    let leaf = component.leaf().name().copied();
+    Some(LoadFault::OverSteps { leaf })
+}
+
+// The fault of a leaf that uses more capabilities of its own account than it is given.
+fn over_caps(component: &Component<'_>, budget: &Budget) -> Option<LoadFault>
+    ensures { IsFaultFor result (own_refusal resources.Caps (component.now ∷ []) (budget.now ∷ [])) }
+{
+    let leaf = component.leaf();
+    let (own, caps) = (budget.own_caps(), u64::from(leaf.quantum().caps()));
+    if own <= caps {
+        return None;
+    }
+    let leaf = leaf.name().copied();
+    Some(LoadFault::OverCaps { leaf, own, caps })
+}
+
+/// The fault of a leaf that uses more than a limit. There is none where it uses as much or less.
+pub fn over_fault(limit: Limit, component: &Component<'_>, budget: &Budget) -> Option<LoadFault>
+    ensures { IsFaultFor result (over_refusal limit (component.now ∷ []) (budget.now ∷ [])) }
+{
+    match limit {
+        Limit::Ram => over_ram(component, budget),
+        Limit::Steps => over_steps(component, budget),
+        Limit::Caps => over_caps(component, budget),
+    }
+}
+
+// Refuses the first leaf that uses more than a limit.
+pub(crate) fn check_over(
+    limit: Limit,
+    components: &[Component<'_>],
+    budgets: &[Budget],
+) -> Result<(), LoadFault>
     requires { length budgets.now ≡ length components.now }
-    ensures none { OnOk result (own_refusal Caps components.now budgets.now ≡ None) }
-    ensures refused { IfErr result (λ f. Prints f (refused (own_refusal Caps components.now budgets.now))) }
+    ensures none { OnOk result (over_refusal limit components.now budgets.now ≡ None) }
+    ensures refused { IfErr result (λ f. Prints f (refused (over_refusal limit components.now budgets.now))) }
 {
     for (place, component) in components.iter().enumerate() {
-        let own = budgets[place].own_caps();
-        let leaf = component.leaf();
-        let caps = u64::from(leaf.quantum().caps());
-        if own > caps {
-            return Err(LoadFault::OverCaps {
-                leaf: leaf.name().copied(),
-                own,
-                caps,
-            });
+        if let Some(fault) = over_fault(limit, component, &budgets[place]) {
+            return Err(fault);
         }
     }
     Ok(())

@@ -12,7 +12,7 @@ ghost use Rattle.gq_load.specs.internal.Surveys.{AreSurveys};
 use crate::accepted::kept_budgets;
 use crate::budget::Budget;
 use crate::fault::LoadError;
-use crate::over::check_steps;
+use crate::over::{Limit, check_over};
 use crate::programs::read_programs;
 use crate::surveys::{Surveys, survey_programs};
 use gq_program::program::Program;
@@ -50,7 +50,7 @@ fn judge_steps(
 {
     let routes = resolve_opened(alloc, scenario, components, surveys.opened.as_slice())?;
     let budgets = kept_budgets(alloc, scenario, components, &routes, surveys)?;
-    check_steps(components, budgets.as_slice())?;
+    check_over(Limit::Steps, components, budgets.as_slice())?;
     Ok((routes, budgets))
 }
 

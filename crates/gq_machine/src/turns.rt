@@ -2,7 +2,7 @@
 ghost use Rattle.std.specs.Prelude.{◌≡◌, ◌-◌, ◌<◌, ◌≤◌, [], IfErr, IfOk, IsOk, OnErr, Err, Ok, length};
 ghost use Rattle.gq_model.specs.machine.Scenario.{components, system};
 ghost use Rattle.gq_model.specs.machine.Step.{next};
-ghost use Rattle.gq_bytecode.specs.Nexts.{GoesAlone};
+ghost use Rattle.gq_bytecode.specs.Nexts.{GoesAlone, NoneAlone};
 ghost use Rattle.gq_machine.specs.Bursts.{OutputsLines};
 ghost use Rattle.gq_machine.specs.Countable.{AreCountable, IsCountable};
 ghost use Rattle.gq_machine.specs.Events.{event_of};
@@ -64,9 +64,9 @@ impl Machine {
         output_turns(&self.fixed, &mut self.state, leaf.index(), count, lines)
     }
 
-    /// Turns that a leaf takes alone, at least one and at most so many: each is a step that shows nothing, and changes nothing but what is left to do, the open
-    /// loops, the operands, the locals and the steps of this leaf. It tells how many are left. How many it takes is no promise, but a matter of time: it goes
-    /// on up to a step in which others have a part, or that would be wrong, and takes none where the leaf can't run. It takes no host memory.
+    /// Turns that a leaf takes alone, at most so many: each is a step that shows nothing, and changes nothing but what is left to do, the open loops, the
+    /// operands, the locals and the steps of this leaf. It returns how many are left. Where any are left, the leaf can't take its next step alone: others
+    /// have a part in it, it would be wrong, or the leaf can't run. It takes no host memory.
     #[inline(always)]
     pub fn turns_alone(&mut self, leaf: LeafNo, turns: u32) -> u32
         requires leaf { leaf < length (components self.old.scenario) }
@@ -75,6 +75,7 @@ impl Machine {
         ensures scenario { self.new.scenario ≡ self.old.scenario }
         ensures left { result ≤ turns }
         ensures alone { GoesAlone (system self.old.scenario) leaf (turns - result) self.old.world self.new.world }
+        ensures over { 0 < result → NoneAlone self.new.world leaf }
     {
         lawful(&self.state.slots);
         turns_alone(&self.fixed, &mut self.state, leaf.index(), turns)

@@ -188,7 +188,7 @@ impl Pool {
         }
     }
 
-    /// RemovesEntry all entries and the table back.
+    /// Gives all entries and the table back to the heap.
     pub fn end<S: ByteStore>(self, store: &mut S, heap: &mut Heap)
         requires { IsPool self heap.old (S.state store.old) }
         ensures ends { Ends self heap.old heap.new (S.state store.old) (S.state store.new) }

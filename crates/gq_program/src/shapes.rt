@@ -1,5 +1,6 @@
 // How the statements but `if` and `loop` are spelled: one table, by the shape of their operands.
 ghost use Rattle.std.specs.Prelude.{◌≡◌, ◌≤◌, option_map};
+ghost use Rattle.gq_model.specs.texts.Operands.{opcode};
 ghost use Rattle.gq_model.specs.texts.Spelling.{spellings, shape_of_word, shape_of_opcode};
 ghost use Rattle.gq_program.specs.Spelling.{operator_word, operator_opcode, bare_instruction, bare_word, bare_opcode, number_instruction};
 ghost use Rattle.gq_program.specs.Spelling.{number_word, number_opcode, number_width, number_low, number_high, slot_instruction, slot_word};
@@ -396,6 +397,38 @@ impl WithAmount {
 }
 
 impl Shape {
+    /// Returns the entry of an instruction.
+    pub fn of(instruction: &Instruction) -> Shape
+        ensures { opcode_of result ≡ opcode instruction.now }
+    {
+        match instruction {
+            Instruction::Say(_) => Shape::Say,
+            Instruction::Out => Shape::Plain(Bare::Out),
+            Instruction::Drop => Shape::Plain(Bare::Drop),
+            Instruction::Dup => Shape::Plain(Bare::Dup),
+            Instruction::Combine(operator) => Shape::Plain(Bare::Combine(*operator)),
+            Instruction::Push(_) => Shape::Number(WithNumber::Push),
+            Instruction::Divide(_) => Shape::Number(WithNumber::Divide),
+            Instruction::Modulo(_) => Shape::Number(WithNumber::Modulo),
+            Instruction::Get(_) => Shape::Number(WithNumber::Get),
+            Instruction::Set(_) => Shape::Number(WithNumber::Set),
+            Instruction::Index(_) => Shape::Number(WithNumber::Index),
+            Instruction::Make(form, _, _) => Shape::Amount(WithAmount::Make(*form)),
+            Instruction::MakePool(_, _, _) => Shape::Pool,
+            Instruction::Free(_) => Shape::Slot(WithSlot::Free),
+            Instruction::Load(width, _) => Shape::Bytes(WithBytes::Load(*width)),
+            Instruction::Store(width, _) => Shape::Bytes(WithBytes::Store(*width)),
+            Instruction::Take(_) => Shape::Slot(WithSlot::Take),
+            Instruction::Give(_) => Shape::Slot(WithSlot::Give),
+            Instruction::Peek(_) => Shape::Slot(WithSlot::Peek),
+            Instruction::Poke(_) => Shape::Slot(WithSlot::Poke),
+            Instruction::Open(_, _, _) => Shape::Open,
+            Instruction::Upgrade(_, _) => Shape::Amount(WithAmount::Upgrade),
+            Instruction::Call(_) => Shape::Slot(WithSlot::Call),
+            Instruction::Close(_) => Shape::Slot(WithSlot::Close),
+        }
+    }
+
     /// The statement's word in text.
     pub fn word(self) -> &'static [u8]
         ensures { result.now ≡ word_of self }
@@ -460,9 +493,26 @@ fn with_opcode(shapes: &[Shape], opcode: u8) -> Option<Shape>
     None
 }
 
-/// The statement with this number in code, if there is one.
+/// The entry that has this number, if any has: the numbers stand in three rows without gaps.
+fn entry_at(opcode: u8) -> Option<Shape> {
+    let before = match opcode {
+        0x00..=0x1f => 0x01,
+        0x20..=0x2f => 0x10,
+        _ => 0x13,
+    };
+    SHAPES
+        .get(usize::from(opcode.saturating_sub(before)))
+        .copied()
+}
+
+/// Returns the statement with this number in code, if there is one. The table is searched only for a number that no statement has.
 pub fn shape_of_opcode(opcode: u8) -> Option<Shape>
     ensures { option_map shape_of result ≡ shape_of_opcode opcode spellings }
 {
+    if let Some(shape) = entry_at(opcode) {
+        if shape.opcode() == opcode {
+            return Some(shape);
+        }
+    }
     with_opcode(&SHAPES, opcode)
 }

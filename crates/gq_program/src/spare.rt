@@ -1,4 +1,5 @@
 // Room of lists of statements that are not needed any more, for those to come.
+// No contract: callers see such room in time and host memory alone; benchmarks and refused growths show it.
 use crate::program::{Body, Kept, Listed, Program, Statement};
 use std::alloc::{AllocError, Global};
 

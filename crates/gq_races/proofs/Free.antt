@@ -4,7 +4,6 @@ use Rattle.std.specs.Prelude.{IsOkAnd}
 use Rattle.std.specs.Io.KnownBytes.{Appends}
 use Rattle.gq_model.specs.machine.Scenario.{Scenario}
 use Rattle.gq_load.specs.Load.{Fault}
-use Rattle.gq_world.specs.Whole.{with_scenario}
 use Rattle.gq_races.specs.Races.{Race, IsRaceFree, races}
 use Rattle.gq_races.specs.Text.{race_text, races_text}
 use Rattle.gq_races.specs.Written.{WroteNothing}
@@ -29,9 +28,3 @@ pub free_told : (r : Result Scenario Fault) (text : List ℕ) (old new : Option 
     → WroteNothing old new → IsOkAnd r IsRaceFree
 free_told (Ok s) text old new h put n = none_told (races s) (sym h ∙ nothing_appended old new text put n)
 free_told (Err fault) text old new h put n = absurd h
-
--- what is told of a scenario that was loaded is what is written
-pub told_text : (told : Scenario → List ℕ) (r : Result Scenario Fault) (text : List ℕ) → IsOkAnd r (λ s. text ≡ told s)
-    → with_scenario r (λ s. Ok (told s)) ≡ Ok text
-told_text told (Ok s) text h = ap Ok (sym h)
-told_text told (Err fault) text h = absurd h

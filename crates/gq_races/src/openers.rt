@@ -3,17 +3,15 @@ ghost use Rattle.std.specs.Prelude.{◌≡◌, ◌≤◌, ◌++◌, ◌∷◌, [
 ghost use Rattle.gq_model.specs.machine.Lists.{any_of};
 ghost use Rattle.gq_model.specs.rules.Use as spec;
 ghost use Rattle.gq_model.specs.rules.Use.{is_there};
-ghost use Rattle.gq_program.specs.Trees.{tree_of};
 ghost use Rattle.gq_resolve.specs.Served as served;
 ghost use Rattle.gq_races.specs.internal.Openers.{first_servers, later_servers, opened_from, servers_of};
 
-use gq_model::program::{Instruction, Name, Section};
-use gq_program::program::{Body, Program, Statement};
+use gq_model::program::{Name, Section};
+use gq_program::program::{Body, Program};
 use gq_resolve::component::Component;
 use gq_resolve::routes::server_of;
-use gq_resolve::services::once;
+use gq_resolve::services::{once, push_opened};
 use gq_scenario::scenario::LeafNo;
-use gq_scenario::tree::copied;
 use std::alloc::{AllocError, Global};
 use std::marker::Model;
 
@@ -30,40 +28,6 @@ impl Model for OpenedFrom {
     ghost Value = { List (Option ℕ) × List (Option ℕ) };
 
     ghost view = { λ o. (o.first.items, o.later.items) };
-}
-
-// Puts the services of the open statements of a list at the end, in the order of the text. A list that asks for nothing opens none.
-#[cycle(opened)]
-fn push_opened(services: &mut Vec<Name>, body: &Body) -> Result<(), AllocError>
-    ensures { OnOk result (services.new.items ≡ services.old.items ++ spec.services_of body.now) }
-{
-    if body.is_quiet() {
-        return Ok(());
-    }
-    for statement in body.statements() {
-        push_opened_in(services, statement)?;
-    }
-    Ok(())
-}
-
-// Puts the services of a statement and those in it at the end.
-#[cycle(opened)]
-fn push_opened_in(services: &mut Vec<Name>, statement: &Statement) -> Result<(), AllocError>
-    ensures { OnOk result (services.new.items ≡ services.old.items ++ spec.services_of (tree_of (statement.now ∷ []))) }
-{
-    match statement {
-        Statement::Plain(instruction) => {
-            if let Instruction::Open(_, service, _) = instruction {
-                services.push(copied(service))?;
-            }
-            Ok(())
-        }
-        Statement::If(arm, other) => {
-            push_opened(services, arm)?;
-            push_opened(services, other)
-        }
-        Statement::Loop(_, body) => push_opened(services, body),
-    }
 }
 
 // The services that a list of statements opens, each once.

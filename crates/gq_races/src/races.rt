@@ -13,7 +13,7 @@ ghost use Rattle.gq_world.specs.Outcomes.{WritesAs};
 
 use crate::changes::push_leaf;
 use crate::openers::{OpenedFrom, all_opened, is_shared};
-use gq_init::counted::{Counted, put};
+use gq_init::counted::Counted;
 use gq_load::accepted::Accepted;
 use gq_load::fault::LoadError;
 use gq_program::program::Program;
@@ -21,6 +21,7 @@ use gq_resolve::NodeTable;
 use gq_resolve::component::{Component, components};
 use gq_scenario::scenario::LeafNo;
 use gq_world::RunFault;
+use gq_world::text::put_text;
 use std::alloc::{AllocError, Global};
 use std::io::Write;
 
@@ -114,8 +115,5 @@ pub fn races<W: Write>(
     ensures free { OnOk result (WroteNothing (written_to W.contents out.old) (written_to W.contents out.new) → IsOkAnd (loaded scenario.now) IsRaceFree) }
 {
     let text = loaded_text(alloc, scenario)?;
-    match put(out, text.as_slice()) {
-        Ok(()) => Ok(()),
-        Err(_) => Err(RunFault::Write),
-    }
+    put_text(out, text.as_slice())
 }

@@ -355,8 +355,8 @@ impl Accounts {
         payer.used.caps -= price;
     }
 
-    /// ClosesAccount an account: its dataspaces are removed, and its quota of both kinds goes to its reference account. `IsRoot` for the root account,
-    /// then `HasMembers` where it is the reference account of another one.
+    /// Closes an account: its dataspaces are removed, and its quota of both kinds goes to its reference account. Fails with `IsRoot` for the root account,
+    /// and with `HasMembers` where it is the reference account of another one; then nothing changes.
     pub fn close(&mut self, account: AccountNo) -> Result<(), AccountFault>
         requires { IsOpen self.old.accounts account.0 }
         ensures closed { OnOk result (ClosesAccount self.old self.new account) }

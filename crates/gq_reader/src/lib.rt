@@ -10,6 +10,7 @@
 pub mod document;
 pub mod hexadecimal;
 mod interfaces;
+pub mod keys;
 pub mod reader;
 pub mod rules;
 mod tables;

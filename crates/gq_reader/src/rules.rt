@@ -57,6 +57,13 @@ pub struct KeyRule<'a> {
     pub value: ValueRule<'a>,
 }
 
+impl<'a> Default for KeyRule<'a> {
+    // What stands in the free places of a list of rules.
+    fn default() -> KeyRule<'a> {
+        optional(Key::Version, ValueRule::Text)
+    }
+}
+
 /// A required key.
 pub fn required<'a>(key: Key, value: ValueRule<'a>) -> KeyRule<'a>
     ensures { rule_of result ≡ required (key_text key) (fits_of value.entry) }
@@ -292,8 +299,8 @@ fn has_any(table: &Table, keys: &[Key]) -> bool
     false
 }
 
-// Whether one of the rules is for this key.
-fn is_ruled(rules: &[KeyRule], text: &str) -> bool
+/// Whether one of the rules is for this key.
+pub fn is_ruled(rules: &[KeyRule], text: &str) -> bool
     ensures { result ≡ any_of (λ r. text_eq text.now r.key) (map rule_of rules.now) }
 {
     for rule in rules {
@@ -317,8 +324,8 @@ fn unknown_key(rules: &[KeyRule], table: &Table) -> Option<ScenarioFault>
     None
 }
 
-// Whether a required key is missing, and each that can stand in its place too.
-fn is_missing(rule: &KeyRule, table: &Table) -> bool
+/// Whether a required key is missing, and each that can stand in its place too.
+pub fn is_missing(rule: &KeyRule, table: &Table) -> bool
     ensures { result ≡ (rule.now.required && not (any_of (has (table_view table.now)) (key_text rule.now.key ∷ map key_text rule.now.instead.now))) }
 {
     rule.required && !(has(table, rule.key) || has_any(table, rule.instead))
@@ -336,8 +343,8 @@ fn missing_key(rules: &[KeyRule], table: &Table) -> Option<ScenarioFault>
     None
 }
 
-// Whether a key is there with a bad value, or beside one with which it can not stand.
-fn is_bad(rule: &KeyRule, table: &Table) -> bool
+/// Whether a key is there with a bad value, or beside one with which it can not stand.
+pub fn is_bad(rule: &KeyRule, table: &Table) -> bool
     ensures { result ≡ is_bad (rule_of rule.now) (table_view table.now) (get_member (key_text rule.now.key) (table_view table.now)) }
 {
     match value_at(table, rule.key) {

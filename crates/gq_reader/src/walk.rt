@@ -11,9 +11,10 @@ ghost use Rattle.gq_scenario.specs.Keys.{TooDeep};
 ghost use Rattle.gq_scenario.specs.Reading.{document_text};
 ghost use Rattle.gq_scenario.specs.Words.{key_text, scenario_fault_text, SameFault};
 
-use crate::rules::{GREATEST_NUMBER, ValueRule, either, optional, other, required, table_fault};
-use crate::value::{count_at, has, list_at, number_of, table_at, text_at, value_at};
-use gq_model::limits::{GREATEST_CAPS, GREATEST_NODE_DEPTH};
+use crate::keys::{init_rules, interface_rules, leaf_rules, route_rules, top_rules};
+use crate::rules::table_fault;
+use crate::value::{has, list_at, number_of, table_at, text_at, value_at};
+use gq_model::limits::GREATEST_NODE_DEPTH;
 use gq_model::program::Name;
 use gq_scenario::fault::ScenarioFault;
 use gq_scenario::key::Key;
@@ -37,47 +38,14 @@ pub fn version_of(top: &Table) -> Version
 fn top_fault(version: Version, top: &Table) -> Option<ScenarioFault>
     ensures { SameFault result (table_fault (top_keys (version_number version)) (table_view top.now)) }
 {
-    let number = required(Key::Version, ValueRule::Number(1, 2));
-    let ram = required(Key::Ram, ValueRule::Total);
-    let caps = required(Key::Caps, ValueRule::Number(1, GREATEST_CAPS));
-    let routes = optional(Key::DefaultRoute, ValueRule::Tables);
-    let interfaces = optional(Key::Interface, ValueRule::NamedTables);
-    let start = required(Key::Start, ValueRule::Tables);
-    match version {
-        Version::One => table_fault(&[number, ram, routes, interfaces, start], top),
-        Version::Two => table_fault(&[number, ram, caps, routes, interfaces, start], top),
-    }
+    table_fault(top_rules(version).as_slice(), top)
 }
 
 // The first fault of an interface's table.
 fn interface_fault(version: Version, table: &Table) -> Option<ScenarioFault>
     ensures { SameFault result (table_fault (interface_keys (version_number version) (table_view table.now)) (table_view table.now)) }
 {
-    let arg = required(Key::Arg, ValueRule::Number(0, GREATEST_NUMBER));
-    let reply = required(Key::Reply, ValueRule::Number(0, GREATEST_NUMBER));
-    let need = required(Key::Need, ValueRule::Quantity(0, GREATEST_NUMBER));
-    let need_caps = required(Key::NeedCaps, ValueRule::Number(0, GREATEST_CAPS));
-    let object = optional(Key::Object, ValueRule::Quantity(0, 65536));
-    let upgrades = optional(Key::Upgrades, ValueRule::Upgrades);
-    let count = count_at(table, Key::Upgrades);
-    let upgrade_caps = optional(Key::UpgradeCaps, ValueRule::Counts(count));
-    let buffer = optional(Key::Buffer, ValueRule::Quantity(0, 1048576));
-    match version {
-        Version::One => table_fault(&[arg, reply, need, object, upgrades, buffer], table),
-        Version::Two => {
-            let rules = [
-                arg,
-                reply,
-                need,
-                need_caps,
-                object,
-                upgrades,
-                upgrade_caps,
-                buffer,
-            ];
-            table_fault(&rules, table)
-        }
-    }
+    table_fault(interface_rules(version, table).as_slice(), table)
 }
 
 // The first fault of the interfaces' tables, in the order of their names.
@@ -109,18 +77,7 @@ fn declared_fault(version: Version, interfaces: Option<&Table>) -> Option<Scenar
 fn route_fault(table: &Table) -> Option<ScenarioFault>
     ensures { SameFault result (table_fault route_keys (table_view table.now)) }
 {
-    let rules = [
-        either(Key::Service, &[Key::AnyService], ValueRule::NameText),
-        other(Key::AnyService, &[Key::Service], ValueRule::True),
-        either(
-            Key::Child,
-            &[Key::AnyChild, Key::Parent],
-            ValueRule::NameText,
-        ),
-        other(Key::AnyChild, &[Key::Child], ValueRule::True),
-        other(Key::Parent, &[Key::Child, Key::AnyChild], ValueRule::True),
-    ];
-    table_fault(&rules, table)
+    table_fault(route_rules().as_slice(), table)
 }
 
 // The first fault of the routes at a key.
@@ -142,16 +99,7 @@ fn routes_fault(key: Key, table: &Table) -> Option<ScenarioFault>
 fn init_fault(version: Version, table: &Table) -> Option<ScenarioFault>
     ensures { SameFault result (table_fault (init_keys (version_number version)) (table_view table.now)) }
 {
-    let name = required(Key::Name, ValueRule::NameText);
-    let quantum = required(Key::Quantum, ValueRule::Quantity(0, 1 << 40));
-    let caps = required(Key::Caps, ValueRule::Number(0, GREATEST_CAPS));
-    let routes = optional(Key::Route, ValueRule::Tables);
-    let start = required(Key::Start, ValueRule::Tables);
-    let default_routes = optional(Key::DefaultRoute, ValueRule::Tables);
-    match version {
-        Version::One => table_fault(&[name, quantum, routes, start, default_routes], table),
-        Version::Two => table_fault(&[name, quantum, caps, routes, start, default_routes], table),
-    }
+    table_fault(init_rules(version).as_slice(), table)
 }
 
 // The first fault of a leaf's table, among these interfaces.
@@ -160,24 +108,7 @@ fn leaf_fault(version: Version, interfaces: Option<&Table>, table: &Table) -> Op
         (table_fault (leaf_keys (version_number version) (keys_of (entries_or_none (option_map (λ t. table_view t.now) interfaces.entry))))
         (table_view table.now)) }
 {
-    let name = required(Key::Name, ValueRule::NameText);
-    let quantum = required(Key::Quantum, ValueRule::Quantity(0, 1 << 40));
-    let caps = required(Key::Caps, ValueRule::Number(0, GREATEST_CAPS));
-    let routes = optional(Key::Route, ValueRule::Tables);
-    let provides = optional(Key::Provides, ValueRule::Declared(interfaces));
-    let after = optional(Key::After, ValueRule::NameText);
-    let program = either(Key::Program, &[Key::Code], ValueRule::Text);
-    let code = other(Key::Code, &[Key::Program], ValueRule::Hex);
-    match version {
-        Version::One => {
-            let rules = [name, quantum, routes, provides, after, program, code];
-            table_fault(&rules, table)
-        }
-        Version::Two => {
-            let rules = [name, quantum, caps, routes, provides, after, program, code];
-            table_fault(&rules, table)
-        }
-    }
+    table_fault(leaf_rules(version, interfaces).as_slice(), table)
 }
 
 // The first fault of a node's own table: one with `start` is an init.
@@ -206,15 +137,22 @@ fn own_fault(version: Version, interfaces: Option<&Table>, table: &Table) -> Opt
     routes_fault(Key::DefaultRoute, table)
 }
 
-// The fault of a node that is too deep. It is told with a name that is one.
-fn too_deep(value: &Value) -> ScenarioFault
-    ensures { scenario_fault_text result ≡ document_text (TooDeep (name_at (members_of (view value.now)))) }
+/// The fault of a node of this table that is too deep. It is told with a name that is one.
+pub fn too_deep(table: &Table) -> ScenarioFault
+    ensures { scenario_fault_text result ≡ document_text (TooDeep (name_at (table_view table.now))) }
 {
-    let Some(table) = value.as_table() else {
-        return ScenarioFault::TooDeep(None);
-    };
     match text_at(table, Key::Name) {
         Some(name) => ScenarioFault::TooDeep(Name::new(name.as_bytes())),
+        None => ScenarioFault::TooDeep(None),
+    }
+}
+
+// The fault of a value that is too deep.
+fn deep_fault(value: &Value) -> ScenarioFault
+    ensures { scenario_fault_text result ≡ document_text (TooDeep (name_at (members_of (view value.now)))) }
+{
+    match value.as_table() {
+        Some(table) => too_deep(table),
         None => ScenarioFault::TooDeep(None),
     }
 }
@@ -231,7 +169,7 @@ fn node_fault(
         (members_of (view value.now))) }
 {
     if levels == 0 {
-        return Some(too_deep(value));
+        return Some(deep_fault(value));
     }
     let Some(table) = value.as_table() else {
         return Some(ScenarioFault::MissingKey(Key::Name));

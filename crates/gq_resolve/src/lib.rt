@@ -29,7 +29,7 @@ pub mod routes;
 pub mod routing;
 pub mod services;
 pub mod table;
-mod unrouted;
+pub mod unrouted;
 
 pub use resolved::{resolve, resolve_components, resolve_opened};
 pub use table::NodeTable;

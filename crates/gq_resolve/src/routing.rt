@@ -82,8 +82,8 @@ fn is_service(provided: Option<&Name>, service: &Name) -> bool
     }
 }
 
-// Whether a route is for this service: one for any is.
-fn fits(route: &Route, service: &Name) -> bool
+/// Whether a route is for this service: one for any is.
+pub fn fits(route: &Route, service: &Name) -> bool
     ensures { result ≡ fits route.now.service service.now }
 {
     match route.service() {
@@ -117,8 +117,8 @@ fn child_named<'a>(name: &'a Name, service: &Name, siblings: &Nodes) -> Result<&
     Err(RouteFault::NoRoute)
 }
 
-// The name of a node, where it is a leaf that provides the service.
-pub(crate) fn provider<'a>(node: &'a Node, service: &Name) -> Option<&'a Name>
+/// The name of a node, where it is a leaf that provides the service.
+pub fn provider<'a>(node: &'a Node, service: &Name) -> Option<&'a Name>
     ensures { name_found result ≡ providers service.now (nodes_of (node.now ∷ [])) }
 {
     match node {

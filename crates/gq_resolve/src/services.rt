@@ -15,11 +15,12 @@ use gq_scenario::lines::same_bytes;
 use gq_scenario::tree::copied;
 use std::alloc::{AllocError, Global};
 
-// Puts the services of the open statements of a list at the end, in the order of the text. A list that asks for nothing opens none.
+/// Puts the services of the open statements of a list at the end, in the order of the text. Fails only if the host refuses memory.
 #[cycle(opened)]
-fn push_opened(services: &mut Vec<Name>, body: &Body) -> Result<(), AllocError>
+pub fn push_opened(services: &mut Vec<Name>, body: &Body) -> Result<(), AllocError>
     ensures { OnOk result (services.new.items ≡ services.old.items ++ services_of body.now) }
 {
+    // A list that asks for nothing opens nothing.
     if body.is_quiet() {
         return Ok(());
     }

@@ -20,8 +20,8 @@ use gq_program::program::Program;
 use gq_scenario::tree::copied;
 use std::alloc::{AllocError, Global};
 
-// The fault of a leaf's service that leads nowhere.
-fn unrouted(why: RouteFault, leaf: &Name, service: &Name) -> ResolveFault
+/// The fault of a leaf's service that leads nowhere.
+pub fn unrouted(why: RouteFault, leaf: &Name, service: &Name) -> ResolveFault
     ensures { fault_of result ≡ Unrouted (routed_not why) leaf.now service.now }
 {
     let leaf = copied(leaf);

@@ -1,6 +1,6 @@
 // The rule of a code.
-ghost use Rattle.std.specs.Prelude.{◌≡◌, find, option_map};
-ghost use Rattle.gq_rule_texts.specs.Rules.{is_code, rule_of};
+ghost use Rattle.std.specs.Prelude.{◌≡◌, find, option_map, true};
+ghost use Rattle.gq_rule_texts.specs.Rules.{is_code, is_table, rule_of};
 
 use crate::limits::{BUDGETS, STEPS, TURNS};
 use crate::program::{CODE, TEXT};
@@ -35,8 +35,10 @@ macro_rules! entry {
 
 pub(crate) use entry;
 
-/// The table, family by family: the codes of S, M, C, V, B, U and X.
-pub fn families() -> [&'static [Rule]; 7] {
+/// Returns the table of the program, family by family: the codes of S, M, C, V, B, U and X, in each of which they rise.
+pub fn families() -> [&'static [Rule]; 7]
+    ensures { is_table result ≡ true }
+{
     [&SCENARIO, &TEXT, &CODE, &VERIFIER, &BUDGETS, &TURNS, &STEPS]
 }
 

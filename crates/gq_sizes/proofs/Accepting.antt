@@ -32,7 +32,8 @@ use Rattle.gq_sizes.specs.Size.{Gift, all_gifts, refusal_without, own_by, least_
 use Rattle.gq_sizes.specs.Size.{section_points}
 use Rattle.gq_program.specs.Interfaces.{unbounded}
 use Rattle.gq_scenario.specs.Unsized.{unsized}
-use Rattle.gq_sizes.specs.Least.{caps_of, sum_at, sized, NoneShort, IsSettled, HasWholePages, IsAcceptedSized}
+use Rattle.gq_sizes.specs.Least.{caps_of, sum_at, sized, NoneShort, HasWholePages, IsAcceptedSized}
+use Rattle.gq_sizes.proofs.Ending.{IsSettled}
 use Rattle.gq_sizes.proofs.Enough.{sufficient}
 use Rattle.gq_sizes.proofs.Fitting.{IsFree, IsSufficient, HasLevel, found_least, found_free, map_length, fits_least, allows, along, settled_caps}
 use Rattle.gq_sizes.proofs.Fitting as fitting

@@ -23,6 +23,7 @@ use Rattle.gq_sizes.proofs.Fitting.{found_least, sums_rise}
 use Rattle.gq_sizes.proofs.Needing.{Counts, caps_within}
 use Rattle.gq_sizes.proofs.Freed_scenarios.{found_both}
 use Rattle.gq_sizes.proofs.Giving.{sum_same, sums_small, nothing_short}
+use Rattle.gq_sizes.proofs.Rounding.{none_endless}
 use Rattle.gq_sizes.proofs.Starting.{place_small, children_small, hands}
 
 -- EACH SCENARIO IS AS ITSELF
@@ -190,4 +191,9 @@ module _ (t s : Scenario) (sound : IsSound t) (alike : ScenariosAsOne t s) where
 
 -- the law of a scenario itself
 pub has_least : (s : Scenario) → IsSound s → HasWholePages s → HasLeast s
-has_least s sound pages = record { opens = nothing_short s s sound (self s); numbers = are_enough s s sound (self s) pages }
+has_least s sound pages =
+    record {
+      opens = nothing_short s s sound (self s);
+      ends = none_endless s s sound (self s);
+      numbers = are_enough s s sound (self s) pages;
+    }

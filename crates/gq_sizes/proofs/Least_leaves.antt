@@ -28,7 +28,7 @@ use Rattle.gq_verify.specs.Counting.{saturated}
 use Rattle.gq_verify.specs.Visits.{most_shown, section_sights, sights_by, slots_of}
 use Rattle.gq_verify.proofs.Shown.{most_of_section}
 use Rattle.gq_sizes.specs.Size.{Given, children_least, is_named, least_caps, leaf_least, own_by, quantum_of, section_points, slots_cost, starts_after}
-use Rattle.gq_sizes.specs.Size_text.{init_least_told, leaf_least_told}
+use Rattle.gq_sizes.specs.internal.Told.{init_least_told, leaf_least_told}
 use Rattle.gq_sizes.specs.Tables.{IsLeast, leasts_from, own_least}
 use Rattle.gq_sizes.proofs.Saturating.{greatest_saturated, saturated_both, saturated_own}
 use Rattle.gq_sizes.proofs.Slot_costs.{slots_ram}
@@ -53,7 +53,7 @@ most_by f slots v zero_is None is =
     let none : greatest f (points (context v Main) (start_of v Main) Done) ≡ 0 = omega (arith, zero_is) in
     ap (λ o. greatest f (points (context v Main) (start_of v Main) (body_of o))) is ∙ (none ∙ ap (λ o. most_shown f (sights_by v Main o)) (sym is))
 
-most_of_main : (f : State → ℕ) → ((s : State) → f (slots_of s) ≡ f s) → (v : Subject) → f (start_of v Main) ≡ 0 →
+pub most_of_main : (f : State → ℕ) → ((s : State) → f (slots_of s) ≡ f s) → (v : Subject) → f (start_of v Main) ≡ 0 →
     greatest f (section_points v Main) ≡ most_shown f (section_sights v Main)
 most_of_main f slots v zero_is = most_by f slots v zero_is (section_in Main v.program.sections) refl
 

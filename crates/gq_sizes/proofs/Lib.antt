@@ -43,3 +43,10 @@ pub mod Sized_nodes
 pub mod Accepting
 pub mod Judged_scenarios
 pub mod Rounding
+pub mod Ending
+pub mod Finding
+pub mod Longer
+pub mod Beside
+pub mod Judged_texts
+mod Sized_rows
+pub mod Leaves_endless

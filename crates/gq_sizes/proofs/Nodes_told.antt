@@ -1,5 +1,5 @@
 -- The lines of nodes as a text that grows at its end, and what the whole system needs.
-use Rattle.std.proofs.Common.{◌≡◌, ◌∙◌, ℕ, suc, ◌+◌, ◌<◌, max, List, [], ◌∷◌, ◌++◌, length, get_or, drop}
+use Rattle.std.proofs.Common.{◌≡◌, ◌∙◌, ℕ, suc, ◌+◌, ◌<◌, max, Option, List, [], ◌∷◌, ◌++◌, length, get_or, drop}
 use Rattle.std.proofs.Common.{ap, ap₂, sym, arith, append-nil, append_assoc, Result, Ok, Err, OnOk}
 use Rattle.gq_tariff.specs.Prices.{up}
 use Rattle.gq_model.specs.machine.Accounts.{leaf_count}
@@ -12,18 +12,27 @@ use Rattle.gq_scenario.specs.declared.scenario.Node.TheVariants.{Leaf, Init}
 use Rattle.gq_scenario.proofs.Tree_counts.{nodes_drop}
 use Rattle.gq_verify.specs.Counting.{saturated}
 use Rattle.gq_sizes.specs.Size.{children_least}
-use Rattle.gq_sizes.specs.Size_text.{init_least_told, leaf_least_told, node_line, node_lines, root_least_told}
+use Rattle.gq_sizes.specs.Endless.{children_endless, endless_at}
+use Rattle.gq_sizes.specs.Size_text.{node_line, unless}
+use Rattle.gq_sizes.specs.internal.Told.{init_least_told, leaf_least_told, node_lines, root_least_told}
 
 module _ (v : ℕ) (all : System) (label : List ℕ) where
+  abbrev leaf_line : ℕ → List ℕ → Amount → List ℕ
+  leaf_line x there quantum = node_line v there quantum (leaf_least_told all x).ram (unless (endless_at all x) (leaf_least_told all x).caps)
+
+  abbrev init_line : ℕ → Nodes → List ℕ → Amount → List ℕ
+  init_line x children there quantum =
+      node_line v there quantum (init_least_told all x children).ram (unless (children_endless all x children) (init_least_told all x children).caps)
+
   -- the lines of a node, and of what follows it
   lines_split : (x : ℕ) (node : Node) (rest : Nodes) → node_lines v all label x (before node rest) ≡
       node_lines v all label x (nodes_of (node ∷ [])) ++ node_lines v all label (x + leaf_count (nodes_of (node ∷ []))) rest
   lines_split x (Leaf node) rest =
-      let first = node_line v (below label node.name) node.quantum (leaf_least_told all x) in
+      let first = leaf_line x (below label node.name) node.quantum in
       let e : suc x ≡ x + 1 = omega arith in
       ap (λ n. first ++ node_lines v all label n rest) e ∙ ap (λ l. l ++ node_lines v all label (x + 1) rest) (sym (append-nil first))
   lines_split x (Init node children) rest =
-      let first = node_line v (below label node.name) node.quantum (init_least_told all x children) ++ node_lines v all (below label node.name) x children in
+      let first = init_line x children (below label node.name) node.quantum ++ node_lines v all (below label node.name) x children in
       let e : x + leaf_count children ≡ x + (leaf_count children + 0) = omega arith in
       ap (λ n. first ++ node_lines v all label n rest) e
       ∙ ap (λ l. l ++ node_lines v all label (x + (leaf_count children + 0)) rest) (sym (append-nil first))
@@ -40,25 +49,26 @@ module _ (v : ℕ) (all : System) (label : List ℕ) where
       put (here ∙ ap (λ n. node_lines v all label x (nodes_of (node ∷ [])) ++ node_lines v all label n rest) (sym at)) inv
 
   -- the line of a leaf alone
-  pub leaf_alone : (leaf : LeafNode) (node : Node) → node ≡ Leaf leaf → (x : ℕ) (there : List ℕ) (quantum least : Amount) (old more : List ℕ) →
-      there ≡ below label leaf.name → quantum ≡ leaf.quantum → least ≡ leaf_least_told all x → more ≡ old ++ node_line v there quantum least →
+  pub leaf_alone : (leaf : LeafNode) (node : Node) → node ≡ Leaf leaf → (x : ℕ) (there : List ℕ) (quantum : Amount) (ram : ℕ) (caps : Option ℕ)
+      (old more : List ℕ) → there ≡ below label leaf.name → quantum ≡ leaf.quantum → ram ≡ (leaf_least_told all x).ram →
+      caps ≡ unless (endless_at all x) (leaf_least_told all x).caps → more ≡ old ++ node_line v there quantum ram caps →
       more ≡ old ++ node_lines v all label x (nodes_of (node ∷ []))
-  leaf_alone leaf node e x there quantum least old more named q l put =
+  leaf_alone leaf node e x there quantum ram caps old more named q rams capss put =
       put
-      ∙ ((λ j. old ++ node_line v (named j) (q j) (l j))
-      ∙ (ap (λ t. old ++ t) (sym (append-nil (node_line v (below label leaf.name) leaf.quantum (leaf_least_told all x))))
+      ∙ ((λ j. old ++ node_line v (named j) (q j) (rams j) (capss j))
+      ∙ (ap (λ t. old ++ t) (sym (append-nil (leaf_line x (below label leaf.name) leaf.quantum)))
       ∙ ap (λ n. old ++ node_lines v all label x (nodes_of (n ∷ []))) (sym e)))
 
   -- those of an init alone
   init_alone : (init : InitNode) (children : Nodes) (node : Node) → node ≡ Init init children → (x : ℕ) (there : List ℕ) (quantum : Amount)
       (old more : List ℕ) → there ≡ below label init.name → quantum ≡ init.quantum →
-      more ≡ (old ++ node_line v there quantum (init_least_told all x children)) ++ node_lines v all there x children →
+      more ≡ (old ++ init_line x children there quantum) ++ node_lines v all there x children →
       more ≡ old ++ node_lines v all label x (nodes_of (node ∷ []))
   init_alone init children node e x there quantum old more named q put =
-      let first = node_line v (below label init.name) init.quantum (init_least_told all x children) in
+      let first = init_line x children (below label init.name) init.quantum in
       let second = node_lines v all (below label init.name) x children in
       put
-      ∙ ((λ j. (old ++ node_line v (named j) (q j) (init_least_told all x children)) ++ node_lines v all (named j) x children)
+      ∙ ((λ j. (old ++ init_line x children (named j) (q j)) ++ node_lines v all (named j) x children)
       ∙ (append_assoc old first second
       ∙ (ap (λ t. old ++ t) (sym (append-nil (first ++ second)))
       ∙ ap (λ n. old ++ node_lines v all label x (nodes_of (n ∷ []))) (sym e))))
@@ -78,7 +88,7 @@ root_is all nodes needed e =
 -- where it was not refused
 pub init_alone_put : {A E : Type 0} → (r : Result A E) (v : ℕ) (all : System) (label : List ℕ) (init : InitNode) (children : Nodes) (node : Node) →
     node ≡ Init init children → (x : ℕ) (there : List ℕ) (quantum : Amount) (old more : List ℕ) → there ≡ below label init.name → quantum ≡ init.quantum →
-    OnOk r (more ≡ (old ++ node_line v there quantum (init_least_told all x children)) ++ node_lines v all there x children) →
+    OnOk r (more ≡ (old ++ init_line v all label x children there quantum) ++ node_lines v all there x children) →
     OnOk r (more ≡ old ++ node_lines v all label x (nodes_of (node ∷ [])))
 init_alone_put (Ok a) v all label init children node e x there quantum old more named q put =
     init_alone v all label init children node e x there quantum old more named q put

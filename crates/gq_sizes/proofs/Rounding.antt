@@ -1,20 +1,22 @@
--- Of a scenario that is accepted: what sessions need in capabilities is told at the end of all chains of uses. A session needs more than those that it holds,
--- by
+-- Of a scenario that is accepted: no chain of sessions, each held by the one before it, goes on without end. A session needs more than those that it holds, by
 -- its object, so along such a chain no level of a service comes twice.
-use Rattle.std.proofs.Common.{◌≡◌, ℕ, zero, suc, ◌+◌, ◌*◌, ◌≤◌, ◌<◌, eqb, eqb-true, ◌⊎◌, inl, inr, Bool, true, false, List, [], ◌∷◌, length, Option, Some, None}
-use Rattle.std.proofs.Common.{refl, ap, sym, ◌∙◌, subst, arith}
-use Rattle.std.specs.Prelude.{slice_get, sum_by, if◌then◌else◌}
+use Rattle.std.proofs.Common.{◌≡◌, ℕ, zero, suc, ◌+◌, ◌*◌, ◌≤◌, ◌<◌, ◌&&◌, ◌||◌, eqb, eqb-true, ◌⊎◌, inl, inr, Bool, true, false, List, [], ◌∷◌, length, Option}
+use Rattle.std.proofs.Common.{Some, None, refl, ap, ap₂, sym, ◌∙◌, subst, arith}
+use Rattle.std.specs.Prelude.{slice_get, sum_by, if◌then◌else◌, is_some}
 use Rattle.std.specs.List.{list_any}
 use Rattle.std.proofs.lemmas.Bool.{false≢true, or_cases}
 use Rattle.std.proofs.lemmas.List.Sums.{sum_by-cons}
 use Rattle.std.proofs.lemmas.Option.{slice_get_within}
+use Rattle.gq_model.specs.machine.Accounts.{leaf_count}
 use Rattle.gq_model.specs.machine.Amounts.{Caps, part}
 use Rattle.gq_model.specs.declared.program.Section.{Section}
+use Rattle.gq_model.specs.declared.program.Section.TheVariants.{Main}
 use Rattle.gq_model.specs.declared.program.Form.TheVariants.{Slice}
-use Rattle.gq_model.specs.machine.Lists.{greatest}
+use Rattle.gq_model.specs.machine.Lists.{any_of}
 use Rattle.gq_model.specs.machine.Prices.{price_memory}
 use Rattle.gq_model.specs.machine.Program.{Statements, text_eq}
-use Rattle.gq_model.specs.machine.Scenario.{Interface, Interfaces, Component, LeafNode, Scenario, System, system, interface_in, service_in, number_of}
+use Rattle.gq_model.specs.machine.Scenario.{Interface, Interfaces, Component, LeafNode, Nodes, End, Leaf_node, Init_node, Scenario, System, system}
+use Rattle.gq_model.specs.machine.Scenario.{interface_in, service_in, number_of}
 use Rattle.gq_model.specs.rules.Kinds.{Kind, Empty_kind, Memory, Pool_kind, Link_kind, State, level_of, kind_price, kind_lent, kinds_cost, need_of}
 use Rattle.gq_model.specs.rules.Kinds as kinds
 use Rattle.gq_model.specs.rules.Use.{subject}
@@ -25,77 +27,90 @@ use Rattle.gq_laws.specs.internal.Holding.{Covers}
 use Rattle.gq_laws.proofs.verified.Chains.{Chain, chain_short}
 use Rattle.gq_sizes.specs.Alike.{AreAsOne, AllAsOne, KindsAsOne, BanksAsOne, StatesAsOne, PointsAsOne, ProvideAsOne, ScenariosAsOne, caps_for, caps_needed}
 use Rattle.gq_sizes.specs.Alike.{levels_for}
-use Rattle.gq_sizes.specs.Size.{Given, slot_cost, slots_cost, session_cost, section_points, is_up_to, is_named, leaf_needed, needed, caps_sum, least_caps}
-use Rattle.gq_sizes.specs.Size.{rounds, sum_in}
-use Rattle.gq_program.specs.Interfaces.{unbounded}
+use Rattle.gq_sizes.specs.Endless.{Test, leads, leaf_holds, holds, goes_on, is_endless, own_endless, passes, leaf_endless, endless_at, at_start}
+use Rattle.gq_sizes.specs.Endless.{children_endless, NodesEnd, NoneEndless}
+use Rattle.gq_sizes.specs.Size.{section_points, is_up_to, is_named, rounds, starts_after}
 use Rattle.gq_scenario.specs.Unsized.{unsized}
-use Rattle.gq_sizes.specs.Least.{IsSettled}
 use Rattle.gq_sizes.proofs.Costing.{both_sums}
-use Rattle.gq_sizes.proofs.Fitting.{found_free}
 use Rattle.gq_sizes.proofs.Freed_scenarios.{pair_of, found_both}
 use Rattle.gq_sizes.proofs.Meeting.{Each}
 use Rattle.gq_sizes.proofs.Needing.{counts_of, need_upward, both, interfaces, points_so, points_paid, named_is}
+use Rattle.gq_sizes.proofs.Starting.{after_there}
 use Rattle.gq_model.proofs.Section_laws.{section_found}
 use Rattle.gq_sizes.proofs.Section_levels.{outside_main}
 
 -- LISTS
 
-greatest_step : {A : Type 0} (f g : A → ℕ) (xs : List A) → ((x : ℕ) (a : A) → slice_get xs x ≡ Some a → f a ≤ g a) → greatest f xs ≤ greatest g xs
-greatest_step f g [] h = omega arith
-greatest_step f g (a ∷ xs) h =
-    let r = greatest_step f g xs (λ x b e. h (suc x) b e) in let e = h 0 a refl in grind (arith, r, e)
+any_none : {A : Type 0} (f : A → Bool) (xs : List A) → ((x : ℕ) (a : A) → slice_get xs x ≡ Some a → f a ≡ false) → any_of f xs ≡ false
+any_none f [] h = refl
+any_none f (a ∷ xs) h = ap₂ (λ b c. b || c) (h 0 a refl) (any_none f xs (λ x b e. h (suc x) b e))
 
-points_step : (xs ys : Interfaces) (P : State → Type 0) (f g : State → ℕ) (ss ts : List State) → ((s t : State) → StatesAsOne xs ys s t → P s → f t ≤ g t)
-    → PointsAsOne xs ys ss ts → Each P ss → greatest f ts ≤ greatest g ts
-points_step xs ys P f g [] [] so h e = omega arith
-points_step xs ys P f g [] (t ∷ ts) so h e = absurd h
-points_step xs ys P f g (s ∷ ss) [] so h e = absurd h
-points_step xs ys P f g (s ∷ ss) (t ∷ ts) so h e =
-    let r = points_step xs ys P f g ss ts so h.1 e.1 in let a = so s t h.0 e.0 in grind (arith, r, a)
+when_none : (b c : Bool) → (b ≡ true → c ≡ false) → (b && c) ≡ false
+when_none true c h = h refl
+when_none false c h = refl
 
--- COSTS
+points_none : (xs ys : Interfaces) (P : State → Type 0) (f : State → Bool) (ss ts : List State) → ((s t : State) → StatesAsOne xs ys s t → P s → f t ≡ false)
+    → PointsAsOne xs ys ss ts → Each P ss → any_of f ts ≡ false
+points_none xs ys P f [] [] so h e = refl
+points_none xs ys P f [] (t ∷ ts) so h e = absurd h
+points_none xs ys P f (s ∷ ss) [] so h e = absurd h
+points_none xs ys P f (s ∷ ss) (t ∷ ts) so h e = ap₂ (λ b c. b || c) (so s t h.0 e.0) (points_none xs ys P f ss ts so h.1 e.1)
 
--- where no more is taken for a link whose session needs less than `top`, a session that costs so much costs no more
-module _ (xs ys : Interfaces) (more less : Given) (top : ℕ)
-    (fewer : (service : List ℕ) (l : ℕ) → l ≤ levels_for xs service → caps_for xs service l < top → more service l ≤ less service l) where
-  kind_step : (k l : Kind) → KindsAsOne xs ys k l → kind_price Caps k + kind_lent Caps k < top → slot_cost more Caps l ≤ slot_cost less Caps l
-  kind_step Empty_kind l e h = subst (λ x. slot_cost more Caps x ≤ slot_cost less Caps x) (sym e) (omega arith)
-  kind_step (Memory form n) l e h = subst (λ x. slot_cost more Caps x ≤ slot_cost less Caps x) (sym e) (omega arith)
-  kind_step (Pool_kind n m) l e h = subst (λ x. slot_cost more Caps x ≤ slot_cost less Caps x) (sym e) (omega arith)
-  kind_step (Link_kind s l a) Empty_kind e h = absurd e
-  kind_step (Link_kind s l a) (Memory form n) e h = absurd e
-  kind_step (Link_kind s l a) (Pool_kind n m) e h = absurd e
-  kind_step (Link_kind s l a) (Link_kind t m b) e h =
-      let is = e.3 in
-      let small = fewer s l e.5 (omega (arith, is, h)) in
-      let x : more s l ≡ more t m = (λ i. more (e.0 i) (e.1 i)) in
-      let y : less s l ≡ less t m = (λ i. less (e.0 i) (e.1 i)) in
-      omega (arith, small, x, y)
+own_none : (xs ys : Interfaces) (f : State → Bool) (ss ts : List State) → ((s t : State) → StatesAsOne xs ys s t → f t ≡ false)
+    → PointsAsOne xs ys ss ts → any_of f ts ≡ false
+own_none xs ys f [] [] so h = refl
+own_none xs ys f [] (t ∷ ts) so h = absurd h
+own_none xs ys f (s ∷ ss) [] so h = absurd h
+own_none xs ys f (s ∷ ss) (t ∷ ts) so h = ap₂ (λ b c. b || c) (so s t h.0) (own_none xs ys f ss ts so h.1)
 
-  bank_step : (ks ls : List Kind) → BanksAsOne xs ys ks ls → kinds_cost Caps ks < top → slots_cost more Caps ls ≤ slots_cost less Caps ls
-  bank_step ks ls b h = let e = both_sums Caps ks in by ks ls b (omega (arith, e, h))
+-- LINKS
+
+-- where no session passes at a level that it has
+module _ (xs ys : Interfaces) (test : Test) (never : (service : List ℕ) (l : ℕ) → l ≤ levels_for xs service → test service l ≡ false) where
+  kind_never : (k l : Kind) → KindsAsOne xs ys k l → leads test l ≡ false
+  kind_never Empty_kind l e = ap (leads test) e
+  kind_never (Memory form n) l e = ap (leads test) e
+  kind_never (Pool_kind n m) l e = ap (leads test) e
+  kind_never (Link_kind s l a) Empty_kind e = absurd e
+  kind_never (Link_kind s l a) (Memory form n) e = absurd e
+  kind_never (Link_kind s l a) (Pool_kind n m) e = absurd e
+  kind_never (Link_kind s l a) (Link_kind t m b) e = sym (λ i. test (e.0 i) (e.1 i)) ∙ never s l e.5
+
+  pub bank_never : (ks ls : List Kind) → BanksAsOne xs ys ks ls → any_of (leads test) ls ≡ false
+  bank_never [] [] b = refl
+  bank_never [] (l ∷ ls) b = absurd b
+  bank_never (k ∷ ks) [] b = absurd b
+  bank_never (k ∷ ks) (l ∷ ls) b = ap₂ (λ b c. b || c) (kind_never k l b.0) (bank_never ks ls b.1)
+
+-- where none passes that needs less than `top`, a session that costs so much holds none
+module _ (xs ys : Interfaces) (test : Test) (top : ℕ)
+    (fewer : (service : List ℕ) (l : ℕ) → l ≤ levels_for xs service → caps_for xs service l < top → test service l ≡ false) where
+  kind_none : (k l : Kind) → KindsAsOne xs ys k l → kind_price Caps k + kind_lent Caps k < top → leads test l ≡ false
+  kind_none Empty_kind l e h = ap (leads test) e
+  kind_none (Memory form n) l e h = ap (leads test) e
+  kind_none (Pool_kind n m) l e h = ap (leads test) e
+  kind_none (Link_kind s l a) Empty_kind e h = absurd e
+  kind_none (Link_kind s l a) (Memory form n) e h = absurd e
+  kind_none (Link_kind s l a) (Pool_kind n m) e h = absurd e
+  kind_none (Link_kind s l a) (Link_kind t m b) e h =
+      let is = e.3 in sym (λ i. test (e.0 i) (e.1 i)) ∙ fewer s l e.5 (omega (arith, is, h))
+
+  bank_none : (ks ls : List Kind) → BanksAsOne xs ys ks ls → kinds_cost Caps ks < top → any_of (leads test) ls ≡ false
+  bank_none ks ls b h = let e = both_sums Caps ks in by ks ls b (omega (arith, e, h))
     where
-      by : (ks ls : List Kind) → BanksAsOne xs ys ks ls → sum_by (λ k. kind_price Caps k + kind_lent Caps k) ks < top
-          → sum_by (slot_cost more Caps) ls ≤ sum_by (slot_cost less Caps) ls
-      by [] [] b h = omega arith
+      by : (ks ls : List Kind) → BanksAsOne xs ys ks ls → sum_by (λ k. kind_price Caps k + kind_lent Caps k) ks < top → any_of (leads test) ls ≡ false
+      by [] [] b h = refl
       by [] (l ∷ ls) b h = absurd b
       by (k ∷ ks) [] b h = absurd b
       by (k ∷ ks) (l ∷ ls) b h =
           let c = sum_by-cons (λ k. kind_price Caps k + kind_lent Caps k) k ks in
-          let e = by ks ls b.1 (omega (arith, h, c)) in
-          let f = kind_step k l b.0 (omega (arith, h, c)) in
-          omega (arith, e, f, sum_by-cons (slot_cost more Caps) l ls, sum_by-cons (slot_cost less Caps) l ls)
+          ap₂ (λ b c. b || c) (kind_none k l b.0 (omega (arith, h, c))) (by ks ls b.1 (omega (arith, h, c)))
 
   -- an object costs a capability, so what a session holds costs less than it
-  session_step : (i k : Interface) (s t : State) → StatesAsOne xs ys s t → kinds.session_cost Caps i s.bank ≤ top
-      → session_cost more Caps k t ≤ session_cost less Caps k t
-  session_step i k s t o h =
+  session_none : (i : Interface) (s t : State) → StatesAsOne xs ys s t → kinds.session_cost Caps i s.bank ≤ top → any_of (leads test) t.bank ≡ false
+  session_none i s t o h =
       let one : price_memory Caps Slice i.object ≡ 1 = refl in
-      let e = bank_step s.bank t.bank o.bank (omega (arith, h, one)) in omega (arith, e)
-
-when_step : (b : Bool) (f g : ℕ) → (b ≡ true → f ≤ g) → (if◌then◌else◌ b f 0) ≤ (if◌then◌else◌ b g 0)
-when_step true f g h = h refl
-when_step false f g h = omega arith
+      bank_none s.bank t.bank o.bank (omega (arith, h, one))
 
 -- PLACES
 
@@ -173,14 +188,6 @@ module _ (is : Interfaces) where
 
 -- ROUNDS
 
-sum_step : (f g : Interface → ℕ) (q : Option Interface) → ((i : Interface) → q ≡ Some i → f i ≤ g i) → sum_in f q ≤ sum_in g q
-sum_step f g None h = omega arith
-sum_step f g (Some i) h = h i refl
-
-sum_none : (f : Interface → ℕ) (n : ℕ) (q : Option Interface) → ((i : Interface) → q ≡ Some i → ⊥) → sum_in f q ≤ n
-sum_none f n None h = omega arith
-sum_none f n (Some i) h = absurd (h i refl)
-
 same_count : (is js : Interfaces) → AllAsOne is js → length is ≡ length js
 same_count [] [] h = refl
 same_count [] (f ∷ js) h = absurd h
@@ -194,35 +201,31 @@ module _ (t s : Scenario) (sound : IsSound t) (alike : ScenariosAsOne t s) (two 
   abbrev all : System
   all = system (unsized s)
 
-  -- no more is needed, where no more is taken for the sessions that are held
-  needed_step : (more less : Given) (service : List ℕ) (i k : Interface) (l : ℕ) → interface_in service t.interfaces ≡ Some i → l ≤ length i.upgrades
-      → ((other : List ℕ) (m : ℕ) → m ≤ levels_for t.interfaces other → caps_for t.interfaces other m < (need_of i l).caps → more other m ≤ less other m)
-      → needed more Caps all service k l ≤ needed less Caps all service k l
-  needed_step more less service i k l known below fewer =
-      greatest_step (λ (d : Component). if is_named service d.node.provides then leaf_needed more Caps (subject all d) k l else 0)
-      (λ (d : Component). if is_named service d.node.provides then leaf_needed less Caps (subject all d) k l else 0) all.components (λ x d there.
+  -- none is held that passes, where none does that is given less
+  holds_none : (test : Test) (service : List ℕ) (i : Interface) (l : ℕ) → interface_in service t.interfaces ≡ Some i → l ≤ length i.upgrades
+      → ((other : List ℕ) (m : ℕ) → m ≤ levels_for t.interfaces other → caps_for t.interfaces other m < (need_of i l).caps → test other m ≡ false)
+      → holds test all service l ≡ false
+  holds_none test service i l known below fewer =
+      any_none (λ (d : Component). is_named service d.node.provides && leaf_holds test (subject all d) l) all.components (λ x d there.
       let p = pair_of mine.components all.components (both t s sound alike) x d there in
       let c = p.0 in
-      when_step (is_named service d.node.provides) (leaf_needed more Caps (subject all d) k l) (leaf_needed less Caps (subject all d) k l) (λ named.
+      when_none (is_named service d.node.provides) (leaf_holds test (subject all d) l) (λ named.
       let provides : c.node.provides ≡ Some service = ap (λ (n : LeafNode). n.provides) (sym p.2.node) ∙ named_is t s sound alike service d.node.provides
       named in
       let provided : service_in c.node.provides t.interfaces ≡ Some i = ap (λ o. service_in o t.interfaces) provides ∙ known in
-      greatest_step (λ (q : Section × Statements). if is_up_to l q.0 then greatest (session_cost more Caps k) (section_points (subject all d) q.0) else 0)
-      (λ (q : Section × Statements). if is_up_to l q.0 then greatest (session_cost less Caps k) (section_points (subject all d) q.0) else 0)
+      any_none (λ (q : Section × Statements). is_up_to l q.0 && any_of (λ (s : State). any_of (leads test) s.bank) (section_points (subject all d) q.0))
       d.node.program.sections (λ y q at.
-      when_step (is_up_to l q.0) (greatest (session_cost more Caps k) (section_points (subject all d) q.0))
-      (greatest (session_cost less Caps k) (section_points (subject all d) q.0)) (λ up.
+      when_none (is_up_to l q.0) (any_of (λ (s : State). any_of (leads test) s.bank) (section_points (subject all d) q.0)) (λ up.
       let outside = outside_main l q.0 up in
       let program : d.node.program ≡ c.node.program = ap (λ (n : LeafNode). n.program) p.2.node in
       let found = section_found c.node.program (sound.formed.programs x c p.1) y q ((λ j. slice_get (sym program j).sections y) ∙ at) in
       let rises = need_upward i Caps (level_of q.0) l outside.1 below in
-      points_step t.interfaces all.interfaces (λ (s : State). Covers (subject mine c) (level_of q.0) s.bank) (session_cost more Caps k) (session_cost less
-      Caps k)
+      points_none t.interfaces all.interfaces (λ (s : State). Covers (subject mine c) (level_of q.0) s.bank) (λ (s : State). any_of (leads test) s.bank)
       (section_points (subject mine c) q.0) (section_points (subject all d) q.0) (λ a b o covers.
       let paid = counts_of t.version Caps (λ r. kinds.session_cost r i a.bank ≤ part r (need_of i (level_of q.0))) two
       (subst (λ cs. EachOf cs (λ r. kinds.session_cost r i a.bank ≤ part r (need_of i (level_of q.0)))) (sound.formed.counted service i known) (covers i
       provided)) in
-      session_step t.interfaces all.interfaces more less (need_of i l).caps fewer i k a b o (omega (arith, paid, rises)))
+      session_none t.interfaces all.interfaces test (need_of i l).caps fewer i a b o (omega (arith, paid, rises)))
       (points_so t s sound alike x c d p.1 p.2 q.0) (points_paid t s sound alike x c d p.1 p.2 q.0 q.1 outside.0 found)))))
 
   -- a service is there in both or in neither
@@ -249,58 +252,113 @@ module _ (t s : Scenario) (sound : IsSound t) (alike : ScenariosAsOne t s) (two 
         },
       )
 
-  -- what is held is one of these, or of a service that is not there
-  held_step : (more less : Given) (other : List ℕ) (m top : ℕ) → m ≤ levels_for t.interfaces other → caps_for t.interfaces other m < top
-      → ((j : Interface) → interface_in other t.interfaces ≡ Some j → m ≤ length j.upgrades → (need_of j m).caps < top → more other m ≤ less other m)
-      → (interface_in other t.interfaces ≡ None → more other m ≤ less other m) → more other m ≤ less other m
-  held_step more less other m top within small each none = by (interface_in other t.interfaces) refl
+  -- what has no interface is the first of no chain
+  none_there : (n : ℕ) (service : List ℕ) (l : ℕ) → interface_in service t.interfaces ≡ None → goes_on n all service l ≡ false
+  none_there n service l e = by n (interface_in service all.interfaces) refl
     where
-      by : (o : Option Interface) → interface_in other t.interfaces ≡ o → more other m ≤ less other m
-      by None e = none e
+      by : (n : ℕ) (o : Option Interface) → interface_in service all.interfaces ≡ o → goes_on n all service l ≡ false
+      by n (Some k) f = absurd (none_both service e k f)
+      by zero None f = ap is_some f
+      by (suc n) None f = ap (λ o. is_some o && holds (goes_on n all) all service l) f
+
+  -- what is held is one of these, or of a service that is not there
+  held_none : (n : ℕ) (other : List ℕ) (m top : ℕ) → m ≤ levels_for t.interfaces other → caps_for t.interfaces other m < top
+      → ((j : Interface) → interface_in other t.interfaces ≡ Some j → m ≤ length j.upgrades → (need_of j m).caps < top → goes_on n all other m ≡ false)
+      → goes_on n all other m ≡ false
+  held_none n other m top within small each = by (interface_in other t.interfaces) refl
+    where
+      by : (o : Option Interface) → interface_in other t.interfaces ≡ o → goes_on n all other m ≡ false
+      by None e = none_there n other m e
       by (Some j) e =
           let levels : levels_for t.interfaces other ≡ length j.upgrades = ap (λ o. number_of o (λ i. length i.upgrades)) e in
           let needs : caps_for t.interfaces other m ≡ (need_of j m).caps = ap (caps_needed m) e in
           each j e (omega (arith, within, levels)) (omega (arith, small, needs))
 
-  settles : (n x : ℕ) (service : List ℕ) (i : Interface) (l : ℕ) (rest : List ℕ) → interface_in service t.interfaces ≡ Some i → l ≤ length i.upgrades
-      → Stands t.interfaces x (need_of i l).caps → Uses t.interfaces x rest → count t.interfaces ≤ length rest + n
-      → caps_sum (suc n) all service l ≤ caps_sum n all service l
-  settles zero x service i l rest known below stands chain long =
+  ends : (n x : ℕ) (service : List ℕ) (i : Interface) (l : ℕ) (rest : List ℕ) → interface_in service t.interfaces ≡ Some i → l ≤ length i.upgrades
+      → Stands t.interfaces x (need_of i l).caps → Uses t.interfaces x rest → count t.interfaces ≤ length rest + n → goes_on n all service l ≡ false
+  ends zero x service i l rest known below stands chain long =
       let short = short_uses t.interfaces x rest chain in absurd (omega (arith, short, long))
-  settles (suc n) x service i l rest known below stands chain long =
-      sum_step (λ i. needed (caps_sum (suc n) all) Caps all service i l) (λ i. needed (caps_sum n all) Caps all service i l) (interface_in service
-      all.interfaces)
-      (λ k f. needed_step (caps_sum (suc n) all) (caps_sum n all) service i k l known below (λ other m within small.
-      held_step (caps_sum (suc n) all) (caps_sum n all) other m (need_of i l).caps within small
-      (λ j is_j under less.
+  ends (suc n) x service i l rest known below stands chain long =
+      when_none (is_some (interface_in service all.interfaces)) (holds (goes_on n all) all service l) (λ there.
+      holds_none (goes_on n all) service i l known below (λ other m within small.
+      held_none n other m (need_of i l).caps within small (λ j is_j under less.
       let z = stands_for other j m is_j under in
-      settles n z.0 other j m (x ∷ rest) is_j under z.1
-      (record { has = (need_of j m).caps; top = (need_of i l).caps; lower = z.1; upper = stands; less = less }, chain) (omega (arith, long)))
-      (λ none. sum_none (λ i. needed (caps_sum n all) Caps all other i m) (caps_sum n all other m) (interface_in other all.interfaces)
-      (λ k g. none_both other none k g))))
+      ends n z.0 other j m (x ∷ rest) is_j under z.1
+      (record { has = (need_of j m).caps; top = (need_of i l).caps; lower = z.1; upper = stands; less = less }, chain) (omega (arith, long)))))
 
-  -- so one use more changes nothing
-  pub is_settled : (service : List ℕ) (i : Interface) (l : ℕ) → interface_in service s.interfaces ≡ Some i → l ≤ length i.upgrades
-      → needed (least_caps all) Caps all service i l ≤ least_caps all service l
-  is_settled service i l known below =
-      by (interface_in service t.interfaces) refl (subst (λ o. ProvideAsOne (interface_in service t.interfaces) o) known
-      (found_both service t.interfaces s.interfaces alike.interfaces))
+  -- so no session of a level that it has is the first of a chain without end
+  pub never_endless : (service : List ℕ) (l : ℕ) → l ≤ levels_for t.interfaces service → is_endless all service l ≡ false
+  never_endless service l within = by (interface_in service t.interfaces) refl
     where
-      by : (o : Option Interface) → interface_in service t.interfaces ≡ o → ProvideAsOne (interface_in service t.interfaces) (Some i)
-          → needed (least_caps all) Caps all service i l ≤ least_caps all service l
-      by None e h = absurd (subst (λ o. ProvideAsOne o (Some i)) e h)
-      by (Some j) e h =
-          let one : AreAsOne j i = subst (λ o. ProvideAsOne o (Some i)) e h in
-          let under : l ≤ length j.upgrades = omega (arith, below, one.levels) in
+      by : (o : Option Interface) → interface_in service t.interfaces ≡ o → is_endless all service l ≡ false
+      by None e = none_there (rounds all) service l e
+      by (Some j) e =
+          let levels : levels_for t.interfaces service ≡ length j.upgrades = ap (λ o. number_of o (λ i. length i.upgrades)) e in
+          let under : l ≤ length j.upgrades = omega (arith, within, levels) in
           let z = stands_for service j l e under in
-          let w = slice_get_within t.interfaces z.1.place z.1.entry z.1.there in
-          let first : z.0 < count t.interfaces = omega (arith, w, z.1.at, z.1.few) in
           let lengths = same_count t.interfaces all.interfaces (interfaces t s sound alike) in
-          let a = settles (rounds all) z.0 service j l [] e under z.1 first (omega (arith, lengths)) in
-          let f : interface_in service all.interfaces ≡ Some (unbounded i) = found_free s.version all [] s.interfaces service i known in
-          let b : caps_sum (suc (rounds all)) all service l ≡ needed (least_caps all) Caps all service i l =
-          ap (sum_in (λ i. needed (least_caps all) Caps all service i l)) f in
-          omega (arith, a, b)
+          ends (rounds all) z.0 service j l [] e under z.1 (first_use z.0 (need_of j l).caps z.1) (omega (arith, lengths))
+        where
+          first_use : (x n : ℕ) → Stands t.interfaces x n → x < count t.interfaces
+          first_use x n st = let w = slice_get_within t.interfaces st.place st.entry st.there in omega (arith, w, st.at, st.few)
 
-pub settled : (t s : Scenario) → IsSound t → ScenariosAsOne t s → IsSettled s
-settled t s sound alike two service i l known below = is_settled t s sound alike (alike.version ∙ two) service i l known below
+  -- LEAVES AND INITS
+
+  own_ends : (x : ℕ) (d : Component) → slice_get all.components x ≡ Some d → own_endless all (subject all d) ≡ false
+  own_ends x d there =
+      let p = pair_of mine.components all.components (both t s sound alike) x d there in
+      own_none t.interfaces all.interfaces (λ (s : State). any_of (leads (is_endless all)) s.own) (section_points (subject mine p.0) Main)
+      (section_points (subject all d) Main)
+      (λ a b o. bank_never t.interfaces all.interfaces (is_endless all) never_endless a.own b.own o.own)
+      (points_so t s sound alike x p.0 d p.1 p.2 Main)
+
+  passes_none : (test : Component → Bool) (o : Option Component) → ((c : Component) → o ≡ Some c → test c ≡ false) → passes test o ≡ false
+  passes_none test None h = refl
+  passes_none test (Some c) h = h c refl
+
+  leaf_ends : (n x : ℕ) (d : Component) → slice_get all.components x ≡ Some d → leaf_endless n all d ≡ false
+  leaf_ends zero x d there = own_ends x d there
+  leaf_ends (suc n) x d there =
+      ap₂ (λ b c. b || c) (own_ends x d there)
+      (passes_none (leaf_endless n all) (starts_after d.node.name all.components) (λ e found.
+      let y = after_there d.node.name all.components e found in leaf_ends n y.0 e y.1))
+
+  ends_at : (x : ℕ) → endless_at all x ≡ false
+  ends_at x =
+      passes_none (leaf_endless (length all.components) all) (slice_get all.components x) (λ d there. leaf_ends (length all.components) x d there)
+
+  start_ends : (after : Option (List ℕ)) (b : Bool) → b ≡ false → at_start after b ≡ false
+  start_ends None b e = e
+  start_ends (Some name) b e = refl
+
+  children_end : (x : ℕ) (nodes : Nodes) → children_endless all x nodes ≡ false
+  children_end x End = refl
+  children_end x (Leaf_node node rest) = ap₂ (λ b c. b || c) (start_ends node.after (endless_at all x) (ends_at x)) (children_end (suc x) rest)
+  children_end x (Init_node node children rest) = ap₂ (λ b c. b || c) (children_end x children) (children_end (x + leaf_count children) rest)
+
+  nodes_end : (x : ℕ) (nodes : Nodes) → NodesEnd all x nodes
+  nodes_end x End = tt
+  nodes_end x (Leaf_node node rest) = (ends_at x, nodes_end (suc x) rest)
+  nodes_end x (Init_node node children rest) = (children_end x children, nodes_end x children, nodes_end (x + leaf_count children) rest)
+
+pub none_endless : (t s : Scenario) → IsSound t → ScenariosAsOne t s → NoneEndless s
+none_endless t s sound alike =
+    record {
+      interfaces = λ two service i l known below.
+          never_endless t s sound alike (alike.version ∙ two) service l (within service i l known below);
+      root = λ two. children_end t s sound alike (alike.version ∙ two) 0 s.nodes;
+      nodes = λ two. nodes_end t s sound alike (alike.version ∙ two) 0 s.nodes;
+    }
+  where
+    within : (service : List ℕ) (i : Interface) (l : ℕ) → interface_in service s.interfaces ≡ Some i → l ≤ length i.upgrades
+        → l ≤ levels_for t.interfaces service
+    within service i l known below = by (interface_in service t.interfaces) refl
+        (subst (λ o. ProvideAsOne (interface_in service t.interfaces) o) known (found_both service t.interfaces s.interfaces alike.interfaces))
+      where
+        by : (o : Option Interface) → interface_in service t.interfaces ≡ o → ProvideAsOne (interface_in service t.interfaces) (Some i)
+            → l ≤ levels_for t.interfaces service
+        by None e h = absurd (subst (λ o. ProvideAsOne o (Some i)) e h)
+        by (Some j) e h =
+            let one : AreAsOne j i = subst (λ o. ProvideAsOne o (Some i)) e h in
+            let levels : levels_for t.interfaces service ≡ length j.upgrades = ap (λ o. number_of o (λ i. length i.upgrades)) e in
+            omega (arith, below, one.levels, levels)

@@ -24,7 +24,7 @@ use Rattle.gq_sizes.proofs.Saturating.{saturated_needed}
 
 -- LEVELS ABOVE 3
 
-as_low : (l : ℕ) (s : Section) → nat_le (level_of s) 3 ≡ true → is_up_to (min l 3) s ≡ is_up_to l s
+pub as_low : (l : ℕ) (s : Section) → nat_le (level_of s) 3 ≡ true → is_up_to (min l 3) s ≡ is_up_to l s
 as_low l Main e = refl
 as_low l Opening e = grind (arith, nat_tests)
 as_low l (Upgrading k) e = grind (arith, nat_tests)
@@ -74,7 +74,7 @@ row_get f (suc (suc zero)) h = refl
 row_get f (suc (suc (suc zero))) h = refl
 row_get f (suc (suc (suc (suc m)))) h = absurd (omega (arith, h))
 
-mid : {A : Type 0} → (before : List A) (x : A) (more : List A) (d : A) → get_or (before ++ x ∷ more) (length before) d ≡ x
+pub mid : {A : Type 0} → (before : List A) (x : A) (more : List A) (d : A) → get_or (before ++ x ∷ more) (length before) d ≡ x
 mid [] x more d = refl
 mid (y ∷ before) x more d = mid before x more d
 
@@ -119,7 +119,7 @@ found_first : (e : List ℕ × Interface) (rest : Interfaces) → text_eq e.0 e.
 found_first e rest same = ap (λ b. if b then Some e.1 else interface_in e.0 rest) same
 
 -- each of these names has an interface among all
-abbrev AreKnown : Interfaces → Interfaces → Type 0
+abbrev pub AreKnown : Interfaces → Interfaces → Type 0
 AreKnown all [] = Unit {0}
 AreKnown all (e ∷ rest) = (is_some (interface_in e.0 all) ≡ true) × AreKnown all rest
 

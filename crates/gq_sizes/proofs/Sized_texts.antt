@@ -1,5 +1,5 @@
--- What is found of a scenario without its quantities is what its text tells.
-use Rattle.std.proofs.Common.{◌≡◌, ℕ, zero, suc, ◌-◌, max, List, [], ◌∷◌, ◌++◌, map, Option, Some, None, Result, Ok, Err, refl, ap, sym, ◌∙◌, subst}
+-- What is found of a scenario without its quantities is what its text prints.
+use Rattle.std.proofs.Common.{◌≡◌, ℕ, zero, suc, ◌-◌, max, Bool, List, [], ◌∷◌, ◌++◌, map, Option, Some, None, Result, Ok, Err, refl, ap, sym, ◌∙◌, subst}
 use Rattle.std.specs.Prelude.{codes, IsOkAnd}
 use Rattle.std.proofs.lemmas.List.{length-map}
 use Rattle.gq_model.specs.machine.Amounts.{Ram}
@@ -20,13 +20,18 @@ use Rattle.gq_verify.specs.Counting.{saturated}
 use Rattle.gq_world.specs.Whole.{with_scenario}
 use Rattle.gq_sizes.specs.Size.{Gift, all_gifts, all_short, asked_above, least_caps, needed, ram_sum}
 use Rattle.gq_sizes.specs.Needing.{BreakNothing, subjects_by}
-use Rattle.gq_sizes.specs.Size_text.{interface_lines, node_line, node_lines, root_least_told, size_text}
+use Rattle.gq_sizes.specs.Endless.{is_endless}
+use Rattle.gq_sizes.specs.Passing.{endless_rows, tests}
+use Rattle.gq_sizes.specs.Size_text.{size_text}
+use Rattle.gq_sizes.specs.internal.Told as told
+use Rattle.gq_sizes.specs.internal.Told.{interface_lines, node_lines, root_line}
 use Rattle.gq_sizes.specs.Tables.{AreOf, caps_rows, ram_rows, row}
+use Rattle.gq_sizes.proofs.Beside.{text_beside}
 use Rattle.gq_sizes.proofs.Subjects.{subjects_are}
 
 -- NO PROGRAM BREAKS A RULE
 
-refused_none : (why : Option Refusal) → refused why ≡ None → why ≡ None
+pub refused_none : (why : Option Refusal) → refused why ≡ None → why ≡ None
 refused_none None e = refl
 refused_none (Some why) e = absurd (some_none e)
 
@@ -94,6 +99,10 @@ caps_rows_same : (all : System) (ifs : Interfaces) → caps_rows all (all_unboun
 caps_rows_same all [] = refl
 caps_rows_same all (e ∷ rest) = ap (λ rows. row (λ l. saturated (least_caps all e.0 l)) ∷ rows) (caps_rows_same all rest)
 
+endless_rows_same : (all : System) (ifs : Interfaces) → endless_rows all (all_unbounded ifs) ≡ endless_rows all ifs
+endless_rows_same all [] = refl
+endless_rows_same all (e ∷ rest) = ap (λ rows. tests (is_endless all e.0) ∷ rows) (endless_rows_same all rest)
+
 -- the rows of the scenario without its quantities are those of the scenario
 module _ (all : System) (s free : Scenario) (ifs : Interfaces) (rows : List (List ℕ)) (is : free ≡ unsized s) (same : ifs ≡ s.interfaces) where
   pub ram_told : (cs : List Component) → cs ≡ all.components → rows ≡ ram_rows all (all_gifts all cs) free.interfaces →
@@ -107,33 +116,25 @@ module _ (all : System) (s free : Scenario) (ifs : Interfaces) (rows : List (Lis
   pub caps_told : rows ≡ caps_rows all free.interfaces → rows ≡ caps_rows all ifs
   caps_told made = made ∙ (ap (λ (f : Scenario). caps_rows all f.interfaces) is ∙ (caps_rows_same all s.interfaces ∙ ap (caps_rows all) (sym same)))
 
--- THE TEXT
+pub endless_told : (all : System) (s free : Scenario) (ifs : Interfaces) (rows : List (List Bool)) → free ≡ unsized s → ifs ≡ s.interfaces
+    → rows ≡ endless_rows all free.interfaces → rows ≡ endless_rows all ifs
+endless_told all s free ifs rows is same made =
+    made ∙ (ap (λ (f : Scenario). endless_rows all f.interfaces) is ∙ (endless_rows_same all s.interfaces ∙ ap (endless_rows all) (sym same)))
 
-abbrev told : System → Scenario → List ℕ
-told all s =
-    let given = all_gifts all all.components in
-    interface_lines s.version all given s.interfaces ++ all_short all given all.components
-    ++ node_line s.version (codes "init") s.total (root_least_told all s.nodes) ++ node_lines s.version all (codes "init") 0 s.nodes
+-- THE TEXT
 
 -- the lines that were put one after the other are the text
 pub text_is : (s free : Scenario) (version : ℕ) (ifs : Interfaces) → free ≡ unsized s → version ≡ s.version → ifs ≡ s.interfaces →
     (first second third whole : List ℕ) → first ≡ [] → second ≡ first ++ interface_lines version (system free) (all_gifts (system free) (components free)) ifs →
     third ≡ second ++ all_short (system free) (all_gifts (system free) (components free)) (components free) →
-    whole ≡ third ++ node_line s.version (codes "init") s.total (root_least_told (system free) s.nodes)
-    ++ node_lines s.version (system free) (codes "init") 0 s.nodes → whole ≡ size_text s
+    whole ≡ third ++ root_line s.version (system free) s.total s.nodes ++ node_lines s.version (system free) (codes "init") 0 s.nodes → whole ≡ size_text s
 text_is s free version ifs is numbered same first second third whole a b c d =
     let all = system free in
     let given = all_gifts all (components free) in
     let lines = λ (n : ℕ) (l : Interfaces). interface_lines n all given l in
     let short = all_short all given (components free) in
-    let root = node_line s.version (codes "init") s.total (root_least_told all s.nodes) in
+    let root = root_line s.version all s.total s.nodes in
     let nodes = node_lines s.version all (codes "init") 0 s.nodes in
     d
     ∙ (ap (λ t. t ++ root ++ nodes) (c ∙ ap (λ t. t ++ short) (b ∙ ap (λ t. t ++ lines version ifs) a))
-    ∙ ((λ j. lines (numbered j) (same j) ++ short ++ root ++ nodes) ∙ ap (λ (f : Scenario). told (system f) s) is))
-
--- what is told is written
-pub told_text : (f : Scenario → List ℕ) (r : Result Scenario Fault) (text : List ℕ) → IsOkAnd r (λ s. text ≡ f s) →
-    with_scenario r (λ s. Ok (f s)) ≡ Ok text
-told_text f (Ok s) text h = ap Ok (sym h)
-told_text f (Err fault) text h = absurd h
+    ∙ ((λ j. lines (numbered j) (same j) ++ short ++ root ++ nodes) ∙ (ap (λ (f : Scenario). told.told_text (system f) s) is ∙ text_beside s)))

@@ -5,7 +5,8 @@ use Rattle.gq_model.specs.machine.Amounts.{Ram, Caps, Amount, amount}
 use Rattle.gq_model.specs.machine.Scenario.{Interface, Interfaces, Nodes, End, Leaf_node, Init_node, Scenario, System, system, interface_in}
 use Rattle.gq_model.specs.rules.Kinds.{need_of}
 use Rattle.gq_laws.specs.Sound.{IsSound}
-use Rattle.gq_sizes.specs.Size.{Gift, all_gifts, all_short, children_least, least_at, least_caps, needed, ram_sum, root_least}
+use Rattle.gq_sizes.specs.Size.{Gift, all_gifts, all_short, children_least, least_at, least_caps, ram_sum, root_least}
+use Rattle.gq_sizes.specs.Endless.{NoneEndless}
 use Rattle.gq_scenario.specs.Unsized.{unsized}
 
 -- capabilities are 0 in version 1
@@ -84,17 +85,12 @@ pub record HasWholePages (s : Scenario) : Type 0 where
   pub whole : s.total.ram % 4096 ≡ 0
   pub caps : s.version ≡ 2 → 1 ≤ s.total.caps
 
--- what sessions need in capabilities is told at the end of all chains of uses: along one use more, nothing more is needed
-abbrev pub IsSettled : Scenario → Type 0
-IsSettled s =
-    s.version ≡ 2 → (service : List ℕ) (i : Interface) (l : ℕ) → interface_in service s.interfaces ≡ Some i → l ≤ length i.upgrades
-    → needed (least_caps (system (unsized s))) Caps (system (unsized s)) service i l ≤ least_caps (system (unsized s)) service l
-
 -- LAWS
 
--- of a scenario that is accepted no `open` is short, and its numbers are not less than the least ones
+-- of a scenario that is accepted no `open` is short, none of the least capabilities is none, and its numbers are not less than the least ones
 pub record HasLeast (s : Scenario) : Type 0 where
   pub opens : NoneShort s
+  pub ends : NoneEndless s
   pub numbers : AreEnough (sized s) s
 
 -- with the least quantities in place of its own it is accepted, and its root has whole pages

@@ -8,3 +8,5 @@ pub mod internal
 pub mod Alike
 pub mod Size
 pub mod Least
+pub mod Endless
+pub mod Passing

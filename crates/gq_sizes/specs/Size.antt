@@ -5,7 +5,7 @@ use Rattle.std.specs.Prelude.{sum_by, Option, Some, None, decimal, codes, slice_
 use Rattle.gq_tariff.specs.Prices.{classes, up}
 use Rattle.gq_model.specs.machine.Accounts.{entry, leaf_count}
 use Rattle.gq_model.specs.machine.Amounts.{Resource, Ram, Caps, Amount}
-use Rattle.gq_model.specs.machine.Lists.{greatest, or_first}
+use Rattle.gq_model.specs.machine.Lists.{greatest}
 use Rattle.gq_model.specs.machine.Prices.{price_memory}
 use Rattle.gq_model.specs.declared.program.Form.TheVariants.{Slice}
 use Rattle.gq_model.specs.declared.program.Instruction.{Instruction}
@@ -13,26 +13,23 @@ use Rattle.gq_model.specs.declared.program.Instruction.TheVariants.{Open, Upgrad
 use Rattle.gq_model.specs.declared.program.Section.{Section}
 use Rattle.gq_model.specs.declared.program.Section.TheVariants.{Main}
 use Rattle.gq_model.specs.machine.Program.{Statements, Done, Do, If, Loop, size, text_eq}
-use Rattle.gq_model.specs.machine.Scenario.{Interface, Nodes, End, Leaf_node, Init_node, Scenario, Component, System, system}
+use Rattle.gq_model.specs.machine.Scenario.{Interface, Nodes, End, Leaf_node, Init_node, Scenario, Component, System}
 use Rattle.gq_model.specs.machine.Scenario.{interface_in}
-use Rattle.gq_model.specs.rules.Accept.{Refusal, budgets, not_resolved, program_refusal, steps_refusal}
+use Rattle.gq_model.specs.rules.Accept.{Refusal}
 use Rattle.gq_model.specs.rules.Budgets.{heap_cost}
 use Rattle.gq_model.specs.rules.Flow.{at, body, context, flow, points, start_of, state_or}
 use Rattle.gq_model.specs.rules.Kinds.{Kind, Link_kind, State, Subject, Context, inside, kind_at, kind_price, level_of}
-use Rattle.gq_model.specs.rules.Resolve.{unresolved}
 use Rattle.gq_model.specs.rules.Rules.{judged, link_kind}
 use Rattle.gq_model.specs.rules.Use.{subject}
 use Rattle.gq_model.specs.texts.Fault_texts.{section_word}
 use Rattle.gq_scenario.specs.Unsized.{unsized}
+use Rattle.gq_load.specs.Unsized.{unsized_refusal}
 
 -- WHAT IS JUDGED
 
 -- the first reason to refuse it that no quantity decides
 abbrev pub refusal_without : Scenario → Option Refusal
-refusal_without s =
-    let free = unsized s in
-    let all = system free in
-    or_first (program_refusal all all.components) (or_first (not_resolved (unresolved free)) (steps_refusal all.components (budgets free)))
+refusal_without s = unsized_refusal (unsized s)
 
 -- WHAT IS NEEDED
 

@@ -1,12 +1,13 @@
 -- What is kept of a system without its quantities while its least quantities are found: numbers above 2^64 - 1 are kept as 2^64 - 1.
-use Rattle.std.specs.Prelude.{◌≡◌, ℕ, suc, List, [], ◌∷◌, map}
+use Rattle.std.specs.Prelude.{◌≡◌, ℕ, suc, Bool, List, [], ◌∷◌, map}
 use Rattle.gq_model.specs.machine.Amounts.{Ram, Caps, Amount, amount}
 use Rattle.gq_model.specs.machine.Scenario.{Interface, Interfaces, Component, System}
 use Rattle.gq_model.specs.rules.Kinds.{Subject}
 use Rattle.gq_model.specs.rules.Use.{subject}
 use Rattle.gq_verify.specs.Counting.{saturated}
 use Rattle.gq_sizes.specs.Size.{Gift, Given, caps_sum, least_caps, needed, own_by, ram_sum}
-use Rattle.gq_sizes.specs.Size_text.{leaf_least_told}
+use Rattle.gq_sizes.specs.Passing.{endless_from}
+use Rattle.gq_sizes.specs.internal.Told.{leaf_least_told}
 
 -- these are the leaves of a system, what each is judged by, and the interfaces
 pub record AreOf (all : System) (cs : List Component) (vs : List Subject) (ifs : Interfaces) : Type 0 where
@@ -42,6 +43,11 @@ own_least all c = amount (own_by (least_caps all) Ram (subject all c)) (saturate
 abbrev pub leasts_from : System → ℕ → List Component → List Amount
 leasts_from all x [] = []
 leasts_from all x (c ∷ rest) = leaf_least_told all x ∷ leasts_from all (suc x) rest
+
+-- what each leaf needs at least, and for which of them no number of capabilities is enough
+pub record AreLeast (all : System) (amounts : List Amount) (ends : List Bool) : Type 0 where
+  pub least : amounts ≡ leasts_from all 0 all.components
+  pub endless : ends ≡ endless_from all 0 all.components
 
 -- what is given at least for sessions, as far as 64 bits go
 abbrev pub IsLeast : System → Given → Type 0

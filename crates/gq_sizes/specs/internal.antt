@@ -1,1 +1,2 @@
 pub mod Short_lines
+pub mod Told

@@ -1,15 +1,19 @@
 // The lines of interfaces.
-ghost use Rattle.std.specs.Prelude.{◌≡◌, ◌+◌, ◌-◌, ◌^◌, ◌<◌, ◌≤◌, ◌++◌, List, [], OnOk, get_or, length};
+ghost use Rattle.std.specs.Prelude.{◌≡◌, ◌+◌, ◌-◌, ◌^◌, ◌<◌, ◌≤◌, ◌++◌, List, [], OnOk, false, get_or, length};
 ghost use Rattle.gq_model.specs.machine.Amounts.{amount};
 ghost use Rattle.gq_model.specs.machine.Scenario as model;
 ghost use Rattle.gq_scenario.specs.Trees.{version_number};
 ghost use Rattle.gq_verify.specs.Counting.{saturated};
 ghost use Rattle.gq_sizes.specs.Size.{Gift, least_caps, ram_sum};
-ghost use Rattle.gq_sizes.specs.Size_text.{interface_lines, need_least, need_line, upgrade_line, upgrade_lines};
+ghost use Rattle.gq_sizes.specs.Endless.{is_endless};
+ghost use Rattle.gq_sizes.specs.Passing.{endless_rows, tests};
+ghost use Rattle.gq_sizes.specs.Size_text.{need_line, unless, upgrade_line};
 ghost use Rattle.gq_sizes.specs.Tables.{caps_rows, ram_rows, row};
+ghost use Rattle.gq_sizes.specs.internal.Told.{interface_lines, need_least, upgrade_lines};
 
+use crate::endless::Tests;
 use crate::needs::Needs;
-use crate::places::{push_caps, push_pair};
+use crate::places::{Least, least_of, push_caps, push_pair};
 use crate::points::LEVELS;
 use gq_model::program::Name;
 use gq_program::{Interface, Interfaces, Upgrade};
@@ -18,11 +22,12 @@ use gq_tariff::Amount;
 use gq_views::words::{end_line, push_amount, push_entry, push_number};
 use std::alloc::AllocError;
 
-/// The least sums of need and upgrades, of each interface up to each level.
+/// The least sums of need and upgrades, of each interface up to each level, and whether no number of capabilities is enough.
 #[derive(Drop)]
 pub(crate) struct Sums {
     pub ram: Needs,
     pub caps: Needs,
+    pub endless: Tests,
 }
 
 /// The sum up to a level of the interface at a place; nothing where there is none.
@@ -39,7 +44,27 @@ fn sum_at(sums: &[[u64; LEVELS]], place: usize, level: usize) -> u64
     }
 }
 
+/// Whether no number of capabilities is enough up to a level of the interface at a place; not where there is none.
+fn is_endless_at(endless: &[[bool; LEVELS]], place: usize, level: usize) -> bool
+    ensures { result ≡ get_or (get_or endless.now place []) level false }
+{
+    match endless.get(place) {
+        Some(levels) => match levels.get(level) {
+            Some(endless) => *endless,
+            None => false,
+        },
+        None => false,
+    }
+}
+
 impl Sums {
+    /// Whether no number of capabilities is enough for a session of the interface at a place, at a level.
+    fn is_endless(&self, place: usize, level: usize) -> bool
+        ensures { result ≡ get_or (get_or self.now.endless.items place []) level false }
+    {
+        is_endless_at(self.endless.as_slice(), place, level)
+    }
+
     /// What a session of the interface at a place needs at least, to be opened.
     pub fn need(&self, place: usize) -> Amount
         ensures least { result ≡ amount (get_or (get_or self.now.ram.items place []) 0 0) (get_or (get_or self.now.caps.items place []) 0 0) }
@@ -75,9 +100,9 @@ fn push_need(
     version: Version,
     service: &Name,
     interface: &Interface,
-    least: Amount,
+    least: Least,
 ) -> Result<(), AllocError>
-    ensures { OnOk result (text.new.items ≡ text.old.items ++ need_line (version_number version) service.now interface.now.need least) }
+    ensures { OnOk result (text.new.items ≡ text.old.items ++ need_line (version_number version) service.now interface.now.need least.ram least.caps) }
 {
     text.extend_from_slice(b"size ")?;
     text.extend_from_slice(service.as_bytes())?;
@@ -93,9 +118,9 @@ fn push_upgrade(
     service: &Name,
     level: usize,
     upgrade: &Upgrade,
-    least: Amount,
+    least: Least,
 ) -> Result<(), AllocError>
-    ensures { OnOk result (text.new.items ≡ text.old.items ++ upgrade_line (version_number version) service.now level upgrade.now least) }
+    ensures { OnOk result (text.new.items ≡ text.old.items ++ upgrade_line (version_number version) service.now level upgrade.now least.ram least.caps) }
 {
     text.extend_from_slice(b"size ")?;
     text.extend_from_slice(service.as_bytes())?;
@@ -120,10 +145,14 @@ fn push_upgrades(
     ensures { (all : model.System) (given : List Gift) (i : model.Interface)
         → get_or sums.now.ram.items place [] ≡ row (ram_sum all given service.now i)
         → get_or sums.now.caps.items place [] ≡ row (λ l. saturated (least_caps all service.now l))
+        → get_or sums.now.endless.items place [] ≡ tests (is_endless all service.now)
         → OnOk result (text.new.items ≡ text.old.items ++ upgrade_lines (version_number version) all given service.now i 0 upgrades.now) }
 {
     for (level, upgrade) in upgrades.iter().enumerate() {
-        let least = sums.upgrade(place, level);
+        let least = least_of(
+            sums.upgrade(place, level),
+            sums.is_endless(place, level + 1),
+        );
         push_upgrade(text, version, service, level + 1, upgrade, least)?;
     }
     Ok(())
@@ -140,12 +169,15 @@ fn push_interface(
     ensures { (all : model.System) (given : List Gift)
         → get_or sums.now.ram.items place [] ≡ row (ram_sum all given entry.now.0 entry.now.1)
         → get_or sums.now.caps.items place [] ≡ row (λ l. saturated (least_caps all entry.now.0 l))
+        → get_or sums.now.endless.items place [] ≡ tests (is_endless all entry.now.0)
         → OnOk result (text.new.items ≡ text.old.items
-        ++ need_line (version_number version) entry.now.0 entry.now.1.need (need_least all given entry.now.0 entry.now.1)
+        ++ need_line (version_number version) entry.now.0 entry.now.1.need (need_least all given entry.now.0 entry.now.1).ram
+        (unless (is_endless all entry.now.0 0) (need_least all given entry.now.0 entry.now.1).caps)
         ++ upgrade_lines (version_number version) all given entry.now.0 entry.now.1 0 entry.now.1.upgrades) }
 {
     let (service, interface) = entry;
-    push_need(text, version, service, interface, sums.need(place))?;
+    let least = least_of(sums.need(place), sums.is_endless(place, 0));
+    push_need(text, version, service, interface, least)?;
     push_upgrades(text, version, service, interface.upgrades(), sums, place)
 }
 
@@ -157,7 +189,7 @@ pub(crate) fn push_interfaces(
     sums: &Sums,
 ) -> Result<(), AllocError>
     ensures { (all : model.System) (given : List Gift) → sums.now.ram.items ≡ ram_rows all given interfaces.now
-        → sums.now.caps.items ≡ caps_rows all interfaces.now
+        → sums.now.caps.items ≡ caps_rows all interfaces.now → sums.now.endless.items ≡ endless_rows all interfaces.now
         → OnOk result (text.new.items ≡ text.old.items ++ interface_lines (version_number version) all given interfaces.now) }
 {
     for (place, entry) in interfaces.entries().iter().enumerate() {

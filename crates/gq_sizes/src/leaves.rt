@@ -12,7 +12,7 @@ ghost use Rattle.gq_verify.specs.Counting.{saturated};
 ghost use Rattle.gq_sizes.specs.Size as size;
 ghost use Rattle.gq_sizes.specs.Size.{is_named, leaf_least, own_by, unless_after};
 ghost use Rattle.gq_sizes.specs.Kept.{given_in};
-ghost use Rattle.gq_sizes.specs.Size_text.{init_least_told};
+ghost use Rattle.gq_sizes.specs.internal.Told.{init_least_told};
 ghost use Rattle.gq_sizes.specs.Tables.{IsLeast, leasts_from, own_least};
 
 use crate::points::{Given, most_own};
@@ -92,7 +92,7 @@ fn is_after(component: &Component<'_>, name: &[u8]) -> bool
 }
 
 /// The first leaf that starts after the one of this name.
-fn starts_after(components: &[Component<'_>], name: &[u8]) -> Option<usize>
+pub(crate) fn starts_after(components: &[Component<'_>], name: &[u8]) -> Option<usize>
     ensures next { option_and_then (slice_get components.now) result ≡ size.starts_after name.now components.now }
     ensures within { IfSome result (λ next. next < length components.now) }
 {

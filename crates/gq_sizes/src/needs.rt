@@ -24,7 +24,7 @@ use std::alloc::{AllocError, Global};
 pub(crate) type Needs = Vec<[u64; LEVELS]>;
 
 /// Whether a section is one of sessions of a level up to this.
-fn is_up_to(section: Section, level: u8) -> bool
+pub(crate) fn is_up_to(section: Section, level: u8) -> bool
     ensures { result ≡ is_up_to level section }
 {
     match section {
@@ -61,7 +61,7 @@ fn leaf_caps(verified: &Verified<'_>, given: &Given<'_>, level: u8) -> u64
 }
 
 /// Whether a leaf provides a service.
-fn is_provider(component: &Component<'_>, service: &Name) -> bool
+pub(crate) fn is_provider(component: &Component<'_>, service: &Name) -> bool
     ensures { result ≡ is_named service.now component.now.node.provides }
 {
     match component.leaf().provides() {

@@ -7,16 +7,48 @@ ghost use Rattle.gq_model.specs.machine.Scenario as model;
 ghost use Rattle.gq_model.specs.machine.Scenario.{below};
 ghost use Rattle.gq_scenario.specs.Trees.{nodes_of, version_number};
 ghost use Rattle.gq_verify.specs.Counting.{saturated};
-ghost use Rattle.gq_sizes.specs.Size_text.{init_least_told, node_line, node_lines, root_least_told};
-ghost use Rattle.gq_sizes.specs.Tables.{leasts_from};
+ghost use Rattle.gq_sizes.specs.Endless.{children_endless, endless_at};
+ghost use Rattle.gq_sizes.specs.Size_text.{node_line, unless};
+ghost use Rattle.gq_sizes.specs.Tables.{AreLeast};
+ghost use Rattle.gq_sizes.specs.internal.Told.{init_least_told, leaf_least_told, node_lines, root_line};
 
 use crate::leaves::{least_at, least_of_children};
-use crate::places::{push_caps, push_pair};
+use crate::places::{Least, least_of, push_caps, push_pair};
+use crate::unending::{is_at, of_children};
 use gq_scenario::scenario::{Node, Nodes, Quantum, Scenario, Version};
 use gq_tariff::Amount;
 use gq_tariff::price::{PAGE, round_up};
 use gq_views::words::end_line;
 use std::alloc::{AllocError, Global};
+
+/// What each leaf needs at least, and whether no number of capabilities is enough for it.
+#[derive(Drop)]
+pub(crate) struct Leaves<'a> {
+    pub least: &'a [Amount],
+    pub endless: &'a [bool],
+}
+
+impl<'a> Leaves<'a> {
+    /// What the leaf of a number needs at least.
+    fn of_leaf(&self, leaf: usize) -> Least
+        ensures { (all : model.System) → AreLeast all self.now.least.now self.now.endless.now → (result.ram ≡ (leaf_least_told all leaf).ram)
+            × (result.caps ≡ unless (endless_at all leaf) (leaf_least_told all leaf).caps) }
+    {
+        least_of(least_at(self.least, leaf), is_at(self.endless, leaf))
+    }
+
+    /// What an init needs at least for its children, of which the first leaf has a number.
+    fn of_init(&self, children: &Nodes, first: usize) -> Least
+        requires { first + leaf_count children.now ≤ 64 }
+        ensures { (all : model.System) → AreLeast all self.now.least.now self.now.endless.now
+            → (result.ram ≡ (init_least_told all first children.now).ram)
+            × (result.caps ≡ unless (children_endless all first children.now) (init_least_told all first children.now).caps) }
+    {
+        let (needed, _after) = least_of_children(children, self.least, first);
+        let (endless, _after) = of_children(children, self.endless, first);
+        least_of(needed, endless)
+    }
+}
 
 /// Puts the line of a node at the end of a text.
 fn push_node(
@@ -24,9 +56,9 @@ fn push_node(
     version: Version,
     label: &[u8],
     quantum: Quantum,
-    least: Amount,
+    least: Least,
 ) -> Result<(), AllocError>
-    ensures { OnOk result (text.new.items ≡ text.old.items ++ node_line (version_number version) label.now quantum least) }
+    ensures { OnOk result (text.new.items ≡ text.old.items ++ node_line (version_number version) label.now quantum least.ram least.caps) }
 {
     text.extend_from_slice(b"size ")?;
     text.extend_from_slice(label)?;
@@ -53,17 +85,17 @@ fn push_nodes(
     version: Version,
     label: &[u8],
     nodes: &Nodes,
-    least: &[Amount],
+    leaves: &Leaves<'_>,
     first: usize,
 ) -> Result<usize, AllocError>
     requires { first + leaf_count nodes.now ≤ 64 }
-    ensures lines { (all : model.System) → least.now ≡ leasts_from all 0 all.components
+    ensures lines { (all : model.System) → AreLeast all leaves.now.least.now leaves.now.endless.now
         → OnOk result (text.new.items ≡ text.old.items ++ node_lines (version_number version) all label.now first nodes.now) }
     ensures next { IfOk result (λ next. next ≡ first + leaf_count nodes.now) }
 {
     let mut next = first;
     for node in nodes.nodes() {
-        next = push_below(alloc, text, version, label, node, least, next)?;
+        next = push_below(alloc, text, version, label, node, leaves, next)?;
     }
     Ok(next)
 }
@@ -77,18 +109,18 @@ fn push_below(
     version: Version,
     label: &[u8],
     node: &Node,
-    least: &[Amount],
+    leaves: &Leaves<'_>,
     first: usize,
 ) -> Result<usize, AllocError>
     requires { first + leaf_count (nodes_of (node.now ∷ [])) ≤ 64 }
-    ensures lines { (all : model.System) → least.now ≡ leasts_from all 0 all.components
+    ensures lines { (all : model.System) → AreLeast all leaves.now.least.now leaves.now.endless.now
         → OnOk result (text.new.items ≡ text.old.items ++ node_lines (version_number version) all label.now first (nodes_of (node.now ∷ []))) }
     ensures next { IfOk result (λ next. next ≡ first + leaf_count (nodes_of (node.now ∷ []))) }
 {
     match node {
         Node::Leaf(leaf) => {
             let label = below(alloc, label, leaf.name().as_bytes())?;
-            let needed = least_at(least, first);
+            let needed = leaves.of_leaf(first);
             let pushed = push_node(text, version, label.as_slice(), leaf.quantum(), needed);
             drop(label);
             pushed?;
@@ -103,7 +135,7 @@ fn push_below(
                 label.as_slice(),
                 init.quantum(),
                 children,
-                least,
+                leaves,
                 first,
             );
             drop(label);
@@ -122,18 +154,24 @@ fn push_init(
     label: &[u8],
     quantum: Quantum,
     children: &Nodes,
-    least: &[Amount],
+    leaves: &Leaves<'_>,
     first: usize,
 ) -> Result<usize, AllocError>
     requires { first + leaf_count children.now ≤ 64 }
-    ensures lines { (all : model.System) → least.now ≡ leasts_from all 0 all.components
-        → OnOk result (text.new.items ≡ text.old.items ++ node_line (version_number version) label.now quantum (init_least_told all first children.now)
+    ensures lines { (all : model.System) → AreLeast all leaves.now.least.now leaves.now.endless.now
+        → OnOk result (text.new.items ≡ text.old.items ++ node_line (version_number version) label.now quantum (init_least_told all first children.now).ram
+        (unless (children_endless all first children.now) (init_least_told all first children.now).caps)
         ++ node_lines (version_number version) all label.now first children.now) }
     ensures next { IfOk result (λ next. next ≡ first + leaf_count children.now) }
 {
-    let (needed, _after) = least_of_children(children, least, first);
-    push_node(text, version, label, quantum, needed)?;
-    push_nodes(alloc, text, version, label, children, least, first)
+    push_node(
+        text,
+        version,
+        label,
+        quantum,
+        leaves.of_init(children, first),
+    )?;
+    push_nodes(alloc, text, version, label, children, leaves, first)
 }
 
 /// Whole pages, at least one; 2^64 - 1 where they are more.
@@ -161,17 +199,19 @@ pub(crate) fn push_tree(
     alloc: Global,
     text: &mut Vec<u8>,
     scenario: &Scenario,
-    least: &[Amount],
+    leaves: &Leaves<'_>,
 ) -> Result<(), AllocError>
-    ensures { (all : model.System) → least.now ≡ leasts_from all 0 all.components
+    ensures { (all : model.System) → AreLeast all leaves.now.least.now leaves.now.endless.now
         → OnOk result (text.new.items ≡ text.old.items
-        ++ node_line scenario.now.version (codes "init") scenario.now.total (root_least_told all scenario.now.nodes)
+        ++ root_line scenario.now.version all scenario.now.total scenario.now.nodes
         ++ node_lines scenario.now.version all (codes "init") 0 scenario.now.nodes) }
 {
     let _leaves = scenario.leaf_count();
     let version = scenario.version();
-    let (needed, _after) = least_of_children(scenario.nodes(), least, 0);
-    push_node(text, version, b"init", scenario.total(), root_least(needed))?;
-    push_nodes(alloc, text, version, b"init", scenario.nodes(), least, 0)?;
+    let (needed, _after) = least_of_children(scenario.nodes(), leaves.least, 0);
+    let (endless, _after) = of_children(scenario.nodes(), leaves.endless, 0);
+    let least = least_of(root_least(needed), endless);
+    push_node(text, version, b"init", scenario.total(), least)?;
+    push_nodes(alloc, text, version, b"init", scenario.nodes(), leaves, 0)?;
     Ok(())
 }

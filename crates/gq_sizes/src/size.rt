@@ -10,19 +10,22 @@ ghost use Rattle.gq_world.specs.Outcomes.{WritesAs};
 ghost use Rattle.gq_sizes.specs.Size.{all_gifts};
 ghost use Rattle.gq_sizes.specs.Judged.{fault_without, judged_without};
 ghost use Rattle.gq_sizes.specs.Size_text.{size_text};
-ghost use Rattle.gq_sizes.specs.Tables.{AreOf, caps_rows, leasts_from, ram_rows};
+ghost use Rattle.gq_sizes.specs.Passing.{endless_from, endless_rows};
+ghost use Rattle.gq_sizes.specs.Tables.{AreLeast, AreOf, caps_rows, leasts_from, ram_rows};
 ghost use Rattle.gq_sizes.specs.Written.{size_written};
 
+use crate::endless::{Sessions, endless};
 use crate::interfaces::{Sums, push_interfaces};
 use crate::judged::read;
 use crate::leaves::{least_of_leaves, owns};
 use crate::needs::{least_caps, least_ram};
-use crate::nodes::push_tree;
+use crate::nodes::{Leaves, push_tree};
 use crate::points::Given;
 use crate::programs::all_verified;
 use crate::sections::levels_are_low;
 use crate::shorts::push_shorts;
-use gq_init::counted::{Counted, put};
+use crate::unending::{endless_leaves, endless_owns};
+use gq_init::counted::Counted;
 use gq_load::budget::Budget;
 use gq_load::fault::LoadError;
 use gq_load::quantities::{Unsized, judge_unsized};
@@ -33,6 +36,7 @@ use gq_scenario::scenario::Scenario;
 use gq_tariff::Amount;
 use gq_verify::Verified;
 use gq_world::RunFault;
+use gq_world::text::put_text;
 use std::alloc::{AllocError, Global};
 use std::io::Write;
 
@@ -46,11 +50,13 @@ fn sums_of(
     requires { AreOf (system free.now) components.now leaves.now free.now.interfaces }
     ensures ram { IfOk result (λ s. s.ram.items ≡ ram_rows (system free.now) (all_gifts (system free.now) components.now) free.now.interfaces) }
     ensures caps { IfOk result (λ s. s.caps.items ≡ caps_rows (system free.now) free.now.interfaces) }
+    ensures endless { IfOk result (λ s. s.endless.items ≡ endless_rows (system free.now) free.now.interfaces) }
 {
     let interfaces = free.interfaces();
     let ram = least_ram(alloc, components, leaves, interfaces)?;
     let caps = least_caps(alloc, components, leaves, interfaces)?;
-    Ok(Sums { ram, caps })
+    let endless = endless(alloc, components, leaves, interfaces)?;
+    Ok(Sums { ram, caps, endless })
 }
 
 /// What each leaf of a scenario without its quantities needs at least, by these least sums.
@@ -76,6 +82,27 @@ fn least_leaves(
     least_of_leaves(alloc, components, owns.as_slice())
 }
 
+/// For which leaves of a scenario without its quantities no number of capabilities is enough, by these interfaces and levels.
+fn unending_leaves(
+    alloc: Global,
+    free: &Scenario,
+    components: &[Component<'_>],
+    leaves: &[Verified<'_>],
+    sums: &Sums,
+) -> Result<Vec<bool>, AllocError>
+    requires leaves { AreOf (system free.now) components.now leaves.now free.now.interfaces }
+    requires endless { sums.now.endless.items ≡ endless_rows (system free.now) free.now.interfaces }
+    ensures { IfOk result (λ endless. endless.items ≡ endless_from (system free.now) 0 components.now) }
+{
+    levels_are_low(leaves);
+    let sessions = Sessions {
+        interfaces: free.interfaces(),
+        tests: sums.endless.as_slice(),
+    };
+    let owns = endless_owns(alloc, leaves, &sessions)?;
+    endless_leaves(alloc, components, owns.as_slice())
+}
+
 /// The text of a scenario, of which all this is least.
 fn pushed(
     alloc: Global,
@@ -84,20 +111,21 @@ fn pushed(
     components: &[Component<'_>],
     programs: &[Program],
     sums: &Sums,
-    least: &[Amount],
+    leaves: &Leaves<'_>,
 ) -> Result<Vec<u8>, AllocError>
     requires free { free.now ≡ unsized scenario.now }
     requires components { components.now ≡ model.components free.now }
     requires programs { programs.now ≡ map (λ c. c.node.program) components.now }
     requires ram { sums.now.ram.items ≡ ram_rows (system free.now) (all_gifts (system free.now) components.now) free.now.interfaces }
     requires caps { sums.now.caps.items ≡ caps_rows (system free.now) free.now.interfaces }
-    requires least { least.now ≡ leasts_from (system free.now) 0 components.now }
+    requires endless { sums.now.endless.items ≡ endless_rows (system free.now) free.now.interfaces }
+    requires leaves { AreLeast (system free.now) leaves.now.least.now leaves.now.endless.now }
     ensures { IfOk result (λ text. text.items ≡ size_text scenario.now) }
 {
     let mut text = Vec::new(alloc);
     push_interfaces(&mut text, scenario.version(), scenario.interfaces(), sums)?;
     push_shorts(&mut text, free.interfaces(), sums, components, programs)?;
-    push_tree(alloc, &mut text, scenario, least)?;
+    push_tree(alloc, &mut text, scenario, leaves)?;
     Ok(text)
 }
 
@@ -121,15 +149,12 @@ fn text_of(
     let sums = sums_of(alloc, free, components, leaves.as_slice())?;
     let budgets = found.budgets.as_slice();
     let least = least_leaves(alloc, free, components, leaves.as_slice(), budgets, &sums)?;
-    pushed(
-        alloc,
-        scenario,
-        free,
-        components,
-        programs,
-        &sums,
-        least.as_slice(),
-    )
+    let endless = unending_leaves(alloc, free, components, leaves.as_slice(), &sums)?;
+    let found = Leaves {
+        least: least.as_slice(),
+        endless: endless.as_slice(),
+    };
+    pushed(alloc, scenario, free, components, programs, &sums, &found)
 }
 
 /// The text of a scenario, by this one without its quantities; or the first fault of this one.
@@ -167,11 +192,17 @@ fn judged_text(alloc: Global, text: &[u8]) -> Result<Vec<u8>, LoadError>
     text
 }
 
-/// Writes what each interface, leaf and init of a scenario has, and the least that it needs: with the least quantities in place of its own the scenario is
-/// accepted, unless an `open` gives less than a session of its interface needs; such statements have a line of their own. Bytes, and in version 2
-/// capabilities; a number above 2^64 - 1 is told as 2^64 - 1. It tells it of every scenario that passes the rules that quantities do not decide, accepted
-/// or not; another is refused by the first of them, in the words of `check`. Nothing is written where it is refused, or where host memory is. After a
-/// failed write a front of the text was written.
+/// Writes what each interface, leaf and init of a scenario has, and the least that it needs.
+///
+/// With the least quantities in place of its own the scenario is accepted, with two exceptions:
+///
+/// - An `open` gives less than a session of its interface needs. Each such statement has a line of its own.
+/// - Sessions hold one another without end, so no number of capabilities is enough. `none` stands in place of such a number.
+///
+/// Bytes, and in version 2 capabilities. A number above 2^64 - 1 is printed as 2^64 - 1.
+///
+/// A scenario that breaks a rule which quantities do not decide is refused by the first such rule, in the words of `check`; any other one has a text, accepted
+/// or not. Nothing is written after a refusal or an allocation failure. After a failed write a prefix of the text is written.
 pub fn size<W: Write>(
     alloc: Global,
     scenario: &[u8],
@@ -180,8 +211,5 @@ pub fn size<W: Write>(
     ensures { WritesAs W.contents (size_written scenario.now) out.old out.new result }
 {
     let text = judged_text(alloc, scenario)?;
-    match put(out, text.as_slice()) {
-        Ok(()) => Ok(()),
-        Err(_) => Err(RunFault::Write),
-    }
+    put_text(out, text.as_slice())
 }

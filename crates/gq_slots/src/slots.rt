@@ -456,8 +456,8 @@ impl Slots {
         clear(&mut self.trades, &mut self.own, spot);
     }
 
-    /// PutsSlot what holds no memory into a slot in the place of what holds none: a link, a mark that the slot waits, or nothing. Whoever pays, it costs
-    /// nothing.
+    /// Puts what holds no memory into a slot in the place of what holds none: a link, a mark that the slot waits, or nothing. It costs nothing, whoever
+    /// pays.
     pub fn mark(&mut self, spot: Spot, contents: Content)
         requires slot { IsSlot spot }
         requires there { IsSpot self.old spot }

@@ -1,4 +1,5 @@
 // What is known of a document: a tree of keys, elements and tables, each with its places.
+// No contract: its results are places; tests show them (`gq_rows`).
 use std::alloc::{AllocError, Global};
 use std::collections::BTreeMap;
 

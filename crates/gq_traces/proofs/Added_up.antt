@@ -22,7 +22,8 @@ use Rattle.gq_laws.proofs.paying.Prices.{paid_one}
 use Rattle.gq_traces.specs.State.{Item, Role, Given, Held, Lent, Received, amount_by, is_live, item, leaf_items, live_items, lent_items, place_items}
 use Rattle.gq_traces.specs.State.{places_items}
 use Rattle.gq_traces.specs.State.{received_items, session_items, sessions_items, slot_items, slots_items}
-use Rattle.gq_traces.specs.Made_of.{LeafAddsUp, LeavesAddUp, sum_of}
+use Rattle.gq_traces.specs.Made_of.{sum_of}
+use Rattle.gq_traces.specs.internal.Adding.{LeafAdds, LeavesAdd}
 
 pub sum_both : (role : Role) (r : Resource) (xs ys : List Item) → sum_of role r (xs ++ ys) ≡ sum_of role r xs + sum_of role r ys
 sum_both role r [] ys = omega arith
@@ -193,7 +194,7 @@ live_handed Exited n e = absurd (true≢false (sym e))
 
 module _ (s : Scenario) (w : World) (linked : IsLinkedWorld (system s) w) (x : ℕ) (c : Component) (leaf : Leaf) (there : slice_get w.leaves x ≡ Some leaf)
     (live : is_live leaf.phase ≡ true) where
-  live_adds : (r : Resource) → is_paid w x c leaf r ≡ true → LeafAddsUp s w x c leaf r
+  live_adds : (r : Resource) → is_paid w x c leaf r ≡ true → LeafAdds s w x c leaf r
   live_adds r pays =
       let all = system s in
       let own = slots_items all w Own 0 leaf.slots in
@@ -233,12 +234,12 @@ module _ (s : Scenario) (w : World) (linked : IsLinkedWorld (system s) w) (x : �
         quota_is = omega (arith, gives, takes, lends, a_gives, a_takes, a_lends, b_gives, b_takes, b_lends, d_gives, d_takes, d_lends, lent_is, quotas);
       }
 
-  each_adds : (resources : List Resource) → are_paid w x c leaf resources ≡ true → EachOf resources (LeafAddsUp s w x c leaf)
+  each_adds : (resources : List Resource) → are_paid w x c leaf resources ≡ true → EachOf resources (LeafAdds s w x c leaf)
   each_adds [] pays = tt
   each_adds (r ∷ resources) pays =
       let p = and_parts (is_paid w x c leaf r) (are_paid w x c leaf resources) pays in (live_adds r p.0, each_adds resources p.1)
 
-pub leaves_add_up : (s : Scenario) (w : World) → IsLinkedWorld (system s) w → paid (system s) w ≡ true → LeavesAddUp s w
+pub leaves_add_up : (s : Scenario) (w : World) → IsLinkedWorld (system s) w → paid (system s) w ≡ true → LeavesAdd s w
 leaves_add_up s w linked pays x c leaf named there live =
     each_adds s w linked x c leaf there live (system s).counted
     (paid_one (system s).counted w 0 (components s) w.leaves pays x c leaf named there x (omega arith))

@@ -12,12 +12,12 @@ use Rattle.gq_model.specs.declared.phase.Phase.{Phase}
 use Rattle.gq_model.specs.declared.phase.Phase.TheVariants as phase
 use Rattle.gq_model.specs.machine.Amounts.{Ram, Caps}
 use Rattle.gq_model.specs.machine.Doing.{Quiet}
-use Rattle.gq_model.specs.machine.Scenario.{Scenario, components, system}
+use Rattle.gq_model.specs.machine.Scenario.{Scenario, System, components, system}
 use Rattle.gq_model.specs.machine.Step.{next}
 use Rattle.gq_model.specs.machine.Sums.{held}
 use Rattle.gq_model.specs.machine.World as model
 use Rattle.gq_model.specs.machine.World.{Leaf, with_leaf}
-use Rattle.gq_views.specs.Tree.{label_of}
+use Rattle.gq_model.specs.machine.Run.{label_at}
 use Rattle.gq_world.specs.Worlds.{World}
 use Rattle.gq_traces.specs.Trace.{Traced, after_turn, after_turns, changes, turn_text, turns_text}
 use Rattle.gq_traces.specs.declared.follow.Followed.{Followed}
@@ -116,10 +116,10 @@ module _ (s : Scenario) (x : ℕ) (less : x < length (components s)) (programs :
     -- WHAT IS TOLD
 
     module _ (stands : ∥ Stands s w ∥₁) (notes : Notes) (noted : AreNoted s w notes) where
-      left : AreNoted s then notes × (changes s (budgets_of s) (label_of (slice_get (components s) x)) w then Quiet ≡ [])
+      left : AreNoted s then notes × (changes s (budgets_of s) (label_at (slice_get (components s) x)) w then Quiet ≡ [])
       left =
           step_left (at w) (at then) x Quiet (record { scenario = s; world = w }) (record { scenario = s; world = then }) u u stands refl goes refl refl u_is
-          (use_then s x w leaf st there u u_is) (phase_self u.phase) (amount_self u.used) notes noted (label_of (slice_get (components s) x))
+          (use_then s x w leaf st there u u_is) (phase_self u.phase) (amount_self u.used) notes noted (label_at (slice_get (components s) x))
 
       none_told : (turns : ℕ) (t : Traced) → IsOn programs old (at w) turns t → [] ≡ turn_text false s (budgets_of s) x t
       none_told turns t on =
@@ -172,6 +172,24 @@ module _ (s : Scenario) (x : ℕ) (less : x < length (components s)) (programs :
         noted = more.noted;
         none = λ turns t is. (λ i. none turns t is i ++ more.none (turns + 1) (after_turn (system s) x t) (on turns t is) i);
       }
+
+-- where all leaves stand, they do so after such steps
+pub stands_still : (s : Scenario) (x : ℕ) → x < length (components s) → (programs : List Entries) → ArePrograms programs (programs_of s) → (stopped : Bool)
+    → (n : ℕ) (w v : model.World) (old new : List places.Ahead) → StepsAlone (system s) programs x n w v old new
+    → length w.leaves ≡ length (components s) → AllStand programs old → AllStand programs new
+stands_still s x less programs are stopped n w v old new h count = (gone s x less programs are stopped n w v old new h count).stand
+
+-- steps and more steps
+module _ (system : System) (programs : List Entries) (x : ℕ) where
+  pub steps_then : (n m k : ℕ) → k ≡ n + m → (w v u : model.World) (a b c : List places.Ahead) → StepsAlone system programs x n w v a b
+      → StepsAlone system programs x m v u b c → StepsAlone system programs x k w u a c
+  steps_then zero m k e w v u a b c h g =
+      let same : m ≡ k = omega (arith, e) in
+      subst (λ j. StepsAlone system programs x j w u a c) same
+      (subst (λ (z : model.World). StepsAlone system programs x m z u a c) (sym h.0) (subst (λ l. StepsAlone system programs x m v u l c) (sym h.1) g))
+  steps_then (suc n) m zero e w v u a b c h g = absurd (omega (arith, e))
+  steps_then (suc n) m (suc k) e w v u a b c h g =
+      (h.0, h.1, h.2, h.3, h.4, h.5, h.6, steps_then n m k (omega (arith, e)) (with_leaf w x (leaf_with h.0 h.1)) v u h.2 b c h.7 g)
 
 -- by lists of other names
 pub steps_as : (s : Scenario) (P Q : List Entries) (A B C D : List places.Ahead) (x n : ℕ) (w v : model.World) → P ≡ Q → A ≡ B → C ≡ D

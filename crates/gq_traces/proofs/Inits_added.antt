@@ -22,7 +22,8 @@ use Rattle.gq_resolve.proofs.Rows.{length-rows_of}
 use Rattle.gq_scenario.specs.Sizes.{node_count}
 use Rattle.gq_world.proofs.Accounts.{leaf_there}
 use Rattle.gq_traces.specs.State.{Given, Handed, child_items, handed_items, has_quantum, is_at, item, lives}
-use Rattle.gq_traces.specs.Made_of.{InitAddsUp, InitsAddUp, sum_of}
+use Rattle.gq_traces.specs.Made_of.{sum_of}
+use Rattle.gq_traces.specs.internal.Adding.{InitAdds, InitsAdd}
 use Rattle.gq_traces.proofs.Added_up.{sum_both}
 
 module _ (r : Resource) (w : World) where
@@ -124,7 +125,7 @@ module _ (r : Resource) (w : World) where
 -- ACCOUNTS
 
 -- of a resource that is counted in this version
-part_in : (version : ℕ) (r : Resource) → IsCounted version r → (f : Resource → ℕ) → part r (amount_in version (f Ram) (f Caps)) ≡ f r
+pub part_in : (version : ℕ) (r : Resource) → IsCounted version r → (f : Resource → ℕ) → part r (amount_in version (f Ram) (f Caps)) ≡ f r
 part_in version Ram h f = refl
 part_in version Caps h f = ap (λ b. cond b (f Caps) 0) h
 
@@ -226,7 +227,7 @@ module _ (s : Scenario) (w : World) (stands : Stands s w) where
   rows = node_rows s
 
   adds_by : (r : Resource) → IsCounted s.version r → (told : List ℕ) (n : ℕ) (node : NodeRow) (a : Account) → slice_get rows n ≡ Some node
-      → slice_get (accounts s w told) n ≡ Some a → node.leaf ≡ None → InitAddsUp s w n node a r
+      → slice_get (accounts s w told) n ≡ Some a → node.leaf ≡ None → InitAdds s w n node a r
   adds_by r counted told n node a e f none =
       let there = leaf_there s w stands.whole.count in
       let fit = stands.fits r in
@@ -244,9 +245,9 @@ module _ (s : Scenario) (w : World) (stands : Stands s w) where
       let at = ap (λ k. hands r w k rows) same in omega (arith, adds, none_given, at)
 
   each_by : (b : Bool) → (s.version == 2) ≡ b → (told : List ℕ) (n : ℕ) (node : NodeRow) (a : Account) → slice_get rows n ≡ Some node
-      → slice_get (accounts s w told) n ≡ Some a → node.leaf ≡ None → EachOf (cond b (Ram ∷ Caps ∷ []) (Ram ∷ [])) (InitAddsUp s w n node a)
+      → slice_get (accounts s w told) n ≡ Some a → node.leaf ≡ None → EachOf (cond b (Ram ∷ Caps ∷ []) (Ram ∷ [])) (InitAdds s w n node a)
   each_by true v told n node a e f none = (adds_by Ram tt told n node a e f none, (adds_by Caps v told n node a e f none, tt))
   each_by false v told n node a e f none = (adds_by Ram tt told n node a e f none, tt)
 
-  pub inits_add_up : InitsAddUp s w
+  pub inits_add_up : InitsAdd s w
   inits_add_up told n node a e f none = each_by (s.version == 2) refl told n node a e f none

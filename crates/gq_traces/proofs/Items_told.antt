@@ -11,7 +11,7 @@ use Rattle.gq_views.specs.Listing.{indent, line, place_text}
 use Rattle.gq_traces.specs.State.{Item, Role, Lent, depth_of, item, item_line, role_word, items_text, lent_items, service_text}
 use Rattle.gq_traces.specs.State.{slot_items}
 use Rattle.gq_traces.specs.Trace as trace
-use Rattle.gq_traces.specs.Trace.{amount_text, label_at, requested_text, told_in, told_session}
+use Rattle.gq_traces.specs.Trace.{amount_text, leaf_label, requested_text, told_in, told_session}
 use Rattle.gq_traces.specs.internal.Items.{holding_items}
 use Rattle.gq_traces.specs.internal.Noted.{seen_session, service_at}
 use Rattle.gq_traces.specs.declared.sessions.ToldSession.{ToldSession}
@@ -33,7 +33,7 @@ items_both version (x ∷ xs) ys =
 abbrev lent_of : System → Place → trace.ToldSession → Item
 lent_of system place u =
     item (depth_of place) Lent u.donation
-    (codes " to " ++ label_at system u.server ++ codes ": " ++ place_text place ++ codes " " ++ service_text u.service u.level ++ requested_text u.requested)
+    (codes " to " ++ leaf_label system u.server ++ codes ": " ++ place_text place ++ codes " " ++ service_text u.service u.level ++ requested_text u.requested)
 
 never : {A : Type 0} (a : A) → Some a ≡ None → ⊥
 never a e = cc
@@ -79,7 +79,7 @@ amount_told r s same d role a b costs blanks told behind blank is =
 
 pub lent_told : (r s : Scenario) → r ≡ s → (w : World) (place : Place) (k : ℕ) (t : ToldSession) → Some (seen_session s t) ≡ told_session w k
     → (blanks told behind : List ℕ) → blanks ≡ indent (depth_of place) → told ≡ behind
-    → behind ≡ codes " to " ++ label_at (system r) t.server ++ codes ": " ++ place_text place ++ codes " " ++ service_text (service_at r t.service) t.level
+    → behind ≡ codes " to " ++ leaf_label (system r) t.server ++ codes ": " ++ place_text place ++ codes " " ++ service_text (service_at r t.service) t.level
     ++ requested_text t.requested
     → put_line r.version blanks (codes "lends") t.donation told ≡ items_text s.version (lent_items (system s) w place k (session_at w k))
 lent_told r s same w place k t e blanks told behind blank is bytes =

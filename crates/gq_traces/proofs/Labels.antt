@@ -2,10 +2,10 @@
 use Rattle.std.proofs.Common.{◌≡◌, ◌<◌, ℕ, zero, suc, List, [], ◌∷◌, length, IfSome, arith}
 use Rattle.std.specs.Prelude.{slice_get}
 use Rattle.gq_model.specs.machine.Scenario.{Component}
-use Rattle.gq_views.specs.Tree.{label_of}
+use Rattle.gq_model.specs.machine.Run.{label_at}
 
 pub label_told : (cs : List Component) (x : ℕ) (label : List ℕ) → x < length cs → IfSome (slice_get cs x) (λ d. label ≡ d.label)
-    → label ≡ label_of (slice_get cs x)
+    → label ≡ label_at (slice_get cs x)
 label_told [] x label less h = absurd (omega (arith, less))
 label_told (c ∷ cs) zero label less h = h
 label_told (c ∷ cs) (suc x) label less h = label_told cs x label (omega (arith, less)) h

@@ -61,3 +61,6 @@ mod Step_lines
 mod Node_names
 mod Told_run
 mod Inits_added
+mod Nodes_added
+mod Left_steps
+mod Left_to_do

@@ -1,6 +1,8 @@
 -- Nodes of a scenario that was read have printed names, and so have its services.
-use Rattle.std.proofs.Common.{◌≡◌, ℕ, zero, suc, ◌+◌, Bool, true, false, cond, List, [], ◌∷◌, ◌++◌, Option, Some, None, Ok, refl, sym, subst}
-use Rattle.std.specs.Prelude.{Result, Err, codes, slice_get}
+use Rattle.std.proofs.Common.{◌≡◌, ℕ, zero, suc, ◌+◌, ◌≤◌, ◌||◌, Bool, true, false, true≢false, cond, List, [], ◌∷◌, ◌++◌, length, map, Option, Some, None, Ok}
+use Rattle.std.proofs.Common.{is_some, refl, sym, subst, arith}
+use Rattle.std.specs.Prelude.{Result, Err, codes, nat_lt, slice_get}
+use Rattle.std.proofs.lemmas.Bool.Decides.{nat_tests}
 use Rattle.std.proofs.lemmas.Bool.{and_parts}
 use Rattle.toml.specs.Data.{Data, Members, no_members, member, get_member}
 use Rattle.gq_model.proofs.Small.{none_some, or_first_none, some_none, some_same, text_is}
@@ -14,14 +16,19 @@ use Rattle.gq_model.specs.machine.World.{Leaf, World}
 use Rattle.gq_model.specs.texts.Letters.{is_name}
 use Rattle.gq_scenario.specs.Document.{described, document_fault, first_of, init_of, interface_of, interfaces_of, is_init, keys_of, leaf_of, list_at, name_at}
 use Rattle.gq_scenario.specs.Document.{node_fault, node_onto, nodes_by, or_empty, interfaces_fault, routes_fault, table_of, value_of, walk_fault}
-use Rattle.gq_scenario.specs.Keys.{DocumentFault, is_name_text, members_of, passes, table_fault, text_of}
+use Rattle.gq_scenario.specs.Document.{counts_fault, has_too_many, name_twice, names_of}
+use Rattle.gq_scenario.specs.Keys.{DocumentFault, TooMany, is_name_text, members_of, passes, table_fault, text_of}
 use Rattle.gq_scenario.specs.Tables.{are_named_tables, init_keys, leaf_keys, top_keys, version_of}
 use Rattle.gq_scenario.specs.Reading.{ReadFault, Bad_document, described_or, document_in, read_from}
 use Rattle.gq_reader.proofs.Documents.{walked}
-use Rattle.gq_reader.proofs.Kept.{fits_or_none, kept}
+use Rattle.gq_scenario.specs.Sizes.{leaves_in}
+use Rattle.gq_scenario.proofs.Preorder.{components-count, components-leaves_in}
+use Rattle.gq_reader.proofs.Kept.{fits_or_none, kept, one_there}
 use Rattle.gq_laws.specs.Shapes.{Each}
 use Rattle.gq_load.specs.Load.{Fault, Unread, loaded, loaded_from, loaded_or, scenario_fault}
+use Rattle.gq_load.proofs.Sound_programs.{each_append}
 use Rattle.gq_load.proofs.Sound_texts.{not_ok, same_scenario}
+use Rattle.gq_traces.proofs.Named.{HasNames}
 use Rattle.gq_traces.proofs.Printed_instructions.{name_printed}
 use Rattle.gq_traces.proofs.Printed_numbers.{IsPrinted, both}
 use Rattle.gq_traces.proofs.Step_lines.{AreLabelled, HasTexts}
@@ -30,11 +37,11 @@ use Rattle.gq_traces.proofs.Step_lines.{AreLabelled, HasTexts}
 
 abbrev pub AreNodes : Nodes → Type 0
 AreNodes End = Unit {0}
-AreNodes (Leaf_node node rest) = IsPrinted node.name × AreNodes rest
-AreNodes (Init_node node children rest) = IsPrinted node.name × AreNodes children × AreNodes rest
+AreNodes (Leaf_node node rest) = (is_name node.name ≡ true) × AreNodes rest
+AreNodes (Init_node node children rest) = (is_name node.name ≡ true) × AreNodes children × AreNodes rest
 
-below_printed : (label name : List ℕ) → IsPrinted label → IsPrinted name → IsPrinted (below label name)
-below_printed label name h g = both (label ++ codes " -> ") name (both label (codes " -> ") h refl) g
+below_printed : (label name : List ℕ) → IsPrinted label → is_name name ≡ true → IsPrinted (below label name)
+below_printed label name h g = both (label ++ codes " -> ") name (both label (codes " -> ") h refl) (name_printed name g)
 
 each_both : (P : Component → Type 0) (xs ys : List Component) → Each P xs → Each P ys → Each P (xs ++ ys)
 each_both P [] ys h g = g
@@ -90,21 +97,24 @@ accounts_labelled s w budgets h = (refl, nodes_labelled s.version (system s) (ha
 
 -- DOCUMENTS
 
-passed_printed : (o : Option (List ℕ)) → passes is_name o ≡ true → IsPrinted (or_empty o)
-passed_printed None h = refl
-passed_printed (Some name) h = name_printed name h
+passed_name : (o : Option (List ℕ)) → passes is_name o ≡ true → is_name (or_empty o) ≡ true
+passed_name None h = absurd (true≢false (sym h))
+passed_name (Some name) h = h
 
-text_printed : (o : Option Data) → fits_or_none is_name_text o ≡ true → IsPrinted (or_empty (value_of text_of o))
-text_printed None h = refl
-text_printed (Some d) h = passed_printed (text_of d) h
+text_named : (o : Option Data) → is_some o ≡ true → fits_or_none is_name_text o ≡ true → is_name (or_empty (value_of text_of o)) ≡ true
+text_named None there h = absurd (true≢false (sym there))
+text_named (Some d) there h = passed_name (text_of d) h
 
 leaf_named : (version : ℕ) (services : List (List ℕ)) (entries : Members) → table_fault (leaf_keys version services) entries ≡ None
-    → IsPrinted (name_at entries)
+    → is_name (name_at entries) ≡ true
 leaf_named version services entries e =
-    text_printed (get_member (codes "name") entries) (kept (leaf_keys version services) entries e).1.0.fits
+    let name = (kept (leaf_keys version services) entries e).1.0 in
+    text_named (get_member (codes "name") entries) (one_there (is_some (get_member (codes "name") entries)) name.there) name.fits
 
-init_named : (version : ℕ) (entries : Members) → table_fault (init_keys version) entries ≡ None → IsPrinted (name_at entries)
-init_named version entries e = text_printed (get_member (codes "name") entries) (kept (init_keys version) entries e).1.0.fits
+init_named : (version : ℕ) (entries : Members) → table_fault (init_keys version) entries ≡ None → is_name (name_at entries) ≡ true
+init_named version entries e =
+    let name = (kept (init_keys version) entries e).1.0 in
+    text_named (get_member (codes "name") entries) (one_there (is_some (get_member (codes "name") entries)) name.there) name.fits
 
 module _ (version : ℕ) (services : List (List ℕ)) where
   each_named : (fault : Members → Option DocumentFault) (f : Members → Nodes → Nodes)
@@ -156,10 +166,29 @@ services_named version (member key d rest) h service i e =
 
 -- A SCENARIO
 
--- all nodes and services of a scenario have printed names
+-- all nodes and services of a scenario have names, and there are not too many leaves
 pub record AllNamed (s : Scenario) : Type 0 where
   pub nodes : AreNodes s.nodes
   pub services : AreServices s.interfaces
+  pub few : length (components s) ≤ 64
+
+first_false : (a b : Bool) → (a || b) ≡ false → a ≡ false
+first_false true b e = e
+first_false false b e = refl
+
+not_many : (s : Scenario) → counts_fault s ≡ None → has_too_many s ≡ false
+not_many s e = by (has_too_many s) refl e
+  where
+    by : (b : Bool) → has_too_many s ≡ b → cond b (Some TooMany) None ≡ None → has_too_many s ≡ false
+    by true same f = absurd (some_none f)
+    by false same f = same
+
+few_leaves : (s : Scenario) → counts_fault s ≡ None → length (components s) ≤ 64
+few_leaves s e =
+    let few : nat_lt 64 (leaf_count s.nodes) ≡ false = first_false _ _ (first_false _ _ (first_false _ _ (first_false _ _ (not_many s e)))) in
+    let count = components-count s in
+    let low : leaf_count s.nodes ≤ 64 = grind (arith, nat_tests) in
+    omega (arith, low, count)
 
 described_named : (top : Members) → document_fault top ≡ None → AllNamed (described top)
 described_named top e =
@@ -173,6 +202,7 @@ described_named top e =
       nodes = each_named version (keys_of interfaces) (node_fault 4 version (keys_of interfaces)) (node_onto 4)
           (λ entries rest f g. node_named version (keys_of interfaces) 4 entries rest f g) (list_at (codes "start") top) r.1;
       services = services_named version interfaces (walked top a.0).sound.named;
+      few = few_leaves (described top) (or_first_none (counts_fault (described top)) (name_twice (codes "init" ∷ []) (names_of (described top).nodes)) a.1).0;
     }
 
 -- a scenario that is loaded is one of these
@@ -190,3 +220,26 @@ loaded_named text s e = from (document_in text) e
     from : (r : Result Members ReadFault) → loaded_from (read_from document_fault r) ≡ Ok s → AllNamed s
     from (Ok top) f = found top (document_fault top) refl f
     from (Err why) f = absurd (not_ok (Unread why) s f)
+
+-- LEAVES
+
+leaves_named : (nodes : Nodes) → AreNodes nodes → Each (λ n. is_name n.name ≡ true) (leaves_in nodes)
+leaves_named End h = tt
+leaves_named (Leaf_node node rest) h = (h.0, leaves_named rest h.1)
+leaves_named (Init_node node children rest) h =
+    each_append (λ n. is_name n.name ≡ true) (leaves_in children) (leaves_in rest) (leaves_named children h.1) (leaves_named rest h.2)
+
+leaf_there : (cs : List Component) → Each (λ n. is_name n.name ≡ true) (map (λ (c : Component). c.node) cs) → (x : ℕ) (c : Component)
+    → slice_get cs x ≡ Some c → is_name c.node.name ≡ true
+leaf_there [] h x c e = absurd (none_some e)
+leaf_there (d ∷ cs) h zero c e = subst (λ (c : Component). is_name c.node.name ≡ true) (some_same e) h.0
+leaf_there (d ∷ cs) h (suc x) c e = leaf_there cs h.1 x c e
+
+-- the leaves of a scenario that is loaded have names, and are not too many
+pub has_names : (text : List ℕ) (s : Scenario) → loaded text ≡ Ok s → HasNames s
+has_names text s e =
+    let named = loaded_named text s e in
+    record {
+      names = leaf_there (components s) (subst (Each (λ n. is_name n.name ≡ true)) (sym (components-leaves_in s)) (leaves_named s.nodes named.nodes));
+      few = named.few;
+    }

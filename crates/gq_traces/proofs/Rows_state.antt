@@ -1,12 +1,15 @@
 -- Worked examples, by computation.
 use Rattle.std.proofs.Common.{◌≡◌, ℕ, [], ◌∷◌, ◌++◌, List, Some, None, Result, Ok, Err, refl}
-use Rattle.std.specs.Prelude.{codes}
+use Rattle.std.specs.Prelude.{codes, map}
 use Rattle.std.specs.Fmt.{digits}
 use Rattle.gq_model.specs.machine.Amounts.{Ram, Caps, amount}
 use Rattle.gq_model.specs.machine.Program.{Program}
 use Rattle.gq_model.specs.machine.Scenario.{Scenario, Any_child, As_text, End, Leaf_node}
 use Rattle.gq_model.specs.texts.Text.{assembled}
 use Rattle.gq_model.specs.declared.fault.TextFault.{TextFault}
+use Rattle.gq_traces.specs.Left.{left_in}
+use Rattle.gq_traces.specs.Made_of.{after}
+use Rattle.gq_traces.specs.Places.{Does, Ends}
 use Rattle.gq_traces.specs.State.{state_text}
 
 abbrev or_empty : Result Program (TextFault × ℕ) → Program
@@ -60,6 +63,12 @@ pub echo_state : state_text echo ((0, 1) ∷ (1, 1) ∷ (0, 2) ∷ (1, 2) ∷ (0
     codes "account init -> cli quota 0 used 0 steps 6/6 exited\n"
 unfolding digits
 echo_state = refl
+
+-- what is left to do once the client has asked for a session: nothing of the server's `main`, and what follows the `open`
+pub echo_left : map (λ a. a.todo) (left_in (after echo ((1, 1) ∷ [])).world)
+    ≡ Ends ∷ Does 0 (codes "push 21") (Does 0 (codes "call o0") (Does 0 (codes "out") (Does 0 (codes "close o0") Ends))) ∷ []
+unfolding digits
+echo_left = refl
 
 abbrev counted_cli : Program
 counted_cli = read_program (codes "main\n" ++ codes "  open o0 echo 8192\n" ++ codes "  push 21\n" ++ codes "  call o0\n" ++ codes "  out\n" ++ codes

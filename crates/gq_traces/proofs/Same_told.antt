@@ -6,11 +6,11 @@ use Rattle.gq_model.specs.declared.phase.Phase.TheVariants.{Pending, Running, Bl
 use Rattle.gq_model.specs.declared.program.Section.{Section}
 use Rattle.gq_model.specs.declared.program.Section.TheVariants.{Main, Opening, Upgrading, Calling, Closing}
 use Rattle.gq_model.specs.machine.Accounts.{Account}
-use Rattle.gq_model.specs.machine.Amounts.{Amount}
+use Rattle.gq_model.specs.machine.Amounts.{Amount, same_amount}
 use Rattle.gq_model.specs.machine.Program.{same_section, text_eq}
 use Rattle.gq_model.proofs.Small.{text_is}
 use Rattle.gq_init.specs.Told.{Told, told_of}
-use Rattle.gq_traces.specs.Trace.{Standing, ToldSession, Using, same_amount, same_phase, same_requested, same_standing, same_told, same_using, standing_of}
+use Rattle.gq_traces.specs.Trace.{Standing, ToldSession, Using, same_phase, same_requested, same_standing, same_told, same_using, standing_of}
 use Rattle.gq_traces.specs.declared.sessions.Requested.{Requested}
 use Rattle.gq_traces.specs.declared.sessions.Requested.TheVariants.{Nothing, Waits, AtHand}
 use Rattle.gq_traces.specs.internal.Noted.{standing_in}

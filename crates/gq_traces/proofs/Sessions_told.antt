@@ -10,7 +10,7 @@ use Rattle.gq_machine.specs.Readers.{IsToldOf}
 use Rattle.gq_machine.specs.declared.told.SessionState.{SessionState}
 use Rattle.gq_views.specs.Listing.{indent}
 use Rattle.gq_traces.specs.State.{Item, Received, bank_items, item, items_text, received_items, service_text, session_items, sessions_items}
-use Rattle.gq_traces.specs.Trace.{label_at}
+use Rattle.gq_traces.specs.Trace.{leaf_label}
 use Rattle.gq_traces.specs.internal.Noted.{service_at}
 use Rattle.gq_traces.specs.internal.Telling.{Goes}
 use Rattle.gq_traces.specs.internal.Items.{Tells_items}
@@ -34,7 +34,7 @@ received_here m k x n s P there server is h =
 -- what is received with a session, and what is held for it
 pub session_told : {W : Type 0} (contents : W → Option (List ℕ)) (m : Machine) (r : Scenario) (same : r ≡ m.scenario) (k : ℕ) (t : SessionState)
     (told : IsToldOf m k t) (a b c : Counted W) (x y z : Bool) (rest behind : List ℕ) → rest ≡ behind
-    → behind ≡ codes " from " ++ label_at (system r) t.client ++ codes ": " ++ service_text (service_at r t.service) t.level
+    → behind ≡ codes " from " ++ leaf_label (system r) t.client ++ codes ": " ++ service_text (service_at r t.service) t.level
     → Goes contents a b x y (put_line r.version (indent 1) (codes "receives") t.donation rest)
     → IfSome (session_at m.world k) (λ s. Tells_items contents b c y z m (bank_items (system m.scenario) m.world s))
     → IfSome (session_at m.world k) (λ s. Tells_items contents a c x z m (session_items (system m.scenario) m.world s))
@@ -44,14 +44,14 @@ session_told contents m r same k t told a b c x y z rest behind is bytes first s
     second in
     let line = goes_text contents a b x y _ _
     (amount_told r m.scenario same 1 Received t.donation s.donation told.donation (indent 1) rest
-    (codes " from " ++ label_at (system m.scenario) s.client ++ codes ": " ++ service_text s.service s.level) refl
-    (is ∙ bytes ∙ (λ i. codes " from " ++ label_at (system (same i)) (told.client i) ++ codes ": "
+    (codes " from " ++ leaf_label (system m.scenario) s.client ++ codes ": " ++ service_text s.service s.level) refl
+    (is ∙ bytes ∙ (λ i. codes " from " ++ leaf_label (system (same i)) (told.client i) ++ codes ": "
     ++ service_text (service_at (same i) t.service) (told.level i))
-    ∙ ap (λ n. codes " from " ++ label_at (system m.scenario) s.client ++ codes ": " ++ service_text n s.level) told.service)) first in
+    ∙ ap (λ n. codes " from " ++ leaf_label (system m.scenario) s.client ++ codes ": " ++ service_text n s.level) told.service)) first in
     subst (λ (o : Option Session). IfSome o (λ s. Tells_items contents a c x z m (session_items (system m.scenario) m.world s))) (sym told.there)
     (goes_text contents a c x z _ _
     (items_both m.scenario.version
-    (item 1 Received s.donation (codes " from " ++ label_at (system m.scenario) s.client ++ codes ": " ++ service_text s.service s.level) ∷ [])
+    (item 1 Received s.donation (codes " from " ++ leaf_label (system m.scenario) s.client ++ codes ": " ++ service_text s.service s.level) ∷ [])
     (bank_items (system m.scenario) m.world s))
     (goes_both contents a b c x y z _ _ line bank))
 

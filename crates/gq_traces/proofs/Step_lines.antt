@@ -8,14 +8,13 @@ use Rattle.gq_model.specs.machine.Accounts.{Account, LeafAccount, account_line, 
 use Rattle.gq_model.specs.machine.Accounts.{phase_word, told, used_entry}
 use Rattle.gq_model.specs.machine.Amounts.{Amount}
 use Rattle.gq_model.specs.machine.Doing.{Event, Idle, Quiet, Finished, Line}
-use Rattle.gq_model.specs.machine.Run.{line_of}
+use Rattle.gq_model.specs.machine.Run.{line_of, label_at}
 use Rattle.gq_model.specs.machine.Scenario.{Component, Scenario, System, system}
 use Rattle.gq_model.specs.machine.World.{World}
 use Rattle.gq_model.specs.texts.Fault_texts.{section_word}
-use Rattle.gq_views.specs.Tree.{label_of}
 use Rattle.gq_traces.specs.Lines_of.{begins}
 use Rattle.gq_traces.specs.Places.{Place}
-use Rattle.gq_traces.specs.Trace.{Standing, ToldSession, account_change, account_changes, amount_text, changes, head_line, label_at, parties_text}
+use Rattle.gq_traces.specs.Trace.{Standing, ToldSession, account_change, account_changes, amount_text, changes, head_line, leaf_label, parties_text}
 use Rattle.gq_traces.specs.Trace.{requested_text}
 use Rattle.gq_traces.specs.Trace.{same_standing, same_told, session_change, session_changes, session_line, standing_of, told_session, told_step}
 use Rattle.gq_traces.specs.declared.sessions.Requested.{Requested}
@@ -99,10 +98,10 @@ requested_printed (AtHand section) =
 pub record HasTexts (system : System) : Type 0 where
   pub labels : (x : ℕ) (c : Component) → slice_get system.components x ≡ Some c → IsPrinted c.label
 
-label_printed : (system : System) → HasTexts system → (x : ℕ) → IsPrinted (label_at system x)
+label_printed : (system : System) → HasTexts system → (x : ℕ) → IsPrinted (leaf_label system x)
 label_printed system h x = by (slice_get system.components x) refl
   where
-    by : (c : Option Component) → slice_get system.components x ≡ c → IsPrinted (label_of c)
+    by : (c : Option Component) → slice_get system.components x ≡ c → IsPrinted (label_at c)
     by None e = refl
     by (Some c) e = h.labels x c e
 
@@ -118,8 +117,8 @@ session_is version system k None texts h = record {
   is = sym (append_assoc (codes "session " ++ decimal k) (codes " ends") (10 ∷ []));
 }
 session_is version system k (Some t) texts h =
-    let server = label_at system t.server in
-    let labels = both (t.service ++ codes " of " ++ server ++ codes " for ") (label_at system t.client)
+    let server = leaf_label system t.server in
+    let labels = both (t.service ++ codes " of " ++ server ++ codes " for ") (leaf_label system t.client)
     (both (t.service ++ codes " of " ++ server) (codes " for ")
     (both (t.service ++ codes " of ") server (both t.service (codes " of ") h refl) (label_printed system texts t.server)) refl)
     (label_printed system texts t.client) in

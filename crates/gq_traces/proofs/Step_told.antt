@@ -4,12 +4,11 @@ use Rattle.std.proofs.lemmas.List.{length-map}
 use Rattle.std.specs.Prelude.{if◌then◌else◌, max, slice_get}
 use Rattle.gq_model.specs.machine.Accounts.{accounts}
 use Rattle.gq_model.specs.machine.Doing.{Event}
-use Rattle.gq_model.specs.machine.Run.{line_of}
+use Rattle.gq_model.specs.machine.Run.{line_of, label_at}
 use Rattle.gq_model.specs.machine.Scenario.{Scenario, components, system}
 use Rattle.gq_model.specs.machine.World as model
 use Rattle.gq_resolve.specs.NodeTables.{node_rows}
 use Rattle.gq_init.specs.declared.counted.Counted.{Counted}
-use Rattle.gq_views.specs.Tree.{label_of}
 use Rattle.gq_world.specs.Lines.{accounts_by, all_accounts}
 use Rattle.gq_world.specs.Worlds.{World}
 use Rattle.gq_traces.specs.Trace.{account_changes, changes, session_changes, standing_of, told_step}
@@ -59,19 +58,19 @@ module _ {W : Type 0} (contents : W → Option (List ℕ)) where
 
   -- the line of a step, by a scenario of another name
   pub line_as : (s r : Scenario) (h : Head) (event : Event) (a b : Counted W) (p q : Progress) → r ≡ s
-      → Tells contents a b p q (head_text r h) (line_of (label_of (slice_get (components r) h.leaf)) event)
-      → Tells contents a b p q (head_text s h) (line_of (label_of (slice_get (components s) h.leaf)) event)
+      → Tells contents a b p q (head_text r h) (line_of (label_at (slice_get (components r) h.leaf)) event)
+      → Tells contents a b p q (head_text s h) (line_of (label_at (slice_get (components s) h.leaf)) event)
   line_as s r h event a b p q e told =
-      subst (λ (x : Scenario). Tells contents a b p q (head_text x h) (line_of (label_of (slice_get (components x) h.leaf)) event)) e told
+      subst (λ (x : Scenario). Tells contents a b p q (head_text x h) (line_of (label_at (slice_get (components x) h.leaf)) event)) e told
 
   -- the line of a step, all accounts and all sessions
   pub step_changes : (s : Scenario) (h : Head) (old : model.World) (new : World) (notes : Notes) (event : Event) (b c d e : Counted W) (p q r t : Progress)
-      → new.scenario ≡ s → AreNoted s old notes → Tells contents b c p q (head_text s h) (line_of (label_of (slice_get (components s) h.leaf)) event)
+      → new.scenario ≡ s → AreNoted s old notes → Tells contents b c p q (head_text s h) (line_of (label_at (slice_get (components s) h.leaf)) event)
       → Tells contents c d q r (head_text new.scenario h)
       (account_changes new.scenario.version (map standing_in notes.accounts.items) (all_accounts new))
       → Tells contents d e r t (head_text new.scenario h)
       (session_changes new.scenario.version (system new.scenario) old new.world 0 (max (length old.sessions) (length new.world.sessions)))
-      → Tells contents b e p t (head_text s h) (changes s (budgets_of s) (label_of (slice_get (components s) h.leaf)) old new.world event)
+      → Tells contents b e p t (head_text s h) (changes s (budgets_of s) (label_at (slice_get (components s) h.leaf)) old new.world event)
   step_changes s h old new notes event b c d e p q r t same noted line of_accounts sessions =
       let head = head_text s h in
       let accounts_now = subst (Tells contents c d q r (head_text new.scenario h)) (accounts_are s old new notes same noted) of_accounts in

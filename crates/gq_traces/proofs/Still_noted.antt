@@ -20,7 +20,8 @@ use Rattle.gq_init.specs.Told.{Told}
 use Rattle.gq_machine.specs.Machines.{Machine}
 use Rattle.gq_world.specs.Lines.{accounts_by, all_accounts}
 use Rattle.gq_world.specs.Worlds.{World}
-use Rattle.gq_traces.specs.Trace.{Standing, ToldSession, account_change, account_changes, changes, same_amount, same_phase, standing_of, told_session}
+use Rattle.gq_traces.specs.Trace.{Standing, ToldSession, account_change, account_changes, changes, same_phase, standing_of, told_session}
+use Rattle.gq_model.specs.machine.Amounts.{same_amount}
 use Rattle.gq_traces.specs.declared.noted.Notes.{Notes}
 use Rattle.gq_traces.specs.declared.noted.Use.{Use}
 use Rattle.gq_traces.specs.internal.Noted.{AreNoted, IsRenewed, IsTold, IsUse, standing_in}

@@ -2,7 +2,8 @@
 use Rattle.std.proofs.Common.{◌≡◌, ◌∙◌, ℕ, zero, suc, ◌+◌, ◌<◌, Bool, true, false, List, [], ◌∷◌, ◌++◌, length, Option, Some, None, Ok, refl, ap, sym}
 use Rattle.std.proofs.Common.{subst, arith, append_assoc, append-nil, length-set, true≢false, ap₂}
 use Rattle.std.proofs.lemmas.List.{length-map}
-use Rattle.std.specs.Prelude.{codes, decimal, is_some, map, slice_get, slice_index, slice_set}
+use Rattle.std.specs.Prelude.{codes, decimal, is_some, map, slice_get, slice_index, slice_set, sum_by}
+use Rattle.std.proofs.lemmas.List.Sums.{sum_by-cons}
 use Rattle.std.proofs.lemmas.Option.{slice_get_within}
 use Rattle.gq_model.proofs.Small.{none_some, some_same}
 use Rattle.gq_model.specs.declared.phase.Phase.{Phase}
@@ -24,7 +25,7 @@ use Rattle.gq_laws.specs.Typing.{IsTyped}
 use Rattle.gq_laws.specs.internal.Left.{AllAre, AreLeft}
 use Rattle.gq_laws.proofs.remaining.Programs.{program_good}
 use Rattle.gq_laws.proofs.remaining.Worlds.{kept_left, start_left}
-use Rattle.gq_traces.specs.Lines_of.{TellsRun, TellsSteps, last_accounts, total}
+use Rattle.gq_traces.specs.Lines_of.{TellsRun, TellsSteps, last_accounts}
 use Rattle.gq_traces.specs.Places.{Ahead, Place, first_request, place_in, request_place, start_aheads, stepped}
 use Rattle.gq_traces.specs.Trace.{Due, Traced, after_all, after_due, after_step, after_turn, after_turns, all_text, changes, due, due_by, due_in, due_text}
 use Rattle.gq_traces.specs.Trace.{end_text}
@@ -41,16 +42,16 @@ use Rattle.gq_traces.proofs.Text_length.{Reaches, reaches_next}
 -- WHAT IS DUE
 
 -- what is known of a step that a leaf can take
-record IsDue (system : System) (x : ℕ) (t : Traced) (d : Due) : Type 0 where
-  leaf : Leaf
-  stands : slice_get t.world.leaves x ≡ Some leaf
-  there : slice_get system.components x ≡ Some d.component
-  old : Ahead
-  was : slice_get t.aheads x ≡ Some old
-  place : place_in t.world x d.component leaf old leaf.phase ≡ Some d.place
-  ahead : d.ahead ≡ stepped t.world x d.component leaf old leaf.phase
+pub record IsDue (system : System) (x : ℕ) (t : Traced) (d : Due) : Type 0 where
+  pub leaf : Leaf
+  pub stands : slice_get t.world.leaves x ≡ Some leaf
+  pub there : slice_get system.components x ≡ Some d.component
+  pub old : Ahead
+  pub was : slice_get t.aheads x ≡ Some old
+  pub place : place_in t.world x d.component leaf old leaf.phase ≡ Some d.place
+  pub ahead : d.ahead ≡ stepped t.world x d.component leaf old leaf.phase
 
-is_due : (system : System) (x : ℕ) (t : Traced) (d : Due) → due system x t ≡ Some d → IsDue system x t d
+pub is_due : (system : System) (x : ℕ) (t : Traced) (d : Due) → due system x t ≡ Some d → IsDue system x t d
 is_due system x t d e = by (slice_get system.components x) refl (slice_get t.world.leaves x) refl (slice_get t.aheads x) refl e
   where
     of : (c : Component) (leaf : Leaf) (a : Ahead) → slice_get system.components x ≡ Some c → slice_get t.world.leaves x ≡ Some leaf
@@ -124,6 +125,15 @@ can system x t d h = ap₂ (runs_as t.world x) h.there h.stands ∙ of h.leaf.ph
 -- NUMBERS
 
 -- one more of one of these
+-- these numbers added
+total : List ℕ → ℕ
+total [] = 0
+total (n ∷ rest) = n + total rest
+
+total_taken : (ns : List ℕ) → total ns ≡ sum_by (λ (n : ℕ). n) ns
+total_taken [] = refl
+total_taken (n ∷ rest) = let r = total_taken rest in let c = sum_by-cons (λ (m : ℕ). m) n rest in omega (arith, r, c)
+
 total_more : (ns : List ℕ) (x : ℕ) → x < length ns → total (slice_set ns x (suc (slice_index ns x))) ≡ suc (total ns)
 total_more [] x less = absurd (omega (arith, less))
 total_more (n ∷ rest) zero less = omega arith
@@ -377,6 +387,13 @@ module _ (s : Scenario) (sound : IsSound s) (named : AllNamed s) (upheld : (w : 
     go : Goes (start_traced (system s)) last first (run (system s) turns) trace
     go = all_go turns (start_traced (system s)) first starts_both
 
+    -- the world of the trace is that of the run, and is reached
+    pub last_world : last.world ≡ (run (system s) turns).world
+    last_world = sym go.both.at.world
+
+    pub last_reached : IsReached s last.world
+    last_reached = reached_so last.world go.both.reached
+
     last_are : account_lines s.version (accounts s last.world b) ≡ last_accounts s turns
     last_are = ap (λ (w : World). account_lines s.version (accounts s w b)) (sym go.both.at.world)
 
@@ -409,3 +426,4 @@ module _ (s : Scenario) (sound : IsSound s) (named : AllNamed s) (upheld : (w : 
         ∙ (let counted = go.counted in let none = start_none (system s).components in
         let same : total (steps_of last.world) ≡ total (steps_of (run (system s) turns).world) =
         ap (λ (w : World). total (steps_of w)) (sym go.both.at.world) in omega (arith, counted, none, same))
+        ∙ total_taken (steps_of (run (system s) turns).world)

@@ -10,8 +10,9 @@ use Rattle.gq_laws.specs.Reached.{IsReached}
 use Rattle.gq_laws.specs.Shapes.{IsWholeWorld}
 use Rattle.gq_laws.specs.Sound.{IsSound}
 use Rattle.gq_laws.specs.Turns.{can_run}
-use Rattle.gq_traces.specs.Rests.{EndsIn, HasNames, RestsUnless}
+use Rattle.gq_traces.specs.Rests.{EndsIn, RestsUnless}
 use Rattle.gq_traces.specs.Schedule.{is_cut, schedule_text, scheduled}
+use Rattle.gq_traces.proofs.Named.{HasNames}
 use Rattle.gq_traces.proofs.Schedule_laws.{all_taken, at_rest, is_reached}
 use Rattle.gq_traces.proofs.Text_length.{turns_told}
 

@@ -9,7 +9,7 @@ use Rattle.gq_model.specs.machine.Step.{next}
 use Rattle.gq_model.specs.machine.World as model
 use Rattle.gq_model.proofs.Small.{none_some, some_same}
 use Rattle.gq_machine.specs.Machines.{Machine}
-use Rattle.gq_views.specs.Tree.{label_of}
+use Rattle.gq_model.specs.machine.Run.{label_at}
 use Rattle.gq_world.specs.Worlds.{World}
 use Rattle.gq_traces.specs.Places.{Ahead, Place}
 use Rattle.gq_traces.specs.Trace.{Due, Traced, after_all, after_due, after_step, after_turn, after_turns, all_text, changes, due, due_by, due_in, due_text}
@@ -37,14 +37,14 @@ pub due_on : (s : Scenario) (w : World) (x : ℕ) (t : Traced) → t.world ≡ w
 due_on s w x t at = ap (λ (v : model.World). due_of s v x t.aheads) at
 
 label_is : (s : Scenario) (w : model.World) (x : ℕ) (ts : List Ahead) (d : Due) → due_of s w x ts ≡ Some d
-    → label_of (slice_get (components s) x) ≡ d.component.label
+    → label_at (slice_get (components s) x) ≡ d.component.label
 label_is s w x ts d e = by (slice_get (components s) x) (slice_get w.leaves x) (slice_get ts x) e
   where
-    by_place : (c : Component) (a : Ahead) (o : Option Place) → due_by c a o ≡ Some d → label_of (Some c) ≡ d.component.label
+    by_place : (c : Component) (a : Ahead) (o : Option Place) → due_by c a o ≡ Some d → label_at (Some c) ≡ d.component.label
     by_place c a None e = absurd (none_some e)
     by_place c a (Some p) e = ap (λ (z : Due). z.component.label) (some_same e)
 
-    by : (c : Option Component) (l : Option model.Leaf) (a : Option Ahead) → due_in w x c l a ≡ Some d → label_of c ≡ d.component.label
+    by : (c : Option Component) (l : Option model.Leaf) (a : Option Ahead) → due_in w x c l a ≡ Some d → label_at c ≡ d.component.label
     by (Some c) (Some l) (Some a) e = by_place c _ _ e
     by None l a e = absurd (none_some e)
     by (Some c) None a e = absurd (none_some e)
@@ -74,7 +74,7 @@ module _ (all : Bool) (s : Scenario) (b : List ℕ) (x : ℕ) where
       world_is = ap (λ (v : model.World). next (system s) v x) on.world ∙ goes
 
       -- nothing is told of a step that changes nothing, where changes alone are told
-      pub silent_text : all ≡ false → changes s b (label_of (slice_get (components s) x)) old.world new.world event ≡ [] → [] ≡ turn_text all s b x t
+      pub silent_text : all ≡ false → changes s b (label_at (slice_get (components s) x)) old.world new.world event ≡ [] → [] ≡ turn_text all s b x t
       silent_text short none =
           let label = label_is s old.world x t.aheads d there in
           let at = sym on.world in
@@ -95,8 +95,8 @@ module _ (all : Bool) (s : Scenario) (b : List ℕ) (x : ℕ) where
       d : (d : Due) × (due_of s old.world x t.aheads ≡ Some d) × (place_of c ≡ d.place)
       d = some_due c (due_of s old.world x t.aheads) some
 
-      pub step_text_is : told_step all (head_line (turns + 1) (label_of (slice_get (components s) x)) (place_of c))
-          (changes s b (label_of (slice_get (components s) x)) old.world new.world event) ≡ turn_text all s b x t
+      pub step_text_is : told_step all (head_line (turns + 1) (label_at (slice_get (components s) x)) (place_of c))
+          (changes s b (label_at (slice_get (components s) x)) old.world new.world event) ≡ turn_text all s b x t
       step_text_is =
           let label = label_is s old.world x t.aheads d.0 d.1 in
           let place = d.2 in

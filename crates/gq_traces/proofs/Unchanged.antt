@@ -7,7 +7,7 @@ use Rattle.std.proofs.lemmas.List.{map-append}
 use Rattle.std.proofs.lemmas.List.Sums.{sum_by-cons}
 use Rattle.gq_model.specs.machine.Accounts.{Account, account_at, account_line, accounts, amount_in, handed_to, init_account, init_quota, leaf_count}
 use Rattle.gq_model.specs.machine.Accounts.{node_accounts}
-use Rattle.gq_model.specs.machine.Amounts.{Resource, Ram, Caps, Amount, part}
+use Rattle.gq_model.specs.machine.Amounts.{Resource, Ram, Caps, Amount, part, same_amount}
 use Rattle.gq_model.specs.declared.phase.Phase.{Phase}
 use Rattle.gq_model.specs.declared.phase.Phase.TheVariants.{Pending, Running, Blocked, Serving, Handling, Exited}
 use Rattle.gq_model.specs.declared.program.Section.{Section}
@@ -22,7 +22,7 @@ use Rattle.gq_model.proofs.Small.{equal_self, text_self}
 use Rattle.gq_laws.specs.Links.{Stance, stance_in}
 use Rattle.gq_laws.proofs.paying.Quanta.{spent_same}
 use Rattle.gq_machine.specs.Readers.{level_in, level_then, request_of, requested}
-use Rattle.gq_traces.specs.Trace.{Standing, ToldSession, Using, account_changes, at_hand, at_server, request_in, same_amount, same_phase}
+use Rattle.gq_traces.specs.Trace.{Standing, ToldSession, Using, account_changes, at_hand, at_server, request_in, same_phase}
 use Rattle.gq_traces.specs.Trace.{same_requested, same_standing, same_told, same_using, session_change, session_changes, session_line, standing_of, told_in}
 use Rattle.gq_traces.specs.Trace.{told_session}
 use Rattle.gq_traces.specs.declared.sessions.Requested.{Requested}

@@ -6,4 +6,5 @@ pub mod State
 pub mod Made_of
 pub mod Written
 pub mod Lines_of
+pub mod Left
 pub mod internal

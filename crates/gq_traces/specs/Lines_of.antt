@@ -1,11 +1,11 @@
 -- Lines of a text that begin with some bytes, and what those of a trace are.
-use Rattle.std.specs.Prelude.{◌≡◌, ◌==◌, ◌&&◌, ◌+◌, if◌then◌else◌, ℕ, Bool, true, false, List, [], ◌∷◌, ◌++◌, codes, length}
+use Rattle.std.specs.Prelude.{◌≡◌, ◌==◌, ◌&&◌, if◌then◌else◌, ℕ, Bool, true, false, List, [], ◌∷◌, ◌++◌, codes, length}
 use Rattle.gq_model.specs.machine.Accounts.{account_lines, accounts, whole}
 use Rattle.gq_model.specs.machine.Run.{run}
 use Rattle.gq_model.specs.machine.Scenario.{Scenario, system}
 use Rattle.gq_model.specs.rules.Accept.{budgets, step_budgets}
-use Rattle.gq_model.specs.texts.Letters.{pieces}
-use Rattle.gq_laws.specs.Turns.{steps_of}
+use Rattle.gq_model.specs.texts.Letters.{fed_lines}
+use Rattle.gq_laws.specs.Progress.{taken}
 use Rattle.gq_views.specs.Listing.{joined}
 
 -- a text begins with these bytes
@@ -19,13 +19,9 @@ abbrev pub beginning : List ℕ → List (List ℕ) → List (List ℕ)
 beginning front [] = []
 beginning front (line ∷ rest) = if begins front line then line ∷ beginning front rest else beginning front rest
 
--- what stands before, between and behind the line feeds of a text
-abbrev pub lines_in : List ℕ → List (List ℕ)
-lines_in = pieces (λ c. c == 10)
-
 -- those lines of a text that begin so
 abbrev pub lines_of : List ℕ → List ℕ → List (List ℕ)
-lines_of front text = beginning front (lines_in text)
+lines_of front text = beginning front (fed_lines text)
 
 -- the account lines at the end of a run
 abbrev pub last_accounts : Scenario → List (ℕ × ℕ) → List ℕ
@@ -38,11 +34,6 @@ pub record TellsRun (s : Scenario) (turns : List (ℕ × ℕ)) (text : List ℕ)
   pub ends : text ≡ front ++ last_accounts s turns
   pub says : joined (lines_of (codes "[") text) ++ last_accounts s turns ≡ whole s (step_budgets (budgets s)) turns
 
--- these numbers added
-abbrev pub total : List ℕ → ℕ
-total [] = 0
-total (n ∷ rest) = n + total rest
-
 -- as many lines begin with `turn` as leaves have taken steps in a run
 abbrev pub TellsSteps : Scenario → List (ℕ × ℕ) → List ℕ → Type 0
-TellsSteps s turns text = length (lines_of (codes "turn ") text) ≡ total (steps_of (run (system s) turns).world)
+TellsSteps s turns text = length (lines_of (codes "turn ") text) ≡ taken (run (system s) turns).world

@@ -1,13 +1,61 @@
--- How the items of an account add up to it.
-use Rattle.std.specs.Prelude.{◌≡◌, ℕ, ◌+◌, if◌then◌else◌, Bool, true, false, List, [], ◌∷◌, Some, None, slice_get}
-use Rattle.gq_model.specs.machine.Accounts.{Account, accounts}
+-- How the items of an account add up to it, in the text of `state`.
+use Rattle.std.specs.Prelude.{◌≡◌, ℕ, suc, ◌+◌, if◌then◌else◌, Bool, true, false, List, [], ◌∷◌, ◌++◌, Option, Some, None, Ok, slice_get}
+use Rattle.gq_model.specs.machine.Accounts.{Account, LeafAccount, account_line, accounts}
 use Rattle.gq_model.specs.machine.Amounts.{Resource, part}
-use Rattle.gq_model.specs.machine.Scenario.{Component, Scenario, components, system}
-use Rattle.gq_model.specs.machine.Sums.{held, quota}
-use Rattle.gq_model.specs.machine.World.{Leaf, World}
+use Rattle.gq_model.specs.machine.Run.{run}
+use Rattle.gq_model.specs.machine.Scenario.{Component, Scenario, System, components, system}
+use Rattle.gq_model.specs.machine.World.{Leaf}
+use Rattle.gq_model.specs.rules.Accept.{budgets, step_budgets}
+use Rattle.gq_model.specs.texts.Turns.{turned}
 use Rattle.gq_model.specs.Promises.{EachOf}
+use Rattle.gq_laws.specs.Shapes.{Each}
+use Rattle.gq_load.specs.Load.{loaded}
 use Rattle.gq_resolve.specs.NodeTables.{NodeRow, node_rows}
-use Rattle.gq_traces.specs.State.{Item, Role, Given, Handed, Held, Lent, Received, init_items, is_live, leaf_items}
+use Rattle.gq_traces.specs.State.{Item, Role, Given, Handed, Held, Lent, Received, init_items, is_live, items_text, leaf_items, next_text, start_text}
+use Rattle.gq_traces.specs.Trace.{Traced, after_all, due, start_traced}
+
+-- NODES AS THEY ARE SHOWN
+
+-- an account, what stands between it and its items, these, and what stands behind them
+pub record Shown : Type 0 where
+  pub account : Account
+  pub before : List ℕ
+  pub items : List Item
+  pub behind : List ℕ
+
+abbrev pub shown_below : ℕ → Shown → List ℕ
+shown_below version n = n.before ++ items_text version n.items ++ n.behind
+
+-- the lines of nodes
+abbrev pub shown_text : ℕ → List Shown → List ℕ
+shown_text version [] = []
+shown_text version (n ∷ rest) = account_line version n.account ++ shown_below version n ++ shown_text version rest
+
+abbrev pub shown_leaf : System → Traced → Account → ℕ → Option Component → Option Leaf → Shown
+shown_leaf system t a x (Some c) (Some leaf) =
+    record {
+      account = a;
+      before = start_text system c leaf.phase;
+      items = leaf_items system t.world x c leaf leaf.phase;
+      behind = next_text (due system x t);
+    }
+shown_leaf system t a x _ _ = record { account = a; before = []; items = []; behind = [] }
+
+-- the n-th node, which is a leaf or an init
+abbrev pub shown_node : Scenario → Traced → ℕ → Account → NodeRow → Option ℕ → Shown
+shown_node s t n a node None = record { account = a; before = []; items = init_items t.world n node (node_rows s); behind = [] }
+shown_node s t n a node (Some x) = shown_leaf (system s) t a x (slice_get (components s) x) (slice_get t.world.leaves x)
+
+abbrev pub shown_nodes : Scenario → Traced → ℕ → List Account → List NodeRow → List Shown
+shown_nodes s t n [] nodes = []
+shown_nodes s t n (a ∷ accounts) [] = []
+shown_nodes s t n (a ∷ accounts) (node ∷ nodes) = shown_node s t n a node node.leaf ∷ shown_nodes s t (suc n) accounts nodes
+
+-- all nodes, in preorder
+abbrev pub all_shown : Scenario → Traced → List Shown
+all_shown s t = shown_nodes s t 0 (accounts s t.world (step_budgets (budgets s))) (node_rows s)
+
+-- SUMS
 
 abbrev pub same_role : Role → Role → Bool
 same_role Given Given = true
@@ -22,23 +70,33 @@ abbrev pub sum_of : Role → Resource → List Item → ℕ
 sum_of role r [] = 0
 sum_of role r (i ∷ rest) = (if same_role role i.role then part r i.amount else 0) + sum_of role r rest
 
--- of the x-th leaf: what it holds is what it has used; what it is given and what it receives are its quota and what it lends
-pub record LeafAddsUp (s : Scenario) (w : World) (x : ℕ) (c : Component) (leaf : Leaf) (r : Resource) : Type 0 where
-  pub used : sum_of Held r (leaf_items (system s) w x c leaf leaf.phase) ≡ held r w x leaf
-  pub quota_is : sum_of Given r (leaf_items (system s) w x c leaf leaf.phase) + sum_of Received r (leaf_items (system s) w x c leaf leaf.phase)
-      ≡ quota r w x c leaf + sum_of Lent r (leaf_items (system s) w x c leaf leaf.phase)
+-- of a leaf: what it holds is what its account has used; what it is given and what it receives are its quota and what it lends
+pub record LeafAddsUp (n : Shown) (a : LeafAccount) (r : Resource) : Type 0 where
+  pub used : sum_of Held r n.items ≡ part r a.used
+  pub quota_is : sum_of Given r n.items + sum_of Received r n.items ≡ part r n.account.quota + sum_of Lent r n.items
 
--- of each leaf that lives, of each resource that is counted
-abbrev pub LeavesAddUp : Scenario → World → Type 0
-LeavesAddUp s w = (x : ℕ) (c : Component) (leaf : Leaf) → slice_get (components s) x ≡ Some c → slice_get w.leaves x ≡ Some leaf → is_live leaf.phase ≡ true
-    → EachOf (system s).counted (LeafAddsUp s w x c leaf)
+-- of an init: what it is given, it has or hands on
+abbrev pub InitAddsUp : Shown → Resource → Type 0
+InitAddsUp n r = sum_of Given r n.items ≡ part r n.account.quota + sum_of Handed r n.items
 
--- of the n-th node, an init: what it is given, it has or hands on
-abbrev pub InitAddsUp : Scenario → World → ℕ → NodeRow → Account → Resource → Type 0
-InitAddsUp s w n node a r =
-    sum_of Given r (init_items w n node (node_rows s)) ≡ part r a.quota + sum_of Handed r (init_items w n node (node_rows s))
+-- of an init, and of a leaf that lives, of each of these resources
+abbrev pub AddsUp : List Resource → Shown → Option LeafAccount → Type 0
+AddsUp resources n None = EachOf resources (InitAddsUp n)
+AddsUp resources n (Some a) = is_live a.phase ≡ true → EachOf resources (LeafAddsUp n a)
 
--- of each init, with its account, of each resource that is counted
-abbrev pub InitsAddUp : Scenario → World → Type 0
-InitsAddUp s w = (told : List ℕ) (n : ℕ) (node : NodeRow) (a : Account) → slice_get (node_rows s) n ≡ Some node → slice_get (accounts s w told) n ≡ Some a
-    → node.leaf ≡ None → EachOf (system s).counted (InitAddsUp s w n node a)
+-- TEXTS
+
+-- a run on the way, after these turns
+abbrev pub after : Scenario → List (ℕ × ℕ) → Traced
+after s turns = after_all (system s) turns (start_traced (system s))
+
+-- from bytes to bytes: the scenario is loaded and the turns are read; the text is that of all nodes in the world that a run over these turns comes to, and
+-- what is shown of each node adds up to its account, of each resource that is counted
+pub record ShowsSums (scenario turns text : List ℕ) : Type 0 where
+  pub accepted : Scenario
+  pub loads : loaded scenario ≡ Ok accepted
+  pub taken : List (ℕ × ℕ)
+  pub reads : turned (components accepted) turns ≡ Ok taken
+  pub shows : text ≡ shown_text accepted.version (all_shown accepted (after accepted taken))
+  pub world : (after accepted taken).world ≡ (run (system accepted) taken).world
+  pub adds : Each (λ n. AddsUp (system accepted).counted n n.account.leaf) (all_shown accepted (after accepted taken))

@@ -1,19 +1,13 @@
 -- What a run over scheduled turns comes to.
-use Rattle.std.specs.Prelude.{◌≡◌, ◌≤◌, ℕ, Bool, true, false, List, length, Option, Some, None, Ok, slice_get}
+use Rattle.std.specs.Prelude.{◌≡◌, ℕ, Bool, true, false, List, Option, None, Ok}
 use Rattle.std.specs.Io.KnownBytes.{Appends}
 use Rattle.gq_model.specs.machine.Run.{run}
-use Rattle.gq_model.specs.machine.Scenario.{Scenario, Component, components, system}
+use Rattle.gq_model.specs.machine.Scenario.{Scenario, components, system}
 use Rattle.gq_model.specs.machine.World.{World}
-use Rattle.gq_model.specs.texts.Letters.{is_name}
 use Rattle.gq_model.specs.texts.Turns.{turned}
 use Rattle.gq_laws.specs.Progress.{AllRest}
 use Rattle.gq_load.specs.Load.{loaded}
 use Rattle.gq_traces.specs.Schedule.{is_cut, schedule_text}
-
--- leaves have names, and there are not too many
-pub record HasNames (s : Scenario) : Type 0 where
-  pub names : (x : ℕ) (c : Component) → slice_get (components s) x ≡ Some c → is_name c.node.name ≡ true
-  pub few : length (components s) ≤ 64
 
 -- a run over these turns comes to no wrong step, and ends in this world
 pub record EndsIn (s : Scenario) (turns : List (ℕ × ℕ)) (w : World) : Type 0 where

@@ -20,7 +20,7 @@ use Rattle.gq_model.specs.texts.Fault_texts.{section_word}
 use Rattle.gq_machine.specs.Readers.{request_of}
 use Rattle.gq_resolve.specs.NodeTables.{NodeRow, node_rows, number_named}
 use Rattle.gq_views.specs.Listing.{line, place_text}
-use Rattle.gq_traces.specs.Trace.{Due, Traced, after_all, amount_text, due, label_at, request_in, requested_text, start_traced}
+use Rattle.gq_traces.specs.Trace.{Due, Traced, after_all, amount_text, due, leaf_label, request_in, requested_text, start_traced}
 
 -- ITEMS
 
@@ -81,7 +81,7 @@ abbrev pub lent_items : System → World → Place → ℕ → Option Session �
 lent_items system w place k None = []
 lent_items system w place k (Some s) =
     item (depth_of place) Lent s.donation
-    (codes " to " ++ label_at system s.server ++ codes ": " ++ place_text place ++ codes " " ++ service_text s.service s.level ++ requested_text (request_in
+    (codes " to " ++ leaf_label system s.server ++ codes ": " ++ place_text place ++ codes " " ++ service_text s.service s.level ++ requested_text (request_in
     w k s.server (request_of k w.requests))) ∷ []
 
 -- what a slot holds or lends
@@ -121,7 +121,7 @@ bank_items system w s = slot_items system w Object s.object ++ slots_items syste
 -- what is received with a session, and what is held for it
 abbrev pub session_items : System → World → Session → List Item
 session_items system w s =
-    item 1 Received s.donation (codes " from " ++ label_at system s.client ++ codes ": " ++ service_text s.service s.level) ∷ [] ++ bank_items system w s
+    item 1 Received s.donation (codes " from " ++ leaf_label system s.client ++ codes ": " ++ service_text s.service s.level) ∷ [] ++ bank_items system w s
 
 -- of a session to the x-th leaf
 abbrev pub received_items : System → World → ℕ → Option Session → List Item

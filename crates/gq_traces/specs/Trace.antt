@@ -4,17 +4,16 @@ use Rattle.std.specs.Prelude.{slice_get, slice_set, decimal, codes, max, map, le
 use Rattle.gq_model.specs.declared.phase.Phase.{Phase}
 use Rattle.gq_model.specs.declared.phase.Phase.TheVariants.{Pending, Running, Blocked, Serving, Handling, Exited}
 use Rattle.gq_model.specs.machine.Accounts.{Account, LeafAccount, account_line, account_lines, accounts, entry, told}
-use Rattle.gq_model.specs.machine.Amounts.{Amount}
+use Rattle.gq_model.specs.machine.Amounts.{Amount, same_amount}
 use Rattle.gq_model.specs.machine.Doing.{Event, Stepped}
 use Rattle.gq_model.specs.machine.Program.{same_section, text_eq}
-use Rattle.gq_model.specs.machine.Run.{line_of}
+use Rattle.gq_model.specs.machine.Run.{line_of, label_at}
 use Rattle.gq_model.specs.machine.Scenario.{Component, Scenario, System, system}
 use Rattle.gq_model.specs.machine.Step.{next}
 use Rattle.gq_model.specs.machine.World.{Current, Leaf, Request, Session, World, session_at, start}
 use Rattle.gq_model.specs.rules.Accept.{budgets, step_budgets}
 use Rattle.gq_model.specs.texts.Fault_texts.{section_word}
 use Rattle.gq_machine.specs.Readers.{request_of, requested}
-use Rattle.gq_views.specs.Tree.{label_of}
 use Rattle.gq_traces.specs.Places.{Ahead, Place, place_in, start_aheads, stepped}
 use Rattle.gq_traces.specs.declared.sessions.Requested.{Requested}
 use Rattle.gq_traces.specs.declared.sessions.Requested.TheVariants.{Nothing, Waits, AtHand}
@@ -36,9 +35,6 @@ using_of (Some a) = Some (record { used = a.used; phase = a.phase })
 
 abbrev pub standing_of : Account → Standing
 standing_of a = record { quota = a.quota; leaf = using_of a.leaf }
-
-abbrev pub same_amount : Amount → Amount → Bool
-same_amount a b = a.ram == b.ram && a.caps == b.caps
 
 abbrev pub same_phase : Phase → Phase → Bool
 same_phase Pending Pending = true
@@ -111,8 +107,8 @@ requested_text Nothing = []
 requested_text (Waits section) = codes ", " ++ section_word section ++ codes " waits"
 requested_text (AtHand section) = codes ", " ++ section_word section ++ codes " at hand"
 
-abbrev pub label_at : System → ℕ → List ℕ
-label_at system x = label_of (slice_get system.components x)
+abbrev pub leaf_label : System → ℕ → List ℕ
+leaf_label system x = label_at (slice_get system.components x)
 
 -- a word and an amount; capabilities are told in version 2 alone
 abbrev pub amount_text : ℕ → List ℕ → Amount → List ℕ
@@ -120,7 +116,7 @@ amount_text version word a = word ++ codes " " ++ decimal a.ram ++ told version 
 
 -- who has a session: its service, its server and its client
 abbrev pub parties_text : System → ToldSession → List ℕ
-parties_text system t = t.service ++ codes " of " ++ label_at system t.server ++ codes " for " ++ label_at system t.client
+parties_text system t = t.service ++ codes " of " ++ leaf_label system t.server ++ codes " for " ++ leaf_label system t.client
 
 abbrev pub session_line : ℕ → System → ℕ → Option ToldSession → List ℕ
 session_line version system k None = codes "session " ++ decimal k ++ codes " ends\n"

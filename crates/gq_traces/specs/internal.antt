@@ -5,3 +5,4 @@ pub mod Telling
 pub mod Items
 pub mod Alone
 pub mod Follows
+pub mod Adding

@@ -54,7 +54,8 @@ fn take_turn(world: &mut World, followed: &mut Followed, leaf: LeafNo)
     }
 }
 
-// Turns of a leaf, at least one and at most so many: those that it takes alone from where it stands, or one. It tells how many. They take no host memory.
+// Turns of a leaf, at least one and at most so many: those that it takes alone from where it stands, and one more. It returns how many. They take no host
+// memory.
 #[inline(always)]
 fn take_some(world: &mut World, followed: &mut Followed, leaf: LeafNo, most: u32) -> u32
     requires leaf { leaf < length (components world.old.scenario) }
@@ -72,11 +73,11 @@ fn take_some(world: &mut World, followed: &mut Followed, leaf: LeafNo, most: u32
         leaf,
         most,
     );
-    if alone > 0 {
+    if alone == most {
         return alone;
     }
     take_turn(world, followed, leaf);
-    1
+    alone + 1
 }
 
 // So many turns of a leaf. They take no host memory.

@@ -12,7 +12,7 @@ ghost use Rattle.gq_views.specs.Listing.{indent, line, place_text};
 ghost use Rattle.gq_traces.specs.State.{amount_by, bank_items, depth_of, form_text, items_text, lent_items, place_items, places_items, price, received_items};
 ghost use Rattle.gq_traces.specs.State.{service_text, session_items, sessions_items, slot_items, slots_items};
 ghost use Rattle.gq_traces.specs.declared.items.Bank.TheVariants as bank;
-ghost use Rattle.gq_traces.specs.Trace.{amount_text, label_at, requested_text};
+ghost use Rattle.gq_traces.specs.Trace.{amount_text, leaf_label, requested_text};
 ghost use Rattle.gq_traces.specs.internal.Items.{HasBank, IsStanding, Tells_items, bank_place, bank_size, bank_slots, bank_spot, holding_items};
 ghost use Rattle.gq_traces.specs.internal.Noted.{IsKnown, service_at};
 ghost use Rattle.gq_traces.specs.internal.Telling.{Goes};
@@ -229,7 +229,7 @@ fn pool_rest(place: Place, size: u32, count: u32) -> Line
 // What is told of a session behind what is lent with it.
 fn lent_rest(table: &NodeTable, place: Place, told: &ToldSession) -> Line
     requires { IsKnown table.now told.now }
-    ensures bytes { result.items ≡ codes " to " ++ label_at (system table.now) told.now.server ++ codes ": " ++ place_text place ++ codes " "
+    ensures bytes { result.items ≡ codes " to " ++ leaf_label (system table.now) told.now.server ++ codes ": " ++ place_text place ++ codes " "
         ++ service_text (service_at table.now told.now.service) told.now.level ++ requested_text told.now.requested }
     ensures short { length result.items ≤ 300 }
 {
@@ -432,7 +432,7 @@ pub(crate) fn write_places<W: Write>(
 fn received_rest(table: &NodeTable, state: &SessionState) -> Line
     requires client { state.now.client < length (components table.now) }
     requires service { state.now.service < length table.now.interfaces }
-    ensures bytes { result.items ≡ codes " from " ++ label_at (system table.now) state.now.client ++ codes ": "
+    ensures bytes { result.items ≡ codes " from " ++ leaf_label (system table.now) state.now.client ++ codes ": "
         ++ service_text (service_at table.now state.now.service) state.now.level }
     ensures short { length result.items ≤ 300 }
 {

@@ -1,16 +1,17 @@
 // Laws of the texts that are told.
-ghost use Rattle.std.specs.Prelude.{◌≡◌, Ok};
+ghost use Rattle.std.specs.Prelude.{◌≡◌, ℕ, List, Ok};
 ghost use Rattle.gq_model.specs.machine.Scenario.{Scenario, components};
 ghost use Rattle.gq_model.specs.texts.Turns.{turned};
-ghost use Rattle.gq_laws.specs.Sound.{IsSound};
-ghost use Rattle.gq_traces.specs.Rests.{EndsIn, HasNames, RestsUnless};
+ghost use Rattle.gq_load.specs.Load.{loaded};
+ghost use Rattle.gq_traces.specs.Rests.{EndsIn, RestsUnless};
 ghost use Rattle.gq_traces.specs.Schedule.{is_cut, schedule_text, scheduled};
 
 use gq_laws::accepted::accepted_laws;
 use gq_laws::progress::progress_laws;
 use gq_laws::reached::reached_laws;
+use gq_load::loaded::loaded_laws;
 
-/// What holds of the turns that are told of every scenario that is as the readers give it and is accepted. It does nothing.
+/// What holds of the turns that are written for every scenario that a text is loaded as. It does nothing.
 ///
 /// `reads`: the text is read as just these turns; it is never too long, and it has no more turns than may be.
 ///
@@ -18,10 +19,11 @@ use gq_laws::reached::reached_laws;
 ///
 /// `rests`: where they are not cut, every leaf is at rest in that world: it has exited, or it serves and no request for it waits.
 pub fn turns_laws()
-    ensures reads { (s : Scenario) → IsSound s → HasNames s → turned (components s) (schedule_text s) ≡ Ok (scheduled s).turns }
-    ensures ends { (s : Scenario) → IsSound s → HasNames s → EndsIn s (scheduled s).turns (scheduled s).world }
-    ensures rests { (s : Scenario) → IsSound s → HasNames s → RestsUnless (is_cut s) (scheduled s).world }
+    ensures reads { (text : List ℕ) (s : Scenario) → loaded text ≡ Ok s → turned (components s) (schedule_text s) ≡ Ok (scheduled s).turns }
+    ensures ends { (text : List ℕ) (s : Scenario) → loaded text ≡ Ok s → EndsIn s (scheduled s).turns (scheduled s).world }
+    ensures rests { (text : List ℕ) (s : Scenario) → loaded text ≡ Ok s → RestsUnless (is_cut s) (scheduled s).world }
 {
+    loaded_laws();
     accepted_laws();
     progress_laws();
     reached_laws();

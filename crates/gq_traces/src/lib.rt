@@ -29,6 +29,7 @@ mod items;
 pub mod laws;
 mod noted;
 mod numbered;
+pub mod place_laws;
 mod schedule;
 mod sessions;
 pub mod state;

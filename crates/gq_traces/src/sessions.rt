@@ -1,10 +1,11 @@
 // What is told of a session.
 ghost use Rattle.std.specs.Prelude.{◌≡◌, ◌<◌, ◌≤◌, ◌+◌, ◌++◌, Some, codes, decimal, length, option_map, slice_get};
 ghost use Rattle.gq_machine.specs.Readers.{IsToldOf, request_of};
-ghost use Rattle.gq_views.specs.Tree.{label_of};
+ghost use Rattle.gq_model.specs.machine.Run.{label_at};
 ghost use Rattle.gq_model.specs.machine.Program.{same_section};
 ghost use Rattle.gq_model.specs.machine.Scenario.{components, system};
-ghost use Rattle.gq_traces.specs.Trace.{at_server, label_at, parties_text, request_in, requested_text, same_amount, same_requested, same_told, session_line};
+ghost use Rattle.gq_traces.specs.Trace.{at_server, leaf_label, parties_text, request_in, requested_text, same_requested, same_told, session_line};
+ghost use Rattle.gq_model.specs.machine.Amounts.{same_amount};
 ghost use Rattle.gq_traces.specs.internal.Noted.{AreKnown, IsKnown, IsTold, seen_session, service_at};
 
 use crate::words::{Line, extend, extend_amount, extend_entry, extend_section};
@@ -101,7 +102,7 @@ fn told_of(machine: &Machine, session: usize, state: &SessionState) -> ToldSessi
 /// The label of a leaf.
 pub(crate) fn label_of(table: &NodeTable, leaf: LeafNo) -> &[u8]
     requires { leaf < length (components table.now) }
-    ensures label { result.now ≡ label_of (slice_get (components table.now) leaf) }
+    ensures label { result.now ≡ label_at (slice_get (components table.now) leaf) }
     ensures short { length result.now ≤ 96 }
 {
     table.label(table.node(leaf))
@@ -110,7 +111,7 @@ pub(crate) fn label_of(table: &NodeTable, leaf: LeafNo) -> &[u8]
 // The label of the leaf of this number.
 pub(crate) fn leaf_label(table: &NodeTable, leaf: usize) -> &[u8]
     requires { leaf < length (components table.now) }
-    ensures label { result.now ≡ label_at (system table.now) leaf }
+    ensures label { result.now ≡ leaf_label (system table.now) leaf }
     ensures short { length result.now ≤ 96 }
 {
     let _leaves = table.leaf_count();

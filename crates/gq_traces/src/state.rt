@@ -423,13 +423,14 @@ fn state_after<W: Write>(
     }
 }
 
-/// Writes each account after the last turn of a run, and what it is made of: of an init what it was given, and what it hands to its live children; of a leaf
-/// that
-/// lives what it was given, what each of its slots holds or lends, the places of its heap, the sessions to it with what they hold, and the place of its next
-/// step,
-/// if it can take one; of one that is pending after which leaf it starts.
+/// Writes each account after the last turn of a run, and what it is made of.
 ///
-/// Nothing is written where the scenario or the turns are refused, or where host memory is, which no turn takes. After a failed write a front of the text was
+/// - Of an init: what it was given, and what it hands to its live children.
+/// - Of a leaf that lives: what it was given, what each of its slots holds or lends, the places of its heap, the sessions to it with what they hold, and the
+///   place of its next step, if it can take one.
+/// - Of a pending leaf: after which leaf it starts.
+///
+/// If the scenario or the turns are refused, or the host refuses memory, nothing is written; turns need none. After a failed write a prefix of the text was
 /// written.
 pub fn state<W: Write>(
     alloc: Global,

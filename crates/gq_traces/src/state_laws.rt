@@ -1,23 +1,23 @@
 // Laws of what accounts are made of.
-ghost use Rattle.gq_model.specs.machine.Scenario.{Scenario};
-ghost use Rattle.gq_model.specs.machine.World.{World};
-ghost use Rattle.gq_laws.specs.Reached.{IsReached};
-ghost use Rattle.gq_laws.specs.Sound.{IsSound};
-ghost use Rattle.gq_traces.specs.Made_of.{InitsAddUp, LeavesAddUp};
+ghost use Rattle.std.specs.Prelude.{◌≡◌, ℕ, List, Ok};
+ghost use Rattle.gq_traces.specs.Made_of.{ShowsSums};
+ghost use Rattle.gq_traces.specs.Written.{state_written};
 
 use gq_laws::accepted::accepted_laws;
 use gq_laws::reached::reached_laws;
+use gq_laws::turns::turn_laws;
+use gq_load::loaded::loaded_laws;
 
-/// What holds of the items of accounts, in every world that a run of a scenario comes to that is as the readers give it and is accepted. It does nothing.
+/// What holds of whatever `state` writes, for any text of a scenario and any text of turns. It does nothing.
 ///
-/// `leaves`: of each leaf that lives, of each resource that is counted, what it holds adds up to what it has used, and what it is given and what it receives to
-/// its quota and what it lends.
-///
-/// `inits`: of each init, of each resource that is counted, its quota and what it hands to its children add up to what it is given.
+/// The text is that of an accepted scenario, in the world that a run over these turns comes to. Of each resource that is counted, of each leaf that lives, what
+/// the text says that it holds adds up to what its account has used, and what it is given and what it receives to its quota and what it lends; of each init,
+/// its quota and what it hands to its children add up to what it is given.
 pub fn state_laws()
-    ensures leaves { (s : Scenario) (w : World) → IsSound s → IsReached s w → LeavesAddUp s w }
-    ensures inits { (s : Scenario) (w : World) → IsSound s → IsReached s w → InitsAddUp s w }
+    ensures { (scenario turns text : List ℕ) → state_written scenario turns ≡ Ok text → ShowsSums scenario turns text }
 {
+    loaded_laws();
     accepted_laws();
     reached_laws();
+    turn_laws();
 }

@@ -1,12 +1,12 @@
 // What is told of a step.
 ghost use Rattle.std.specs.Prelude.{◌≡◌, ℕ, ◌<◌, ◌≤◌, if◌then◌else◌, List, [], None, get_or, length, slice_get, true};
 ghost use Rattle.gq_model.specs.machine.Scenario.{components};
-ghost use Rattle.gq_model.specs.machine.Run.{line_of};
+ghost use Rattle.gq_model.specs.machine.Run.{line_of, label_at};
 ghost use Rattle.gq_model.specs.machine.World as model;
 ghost use Rattle.gq_machine.specs.Events.{event_of};
-ghost use Rattle.gq_views.specs.Tree.{label_of};
 ghost use Rattle.gq_world.specs.Worlds as worlds;
-ghost use Rattle.gq_traces.specs.Trace.{same_amount, same_phase};
+ghost use Rattle.gq_traces.specs.Trace.{same_phase};
+ghost use Rattle.gq_model.specs.machine.Amounts.{same_amount};
 ghost use Rattle.gq_resolve.specs.NodeTables.{node_rows};
 ghost use Rattle.gq_world.specs.Lines.{all_accounts};
 ghost use Rattle.gq_traces.specs.internal.Noted.{AreKnown, AreNoted, SessionsNoted, WasNoted};
@@ -161,7 +161,7 @@ fn tell_line<W: Write>(
 ) -> Progress
     requires leaf { head.now.leaf < length (components table.now) }
     ensures { Tells W.contents out.old out.new progress result (head_text table.now head.now)
-        (line_of (label_of (slice_get (components table.now) head.now.leaf)) (event_of event text.now.items)) }
+        (line_of (label_at (slice_get (components table.now) head.now.leaf)) (event_of event text.now.items)) }
 {
     match event {
         Event::Line => {

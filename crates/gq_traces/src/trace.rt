@@ -266,8 +266,8 @@ fn silent_turns(
     }
 }
 
-// Turns of a leaf, at least one and at most so many, before which there were so many of all: those of which nothing is told, or one that is told if it is a
-// step. What the leaf holds and does is known before them and after them. It tells how many there were. They take no host memory.
+// Turns of a leaf, at least one and at most so many, before which there were so many of all: those of which nothing is told, and one more, which is told if it
+// is a step. What the leaf holds and does is known before them and after them. It returns how many there were. They take no host memory.
 #[inline(always)]
 fn tell_some<W: Write>(
     world: &mut World,
@@ -292,11 +292,20 @@ fn tell_some<W: Write>(
     ensures after { IsUse world.new.scenario world.new.world leaf before.new }
 {
     let silent = silent_turns(world, tracing, telling, leaf, most);
-    if silent > 0 {
+    if silent == most {
         return (going, silent);
     }
-    let going = tell_turn(world, tracing, telling, turns, leaf, before, going, out);
-    (going, 1)
+    let going = tell_turn(
+        world,
+        tracing,
+        telling,
+        turns + silent,
+        leaf,
+        before,
+        going,
+        out,
+    );
+    (going, silent + 1)
 }
 
 // So many turns of a leaf, before which there were so many of all. They take no host memory.

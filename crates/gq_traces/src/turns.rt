@@ -4,29 +4,17 @@ ghost use Rattle.gq_model.specs.machine.Scenario.{system};
 ghost use Rattle.gq_model.specs.machine.World.{start};
 ghost use Rattle.gq_init.specs.Counts.{Writes, written_to};
 ghost use Rattle.gq_world.specs.Outcomes.{WritesAs};
-ghost use Rattle.gq_traces.specs.Rests.{HasNames, WritesToRest};
+ghost use Rattle.gq_traces.specs.Rests.{WritesToRest};
 ghost use Rattle.gq_traces.specs.Schedule.{schedule_text};
 ghost use Rattle.gq_traces.specs.Written.{turns_written};
 
 use crate::laws::turns_laws;
 use crate::schedule::{some_can, write_rounds};
-use gq_init::NodeTable;
 use gq_init::counted::{Counted, WriteFault, put};
-use gq_load::loaded::loaded_laws;
-use gq_scenario::scenario::LeafNo;
 use gq_world::RunFault;
 use gq_world::world::World;
 use std::alloc::Global;
 use std::io::Write;
-
-// The leaves of a scenario that is read have names, and are not too many. It does nothing.
-fn named(table: &NodeTable)
-    ensures { HasNames table.now }
-{
-    for number in 0..table.leaf_count() {
-        let _name = table.name(LeafNo::new(number as u32)).as_bytes();
-    }
-}
 
 // Takes the turns of a world from its start, and writes them; at the end, where some leaf could go on, that they were cut.
 fn write_schedule<W: Write>(world: &mut World, out: &mut Counted<W>) -> Result<(), WriteFault>
@@ -55,10 +43,8 @@ pub fn turns<W: Write>(
     // What was written is read as turns of that scenario, and a run over them comes to no wrong step and, unless they are cut, to rest.
     ensures rests { OnOk result (WritesToRest scenario.now (written_to W.contents out.old) (written_to W.contents out.new)) }
 {
-    loaded_laws();
     turns_laws();
     let mut world = World::load(alloc, scenario)?;
-    named(world.table());
     let written = write_schedule(&mut world, out);
     world.end();
     match written {

@@ -7,10 +7,11 @@ mod Listed_statements
 mod Listed_sections
 mod Listed_programs
 mod Listed_printed
+mod Listed_leaves
 mod Pushed
 mod Told_statements
 mod Told_sections
 mod Told_services
 mod Told_nodes
 mod Told_boxes
-mod Told_texts
+mod Keywords

@@ -6,6 +6,7 @@ use Rattle.gq_model.specs.machine.Accounts.{entry, leaf_count, told}
 use Rattle.gq_model.specs.machine.Lists.{any_of}
 use Rattle.gq_model.specs.machine.Program.{text_eq}
 use Rattle.gq_model.specs.machine.Routes.{numbered, server_of}
+use Rattle.gq_model.specs.machine.Run.{label_at}
 use Rattle.gq_model.specs.machine.Scenario.{Scenario, LeafNode, Nodes, End, Leaf_node, Init_node, System, system, Component}
 use Rattle.gq_model.specs.rules.Accept.{Budget, budgets}
 use Rattle.gq_model.specs.rules.Resolve.{handed_out}
@@ -43,13 +44,9 @@ first_of_each before [] = []
 first_of_each before (service ∷ rest) =
     (if any_of (text_eq service) before then [] else service ∷ []) ++ first_of_each (service ∷ before) rest
 
-abbrev pub label_of : Option Component → List ℕ
-label_of None = []
-label_of (Some c) = c.label
-
 abbrev pub server_label : System → Option ℕ → List ℕ
 server_label system None = []
-server_label system (Some y) = label_of (slice_get system.components y)
+server_label system (Some y) = label_at (slice_get system.components y)
 
 abbrev pub opens_lines : ℕ → System → Component → List (List ℕ) → List ℕ
 opens_lines depth system c [] = []

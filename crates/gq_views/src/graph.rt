@@ -19,7 +19,7 @@ use crate::drawn::{Drawn, Opened};
 use crate::left::left_of;
 use crate::tree::push_caps;
 use crate::words::{end_line, push_amount, push_entry, push_indent, push_line, push_number};
-use gq_init::counted::{Counted, put};
+use gq_init::counted::Counted;
 use gq_load::accepted::Accepted;
 use gq_load::budget::Budget;
 use gq_load::fault::LoadError;
@@ -27,6 +27,7 @@ use gq_model::program::Name;
 use gq_scenario::node::NodeNo;
 use gq_scenario::scenario::{Leaf, LeafNo, Node, Nodes, Quantum, Version};
 use gq_world::RunFault;
+use gq_world::text::put_text;
 use std::alloc::{AllocError, Global};
 use std::io::Write;
 
@@ -475,8 +476,5 @@ pub fn graph<W: Write>(
     ensures { WritesAs W.contents (graph_written scenario.now) out.old out.new result }
 {
     let text = loaded_text(alloc, scenario)?;
-    match put(out, text.as_slice()) {
-        Ok(()) => Ok(()),
-        Err(_) => Err(RunFault::Write),
-    }
+    put_text(out, text.as_slice())
 }

@@ -2,44 +2,18 @@
 ghost use Rattle.std.specs.Prelude.{◌≡◌, ◌++◌, OnOk, codes};
 ghost use Rattle.gq_model.specs.texts.Operands.{opcode, operands};
 ghost use Rattle.gq_model.specs.texts.Spelling.{spellings};
-ghost use Rattle.gq_program.specs.Spelling as program;
 ghost use Rattle.gq_views.specs.Listing.{instruction_text, operands_text, place_text, word_of};
 
 use crate::words::{push_amount, push_number};
 use gq_model::program::{Instruction, Place};
-use gq_program::{Bare, Shape, WithAmount, WithBytes, WithNumber, WithSlot};
+use gq_program::Shape;
 use std::alloc::AllocError;
 
-// The entry of a statement in the table of all.
-fn shape_of(instruction: &Instruction) -> Shape
-    ensures { program.word_of result ≡ word_of (opcode instruction.now) spellings }
+// The word of a statement.
+fn word_of(instruction: &Instruction) -> &'static [u8]
+    ensures { result.now ≡ word_of (opcode instruction.now) spellings }
 {
-    match instruction {
-        Instruction::Say(_) => Shape::Say,
-        Instruction::Out => Shape::Plain(Bare::Out),
-        Instruction::Drop => Shape::Plain(Bare::Drop),
-        Instruction::Dup => Shape::Plain(Bare::Dup),
-        Instruction::Combine(operator) => Shape::Plain(Bare::Combine(*operator)),
-        Instruction::Push(_) => Shape::Number(WithNumber::Push),
-        Instruction::Divide(_) => Shape::Number(WithNumber::Divide),
-        Instruction::Modulo(_) => Shape::Number(WithNumber::Modulo),
-        Instruction::Get(_) => Shape::Number(WithNumber::Get),
-        Instruction::Set(_) => Shape::Number(WithNumber::Set),
-        Instruction::Index(_) => Shape::Number(WithNumber::Index),
-        Instruction::Make(form, _, _) => Shape::Amount(WithAmount::Make(*form)),
-        Instruction::MakePool(_, _, _) => Shape::Pool,
-        Instruction::Free(_) => Shape::Slot(WithSlot::Free),
-        Instruction::Load(width, _) => Shape::Bytes(WithBytes::Load(*width)),
-        Instruction::Store(width, _) => Shape::Bytes(WithBytes::Store(*width)),
-        Instruction::Take(_) => Shape::Slot(WithSlot::Take),
-        Instruction::Give(_) => Shape::Slot(WithSlot::Give),
-        Instruction::Peek(_) => Shape::Slot(WithSlot::Peek),
-        Instruction::Poke(_) => Shape::Slot(WithSlot::Poke),
-        Instruction::Open(_, _, _) => Shape::Open,
-        Instruction::Upgrade(_, _) => Shape::Amount(WithAmount::Upgrade),
-        Instruction::Call(_) => Shape::Slot(WithSlot::Call),
-        Instruction::Close(_) => Shape::Slot(WithSlot::Close),
-    }
+    Shape::of(instruction).word()
 }
 
 // Puts a slot, or the object, at the end of a text.
@@ -128,6 +102,6 @@ fn push_operands(text: &mut Vec<u8>, instruction: &Instruction) -> Result<(), Al
 pub fn push_instruction(text: &mut Vec<u8>, instruction: &Instruction) -> Result<(), AllocError>
     ensures { OnOk result (text.new.items ≡ text.old.items ++ instruction_text instruction.now) }
 {
-    text.extend_from_slice(shape_of(instruction).word())?;
+    text.extend_from_slice(word_of(instruction))?;
     push_operands(text, instruction)
 }

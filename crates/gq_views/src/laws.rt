@@ -1,13 +1,18 @@
 // Laws of the texts that are told.
-ghost use Rattle.std.specs.Prelude.{◌≡◌, Ok};
+ghost use Rattle.std.specs.Prelude.{◌≡◌, ℕ, List, Ok};
 ghost use Rattle.gq_model.specs.machine.Program.{Program};
 ghost use Rattle.gq_model.specs.texts.Code.{IsProgram};
 ghost use Rattle.gq_model.specs.texts.Text.{assembled};
+ghost use Rattle.gq_views.specs.Listed.{ListsProgram};
 ghost use Rattle.gq_views.specs.Listing.{listing};
+ghost use Rattle.gq_views.specs.Written.{list_written};
 
-/// What holds of the text of every program (`listing`). It does nothing.
+/// What holds of the text of every program (`listing`), and of what `list` writes. It does nothing.
 ///
-/// The listing of a program is assembled as that program, whatever its locals, sections and statements: nothing of it is lost in the text.
+/// `programs`: the listing of a program is assembled as that program, whatever its locals, sections and statements: nothing of it is lost in the text.
+///
+/// `written`: whatever `list` writes, for any text of a scenario and any name, is assembled as the program of the leaf of that name.
 pub fn listing_laws()
-    ensures { (p : Program) → IsProgram p → assembled (listing p) ≡ Ok p }
+    ensures programs { (p : Program) → IsProgram p → assembled (listing p) ≡ Ok p }
+    ensures written { (scenario name text : List ℕ) → list_written scenario name ≡ Ok text → ListsProgram scenario name text }
 {}

@@ -7,7 +7,7 @@ ghost use Rattle.gq_views.specs.Written.{list_from, list_written};
 ghost use Rattle.gq_world.specs.Outcomes.{IsBefore, IsFaultOf, WritesAs};
 
 use crate::listing::listing;
-use gq_init::counted::{Counted, put};
+use gq_init::counted::Counted;
 use gq_load::fault::{LoadError, LoadFault};
 use gq_load::named::leaf_named;
 use gq_load::programs::read_program;
@@ -16,6 +16,7 @@ use gq_resolve::component::components;
 use gq_scenario::fault::ScenarioError;
 use gq_scenario::scenario::{Leaf, Scenario};
 use gq_world::RunFault;
+use gq_world::text::put_text;
 use std::alloc::Global;
 use std::io::Write;
 
@@ -69,8 +70,5 @@ pub fn list<'a, W: Write>(
     let text = named_text(alloc, &scenario, name);
     drop(scenario);
     let text = text?;
-    match put(out, text.as_slice()) {
-        Ok(()) => Ok(()),
-        Err(_) => Err(RunFault::Write),
-    }
+    put_text(out, text.as_slice())
 }

@@ -16,13 +16,14 @@ ghost use Rattle.gq_world.specs.Outcomes.{WritesAs};
 use crate::drawn::{Drawn, Opened};
 use crate::left::left_of;
 use crate::words::{end_line, push_entry, push_indent};
-use gq_init::counted::{Counted, put};
+use gq_init::counted::Counted;
 use gq_load::accepted::Accepted;
 use gq_load::budget::Budget;
 use gq_load::fault::LoadError;
 use gq_model::program::Name;
 use gq_scenario::scenario::{Leaf, Node, Nodes, Quantum, Version};
 use gq_world::RunFault;
+use gq_world::text::put_text;
 use std::alloc::{AllocError, Global};
 use std::io::Write;
 
@@ -275,8 +276,5 @@ pub fn tree<W: Write>(
     ensures { WritesAs W.contents (tree_written scenario.now) out.old out.new result }
 {
     let text = loaded_text(alloc, scenario)?;
-    match put(out, text.as_slice()) {
-        Ok(()) => Ok(()),
-        Err(_) => Err(RunFault::Write),
-    }
+    put_text(out, text.as_slice())
 }

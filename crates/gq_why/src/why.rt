@@ -16,7 +16,7 @@ ghost use Rattle.gq_why.specs.Written.{leaf_number, why_from, why_of, why_writte
 use crate::need::push_needs;
 use crate::own::push_owns;
 use crate::steps::push_steps;
-use gq_init::counted::{Counted, put};
+use gq_init::counted::Counted;
 use gq_load::fault::{LoadError, LoadFault};
 use gq_load::quantities::{Unsized, judge_unsized};
 use gq_program::Interfaces;
@@ -29,6 +29,7 @@ use gq_scenario::quantities::without_quantities;
 use gq_scenario::scenario::{LeafNo, Scenario};
 use gq_verify::{Verified, verify};
 use gq_world::RunFault;
+use gq_world::text::put_text;
 use std::alloc::{AllocError, Global};
 use std::io::Write;
 
@@ -141,8 +142,5 @@ pub fn why<'a, W: Write>(
     let text = named_text(alloc, &scenario, name);
     drop(scenario);
     let text = text?;
-    match put(out, text.as_slice()) {
-        Ok(()) => Ok(()),
-        Err(_) => Err(RunFault::Write),
-    }
+    put_text(out, text.as_slice())
 }

@@ -1,13 +1,16 @@
 -- How a command ends that writes a text, by how the writing of it ended.
-use Rattle.std.proofs.Common.{◌≡◌, ◌∙◌, ℕ, List, Option, Result, Ok, Err, refl, subst}
+use Rattle.std.proofs.Common.{◌≡◌, ◌∙◌, ℕ, List, Option, Result, Ok, Err, OnOk, ap, refl, subst, sym}
+use Rattle.std.specs.Prelude.{IsOkAnd}
 use Rattle.std.specs.Io.KnownBytes.{Appends}
+use Rattle.gq_load.specs.Load.{Fault}
+use Rattle.gq_model.specs.machine.Scenario.{Scenario}
 use Rattle.gq_init.specs.declared.counted.Counted.{Counted}
 use Rattle.gq_init.specs.Counts.{Writes, failures_of, written_to}
 use Rattle.gq_init.specs.Writes.{IsFront, IsRaised}
 use Rattle.gq_world.specs.declared.fault.RunFault.{RunFault}
 use Rattle.gq_world.specs.declared.fault.RunFault.TheVariants.{Load, NoComponent, Turns, Memory, Write}
 use Rattle.gq_world.specs.Outcomes.{IsBefore, IsFaultOf, WritesAs}
-use Rattle.gq_world.specs.Whole.{Written}
+use Rattle.gq_world.specs.Whole.{Written, with_scenario}
 
 never_both : {A : Type 0} (a : A) (fault : RunFault) → ◌≡◌ {A = Result A RunFault} (Ok a) (Err fault) → ⊥
 never_both a fault e = cc
@@ -69,3 +72,19 @@ since contents old between new last whole (Ok a) same all front h =
     record { written = all h.written; counted = h.counted ∙ same; front = tt; raised = tt }
 since contents old between new last whole (Err e) same all front h =
     record { written = tt; counted = tt; front = front h.front; raised = subst (λ n. IsRaised n (failures_of new)) same h.raised }
+
+-- what holds where just this text was written holds where it was written as the text of a command
+pub whole_text : {W A : Type 0} {contents : W → Option (List ℕ)} {old new : Counted W} {text : List ℕ} (P : Type 0) (r : Result A RunFault)
+    → (Appends (written_to contents old) (written_to contents new) text → P) → WritesAs contents (Ok text) old new r → OnOk r P
+whole_text {contents = contents} {old = old} {new = new} {text = text} P (Ok a) so h =
+    so (subst (Appends (written_to contents old) (written_to contents new)) (same_text h.written.text text (sym h.written.given)) h.written.written)
+  where
+    same_text : (t u : List ℕ) → ◌≡◌ {A = Written} (Ok t) (Ok u) → t ≡ u
+    same_text t u e = cc
+whole_text P (Err fault) so h = tt
+
+-- what a definition gives of a scenario that was loaded is the text of the command
+pub told_text : (told : Scenario → List ℕ) (r : Result Scenario Fault) (text : List ℕ) → IsOkAnd r (λ s. text ≡ told s)
+    → with_scenario r (λ s. Ok (told s)) ≡ Ok text
+told_text told (Ok s) text h = ap Ok (sym h)
+told_text told (Err fault) text h = absurd h

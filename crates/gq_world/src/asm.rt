@@ -7,8 +7,9 @@ ghost use Rattle.gq_world.specs.Outcomes.{IsBefore, IsFaultOf, WritesAs};
 ghost use Rattle.gq_world.specs.Whole.{asm_from, asm_written};
 
 use crate::fault::RunFault;
+use crate::text::put_text;
 use gq_code::program_code::encode;
-use gq_init::counted::{Counted, put};
+use gq_init::counted::Counted;
 use gq_load::fault::{LoadError, LoadFault};
 use gq_load::named::leaf_named;
 use gq_load::programs::read_program;
@@ -75,8 +76,5 @@ pub fn asm<'a, W: Write>(
     let line = leaf_line(alloc, &scenario, name);
     drop(scenario);
     let line = line?;
-    match put(out, line.as_bytes()) {
-        Ok(()) => Ok(()),
-        Err(_) => Err(RunFault::Write),
-    }
+    put_text(out, line.as_bytes())
 }

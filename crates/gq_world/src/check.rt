@@ -3,7 +3,8 @@ ghost use Rattle.gq_world.specs.Outcomes.{WritesAs};
 ghost use Rattle.gq_world.specs.Whole.{check_written};
 
 use crate::fault::RunFault;
-use gq_init::counted::{Counted, put};
+use crate::text::put_text;
+use gq_init::counted::Counted;
 use gq_load::checked::checked_lines;
 use std::alloc::Global;
 use std::io::Write;
@@ -19,8 +20,5 @@ pub fn check<W: Write>(
     ensures { WritesAs W.contents (check_written scenario.now) out.old out.new result }
 {
     let lines = checked_lines(alloc, scenario)?;
-    match put(out, lines.as_slice()) {
-        Ok(()) => Ok(()),
-        Err(_) => Err(RunFault::Write),
-    }
+    put_text(out, lines.as_slice())
 }

@@ -20,6 +20,7 @@ pub mod leaf_lines;
 pub mod load;
 mod node_accounts;
 pub mod run;
+pub mod text;
 pub mod world;
 
 pub use fault::RunFault;

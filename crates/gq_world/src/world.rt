@@ -15,7 +15,7 @@ ghost use Rattle.gq_init.specs.Counts.{Writes, written_to, failures_of};
 ghost use Rattle.gq_world.specs.Headline.{Standing, Upheld};
 ghost use Rattle.gq_init.specs.Told.{told_of};
 ghost use Rattle.gq_world.specs.Lines.{all_accounts, accounts_text};
-ghost use Rattle.gq_bytecode.specs.Nexts.{GoesAlone};
+ghost use Rattle.gq_bytecode.specs.Nexts.{GoesAlone, NoneAlone};
 ghost use Rattle.gq_machine.specs.Events.{event_of};
 ghost use Rattle.gq_world.specs.Worlds.{HasTaken, IsTurn, StopsWriting, line_told};
 ghost use Rattle.gq_world.specs.internal.Going.{HasRun, IsCut};
@@ -238,9 +238,9 @@ impl World {
         self.machine.step(leaf, line)
     }
 
-    /// Turns that a leaf takes alone, at least one and at most so many: each is a step that shows nothing, and changes nothing but what is left to do, the open
-    /// loops, the operands, the locals and the steps of this leaf. It tells how many are left. How many it takes is no promise, but a matter of time: it goes
-    /// on up to a step in which others have a part, and takes none where the leaf can't run. They take no host memory.
+    /// Turns that a leaf takes alone, at most so many: each is a step that shows nothing, and changes nothing but what is left to do, the open loops, the
+    /// operands, the locals and the steps of this leaf. It returns how many are left. Where any are left, the leaf can't take its next step alone: others
+    /// have a part in it, or the leaf can't run. The turns take no host memory.
     #[inline(always)]
     pub fn turns_alone(&mut self, leaf: LeafNo, turns: u32) -> u32
         requires leaf { leaf < length (components self.old.scenario) }
@@ -248,6 +248,7 @@ impl World {
         ensures scenario { self.new.scenario ≡ self.old.scenario }
         ensures left { result ≤ turns }
         ensures alone { GoesAlone (system self.old.scenario) leaf (turns - result) self.old.world self.new.world }
+        ensures over { 0 < result → NoneAlone self.new.world leaf }
         ensures stopped { self.new.stopped ≡ self.old.stopped }
     {
         accepted_laws();

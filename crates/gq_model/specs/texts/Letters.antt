@@ -74,9 +74,13 @@ without_returns [] = []
 without_returns (last ∷ []) = last ∷ []
 without_returns (line ∷ next ∷ rest) = without_return line ∷ without_returns (next ∷ rest)
 
+-- what stands before, between and behind the line feeds of a text; never empty
+abbrev pub fed_lines : List ℕ → List (List ℕ)
+fed_lines text = pieces (λ c. c == 10) text
+
 -- lines end at a line feed
 abbrev pub lines : List ℕ → List (List ℕ)
-lines text = without_returns (pieces (λ c. c == 10) text)
+lines text = without_returns (fed_lines text)
 
 -- a line without the blanks at its start
 abbrev pub unindented : List ℕ → List ℕ

@@ -21,7 +21,7 @@ use Rattle.gq_model.specs.rules.Accept.{budgets, step_budgets}
 use Rattle.gq_model.specs.texts.Turns.{Turned}
 use Rattle.gq_scenario.specs.Sizes.{leaf_places}
 use Rattle.gq_views.specs.Listing.{loop_text}
-use Rattle.gq_views.specs.Tree.{label_of}
+use Rattle.gq_model.specs.machine.Run.{label_at}
 use Rattle.gq_world.specs.Headline.{Standing}
 use Rattle.gq_world.specs.Lines.{all_accounts}
 use Rattle.gq_world.specs.Worlds as worlds
@@ -92,7 +92,7 @@ abbrev pub place_of : stated.Due → Place
 place_of d = place d.section d.number (statement_text d.statement)
 
 abbrev pub head_text : Scenario → Head → List ℕ
-head_text s h = head_line h.turn (label_of (slice_get (components s) h.leaf)) (place_of h.due)
+head_text s h = head_line h.turn (label_at (slice_get (components s) h.leaf)) (place_of h.due)
 
 abbrev pub IsDue : Option stated.Due → Option Due → Type 0
 IsDue None None = Unit {0}
@@ -166,7 +166,7 @@ IsTop top operands = MatchOption top (operands ≡ []) (λ a. operands ≡ a ∷
 -- the first line of a step, up to its statement
 abbrev pub head_front : Scenario → Head → List ℕ
 head_front s h =
-    codes "turn " ++ decimal h.turn ++ codes " " ++ label_of (slice_get (components s) h.leaf) ++ codes " " ++ section_word h.due.section ++ codes " at "
+    codes "turn " ++ decimal h.turn ++ codes " " ++ label_at (slice_get (components s) h.leaf) ++ codes " " ++ section_word h.due.section ++ codes " at "
     ++ decimal h.due.number
 
 -- The account of the n-th node was told, if it stands otherwise than it was noted, and is noted anew.
@@ -226,7 +226,7 @@ pub record TellsStep {W : Type 0} (contents : W → Option (List ℕ)) (telling 
   pub event : Event
   pub goes : next (system old.scenario) old.world h.leaf ≡ Ok (new.world, event)
   pub tells : Goes contents out_old out_new was now (told_step (tells_all telling) (head_text old.scenario h)
-      (changes old.scenario (budgets_of old.scenario) (label_of (slice_get (components old.scenario) h.leaf)) old.world new.world event))
+      (changes old.scenario (budgets_of old.scenario) (label_at (slice_get (components old.scenario) h.leaf)) old.world new.world event))
   pub noted : AreNoted new.scenario new.world notes
 
 -- it was taken, with what was read of it
@@ -243,7 +243,7 @@ pub record IsTaken (old new : worlds.World) (x : ℕ) (t : Taken) (text : List �
 pub record TellsChanges {W : Type 0} (contents : W → Option (List ℕ)) (old new : worlds.World) (notes : Notes) (out_old out_new : Counted W)
     (was now : Progress) (h : Head) (event : Event) : Type 0 where
   pub tells : Tells contents out_old out_new was now (head_text old.scenario h)
-      (changes old.scenario (budgets_of old.scenario) (label_of (slice_get (components old.scenario) h.leaf)) old.world new.world event)
+      (changes old.scenario (budgets_of old.scenario) (label_at (slice_get (components old.scenario) h.leaf)) old.world new.world event)
   pub noted : AreNoted new.scenario new.world notes
 
 -- TURNS

@@ -1,12 +1,12 @@
 -- A command was done, was refused, or a write failed.
-use Rattle.std.proofs.Common.{ap, Err, inr, refl, subst, ◌∙◌}
+use Rattle.std.proofs.Common.{ap, Err, inl, inr, refl, subst, ◌∙◌}
 use Rattle.gq_cli.specs.Executed.{Executes, IsTold, writes_refusals}
-use Rattle.gq_cli.proofs.Inputs.{all_told, cut_short, done_either, refused_either}
+use Rattle.gq_cli.proofs.Inputs.{all_told, cut_short, done_either, part_told, refused_either}
 use Rattle.gq_cli.proofs.execute.execute.Goals as goal
 
 pub returns-in-Ok-clause-done : goal.returns-in-Ok-clause-done
 returns-in-Ok-clause-done g c same =
-    done_either c.args.rules.now c.args.command.now _ _ _ _ _ _ (writes_refusals c.args.command.now) refl (λ quiet. c.in-Ok.ensures.ended quiet tt)
+    done_either c.args.rules.now c.args.command.now _ _ _ _ _ _ _ _ (writes_refusals c.args.command.now) refl (λ quiet. c.in-Ok.ensures.ended quiet tt)
     (λ writes. c.in-Ok.ensures.faults writes tt)
 
 pub returns-in-Err-Write-clause-cut : goal.returns-in-Err-Write-clause-cut
@@ -23,7 +23,8 @@ returns-in-Err-Refused-clause-refused g c same =
     let e = c.in-Err-Refused in
     refused_either c.args.rules.now c.args.command.now (g.R.Read.remaining c.args.scenario.now) (g.R.Read.remaining c.perform.new.scenario)
     (g.T.Read.remaining c.args.turns.now) (g.T.Read.remaining c.perform.new.turns) (g.W.Write.contents c.args.out.now.writer)
-    (g.W.Write.contents c.perform.new.out.writer) g.E.Write.contents c.args.err.now c.tell_line.new.err e.field-0 e.line e.field-0-is
+    (g.W.Write.contents c.perform.new.out.writer) c.args.out.now.failures c.perform.new.out.failures g.E.Write.contents c.args.err.now c.tell_line.new.err
+    e.field-0 e.line e.field-0-is
     (subst (IsTold g.E.Write.contents c.args.err.now c.tell_line.new.err) c.as_bytes.ensures.value c.tell_line.ensures)
     (writes_refusals c.args.command.now) refl e.ensures.ended e.ensures.faults
 
@@ -32,4 +33,20 @@ returns-in-Err-Refused-clause-faults g c writes same =
     let e = c.in-Err-Refused in
     all_told c.args.rules.now c.args.command.now (g.R.Read.remaining c.args.scenario.now) (g.R.Read.remaining c.perform.new.scenario)
     (g.T.Read.remaining c.args.turns.now) (g.T.Read.remaining c.perform.new.turns) (g.W.Write.contents c.args.out.now.writer)
-    (g.W.Write.contents c.perform.new.out.writer) e.field-0 e.line e.field-0-is (e.ensures.faults writes)
+    (g.W.Write.contents c.perform.new.out.writer) c.args.out.now.failures c.perform.new.out.failures e.field-0 e.line e.field-0-is
+    (e.ensures.faults writes)
+
+pub returns-in-Err-Write-clause-faults_cut : goal.returns-in-Err-Write-clause-faults_cut
+returns-in-Err-Write-clause-faults_cut g c writes same =
+    let e = c.in-Err-Write in
+    inr (part_told c.args.rules.now c.args.command.now (g.R.Read.remaining c.args.scenario.now) (g.R.Read.remaining c.perform.new.scenario)
+    (g.T.Read.remaining c.args.turns.now) (g.T.Read.remaining c.perform.new.turns) (g.W.Write.contents c.args.out.now.writer)
+    (g.W.Write.contents c.perform.new.out.writer) c.args.out.now.failures c.perform.new.out.failures e.field-0 e.field-0-is (e.ensures.faults writes))
+
+pub returns-in-Err-Read-clause-faults_cut : goal.returns-in-Err-Read-clause-faults_cut
+returns-in-Err-Read-clause-faults_cut g c writes same =
+    inl ((c.perform.ensures.failed_read writes) (c.in-Err-Read.is ∙ ap Err c.in-Err-Read.field-0-is))
+
+pub returns-in-Err-Memory-clause-faults_stopped : goal.returns-in-Err-Memory-clause-faults_stopped
+returns-in-Err-Memory-clause-faults_stopped g c writes same =
+    (c.perform.ensures.stopped writes) (c.in-Err-Memory.is ∙ ap Err c.in-Err-Memory.field-0-is)

@@ -5,8 +5,8 @@ use Rattle.gq_cli.proofs.execute.of_scenario_text.Goals as goal
 
 pub returns-in-Err-clause-ended : goal.returns-in-Err-clause-ended
 returns-in-Err-clause-ended g c =
-    told_ends g.W.Write.contents (Of_scenario c.args.command c.args.scenario.now) _ _ c.in-Err.fault c.told.result c.told.ensures c.in-Err.ensures
+    told_ends g.W.Write.contents (Of_scenario c.args.command c.args.scenario.now) _ _ c.in-Err.fault c.told.result c.told.ensures c.in-Err.ensures.writes
 
 pub returns-in-Err-clause-leaves : goal.returns-in-Err-clause-leaves
 returns-in-Err-clause-leaves g c =
-    told_leaves g.W.Write.contents (Of_scenario c.args.command c.args.scenario.now) _ _ c.in-Err.fault c.told.result c.told.ensures c.in-Err.ensures
+    told_leaves g.W.Write.contents (Of_scenario c.args.command c.args.scenario.now) _ _ c.in-Err.fault c.told.result c.told.ensures c.in-Err.ensures.writes

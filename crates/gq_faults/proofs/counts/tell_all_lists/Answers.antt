@@ -1,19 +1,22 @@
 use Rattle.std.proofs.Common.{◌+◌, map, drop, Err, Ok}
 use Rattle.std.proofs.lemmas.Result.{err_from_is_err_and}
-use Rattle.gq_scenario.specs.Reading.{document_text}
 use Rattle.gq_faults.specs.Lists.{all_found}
 use Rattle.gq_faults.specs.Documents.{long_lists}
 use Rattle.gq_faults.specs.Nodes.{node_of}
-use Rattle.gq_faults.proofs.Telling.{tells_early, next_told, none_told, each_next, each_end}
+use Rattle.gq_faults.proofs.Telling.{tells_fewer, next_told, none_told, each_next, each_end}
 use Rattle.gq_faults.proofs.counts.tell_all_lists.Goals as goal
 
 pub returns-in_err-tell_lists : goal.returns-in_err-tell_lists
 returns-in_err-tell_lists g c =
     let p = err_from_is_err_and c.from_residual.result c.from_residual.ensures.1 in
+    let e = c.in_err-tell_lists.field-0.0 in
     let f = long_lists in
-    rw (p.1, p.2) (c.loop-node.invariant _ _ (Err c.in_err-tell_lists.field-0.0)
-    (tells_early c.args.teller.now.path.now (map document_text (f (node_of c.node-item.result))) _ _ _ _ _ c.in_err-tell_lists.field-0.0
-    c.in_err-tell_lists.ensures))
+    let xs = c.args.nodes.now in
+    let i = c.loop-node.node-index in
+    let x = c.node-item.result in
+    rw (p.1, p.2) (c.loop-node.invariant _ _ (Err e)
+    (tells_fewer c.args.teller.now.path.now (all_found f (map node_of (drop i xs))) (f (node_of x)) (all_found f (map node_of (drop (i + 1) xs))) _ _ _ _ e
+    (each_next f node_of xs i x c.loop-node-test.true c.node-item.is) c.in_err-tell_lists.ensures))
 
 pub loop-node-preserved : goal.loop-node-preserved
 loop-node-preserved g c = λ after n r h.

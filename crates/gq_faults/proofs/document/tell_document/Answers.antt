@@ -1,7 +1,9 @@
-use Rattle.std.proofs.Common.{◌++◌, rules}
+use Rattle.std.proofs.Common.{◌++◌, Err, map, rules}
+use Rattle.std.proofs.lemmas.Result.{err_from_is_err_and}
 use Rattle.toml.specs.View.{table_view}
-use Rattle.gq_faults.specs.Documents.{walk_faults, counts_faults, names_faults}
-use Rattle.gq_faults.proofs.Telling.{tells_more}
+use Rattle.gq_scenario.specs.Reading.{document_text}
+use Rattle.gq_faults.specs.Documents.{counts_faults, document_faults, names_faults, walk_faults}
+use Rattle.gq_faults.proofs.Telling.{memory_ends, tells_begun, tells_more}
 use Rattle.gq_faults.proofs.document.tell_document.Goals as goal
 
 pub returns : goal.returns
@@ -13,3 +15,28 @@ returns g c =
 
 pub tell_counts-requires : goal.tell_counts-requires
 tell_counts-requires g c = search rules
+
+pub returns-in_err-nodes : goal.returns-in_err-nodes
+returns-in_err-nodes g c =
+    memory_ends c.args.teller.now.path.now (map document_text (document_faults (table_view c.args.top.now))) _ _ c.from_residual.result
+    c.from_residual.ensures.1
+
+pub returns-in_err-tell_walk : goal.returns-in_err-tell_walk
+returns-in_err-tell_walk g c =
+    let path = c.args.teller.now.path.now in
+    let top = table_view c.args.top.now in
+    let p = err_from_is_err_and c.from_residual-in_err-tell_walk.result c.from_residual-in_err-tell_walk.ensures.1 in
+    let why = c.in_err-tell_walk.field-0.0 in
+    rw (p.1, p.2)
+    (tells_begun path (walk_faults top ++ counts_faults top) (names_faults top) _ _ _ _ why
+    (tells_begun path (walk_faults top) (counts_faults top) _ _ _ _ why c.in_err-tell_walk.ensures))
+
+pub returns-in_err-tell_counts : goal.returns-in_err-tell_counts
+returns-in_err-tell_counts g c =
+    let path = c.args.teller.now.path.now in
+    let top = table_view c.args.top.now in
+    let p = err_from_is_err_and c.from_residual-in_err-tell_counts.result c.from_residual-in_err-tell_counts.ensures.1 in
+    let why = c.in_err-tell_counts.field-0.0 in
+    rw (p.1, p.2)
+    (tells_begun path (walk_faults top ++ counts_faults top) (names_faults top) _ _ _ _ why
+    (tells_more path (walk_faults top) (counts_faults top) _ _ _ _ _ _ (tt {0}) (Err why) c.in_ok-tell_walk.ensures c.in_err-tell_counts.ensures))

@@ -18,7 +18,10 @@ returns-in_ok-tell_stop-in-Err-Fault g c =
 
 pub returns-in_err-tell_stop-in-Err-Fault : goal.returns-in_err-tell_stop-in-Err-Fault
 returns-in_err-tell_stop-in-Err-Fault g c =
+    let text = c.args.file.text.now in
+    let fault = c.in-Err-Fault.fault in
+    let stopped = rw c.in-Err-Fault.field-0-is at c.in-Err-Fault.ensures in
     let p = err_from_is_err_and c.from_residual.result c.from_residual.ensures.1 in
     rw (p.1, p.2)
-    (tells_no_more _ c.args.file.path.now c.args.file.text.now _ _ (scenario_fault_text c.in-Err-Fault.fault ∷ [])
-    c.in_err-tell_stop-in-Err-Fault.field-0.0 c.in_err-tell_stop-in-Err-Fault.ensures)
+    (tells_no_more _ c.args.file.path.now text _ _ (scenario_fault_text fault ∷ []) c.in_err-tell_stop-in-Err-Fault.field-0.0
+    (lines_of_stop text fault stopped) c.in_err-tell_stop-in-Err-Fault.ensures)

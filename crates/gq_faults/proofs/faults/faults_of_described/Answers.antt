@@ -21,7 +21,11 @@ returns g c =
 
 pub returns-in_err-tell_tables-in-Err-Fault : goal.returns-in_err-tell_tables-in-Err-Fault
 returns-in_err-tell_tables-in-Err-Fault g c =
+    let text = c.args.file.text.now in
+    let top = table_view c.args.top in
+    let fault = c.in-Err-Fault.fault in
+    let read = rw c.in-Err-Fault.field-0-is at c.in-Err-Fault.ensures in
     let p = err_from_is_err_and c.from_residual.result c.from_residual.ensures.1 in
     rw (p.1, p.2)
-    (tells_no_more _ c.args.file.path.now c.args.file.text.now _ _ (map document_text (document_faults (table_view c.args.top)))
-    c.in_err-tell_tables-in-Err-Fault.field-0.0 c.in_err-tell_tables-in-Err-Fault.ensures)
+    (tells_no_more _ c.args.file.path.now text _ _ (map document_text (document_faults top)) c.in_err-tell_tables-in-Err-Fault.field-0.0
+    (lines_of_document text top c.requires fault read) c.in_err-tell_tables-in-Err-Fault.ensures)

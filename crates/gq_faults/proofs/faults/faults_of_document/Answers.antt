@@ -18,7 +18,11 @@ returns-in_ok-tell_tables-in-Some g c =
 
 pub returns-in_err-tell_tables-in-Some : goal.returns-in_err-tell_tables-in-Some
 returns-in_err-tell_tables-in-Some g c =
+    let text = c.args.file.text.now in
+    let top = table_view c.args.top in
+    let fault = c.in-Some.fault in
+    let read = refused_by_walk text top c.requires fault (rw c.in-Some.is at c.walk_fault.ensures) in
     let p = err_from_is_err_and c.from_residual.result c.from_residual.ensures.1 in
     rw (p.1, p.2)
-    (tells_no_more _ c.args.file.path.now c.args.file.text.now _ _ (map document_text (document_faults (table_view c.args.top)))
-    c.in_err-tell_tables-in-Some.field-0.0 c.in_err-tell_tables-in-Some.ensures)
+    (tells_no_more _ c.args.file.path.now text _ _ (map document_text (document_faults top)) c.in_err-tell_tables-in-Some.field-0.0
+    (lines_of_document text top c.requires fault read) c.in_err-tell_tables-in-Some.ensures)

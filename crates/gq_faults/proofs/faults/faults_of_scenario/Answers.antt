@@ -3,11 +3,14 @@ use Rattle.std.proofs.lemmas.Result.{err_from_is_err_and}
 use Rattle.gq_load.specs.Load.{fault_text}
 use Rattle.gq_faults.specs.Scenario_faults.{scenario_faults}
 use Rattle.gq_faults.proofs.Texts.{lines_of_scenario}
-use Rattle.gq_faults.proofs.Told_texts.{refused_as_judged, tells_accepted, tells_no_more, tells_refused}
+use Rattle.gq_faults.proofs.Told_texts.{refused_as_judged, tells_accepted, tells_no_more, tells_nothing, tells_refused}
 use Rattle.gq_faults.proofs.faults.faults_of_scenario.Goals as goal
 
 pub returns-in-Ok : goal.returns-in-Ok
 returns-in-Ok g c = tells_accepted c.args.file.text.now c.args.scenario.now c.requires _ c.args.file.path.now c.args.out.now c.in-Ok.ensures.faultless
+
+pub returns-in-Err-Memory : goal.returns-in-Err-Memory
+returns-in-Err-Memory g c = tells_nothing _ c.args.file.path.now c.args.file.text.now c.args.out.now
 
 pub returns-in_ok-tell_scenario-in-Err-Fault : goal.returns-in_ok-tell_scenario-in-Err-Fault
 returns-in_ok-tell_scenario-in-Err-Fault g c =
@@ -22,4 +25,5 @@ returns-in_err-tell_scenario-in-Err-Fault g c =
     let p = err_from_is_err_and c.from_residual.result c.from_residual.ensures.1 in
     rw (p.1, p.2)
     (tells_no_more _ c.args.file.path.now c.args.file.text.now _ _ (map fault_text (scenario_faults c.args.scenario.now))
-    c.in_err-tell_scenario-in-Err-Fault.field-0.0 c.in_err-tell_scenario-in-Err-Fault.ensures)
+    c.in_err-tell_scenario-in-Err-Fault.field-0.0 (lines_of_scenario c.args.file.text.now c.args.scenario.now c.requires)
+    c.in_err-tell_scenario-in-Err-Fault.ensures)

@@ -2,7 +2,7 @@ use Rattle.std.proofs.Common.{ap, map, ◌∙◌}
 use Rattle.gq_load.specs.Load.{fault_text}
 use Rattle.gq_faults.specs.Scenario_faults.{scenario_faults}
 use Rattle.gq_faults.specs.Found_lines.{lines_found}
-use Rattle.gq_faults.proofs.Telling.{told_as}
+use Rattle.gq_faults.proofs.Telling.{told_as, memory_ends}
 use Rattle.gq_faults.proofs.Told_texts.{path_told}
 use Rattle.gq_faults.proofs.faults.tell_scenario.Goals as goal
 
@@ -12,3 +12,12 @@ returns g c =
     path_told lines _ _ _ _ c.in_ok-teller.teller.path.now c.args.file.path.now _ c.in_ok-teller.ensures
     (told_as c.in_ok-teller.teller.path.now (lines_found c.as_slice.result.now) lines _ _ _ _ _
     (ap lines_found c.as_slice.ensures.value ∙ c.in_ok-found.ensures) c.tell_each.ensures)
+
+pub returns-in_err-found : goal.returns-in_err-found
+returns-in_err-found g c =
+    memory_ends c.args.file.path.now (map fault_text (scenario_faults c.args.scenario.now)) _ _ c.from_residual.result c.from_residual.ensures.1
+
+pub returns-in_err-teller : goal.returns-in_err-teller
+returns-in_err-teller g c =
+    memory_ends c.args.file.path.now (map fault_text (scenario_faults c.args.scenario.now)) _ _
+    c.from_residual-in_err-teller.result c.from_residual-in_err-teller.ensures.1

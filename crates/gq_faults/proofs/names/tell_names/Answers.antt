@@ -8,16 +8,27 @@ use Rattle.gq_faults.specs.Documents.{named, names_faults, names_twice}
 use Rattle.gq_faults.specs.Nodes.{node_of}
 use Rattle.gq_faults.specs.Seen.{seen_after}
 use Rattle.gq_faults.proofs.Seen.{none_seen, twice_next, twice_end}
-use Rattle.gq_faults.proofs.Telling.{tells_early, told_as, next_told, none_told}
+use Rattle.gq_faults.proofs.Telling.{memory_ends, tells_fewer, told_as, next_told, none_told}
 use Rattle.gq_faults.proofs.names.tell_names.Goals as goal
 
 pub returns-in_err-tell_twice : goal.returns-in_err-tell_twice
 returns-in_err-tell_twice g c =
     let p = err_from_is_err_and c.from_residual-in_err-tell_twice.result c.from_residual-in_err-tell_twice.ensures.1 in
+    let e = c.in_err-tell_twice.field-0.0 in
     let names = c.loop-node.invariant.0 in
-    rw (p.1, p.2) (c.loop-node.invariant.2 _ _ (Err c.in_err-tell_twice.field-0.0)
-    (tells_early c.args.teller.now.path.now (map document_text (names_twice names (named (node_of c.node-item.result)))) _ _ _ _ _ c.in_err-tell_twice.field-0.0
-    (c.in_err-tell_twice.ensures.told names c.loop-node.invariant.1)))
+    let xs = c.args.nodes.now in
+    let i = c.loop-node.node-index in
+    let x = c.node-item.result in
+    let own = named (node_of x) in
+    rw (p.1, p.2) (c.loop-node.invariant.2 _ _ (Err e)
+    (tells_fewer c.args.teller.now.path.now (names_twice names (all_found named (map node_of (drop i xs)))) (names_twice names own)
+    (names_twice (seen_after names own) (all_found named (map node_of (drop (i + 1) xs)))) _ _ _ _ e
+    (twice_next names xs i x c.loop-node-test.true c.node-item.is) (c.in_err-tell_twice.ensures.told names c.loop-node.invariant.1)))
+
+pub returns-in_err-was_seen : goal.returns-in_err-was_seen
+returns-in_err-was_seen g c =
+    memory_ends c.args.teller.now.path.now (map document_text (names_faults (table_view c.args.top.now))) _ _
+    c.from_residual.result c.from_residual.ensures.1
 
 pub loop-node-init : goal.loop-node-init
 loop-node-init g c =

@@ -7,7 +7,7 @@ use Rattle.gq_faults.specs.Documents.{named, names_twice}
 use Rattle.gq_faults.specs.Nodes.{node_of}
 use Rattle.gq_faults.specs.Seen.{AreSeen, seen_after}
 use Rattle.gq_faults.proofs.Seen.{always, one_twice, one_new, one_after}
-use Rattle.gq_faults.proofs.Telling.{told_as, none_told}
+use Rattle.gq_faults.proofs.Telling.{told_as, none_told, memory_ends}
 use Rattle.gq_faults.proofs.names.tell_twice.Goals as goal
 
 pub returns-then-branch-clause-told : goal.returns-then-branch-clause-told
@@ -36,3 +36,8 @@ returns-else-branch-clause-told g c = λ names seen.
 pub returns-else-branch-clause-seen : goal.returns-else-branch-clause-seen
 returns-else-branch-clause-seen g c = λ names seen.
     one_after names (named (node_of c.args.node.now)) c.was_seen.new.seen c.in-Some.text.now c.in-Some.ensures (c.in_ok-was_seen.ensures.seen names seen)
+
+pub returns-in_err-was_seen-clause-told : goal.returns-in_err-was_seen-clause-told
+returns-in_err-was_seen-clause-told g c = λ names seen.
+    memory_ends c.args.teller.now.path.now (map document_text (names_twice names (named (node_of c.args.node.now)))) _ _ c.from_residual.result
+    c.from_residual.ensures.1

@@ -2,19 +2,22 @@ use Rattle.std.proofs.Common.{◌+◌, map, drop, Err, Ok}
 use Rattle.std.proofs.lemmas.Result.{err_from_is_err_and}
 use Rattle.toml.specs.View.{table_view}
 use Rattle.gq_reader.specs.Rules.{rule_of}
-use Rattle.gq_scenario.specs.Reading.{document_text}
 use Rattle.gq_faults.specs.Lists.{all_found}
 use Rattle.gq_faults.specs.Documents.{missing_of}
-use Rattle.gq_faults.proofs.Telling.{tells_early, next_told, none_told, each_next, each_end}
+use Rattle.gq_faults.proofs.Telling.{tells_fewer, next_told, none_told, each_next, each_end}
 use Rattle.gq_faults.proofs.tables.tell_missing_keys.Goals as goal
 
 pub returns-in_err-tell_missing : goal.returns-in_err-tell_missing
 returns-in_err-tell_missing g c =
     let p = err_from_is_err_and c.from_residual.result c.from_residual.ensures.1 in
-    let path = c.args.teller.now.path.now in
-    rw (p.1, p.2) (c.loop-rule.invariant _ _ (Err c.in_err-tell_missing.field-0.0)
-    (tells_early path (map document_text (missing_of (table_view c.args.table.now) (rule_of c.rule-item.result))) _ _ _ _ _ c.in_err-tell_missing.field-0.0
-    c.in_err-tell_missing.ensures))
+    let e = c.in_err-tell_missing.field-0.0 in
+    let f = missing_of (table_view c.args.table.now) in
+    let xs = c.args.rules.now in
+    let i = c.loop-rule.rule-index in
+    let x = c.rule-item.result in
+    rw (p.1, p.2) (c.loop-rule.invariant _ _ (Err e)
+    (tells_fewer c.args.teller.now.path.now (all_found f (map rule_of (drop i xs))) (f (rule_of x)) (all_found f (map rule_of (drop (i + 1) xs))) _ _ _ _ e
+    (each_next f rule_of xs i x c.loop-rule-test.true c.rule-item.is) c.in_err-tell_missing.ensures))
 
 pub loop-rule-preserved : goal.loop-rule-preserved
 loop-rule-preserved g c = λ after n r h.

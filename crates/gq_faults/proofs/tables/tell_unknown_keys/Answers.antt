@@ -7,20 +7,23 @@ use Rattle.gq_model.specs.machine.Lists.{any_of}
 use Rattle.gq_model.specs.machine.Program.{text_eq}
 use Rattle.gq_reader.specs.Rules.{rule_of}
 use Rattle.gq_scenario.specs.Keys.{DocumentFault, UnknownKey}
-use Rattle.gq_scenario.specs.Reading.{document_text}
 use Rattle.gq_faults.specs.Lists.{when}
 use Rattle.gq_faults.specs.Documents.{unknown_keys}
-use Rattle.gq_faults.proofs.Telling.{tells_early, next_told, none_told}
+use Rattle.gq_faults.proofs.Telling.{tells_fewer, next_told, none_told}
 use Rattle.gq_faults.proofs.tables.tell_unknown_keys.Goals as goal
 
 pub returns-in_err-tell_unknown : goal.returns-in_err-tell_unknown
 returns-in_err-tell_unknown g c =
     let (can, finite, inv) = c.loop-key.invariant in
     let p = err_from_is_err_and c.from_residual.result c.from_residual.ensures.1 in
-    let path = c.args.teller.now.path.now in
-    let t : List DocumentFault = when (not (any_of (λ r. text_eq c.as_str.result.now r.key) (map rule_of c.args.rules.now))) (UnknownKey c.as_str.result.now) in
-    rw (p.1, p.2) (inv _ _ (Err c.in_err-tell_unknown.field-0.0)
-    (tells_early path (map document_text t) _ _ _ _ _ c.in_err-tell_unknown.field-0.0 c.in_err-tell_unknown.ensures))
+    let fault = c.in_err-tell_unknown.field-0.0 in
+    let e : Entry = (c.in-Some.key.now, c.in-Some.field-0-1.now) in
+    let iter : c.loop-key.key-iterator ≡ e ∷ c.next.new.self = grind (arith, common_steps) in
+    let rules = map rule_of c.args.rules.now in
+    let found : List ℕ → List DocumentFault = λ key. when (not (any_of (λ r. text_eq key r.key) rules)) (UnknownKey key) in
+    rw (p.1, p.2) (inv _ _ (Err fault)
+    (tells_fewer c.args.teller.now.path.now (unknown_keys rules (members_view c.loop-key.key-iterator)) (found c.as_str.result.now)
+    (unknown_keys rules (members_view c.next.new.self)) _ _ _ _ fault (rw (iter, c.as_str.ensures.value) refl) c.in_err-tell_unknown.ensures))
 
 pub loop-key-preserved : goal.loop-key-preserved
 loop-key-preserved g c =

@@ -1,9 +1,10 @@
 use Rattle.std.proofs.Common.{ap, sym, ◌∙◌}
+use Rattle.std.proofs.lemmas.Result.{err_from_is_err_and}
 use Rattle.gq_model.specs.machine.Scenario.{Scenario, components}
 use Rattle.gq_load.specs.Load.{loaded}
 use Rattle.gq_faults.specs.Lists.{first}
-use Rattle.gq_faults.specs.Turn_faults.{turn_faults}
-use Rattle.gq_faults.proofs.Both.{answers_none, answers_some}
+use Rattle.gq_faults.specs.Turn_faults.{lines_of_both, told_of, turn_faults}
+use Rattle.gq_faults.proofs.Both.{answers_none, answers_some, both_early, both_memory}
 use Rattle.gq_faults.proofs.turns.faults_of_both.Goals as goal
 
 pub returns-in-Some-2-clause-answer : goal.returns-in-Some-2-clause-answer
@@ -17,3 +18,16 @@ returns-clause-answer g c =
     let text = c.args.turns.text.now in
     answers_none (loaded c.args.scenario.text.now) c.in-Ok.accepted text c.in-Ok.ensures.loaded
     (sym c.in-None.is ∙ (c.in_ok-fault-2.ensures.first ∙ ap (λ (s : Scenario). first (turn_faults (components s) text)) c.table.ensures))
+
+pub returns-in_err-fault-clause-told : goal.returns-in_err-fault-clause-told
+returns-in_err-fault-clause-told g c =
+    let p = err_from_is_err_and c.from_residual.result c.from_residual.ensures.1 in
+    rw (p.1, p.2)
+    (both_early c.args.scenario.path.now c.args.turns.path.now c.args.scenario.text.now c.args.turns.text.now _ _ _ _ c.in_err-fault.field-0.0
+    c.in_err-fault.ensures.told)
+
+pub returns-in-Err-Memory-clause-told : goal.returns-in-Err-Memory-clause-told
+returns-in-Err-Memory-clause-told g c =
+    let text = c.args.scenario.text.now in
+    both_memory _ g.W.Write.contents (told_of (loaded text) c.args.scenario.path.now c.args.turns.path.now) (lines_of_both text c.args.turns.text.now)
+    c.args.out.now c.faults.new.out c.in_ok-fault.field-0 c.in_default.is c.in_ok-fault.ensures.accepted

@@ -10,9 +10,17 @@ use Rattle.gq_faults.proofs.turns.tell_lines.Goals as goal
 pub returns-in_err-tell_wrong-clause-told : goal.returns-in_err-tell_wrong-clause-told
 returns-in_err-tell_wrong-clause-told g c =
     let p = err_from_is_err_and c.from_residual.result c.from_residual.ensures.1 in
-    let wrong = c.in-Some-read.wrong in
-    rw (p.1, p.2) (c.loop-reading.invariant.told _ _ (Err c.in_err-tell_wrong.field-0.0)
-    (tells_early c.args.file.path.now (turn_fault_line (wrong.fault, wrong.line) ∷ []) _ _ _ _ _ c.in_err-tell_wrong.field-0.0 c.in_err-tell_wrong.ensures))
+    let why = c.in_err-tell_wrong.field-0.0 in
+    let cs = components c.args.table.now in
+    let old = c.loop-reading.reading in
+    let new = c.read.new.self in
+    let left = faults_left cs old.line old.total (option_map (λ (t : Bor (List ℕ)). t.now) old.left) in
+    let rest = faults_left cs new.line new.total (option_map (λ (t : Bor (List ℕ)). t.now) new.left) in
+    let a : TurnFault × ℕ = (c.in-Some-read.wrong.fault, c.in-Some-read.wrong.line) in
+    let e : left ≡ a ∷ rest = text_left cs old.line old.total old.left c.in-Some.text (a ∷ rest) c.in-Some.is c.in-Some-read.ensures.faults in
+    rw (p.1, p.2) (c.loop-reading.invariant.told _ _ (Err why)
+    (tells_early c.args.file.path.now (map turn_fault_line left) (turn_fault_line a ∷ []) (map turn_fault_line rest) _ _ _ _ why
+    (ap (map turn_fault_line) e) c.in_err-tell_wrong.ensures))
 
 pub loop-reading-preserved-in-Some-read : goal.loop-reading-preserved-in-Some-read
 loop-reading-preserved-in-Some-read g c =

@@ -1,15 +1,14 @@
-use Rattle.std.proofs.Common.{◌≡◌, ◌∷◌, [], map, Err, Ok, arith, refl, List, ℕ}
+use Rattle.std.proofs.Common.{◌≡◌, ◌∷◌, [], Err, Ok, arith, refl, List, ℕ}
 use Rattle.std.proofs.lemmas.Grind.{common_steps}
 use Rattle.std.proofs.lemmas.Result.{err_from_is_err_and}
 use Rattle.toml.specs.Data.{Data}
 use Rattle.toml.specs.View.{view, members_view}
 use Rattle.toml.proofs.Views.{Entry}
 use Rattle.gq_scenario.specs.Keys.{DocumentFault}
-use Rattle.gq_scenario.specs.Reading.{document_text}
 use Rattle.gq_scenario.specs.Tables.{interface_keys}
 use Rattle.gq_scenario.specs.Trees.{version_number}
 use Rattle.gq_faults.specs.Documents.{in_table, interfaces_faults, table_faults}
-use Rattle.gq_faults.proofs.Telling.{tells_early, next_told, none_told}
+use Rattle.gq_faults.proofs.Telling.{tells_fewer, next_told, none_told}
 use Rattle.gq_faults.proofs.walk.tell_interfaces.Goals as goal
 
 abbrev found : ℕ → Data → List DocumentFault
@@ -19,9 +18,13 @@ pub returns-in_err-tell_entry : goal.returns-in_err-tell_entry
 returns-in_err-tell_entry g c =
     let (can, finite, inv) = c.loop-name.invariant in
     let p = err_from_is_err_and c.from_residual.result c.from_residual.ensures.1 in
-    rw (p.1, p.2) (inv _ _ (Err c.in_err-tell_entry.field-0.0)
-    (tells_early c.args.teller.now.path.now (map document_text (found (version_number c.args.version) (view c.in-Some.value.now))) _ _ _ _ _
-    c.in_err-tell_entry.field-0.0 c.in_err-tell_entry.ensures))
+    let fault = c.in_err-tell_entry.field-0.0 in
+    let e : Entry = (c.in-Some.name.now, c.in-Some.value.now) in
+    let iter : c.loop-name.name-iterator ≡ e ∷ c.next.new.self = grind (arith, common_steps) in
+    let version = version_number c.args.version in
+    rw (p.1, p.2) (inv _ _ (Err fault)
+    (tells_fewer c.args.teller.now.path.now (interfaces_faults version (members_view c.loop-name.name-iterator)) (found version (view e.1))
+    (interfaces_faults version (members_view c.next.new.self)) _ _ _ _ fault (rw iter refl) c.in_err-tell_entry.ensures))
 
 pub loop-name-preserved : goal.loop-name-preserved
 loop-name-preserved g c =

@@ -1,20 +1,25 @@
-use Rattle.std.proofs.Common.{◌+◌, map, drop, Err, Ok}
+use Rattle.std.proofs.Common.{◌+◌, drop, Err, Ok}
 use Rattle.std.proofs.lemmas.Result.{err_from_is_err_and}
 use Rattle.toml.specs.View.{view, items_view}
 use Rattle.gq_scenario.specs.Keys.{listed}
-use Rattle.gq_scenario.specs.Reading.{document_text}
 use Rattle.gq_scenario.specs.Tables.{route_keys}
 use Rattle.gq_faults.specs.Documents.{in_table, in_tables, table_faults}
-use Rattle.gq_faults.proofs.Telling.{tells_early, next_told, none_told}
+use Rattle.gq_faults.proofs.Telling.{tells_fewer, next_told, none_told}
 use Rattle.gq_faults.proofs.Values.{values_next, values_end}
 use Rattle.gq_faults.proofs.walk.tell_list.Goals as goal
 
 pub returns-in_err-tell_listed : goal.returns-in_err-tell_listed
 returns-in_err-tell_listed g c =
     let p = err_from_is_err_and c.from_residual.result c.from_residual.ensures.1 in
-    rw (p.1, p.2) (c.loop-index.invariant _ _ (Err c.in_err-tell_listed.field-0.0)
-    (tells_early c.args.teller.now.path.now (map document_text (in_table (table_faults route_keys) (view c.index-values-index.result))) _ _ _ _ _
-    c.in_err-tell_listed.field-0.0 c.in_err-tell_listed.ensures))
+    let e = c.in_err-tell_listed.field-0.0 in
+    let f = table_faults route_keys in
+    let vs = c.args.values.now in
+    let i = c.loop-index.index in
+    let v = c.index-values-index.result in
+    rw (p.1, p.2) (c.loop-index.invariant _ _ (Err e)
+    (tells_fewer c.args.teller.now.path.now (in_tables f (listed (items_view (drop i vs)))) (in_table f (view v))
+    (in_tables f (listed (items_view (drop (i + 1) vs)))) _ _ _ _ e
+    (values_next f vs i v c.loop-index-test.true c.index-values-index.is) c.in_err-tell_listed.ensures))
 
 pub loop-index-preserved : goal.loop-index-preserved
 loop-index-preserved g c = λ after n r h.

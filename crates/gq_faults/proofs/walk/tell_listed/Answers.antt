@@ -1,10 +1,11 @@
-use Rattle.std.proofs.Common.{◌≡◌, Some, None, sym}
+use Rattle.std.proofs.Common.{◌≡◌, Some, None, map, sym}
 use Rattle.toml.specs.Data.{as_table}
 use Rattle.toml.specs.View.{view, table_view}
 use Rattle.gq_scenario.specs.Tables.{route_keys}
-use Rattle.gq_faults.specs.Documents.{table_faults}
-use Rattle.gq_faults.proofs.Telling.{tells_none}
+use Rattle.gq_faults.specs.Documents.{in_table, table_faults}
+use Rattle.gq_faults.proofs.Telling.{memory_ends, tells_none}
 use Rattle.gq_faults.proofs.Values.{in_table_at, in_table_none}
+use Rattle.gq_scenario.specs.Reading.{document_text}
 use Rattle.gq_faults.proofs.walk.tell_listed.Goals as goal
 
 pub returns-in_default : goal.returns-in_default
@@ -16,3 +17,8 @@ pub returns : goal.returns
 returns g c =
     let is : as_table (view c.args.value.now) ≡ Some (table_view c.in-Some.table.now) = sym (rw c.in-Some.is at c.as_table.ensures) in
     rw (in_table_at (table_faults route_keys) (view c.args.value.now) (table_view c.in-Some.table.now) is) c.tell_route.ensures
+
+pub returns-in_err-way : goal.returns-in_err-way
+returns-in_err-way g c =
+    memory_ends c.args.teller.now.path.now (map document_text (in_table (table_faults route_keys) (view c.args.value.now))) _ _
+    c.from_residual.result c.from_residual.ensures.1

@@ -3,21 +3,24 @@ use Rattle.std.proofs.lemmas.Result.{err_from_is_err_and}
 use Rattle.toml.specs.View.{table_view}
 use Rattle.gq_reader.specs.Rules.{entries_or_none}
 use Rattle.gq_scenario.specs.Document.{keys_of}
-use Rattle.gq_scenario.specs.Reading.{document_text}
 use Rattle.gq_scenario.specs.Trees.{version_number}
 use Rattle.gq_faults.specs.Lists.{all_found}
 use Rattle.gq_faults.specs.Documents.{node_faults}
 use Rattle.gq_faults.specs.Nodes.{node_of}
-use Rattle.gq_faults.proofs.Telling.{tells_early, next_told, none_told, each_next, each_end}
+use Rattle.gq_faults.proofs.Telling.{tells_fewer, next_told, none_told, each_next, each_end}
 use Rattle.gq_faults.proofs.walk.tell_nodes.Goals as goal
 
 pub returns-in_err-tell_node : goal.returns-in_err-tell_node
 returns-in_err-tell_node g c =
     let p = err_from_is_err_and c.from_residual.result c.from_residual.ensures.1 in
+    let e = c.in_err-tell_node.field-0.0 in
     let f = node_faults (version_number c.args.version) (keys_of (entries_or_none (option_map (λ t. table_view t.now) c.args.interfaces))) in
-    rw (p.1, p.2) (c.loop-node.invariant _ _ (Err c.in_err-tell_node.field-0.0)
-    (tells_early c.args.teller.now.path.now (map document_text (f (node_of c.node-item.result))) _ _ _ _ _ c.in_err-tell_node.field-0.0
-    c.in_err-tell_node.ensures))
+    let xs = c.args.nodes.now in
+    let i = c.loop-node.node-index in
+    let x = c.node-item.result in
+    rw (p.1, p.2) (c.loop-node.invariant _ _ (Err e)
+    (tells_fewer c.args.teller.now.path.now (all_found f (map node_of (drop i xs))) (f (node_of x)) (all_found f (map node_of (drop (i + 1) xs))) _ _ _ _ e
+    (each_next f node_of xs i x c.loop-node-test.true c.node-item.is) c.in_err-tell_node.ensures))
 
 pub loop-node-preserved : goal.loop-node-preserved
 loop-node-preserved g c = λ after n r h.

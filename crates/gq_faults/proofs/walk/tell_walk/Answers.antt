@@ -1,5 +1,6 @@
-use Rattle.std.proofs.Common.{◌++◌, map, option_map}
+use Rattle.std.proofs.Common.{◌++◌, Err, map, option_map}
 use Rattle.std.specs.Prelude.{codes}
+use Rattle.std.proofs.lemmas.Result.{err_from_is_err_and}
 use Rattle.toml.specs.View.{table_view}
 use Rattle.gq_reader.specs.Rules.{entries_or_none}
 use Rattle.gq_scenario.specs.Document.{keys_of}
@@ -8,7 +9,7 @@ use Rattle.gq_scenario.specs.Trees.{version_number}
 use Rattle.gq_faults.specs.Documents.{interfaces_faults, node_faults, routes_faults, table_faults}
 use Rattle.gq_faults.specs.Lists.{all_found}
 use Rattle.gq_faults.specs.Nodes.{node_of}
-use Rattle.gq_faults.proofs.Telling.{tells_more}
+use Rattle.gq_faults.proofs.Telling.{tells_begun, tells_more}
 use Rattle.gq_faults.proofs.Values.{walk_is}
 use Rattle.gq_faults.proofs.walk.tell_walk.Goals as goal
 
@@ -25,3 +26,51 @@ returns g c =
     (tells_more path (a ++ b ++ d) (all_found (node_faults version (keys_of interfaces)) (map node_of c.args.nodes.now)) _ _ _ _ _ _ tt _
     (tells_more path (a ++ b) d _ _ _ _ _ _ tt _ (tells_more path a b _ _ _ _ _ _ tt _ c.in_ok-tell_top.ensures c.in_ok-tell_declared.ensures)
     c.in_ok-tell_routes.ensures) c.tell_nodes.ensures)
+
+pub returns-in_err-tell_top : goal.returns-in_err-tell_top
+returns-in_err-tell_top g c =
+    let path = c.args.teller.now.path.now in
+    let top = table_view c.args.top.now in
+    let version = version_number c.version_of-version.result in
+    let interfaces = entries_or_none (option_map (λ t. table_view t.now) c.table_at-interfaces.result) in
+    let a = table_faults (top_keys version) top in
+    let b = interfaces_faults version interfaces in
+    let d = routes_faults (codes "default-route") top in
+    let n = all_found (node_faults version (keys_of interfaces)) (map node_of c.args.nodes.now) in
+    let p = err_from_is_err_and c.from_residual.result c.from_residual.ensures.1 in
+    let why = c.in_err-tell_top.field-0.0 in
+    rw (walk_is version interfaces (map node_of c.args.nodes.now) top c.version_of-version.ensures c.table_at-interfaces.ensures c.requires, p.1, p.2)
+    (tells_begun path (a ++ b ++ d) n _ _ _ _ why (tells_begun path (a ++ b) d _ _ _ _ why (tells_begun path a b _ _ _ _ why c.in_err-tell_top.ensures)))
+
+pub returns-in_err-tell_declared : goal.returns-in_err-tell_declared
+returns-in_err-tell_declared g c =
+    let path = c.args.teller.now.path.now in
+    let top = table_view c.args.top.now in
+    let version = version_number c.version_of-version.result in
+    let interfaces = entries_or_none (option_map (λ t. table_view t.now) c.table_at-interfaces.result) in
+    let a = table_faults (top_keys version) top in
+    let b = interfaces_faults version interfaces in
+    let d = routes_faults (codes "default-route") top in
+    let n = all_found (node_faults version (keys_of interfaces)) (map node_of c.args.nodes.now) in
+    let p = err_from_is_err_and c.from_residual-in_err-tell_declared.result c.from_residual-in_err-tell_declared.ensures.1 in
+    let why = c.in_err-tell_declared.field-0.0 in
+    rw (walk_is version interfaces (map node_of c.args.nodes.now) top c.version_of-version.ensures c.table_at-interfaces.ensures c.requires, p.1, p.2)
+    (tells_begun path (a ++ b ++ d) n _ _ _ _ why (tells_begun path (a ++ b) d _ _ _ _ why
+    (tells_more path a b _ _ _ _ _ _ tt (Err why) c.in_ok-tell_top.ensures c.in_err-tell_declared.ensures)))
+
+pub returns-in_err-tell_routes : goal.returns-in_err-tell_routes
+returns-in_err-tell_routes g c =
+    let path = c.args.teller.now.path.now in
+    let top = table_view c.args.top.now in
+    let version = version_number c.version_of-version.result in
+    let interfaces = entries_or_none (option_map (λ t. table_view t.now) c.table_at-interfaces.result) in
+    let a = table_faults (top_keys version) top in
+    let b = interfaces_faults version interfaces in
+    let d = routes_faults (codes "default-route") top in
+    let n = all_found (node_faults version (keys_of interfaces)) (map node_of c.args.nodes.now) in
+    let p = err_from_is_err_and c.from_residual-in_err-tell_routes.result c.from_residual-in_err-tell_routes.ensures.1 in
+    let why = c.in_err-tell_routes.field-0.0 in
+    rw (walk_is version interfaces (map node_of c.args.nodes.now) top c.version_of-version.ensures c.table_at-interfaces.ensures c.requires, p.1, p.2)
+    (tells_begun path (a ++ b ++ d) n _ _ _ _ why
+    (tells_more path (a ++ b) d _ _ _ _ _ _ tt (Err why)
+    (tells_more path a b _ _ _ _ _ _ tt _ c.in_ok-tell_top.ensures c.in_ok-tell_declared.ensures) c.in_err-tell_routes.ensures))

@@ -20,20 +20,20 @@ returns-in_err-routes-clause-refused c =
     let none = of_scenario s s.interfaces c.args.components.now (λ i cs. first_refusal i cs ≡ None) refl c.requires.components c.requires.right in
     rw (p.1, p.2) (unsized_resolve s e none c.in_err-routes.ensures.fault)
 
-pub check_steps-requires : goal.check_steps-requires
-check_steps-requires c =
+pub check_over-requires : goal.check_over-requires
+check_over-requires c =
     let s = c.args.scenario.now in
     ap length (c.as_slice-2.ensures.value ∙ c.in_ok-budgets.ensures) ∙ kept_count s.version (system s) 0 c.args.components.now
 
-pub returns-in_err-check_steps-clause-refused : goal.returns-in_err-check_steps-clause-refused
-returns-in_err-check_steps-clause-refused c =
+pub returns-in_err-check_over-clause-refused : goal.returns-in_err-check_over-clause-refused
+returns-in_err-check_over-clause-refused c =
     let s = c.args.scenario.now in
-    let e = error.Fault c.in_err-check_steps.field-0.0 in
-    let p = err_from_is_err_and c.from_residual-in_err-check_steps.result c.from_residual-in_err-check_steps.ensures.1 in
+    let e = error.Fault c.in_err-check_over.field-0.0 in
+    let p = err_from_is_err_and c.from_residual-in_err-check_over.result c.from_residual-in_err-check_over.ensures.1 in
     let none = of_scenario s s.interfaces c.args.components.now (λ i cs. first_refusal i cs ≡ None) refl c.requires.components c.requires.right in
     let bs = c.as_slice-2.ensures.value ∙ c.in_ok-budgets.ensures in
     let h = of_kept s c.args.components.now c.as_slice-2.result.now
-    (λ cs bs. PrintsFault e (refused (steps_refusal cs bs))) c.requires.components bs c.in_err-check_steps.ensures.refused in
+    (λ cs bs. PrintsFault e (refused (steps_refusal cs bs))) c.requires.components bs c.in_err-check_over.ensures.refused in
     rw (p.1, p.2) (unsized_steps s e none c.in_ok-routes.ensures.fault h)
 
 pub returns-clause-budgets : goal.returns-clause-budgets
@@ -41,7 +41,7 @@ returns-clause-budgets c =
     let s = c.args.scenario.now in
     let bs = c.as_slice-2.ensures.value ∙ c.in_ok-budgets.ensures in
     let fit = of_kept s c.args.components.now c.as_slice-2.result.now
-    (λ cs bs. steps_refusal cs bs ≡ None) c.requires.components bs c.in_ok-check_steps.ensures.none in
+    (λ cs bs. steps_refusal cs bs ≡ None) c.requires.components bs c.in_ok-check_over.ensures.none in
     c.in_ok-budgets.ensures ∙ (ap (kept_from s.version (system s) 0) c.requires.components ∙ unsized_kept s fit)
 
 pub returns-clause-accepted : goal.returns-clause-accepted
@@ -50,5 +50,5 @@ returns-clause-accepted c =
     let none = of_scenario s s.interfaces c.args.components.now (λ i cs. first_refusal i cs ≡ None) refl c.requires.components c.requires.right in
     let bs = c.as_slice-2.ensures.value ∙ c.in_ok-budgets.ensures in
     let fit = of_kept s c.args.components.now c.as_slice-2.result.now
-    (λ cs bs. steps_refusal cs bs ≡ None) c.requires.components bs c.in_ok-check_steps.ensures.none in
+    (λ cs bs. steps_refusal cs bs ≡ None) c.requires.components bs c.in_ok-check_over.ensures.none in
     unsized_accepted s none c.in_ok-routes.ensures.fault fit

@@ -1,31 +1,24 @@
 -- The text was made, and is written; and where it is nothing, there is no race.
-use Rattle.std.proofs.Common.{subst}
-use Rattle.gq_init.specs.Counts.{Writes, written_to}
+use Rattle.std.proofs.Common.{Ok, OnOk, ap, refl, sym, ◌∙◌}
+use Rattle.std.specs.Prelude.{IsOkAnd}
+use Rattle.gq_init.specs.Counts.{written_to}
 use Rattle.gq_load.specs.Load.{loaded}
-use Rattle.gq_world.proofs.Commands.{all_written, cut_short}
+use Rattle.gq_world.proofs.Commands.{told_text, whole_text}
+use Rattle.gq_races.specs.Races.{IsRaceFree}
 use Rattle.gq_races.specs.Text.{races_text}
-use Rattle.gq_races.specs.Written.{races_written}
-use Rattle.gq_races.proofs.Free.{free_told, told_text}
+use Rattle.gq_races.specs.Written.{WroteNothing, races_written}
+use Rattle.gq_races.proofs.Free.{free_told}
 use Rattle.gq_races.proofs.races.races.Goals as goal
-
-pub returns-in-Ok-clause-writes : goal.returns-in-Ok-clause-writes
-returns-in-Ok-clause-writes g c =
-    let text = c.in_ok-text.text.items in
-    let given = told_text races_text (loaded c.args.scenario.now) text c.in_ok-text.ensures.text in
-    let put = subst (λ t. Writes g.W.Write.contents c.args.out.now c.put.new.out t c.put.result) c.as_slice.ensures.value c.put.ensures in
-    all_written g.W.Write.contents (races_written c.args.scenario.now) text given _ _ c.put.result _ _ c.in-Ok.is put
 
 pub returns-clause-writes : goal.returns-clause-writes
 returns-clause-writes g c =
-    let text = c.in_ok-text.text.items in
-    let given = told_text races_text (loaded c.args.scenario.now) text c.in_ok-text.ensures.text in
-    let put = subst (λ t. Writes g.W.Write.contents c.args.out.now c.put.new.out t c.put.result) c.as_slice.ensures.value c.put.ensures in
-    cut_short g.W.Write.contents (races_written c.args.scenario.now) text given _ _ c.put.result _ c.in-Err.is put
+    c.put_text.ensures (races_written c.args.scenario.now)
+    (told_text races_text (loaded c.args.scenario.now) c.in_ok-text.text.items c.in_ok-text.ensures.text ∙ ap Ok (sym c.as_slice.ensures.value))
 
-pub returns-in-Ok-clause-free : goal.returns-in-Ok-clause-free
-returns-in-Ok-clause-free g c =
-    let text = c.in_ok-text.text.items in
-    let put = subst (λ t. Writes g.W.Write.contents c.args.out.now c.put.new.out t c.put.result) c.as_slice.ensures.value c.put.ensures in
-    let done = subst (Writes g.W.Write.contents c.args.out.now c.put.new.out text) c.in-Ok.is put in
-    free_told (loaded c.args.scenario.now) text (written_to g.W.Write.contents c.args.out.now) (written_to g.W.Write.contents c.put.new.out)
-    c.in_ok-text.ensures.text done.written
+pub returns-clause-free : goal.returns-clause-free
+returns-clause-free g c =
+    whole_text (WroteNothing (written_to g.W.Write.contents c.args.out.now) (written_to g.W.Write.contents c.put_text.new.out)
+    → IsOkAnd (loaded c.args.scenario.now) IsRaceFree) c.put_text.result
+    (λ h. free_told (loaded c.args.scenario.now) c.in_ok-text.text.items (written_to g.W.Write.contents c.args.out.now)
+    (written_to g.W.Write.contents c.put_text.new.out) c.in_ok-text.ensures.text h)
+    (c.put_text.ensures (Ok c.in_ok-text.text.items) (ap Ok (sym c.as_slice.ensures.value)))

@@ -1,6 +1,7 @@
 use Rattle.gq_sizes.proofs.Giving.{nothing_short}
 use Rattle.gq_sizes.proofs.Holding.{are_enough, has_least}
-use Rattle.gq_sizes.proofs.Rounding.{settled}
+use Rattle.gq_sizes.proofs.Ending.{settled}
+use Rattle.gq_sizes.proofs.Rounding.{none_endless}
 use Rattle.gq_sizes.proofs.Accepting.{is_accepted_sized}
 use Rattle.gq_sizes.proofs.Judged_scenarios.{is_judged}
 use Rattle.gq_sizes.proofs.laws.least_laws.Goals as goal
@@ -9,7 +10,7 @@ pub returns-clause-accepted : goal.returns-clause-accepted
 returns-clause-accepted c s sound pages = has_least s sound pages
 
 pub returns-clause-sized : goal.returns-clause-sized
-returns-clause-sized c s formed settled judged quiet = is_accepted_sized s formed settled judged quiet
+returns-clause-sized c s formed ends judged quiet = is_accepted_sized s formed (settled s ends) judged quiet
 
 pub returns-clause-short : goal.returns-clause-short
 returns-clause-short c s t alike sound = nothing_short t s sound alike
@@ -20,5 +21,5 @@ returns-clause-least c s t alike sound pages = are_enough t s sound alike pages
 pub returns-clause-judged : goal.returns-clause-judged
 returns-clause-judged c s t alike sound = is_judged t s sound alike
 
-pub returns-clause-settled : goal.returns-clause-settled
-returns-clause-settled c s t alike sound = settled t s sound alike
+pub returns-clause-endless : goal.returns-clause-endless
+returns-clause-endless c s t alike sound = none_endless t s sound alike

@@ -2,7 +2,7 @@ use Rattle.std.proofs.Common.{◌∙◌, ap, arith}
 use Rattle.gq_model.specs.machine.Accounts.{leaf_count}
 use Rattle.gq_model.specs.machine.Amounts.{Amount}
 use Rattle.gq_scenario.specs.Sizes.{node_count}
-use Rattle.gq_sizes.specs.Size_text.{init_least_told}
+use Rattle.gq_sizes.specs.internal.Told.{init_least_told}
 use Rattle.gq_sizes.proofs.Least_leaves.{amounts_all, amounts_put, count_here, node_small}
 use Rattle.gq_sizes.proofs.leaves.+nodes.Goals as goal
 

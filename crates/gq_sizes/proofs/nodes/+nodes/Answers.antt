@@ -3,7 +3,7 @@ use Rattle.gq_model.specs.machine.Accounts.{leaf_count}
 use Rattle.gq_model.specs.machine.Scenario.{below}
 use Rattle.gq_scenario.specs.Sizes.{node_count}
 use Rattle.gq_scenario.specs.Trees.{version_number}
-use Rattle.gq_sizes.proofs.Least_leaves.{count_here, least_told, node_small}
+use Rattle.gq_sizes.proofs.Least_leaves.{count_here, node_small}
 use Rattle.gq_sizes.proofs.Nodes_told.{init_alone_put, leaf_alone, node_put}
 use Rattle.gq_sizes.proofs.nodes.+nodes.Goals as goal
 
@@ -13,9 +13,8 @@ push_below-returns-in_ok-pushed-in-Leaf-clause-lines t c all e =
     let x = c.args.first in
     let there = c.as_slice.ensures.value ∙ (c.in_ok-label-in-Leaf.ensures ∙ ap (below label) (c.as_bytes.ensures.bytes ∙ c.name.ensures)) in
     leaf_alone (version_number c.args.version) all label c.in-Leaf.leaf c.args.node.now c.in-Leaf.is x c.as_slice.result.now c.quantum.result
-    c.least_at-needed.result c.args.text.now.items c.push_node-pushed.new.text.items there c.quantum.ensures
-    (c.least_at-needed.ensures ∙ least_told all c.args.least.now e x)
-    c.in_ok-pushed-in-Leaf.ensures
+    c.of_leaf-needed.result.ram c.of_leaf-needed.result.caps c.args.text.now.items c.push_node-pushed.new.text.items there c.quantum.ensures
+    (c.of_leaf-needed.ensures all e).0 (c.of_leaf-needed.ensures all e).1 c.in_ok-pushed-in-Leaf.ensures
 
 pub push_below-returns-in_ok-label-in-Init-clause-lines : goal.push_below-returns-in_ok-label-in-Init-clause-lines
 push_below-returns-in_ok-label-in-Init-clause-lines t c all e =

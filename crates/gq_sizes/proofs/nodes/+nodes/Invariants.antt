@@ -3,8 +3,8 @@ use Rattle.gq_model.specs.machine.Accounts.{leaf_count}
 use Rattle.gq_model.specs.machine.Scenario.{System}
 use Rattle.gq_scenario.specs.Sizes.{node_count}
 use Rattle.gq_scenario.specs.Trees.{nodes_of, version_number}
-use Rattle.gq_sizes.specs.Size_text.{node_lines}
-use Rattle.gq_sizes.specs.Tables.{leasts_from}
+use Rattle.gq_sizes.specs.Tables.{AreLeast}
+use Rattle.gq_sizes.specs.internal.Told.{node_lines}
 use Rattle.gq_sizes.proofs.nodes.+nodes.Given as goal
 
 abbrev pub decreases-push_nodes : goal.decreases-push_nodes
@@ -21,7 +21,7 @@ abbrev pub invariant-push_nodes-loop-node : goal.invariant-push_nodes-loop-node
 invariant-push_nodes-loop-node l =
     record {
       lines :
-          (all : System) → l.least ≡ leasts_from all 0 all.components →
+          (all : System) → AreLeast all l.leaves.least.now l.leaves.endless.now →
           l.text.items ++ node_lines (version_number l.version) all l.label l.next (nodes_of (drop l.node-index l.node-items))
           ≡ l.fn.text.items ++ node_lines (version_number l.version) all l.label l.first (nodes_of l.node-items);
       leaves : l.next + leaf_count (nodes_of (drop l.node-index l.node-items)) ≡ l.first + leaf_count (nodes_of l.node-items);

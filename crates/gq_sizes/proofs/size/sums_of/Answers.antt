@@ -2,6 +2,7 @@
 use Rattle.std.proofs.Common.{◌∙◌, ap, sym}
 use Rattle.gq_model.specs.machine.Scenario.{system}
 use Rattle.gq_sizes.specs.Size.{all_gifts}
+use Rattle.gq_sizes.specs.Passing.{endless_rows}
 use Rattle.gq_sizes.specs.Tables.{caps_rows, ram_rows}
 use Rattle.gq_sizes.proofs.size.sums_of.Goals as goal
 
@@ -19,3 +20,11 @@ returns-clause-caps c =
     let interfaces = c.interfaces-interfaces.ensures in
     c.in_ok-caps.ensures all (record { components = are.components; leaves = are.leaves; interfaces = interfaces ∙ are.interfaces })
     ∙ ap (caps_rows all) interfaces
+
+pub returns-clause-endless : goal.returns-clause-endless
+returns-clause-endless c =
+    let all = system c.args.free.now in
+    let are = c.requires in
+    let interfaces = c.interfaces-interfaces.ensures in
+    c.in_ok-endless.ensures all (record { components = are.components; leaves = are.leaves; interfaces = interfaces ∙ are.interfaces })
+    ∙ ap (endless_rows all) interfaces

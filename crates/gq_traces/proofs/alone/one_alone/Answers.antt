@@ -25,3 +25,6 @@ returns-clause-steps c =
     (λ l there. from_some (slice_get w.world.leaves c.args.leaf) (λ z. IsTop c.top-top.result z.operands) l there
     (subst (λ (m : Machine). IfSome (slice_get m.world.leaves c.args.leaf) (λ z. IsTop c.top-top.result z.operands)) c.machine.ensures.is c.top-top.ensures))
     c.pass_by.ensures
+
+pub returns-then-turns_alone-gt0-clause-none : goal.returns-then-turns_alone-gt0-clause-none
+returns-then-turns_alone-gt0-clause-none c none = c.turns_alone.ensures.over c.if-turns_alone-gt0.true

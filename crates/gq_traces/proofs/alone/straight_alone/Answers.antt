@@ -43,3 +43,13 @@ returns-clause-steps c =
     c.go_to-2.new.aheads found.result.1 c.requires.leaf c.requires.programs c.requires.stand
     (subst (λ n. GoesAlone (system w.scenario) c.args.leaf n w.world took.new.self.world) (sym all) took.ensures.alone) found.ensures.straight
     c.go_to-2.ensures
+
+pub returns-clause-none : goal.returns-clause-none
+returns-clause-none c none =
+    let some = c.if-left-eq0.false in
+    c.turns_alone-left.ensures.over (omega (arith, some))
+
+pub returns-then-left-eq0-clause-none : goal.returns-then-left-eq0-clause-none
+returns-then-left-eq0-clause-none c none =
+    let some = c.requires.some in
+    absurd (omega (arith, some, none))

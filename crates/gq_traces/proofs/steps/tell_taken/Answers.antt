@@ -3,7 +3,7 @@ use Rattle.std.proofs.Common.{◌≤◌, ◌∙◌, None, ap, get_or, length, ma
 use Rattle.std.specs.Prelude.{slice_get}
 use Rattle.gq_model.specs.machine.Scenario.{Scenario, components}
 use Rattle.gq_machine.specs.Events.{event_of}
-use Rattle.gq_views.specs.Tree.{label_of}
+use Rattle.gq_model.specs.machine.Run.{label_at}
 use Rattle.gq_traces.specs.Trace.{account_change}
 use Rattle.gq_traces.specs.internal.Noted.{AreKnown, AreNoted, standing_in}
 use Rattle.gq_traces.specs.internal.Telling.{Tells, head_text}
@@ -33,7 +33,7 @@ returns-then-same_amount g c old taken noted =
     let line = c.tell_line-progress in
     let left = step_left old w h.leaf event _ _ t.before t.after taken.stands taken.scenario taken.goes refl refl taken.before taken.after
     (sym c.same_phase.ensures ∙ c.if-same_phase.true) (sym c.same_amount.ensures ∙ c.if-same_amount.true) c.args.notes.now noted
-    (label_of (slice_get (components old.scenario) h.leaf)) in
+    (label_at (slice_get (components old.scenario) h.leaf)) in
     record {
       tells = tells_text g.W.Write.contents c.args.out.now line.new.out c.args.progress line.result (head_text old.scenario h) _ _ (sym left.1)
           (line_as g.W.Write.contents old.scenario c.table.result.now h event c.args.out.now line.new.out c.args.progress line.result
@@ -52,7 +52,7 @@ returns-then-same_phase g c old taken noted =
     let o = own.ensures in
     let left = step_own old w h.leaf event _ _ t.before t.after taken.stands taken.scenario taken.goes refl refl taken.before taken.after
     (sym c.same_phase.ensures ∙ c.if-same_phase.true) taken.leaves_before taken.leaves c.args.notes.now own.new.notes noted o.place o.at o.account o.there
-    o.noted o.before o.tells.renewed (label_of (slice_get (components old.scenario) h.leaf)) in
+    o.noted o.before o.tells.renewed (label_at (slice_get (components old.scenario) h.leaf)) in
     record {
       tells = tells_text g.W.Write.contents c.args.out.now own.new.out c.args.progress own.result (head_text old.scenario h) _ _ (sym left.1)
           (tells_both g.W.Write.contents c.args.out.now line.new.out own.new.out c.args.progress line.result own.result (head_text old.scenario h) _ _

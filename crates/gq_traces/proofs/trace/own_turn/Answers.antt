@@ -6,7 +6,7 @@ use Rattle.gq_machine.specs.Machines.{Machine}
 use Rattle.gq_model.specs.machine.Scenario.{Scenario, components, system}
 use Rattle.gq_model.specs.machine.World.{Leaf}
 use Rattle.gq_statements.specs.Statements.{current_seen}
-use Rattle.gq_views.specs.Tree.{label_of}
+use Rattle.gq_model.specs.machine.Run.{label_at}
 use Rattle.gq_traces.specs.Places.{section_at}
 use Rattle.gq_traces.specs.Trace.{after_turn}
 use Rattle.gq_traces.specs.internal.Flat.{AllStand, ArePrograms, programs_of}
@@ -35,7 +35,7 @@ returns-then-is_silent-clause-told g c =
     let b = budgets_of s in
     let step = c.step-event in
     let event = event_of step.result step.new.line.items in
-    let label = label_of (slice_get (components s) x) in
+    let label = label_at (slice_get (components s) x) in
     let after = use_in c.machine-3.result.now step.new.self x c.use_of-after.result c.machine-3.ensures.is c.use_of-after.ensures in
     let left = step_left w step.new.self x event _ _ u c.use_of-after.result c.machine.ensures.stands step.ensures.scenario step.ensures.stepped refl refl
     c.requires.before after (c.is_silent.ensures.phase c.if-is_silent.true) (c.is_silent.ensures.used c.if-is_silent.true) before.notes c.requires.can.noted

@@ -1,7 +1,5 @@
 -- The text of the scenario was written, or a front of it.
-use Rattle.std.proofs.Common.{subst}
 use Rattle.gq_world.proofs.Commands.{all_written, cut_short}
-use Rattle.gq_traces.specs.Rests.{HasNames}
 use Rattle.gq_traces.specs.Schedule.{schedule_text}
 use Rattle.gq_traces.specs.Written.{turns_written}
 use Rattle.gq_traces.proofs.Told.{given, to_rest}
@@ -23,8 +21,6 @@ pub returns-in-Ok-clause-rests : goal.returns-in-Ok-clause-rests
 returns-in-Ok-clause-rests g c =
     let s = c.in_ok-world.world.scenario in
     let loads = c.in_ok-world.ensures.loaded in
-    let sound = c.loaded_laws.ensures.sound c.args.scenario.now s loads in
-    let names = subst HasNames c.table.ensures c.named.ensures in
-    to_rest c.args.scenario.now s loads (c.turns_laws.ensures.reads s sound names) (c.turns_laws.ensures.ends s sound names)
-    (c.turns_laws.ensures.rests s sound names) (g.W.Write.contents c.args.out.now.writer) (g.W.Write.contents c.write_schedule-written.new.out.writer)
-    c.in-Ok.ensures.written
+    to_rest c.args.scenario.now s loads (c.turns_laws.ensures.reads c.args.scenario.now s loads) (c.turns_laws.ensures.ends c.args.scenario.now s loads)
+    (c.turns_laws.ensures.rests c.args.scenario.now s loads) (g.W.Write.contents c.args.out.now.writer)
+    (g.W.Write.contents c.write_schedule-written.new.out.writer) c.in-Ok.ensures.written

@@ -1,23 +1,12 @@
 -- The text was made, and is written.
-use Rattle.std.proofs.Common.{subst}
-use Rattle.gq_init.specs.Counts.{Writes}
+use Rattle.std.proofs.Common.{Ok, ap, sym, ◌∙◌}
 use Rattle.gq_load.specs.Load.{loaded}
-use Rattle.gq_world.proofs.Commands.{all_written, cut_short}
+use Rattle.gq_world.proofs.Commands.{told_text}
 use Rattle.gq_views.specs.Tree.{tree_text}
 use Rattle.gq_views.specs.Written.{tree_written}
-use Rattle.gq_views.proofs.Told_texts.{told_text}
 use Rattle.gq_views.proofs.tree.tree.Goals as goal
-
-pub returns-in-Ok : goal.returns-in-Ok
-returns-in-Ok g c =
-    let text = c.in_ok-text.text.items in
-    let given = told_text tree_text (loaded c.args.scenario.now) text c.in_ok-text.ensures.text in
-    let put = subst (λ t. Writes g.W.Write.contents c.args.out.now c.put.new.out t c.put.result) c.as_slice.ensures.value c.put.ensures in
-    all_written g.W.Write.contents (tree_written c.args.scenario.now) text given _ _ c.put.result _ _ c.in-Ok.is put
 
 pub returns : goal.returns
 returns g c =
-    let text = c.in_ok-text.text.items in
-    let given = told_text tree_text (loaded c.args.scenario.now) text c.in_ok-text.ensures.text in
-    let put = subst (λ t. Writes g.W.Write.contents c.args.out.now c.put.new.out t c.put.result) c.as_slice.ensures.value c.put.ensures in
-    cut_short g.W.Write.contents (tree_written c.args.scenario.now) text given _ _ c.put.result _ c.in-Err.is put
+    c.put_text.ensures (tree_written c.args.scenario.now)
+    (told_text tree_text (loaded c.args.scenario.now) c.in_ok-text.text.items c.in_ok-text.ensures.text ∙ ap Ok (sym c.as_slice.ensures.value))

@@ -10,8 +10,15 @@ use Rattle.gq_faults.proofs.tell.Teller.tell_each.Goals as goal
 pub returns-in_err-tell : goal.returns-in_err-tell
 returns-in_err-tell g c =
     let p = err_from_is_err_and c.from_residual.result c.from_residual.ensures.1 in
-    rw (p.1, p.2) (c.loop-fault.invariant _ _ (Err c.in_err-tell.field-0.0)
-    (tells_early c.args.self.now.path.now (c.as_str.result.now ∷ []) _ _ _ _ _ c.in_err-tell.field-0.0 c.in_err-tell.ensures))
+    let why = c.in_err-tell.field-0.0 in
+    let xs = c.args.found.now in
+    let i = c.loop-fault.fault-index in
+    let x = c.fault-item.result in
+    let e : lines_found (drop i xs) ≡ (c.as_str.result.now ∷ []) ++ lines_found (drop (i + 1) xs) =
+    rw (c.as_str.ensures.value) (lines_next (λ (f : Found). string_bytes f.line) xs i x c.loop-fault-test.true c.fault-item.is) in
+    rw (p.1, p.2) (c.loop-fault.invariant _ _ (Err why)
+    (tells_early c.args.self.now.path.now (lines_found (drop i xs)) (c.as_str.result.now ∷ []) (lines_found (drop (i + 1) xs)) _ _ _ _ why e
+    c.in_err-tell.ensures))
 
 pub loop-fault-preserved : goal.loop-fault-preserved
 loop-fault-preserved g c = λ after n r h.

@@ -1,8 +1,0 @@
-use Rattle.std.proofs.Common.{◌≡◌, map, drop}
-use Rattle.gq_model.specs.machine.Lists.{any_of}
-use Rattle.gq_model.specs.machine.Program.{text_eq}
-use Rattle.gq_reader.specs.Rules.{rule_of}
-use Rattle.gq_faults.proofs.tables.is_ruled.Given as goal
-
-abbrev pub invariant-loop-rule : goal.invariant-loop-rule
-invariant-loop-rule l = any_of (λ r. text_eq l.text r.key) (map rule_of (drop l.rule-index l.rules)) ≡ any_of (λ r. text_eq l.text r.key) (map rule_of l.rules)

@@ -1,8 +1,0 @@
-use Rattle.std.proofs.Common.{◌≡◌, drop}
-use Rattle.gq_model.specs.machine.Amounts.{Ram}
-use Rattle.gq_model.specs.rules.Accept.{own_refusal}
-use Rattle.gq_load.proofs.over.check_ram.Given as goal
-
--- no leaf so far is refused
-abbrev pub invariant-loop-place : goal.invariant-loop-place
-invariant-loop-place l = own_refusal Ram (drop l.place l.components) (drop l.place l.budgets) ≡ own_refusal Ram l.components l.budgets

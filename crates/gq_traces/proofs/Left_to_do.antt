@@ -1,0 +1,55 @@
+-- A trace has before each leaf what that leaf of the abstract machine has left to do.
+use Rattle.std.proofs.Common.{◌≡◌, ◌∙◌, ℕ, zero, suc, List, [], ◌∷◌, map, Option, Some, None, Ok, Err, option_map, refl, ap, ap₂, sym}
+use Rattle.std.specs.Prelude.{slice_get, slice_set}
+use Rattle.std.proofs.lemmas.Option.{slice_get-map}
+use Rattle.gq_model.proofs.Small.{some_same}
+use Rattle.gq_model.specs.machine.Doing.{Stepped}
+use Rattle.gq_model.specs.machine.Scenario.{Component, System}
+use Rattle.gq_model.specs.machine.Step.{next, step_of}
+use Rattle.gq_model.specs.machine.World.{start_leaf, start_leaves}
+use Rattle.gq_traces.specs.Left.{GoesWith, left_to, without_numbers}
+use Rattle.gq_traces.specs.Places.{start_aheads}
+use Rattle.gq_traces.specs.Trace.{Due, Traced, after_all, after_due, after_step, after_turn, after_turns, due, start_traced}
+use Rattle.gq_traces.proofs.Left_steps.{map_set, step_left}
+use Rattle.gq_traces.proofs.Told_run.{IsDue, is_due}
+
+-- THE START
+
+starts : (cs : List Component) → map without_numbers (start_aheads cs) ≡ map left_to (start_leaves cs)
+starts [] = refl
+starts (c ∷ rest) = ap (λ l. left_to (start_leaf c) ∷ l) (starts rest)
+
+-- TURNS
+
+module _ (system : System) where
+  -- of the leaf that takes a step
+  own : (x : ℕ) (t : Traced) (d : Due) → GoesWith t → (due : IsDue system x t d) → without_numbers due.old ≡ left_to due.leaf
+  own x t d h due =
+      some_same (ap (option_map without_numbers) (sym due.was) ∙ (sym (slice_get-map without_numbers t.aheads x)
+      ∙ (ap (λ l. slice_get l x) h ∙ (slice_get-map left_to t.world.leaves x ∙ ap (option_map left_to) due.stands))))
+
+  step_goes : (x : ℕ) (t : Traced) (d : Due) → GoesWith t → IsDue system x t d → (r : Stepped) → next system t.world x ≡ r → GoesWith (after_step x t d r)
+  step_goes x t d h due (Err wrong) e = h
+  step_goes x t d h due (Ok p) e =
+      let is = ap₂ (step_of system t.world x) due.there due.stands in
+      let left = (step_left system t.world x d.component due.leaf due.old (own x t d h due) due.leaf.phase d.place due.place).holds p.0 p.1 (sym is ∙ e) in
+      map_set without_numbers t.aheads x d.ahead
+      ∙ ((λ i. slice_set (h i) x (without_numbers (due.ahead i))) ∙ sym left)
+
+  turn_goes : (x : ℕ) (t : Traced) → GoesWith t → GoesWith (after_turn system x t)
+  turn_goes x t h = by (due system x t) refl
+    where
+      by : (o : Option Due) → due system x t ≡ o → GoesWith (after_due system x t o)
+      by None e = h
+      by (Some d) e = step_goes x t d h (is_due system x t d e) (next system t.world x) refl
+
+  turns_go : (x n : ℕ) (t : Traced) → GoesWith t → GoesWith (after_turns system x n t)
+  turns_go x zero t h = h
+  turns_go x (suc n) t h = turns_go x n (after_turn system x t) (turn_goes x t h)
+
+  all_go : (turns : List (ℕ × ℕ)) (t : Traced) → GoesWith t → GoesWith (after_all system turns t)
+  all_go [] t h = h
+  all_go (p ∷ turns) t h = all_go turns (after_turns system p.0 p.1 t) (turns_go p.0 p.1 t h)
+
+pub goes_with : (system : System) (turns : List (ℕ × ℕ)) → GoesWith (after_all system turns (start_traced system))
+goes_with system turns = all_go system turns (start_traced system) (starts system.components)
