@@ -124,9 +124,8 @@ can system x t d h = ap₂ (runs_as t.world x) h.there h.stands ∙ of h.leaf.ph
 
 -- NUMBERS
 
--- one more of one of these
 -- these numbers added
-total : List ℕ → ℕ
+abbrev total : List ℕ → ℕ
 total [] = 0
 total (n ∷ rest) = n + total rest
 
@@ -134,6 +133,7 @@ total_taken : (ns : List ℕ) → total ns ≡ sum_by (λ (n : ℕ). n) ns
 total_taken [] = refl
 total_taken (n ∷ rest) = let r = total_taken rest in let c = sum_by-cons (λ (m : ℕ). m) n rest in omega (arith, r, c)
 
+-- one more of one of these
 total_more : (ns : List ℕ) (x : ℕ) → x < length ns → total (slice_set ns x (suc (slice_index ns x))) ≡ suc (total ns)
 total_more [] x less = absurd (omega (arith, less))
 total_more (n ∷ rest) zero less = omega arith
