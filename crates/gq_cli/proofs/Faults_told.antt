@@ -5,14 +5,14 @@ use Rattle.std.proofs.Math.Seq.{take-length}
 use Rattle.std.specs.Io.KnownBytes.{Appends, Keeps}
 use Rattle.gq_init.proofs.Known.{appends_kept, appends_nothing}
 use Rattle.gq_load.specs.Faults.{Prints, load_fault_text}
-use Rattle.gq_load.specs.Load.{Fault, fault_text, loaded}
+use Rattle.gq_load.specs.Load.{Fault, loaded}
 use Rattle.gq_load.specs.declared.fault.LoadFault.{LoadFault}
 use Rattle.gq_model.proofs.Small.{none_some, some_same}
 use Rattle.gq_model.specs.declared.fault.TurnFault.{TurnFault}
 use Rattle.gq_model.specs.machine.Scenario.{Component, Scenario, components}
 use Rattle.gq_model.specs.texts.Turns.{Turned, turned}
 use Rattle.gq_world.specs.Outcomes.{IsWhole, run_fault_text}
-use Rattle.gq_world.specs.Whole.{Written, refused_with, turn_fault_text, with_scenario}
+use Rattle.gq_world.specs.Whole.{refused_with, turn_fault_text, with_scenario}
 use Rattle.gq_world.specs.declared.fault.RunFault.TheVariants as faults
 use Rattle.gq_faults.specs.Faults.{fault_lines, refusal_of}
 use Rattle.gq_faults.specs.Lists.{first}

@@ -528,13 +528,13 @@ fn of_faults_text<W: Write>(
 }
 
 // Why texts are refused, once all that is wrong with them has left the writer: the line of the refusal is made.
-fn refused_after<W: Write>(alloc: Global, fault: RunFault<'_>, out: &mut Counted<W>) -> Fault
+fn refused_after<W: Write>(alloc: Global, refused: RunFault<'_>, out: &mut Counted<W>) -> Fault
     ensures bytes { Keeps (written_to W.contents out.old) (written_to W.contents out.new) }
     ensures failures { failures_of out.new ≡ failures_of out.old }
-    ensures told { (result ≡ fault.Write) ⊎ IsToldAs fault.entry result }
+    ensures told { (result ≡ fault.Write) ⊎ IsToldAs refused.entry result }
 {
     match out.flush() {
-        Ok(()) => told(alloc, fault),
+        Ok(()) => told(alloc, refused),
         Err(_) => Fault::Write,
     }
 }

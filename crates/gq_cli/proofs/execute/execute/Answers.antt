@@ -6,7 +6,8 @@ use Rattle.gq_cli.proofs.execute.execute.Goals as goal
 
 pub returns-in-Ok-clause-done : goal.returns-in-Ok-clause-done
 returns-in-Ok-clause-done g c same =
-    done_either c.args.rules.now c.args.command.now _ _ _ _ _ _ _ _ (writes_refusals c.args.command.now) refl (λ quiet. c.in-Ok.ensures.ended quiet tt)
+    done_either c.args.rules.now c.args.command.now _ _ _ _ _ _ c.args.out.now.failures c.perform.new.out.failures
+    (writes_refusals c.args.command.now) refl (λ quiet. c.in-Ok.ensures.ended quiet tt)
     (λ writes. c.in-Ok.ensures.faults writes tt)
 
 pub returns-in-Err-Write-clause-cut : goal.returns-in-Err-Write-clause-cut
