@@ -211,7 +211,7 @@ def try_together(crates, name, edits, kept):
             except BadEdit:
                 break
             refused = {edit.name: why for edit in left if (why := why_refused(edit, said))}
-            if not refused or not has_read(said, left) or breaks_others(crates, name, left, said):
+            if not refused or not has_read(said, left) or len(left) > 1 and breaks_others(crates, name, left, said):
                 break
             found.update(refused)
             left = [edit for edit in left if edit.name not in refused]
