@@ -14,6 +14,7 @@ use crate::timing::tell;
 use gq_contents::Content;
 use gq_dataspace::DsId;
 use gq_ram::Accounts;
+use gq_region::addresses;
 use gq_slots::{Addresses, Slots};
 use gq_trade::Spot;
 use std::time::Instant;
@@ -144,7 +145,7 @@ fn by_address(slots: &mut Slots, addresses: &Addresses, times: u32) -> Option<u8
 {
     let mut sum = 0;
     for index in 0..times {
-        sum ^= addresses.load(slots, 1, index % SIZE)?;
+        sum ^= addresses::load(addresses, slots, 1, index % SIZE)?;
     }
     Some(sum)
 }

@@ -2,7 +2,9 @@
 ghost use Rattle.std.specs.Prelude.{◌≡◌, None, IfOk, IfErr, map};
 ghost use Rattle.gq_model.specs.machine.Scenario as model;
 ghost use Rattle.gq_model.specs.rules.Accept as accept;
+ghost use Rattle.gq_model.specs.rules.Verdict.{program_fault};
 ghost use Rattle.gq_resolve.specs.Served.{AreServers};
+ghost use Rattle.gq_verify.specs.Subjects.{subject_of};
 ghost use Rattle.gq_load.specs.Faults.{PrintsFault};
 ghost use Rattle.gq_load.specs.Load.{refused};
 ghost use Rattle.gq_load.specs.Unsized.{unsized_fault, unsized_refusal};
@@ -15,11 +17,13 @@ use crate::fault::LoadError;
 use crate::over::{Limit, check_over};
 use crate::programs::read_programs;
 use crate::surveys::{Surveys, survey_programs};
+use gq_program::Interfaces;
 use gq_program::program::Program;
 use gq_resolve::component::Component;
 use gq_resolve::resolve_opened;
 use gq_resolve::routes::Routes;
 use gq_scenario::scenario::Scenario;
+use gq_verify::{Verified, verify};
 use std::alloc::Global;
 
 /// What is found of a scenario whose quantities are not judged: the programs of its leaves, what is kept of each, who serves whom, and what each leaf uses at
@@ -84,4 +88,19 @@ pub fn judge_unsized(
         routes,
         budgets,
     })
+}
+
+/// Verifies a program again that breaks no rule, and returns what the verifier has of it.
+pub fn verified<'a>(
+    component: &Component<'_>,
+    program: &'a Program,
+    interfaces: &'a Interfaces,
+) -> Verified<'a>
+    requires { program_fault (subject_of program.now component.now.node.provides interfaces.now) ≡ None }
+    ensures { result ≡ subject_of program.now component.now.node.provides interfaces.now }
+{
+    match verify(program, component.leaf().provides(), interfaces) {
+        Ok(verified) => verified,
+        Err(_) => unreachable!(),
+    }
 }

@@ -5,6 +5,7 @@ ghost use Rattle.gq_memory_rows.specs.Serves.{IsMarket, Serves};
 use crate::trade_rows::{live, plan};
 use crate::used::used;
 use gq_contents::Content;
+use gq_region::addresses;
 use gq_slots::{Addresses, Slots, sessions};
 use gq_tariff::Amount;
 use gq_trade::Spot;
@@ -72,7 +73,9 @@ fn write(slots: &mut Slots, addresses: &Addresses, session: usize, value: u8) ->
 {
     slots.pay_by(1);
     match slots.content(Spot::InLeaf(1, 0)) {
-        Content::Link(other) if other as usize == session => { addresses.store(slots, 1, 3, value) }
+        Content::Link(other) if other as usize == session => {
+            addresses::store(addresses, slots, 1, 3, value)
+        }
         _ => false,
     }
 }
@@ -85,7 +88,7 @@ fn write_number(slots: &mut Slots, addresses: &Addresses, session: usize, value:
     slots.pay_by(1);
     match slots.content(Spot::InLeaf(1, 0)) {
         Content::Link(other) if other as usize == session => {
-            addresses.store4(slots, 1, 8, value)
+            addresses::store4(addresses, slots, 1, 8, value)
         }
         _ => false,
     }
@@ -99,9 +102,9 @@ fn read_back(slots: &mut Slots, addresses: &Addresses, session: usize) -> [Optio
     slots.pay_by(1);
     match slots.content(Spot::InLeaf(1, 0)) {
         Content::Link(other) if other as usize == session => {
-            let byte = addresses.load(slots, 1, 3);
-            let number = addresses.load4(slots, 1, 8);
-            let behind = addresses.load(slots, 1, 4096);
+            let byte = addresses::load(addresses, slots, 1, 3);
+            let number = addresses::load4(addresses, slots, 1, 8);
+            let behind = addresses::load(addresses, slots, 1, 4096);
             [byte.map(u32::from), number, behind.map(u32::from)]
         }
         _ => [None, None, None],

@@ -1,2 +1,4 @@
 mod Lowest
 pub mod Callers
+mod Founds
+mod Payers

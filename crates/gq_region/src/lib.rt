@@ -1,7 +1,6 @@
-//! Region maps: which dataspace is attached at an address, and where in it the address lies.
+//! Addresses: a region map, which says what is attached at an address, and the bytes at the addresses of a leaf, whose slots are its region map.
 //!
-//! The program itself has no map: a statement names a slot, and where a leaf's slots lie is fixed (`Slots` of `gq_slots`). This is for whoever builds on the
-//! library.
+//! The program itself works out no address: a statement names a slot and an index. This is for whoever builds on the library.
 //!
 //! ```rust
 //! use gq_region::{Base, RegionMap};
@@ -13,8 +12,26 @@
 //! assert_eq!(rt; map.resolve(67108865), Some((9, 1)));
 //! map.detach(first);
 //! ```
+//!
+//! A leaf has 2^32 addresses, a window of 2^26 for each of its 64 slots. At those of a link are the bytes of the buffer of its session.
+//!
+//! ```rust
+//! use gq_region::addresses;
+//! use gq_slots::Addresses;
+//! use gq_trade::Spot;
+//!
+//! // Slots of a scenario, as `gq_slots` has them; no service shares a buffer.
+//! let buffers = Addresses::new(Vec::new(rt.alloc()));
+//! slots.pay_by(0);
+//! slots.make_slice(Spot::InLeaf(0, 3), 100)?;
+//! let address = addresses::base(3) + 7;
+//! assert!(rt; addresses::store(&buffers, &mut slots, 0, address, 42));
+//! assert_eq!(rt; addresses::load(&buffers, &mut slots, 0, address), Some(42));
+//! assert_eq!(rt; addresses::load(&buffers, &mut slots, 0, address + 100), None);
+//! ```
 #![tactic(auto)]
 
+pub mod addresses;
 mod map;
 
 pub use map::{Base, Full, Range, RegionMap};

@@ -16,6 +16,6 @@ pub mod Asking
 pub mod Accepting
 pub mod Closing
 pub mod Ending
-pub mod Founds
+pub mod Lengths
 pub mod Payers
 pub mod Addresses_places

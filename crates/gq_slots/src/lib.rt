@@ -29,21 +29,7 @@
 //! leaves::end(&mut slots, 1);
 //! ```
 //!
-//! [`Addresses`] says which bytes lie at an address of a leaf: its 64 slots lie in windows of 64 MiB, one behind the other.
-//!
-//! ```rust
-//! use gq_slots::Addresses;
-//! use gq_trade::Spot;
-//!
-//! // No service shares a buffer.
-//! let addresses = Addresses::new(Vec::new(rt.alloc()));
-//! slots.pay_by(0);
-//! slots.make_slice(Spot::InLeaf(0, 3), 100)?;
-//! let address = Addresses::base(3) + 7;
-//! assert!(rt; addresses.store(&mut slots, 0, address, 42));
-//! assert_eq!(rt; addresses.load(&mut slots, 0, address), Some(42));
-//! assert_eq!(rt; addresses.load(&mut slots, 0, address + 100), None);
-//! ```
+//! [`Addresses`] says where the bytes of a slot stand: behind a link they are those of the session's buffer.
 #![tactic(auto)]
 
 pub mod addresses;

@@ -14,7 +14,7 @@ use Rattle.gq_trade.specs.declared.session.Spot.{Spot}
 use Rattle.gq_trade.specs.Seen.{spot_seen}
 use Rattle.gq_slots.specs.Slots.{Frame, Slots, holder, memory_of, slot_of, content_at, world_seen}
 use Rattle.gq_slots.specs.Calls.{PutsSlot}
-use Rattle.gq_slots.proofs.Founds.{length_seen}
+use Rattle.gq_slots.proofs.Lengths.{length_seen}
 use Rattle.gq_statements.specs.internal.Found.{IsFound, with_bytes}
 
 -- a slot with other bytes from i on, as many as a width has

@@ -30,9 +30,8 @@
 //!
 //! Of what trade is, three things have their homes above, beside the slots that they change: the slots of leaves and sessions (`put`, `clear`, `kind`,
 //! `handle`; `Slots` of `gq_slots`), the end of a leaf with all that it holds (`end`; `gq_slots::leaves`), and memory by address (`load`, `store`, `load4`,
-//! `store4`, and where a client finds a buffer after a reply; `Addresses` of `gq_slots`). Room for sessions and requests is made in `Trades::new`, as much
-//! as its caller says, and who asks shows that there is room: that as many sessions as pages and one for each leaf are enough is an invariant of the
-//! machine, which knows that an accepted session costs a page.
+//! `store4`; `gq_region::addresses`). Room for sessions and requests is made in `Trades::new`, as much as its caller says, and who asks shows that there is
+//! room: that as many sessions as pages and one for each leaf are enough is an invariant of the machine, which knows that an accepted session costs a page.
 #![tactic(auto)]
 
 mod memory;

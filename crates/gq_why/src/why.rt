@@ -2,10 +2,8 @@
 ghost use Rattle.std.specs.Prelude.{◌≡◌, ◌<◌, None, Ok, IfErr, IfOk, length, map};
 ghost use Rattle.gq_model.specs.machine.Scenario as model;
 ghost use Rattle.gq_model.specs.rules.Accept as accept;
-ghost use Rattle.gq_model.specs.rules.Verdict.{program_fault};
 ghost use Rattle.gq_resolve.specs.Served.{AreServers};
 ghost use Rattle.gq_scenario.specs.Unsized.{unsized};
-ghost use Rattle.gq_verify.specs.Subjects.{subject_of};
 ghost use Rattle.gq_load.specs.Faults.{PrintsFault};
 ghost use Rattle.gq_load.specs.Unsized.{unsized_fault};
 ghost use Rattle.gq_load.specs.internal.Surveys.{AreSurveys};
@@ -18,16 +16,13 @@ use crate::own::push_owns;
 use crate::steps::push_steps;
 use gq_init::counted::Counted;
 use gq_load::fault::{LoadError, LoadFault};
-use gq_load::quantities::{Unsized, judge_unsized};
-use gq_program::Interfaces;
-use gq_program::program::Program;
+use gq_load::quantities::{Unsized, judge_unsized, verified};
 use gq_reader::reader::read_scenario;
 use gq_resolve::component::{Component, components};
 use gq_scenario::fault::ScenarioError;
 use gq_scenario::lines::same_bytes;
 use gq_scenario::quantities::without_quantities;
 use gq_scenario::scenario::{LeafNo, Scenario};
-use gq_verify::{Verified, verify};
 use gq_world::RunFault;
 use gq_world::text::put_text;
 use std::alloc::{AllocError, Global};
@@ -44,21 +39,6 @@ fn numbered(scenario: &Scenario, name: &[u8]) -> Option<LeafNo>
         }
     }
     None
-}
-
-/// What the verifier says of a program that breaks no rule.
-fn verified<'a>(
-    component: &Component<'_>,
-    program: &'a Program,
-    interfaces: &'a Interfaces,
-) -> Verified<'a>
-    requires { program_fault (subject_of program.now component.now.node.provides interfaces.now) ≡ None }
-    ensures { result ≡ subject_of program.now component.now.node.provides interfaces.now }
-{
-    match verify(program, component.leaf().provides(), interfaces) {
-        Ok(verified) => verified,
-        Err(_) => unreachable!(),
-    }
 }
 
 /// The text of a leaf of a scenario, of which this is found without its quantities.

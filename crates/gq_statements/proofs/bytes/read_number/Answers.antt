@@ -3,7 +3,7 @@ use Rattle.gq_contents.specs.Contents.{bytes_in}
 use Rattle.gq_slots.specs.Slots.{Slots, holder, memory_of, slot_of, content_at}
 use Rattle.gq_model.specs.machine.Program.{bytes_of, little}
 use Rattle.std.specs.Prelude.{slice_range}
-use Rattle.gq_slots.proofs.Founds.{length_seen}
+use Rattle.gq_slots.proofs.Lengths.{length_seen}
 use Rattle.gq_statements.proofs.Numbers.{byte_range}
 use Rattle.gq_statements.proofs.bytes.read_number.Goals as goal
 

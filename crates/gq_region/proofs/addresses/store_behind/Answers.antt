@@ -1,14 +1,14 @@
 use Rattle.std.proofs.Common.{[], ◌∷◌, Some, refl}
 use Rattle.gq_contents.specs.Contents.{put_in}
 use Rattle.gq_slots.specs.Slots.{Slots, world_seen}
-use Rattle.gq_slots.specs.Addresses.{bytes_at, offset, slot_under}
-use Rattle.gq_slots.proofs.Founds.{fits, stored}
-use Rattle.gq_slots.proofs.Payers.{put_at}
-use Rattle.gq_slots.proofs.addresses.Addresses.store_behind.Goals as goal
+use Rattle.gq_region.specs.Addresses.{bytes_at, offset, slot_under}
+use Rattle.gq_region.proofs.Founds.{fits, stored}
+use Rattle.gq_region.proofs.Payers.{put_at}
+use Rattle.gq_region.proofs.addresses.store_behind.Goals as goal
 
 pub returns-clause-stored : goal.returns-clause-stored
 returns-clause-stored c =
-    put_at (bytes_at c.args.self.now c.args.slots.now c.args.leaf c.args.address 1) c.args.slots.now c.store_for.new.slots c.in-Some.index c.in-Some.spot
+    put_at (bytes_at c.args.addresses.now c.args.slots.now c.args.leaf c.args.address 1) c.args.slots.now c.store_for.new.slots c.in-Some.index c.in-Some.spot
     (λ i. put_in i (c.args.value ∷ [])) c.in-Some.ensures.is c.store_for.ensures
 
 pub returns-clause-fits : goal.returns-clause-fits

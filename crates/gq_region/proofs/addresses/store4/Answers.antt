@@ -3,9 +3,9 @@ use Rattle.gq_model.specs.machine.Program.{spelled}
 use Rattle.gq_contents.specs.Contents.{put_in}
 use Rattle.gq_slots.specs.Slots.{Slots, slot_of, world_seen}
 use Rattle.gq_slots.specs.Calls.{PutsSlot}
-use Rattle.gq_slots.specs.Addresses.{offset, slot_under}
-use Rattle.gq_slots.proofs.Founds.{fits, stored}
-use Rattle.gq_slots.proofs.addresses.Addresses.store4.Goals as goal
+use Rattle.gq_region.specs.Addresses.{offset, slot_under}
+use Rattle.gq_region.proofs.Founds.{fits, stored}
+use Rattle.gq_region.proofs.addresses.store4.Goals as goal
 
 pub returns-then-is_own_space-clause-fits : goal.returns-then-is_own_space-clause-fits
 returns-then-is_own_space-clause-fits c f system b =

@@ -2,10 +2,10 @@ use Rattle.std.proofs.Common.{◌/◌, Some, refl, subst, sym, arith}
 use Rattle.gq_trade.specs.Trading.{IsTrading}
 use Rattle.gq_trade.specs.Trades.{IsTrades, Trades}
 use Rattle.gq_slots.specs.Slots.{Slots, content_at, world_seen}
-use Rattle.gq_slots.specs.Addresses.{offset, slot_under}
-use Rattle.gq_slots.proofs.Founds.{found_none, found_short, found_some}
-use Rattle.gq_slots.proofs.Payers.{place_live}
-use Rattle.gq_slots.proofs.addresses.Addresses.find.Goals as goal
+use Rattle.gq_region.specs.Addresses.{offset, slot_under}
+use Rattle.gq_region.proofs.Founds.{found_none, found_short, found_some}
+use Rattle.gq_region.proofs.Payers.{place_live}
+use Rattle.gq_region.proofs.addresses.find.Goals as goal
 
 pub returns-in_err-spot-clause-world : goal.returns-in_err-spot-clause-world
 returns-in_err-spot-clause-world c f system b =
@@ -18,7 +18,7 @@ returns-then-from-size-clause-live c l =
     let s : Slots = c.args.slots.now in
     let t : IsTrades s.trades = subst IsTrades c.trades.ensures c.laws.ensures.trades in
     let w : IsTrading s.trades.trading = subst (λ (y : Trades). IsTrading y.trading) c.trades.ensures c.laws.ensures.trading in
-    place_live c.args.self.now s (content_at s (slot_under c.args.leaf c.args.address)) c.args.leaf (c.args.address / 67108864) c.in_ok-spot.spot t w l
+    place_live c.args.addresses.now s (content_at s (slot_under c.args.leaf c.args.address)) c.args.leaf (c.args.address / 67108864) c.in_ok-spot.spot t w l
     c.requires.linked (sym c.in_ok-spot.ensures.is)
 
 pub returns-then-from-size-clause-world : goal.returns-then-from-size-clause-world

@@ -1,8 +1,8 @@
 use Rattle.std.proofs.Common.{◌∙◌, Some, ap}
 use Rattle.gq_slots.specs.Slots.{Slots, world_seen}
-use Rattle.gq_slots.specs.Addresses.{offset, slot_under}
-use Rattle.gq_slots.proofs.Founds.{loaded}
-use Rattle.gq_slots.proofs.addresses.Addresses.load_behind.Goals as goal
+use Rattle.gq_region.specs.Addresses.{offset, slot_under}
+use Rattle.gq_region.proofs.Founds.{loaded}
+use Rattle.gq_region.proofs.addresses.load_behind.Goals as goal
 
 pub returns-clause-world : goal.returns-clause-world
 returns-clause-world c f system b =

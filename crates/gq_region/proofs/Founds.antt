@@ -4,32 +4,20 @@ use Rattle.std.proofs.Common.{subst, ◌∙◌, arith}
 use Rattle.std.specs.Prelude.{IsTrue, is_some, nat_le, slice_get, slice_index, slice_range}
 use Rattle.std.proofs.lemmas.Bool.Decides.{nat_tests}
 use Rattle.std.proofs.lemmas.Option.{slice_get-get_or, slice_get_past}
-use Rattle.gq_tariff.specs.Prices.{up}
 use Rattle.gq_model.specs.machine.Program.{little}
 use Rattle.gq_model.specs.machine.Scenario.{System}
 use Rattle.gq_model.specs.machine.Memory.{bytes_spot}
 use Rattle.gq_model.specs.machine.World as world
-use Rattle.gq_store.specs.Store.{Store}
-use Rattle.gq_store.proofs.Lists.{length-listed}
 use Rattle.gq_contents.specs.declared.content.Content.{Content}
-use Rattle.gq_contents.specs.declared.content.Content.TheVariants.{Empty, Block, Slice, Space, Pool, Link, Waiting}
 use Rattle.gq_contents.specs.Contents.{bytes_in, put_in, seen, size_of}
 use Rattle.gq_trade.specs.declared.session.Spot.{Spot}
 use Rattle.gq_trade.specs.Seen.{spot_seen}
 use Rattle.gq_slots.specs.Slots.{Frame, Slots, holder, memory_of, slot_of, content_at, world_seen}
 use Rattle.gq_slots.specs.Calls.{PutsSlot}
-use Rattle.gq_slots.specs.Addresses.{AreFound, AreThere, byte_of, bytes_behind, bytes_of, bytes_there, four_in, number_of, place_seen, put_behind}
-use Rattle.gq_slots.specs.Addresses.{put_slot, put_there}
-
--- it has as many bytes as it says
-pub length_seen : (st : Store) (t : Content) → length (bytes_in (seen st t)) ≡ size_of t
-length_seen st Empty = refl
-length_seen st (Block p n) = length-listed n _
-length_seen st (Slice k n) = length-listed n _
-length_seen st (Space k n) = length-listed (up n) _
-length_seen st (Pool p) = refl
-length_seen st (Link k) = refl
-length_seen st (Waiting k) = refl
+use Rattle.gq_slots.specs.Addresses.{place_seen}
+use Rattle.gq_slots.proofs.Lengths.{length_seen}
+use Rattle.gq_region.specs.Addresses.{AreFound, AreThere, byte_of, bytes_behind, bytes_of, bytes_there, four_in, number_of, put_behind}
+use Rattle.gq_region.specs.Addresses.{put_slot, put_there}
 
 module _ (system : System) (w : world.World) (s : Slots) (p : Spot) (i n : ℕ) where
   abbrev there : Option world.Spot

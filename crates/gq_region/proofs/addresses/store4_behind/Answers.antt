@@ -2,14 +2,14 @@ use Rattle.std.proofs.Common.{Some, refl}
 use Rattle.gq_model.specs.machine.Program.{spelled}
 use Rattle.gq_contents.specs.Contents.{put_in}
 use Rattle.gq_slots.specs.Slots.{Slots, world_seen}
-use Rattle.gq_slots.specs.Addresses.{bytes_at, offset, slot_under}
-use Rattle.gq_slots.proofs.Founds.{fits, stored}
-use Rattle.gq_slots.proofs.Payers.{put_at}
-use Rattle.gq_slots.proofs.addresses.Addresses.store4_behind.Goals as goal
+use Rattle.gq_region.specs.Addresses.{bytes_at, offset, slot_under}
+use Rattle.gq_region.proofs.Founds.{fits, stored}
+use Rattle.gq_region.proofs.Payers.{put_at}
+use Rattle.gq_region.proofs.addresses.store4_behind.Goals as goal
 
 pub returns-clause-stored : goal.returns-clause-stored
 returns-clause-stored c =
-    put_at (bytes_at c.args.self.now c.args.slots.now c.args.leaf c.args.address 4) c.args.slots.now c.store4_for.new.slots c.in-Some.index c.in-Some.spot
+    put_at (bytes_at c.args.addresses.now c.args.slots.now c.args.leaf c.args.address 4) c.args.slots.now c.store4_for.new.slots c.in-Some.index c.in-Some.spot
     (λ i. put_in i (spelled 4 c.args.value)) c.in-Some.ensures.is c.store4_for.ensures
 
 pub returns-clause-fits : goal.returns-clause-fits

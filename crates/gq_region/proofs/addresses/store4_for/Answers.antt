@@ -2,7 +2,7 @@ use Rattle.gq_model.specs.machine.Program.{spelled}
 use Rattle.gq_contents.specs.Contents.{put_in}
 use Rattle.gq_slots.specs.Slots.{holder}
 use Rattle.gq_slots.proofs.Payers.{changed}
-use Rattle.gq_slots.proofs.addresses.store4_for.Goals as goal
+use Rattle.gq_region.proofs.addresses.store4_for.Goals as goal
 
 pub returns : goal.returns
 returns c =

@@ -3,9 +3,9 @@ use Rattle.std.specs.Prelude.{slice_range}
 use Rattle.gq_model.specs.machine.Program.{little}
 use Rattle.gq_contents.specs.Contents.{bytes_in}
 use Rattle.gq_slots.specs.Slots.{Slots, slot_of, world_seen}
-use Rattle.gq_slots.specs.Addresses.{offset, slot_under}
-use Rattle.gq_slots.proofs.Founds.{loaded4}
-use Rattle.gq_slots.proofs.addresses.Addresses.load4.Goals as goal
+use Rattle.gq_region.specs.Addresses.{offset, slot_under}
+use Rattle.gq_region.proofs.Founds.{loaded4}
+use Rattle.gq_region.proofs.addresses.load4.Goals as goal
 
 pub returns-then-is_own_space-clause-world : goal.returns-then-is_own_space-clause-world
 returns-then-is_own_space-clause-world c f system b =

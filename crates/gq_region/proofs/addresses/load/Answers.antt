@@ -2,9 +2,9 @@ use Rattle.std.proofs.Common.{◌≡◌, ◌∙◌, Some, ap, refl, subst}
 use Rattle.std.specs.Prelude.{slice_index}
 use Rattle.gq_contents.specs.Contents.{bytes_in}
 use Rattle.gq_slots.specs.Slots.{Slots, slot_of, world_seen}
-use Rattle.gq_slots.specs.Addresses.{offset, slot_under}
-use Rattle.gq_slots.proofs.Founds.{loaded}
-use Rattle.gq_slots.proofs.addresses.Addresses.load.Goals as goal
+use Rattle.gq_region.specs.Addresses.{offset, slot_under}
+use Rattle.gq_region.proofs.Founds.{loaded}
+use Rattle.gq_region.proofs.addresses.load.Goals as goal
 
 pub returns-then-is_own_space-clause-world : goal.returns-then-is_own_space-clause-world
 returns-then-is_own_space-clause-world c f system b =
