@@ -16,6 +16,7 @@ other turns and what the run over them writes.
 
 A table is a file in tests/tables: many small cases of one frame. Its key `case` has them, and each says
   line            the line on standard error, after `trade: `, of a case that is refused; without it the case passes,
+  below           what stands below that line, without the two blanks that each of its lines begins with,
   wrong           the leaf and the number of the first wrong step, of a run with tests,
   out             what is written to standard output, where it passes, or by `faults`, of which paths are the files' names alone,
   status          where it is neither 0 for what passes nor 1 for what is refused.
@@ -108,6 +109,7 @@ def tabled(table):
         words["scenario"] = changed(words)
         scenario, turns, out = (filled(words.get(key, ""), words).encode() for key in ("scenario", "turns", "out"))
         line = b"trade: " + words["line"].encode() + b"\n" if "line" in words else b""
+        line += "".join(f"  {below}\n" for below in words.get("below", "").splitlines()).encode()
         line = b"wrong " + words["wrong"].encode() + b"\n" if "wrong" in words else line
         command = words["words"] if "words" in words else words["command"]
         yield command, scenario, turns, (out, line, words.get("status", 1 if line else 0))

@@ -1,8 +1,8 @@
 #!/usr/bin/env python3
 """Runs a program whose output can not be written, or not all of it: run_failing_writes.py PROGRAM
 
-Standard output is a full device, or a pipe whose reader closes it after some bytes. The program then has to tell `trade: file fault` and to end with
-status 4, and what the reader has got is a front of what the run writes where all is written. The runs are those of the examples, and one of 200,000 lines,
+Standard output is a full device, or a pipe whose reader closes it after some bytes. The program has to end with status 4. It prints `trade: file fault` and why
+for the full device, and nothing for the pipe, and what the reader has got is a prefix of what the run writes where all is written. The runs are those of the examples, and one of 200,000 lines,
 which is longer than a pipe holds; and so are tried the other commands, over each example, and those that read nothing, and `faults` over scenarios and turns
 that have one fault and many. Each command prints one short text at least, which leaves the program's buffer only at its end. The last line is 'N passed, M failed', and the exit status is 1 where a run failed.
 """
@@ -17,7 +17,8 @@ TOP = pathlib.Path(__file__).resolve().parent.parent
 EXAMPLES = TOP / "examples"
 LINES = 200_000
 SECONDS = 120
-FAULT = b"trade: file fault\n", 4
+FULL = b"trade: file fault\n  standard output: No space left on device (os error 28)\n", 4
+CLOSED = b"", 4
 LONG = '''
 version = 1
 ram = "4K"
@@ -66,7 +67,7 @@ def whole(program, words):
 
 
 def to_full_device(program, words):
-    """What is told and the status where nothing can be written."""
+    """What is printed on standard error, and the status, where nothing can be written."""
     with open("/dev/full", "wb") as full:
         ran = subprocess.run([program, *words], stdout=full, stderr=subprocess.PIPE, timeout=SECONDS)
     return ran.stderr, ran.returncode
@@ -92,13 +93,13 @@ def results(program, room):
     """What was wanted of each run, and what came."""
     for scenario in sorted(EXAMPLES.glob("*.toml")):
         words = ["run", str(scenario), str(scenario.with_suffix(".turns"))]
-        yield f"{scenario.name} to a full device", FAULT, to_full_device(program, words)
-        yield f"{scenario.name} to a closed pipe", (b"", FAULT), to_closed_pipe(program, words, 0)
+        yield f"{scenario.name} to a full device", FULL, to_full_device(program, words)
+        yield f"{scenario.name} to a closed pipe", (b"", CLOSED), to_closed_pipe(program, words, 0)
     for name, words in commands():
         text = whole(program, words)
         yield f"{name}, whole", True, bool(text)
-        yield f"{name} to a full device", FAULT, to_full_device(program, words)
-        yield f"{name} to a closed pipe", (b"", FAULT), to_closed_pipe(program, words, 0)
+        yield f"{name} to a full device", FULL, to_full_device(program, words)
+        yield f"{name} to a closed pipe", (b"", CLOSED), to_closed_pipe(program, words, 0)
     one, none = room / "one.toml", room / "none"
     one.write_text('version = 1\nram = "64K"\nkey = 1\nstart = []\n')
     none.write_text("no turn\n")
@@ -106,8 +107,8 @@ def results(program, room):
         words = ["faults", *words]
         ran = subprocess.run([program, *words], capture_output=True, timeout=SECONDS)
         yield f"{name}, whole", (1, True), (ran.returncode, 0 < len(ran.stdout) < 65536)
-        yield f"{name} to a full device", FAULT, to_full_device(program, words)
-        yield f"{name} to a closed pipe", (b"", FAULT), to_closed_pipe(program, words, 0)
+        yield f"{name} to a full device", FULL, to_full_device(program, words)
+        yield f"{name} to a closed pipe", (b"", CLOSED), to_closed_pipe(program, words, 0)
     faulty, wrong = room / "faulty.toml", room / "wrong"
     faulty.write_text(FAULTY)
     wrong.write_text("no turn\n" * 5000)
@@ -115,18 +116,18 @@ def results(program, room):
         words = ["faults", *words]
         text = subprocess.run([program, *words], capture_output=True, timeout=SECONDS).stdout
         yield f"{name}, whole", True, text.count(b"\n") >= 10_000
-        yield f"{name} to a full device", FAULT, to_full_device(program, words)
+        yield f"{name} to a full device", FULL, to_full_device(program, words)
         for count in (0, 1, 17, 65536, 65537, 100_000):
-            yield f"{name} to a pipe closed after {count}", (text[:count], FAULT), to_closed_pipe(program, words, count)
+            yield f"{name} to a pipe closed after {count}", (text[:count], CLOSED), to_closed_pipe(program, words, count)
     scenario, turns = room / "long.toml", room / "turns"
     scenario.write_text(LONG)
     turns.write_text(f"a {3 * LINES + 10}\n")
     words = ["run", str(scenario), str(turns)]
     text = whole(program, words)
     yield "lines of a long run", True, text.count(b"\n") >= LINES
-    yield "a long run to a full device", FAULT, to_full_device(program, words)
+    yield "a long run to a full device", FULL, to_full_device(program, words)
     for count in (0, 1, 17, 65535, 65536, 65537, 1_000_000):
-        yield f"a long run to a pipe closed after {count}", (text[:count], FAULT), to_closed_pipe(program, words, count)
+        yield f"a long run to a pipe closed after {count}", (text[:count], CLOSED), to_closed_pipe(program, words, count)
 
 
 def main(words):

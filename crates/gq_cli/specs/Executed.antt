@@ -10,6 +10,7 @@ use Rattle.gq_model.specs.machine.Scenario.{components}
 use Rattle.gq_model.specs.texts.Turns.{Turned, turned}
 use Rattle.gq_world.specs.Whole.{Written, refused_with, with_scenario, turn_fault_text, run_written, check_written, asm_written}
 use Rattle.gq_world.specs.Headline.{WritesPromised}
+use Rattle.gq_views.specs.declared.margin.Margin.TheVariants.{Plain, Numbered}
 use Rattle.gq_views.specs.Written.{list_written, tree_written, graph_written}
 use Rattle.gq_traces.specs.Rests.{WritesToRest}
 use Rattle.gq_traces.specs.Written.{state_written, trace_written, turns_written}
@@ -87,7 +88,8 @@ scenario_written Size scenario = size_written scenario
 -- of a leaf of it
 abbrev pub leaf_written : LeafCommand → List ℕ → List ℕ → Written
 leaf_written of_a_leaf.Asm scenario leaf = asm_written scenario leaf
-leaf_written of_a_leaf.List scenario leaf = list_written scenario leaf
+leaf_written of_a_leaf.List scenario leaf = list_written Plain scenario leaf
+leaf_written of_a_leaf.ListNumbers scenario leaf = list_written Numbered scenario leaf
 leaf_written of_a_leaf.Why scenario leaf = why_written scenario leaf
 
 -- of it and turns
@@ -95,7 +97,7 @@ abbrev pub both_written : TurnsCommand → List ℕ → List ℕ → Written
 both_written Run scenario turns = run_written scenario turns
 both_written Trace scenario turns = trace_written false scenario turns
 both_written TraceAll scenario turns = trace_written true scenario turns
-both_written State scenario turns = state_written scenario turns
+both_written (State first) scenario turns = state_written first scenario turns
 
 -- nothing is to be written of a scenario that is accepted, nor of turns that are taken; what is refused is refused as `check` and `run` refuse it
 abbrev pub none_written : Turned → Written

@@ -35,6 +35,7 @@ use gq_traces::trace::trace;
 use gq_traces::turns::turns;
 use gq_views::graph::graph;
 use gq_views::list::list;
+use gq_views::margin::Margin;
 use gq_views::tree::tree;
 use gq_why::why::why;
 use gq_world::asm::asm;
@@ -315,7 +316,7 @@ fn write_both<W: Write>(
         TurnsCommand::Run => run(alloc, scenario, turns, out),
         TurnsCommand::Trace => trace(alloc, scenario, turns, Telling::Changes, out),
         TurnsCommand::TraceAll => trace(alloc, scenario, turns, Telling::All, out),
-        TurnsCommand::State => state(alloc, scenario, turns, out),
+        TurnsCommand::State(first) => state(alloc, scenario, turns, first, out),
     }
 }
 
@@ -663,7 +664,8 @@ fn write_leaf<'a, W: Write>(
 {
     match command {
         LeafCommand::Asm => asm(alloc, scenario, leaf, out),
-        LeafCommand::List => list(alloc, scenario, leaf, out),
+        LeafCommand::List => list(alloc, scenario, leaf, Margin::Plain, out),
+        LeafCommand::ListNumbers => list(alloc, scenario, leaf, Margin::Numbered, out),
         LeafCommand::Why => why(alloc, scenario, leaf, out),
     }
 }

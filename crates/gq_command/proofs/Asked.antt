@@ -8,14 +8,14 @@ use Rattle.clap.specs.declared.error.Error.{Error}
 use Rattle.clap.specs.declared.error.kind.ErrorKind.{ErrorKind}
 use Rattle.clap.specs.declared.error.kind.ErrorKind.TheVariants.{DisplayHelp, DisplayVersion, OutOfMemory}
 use Rattle.clap.proofs.OnLiterals.{clap_on_literals}
-use Rattle.gq_command.specs.CommandLine.{IsAsked, IsMisused, IsWanted, Wanted, Scenario_wanted, Leaf_wanted, Turns_wanted, Rule_wanted}
+use Rattle.gq_command.specs.CommandLine.{IsAsked, IsMisused, IsUsage, IsWanted, Wanted, Scenario_wanted, Leaf_wanted, Turns_wanted, Rule_wanted}
 use Rattle.gq_command.specs.CommandLine.{trade, wanted, wanted_in}
 use Rattle.gq_command.specs.internal.Entries.{IsShown}
 use Rattle.gq_command.specs.declared.command.Command.{Command}
 use Rattle.gq_command.specs.declared.command.Command.TheVariants.{OfScenario, OfLeaf, OfTurns, Faults, Rule, Version, Stored, Help}
 use Rattle.gq_command.specs.declared.command.ScenarioCommand.TheVariants.{Check, Tree, Graph}
 use Rattle.gq_command.specs.declared.command.LeafCommand.TheVariants as of_a_leaf
-use Rattle.gq_command.specs.declared.command.TurnsCommand.TheVariants.{Run}
+use Rattle.gq_command.specs.declared.command.TurnsCommand.TheVariants.{Run, State}
 use Rattle.gq_command.specs.declared.command.CommandError.{CommandError}
 use Rattle.gq_command.specs.declared.command.CommandError.TheVariants.{Memory, Usage}
 
@@ -52,10 +52,10 @@ one_kind e = absurd (omega (arith, ap length e))
 
 pub misused-ok : (words : List Text) (found : Option (Text × List Row)) (e : CommandError) → words ≢ [] → fault_of trade words ≡ []
     → found ≡ subcommand_of trade words
-    → (e ≡ Usage → wanted_in found ≡ None) → IsMisused words e
+    → (IsUsage e → wanted_in found ≡ None) → IsMisused words e
 misused-ok words found (Memory refused) ne passes is h = ne
-misused-ok words found Usage ne passes is h =
-    (ne, ap₂ chosen passes (sym is) ∙ h refl, λ d. one_kind (sym passes ∙ d), λ d. one_kind (sym passes ∙ d))
+misused-ok words found (Usage said) ne passes is h =
+    (ne, ap₂ chosen passes (sym is) ∙ h (tt {0}), λ d. one_kind (sym passes ∙ d), λ d. one_kind (sym passes ∙ d))
 
 among : (kinds : Kinds) (e : Error) → kind_of e ≢ OutOfMemory → HasKind kinds e → IsAmong (kind_of e) kinds
 among kinds e ne (inl memory) = absurd (ne memory)
@@ -89,14 +89,14 @@ asked-err words error (Help text) ne kinds h =
     (ne, subst (λ k. IsAmong k (fault_of trade words)) h (among (fault_of trade words) error (λ e. help_not_memory (sym h ∙ e)) kinds))
 
 pub misused-err : (words : List Text) (error : Error) (e : CommandError) → words ≢ [] → HasKind (fault_of trade words) error
-    → (e ≡ Usage → (kind_of error ≢ DisplayHelp) × (kind_of error ≢ DisplayVersion) × (kind_of error ≢ OutOfMemory)) → IsMisused words e
+    → (IsUsage e → (kind_of error ≢ DisplayHelp) × (kind_of error ≢ DisplayVersion) × (kind_of error ≢ OutOfMemory)) → IsMisused words e
 misused-err words error (Memory refused) ne kinds h = ne
-misused-err words error Usage ne kinds h =
-    let is : IsAmong (kind_of error) (fault_of trade words) = among (fault_of trade words) error (h refl).2 kinds in (
+misused-err words error (Usage said) ne kinds h =
+    let is : IsAmong (kind_of error) (fault_of trade words) = among (fault_of trade words) error (h (tt {0})).2 kinds in (
       ne,
       ap (λ b. cond b (wanted_in (subcommand_of trade words)) None) (not_empty (kind_of error) (fault_of trade words) is),
-      λ d. (h refl).0 (not_alone (kind_of error) DisplayHelp (subst (IsAmong (kind_of error)) d is)),
-      λ d. (h refl).1 (not_alone (kind_of error) DisplayVersion (subst (IsAmong (kind_of error)) d is)),
+      λ d. (h (tt {0})).0 (not_alone (kind_of error) DisplayHelp (subst (IsAmong (kind_of error)) d is)),
+      λ d. (h (tt {0})).1 (not_alone (kind_of error) DisplayVersion (subst (IsAmong (kind_of error)) d is)),
     )
 
 -- SAMPLES
@@ -117,6 +117,11 @@ list_is_wanted : wanted (codes "list" ∷ codes "hello.toml" ∷ codes "hello" �
 unfolding clap_on_literals
 list_is_wanted = refl
 
+numbers_are_wanted : wanted (codes "list" ∷ codes "--numbers" ∷ codes "hello.toml" ∷ codes "hello" ∷ [])
+    ≡ Some (Leaf_wanted of_a_leaf.ListNumbers (codes "hello.toml") (codes "hello"))
+unfolding clap_on_literals
+numbers_are_wanted = refl
+
 tree_is_wanted : wanted (codes "tree" ∷ codes "hello.toml" ∷ []) ≡ Some (Scenario_wanted Tree (codes "hello.toml"))
 unfolding clap_on_literals
 tree_is_wanted = refl
@@ -129,6 +134,20 @@ graph_is_wanted = refl
 graph_is_wanted_last : wanted (codes "tree" ∷ codes "hello.toml" ∷ codes "--dot" ∷ []) ≡ Some (Scenario_wanted Graph (codes "hello.toml"))
 unfolding clap_on_literals
 graph_is_wanted_last = refl
+
+state_is_wanted : wanted (codes "state" ∷ codes "hello.toml" ∷ codes "hello.turns" ∷ [])
+    ≡ Some (Turns_wanted (State None) (codes "hello.toml") (codes "hello.turns"))
+unfolding clap_on_literals
+state_is_wanted = refl
+
+state_at_is_wanted : wanted (codes "state" ∷ codes "--at" ∷ codes "12" ∷ codes "hello.toml" ∷ codes "hello.turns" ∷ [])
+    ≡ Some (Turns_wanted (State (Some 12)) (codes "hello.toml") (codes "hello.turns"))
+unfolding clap_on_literals
+state_at_is_wanted = refl
+
+state_at_no_number_is_misused : wanted (codes "state" ∷ codes "--at=4294967296" ∷ codes "hello.toml" ∷ codes "hello.turns" ∷ []) ≡ None
+unfolding clap_on_literals
+state_at_no_number_is_misused = refl
 
 rule_is_wanted : wanted (codes "rule" ∷ codes "v12" ∷ []) ≡ Some (Rule_wanted (Some (codes "v12")))
 unfolding clap_on_literals

@@ -1,6 +1,9 @@
 -- What the words of a command line ask for, by the parser's own reading of them.
 use Rattle.std.specs.Prelude.{◌≡◌, ◌≢◌, true, false, Bool, List, [], ◌∷◌, codes, fold, Option, Some, None, option_map, option_and_then, if◌then◌else◌}
-use Rattle.std.specs.Prelude.{string_bytes}
+use Rattle.std.specs.Prelude.{ℕ, string_bytes}
+use Rattle.std.specs.Str.Parse.{digits_value, without_leading_plus}
+use Rattle.clap.specs.ValueTests.{is_unsigned_in}
+use Rattle.clap.specs.declared.builder.value_parser.ValueParser.TheVariants.{Unsigned}
 use Rattle.clap.specs.Words.{App, Row, Rule, Text, IsAmong, fault_of, first_of, new_app, new_rule, subcommand_of, with_rule, with_subcommand}
 use Rattle.clap.specs.Walk.{is_empty}
 use Rattle.clap.specs.Simple.{on_top}
@@ -24,9 +27,13 @@ use Rattle.gq_command.specs.declared.command.CommandError.TheVariants.{Memory, U
 abbrev pub word_rule : Text → Rule
 word_rule name = record (new_rule name) { required = true }
 
--- an option, as `--dot`
-abbrev pub option_rule : Text → Rule
-option_rule name = record (new_rule name) { long = Some name; action = Some SetTrue }
+-- an option alone, as `--dot`
+abbrev pub switch_rule : Text → Rule
+switch_rule name = record (new_rule name) { long = Some name; action = Some SetTrue }
+
+-- an option with a number, as `--at 5`
+abbrev pub number_rule : Text → Rule
+number_rule name = record (new_rule name) { long = Some name; value_names = 1; parser = Some (Unsigned 0 4294967295) }
 
 -- a command of this name with a word: `NAME SCENARIO`
 abbrev pub of_scenario : Text → App
@@ -54,14 +61,14 @@ commands =
     of_scenario (codes "check")
     ∷ of_turns (codes "run")
     ∷ of_leaf (codes "asm")
-    ∷ of_leaf (codes "list")
-    ∷ with_rule (of_scenario (codes "tree")) (option_rule (codes "dot"))
+    ∷ with_rule (of_leaf (codes "list")) (switch_rule (codes "numbers"))
+    ∷ with_rule (of_scenario (codes "tree")) (switch_rule (codes "dot"))
     ∷ of_scenario (codes "size")
     ∷ of_leaf (codes "why")
     ∷ of_scenario (codes "turns")
     ∷ of_scenario (codes "races")
-    ∷ with_rule (of_turns (codes "trace")) (option_rule (codes "all"))
-    ∷ of_turns (codes "state")
+    ∷ with_rule (of_turns (codes "trace")) (switch_rule (codes "all"))
+    ∷ with_rule (of_turns (codes "state")) (number_rule (codes "at"))
     ∷ of_maybe_turns (codes "faults")
     ∷ of_code (codes "rule")
     ∷ []
@@ -94,6 +101,15 @@ is_true None = false
 abbrev pub is_given : Text → List Row → Bool
 is_given name rows = is_true (first_of name rows)
 
+-- a number from 0 to 4294967295: digits, behind a plus sign or none
+abbrev pub number_of : Text → Option ℕ
+number_of text = if is_unsigned_in 0 4294967295 text then Some (digits_value 10 (without_leading_plus text)) else None
+
+-- the number behind an option, where it was given
+abbrev pub number_given : Option Text → Option (Option ℕ)
+number_given None = Some None
+number_given (Some text) = option_map Some (number_of text)
+
 abbrev pub scenario_command : Text → List Row → Option ScenarioCommand
 scenario_command name rows =
     if bytes_eq name (codes "check") then Some Check
@@ -103,10 +119,10 @@ scenario_command name rows =
     else if bytes_eq name (codes "size") then Some Size
     else None
 
-abbrev pub leaf_command : Text → Option LeafCommand
-leaf_command name =
+abbrev pub leaf_command : Text → List Row → Option LeafCommand
+leaf_command name rows =
     if bytes_eq name (codes "asm") then Some of_a_leaf.Asm
-    else if bytes_eq name (codes "list") then Some of_a_leaf.List
+    else if bytes_eq name (codes "list") then Some (if is_given (codes "numbers") rows then of_a_leaf.ListNumbers else of_a_leaf.List)
     else if bytes_eq name (codes "why") then Some of_a_leaf.Why
     else None
 
@@ -114,7 +130,7 @@ abbrev pub turns_command : Text → List Row → Option TurnsCommand
 turns_command name rows =
     if bytes_eq name (codes "run") then Some Run
     else if bytes_eq name (codes "trace") then Some (if is_given (codes "all") rows then TraceAll else Trace)
-    else if bytes_eq name (codes "state") then Some State
+    else if bytes_eq name (codes "state") then option_map State (number_given (first_of (codes "at") rows))
     else None
 
 -- the command that this name has among those on a scenario alone, else among those on a leaf, else among those on turns
@@ -128,7 +144,7 @@ abbrev pub wanted_of : Text → List Row → Option Wanted
 wanted_of name rows =
     if bytes_eq name (codes "rule") then Some (Rule_wanted (first_of (codes "CODE") rows))
     else option_and_then (λ scenario. if bytes_eq name (codes "faults") then Some (Faults_wanted scenario (first_of (codes "TURNS") rows))
-    else wanted_with scenario rows (scenario_command name rows) (leaf_command name) (turns_command name rows)) (first_of (codes "SCENARIO") rows)
+    else wanted_with scenario rows (scenario_command name rows) (leaf_command name rows) (turns_command name rows)) (first_of (codes "SCENARIO") rows)
 
 abbrev pub wanted_in : Option (Text × List Row) → Option Wanted
 wanted_in = option_and_then (λ p. wanted_of p.0 p.1)
@@ -153,8 +169,13 @@ IsAsked words (Help text) = (words ≢ []) × IsAmong DisplayHelp (fault_of trad
 IsAsked words Version = (words ≢ []) × IsAmong DisplayVersion (fault_of trade words)
 IsAsked words command = (words ≢ []) × IsWanted (wanted words) command
 
+-- words name no command, whatever is said of them
+abbrev pub IsUsage : CommandError → Type 0
+IsUsage (Memory refused) = ⊥
+IsUsage (Usage said) = Unit {0}
+
 -- words are misused: they ask for nothing that is to be done, and not only for help or the version
 abbrev pub IsMisused : List Text → CommandError → Type 0
 IsMisused words (Memory refused) = words ≢ []
-IsMisused words Usage =
+IsMisused words (Usage said) =
     (words ≢ []) × (wanted words ≡ None) × (fault_of trade words ≢ DisplayHelp ∷ []) × (fault_of trade words ≢ DisplayVersion ∷ [])

@@ -31,6 +31,8 @@ pub enum LeafCommand {
     Asm,
     /// To write the text of its program.
     List,
+    /// To write it with the numbers of its statements.
+    ListNumbers,
     /// To write what its numbers are made of.
     Why,
 }
@@ -44,8 +46,8 @@ pub enum TurnsCommand {
     Trace,
     /// To write what each turn did.
     TraceAll,
-    /// To write what the accounts are made of after the last turn.
-    State,
+    /// To write what the accounts are made of after the last turn, or after the first so many.
+    State(Option<u32>),
 }
 
 /// What the words of a command line ask for.
@@ -75,9 +77,10 @@ pub enum CommandError {
     /// The host has no memory left.
     #[error("host memory refused")]
     Memory(AllocError),
-    /// The program has no such command, or it is used with other arguments.
+    /// The program has no such command, or it is used with other arguments. The text has the lines that say so, each indented by two blanks: what the
+    /// parser found, and the usage of the command that the first word names.
     #[error("bad command line")]
-    Usage,
+    Usage(String),
 }
 
 impl From<AllocError> for CommandError {

@@ -1,14 +1,14 @@
 //! From the words of a command line to the command that they name.
 ghost use Rattle.std.specs.Prelude.{◌≡◌, ◌≢◌, IfOk, IfErr, None, Some, map, option_map, codes, string_bytes};
 ghost use Rattle.clap.specs.Words.{first_of, found_of, kind_of, rows_of, subcommand_rows_of};
-ghost use Rattle.gq_command.specs.declared.command.CommandError.TheVariants.{Usage};
-ghost use Rattle.gq_command.specs.CommandLine.{IsAsked, IsMisused, IsWanted, wanted_in, wanted_of};
+ghost use Rattle.gq_command.specs.CommandLine.{IsAsked, IsMisused, IsUsage, IsWanted, wanted_in, wanted_of};
 ghost use Rattle.gq_command.specs.CommandLine as words;
 ghost use Rattle.gq_command.specs.internal.Entries.{IsShown};
 ghost use Rattle.gq_command.specs.internal.Meant.{meant};
 
 use crate::command::{Command, CommandError, LeafCommand, ScenarioCommand, TurnsCommand};
 use crate::entries::command_line;
+use crate::misuse::misuse;
 use clap::ArgMatches;
 use clap::error::ErrorKind;
 use std::alloc::{AllocError, Global};
@@ -22,7 +22,8 @@ use std::alloc::{AllocError, Global};
 /// - `rule`, perhaps with a code, is `Rule`.
 /// - `--version` and `-V` are `Version`; `help`, `--help` and `-h` are `Help` with the text to show.
 ///
-/// Fails with `Usage` for other words, and with `Memory` where the host refuses memory, which it can for any words but none.
+/// Fails with `Usage` for other words, with the lines that say what is wrong with them, and with `Memory` where the host refuses memory, which it can for any
+/// words but none.
 pub fn command<'a>(alloc: Global, words: &'a [&'a str]) -> Result<Command, CommandError>
     ensures asked { IfOk result (IsAsked (map (λ word. word.now) words.now)) }
     ensures misused { IfErr result (IsMisused (map (λ word. word.now) words.now)) }
@@ -33,7 +34,7 @@ pub fn command<'a>(alloc: Global, words: &'a [&'a str]) -> Result<Command, Comma
     let line = command_line(alloc)?;
     match line.try_get_matches_from(words) {
         Ok(matches) => matched(alloc, &matches),
-        Err(error) => shown(alloc, &error),
+        Err(error) => shown(alloc, &error, words),
     }
 }
 
@@ -55,14 +56,14 @@ enum Wanted<'a> {
 // The command that a parse found.
 fn matched(alloc: Global, matches: &ArgMatches<'_>) -> Result<Command, CommandError>
     ensures asked { IfOk result (IsWanted (wanted_in (subcommand_rows_of matches.now))) }
-    ensures misused { IfErr result (λ e. e ≡ Usage → wanted_in (subcommand_rows_of matches.now) ≡ None) }
+    ensures misused { IfErr result (λ e. IsUsage e → wanted_in (subcommand_rows_of matches.now) ≡ None) }
 {
     let Some((name, found)) = matches.subcommand() else {
-        return Err(CommandError::Usage);
+        return Err(CommandError::Usage(String::new(alloc)));
     };
     match wanted_of(name, found) {
         Some(wanted) => command_of(alloc, wanted),
-        None => Err(CommandError::Usage),
+        None => Err(CommandError::Usage(String::new(alloc))),
     }
 }
 
@@ -80,7 +81,7 @@ fn wanted_of<'a>(name: &str, found: &ArgMatches<'a>) -> Option<Wanted<'a>>
     if let Some(command) = scenario_command(name, found) {
         return Some(Wanted::OfScenario(command, scenario));
     }
-    if let Some(command) = leaf_command(name) {
+    if let Some(command) = leaf_command(name, found) {
         let leaf = first_named(found, "LEAF")?;
         return Some(Wanted::OfLeaf(command, scenario, leaf));
     }
@@ -105,11 +106,12 @@ fn scenario_command(name: &str, found: &ArgMatches<'_>) -> Option<ScenarioComman
 }
 
 // The command of this name, if it is one on a leaf.
-fn leaf_command(name: &str) -> Option<LeafCommand>
-    ensures { result ≡ words.leaf_command name.now }
+fn leaf_command(name: &str, found: &ArgMatches<'_>) -> Option<LeafCommand>
+    ensures { result ≡ words.leaf_command name.now (rows_of (found_of found.now)) }
 {
     match name {
         "asm" => Some(LeafCommand::Asm),
+        "list" if is_given(found, "numbers") => Some(LeafCommand::ListNumbers),
         "list" => Some(LeafCommand::List),
         "why" => Some(LeafCommand::Why),
         _ => None,
@@ -124,7 +126,7 @@ fn turns_command(name: &str, found: &ArgMatches<'_>) -> Option<TurnsCommand>
         "run" => Some(TurnsCommand::Run),
         "trace" if is_given(found, "all") => Some(TurnsCommand::TraceAll),
         "trace" => Some(TurnsCommand::Trace),
-        "state" => Some(TurnsCommand::State),
+        "state" => Some(TurnsCommand::State(number_given(found, "at")?)),
         _ => None,
     }
 }
@@ -132,7 +134,7 @@ fn turns_command(name: &str, found: &ArgMatches<'_>) -> Option<TurnsCommand>
 // The command for what is wanted, which owns its words.
 fn command_of(alloc: Global, wanted: Wanted<'_>) -> Result<Command, CommandError>
     ensures asked { IfOk result (IsWanted (Some (meant wanted.entry))) }
-    ensures refused { IfErr result (λ e. e ≢ Usage) }
+    ensures refused { IfErr result (λ e. IsUsage e → ⊥) }
 {
     match wanted {
         Wanted::OfScenario(command, scenario) => match String::from_str(alloc, scenario) {
@@ -184,6 +186,26 @@ fn is_given(found: &ArgMatches<'_>, name: &str) -> bool
     }
 }
 
+// The number behind an option, where it was given. `None` where the word there is no number.
+fn number_given(found: &ArgMatches<'_>, name: &str) -> Option<Option<u32>>
+    ensures { result ≡ words.number_given (first_of name.now (rows_of (found_of found.now))) }
+{
+    match first_named(found, name) {
+        None => Some(None),
+        Some(text) => Some(Some(number_of(text)?)),
+    }
+}
+
+// The number that a word is.
+fn number_of(text: &str) -> Option<u32>
+    ensures { result ≡ words.number_of text.now }
+{
+    match text.parse::<u32>() {
+        Ok(number) => Some(number),
+        Err(_) => None,
+    }
+}
+
 // The first value of an argument.
 fn first_named<'a>(found: &ArgMatches<'a>, name: &str) -> Option<&'a str>
     ensures { option_map (λ s. s.now) result ≡ first_of name.now (rows_of (found_of found.now)) }
@@ -192,15 +214,15 @@ fn first_named<'a>(found: &ArgMatches<'a>, name: &str) -> Option<&'a str>
 }
 
 // What the parser's refusal means: help and the version are among its kinds.
-fn shown(alloc: Global, error: &clap::Error) -> Result<Command, CommandError>
+fn shown(alloc: Global, error: &clap::Error, words: &[&str]) -> Result<Command, CommandError>
     ensures asked { IfOk result (IsShown (kind_of error.now)) }
-    ensures misused { IfErr result (λ e. e ≡ Usage → (kind_of error.now ≢ ErrorKind.DisplayHelp) × (kind_of error.now ≢ ErrorKind.DisplayVersion)
+    ensures misused { IfErr result (λ e. IsUsage e → (kind_of error.now ≢ ErrorKind.DisplayHelp) × (kind_of error.now ≢ ErrorKind.DisplayVersion)
         × (kind_of error.now ≢ ErrorKind.OutOfMemory)) }
 {
     match error.kind() {
         ErrorKind::DisplayHelp => Ok(Command::Help(format!(in alloc; "{error}")?)),
         ErrorKind::DisplayVersion => Ok(Command::Version),
         ErrorKind::OutOfMemory => Err(CommandError::Memory(AllocError)),
-        _ => Err(CommandError::Usage),
+        _ => Err(CommandError::Usage(misuse(alloc, error, words)?)),
     }
 }

@@ -2,10 +2,11 @@
 ghost use Rattle.std.specs.Prelude.{◌≡◌, ◌++◌, IfOk, false, map, codes};
 ghost use Rattle.clap.specs.declared.builder.command.Command.TheViews.{out-Command};
 ghost use Rattle.clap.specs.Words.{app_of, new_app, new_rule, rule_of, with_rule, with_subcommand};
-ghost use Rattle.gq_command.specs.CommandLine.{of_scenario, option_rule, trade, with_commands, word_rule};
-ghost use Rattle.gq_command.specs.internal.Entries.{IsParserOf, entered, optional, taking};
+ghost use Rattle.gq_command.specs.CommandLine.{of_scenario, trade, with_commands, word_rule};
+ghost use Rattle.gq_command.specs.internal.Entries.{IsParserOf, entered, option_rule_of, optional, taking};
 
 use crate::command::VERSION;
+use clap::builder::ValueParser;
 use clap::{Arg, ArgAction, Command};
 use std::alloc::{AllocError, Global};
 
@@ -38,7 +39,17 @@ pub(crate) enum Takes {
 #[derive(Clone, Copy)]
 pub(crate) struct Flag<'a> {
     name: &'a str,
+    kind: FlagKind,
     help: &'a str,
+}
+
+// What stands behind an option.
+#[derive(Clone, Copy)]
+pub(crate) enum FlagKind {
+    // Nothing.
+    Switch,
+    // A number from 0 to 4294967295.
+    Number,
 }
 
 const CHECK: Entry<'static> = Entry {
@@ -68,9 +79,13 @@ const ASM: Entry<'static> = Entry {
 const LIST: Entry<'static> = Entry {
     name: "list",
     takes: Takes::Leaf,
-    flag: None,
+    flag: Some(Flag {
+        name: "numbers",
+        kind: FlagKind::Switch,
+        help: "Print the number of each statement before it",
+    }),
     about: "Print the program of the leaf LEAF of the scenario in the file SCENARIO, as text",
-    usage: "trade list <SCENARIO> <LEAF>",
+    usage: "trade list [--numbers] <SCENARIO> <LEAF>",
 };
 
 const TREE: Entry<'static> = Entry {
@@ -78,6 +93,7 @@ const TREE: Entry<'static> = Entry {
     takes: Takes::Scenario,
     flag: Some(Flag {
         name: "dot",
+        kind: FlagKind::Switch,
         help: "Print a graph for Graphviz in its place",
     }),
     about: "Print the components of the scenario in the file SCENARIO as a tree",
@@ -105,6 +121,7 @@ const TRACE: Entry<'static> = Entry {
     takes: Takes::Turns,
     flag: Some(Flag {
         name: "all",
+        kind: FlagKind::Switch,
         help: "Print steps on registers and bytes, too",
     }),
     about: "Print what each turn of a run did: lines, accounts and sessions that changed",
@@ -114,9 +131,13 @@ const TRACE: Entry<'static> = Entry {
 const STATE: Entry<'static> = Entry {
     name: "state",
     takes: Takes::Turns,
-    flag: None,
+    flag: Some(Flag {
+        name: "at",
+        kind: FlagKind::Number,
+        help: "Print it after the first N turns",
+    }),
     about: "Print what each account is made of after the last turn of a run",
-    usage: "trade state <SCENARIO> <TURNS>",
+    usage: "trade state [--at <N>] <SCENARIO> <TURNS>",
 };
 
 const SIZE: Entry<'static> = Entry {
@@ -182,6 +203,16 @@ Examples:
   trade trace hello.toml hello.turns
   trade list hello.toml hello
   trade tree --dot hello.toml | dot -Tsvg > hello.svg";
+
+// How the command of this name is used, if there is one.
+pub(crate) fn usage_of(name: &str) -> Option<&'static str> {
+    for entry in &ENTRIES {
+        if entry.name == name {
+            return Some(entry.usage);
+        }
+    }
+    None
+}
 
 // The command line that the program takes, for the parser.
 pub(crate) fn command_line<'a>(alloc: Global) -> Result<Command<'a>, AllocError>
@@ -289,11 +320,14 @@ fn word<'a>(alloc: Global, name: &'a str, help: &'a str) -> Arg<'a>
 
 // An option of a command.
 fn option(alloc: Global, flag: Flag<'_>) -> Arg<'_>
-    ensures rule { rule_of result ≡ option_rule flag.entry.name.now }
+    ensures rule { rule_of result ≡ option_rule_of flag.entry }
     ensures local { result.global ≡ false }
 {
-    Arg::new(alloc, flag.name)
-        .long(flag.name)
-        .help(flag.help)
-        .action(ArgAction::SetTrue)
+    let option = Arg::new(alloc, flag.name).long(flag.name).help(flag.help);
+    match flag.kind {
+        FlagKind::Switch => option.action(ArgAction::SetTrue),
+        FlagKind::Number => option
+            .value_name("N")
+            .value_parser(ValueParser::Unsigned(0, 4294967295)),
+    }
 }

@@ -18,5 +18,6 @@ pub mod command;
 pub mod command_line;
 mod entries;
 pub mod input;
+mod misuse;
 pub mod status;
 pub mod stored;

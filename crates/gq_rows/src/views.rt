@@ -1,6 +1,7 @@
 // What is told of a small scenario with a client and its server.
 use gq_views::graph::graph;
 use gq_views::list::list;
+use gq_views::margin::Margin;
 use gq_views::tree::tree;
 use gq_world::{Counted, RunFault};
 use std::alloc::Global;
@@ -44,6 +45,7 @@ fn lists(alloc: Global) -> (bool, bool) {
         alloc,
         ECHO,
         "cli",
+        Margin::Plain,
         &mut Counted::new(Cursor::new(&mut text)),
     )
     .is_ok();
@@ -53,7 +55,8 @@ fn lists(alloc: Global) -> (bool, bool) {
             alloc,
             ECHO,
             "nobody",
-            &mut Counted::new(Cursor::new(&mut none))
+            Margin::Plain,
+            &mut Counted::new(Cursor::new(&mut none)),
         ),
         Err(RunFault::NoComponent("nobody"))
     );

@@ -64,3 +64,4 @@ mod Inits_added
 mod Nodes_added
 mod Left_steps
 mod Left_to_do
+mod First_taken

@@ -23,7 +23,9 @@ use Rattle.gq_traces.specs.Made_of.{AddsUp, LeafAddsUp, Shown, ShowsSums, after,
 use Rattle.gq_traces.specs.Made_of.{shown_node, shown_nodes, shown_text, sum_of}
 use Rattle.gq_traces.specs.State.{Lent, init_items, items_text, leaf_items, leaf_text, node_text, nodes_text, state_text}
 use Rattle.gq_traces.specs.Trace.{Traced}
+use Rattle.gq_traces.specs.First_turns.{some_turns}
 use Rattle.gq_traces.specs.Written.{state_from, state_written, with_turns}
+use Rattle.gq_traces.proofs.First_taken.{are_first}
 use Rattle.gq_traces.specs.internal.Adding.{InitAdds, InitsAdd, LeafAdds, LeavesAdd}
 use Rattle.gq_traces.proofs.Inits_added.{part_in}
 
@@ -200,27 +202,30 @@ not_written why text e = absurd cc
 same_text : (a b : List ℕ) → ◌≡◌ {A = Written} (Ok a) (Ok b) → a ≡ b
 same_text a b e = cc
 
-pub shows_sums : (scenario turns text : List ℕ)
+pub shows_sums : (first : Option ℕ) (scenario turns text : List ℕ)
     → ((s : Scenario) → loaded scenario ≡ Ok s → (taken : List (ℕ × ℕ)) → (after s taken).world ≡ (run (system s) taken).world)
     → ((s : Scenario) → loaded scenario ≡ Ok s → (taken : List (ℕ × ℕ)) → Each (λ n. AddsUp (system s).counted n n.account.leaf) (all_shown s (after s taken)))
-    → state_written scenario turns ≡ Ok text → ShowsSums scenario turns text
-shows_sums scenario turns text world adds e = from (loaded scenario) refl e
+    → state_written first scenario turns ≡ Ok text → ShowsSums first scenario turns text
+shows_sums first scenario turns text world adds e = from (loaded scenario) refl e
   where
-    read : (s : Scenario) → loaded scenario ≡ Ok s → (r : Turned) → turned (components s) turns ≡ r → with_turns r (state_text s) ≡ Ok text
-        → ShowsSums scenario turns text
+    read : (s : Scenario) → loaded scenario ≡ Ok s → (r : Turned) → turned (components s) turns ≡ r → with_turns r (λ t. state_text s (some_turns first t)) ≡ Ok text
+        → ShowsSums first scenario turns text
     read s loads (Err fault) reads f = not_written _ text f
-    read s loads (Ok taken) reads f =
+    read s loads (Ok all) reads f =
+        let taken = some_turns first all in
         record {
           accepted = s;
           loads = loads;
-          taken = taken;
+          all = all;
           reads = reads;
+          taken = taken;
+          first_of_all = are_first first all;
           shows = sym (same_text (state_text s taken) text f)
               ∙ nodes_shown s (after s taken) 0 (accounts s (after s taken).world (step_budgets (budgets s))) (node_rows s);
           world = world s loads taken;
           adds = adds s loads taken;
         }
 
-    from : (r : Result Scenario Fault) → loaded scenario ≡ r → with_scenario r (λ s. state_from s turns) ≡ Ok text → ShowsSums scenario turns text
+    from : (r : Result Scenario Fault) → loaded scenario ≡ r → with_scenario r (λ s. state_from first s turns) ≡ Ok text → ShowsSums first scenario turns text
     from (Err fault) loads f = not_written _ text f
     from (Ok s) loads f = read s loads (turned (components s) turns) refl f

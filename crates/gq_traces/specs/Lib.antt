@@ -1,4 +1,5 @@
 pub mod Schedule
+pub mod First_turns
 pub mod Rests
 pub mod Places
 pub mod Trace

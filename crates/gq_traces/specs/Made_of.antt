@@ -12,6 +12,7 @@ use Rattle.gq_laws.specs.Shapes.{Each}
 use Rattle.gq_load.specs.Load.{loaded}
 use Rattle.gq_resolve.specs.NodeTables.{NodeRow, node_rows}
 use Rattle.gq_traces.specs.State.{Item, Role, Given, Handed, Held, Lent, Received, init_items, is_live, items_text, leaf_items, next_text, start_text}
+use Rattle.gq_traces.specs.First_turns.{AreFirst}
 use Rattle.gq_traces.specs.Trace.{Traced, after_all, due, start_traced}
 
 -- NODES AS THEY ARE SHOWN
@@ -90,13 +91,15 @@ AddsUp resources n (Some a) = is_live a.phase ≡ true → EachOf resources (Lea
 abbrev pub after : Scenario → List (ℕ × ℕ) → Traced
 after s turns = after_all (system s) turns (start_traced (system s))
 
--- from bytes to bytes: the scenario is loaded and the turns are read; the text is that of all nodes in the world that a run over these turns comes to, and
--- what is shown of each node adds up to its account, of each resource that is counted
-pub record ShowsSums (scenario turns text : List ℕ) : Type 0 where
+-- from bytes to bytes: the scenario is loaded and the turns are read; the text is that of all nodes in the world that a run over these turns comes to, or over
+-- the first so many, and what is shown of each node adds up to its account, of each resource that is counted
+pub record ShowsSums (first : Option ℕ) (scenario turns text : List ℕ) : Type 0 where
   pub accepted : Scenario
   pub loads : loaded scenario ≡ Ok accepted
+  pub all : List (ℕ × ℕ)
+  pub reads : turned (components accepted) turns ≡ Ok all
   pub taken : List (ℕ × ℕ)
-  pub reads : turned (components accepted) turns ≡ Ok taken
+  pub first_of_all : AreFirst first all taken
   pub shows : text ≡ shown_text accepted.version (all_shown accepted (after accepted taken))
   pub world : (after accepted taken).world ≡ (run (system accepted) taken).world
   pub adds : Each (λ n. AddsUp (system accepted).counted n n.account.leaf) (all_shown accepted (after accepted taken))

@@ -1,9 +1,10 @@
 -- What the commands of this crate write for a scenario's text.
-use Rattle.std.specs.Prelude.{ℕ, Bool, true, false, List, Ok, Err}
+use Rattle.std.specs.Prelude.{ℕ, Bool, true, false, List, Option, Ok, Err}
 use Rattle.gq_model.specs.machine.Scenario.{Scenario, components}
 use Rattle.gq_model.specs.texts.Turns.{Turned, turned}
 use Rattle.gq_load.specs.Load.{loaded}
 use Rattle.gq_world.specs.Whole.{Written, refused_with, turn_fault_text, with_scenario}
+use Rattle.gq_traces.specs.First_turns.{some_turns}
 use Rattle.gq_traces.specs.Schedule.{schedule_text}
 use Rattle.gq_traces.specs.State.{state_text}
 use Rattle.gq_traces.specs.Trace.{trace_text}
@@ -31,9 +32,9 @@ trace_from all s turns = with_turns (turned (components s) turns) (trace_text al
 abbrev pub trace_written : Bool → List ℕ → List ℕ → Written
 trace_written all scenario turns = with_scenario (loaded scenario) (λ s. trace_from all s turns)
 
--- each account after the last turn of a run, and what it is made of
-abbrev pub state_from : Scenario → List ℕ → Written
-state_from s turns = with_turns (turned (components s) turns) (state_text s)
+-- each account after the last turn of a run, or after the first so many, and what it is made of
+abbrev pub state_from : Option ℕ → Scenario → List ℕ → Written
+state_from first s text = with_turns (turned (components s) text) (λ turns. state_text s (some_turns first turns))
 
-abbrev pub state_written : List ℕ → List ℕ → Written
-state_written scenario turns = with_scenario (loaded scenario) (λ s. state_from s turns)
+abbrev pub state_written : Option ℕ → List ℕ → List ℕ → Written
+state_written first scenario turns = with_scenario (loaded scenario) (λ s. state_from first s turns)

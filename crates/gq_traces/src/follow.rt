@@ -3,6 +3,7 @@ ghost use Rattle.std.specs.Prelude.{◌≡◌, ◌<◌, ◌≤◌, false, length
 ghost use Rattle.gq_model.specs.machine.Scenario.{components, system};
 ghost use Rattle.gq_model.specs.machine.World.{start};
 ghost use Rattle.gq_world.specs.Worlds.{AreBelow};
+ghost use Rattle.gq_traces.specs.First_turns.{first_turns, some_turns};
 ghost use Rattle.gq_traces.specs.Trace.{after_all, after_turn, after_turns, start_traced};
 ghost use Rattle.gq_traces.specs.internal.Follows.{Follows, IsAt, IsFollowed};
 
@@ -89,6 +90,37 @@ fn take_turns(world: &mut World, followed: &mut Followed, leaf: LeafNo, count: u
     let mut done = 0;
     while done < count {
         done += take_some(world, followed, leaf, count - done);
+    }
+}
+
+// The first so many turns of a list. They take no host memory.
+fn take_most(world: &mut World, followed: &mut Followed, turns: &[TurnItem], most: u32)
+    requires leaves { AreBelow (length (components world.old.scenario)) turns.now }
+    requires followed { IsFollowed followed.old world.old }
+    ensures { Follows (after_all (system world.old.scenario) (first_turns most turns.now)) world.old world.new followed.old followed.new }
+{
+    let mut left = most;
+    for item in turns {
+        let count = left.min(item.count());
+        take_turns(world, followed, item.leaf(), count);
+        left -= count;
+    }
+}
+
+/// The turns of a list: the first so many, or without a number all. They take no host memory.
+pub(crate) fn take_first(
+    world: &mut World,
+    followed: &mut Followed,
+    turns: &[TurnItem],
+    first: Option<u32>,
+)
+    requires leaves { AreBelow (length (components world.old.scenario)) turns.now }
+    requires followed { IsFollowed followed.old world.old }
+    ensures { Follows (after_all (system world.old.scenario) (some_turns first turns.now)) world.old world.new followed.old followed.new }
+{
+    match first {
+        None => take_all(world, followed, turns),
+        Some(most) => take_most(world, followed, turns, most),
     }
 }
 

@@ -9,6 +9,7 @@ ghost use Rattle.gq_resolve.specs.NodeTables.{NodeRow, node_rows};
 ghost use Rattle.gq_world.specs.Lines.{all_accounts};
 ghost use Rattle.gq_world.specs.Outcomes.{WritesAs};
 ghost use Rattle.gq_world.specs.Worlds.{AreBelow};
+ghost use Rattle.gq_traces.specs.First_turns.{some_turns};
 ghost use Rattle.gq_traces.specs.Places.{Ahead};
 ghost use Rattle.gq_traces.specs.State.{Given, after_text, before, child_items, handed_items, has_quantum, init_items, is_at, is_live, item, items_text};
 ghost use Rattle.gq_traces.specs.State.{leaf_items, leaf_text};
@@ -20,7 +21,7 @@ ghost use Rattle.gq_traces.specs.internal.Follows.{IsAt, IsFollowed};
 ghost use Rattle.gq_traces.specs.internal.Items.{IsStanding, Tells_items, next_front};
 ghost use Rattle.gq_traces.specs.internal.Telling.{Goes, due_of, statement_text};
 
-use crate::follow::{Followed, take_all};
+use crate::follow::{Followed, take_first};
 use crate::items::{Bank, write_amount, write_places, write_sessions, write_slots};
 use crate::steps::write_statement;
 use crate::telling::write_on;
@@ -364,19 +365,20 @@ fn write_nodes<W: Write>(world: &World, followed: &Followed, out: &mut Counted<W
     going
 }
 
-// Takes all turns of a list from the start of a world, and tells all nodes then. It takes no host memory.
+// Takes turns of a list from the start of a world, and tells all nodes then. It takes no host memory.
 fn write_state<W: Write>(
     world: &mut World,
     followed: &mut Followed,
     turns: &[TurnItem],
+    first: Option<u32>,
     out: &mut Counted<W>,
 ) -> Result<(), WriteFault>
     requires leaves { AreBelow (length (components world.old.scenario)) turns.now }
     requires followed { IsFollowed followed.old world.old }
     requires at { IsAt followed.old world.old (start_traced (system world.old.scenario)) }
-    ensures { Writes W.contents out.old out.new (state_text world.old.scenario turns.now) result }
+    ensures { Writes W.contents out.old out.new (state_text world.old.scenario (some_turns first turns.now)) result }
 {
-    take_all(world, followed, turns);
+    take_first(world, followed, turns, first);
     if write_nodes(world, followed, out) {
         Ok(())
     } else {
@@ -384,64 +386,68 @@ fn write_state<W: Write>(
     }
 }
 
-// Reads turns, takes all of them from the start of a world, and tells all nodes then.
+// Reads turns, takes them from the start of a world, and tells all nodes then.
 fn state_of_world<W: Write>(
     alloc: Global,
     world: &mut World,
     turns: &[u8],
+    first: Option<u32>,
     out: &mut Counted<W>,
 ) -> Result<(), RunFault<'static>>
     requires start { world.old.world ≡ start (system world.old.scenario) }
-    ensures { WritesAs W.contents (state_from world.old.scenario turns.now) out.old out.new result }
+    ensures { WritesAs W.contents (state_from first world.old.scenario turns.now) out.old out.new result }
 {
     let turns = match read_items(alloc, turns, world.table()) {
         Ok(turns) => turns,
         Err(TurnsError::Memory(_)) => return Err(RunFault::Memory),
         Err(TurnsError::Fault { fault, line }) => return Err(RunFault::Turns { fault, line }),
     };
-    state_after(alloc, world, turns.as_slice(), out)
+    state_after(alloc, world, turns.as_slice(), first, out)
 }
 
-// Takes all turns of a list from the start of a world, and tells all nodes then.
+// Takes turns of a list from the start of a world, and tells all nodes then.
 fn state_after<W: Write>(
     alloc: Global,
     world: &mut World,
     turns: &[TurnItem],
+    first: Option<u32>,
     out: &mut Counted<W>,
 ) -> Result<(), RunFault<'static>>
     requires start { world.old.world ≡ start (system world.old.scenario) }
     requires leaves { AreBelow (length (components world.old.scenario)) turns.now }
-    ensures { WritesAs W.contents (Ok (state_text world.old.scenario turns.now)) out.old out.new result }
+    ensures { WritesAs W.contents (Ok (state_text world.old.scenario (some_turns first turns.now))) out.old out.new result }
 {
     let mut followed = match Followed::new(alloc, world) {
         Ok(followed) => followed,
         Err(_) => return Err(RunFault::Memory),
     };
-    match write_state(world, &mut followed, turns, out) {
+    match write_state(world, &mut followed, turns, first, out) {
         Ok(()) => Ok(()),
         Err(_) => Err(RunFault::Write),
     }
 }
 
-/// Writes each account after the last turn of a run, and what it is made of.
+/// Writes each account after the last turn of a run, and what it is made of. Where a number of turns is given, it is after the first so many turns of the list;
+/// a list with fewer is taken whole.
 ///
 /// - Of an init: what it was given, and what it hands to its live children.
 /// - Of a leaf that lives: what it was given, what each of its slots holds or lends, the places of its heap, the sessions to it with what they hold, and the
 ///   place of its next step, if it can take one.
 /// - Of a pending leaf: after which leaf it starts.
 ///
-/// If the scenario or the turns are refused, or the host refuses memory, nothing is written; turns need none. After a failed write a prefix of the text was
-/// written.
+/// If the scenario or the turns are refused, or the host refuses memory, nothing is written; turns need none. All turns of the text are read, those that are
+/// not taken, too. After a failed write a prefix of the text was written.
 pub fn state<W: Write>(
     alloc: Global,
     scenario: &[u8],
     turns: &[u8],
+    first: Option<u32>,
     out: &mut Counted<W>,
 ) -> Result<(), RunFault<'static>>
-    ensures { WritesAs W.contents (state_written scenario.now turns.now) out.old out.new result }
+    ensures { WritesAs W.contents (state_written first scenario.now turns.now) out.old out.new result }
 {
     let mut world = World::load(alloc, scenario)?;
-    let written = state_of_world(alloc, &mut world, turns, out);
+    let written = state_of_world(alloc, &mut world, turns, first, out);
     world.end();
     written
 }

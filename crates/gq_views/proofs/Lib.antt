@@ -15,3 +15,4 @@ mod Told_services
 mod Told_nodes
 mod Told_boxes
 mod Keywords
+mod Numbered_rows

@@ -23,10 +23,13 @@ use Rattle.gq_load.specs.Named.{leaf_named}
 use Rattle.gq_load.proofs.Sound_programs.{IsGiven, nodes_given, programs_are}
 use Rattle.gq_load.proofs.Sound_texts.{not_ok, same_scenario}
 use Rattle.gq_world.specs.Whole.{Written}
-use Rattle.gq_views.specs.Listed.{IsGivenBy, ListsProgram}
+use Rattle.gq_views.specs.Listed.{IsGivenBy, ListsNumbers, ListsProgram}
+use Rattle.gq_views.specs.declared.margin.Margin.TheVariants.{Plain, Numbered}
 use Rattle.gq_views.specs.Listing.{listing}
 use Rattle.gq_views.specs.Written.{list_from, list_written, program_text, text_of_leaf}
 use Rattle.gq_views.proofs.Listed_printed.{listed}
+use Rattle.gq_views.proofs.Numbered_rows.{numbers_listing}
+use Rattle.gq_views.specs.Numbered.{numbered_listing}
 
 not_written : {A : Type 0} (why text : List ℕ) → ◌≡◌ {A = Written} (Err why) (Ok text) → A
 not_written why text e = absurd cc
@@ -86,11 +89,11 @@ given_by node same e = by node.source same e
 
 -- TEXTS
 
-pub lists_program : (scenario name text : List ℕ) → list_written scenario name ≡ Ok text → ListsProgram scenario name text
+pub lists_program : (scenario name text : List ℕ) → list_written Plain scenario name ≡ Ok text → ListsProgram scenario name text
 lists_program scenario name text e = from (scenario_in scenario) refl e
   where
     of_leaf : (s : Scenario) → scenario_in scenario ≡ Ok s → (node : LeafNode) → leaf_named name (components s) ≡ Some node → (o : Option Fault)
-        → source_fault node.name node.source ≡ o → program_text node.program o ≡ Ok text → ListsProgram scenario name text
+        → source_fault node.name node.source ≡ o → program_text Plain node.program o ≡ Ok text → ListsProgram scenario name text
     of_leaf s reads node named (Some fault) sound f = not_written _ text f
     of_leaf s reads node named None sound f =
         let given = named_given name (components s) node
@@ -104,11 +107,33 @@ lists_program scenario name text e = from (scenario_in scenario) refl e
           back = ap assembled (sym (same_text (listing node.program) text f)) ∙ listed node.program (is_program s node given sound);
         }
 
-    of : (s : Scenario) → scenario_in scenario ≡ Ok s → (o : Option LeafNode) → leaf_named name (components s) ≡ o → text_of_leaf name o ≡ Ok text
+    of : (s : Scenario) → scenario_in scenario ≡ Ok s → (o : Option LeafNode) → leaf_named name (components s) ≡ o → text_of_leaf Plain name o ≡ Ok text
         → ListsProgram scenario name text
     of s reads None named f = not_written _ text f
     of s reads (Some node) named f = of_leaf s reads node named (source_fault node.name node.source) refl f
 
-    from : (r : Result Scenario ReadFault) → scenario_in scenario ≡ r → list_from r name ≡ Ok text → ListsProgram scenario name text
+    from : (r : Result Scenario ReadFault) → scenario_in scenario ≡ r → list_from Plain r name ≡ Ok text → ListsProgram scenario name text
     from (Err fault) reads f = not_written _ text f
     from (Ok s) reads f = of s reads (leaf_named name (components s)) refl f
+
+pub lists_numbers : (scenario name text : List ℕ) → list_written Numbered scenario name ≡ Ok text → ListsNumbers scenario name text
+lists_numbers scenario name text e = from (scenario_in scenario) refl e
+  where
+    of_leaf : (node : LeafNode) → (o : Option Fault) → program_text Numbered node.program o ≡ Ok text → list_written Plain scenario name ≡ program_text Plain node.program o
+        → ListsNumbers scenario name text
+    of_leaf node (Some fault) f plain = not_written _ text f
+    of_leaf node None f plain = record {
+      program = node.program;
+      plain = plain;
+      numbered = sym (same_text (numbered_listing node.program) text f);
+      lines = numbers_listing node.program;
+    }
+
+    of : (o : Option LeafNode) → text_of_leaf Numbered name o ≡ Ok text → list_written Plain scenario name ≡ text_of_leaf Plain name o
+        → ListsNumbers scenario name text
+    of None f plain = not_written _ text f
+    of (Some node) f plain = of_leaf node (source_fault node.name node.source) f plain
+
+    from : (r : Result Scenario ReadFault) → scenario_in scenario ≡ r → list_from Numbered r name ≡ Ok text → ListsNumbers scenario name text
+    from (Err fault) reads f = not_written _ text f
+    from (Ok s) reads f = of (leaf_named name (components s)) f (ap (λ q. list_from Plain q name) reads)

@@ -20,7 +20,7 @@ section_text section body t u v w x p q r s =
     three : (t a b c u v w x : List ℕ) → u ≡ t ++ a → v ≡ u ++ 10 ∷ [] → w ≡ v ++ b → x ≡ w ++ c → x ≡ t ++ (a ++ 10 ∷ (b ++ c))
     three t a b c u v w x p q r s = rw (s, r, q, p) (simp append_assoc)
 
-next_is : {A : Type 0} (all : List A) (i : ℕ) (x : A) → i < length all → x ≡ get_or all i x → drop i all ≡ x ∷ drop (i + 1) all
+pub next_is : {A : Type 0} (all : List A) (i : ℕ) (x : A) → i < length all → x ≡ get_or all i x → drop i all ≡ x ∷ drop (i + 1) all
 next_is all i x h is = rw (add-one i, drop-cons all i x) (ap (λ y. y ∷ drop (suc i) all) (sym is))
 
 sections_first : (p : Section × Statements) (rest : List (Section × Statements))

@@ -1,4 +1,5 @@
 pub mod Listing
+pub mod Numbered
 pub mod Listed
 pub mod Tree
 pub mod Written

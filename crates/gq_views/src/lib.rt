@@ -2,12 +2,13 @@
 //!
 //! ```rust
 //! use gq_views::list::list;
+//! use gq_views::margin::Margin;
 //! use gq_views::tree::tree;
 //! use gq_world::Counted;
 //!
 //! let mut out = Counted::new(writer);
 //! // The program of a leaf, one statement a line.
-//! list(alloc, scenario, "hello", &mut out)?;
+//! list(alloc, scenario, "hello", Margin::Plain, &mut out)?;
 //! // All nodes with their quanta, what each leaf uses, and whose services it opens.
 //! tree(alloc, scenario, &mut out)?;
 //! ```
@@ -22,5 +23,7 @@ pub mod laws;
 mod left;
 pub mod list;
 pub mod listing;
+pub mod margin;
+pub mod numbered;
 pub mod tree;
 pub mod words;

@@ -14,7 +14,11 @@ use gq_program::program::{Body, Program, Statement};
 use std::alloc::{AllocError, Global};
 
 // The line of a statement without statements in it.
-fn push_plain(text: &mut Vec<u8>, depth: usize, instruction: &Instruction) -> Result<(), AllocError>
+pub(crate) fn push_plain(
+    text: &mut Vec<u8>,
+    depth: usize,
+    instruction: &Instruction,
+) -> Result<(), AllocError>
     ensures { OnOk result (text.new.items ≡ text.old.items ++ line depth (instruction_text instruction.now)) }
 {
     push_indent(text, depth)?;
@@ -23,7 +27,7 @@ fn push_plain(text: &mut Vec<u8>, depth: usize, instruction: &Instruction) -> Re
 }
 
 // The first line of a loop.
-fn push_loop(text: &mut Vec<u8>, depth: usize, count: u16) -> Result<(), AllocError>
+pub(crate) fn push_loop(text: &mut Vec<u8>, depth: usize, count: u16) -> Result<(), AllocError>
     ensures { OnOk result (text.new.items ≡ text.old.items ++ line depth (loop_text count)) }
 {
     push_indent(text, depth)?;
@@ -124,7 +128,7 @@ fn push_sections(text: &mut Vec<u8>, sections: &[(Section, Body)]) -> Result<(),
 }
 
 // The line of a local: its greatest value, where it is told.
-fn push_local(text: &mut Vec<u8>, place: usize, greatest: u32) -> Result<(), AllocError>
+pub(crate) fn push_local(text: &mut Vec<u8>, place: usize, greatest: u32) -> Result<(), AllocError>
     ensures { OnOk result (text.new.items ≡ text.old.items ++ joined (locals_lines place (greatest ∷ []))) }
 {
     if greatest == u32::MAX {

@@ -1,31 +1,90 @@
 //! The program `trade`: the words of the command line, the files that they name, and the standard streams.
 #![tactic(auto)]
 
+mod watched;
+
 use gq_cli::command::{Command, CommandError};
 use gq_cli::command_line::command;
 use gq_cli::execute::{execute, tell};
 use gq_cli::rules::families;
 use gq_cli::status::Status;
 use gq_world::Counted;
+use std::cell::Cell;
 use std::env;
 use std::fs::File;
 use std::io::{self, BufWriter, ErrorKind, Read, Stderr, Stdout, Write};
 use std::process::ExitCode;
+use watched::{Note, Silenced, Watched, put_down};
 
 // How many bytes of output are gathered before they leave the process.
 const BUFFER: usize = 65536;
 
+// The most bytes of an input.
+const MOST_INPUT: u64 = 18 << 20;
+
+// What is noted of the streams of a command.
+#[derive(Drop)]
+struct Notes {
+    scenario: Cell<Note>,
+    turns: Cell<Note>,
+    out: Cell<Note>,
+}
+
+// What is written is gathered before it leaves the process.
+type Out<'a> = Counted<BufWriter<Watched<'a, Stdout>>>;
+
+// Nothing is told to anybody once the reader of the output has gone.
+type Err<'a> = Counted<Silenced<'a, Stderr>>;
+
 fn main(rt: HostRuntime) -> ExitCode {
-    let mut err = Counted::new(rt.stderr());
+    let notes = Notes {
+        scenario: Cell::new(Note::new()),
+        turns: Cell::new(Note::new()),
+        out: Cell::new(Note::new()),
+    };
+    let mut err = Counted::new(Silenced::new(rt.stderr(), &notes.out));
     let status = match asked(&rt) {
-        Ok(command) => perform(&rt, &command, &mut err),
-        Err(status) => tell(&mut err, status),
+        Ok(command) => perform(&rt, &command, &notes, &mut err),
+        Err(misuse) => tell_misuse(&mut err, misuse),
     };
     ExitCode::from(status.code())
 }
 
+// Why the words ask for no command.
+#[derive(Drop)]
+enum Misuse {
+    // The host has no memory left.
+    Memory,
+    // The words cannot be read as text.
+    NoText,
+    // They name no command, as these lines say.
+    Usage(String),
+}
+
+// Tells why the words ask for no command.
+fn tell_misuse(err: &mut Err<'_>, misuse: Misuse) -> Status {
+    match misuse {
+        Misuse::Memory => tell(err, Status::HostMemory),
+        Misuse::NoText => {
+            let status = tell(err, Status::BadCommandLine);
+            add(err, "  a word is not UTF-8\n");
+            status
+        }
+        Misuse::Usage(said) => {
+            let status = tell(err, Status::BadCommandLine);
+            add(err, said.as_str());
+            status
+        }
+    }
+}
+
+// Writes more below a line, as far as writes succeed.
+fn add(err: &mut Err<'_>, text: &str) {
+    let _written = err.write_all(text.as_bytes());
+}
+
 // The command that the words after the program's name ask for.
-fn asked(rt: &HostRuntime) -> Result<Command, Status> {
+fn asked(rt: &HostRuntime) -> Result<Command, Misuse> {
     let given = given(rt)?;
     let asked = asked_by(rt, given.as_slice());
     drop(given);
@@ -33,66 +92,118 @@ fn asked(rt: &HostRuntime) -> Result<Command, Status> {
 }
 
 // The command that words ask for.
-fn asked_by(rt: &HostRuntime, given: &[String]) -> Result<Command, Status> {
+fn asked_by(rt: &HostRuntime, given: &[String]) -> Result<Command, Misuse> {
     let mut words = Vec::new(rt.alloc());
     for word in given.iter() {
         if words.push(word.as_str()).is_err() {
-            return Err(Status::HostMemory);
+            return Err(Misuse::Memory);
         }
     }
     match command(rt.alloc(), words.as_slice()) {
         Ok(command) => Ok(command),
-        Err(CommandError::Memory(_)) => Err(Status::HostMemory),
-        Err(CommandError::Usage) => Err(Status::BadCommandLine),
+        Err(CommandError::Memory(_)) => Err(Misuse::Memory),
+        Err(CommandError::Usage(said)) => Err(Misuse::Usage(said)),
     }
 }
 
 // The words after the program's name. Each has to be UTF-8.
-fn given(rt: &HostRuntime) -> Result<Vec<String>, Status> {
+fn given(rt: &HostRuntime) -> Result<Vec<String>, Misuse> {
     let args = match env::args(rt) {
         Ok(args) => args,
-        Err(error) if error.kind() == ErrorKind::OutOfMemory => return Err(Status::HostMemory),
-        Err(_) => return Err(Status::BadCommandLine),
+        Err(error) if error.kind() == ErrorKind::OutOfMemory => return Err(Misuse::Memory),
+        Err(_) => return Err(Misuse::NoText),
     };
     let mut words = Vec::new(rt.alloc());
     for word in args.skip(1) {
         if words.push(word).is_err() {
-            return Err(Status::HostMemory);
+            return Err(Misuse::Memory);
         }
     }
     Ok(words)
 }
 
-// What is written is gathered before it leaves the process.
-type Out = Counted<BufWriter<Stdout>>;
-
 // Does what a command asks for, on its files or standard input. What it writes is gathered, and has to leave the process, too.
-fn perform(rt: &HostRuntime, command: &Command, err: &mut Counted<Stderr>) -> Status {
-    let mut out = match BufWriter::with_capacity(rt.alloc(), BUFFER, rt.stdout()) {
+fn perform(rt: &HostRuntime, command: &Command, notes: &Notes, err: &mut Err<'_>) -> Status {
+    let stdout = Watched::new(rt.stdout(), &notes.out);
+    let mut out = match BufWriter::with_capacity(rt.alloc(), BUFFER, stdout) {
         Ok(writer) => Counted::new(writer),
         Err(_) => return tell(err, Status::HostMemory),
     };
-    let status = execute_to(rt, command, &mut out, err);
+    let status = execute_to(rt, command, notes, &mut out, err);
     let flushed = out.flush();
     drop(out);
-    match flushed {
+    let status = match flushed {
         Err(_) if status == Status::Done => tell(err, Status::FileFault),
         _ => status,
+    };
+    if status == Status::FileFault {
+        tell_reasons(err, command, notes);
     }
+    status
+}
+
+// Tells which stream failed and why, each on a line.
+fn tell_reasons(err: &mut Err<'_>, command: &Command, notes: &Notes) {
+    let (scenario, turns) = paths(command);
+    tell_input(err, scenario, notes.scenario.get());
+    tell_input(err, turns, notes.turns.get());
+    if let Some(error) = notes.out.get().failure {
+        tell_reason(err, "standard output", error);
+    }
+}
+
+// The paths of the scenario and of the turns, as they were given.
+fn paths(command: &Command) -> (&str, &str) {
+    match command {
+        Command::OfTurns(_, scenario, turns) | Command::Faults(scenario, Some(turns)) => {
+            (scenario.as_str(), turns.as_str())
+        }
+        Command::OfScenario(_, scenario)
+        | Command::OfLeaf(_, scenario, _)
+        | Command::Faults(scenario, None) => (scenario.as_str(), ""),
+        Command::Rule(_) | Command::Version | Command::Stored | Command::Help(_) => {
+            ("standard input", "")
+        }
+    }
+}
+
+// Tells why an input was not read, if it was not.
+fn tell_input(err: &mut Err<'_>, path: &str, note: Note) {
+    match note.failure {
+        Some(error) => tell_reason(err, path, error),
+        None => {
+            if note.read > MOST_INPUT {
+                add(err, "  ");
+                add(err, path);
+                add(err, ": longer than 18 MiB\n");
+            }
+        }
+    }
+}
+
+// Tells why a stream failed.
+fn tell_reason(err: &mut Err<'_>, path: &str, error: io::Error) {
+    add(err, "  ");
+    add(err, path);
+    let _written = writeln!(err, ": {error}");
 }
 
 // Does what a command asks for, on its files or standard input.
 fn execute_to(
     rt: &HostRuntime,
     command: &Command,
-    out: &mut Out,
-    err: &mut Counted<Stderr>,
+    notes: &Notes,
+    out: &mut Out<'_>,
+    err: &mut Err<'_>,
 ) -> Status {
     match command {
         Command::OfTurns(_, scenario, turns) | Command::Faults(scenario, Some(turns)) => {
-            let (mut scenario, mut turns) = match open(rt, scenario.as_str(), turns.as_str()) {
-                Ok(files) => files,
-                Err(_) => return tell(err, Status::FileFault),
+            let Some(mut scenario) = open(rt, scenario.as_str(), &notes.scenario) else {
+                return tell(err, Status::FileFault);
+            };
+            let Some(mut turns) = open(rt, turns.as_str(), &notes.turns) else {
+                drop(scenario);
+                return tell(err, Status::FileFault);
             };
             let status = execute_on(rt, command, &mut scenario, &mut turns, out, err);
             drop(scenario);
@@ -102,16 +213,16 @@ fn execute_to(
         Command::OfScenario(_, scenario)
         | Command::OfLeaf(_, scenario, _)
         | Command::Faults(scenario, None) => {
-            let mut scenario = match File::open(rt, scenario.as_str()) {
-                Ok(file) => file,
-                Err(_) => return tell(err, Status::FileFault),
+            let Some(mut scenario) = open(rt, scenario.as_str(), &notes.scenario) else {
+                return tell(err, Status::FileFault);
             };
             let status = execute_on(rt, command, &mut scenario, &mut io::empty(), out, err);
             drop(scenario);
             status
         }
         Command::Rule(_) | Command::Version | Command::Stored | Command::Help(_) => {
-            execute_on(rt, command, &mut rt.stdin(), &mut io::empty(), out, err)
+            let mut stdin = Watched::new(rt.stdin(), &notes.scenario);
+            execute_on(rt, command, &mut stdin, &mut io::empty(), out, err)
         }
     }
 }
@@ -122,15 +233,19 @@ fn execute_on<R: Read, T: Read>(
     command: &Command,
     scenario: &mut R,
     turns: &mut T,
-    out: &mut Out,
-    err: &mut Counted<Stderr>,
+    out: &mut Out<'_>,
+    err: &mut Err<'_>,
 ) -> Status {
     execute(rt.alloc(), &families(), command, scenario, turns, out, err)
 }
 
-// The files of a scenario and of its turns, opened in this order.
-fn open(rt: &HostRuntime, scenario: &str, turns: &str) -> io::Result<(File, File)> {
-    let scenario = File::open(rt, scenario)?;
-    let turns = File::open(rt, turns)?;
-    Ok((scenario, turns))
+// The file at this path, of which notes are taken; if it cannot be opened, that is noted.
+fn open<'a>(rt: &HostRuntime, path: &str, note: &'a Cell<Note>) -> Option<Watched<'a, File>> {
+    match File::open(rt, path) {
+        Ok(file) => Some(Watched::new(file, note)),
+        Err(error) => {
+            put_down(note, error);
+            None
+        }
+    }
 }

@@ -1,10 +1,11 @@
 -- The turns were read.
-use Rattle.std.proofs.Common.{◌≡◌, ◌∙◌, List, Ok, ap, length, sym, subst, ℕ}
+use Rattle.std.proofs.Common.{◌≡◌, ◌∙◌, List, Ok, Option, ap, length, sym, subst, ℕ}
 use Rattle.gq_model.specs.machine.Scenario.{Scenario, components}
 use Rattle.gq_model.specs.texts.Turns.{turned}
 use Rattle.gq_world.specs.Outcomes.{WritesAs}
 use Rattle.gq_world.specs.Worlds.{AreBelow}
 use Rattle.gq_world.proofs.Whole.{below_of}
+use Rattle.gq_traces.specs.First_turns.{some_turns}
 use Rattle.gq_traces.specs.State.{state_text}
 use Rattle.gq_traces.specs.Written.{state_from, with_turns}
 use Rattle.gq_traces.proofs.state.state_of_world.Goals as goal
@@ -16,13 +17,13 @@ state_after-requires-clause-leaves g c =
     (below_of s c.table.result.now c.args.turns.now c.in-Ok.turns.items c.table.ensures c.in-Ok.ensures)
 
 -- what they write
-given : (s t : Scenario) (text : List ℕ) (turns slice : List (ℕ × ℕ)) → t ≡ s → turned (components t) text ≡ Ok turns → slice ≡ turns
-    → state_from s text ≡ Ok (state_text s slice)
-given s t text turns slice same reads is =
-    ap (λ r. with_turns r (state_text s)) (ap (λ (r : Scenario). turned (components r) text) (sym same) ∙ reads) ∙ ap (λ l. Ok (state_text s l)) (sym is)
+given : (first : Option ℕ) (s t : Scenario) (text : List ℕ) (turns slice : List (ℕ × ℕ)) → t ≡ s → turned (components t) text ≡ Ok turns → slice ≡ turns
+    → state_from first s text ≡ Ok (state_text s (some_turns first slice))
+given first s t text turns slice same reads is =
+    ap (λ r. with_turns r (λ l. state_text s (some_turns first l))) (ap (λ (r : Scenario). turned (components r) text) (sym same) ∙ reads) ∙ ap (λ l. Ok (state_text s (some_turns first l))) (sym is)
 
 pub returns : goal.returns
 returns g c =
     let s = c.args.world.now.scenario in
-    let e = given s c.table.result.now c.args.turns.now c.in-Ok.turns.items c.as_slice.result.now c.table.ensures c.in-Ok.ensures c.as_slice.ensures.value in
+    let e = given c.args.first s c.table.result.now c.args.turns.now c.in-Ok.turns.items c.as_slice.result.now c.table.ensures c.in-Ok.ensures c.as_slice.ensures.value in
     subst (λ w. WritesAs g.W.Write.contents w c.args.out.now c.state_after.new.out c.state_after.result) (sym e) c.state_after.ensures

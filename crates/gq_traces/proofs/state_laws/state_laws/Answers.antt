@@ -12,8 +12,8 @@ use Rattle.gq_traces.proofs.Told_run.{last_reached, last_world}
 use Rattle.gq_traces.proofs.state_laws.state_laws.Goals as goal
 
 pub returns : goal.returns
-returns c scenario turns text =
-    shows_sums scenario turns text
+returns c first scenario turns text =
+    shows_sums first scenario turns text
     (λ s loads taken.
     last_world s (c.loaded_laws.ensures.sound scenario s loads) (loaded_named scenario s loads)
     (λ w reached. c.accepted_laws.ensures.upheld s w (c.loaded_laws.ensures.sound scenario s loads) reached)

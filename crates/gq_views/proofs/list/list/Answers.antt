@@ -5,5 +5,5 @@ use Rattle.gq_views.proofs.list.list.Goals as goal
 
 pub returns : goal.returns
 returns g c =
-    c.put_text.ensures (list_written c.args.scenario.now c.args.name.now)
-    (ap (λ s. list_from s c.args.name.now) c.in-Ok.ensures ∙ c.in_ok-text.ensures.text ∙ ap Ok (sym c.as_slice.ensures.value))
+    c.put_text.ensures (list_written c.args.margin c.args.scenario.now c.args.name.now)
+    (ap (λ s. list_from c.args.margin s c.args.name.now) c.in-Ok.ensures ∙ c.in_ok-text.ensures.text ∙ ap Ok (sym c.as_slice.ensures.value))
