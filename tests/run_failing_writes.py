@@ -52,10 +52,10 @@ def commands():
         leaf = first_leaf(tomllib.loads(scenario.read_text())["start"])
         for words in (["check"], ["tree"], ["tree", "--dot"], ["size"], ["turns"]):
             yield f"{' '.join(words)} of {scenario.name}", [*words, str(scenario)]
-        for words in (["trace"], ["trace", "--all"], ["state"]):
+        for words in (["trace"], ["trace", "--all"], ["state"], ["state", "--at", "3"]):
             yield f"{' '.join(words)} of {scenario.name}", [*words, str(scenario), str(scenario.with_suffix(".turns"))]
-        for word in ("asm", "list", "why"):
-            yield f"{word} of {leaf} of {scenario.name}", [word, str(scenario), leaf]
+        for words in (["asm"], ["list"], ["list", "--numbers"], ["why"]):
+            yield f"{' '.join(words)} of {leaf} of {scenario.name}", [*words, str(scenario), leaf]
     yield "races of shared_count.toml", ["races", str(EXAMPLES / "shared_count.toml")]
     for words in (["rule"], ["rule", "V12"], ["--version"], ["--help"]):
         yield " ".join(words), words

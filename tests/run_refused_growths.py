@@ -31,9 +31,15 @@ from run_cases import tabled  # noqa: E402
 EXAMPLES = TOP / "examples"
 CASES = TOP / "tests" / "cases"
 SOME_CASES = "code-run", "check-two-leaves", "check-client-and-server", "check-two-inits-deep", "asm-hello", "asm-code-in-capitals"
-OF_DESIGNERS = "list-every-statement", "list-a-program-given-as-code", "tree-inits", "graph-inits", "tree-version-2", "graph-a-leaf-after-another"
+OF_DESIGNERS = (
+    "list-every-statement", "list-a-program-given-as-code", "list-numbers-of-blocks",
+    "tree-inits", "graph-inits", "tree-version-2", "graph-a-leaf-after-another",
+)
 OF_SIZES = "size-servers-of-servers", "size-of-an-open-that-gives-too-little", "why-every-statement", "why-a-server-of-two"
-OF_RUNS = "turns-inits", "turns-version-2", "races-stores-of-a-shared-server", "trace-an-upgrade-and-a-buffer", "trace-all-inits", "state-in-a-call", "state-version-2"
+OF_RUNS = (
+    "turns-inits", "turns-version-2", "races-stores-of-a-shared-server", "trace-an-upgrade-and-a-buffer", "trace-all-inits",
+    "state-in-a-call", "state-version-2", "state-at-a-request-at-hand",
+)
 OF_TURNS = {"run", "trace", "state"}
 RULES = TOP / "tests" / "tables" / "rule.toml"
 FAULTS = TOP / "tests" / "tables" / "faults.toml"

@@ -4,12 +4,13 @@
 The lines of a trace that begin with `[`, with the account lines at its end, are the run's text, with `--all` and without; and without it the trace is
 what it is with it, but for the steps of which nothing but the first line is told. The lines of a state that are not indented are the run's account lines; of a
 leaf that lives the lines `holds` add up to what it has used, and its quantum with what it receives less what it lends to its quota; of an init its quantum less
-what it hands on; so for capabilities. The last line is 'N passed, M failed', and the exit status is 1 where one failed.
+what it hands on; so for capabilities. With `--at N` a state is that of a list of the first N turns. The last line is 'N passed, M failed', and the exit status is 1 where one failed.
 """
 import pathlib
 import re
 import subprocess
 import sys
+import tempfile
 
 TOP = pathlib.Path(__file__).resolve().parent.parent
 SECONDS = 120
@@ -74,6 +75,33 @@ def blocks(text):
     return found
 
 
+def listed(text):
+    """The leaf and the number of turns of each line of a list of turns."""
+    return [(name, int(count)) for name, count in (line.split(" ") for line in text.splitlines() if line and not line.startswith("#"))]
+
+
+def first(turns, most):
+    """The lines of the first so many of these turns."""
+    lines = []
+    for name, count in turns:
+        taken = min(count, most)
+        lines += [f"{name} {taken}\n"] if taken else []
+        most -= taken
+    return "".join(lines)
+
+
+def states_on_the_way(program, scenario, turns):
+    """The numbers of turns after which a state is not that of a list with so many turns."""
+    all_turns = listed(turns.read_text())
+    number = sum(count for _, count in all_turns)
+    with tempfile.TemporaryDirectory() as room:
+        fewer = pathlib.Path(room, "turns")
+        for most in sorted({0, 1, 2, 5, number // 2, max(number - 1, 0), number, number + 1}):
+            fewer.write_text(first(all_turns, most))
+            if told(program, "state", "--at", str(most), scenario, turns) != told(program, "state", scenario, fewer):
+                yield most
+
+
 def faults(program, run, scenario, turns):
     """What of the trace and the state of a run is not as the run's text says."""
     changes, steps = told(program, "trace", scenario, turns), told(program, "trace", "--all", scenario, turns)
@@ -91,6 +119,7 @@ def faults(program, run, scenario, turns):
     if [block[0] for block in blocks(state)] != accounts:
         yield "accounts of state"
     yield from (f"items of {block[0]}" for block in blocks(state) if not adds_up(block))
+    yield from (f"state --at {most}" for most in states_on_the_way(program, scenario, turns))
 
 
 def main(words):

@@ -109,6 +109,7 @@ def compare_calls(program, copy, room):
         (["check", "examples/none.toml"], b""),
         (["run", "--help"], b""),
         (["walk"], b""),
+        (["state", "--at", "5", "examples/echo.toml", "examples/echo.turns"], b""),
         ([], stored),
     ]
     results = [(words, answer([str(copy / "trade"), *words], given), answer([program, *words], given)) for words, given in calls]

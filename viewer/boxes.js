@@ -10,16 +10,17 @@ const LEAF_PARTS = {
 };
 
 class BoxView {
-  constructor(run, frame, choose) {
-    Object.assign(this, { run, frame, choose, plan: layout(run.nodes, frame) });
-    const { detail, boxes, ways } = this.plan;
+  constructor(run, plan, choose) {
+    Object.assign(this, { run, plan, choose });
+    const { detail, bundled, boxes, ways, then, frame } = plan;
     this.parts = LEAF_PARTS[detail];
     this.inits = run.nodes.filter(n => !n.leaf).map(n => this.makeInit(n, boxes[n.number]));
     this.leaves = run.nodes.filter(n => n.leaf).map(n => this.makeLeaf(n, boxes[n.number]));
     this.ways = ways.map(way => this.makeWay(way));
-    this.svg = makeSvg("svg", { width: frame.width, height: frame.height, role: "img", class: detail === "labels" ? "" : "many" },
-      ...this.inits.map(i => i.group), ...this.ways.map(w => w.group), ...this.inits.map(i => i.head), ...this.leaves.map(l => l.group),
-      ...this.ways.map(w => w.label));
+    this.then = then.map(arrow => this.makeThen(arrow));
+    this.svg = makeSvg("svg", { width: frame.width, height: frame.height, role: "img", class: bundled ? "many bundled" : detail === "labels" ? "" : "many" },
+      ...this.inits.map(i => i.group), ...this.then.map(t => t.group), ...this.ways.map(w => w.group), ...this.inits.map(i => i.head),
+      ...this.leaves.map(l => l.group), ...this.ways.map(w => w.label));
   }
   group(box, attributes) {
     return makeSvg("g", { transform: `translate(${box.x} ${box.y}) scale(${this.plan.scale})`, ...attributes });
@@ -38,7 +39,7 @@ class BoxView {
     const { parts } = this, { width, height } = this.unscaled(box), group = this.group(box, {});
     const part = { node, group, width, title: makeSvg("title"), mark: makeSvg("path", { class: "glyph" }) };
     const name = fit(node.name, width - (parts.pill ? 18 : 30), NAME_FONT), nameAt = parts.pill ? 10 : 24;
-    const service = fit(node.provides ?? "", width - 30 - widthOf(name, NAME_FONT)), colour = `fill:var(${serverColour(this.run, node.number)})`;
+    const service = fit(node.provides ?? "", width - 30 - widthOf(name, NAME_FONT)), colour = `fill:${serverColour(this.run, node.number)}`;
     group.append(part.title, makeSvg("rect", { class: "box", width, height, rx: 6 }));
     if (node.provides !== undefined) group.append(makeSvg("rect", { y: 5, width: 4, height: height - 10, style: colour }));
     group.append(makeSvg("text", { class: "name", x: nameAt, y: parts.name }, name));
@@ -58,18 +59,37 @@ class BoxView {
     return part;
   }
   makeWay(way) {
-    const { points, client, server, service } = way, [x, y] = points.at(-1), size = this.plan.scale, colour = `var(${serverColour(this.run, server)})`;
-    const part = { way, group: makeSvg("g"), label: makeSvg("g"), title: makeSvg("title"), path: makeSvg("path", { d: wayPath(points) }), mine: false };
-    part.tip = makeSvg("path", { class: "tip", d: `M${x} ${y}l${-8 * size} ${-4 * size}v${8 * size}z`, style: `fill:${colour}` });
-    part.group.append(part.title, part.path, part.tip);
+    const { points, client, server, service } = way, size = this.plan.scale, colour = serverColour(this.run, server), d = wayPath(points, 7 * size);
+    const part = { way, colour, whole: false, title: makeSvg("title"), path: makeSvg("path", { d }), tip: makeTip(points, size), group: makeSvg("g") };
+    part.tip.style.fill = colour;
+    part.group.append(part.title, makeSvg("path", { class: "reach", d }), part.path, part.tip);
     part.name = `${this.run.nodes[client].name} to ${this.run.nodes[server].name}: ${service}`;
-    part.colour = colour;
-    if (this.plan.detail === "labels") {
-      const [[sx, sy]] = points, text = (dy, more) => makeSvg("text", { x: 5, y: dy, ...more });
-      part.label.setAttribute("transform", `translate(${sx} ${sy}) scale(${size})`);
-      part.label.append(part.above = text(-4, {}), part.below = text(12, { class: "soft" }));
+    const [[x, y]] = points, text = (dy, more) => makeSvg("text", { x: 5, y: dy, ...more });
+    part.label = makeSvg("g", { class: "label", transform: `translate(${x} ${y}) scale(${size})` });
+    part.label.append(makeSvg("title"), part.above = text(-4.5, {}));
+    if (this.plan.detail === "labels") part.label.append(part.below = text(13, { class: "soft" }));
+    for (const element of [part.group, part.label]) {
+      element.addEventListener("pointerenter", () => this.point(part, true));
+      element.addEventListener("pointerleave", () => this.point(part, false));
     }
     return part;
+  }
+  /** The arrow from a leaf to the one that starts after it. */
+  makeThen({ client, server, points }) {
+    const size = this.plan.scale, { nodes } = this.run, [[x, y]] = points, group = makeSvg("g", { class: "then" });
+    const told = makeSvg("title", {}, `${nodes[server].name} starts after ${nodes[client].name}`), d = wayPath(points, 7 * size);
+    group.append(told, makeSvg("path", { class: "reach", d }), makeSvg("path", { class: "way", d }), makeTip(points, size, 0.75));
+    const down = points.at(-1)[0] === x, place = down ? `translate(${x + 7 * size} ${(y + points.at(-1)[1]) / 2 + 4 * size})` : `translate(${x + 5} ${y - 4})`;
+    group.append(makeSvg("text", { transform: `${place} scale(${size})`, class: "soft" }, "then"));
+    return { group, client, server };
+  }
+  /** Shows a label whole where the pointer is, and the arrow before all others. */
+  point(part, whole) {
+    part.whole = whole;
+    part.group.classList.toggle("whole", whole);
+    part.label.classList.toggle("whole", whole);
+    if (whole && this.svg.lastChild !== part.label) this.svg.append(part.group, part.label);      // a browser enters anew what is moved
+    this.labelWay(part);
   }
 
   /** Shows a state; `acts` is the leaf of the event, `chosen` a node or undefined. */
@@ -95,6 +115,12 @@ class BoxView {
     const turn = this.run.events.turn[state.event];
     const told = `${counted(this.run.nodes.length, "component")} and ${counted(state.sessions.length, "open session")} at turn ${grouped(turn)}`;
     setAttributes(this.svg, { "aria-label": told });
+  }
+  /** Scrolls to a box, where the drawing is higher than its panel. */
+  show(node) {
+    const { x, y, width, height } = this.plan.boxes[node], panel = this.svg.parentElement, around = 20;
+    if (panel.scrollHeight > panel.clientHeight) panel.scrollTop = scrolledTo(panel.scrollTop, panel.clientHeight, y - around, y + height + around);
+    if (panel.scrollWidth > panel.clientWidth) panel.scrollLeft = scrolledTo(panel.scrollLeft, panel.clientWidth, x - around, x + width + around);
   }
   updateInit({ node, title, left, room }, account) {
     const { two } = this.run, free = bytes(account.quota), some = two ? `, ${caps(account.caps)}` : "";
@@ -134,16 +160,24 @@ class BoxView {
     setAttributes(part.path, { class: `way ${kind}${mine}`, style: told ? `stroke:${part.colour}` : "" });
     setAttributes(part.tip, { class: `tip${mine}`, display: told ? "inline" : "none" });
     setText(part.title, told ? `${part.name}\n${sessions.map(s => sessionTold(this.run, s)).join("\n")}` : `${part.name}, not open`);
-    if (!part.above) return;
-    const room = this.plan.strip / this.plan.scale - 10, service = `${sessions.length > 1 ? `${sessions.length} × ` : ""}${part.way.service}`;
-    const request = told?.request ? `${told.request} ${STAGES[told.stage]}` : "", level = `${service} L${told?.level}`;
-    const texts = request ? [`${level} ${request}`, `${service} ${request}`, request] : [level, service];
-    setText(part.above, told ? firstFit(texts, room, request ? BOLD_FONT : TEXT_FONT) : "");
-    setAttributes(part.above, { class: request ? "asked" : "" });
+    setText(part.label.firstChild, part.title.textContent);
+    setAttributes(part.label, { class: `label${told ? "" : " closed"}${mine}${part.whole ? " whole" : ""}` });
+    Object.assign(part, { sessions, told });
+    this.labelWay(part);
+  }
+  /** The label of a way: as long as there is room for, or whole. */
+  labelWay({ way, whole, above, below, sessions, told }) {
+    const room = whole ? Infinity : way.room / this.plan.scale, asked = told?.stage > IDLE;
+    setText(above, firstFit(labelsOf(way.service, sessions.length, told), room, asked ? BOLD_FONT : TEXT_FONT));
+    setAttributes(above, { class: asked ? "asked" : "" });
+    if (!below) return;
     const sum = { lends: sessions.reduce((total, s) => total + s.lends, 0), caps: sessions.reduce((total, s) => total + s.caps, 0) };
-    setText(part.below, told ? fit(lent(this.run, sum), room) : "");
+    setText(below, told ? firstFit([`lends ${lent(this.run, sum)}`, lent(this.run, sum)], room) : "");
   }
 }
+
+/** Where a panel that shows so much from a place has to begin, so that it shows what is from one place to another. */
+const scrolledTo = (at, shown, from, to) => from < at ? from : to > at + shown ? to - shown : at;
 
 /** Whether a part has something else to show than it shows, by a key of what it shows. */
 function isNew(part, key) {
@@ -152,14 +186,21 @@ function isNew(part, key) {
   return differs;
 }
 
-/** The path of a way: straight where it stays at its height, else in a bend. */
-function wayPath(points) {
-  let path = `M${points[0][0]} ${points[0][1]}`;
-  for (let i = 1; i < points.length; i++) {
-    const [x, y] = points[i - 1], [toX, toY] = points[i], bend = Math.max(12, (toX - x) / 2);
-    path += y === toY ? `L${toX} ${toY}` : `C${x + bend} ${y} ${toX - bend} ${toY} ${toX} ${toY}`;
+/** The path of a way, its corners round. */
+function wayPath(points, radius) {
+  let path = `M${points[0]}`;
+  for (let i = 1; i + 1 < points.length; i++) {
+    const [before, corner, after] = points.slice(i - 1, i + 2), far = other => Math.hypot(other[0] - corner[0], other[1] - corner[1]) || 1;
+    const toward = other => corner.map((value, k) => value + (other[k] - value) * Math.min(0.5, radius / far(other)));
+    path += `L${toward(before)}Q${corner} ${toward(after)}`;
   }
-  return path;
+  return `${path}L${points.at(-1)}`;
+}
+/** The head of an arrow that ends as the points do. */
+function makeTip(points, scale, part = 1) {
+  const [[fromX, fromY], [x, y]] = points.slice(-2), length = Math.hypot(x - fromX, y - fromY) || 1, size = 8 * scale * part;
+  const [dx, dy] = [(x - fromX) / length * size, (y - fromY) / length * size];
+  return makeSvg("path", { class: "tip", d: `M${x} ${y}L${x - dx - dy / 2} ${y - dy + dx / 2}L${x - dx + dy / 2} ${y - dy - dx / 2}Z` });
 }
 
 /** All that the trace tells of a session. */

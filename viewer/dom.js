@@ -48,13 +48,10 @@ function widthOf(text, font = TEXT_FONT) {
   }
   return widths.get(key);
 }
-/** The text, cut where it is wider than so many pixels. */
-function fit(text, width, font = TEXT_FONT) {
-  if (widthOf(text, font) <= width) return text;
-  let length = text.length;
-  while (length > 0 && widthOf(text.slice(0, length) + "…", font) > width) length--;
-  return length > 0 ? text.slice(0, length) + "…" : "";
-}
+/** The text, shortened where it is wider than so many pixels. */
+const fit = (text, width, font) => shortened(text, width, part => widthOf(part, font));
+/** The first of several texts that is not wider than so many pixels; the last one is shortened. */
+const firstFit = (texts, width, font) => firstOf(texts, width, text => widthOf(text, font));
 
 // A shape for each phase, in a square of 10, so that no phase is told by its colour alone.
 const GLYPHS = {
@@ -72,7 +69,5 @@ function glyph(phase) {
   return makeSvg("svg", { viewBox: "-.5 -.5 11 11", "aria-hidden": "true" }, path);
 }
 
-/** The colour of a server: that of its place among those that provide a service, again from the first after the last. */
-const serverColour = (run, server) => `--server${Math.max(0, run.servers.indexOf(server)) % 7}`;
-/** The first of several texts that is not wider than so many pixels; the last one is cut. */
-const firstFit = (texts, width, font) => texts.find(text => widthOf(text, font) <= width) ?? fit(texts.at(-1), width, font);
+/** The colour of a server as a style's value. */
+const serverColour = (run, server) => colourValue(run.colours.get(server) ?? 0);

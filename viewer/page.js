@@ -2,7 +2,7 @@
 // The page: one cursor over the events of a run, moved by keys, buttons, slider and clicks; whatever it moves to is shown by all parts.
 
 const FAR = 20;
-const page = { run: undefined, cursor: 0, axis: "event", kind: "bytes", view: [0, 1], chosen: undefined, asked: 0, noted: 0 };
+const page = { run: undefined, cursor: 0, axis: "event", kind: "bytes", view: [0, 1], chosen: undefined, asked: 0, noted: 0, sized: 0 };
 
 function drawEvent(changes, moved) {
   const { run, cursor } = page;
@@ -23,11 +23,16 @@ function draw() {
   page.table.update(state, changes, acts, chosen);
   showLines(run, cursor);
   showSessions(run, state, moved, chosen);
-  if (chosen !== undefined) page.plot.show(chosen);
-  else if (acts !== NOBODY) page.plot.show(acts);
+  const seen = chosen ?? acts;
+  if (seen !== NOBODY) for (const part of [page.plot, page.boxes]) part.show(seen);
   page.plot.moveCursor(cursor);
   clearTimeout(page.noted);
-  page.noted = setTimeout(() => history.replaceState(null, "", `#event=${cursor}`), 400);   // a browser refuses too many of these
+  page.noted = setTimeout(noteEvent, 300);          // a browser refuses too many of these
+}
+/** Puts the event at the cursor into the address. */
+function noteEvent() {
+  const fragment = fragmentOf(page.cursor);
+  if (page.run && location.hash !== fragment) history.replaceState(null, "", fragment);
 }
 const drawPlot = () => page.plot.draw(page.axis, page.view, page.kind, page.cursor);
 
@@ -60,10 +65,18 @@ function chooseBeside(way) {
   page.chosen = Math.max(0, Math.min(count - 1, from + way));
   drawSoon();
 }
+/** The chosen component or, where none is, the one whose event is at the cursor. */
+function meant() {
+  const { run, cursor, chosen } = page, leaf = run.events.leaf[cursor];
+  return chosen ?? (leaf === NOBODY ? undefined : leaf);
+}
 function goOfChosen(way) {
-  const { run, cursor, chosen } = page, leaf = run.events.leaf[cursor], node = chosen ?? (leaf === NOBODY ? undefined : leaf);
-  const event = node === undefined ? undefined : nextOf(run, node, cursor, way);
+  const node = meant(), event = node === undefined ? undefined : nextOf(page.run, node, page.cursor, way);
   if (event !== undefined) go(event);
+}
+function goToPeak() {
+  const node = meant();
+  if (node !== undefined) go(peakOf(page.run, node, page.kind));
 }
 function setTheme(dark) {
   document.documentElement.classList.toggle("dark", dark);
@@ -90,12 +103,13 @@ const ACTIONS = {
   none: () => choose(page.chosen),
   previous: () => goOfChosen(-1),
   next: () => goOfChosen(1),
+  most: goToPeak,
   theme: () => setTheme(!document.documentElement.classList.contains("dark")),
   help: toggleHelp,
 };
 const KEYS = {
   Home: "first", ArrowLeft: "back", ArrowRight: "on", End: "last", PageUp: "farBack", PageDown: "farOn", "+": "closer", "=": "closer", "-": "wider", 0: "whole",
-  ArrowUp: "up", ArrowDown: "down", Escape: "none", p: "previous", n: "next", t: "theme", "?": "help",
+  ArrowUp: "up", ArrowDown: "down", Escape: "none", p: "previous", n: "next", m: "most", t: "theme", "?": "help",
 };
 /** Keys that a list which scrolls keeps for itself while it has the focus. */
 const SCROLL_KEYS = new Set(["ArrowUp", "ArrowDown", "PageUp", "PageDown"]);
@@ -114,27 +128,38 @@ function makeLegend() {
     make("span", {}, "sessions in the server's colour; dashed: waits, thick: at hand"));
 }
 
+/** Shares of the window's height that the time line may have: the first one, unless boxes show too little beside it. */
+const TIME_SHARES = [0.45, 0.38, 0.3];
+const MARGIN = 6;
+
+/** Divides the window between the boxes and the time line, and answers the layout of the boxes. */
+function divide(run) {
+  const room = byId("boxes"), time = byId("time"), frames = TIME_SHARES.map(share => {
+    time.style.maxHeight = `${100 * share}vh`;
+    return { width: Math.max(200, room.clientWidth - 2 * MARGIN), height: Math.max(100, room.clientHeight - 2 * MARGIN) };
+  });
+  const plan = layoutIn(run.nodes, frames);
+  time.style.maxHeight = `${100 * TIME_SHARES[plan.choice]}vh`;
+  return plan;
+}
+
 /** Makes all that depends on the size of the window. */
 function resize() {
   const { run } = page;
   page.plot = undefined;
+  byId("boxes").replaceChildren();
   const rows = rowPlaces(run, ROW), height = rows.at(-1).y + rows.at(-1).height + 6;
   byId("time").style.height = `${height}px`;
   page.table = new AccountTable(run, rows, choose);
   byId("accounts").replaceWith(page.table.element);
+  page.boxes = new BoxView(run, divide(run), choose);
+  page.boxes.svg.style.margin = `${MARGIN}px`;
+  byId("boxes").replaceChildren(page.boxes.svg);
   page.plot = new Plot(run, byId("time"), page.table);
-  const room = byId("boxes"), frame = { width: Math.max(200, room.clientWidth - 12), height: Math.max(100, room.clientHeight - 12) };
-  page.boxes = new BoxView(run, frame, choose);
-  page.boxes.svg.style.margin = "6px";
-  room.replaceChildren(page.boxes.svg);
   drawPlot();
   draw();
 }
 
-function fromHash() {
-  const event = new URLSearchParams(location.hash.slice(1)).get("event") ?? page.run.last;
-  page.cursor = Math.max(0, Math.min(page.run.last, Math.floor(Number(event)) || 0));
-}
 
 function start(title, tree, trace) {
   const run = page.run = readTrace(trace, readTree(tree));
@@ -148,7 +173,7 @@ function start(title, tree, trace) {
   page.chosen = undefined;
   page.view = wholeWindow(run, page.axis);
   makeLegend();
-  fromHash();
+  page.cursor = eventIn(location.hash, run.last);
   resize();
 }
 /** Says something in place of a run. */
@@ -185,8 +210,11 @@ function listen() {
   canvas.addEventListener("mousemove", event => setTitle(canvas, page.plot.told(event.offsetX, event.offsetY)));
   byId("time").addEventListener("scroll", () => page.plot && drawPlot());
   addEventListener("keydown", onKey);
-  addEventListener("resize", () => page.run && resize());
-  addEventListener("hashchange", () => { if (page.run) { fromHash(); go(page.cursor); } });
+  addEventListener("resize", () => {
+    cancelAnimationFrame(page.sized);
+    page.sized = requestAnimationFrame(() => page.run && resize());
+  });
+  addEventListener("hashchange", () => { if (page.run) go(eventIn(location.hash, page.run.last)); });
   const dark = matchMedia("(prefers-color-scheme: dark)");
   dark.addEventListener("change", () => setTheme(dark.matches));
   setTheme(dark.matches);

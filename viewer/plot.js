@@ -30,7 +30,10 @@ class Plot {
     setAttributes(canvas, { "aria-label": `${what} of ${counted(run.nodes.length, "account")}, and their sessions, over ${counted(run.turns, "turn")}` });
     this.moveCursor(cursor);
   }
-  colour(name) {
+  /** A colour that a canvas knows, of a name in page.css (`--line` or `var(--line)`) or of a plain colour. */
+  colour(value) {
+    const [, name] = /^(?:var\()?(--\w+)\)?$/.exec(value) ?? [];
+    if (name === undefined) return value;
     if (!this.colours.has(name)) this.colours.set(name, getComputedStyle(document.documentElement).getPropertyValue(name));
     return this.colours.get(name);
   }
@@ -83,7 +86,8 @@ class Plot {
   moveCursor(event) {
     const half = this.axis === "event" ? 0.5 : 0, x = this.xOf(positionOf(this.run, this.axis, event) + half, this.view);
     // (the head has the numbers of turns, over which nothing is drawn but the tip of the cursor)
-    Object.assign(this.line.style, { left: `${x - 1}px`, top: `${ROW.top - 6}px`, height: `${this.seen - ROW.top + 6}px`, display: x < 0 || x > this.width ? "none" : "" });
+    const display = x < 0 || x > this.width ? "none" : "";
+    Object.assign(this.line.style, { left: `${x - 1}px`, top: `${ROW.top - 6}px`, height: `${this.seen - ROW.top + 6}px`, display });
   }
   /** The event under a place of the pointer. */
   eventUnder(x) { return eventAt(this.run, this.axis, this.view[0] + x / this.width * (this.view[1] - this.view[0])); }

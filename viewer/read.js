@@ -162,6 +162,13 @@ function nodeOf(line) {
   return m ? { leaf: false, name: m[1], quantum: +m[2], left: +m[3], caps: optional(m[4]), capsLeft: optional(m[5]) } : undefined;
 }
 
+/** Whether a route can lead from a leaf to a node: to another leaf beside it, or beside an init around it. */
+function isRouted(client, server) {
+  let around = client.parent;
+  while (server && around && around !== server.parent) around = around.parent;
+  return server !== undefined && server.leaf && server !== client && around !== undefined;
+}
+
 /** The text of `trade tree`: the nodes in preorder, each with its number, label, depth, parent, children and the services that it opens. */
 function readTree(text) {
   const scanner = new Scanner("tree", bytesOf(text)), nodes = [], above = [], opened = [];
@@ -169,7 +176,7 @@ function readTree(text) {
     const indented = scanner.rest(), line = indented.trimStart(), depth = (indented.length - line.length) / 2, opens = OPENS.exec(line);
     if (opens && nodes.length && nodes.at(-1).leaf && depth === nodes.at(-1).depth + 1) {
       nodes.at(-1).opens.push({ service: opens[1], label: opens[2] });
-      opened.push([scanner.end, nodes.at(-1).opens.at(-1)]);
+      opened.push([scanner.end, nodes.at(-1), nodes.at(-1).opens.at(-1)]);
       continue;
     }
     const node = nodeOf(line), parent = above[depth - 1];
@@ -183,9 +190,9 @@ function readTree(text) {
   if (!nodes.length) throw new Malformed("tree: the text is empty");
   const byLabel = new Map(nodes.map(n => [n.label, n.number]));
   if (byLabel.size < nodes.length || nodes.length >= NOBODY) throw new Malformed("tree: a name stands twice");
-  for (const [end, opens] of opened) {
+  for (const [end, client, opens] of opened) {
     opens.server = byLabel.get(opens.label);
-    if (opens.server === undefined) { scanner.end = end; scanner.refuse(); }
+    if (!isRouted(client, nodes[opens.server])) { scanner.end = end; scanner.refuse(); }
   }
   return nodes;
 }
@@ -352,7 +359,7 @@ function index(run) {
     const rows = run.accountRows.of(node.number), most = column => rows.reduce((top, row) => Math.max(top, column[row]), 1);
     return { quota: most(accounts.quota), caps: most(accounts.caps) };
   });
-  run.servers = nodes.filter(n => n.provides !== undefined).map(n => n.number);
+  run.colours = coloursOf(nodes);
   return run;
 }
 

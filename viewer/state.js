@@ -81,6 +81,23 @@ function nextOf(run, node, event, way) {
   return row === undefined ? undefined : run.accounts.event[row];
 }
 
+/**
+ * The first event at which a node holds most, of "bytes" or of "caps": a leaf of what it uses, an init of what it has not handed out.
+ */
+function peakOf(run, node, kind) {
+  const rows = run.accountRows.of(node), { leaf } = run.nodes[node], column = run.accounts[kind === "caps" ? leaf ? "taken" : "caps" : leaf ? "used" : "quota"];
+  let best = rows[0];
+  for (const row of rows) if (column[row] > column[best]) best = row;
+  return run.accounts.event[best];
+}
+
+/** The event of an address's fragment, the start where it has none; one that is out of range becomes the nearest that there is. */
+function eventIn(fragment, last) {
+  const event = Number(new URLSearchParams(fragment.replace(/^#/, "")).get("event"));
+  return Number.isNaN(event) ? 0 : Math.max(0, Math.min(last, Math.floor(event)));
+}
+const fragmentOf = event => `#event=${event}`;
+
 const grouped = number => number.toLocaleString("en");
 const counted = (number, unit) => `${grouped(number)} ${unit}${number === 1 ? "" : "s"}`;
 /** Bytes in the largest unit that suits; a decimal point says that the number is rounded. */

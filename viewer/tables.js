@@ -22,7 +22,7 @@ class AccountTable {
   }
   makeRow({ node, height }, choose) {
     const { name, label, depth, provides } = this.run.nodes[node], cells = this.columns.slice(1).map(() => make("td"));
-    const colour = provides === undefined ? "" : `border-left-color:var(${serverColour(this.run, node)});`;
+    const colour = provides === undefined ? "" : `border-left-color:${serverColour(this.run, node)};`;
     const head = make("th", { scope: "row", title: label, style: `${colour}padding-left:${4 + 9 * depth}px` }, name);
     const element = make("tr", { style: `height:${height}px` }, head, ...cells);
     element.addEventListener("click", () => choose(node));
@@ -86,6 +86,6 @@ function sessionCard(run, session, changed) {
   const head = make("div", {}, make("b", {}, `${number} ${service}`), ` level ${level}`, request);
   const ends = make("div", {}, `${name(client)} → ${name(server)} `, make("span", { class: "soft" }, `lends ${lent(run, session)}`));
   const title = `${run.nodes[client].label}\nwith ${run.nodes[server].label}\n${sessionTold(run, session)}`;
-  const colour = `border-left-color:var(${serverColour(run, server)})`;
+  const colour = `border-left-color:${serverColour(run, server)}`;
   return make("div", { class: `card ${changed ? "now" : ""}`, style: colour, title }, head, ends);
 }

@@ -9,8 +9,9 @@ import { tmpdir } from "node:os";
 import { join } from "node:path";
 import test from "node:test";
 import { gunzipSync } from "node:zlib";
-import { generate } from "./tests/generate.mjs";
+import { generate, nestedTree } from "./tests/generate.mjs";
 import { page as v, viewer } from "./tests/load.mjs";
+import { checkApart, checkBoxes, checkLabels, checkRoutes, checkThen, framesOf, WINDOWS } from "./tests/routes.mjs";
 
 const text = path => readFileSync(path, "utf8");
 
@@ -156,6 +157,24 @@ for (const { name, tree, trace } of pairs) {
     for (const [width, height] of [[1064, 340], [1064, 560], [1400, 900], [300, 200]]) checkLayout(nodes, { width, height });
   });
 
+  test(`${name}: at each size of the window no arrow runs behind a box or on another one, and each has its label`, () => {
+    for (const window of Object.keys(WINDOWS)) checkRoutes(nodes, window);
+  });
+
+  test(`${name}: servers whose sessions one client holds have different colours`, () => {
+    for (const { opens } of nodes) {
+      const servers = new Set(opens.map(o => o.server));
+      assert.equal(new Set([...servers].map(server => run.colours.get(server))).size, servers.size);
+    }
+  });
+
+  test(`${name}: the peak of a component is the first event at which it holds most`, () => {
+    for (const { number, leaf } of nodes) for (const [kind, field] of [["bytes", leaf ? "used" : "quota"], ["caps", leaf ? "taken" : "caps"]]) {
+      const held = Array.from({ length: run.last + 1 }, (_, k) => v.accountAt(run, number, k)[field]), peak = v.peakOf(run, number, kind);
+      assert.equal(peak, held.indexOf(held.reduce((most, value) => Math.max(most, value))));
+    }
+  });
+
   test(`${name}: each column of the time line has the least and the greatest of its events`, () => {
     for (const axis of ["event", "turn"]) for (const count of [3, 50, 700]) {
       const [low, high] = v.wholeWindow(run, axis), view = count === 50 ? v.windowAround(run, axis, high / 3, (high - low) / 4) : [low, high];
@@ -197,6 +216,156 @@ test("a tree as large as any: 64 leaves, inits four deep, names of sixteen bytes
   checkLayout(v.readTree(flat.join("\n")), { width: 1064, height: 340 });
 });
 
+test("larger systems of the generator: at each size of the window no arrow runs behind a box or on another one", () => {
+  for (const [leaves, seed] of [[15, 1], [15, 2], [24, 3], [24, 4], [40, 5], [40, 6], [64, 7], [64, 8]]) {
+    const nodes = v.readTree(generate({ leaves, seed, turns: 10 }).tree);
+    for (const window of Object.keys(WINDOWS)) checkRoutes(nodes, window);
+  }
+});
+
+test("random systems, inits three deep: at each size of the window no arrow runs behind a box or on another one", () => {
+  for (let seed = 1; seed <= 60; seed++) for (const window of Object.keys(WINDOWS)) checkRoutes(v.readTree(nestedTree(seed)), window);
+});
+
+const logServer = v.readTree(text(join(viewer, "tests", "log_server.tree")));
+test("fifteen leaves, eleven of which use one server: each arrow is a line of its own, and nothing scrolls", () => {
+  const log = logServer.find(n => n.provides === "log").number;
+  assert.equal(logServer.filter(n => n.leaf).length, 15);
+  assert.equal(logServer.filter(n => n.opens.some(o => o.server === log)).length, 11);
+  for (const window of Object.keys(WINDOWS)) {
+    const plan = checkRoutes(logServer, window), frames = framesOf(window);
+    assert.deepEqual([plan.bundled, plan.frame], [false, frames[plan.choice]]);
+    const ends = plan.ways.filter(w => w.server === log).map(w => w.points.at(-1)[1]).sort((a, b) => a - b);
+    ends.slice(1).forEach((y, i) => assert.ok(y - ends[i] > 3, "eleven heads of arrows stand apart"));
+  }
+});
+
+test("the checks of arrows find what is wrong", () => {
+  const window = "1280 by 720", fresh = () => structuredClone(v.layoutIn(logServer, framesOf(window))), [first] = fresh().ways;
+  const fails = (check, change) => {
+    const plan = fresh();
+    change(plan);
+    assert.throws(() => check(plan), assert.AssertionError);
+  };
+  const boxes = plan => checkBoxes(logServer, plan), [level, stats] = ["player", "stats"].map(name => logServer.find(n => n.name === name).number);
+  fails(boxes, ({ ways }) => { ways[0].points = [first.points[0], first.points.at(-1)]; });
+  fails(boxes, ({ ways, boxes: all }) => {
+    const way = ways.find(w => w.client === level), { x, y } = all[stats];
+    way.points = [way.points[0], [x + 1, way.points[0][1]], [x + 1, y + 300], way.points.at(-1)];
+  });
+  fails(boxes, ({ boxes: all, ways }) => { [all[stats].x, all[stats].y] = [ways[3].points[1][0] - 9, ways[3].points[1][1] - 9]; });
+  fails(checkApart, ({ ways }) => { ways[1].points = ways[2].points; });
+  fails(plan => checkLabels(logServer, plan), ({ ways }) => { ways[2].room = 900; });
+  fails(plan => checkLabels(logServer, plan), ({ ways }) => { ways[3].points[0] = ways[2].points[0]; });
+  fails(plan => checkThen(logServer, plan), plan => { plan.then = []; });
+});
+
+test("a leaf that provides a service and starts after another has its arrow among the ways", () => {
+  const tree = ["init quantum 81920 left 0", "  a quantum 4096 own 0 steps 1", "    opens late of init -> b",
+    "  b quantum 4096 provides late after a own 0 steps 1", "  c quantum 4096 after a own 0 steps 1",
+    "  d quantum 4096 after c own 0 steps 1", "  e quantum 4096 own 0 steps 1", "    opens late of init -> b"];
+  const nodes = v.readTree(tree.join("\n"));
+  for (const window of Object.keys(WINDOWS)) {
+    const { then, boxes } = checkRoutes(nodes, window);
+    for (const { client, server } of then.filter(t => t.server !== 2)) assert.ok(boxes[client].x === boxes[server].x && boxes[client].y < boxes[server].y);
+  }
+});
+
+test("a way goes round where what it opens is no column further right", () => {
+  const tree = ["init quantum 81920 left 0", "  a quantum 4096 provides x own 0 steps 1", "    opens y of init -> b",
+    "  b quantum 4096 provides y own 0 steps 1", "    opens x of init -> a", "  c quantum 4096 own 0 steps 1", "    opens x of init -> a"];
+  for (const window of Object.keys(WINDOWS)) checkRoutes(v.readTree(tree.join("\n")), window);
+});
+
+/** Red, green and blue of `#rrggbb` or of `hsl(h s% l%)`. */
+function rgbOf(colour) {
+  const hex = /^#(..)(..)(..)$/.exec(colour);
+  if (hex) return hex.slice(1).map(digits => parseInt(digits, 16) / 255);
+  const [h, s, l] = /^hsl\(([\d.]+) ([\d.]+)% ([\d.]+)%\)$/.exec(colour).slice(1).map(Number);
+  return [0, 8, 4].map(n => {
+    const k = (n + h / 30) % 12;
+    return l / 100 - s / 100 * Math.min(l / 100, 1 - l / 100) * Math.max(-1, Math.min(k - 3, 9 - k, 1));
+  });
+}
+/** How far two colours look apart, by OKLab: 0 for the same, 1 for black and white. */
+function apart(one, other) {
+  const lab = colour => {
+    const [r, g, b] = rgbOf(colour).map(c => c <= 0.04045 ? c / 12.92 : ((c + 0.055) / 1.055) ** 2.4);
+    const [l, m, s] = [[0.4122, 0.5363, 0.0514], [0.2119, 0.6807, 0.1074], [0.0883, 0.2817, 0.63]].map(([x, y, z]) => Math.cbrt(x * r + y * g + z * b));
+    return [0.2105 * l + 0.7936 * m - 0.0041 * s, 1.978 * l - 2.4286 * m + 0.4506 * s, 0.0259 * l + 0.7828 * m - 0.8087 * s];
+  };
+  const [a, b] = [lab(one), lab(other)];
+  return Math.hypot(...a.map((value, i) => value - b[i]));
+}
+/** The colours of page.css by their names, for one theme. */
+function themeOf(selector) {
+  const css = text(join(viewer, "page.css")), block = css.slice(css.indexOf(`${selector} {`)).split("}")[0];
+  return Object.fromEntries([...block.matchAll(/--(\w+): (#\w{6})/g)].map(m => [m[1], m[2]]));
+}
+
+test("no server has the colour of a phase or of another server, in either theme", () => {
+  const light = themeOf(":root"), phases = ["running", "blocked", "serving", "handling", "pending", "exited"];
+  for (const theme of [light, { ...light, ...themeOf(":root.dark") }]) {
+    const servers = Object.keys(theme).filter(name => /^server\d$/.test(name));
+    assert.equal(servers.length, 8);
+    for (const [i, server] of servers.entries()) {
+      assert.equal(v.colourValue(i), `var(--${server})`);
+      for (const other of [...phases, ...servers.slice(0, i)]) assert.ok(apart(theme[server], theme[other]) > 0.12, `${server} and ${other}`);
+    }
+    const further = Array.from({ length: 55 }, (_, i) => v.colourValue(8 + i));
+    assert.equal(new Set(further).size, 55);
+    for (const colour of further) for (const phase of phases) assert.ok(apart(colour, theme[phase]) > 0.05, `${colour} and ${phase}`);
+  }
+});
+
+test("a client of all servers that there can be: each has a colour of its own", () => {
+  const lines = ["init quantum 4096 left 0"];
+  for (let i = 0; i < 63; i++) lines.push(`  s${i} quantum 0 provides p${i} own 0 steps 1`);
+  lines.push("  all quantum 4096 own 0 steps 1", ...Array.from({ length: 63 }, (_, i) => `    opens p${i} of init -> s${i}`));
+  const nodes = v.readTree(lines.join("\n")), colours = v.coloursOf(nodes);
+  assert.equal(new Set(colours.values()).size, 63);
+  const apartOnly = v.coloursOf(v.readTree(lines.slice(0, 17).join("\n"))), shares = [...apartOnly.values()];
+  assert.deepEqual([0, 7].map(colour => shares.filter(c => c === colour).length), [2, 2], "servers without a common client share the eight colours evenly");
+});
+
+test("labels are as long as there is room for", () => {
+  const measure = label => 6 * label.length, told = (level, stage, request) => ({ level, stage: v.STAGES.indexOf(stage), request });
+  assert.equal(v.shortened("file_system", 66, measure), "file_system");
+  assert.equal(v.shortened("file_system", 65, measure), "file_syst…");
+  assert.equal(v.shortened("file_system", 12, measure), "f…");
+  assert.equal(v.shortened("file_system", 11, measure), "");
+  assert.deepEqual(v.labelsOf("log", 0, undefined), ["log"]);
+  assert.deepEqual(v.labelsOf("log", 1, told(2, "idle", "")), ["log L2", "log", "log"]);
+  const long = ["3 × log L0 call 0 at hand", "3 × log call 0 at hand", "3 × log call 0", "3 × log", "log"];
+  assert.deepEqual(v.labelsOf("log", 3, told(0, "at hand", "call 0")), long);
+  for (let room = 6; room < 200; room++) {
+    const texts = v.labelsOf("database", 2, told(1, "waits", "up 1")), shown = v.firstOf(texts, room, measure);
+    assert.ok(measure(shown) <= room);
+    const fits = texts.find(label => measure(label) <= room);
+    assert.ok(fits === undefined ? "database".startsWith(shown.replace("…", "")) : shown === fits);
+  }
+});
+
+test("the address has the event at the cursor", () => {
+  for (const event of [0, 1, 77, 280]) assert.equal(v.eventIn(v.fragmentOf(event), 280), event);
+  const cases = [["", 0], ["#", 0], ["#event=", 0], ["#event=x", 0], ["#event=-3", 0], ["#event=7.9", 7], ["#event=281", 280], ["#event=1e99", 280],
+    ["#other=5", 0], ["#other=5&event=6", 6], ["#event=NaN", 0], ["#event=Infinity", 280]];
+  for (const [fragment, event] of cases) assert.equal(v.eventIn(fragment, 280), event, fragment);
+});
+
+test("the help has all keys and the address", () => {
+  const html = text(join(viewer, "page.html")), script = text(join(viewer, "page.js")), help = html.slice(html.indexOf('<dialog id="help">'));
+  const shown = { ArrowLeft: "←", ArrowRight: "→", ArrowUp: "↑", ArrowDown: "↓", PageUp: "Page up", PageDown: "Page down" };
+  const [, keys] = /const KEYS = \{([^}]*)\}/.exec(script);
+  for (const [, quoted, plain] of keys.matchAll(/(?:"([^"]+)"|(\w+)): "/g)) {
+    const key = quoted ?? plain, name = { ...shown, "-": "−", "=": "+" }[key] ?? key;
+    assert.ok(key === "?" || help.includes(name), key);
+  }
+  for (const button of [...html.matchAll(/data-do="(\w+)"/g)]) assert.match(script, new RegExp(`\\b${button[1]}[:,]`));
+  assert.match(help, /#event=N/);
+  assert.match(html, /data-do="most"/);
+});
+
 test("names that are words of the formats, carriage returns, lines that look like others", () => {
   const tree = ["init quantum 12288 left 4096", "  opens quantum 4096 own 0 steps 2", "    opens quantum of init -> main",
     "  main quantum 0 provides quantum own 0 steps 9", "  up quantum 4096 after opens own 0 steps 1"];
@@ -220,7 +389,8 @@ test("texts that are none are refused with their line", () => {
   const refuses = (read, message) => assert.throws(read, fault => fault instanceof v.Malformed && message.test(fault.message), String(message));
   const trees = [
     ["", /empty/], ["trade: S5 NameTwice a\n", /tree, line 1: trade: S5/], [`${tree}      b quantum 1 own 0 steps 1\n`, /line 3/],
-    [`${tree}  a quantum 0 own 0 steps 1\n`, /twice/], [`${tree}    opens x of init -> b\n`, /line 3/], [`${tree}init quantum 1 left 1\n`, /line 3/],
+    [`${tree}  a quantum 0 own 0 steps 1\n`, /twice/], [`${tree}    opens x of init -> b\n`, /line 3/],
+    [`${tree}    opens x of init -> a\n`, /line 3/], [`${tree}    opens x of init\n`, /line 3/], [`${tree}init quantum 1 left 1\n`, /line 3/],
   ];
   for (const [bad, message] of trees) refuses(() => v.readTree(bad), message);
   const traces = [
@@ -282,7 +452,8 @@ test("view: one file without links; no text ends its element, and each comes bac
 
 test("view: the page's scripts are those that are tested here, in their order", () => {
   const scripts = [...text(join(viewer, "page.html")).matchAll(/<script src="([\w.]+)">/g)].map(m => m[1]);
-  assert.deepEqual(scripts, ["read.js", "state.js", "timeline.js", "layout.js", "dom.js", "boxes.js", "tables.js", "plot.js", "page.js"]);
+  const names = ["read", "state", "timeline", "marks", "ways", "layout", "dom", "boxes", "tables", "plot", "page"];
+  assert.deepEqual(scripts, names.map(name => `${name}.js`));
   for (const name of scripts) assert.doesNotMatch(text(join(viewer, name)), /innerHTML|outerHTML|insertAdjacentHTML|document\.write|eval\(|<\/script/);
 });
 

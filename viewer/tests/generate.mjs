@@ -213,6 +213,31 @@ export function generate({ leaves = 64, turns = 10000, seed = 7, rounds = 100000
   return { tree, trace: simulation.end() };
 }
 
+/** The tree text of a random system: inits up to three deep, servers anywhere, leaves that start one after the other; it has no run. */
+export function nestedTree(seed) {
+  const chance = dice(seed), lines = ["init quantum 4096 left 0"], words = ["log", "file_system", "a", "framebuffer"];
+  let number = 0;
+  const fill = (depth, label, reached) => {
+    const indent = "  ".repeat(depth), servers = [...reached], count = 1 + chance(depth === 1 ? 7 : 4);
+    let before;
+    for (let i = 0; i < count && number < 60; i++) {
+      const name = `n${++number}${"x".repeat(chance(4))}`, after = before && chance(3) === 0 ? ` after ${before}` : "", provides = chance(3) === 0;
+      const service = `${words[chance(4)]}${number}`;
+      lines.push(`${indent}${name} quantum 4096${provides ? ` provides ${service}` : ""}${after} own 0 steps 1`);
+      for (const one of servers.filter(() => chance(servers.length) < 3)) lines.push(`${indent}  opens ${one.service} of ${one.label}`);
+      if (provides) servers.push({ service, label: `${label} -> ${name}` });
+      before = after && provides ? undefined : name;
+    }
+    for (let i = chance(3); i > 0 && depth < 4; i--) {
+      const name = `i${++number}`;
+      lines.push(`${indent}${name} quantum 4096 left 0`);
+      fill(depth + 1, `${label} -> ${name}`, servers);
+    }
+  };
+  fill(1, "init", []);
+  return lines.join("\n");
+}
+
 if (process.argv[1] === fileURLToPath(import.meta.url)) {
   const [leaves, turns, folder, all] = process.argv.slice(2), texts = generate({ leaves: Number(leaves), turns: Number(turns), all: all === "all" });
   mkdirSync(folder, { recursive: true });

@@ -10,6 +10,7 @@ ghost use Rattle.gq_faults.specs.Found_lines.{lines_found};
 
 use crate::found::{BadAfter, Detail, Found, Spot, push_fault};
 use crate::leaves::way_to;
+use crate::meant::Nearest;
 use gq_load::fault::LoadFault;
 use gq_model::program::Name;
 use gq_resolve::after::is_bad_after;
@@ -37,6 +38,23 @@ fn sibling<'a>(name: &Name, component: &Component<'a>) -> Option<&'a Leaf> {
         }
     }
     None
+}
+
+// The leaves beside a component with names like this one.
+fn near_siblings(
+    alloc: Global,
+    name: &Name,
+    component: &Component<'_>,
+) -> Result<Vec<Name>, AllocError> {
+    let mut nearest = Nearest::new(alloc);
+    if let Some(level) = component.levels().first() {
+        for node in level.siblings().nodes() {
+            if let Node::Leaf(leaf) = node {
+                nearest.compare(name.as_bytes(), leaf.name().as_bytes())?;
+            }
+        }
+    }
+    Ok(nearest.names())
 }
 
 // The first of these leaves that starts after the leaf of this name.
@@ -123,7 +141,8 @@ fn cause(
 ) -> Result<Option<BadAfter>, AllocError> {
     let leaf = component.leaf();
     let Some(before) = sibling(name, component) else {
-        return Ok(Some(BadAfter::NoLeaf(name.copied())));
+        let near = near_siblings(alloc, name, component)?;
+        return Ok(Some(BadAfter::NoLeaf(name.copied(), near)));
     };
     if let Some(cause) = unfit(before, leaf) {
         return Ok(Some(cause));

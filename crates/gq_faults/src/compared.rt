@@ -4,6 +4,7 @@ ghost use Rattle.std.specs.Prelude.{◌≡◌, ◌≤◌, length};
 ghost use Rattle.gq_model.specs.texts.Code.{is_section};
 
 use crate::found::{Compared, Holder, Needed};
+use crate::pushers::Pushers;
 use crate::session::session_cost_of;
 use crate::statement::of_statement;
 use gq_caps::Kind;
@@ -24,6 +25,8 @@ struct Search {
     rule: Rule,
     goal: u64,
     number: u64,
+    /// The statements that pushed the operands that are there.
+    pushers: Pushers,
     /// What was compared there.
     found: Option<Compared>,
 }
@@ -80,11 +83,21 @@ fn in_section(alloc: Global, subject: &Subject<'_>, fault: &Fault) -> Result<Com
         rule: fault.rule,
         goal: fault.place,
         number: 0,
+        pushers: Pushers::new(alloc, fault.section)?,
         found: None,
     };
     search.body(&context, 0, &mut state, body)?;
-    match search.found {
+    let Search {
+        alloc: _,
+        rule,
+        goal: _,
+        number: _,
+        mut pushers,
+        found,
+    } = search;
+    match found {
         Some(found) => Ok(found),
+        None if rule == Rule::LeftoverOperand => pushers.left_at_end(fault.section),
         None => Ok(at_end(subject, &start, fault, &mut state)),
     }
 }
@@ -111,8 +124,7 @@ fn at_end(subject: &Subject<'_>, start: &State, fault: &Fault, state: &mut State
         },
         (Rule::LinkLeftOpen, _) => first_link(state),
         (Rule::SessionBankChanged, Section::Opening) => {
-            let wanted = Kind::Space(subject.buffer());
-            Compared::Kinds(Place::Shared(0), wanted, state.bank().kind(0))
+            Compared::Buffer(subject.buffer(), Some(state.bank().kind(0)))
         }
         (Rule::SessionBankChanged, Section::Calling(_)) => {
             shared_difference(start.bank().kinds(), state.bank().kinds())
@@ -175,6 +187,19 @@ fn joined(first: &State, second: &State) -> Compared {
 }
 
 impl Search {
+    // Whether the rule is one that the inside of a block breaks.
+    fn is_of_block(&self) -> bool {
+        matches!(self.rule, Rule::JoinDiffers | Rule::LeftoverOperand)
+    }
+
+    // Finds the operands that are left over at the start or the end of the block that is looked for, where there are some.
+    fn note_left(&mut self, is_goal: bool) -> Result<(), AllocError> {
+        if is_goal && self.found.is_none() && self.rule == Rule::LeftoverOperand {
+            self.found = self.pushers.left()?;
+        }
+        Ok(())
+    }
+
     // Walks through a list of statements, up to the one that is looked for.
     #[cycle(search)]
     fn body(
@@ -213,6 +238,7 @@ impl Search {
                     self.found = Some(found);
                 } else {
                     let _judged = context.judged(state, instruction);
+                    self.pushers.follow(self.number, instruction)?;
                 }
                 Ok(())
             }
@@ -234,17 +260,24 @@ impl Search {
         requires { length context.now.counts ≤ loops }
     {
         let is_goal = self.number == self.goal;
-        if is_goal && self.rule != Rule::JoinDiffers {
+        if is_goal && !self.is_of_block() {
             self.found = Some(Compared::Nothing);
+            return Ok(());
+        }
+        self.pushers.drop_condition();
+        self.note_left(is_goal)?;
+        if self.found.is_some() {
             return Ok(());
         }
         state.drop_operands();
         let mut second = state.without_operands();
         self.body(context, loops, state, arm)?;
+        self.note_left(is_goal)?;
         if self.found.is_some() {
             return Ok(());
         }
         self.body(context, loops, &mut second, other)?;
+        self.note_left(is_goal)?;
         if self.found.is_none() && is_goal {
             self.found = Some(joined(state, &second));
         }
@@ -264,12 +297,17 @@ impl Search {
         requires { length context.now.counts ≤ loops }
     {
         let is_goal = self.number == self.goal;
-        if loops >= GREATEST_LOOPS || (is_goal && self.rule != Rule::JoinDiffers) {
+        if loops >= GREATEST_LOOPS || (is_goal && !self.is_of_block()) {
             self.found = Some(Compared::Nothing);
+            return Ok(());
+        }
+        self.note_left(is_goal)?;
+        if self.found.is_some() {
             return Ok(());
         }
         let before = state.copy();
         self.body(&context.inside(count), loops + 1, state, body)?;
+        self.note_left(is_goal)?;
         if self.found.is_none() && is_goal {
             self.found = Some(joined(&before, state));
         }

@@ -1,9 +1,11 @@
 // The details of a fault, each on a line of its own.
 // No contract: its results are details alone. Tests show them.
 use crate::found::{
-    BadAfter, Compared, Crowd, Detail, Holder, Hop, Needed, SessionCost, TableKind, Unit, Where,
+    BadAfter, Compared, Crowd, Detail, Holder, Needed, SessionCost, TableKind, Unit,
 };
-use crate::meant::{keys_of, meant, nearness};
+use crate::meant::{Nearest, keys_of, near_keys};
+use crate::route_details::{push_hops, push_round};
+use crate::text_details::push_mistake;
 use crate::words::{Details, crowd_word, holder_word, needed_word, table_word, unit_words};
 use gq_caps::Kind;
 use gq_model::limits::GREATEST_STEPS;
@@ -28,8 +30,12 @@ pub fn push_detail(told: &mut Details, detail: &Detail<'_>) -> Result<(), AllocE
         Detail::Rule(compared) => push_compared(told, compared),
         Detail::Handed { key, handed, has } => handed_out(told, key, *handed, *has),
         Detail::After(cause) => after(told, cause),
-        Detail::Routed(hops) => routed(told, hops.as_slice()),
-        Detail::Round(way) => round(told, way.as_slice()),
+        // On which line that is, is known to `tell` alone.
+        Detail::NamedFirst(_) => Ok(()),
+        Detail::RootName => told.line("init is the name of the root"),
+        Detail::Text(mistake) => push_mistake(told, mistake),
+        Detail::Routed(hops) => push_hops(told, hops.as_slice()),
+        Detail::Round(way) => push_round(told, way.as_slice()),
         Detail::Own { own, quantum } => uses(told, *own, "quantum", *quantum),
         Detail::OwnCaps { own, caps } => uses(told, *own, "caps", *caps),
         Detail::Steps(steps) => too_many_steps(told, *steps),
@@ -97,10 +103,9 @@ fn unknown(told: &mut Details, kind: TableKind, key: &str) -> Result<(), AllocEr
     told.text(table_word(kind))?;
     if keys_of(kind).iter().any(|known| known.is(key)) {
         told.text(" in version 1")?;
-    } else if let Some(known) = meant(kind, key) {
-        told.text(": ")?;
-        told.text(known.word())?;
-        told.text("?")?;
+    } else {
+        let near = near_keys(told.alloc(), kind, key)?;
+        told.meant(near.as_slice())?;
     }
     told.end()
 }
@@ -149,14 +154,16 @@ fn declared(told: &mut Details, interfaces: &Table, text: &str) -> Result<(), Al
     if interfaces.len() > GREATEST_COUNT {
         return Ok(());
     }
+    let mut nearest = Nearest::new(told.alloc());
     for (name, _) in interfaces.iter() {
-        if nearness(text.as_bytes(), name.as_str().as_bytes()).is_some() {
-            told.quoted(name.as_str())?;
-            told.text("?")?;
-            told.end()?;
-        }
+        nearest.compare(text.as_bytes(), name.as_str().as_bytes())?;
     }
-    Ok(())
+    let near = nearest.names();
+    if near.is_empty() {
+        return Ok(());
+    }
+    told.names(near.as_slice())?;
+    told.line("?")
 }
 
 // Two keys of which only one can be there.
@@ -172,6 +179,10 @@ fn push_compared(told: &mut Details, compared: &Compared) -> Result<(), AllocErr
     match compared {
         Compared::Nothing => Ok(()),
         Compared::Operands => told.line("17 operands, and at most 16"),
+        // Where the statements stand is known to `tell` alone.
+        Compared::Left(_) => Ok(()),
+        Compared::Buffer(size, kind) => buffer(told, *size, kind.as_ref()),
+        Compared::Unknown(service, near) => unknown_service(told, service, near.as_slice()),
         Compared::Slot(place, kind, needed) => slot(told, *place, kind.as_ref(), *needed),
         Compared::Index(place, index, count, unit) => indexed(told, *place, *index, *count, *unit),
         Compared::Level(service, level, count) => upgrades(told, service, *level, *count),
@@ -184,6 +195,28 @@ fn push_compared(told: &mut Details, compared: &Compared) -> Result<(), AllocErr
         Compared::Section(section, is_missing) => sections(told, *section, *is_missing),
         Compared::Cost(cost) => too_many_steps(told, *cost),
     }
+}
+
+// The buffer that an interface asks for, and what stands in its place where that is another kind.
+fn buffer(told: &mut Details, size: u32, kind: Option<&Kind>) -> Result<(), AllocError> {
+    told.text("the interface asks for a buffer of ")?;
+    told.count(u64::from(size), "byte", "bytes")?;
+    let Some(kind) = kind else {
+        return told.line(": the session keeps it in s0 until it is closed");
+    };
+    told.text(": open has to end with space ")?;
+    told.number(u64::from(size))?;
+    told.text(" in s0, which holds ")?;
+    told.kind(kind)?;
+    told.end()
+}
+
+// A service without an interface, and the interfaces with names like it.
+fn unknown_service(told: &mut Details, service: &Name, near: &[Name]) -> Result<(), AllocError> {
+    told.name(service)?;
+    told.text(" is no interface")?;
+    told.meant(near)?;
+    told.end()
 }
 
 // What a slot holds, and what is needed there.
@@ -356,7 +389,7 @@ fn sections(told: &mut Details, section: Section, is_missing: bool) -> Result<()
 // Why a leaf may not start after the one that it names.
 fn after(told: &mut Details, cause: &BadAfter) -> Result<(), AllocError> {
     match cause {
-        BadAfter::NoLeaf(name) => no_leaf(told, name),
+        BadAfter::NoLeaf(name, near) => no_leaf(told, name, near.as_slice()),
         BadAfter::Provides(name) => provides(told, name),
         BadAfter::Taken { earlier, named } => taken(told, earlier, named),
         BadAfter::Quantum { own, named } => exceeds(told, "quantum", *own, *named),
@@ -366,9 +399,10 @@ fn after(told: &mut Details, cause: &BadAfter) -> Result<(), AllocError> {
 }
 
 // No leaf beside it has this name.
-fn no_leaf(told: &mut Details, name: &Name) -> Result<(), AllocError> {
+fn no_leaf(told: &mut Details, name: &Name, near: &[Name]) -> Result<(), AllocError> {
     told.text("no leaf beside it is named ")?;
     told.name(name)?;
+    told.meant(near)?;
     told.end()
 }
 
@@ -404,80 +438,5 @@ fn exceeds(told: &mut Details, key: &str, own: u64, named: u64) -> Result<(), Al
     told.number(own)?;
     told.text(", and the leaf before has ")?;
     told.number(named)?;
-    told.end()
-}
-
-// How a route led, an init a line.
-fn routed(told: &mut Details, hops: &[Hop]) -> Result<(), AllocError> {
-    for hop in hops {
-        match hop {
-            Hop::NoEntry(0) => told.text("there is no route")?,
-            Hop::NoEntry(count) => no_entry(told, *count)?,
-            Hop::BeyondRoot => told.text("the root has no parent")?,
-            Hop::Entry(number, is_named, target) => entry(told, *number, *is_named, target)?,
-        }
-        told.end()?;
-    }
-    Ok(())
-}
-
-// None of so many routes is for a service.
-fn no_entry(told: &mut Details, count: usize) -> Result<(), AllocError> {
-    told.text("none of ")?;
-    told.count(count as u64, "route", "routes")?;
-    told.text(" is for it")
-}
-
-// The route of this number, and where it led.
-fn entry(
-    told: &mut Details,
-    number: usize,
-    is_named: bool,
-    target: &Where,
-) -> Result<(), AllocError> {
-    told.text("route ")?;
-    told.number(number as u64)?;
-    told.text(if is_named {
-        ", for this service,"
-    } else {
-        ", for any service,"
-    })?;
-    led(told, target)
-}
-
-// Where an entry led.
-fn led(told: &mut Details, target: &Where) -> Result<(), AllocError> {
-    match target {
-        Where::Parent => told.text(" leads to the parent"),
-        Where::NoChild(name) => {
-            told.text(" leads to child ")?;
-            told.name(name)?;
-            told.text(", which is not there")
-        }
-        Where::Differs(name) => {
-            told.text(" leads to child ")?;
-            told.name(name)?;
-            told.text(", which does not provide it")
-        }
-        Where::NoProvider => told.text(" leads to any child, and none provides it"),
-        Where::Providers(names) => {
-            told.text(" leads to any child, and these provide it: ")?;
-            told.names(names.as_slice())
-        }
-    }
-}
-
-// The way round from a leaf to itself.
-fn round(told: &mut Details, way: &[(Name, Name)]) -> Result<(), AllocError> {
-    for (place, (leaf, service)) in way.iter().enumerate() {
-        told.text(if place == 0 { "" } else { ", " })?;
-        told.name(leaf)?;
-        told.text(" opens ")?;
-        told.name(service)?;
-        told.text(" of ")?;
-        if let Some((server, _)) = way.get((place + 1) % way.len()) {
-            told.name(server)?;
-        }
-    }
     told.end()
 }

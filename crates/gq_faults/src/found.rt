@@ -34,8 +34,8 @@ pub enum Spot {
     Key,
     /// The value.
     Value,
-    /// A line of a text, numbered from 1.
-    Line(usize),
+    /// The word of a text that begins on this line, numbered from 1, at this byte, numbered from 0.
+    Word(usize, usize),
 }
 
 /// The tables of a document, by the keys that they have.
@@ -76,6 +76,12 @@ pub enum Detail<'d> {
     TooMany(Crowd, usize),
     /// The levels of a node below the root.
     TooDeep(usize),
+    /// The way to the name of the node that has it first.
+    NamedFirst(Vec<Step<'static>>),
+    /// A name that the root has.
+    RootName,
+    /// What is wrong on a line of a program's text.
+    Text(Mistake),
     /// What a rule for programs compared.
     Rule(Compared),
     /// What an init hands out at the start, of bytes or of capabilities, and what it has, at this key.
@@ -104,6 +110,53 @@ pub enum Detail<'d> {
     Steps(u64),
 }
 
+/// What is wrong on a line of a program's text.
+#[derive(Drop)]
+pub enum Mistake {
+    /// Nothing beside what the line says.
+    Nothing,
+    /// A word with which no line begins there, in a section or outside of sections.
+    Unknown {
+        word: String,
+        is_inside: bool,
+        /// Whether a line that stands not there, but outside or in a section, may begin with it.
+        is_elsewhere: bool,
+        /// The words like it with which a line may begin there.
+        near: Vec<Name>,
+    },
+    /// A word behind all that a line with this first word has.
+    Surplus {
+        word: String,
+        first: String,
+        operands: [Option<Operand>; 3],
+    },
+    /// Another word than this operand, or none.
+    Operand {
+        word: Option<String>,
+        wanted: Operand,
+    },
+}
+
+/// What stands behind the first word of a line of a program's text.
+#[derive(Clone, Copy, Debug, PartialEq, Eq)]
+pub enum Operand {
+    /// A number in this range.
+    Number(u32, u32),
+    Slot,
+    SlotOrObject,
+    Service,
+    /// A text between quotation marks.
+    Said,
+}
+
+/// A statement that pushed an operand; the argument of a call has the number 0.
+#[derive(Clone, Copy, Debug, PartialEq, Eq)]
+pub struct Pusher {
+    pub number: u64,
+    /// The line of the program's text, numbered from 1, that has it; code has no lines.
+    pub line: Option<usize>,
+}
+
 /// What a rule for programs compared.
 #[derive(Drop)]
 pub enum Compared {
@@ -111,6 +164,12 @@ pub enum Compared {
     Nothing,
     /// 17 operands.
     Operands,
+    /// The operands that are left over, by the statements that pushed them.
+    Left(Vec<Pusher>),
+    /// The bytes of the buffer that an interface asks for, and what the first slot of the session holds where the session is open.
+    Buffer(u32, Option<Kind>),
+    /// A service without an interface, and the interfaces with names like it.
+    Unknown(Name, Vec<Name>),
     /// What a slot holds, and what the statement needs there.
     Slot(Place, Option<Kind>, Needed),
     /// An index of at most this number, of a slot that has so many of these.
@@ -182,8 +241,8 @@ pub struct SessionCost {
 /// Why a leaf may not start after the one that it names.
 #[derive(Drop)]
 pub enum BadAfter {
-    /// No leaf of the same init has this name.
-    NoLeaf(Name),
+    /// No leaf of the same init has this name; these have names like it.
+    NoLeaf(Name, Vec<Name>),
     /// This leaf provides a service.
     Provides(Name),
     /// An earlier leaf starts after the same one.
@@ -196,13 +255,24 @@ pub enum BadAfter {
     Round(Vec<Name>),
 }
 
+/// Whose routes are followed at one init.
+#[derive(Drop)]
+pub struct Owner {
+    /// The leaf or init whose service it is.
+    pub child: Name,
+    /// The init above it.
+    pub init: Name,
+    /// Whether the child has routes of its own; else they are the default ones of the init.
+    pub is_own: bool,
+}
+
 /// How a route led at one init.
 #[derive(Drop)]
 pub enum Hop {
-    /// No entry of the list fits, of so many.
-    NoEntry(usize),
+    /// No entry of the list fits, of so many; some are for services with names like that of the one that is asked for.
+    NoEntry(Owner, usize, Vec<Name>),
     /// The entry of this number, from 1, decided, for this service or for any.
-    Entry(usize, bool, Where),
+    Entry(Owner, usize, bool, Where),
     /// The question went beyond the root.
     BeyondRoot,
 }
@@ -211,8 +281,8 @@ pub enum Hop {
 #[derive(Drop)]
 pub enum Where {
     Parent,
-    /// No child has this name.
-    NoChild(Name),
+    /// No child has this name; these have names like it.
+    NoChild(Name, Vec<Name>),
     /// The child of this name is an init, or a leaf that does not provide the service.
     Differs(Name),
     /// None of the children provides the service.

@@ -18,8 +18,11 @@
 //!   Just the lines of the definition are found (`specs/Scenario_faults`), in its order.
 //! - Faults of turns (`turns`).
 //!
-//! What a rule for programs compared is looked up once more at the place where it is broken (`compared`, by `statement` and `session`). Words are put together
-//! last (`details`, by `words` and `meant`); each detail is a line of its own (`specs/Details`). Places come from `gq_toml_places` (`tell`, `bytes`).
+//! Some modules find details alone. What a rule for programs compared is looked up once more where it is broken (`compared`, by `statement`, `session` and
+//! `pushers`). `text_faults` finds the wrong word on a line of a program's text, and `hops` how a service is led. `meant` has the near words of all of them.
+//!
+//! Words are put together last (`details`, by `words`, `text_details`, `route_details` and `turn_details`); each detail is a line of its own (`specs/Details`).
+//! Places come from `gq_toml_places` (`tell`, `bytes`).
 #![tactic(auto)]
 
 mod after;
@@ -32,6 +35,7 @@ mod document;
 pub mod fault;
 pub mod faults;
 pub mod found;
+mod hops;
 pub mod laws;
 mod leaves;
 mod lines;
@@ -39,7 +43,9 @@ mod meant;
 mod names;
 mod nodes;
 pub mod path;
+mod pushers;
 mod quanta;
+mod route_details;
 mod routes;
 mod session;
 mod sources;
@@ -47,6 +53,9 @@ pub mod stages;
 mod statement;
 mod tables;
 mod tell;
+mod text_details;
+mod text_faults;
+mod turn_details;
 pub mod turns;
 mod walk;
 pub mod words;

@@ -1,4 +1,4 @@
-// On which lines of a program's text its statements stand.
+// The lines of a program's text, with their words, and on which of them its statements stand.
 // No contract: its results are places alone. Tests show them.
 use gq_program::Section;
 use gq_scenario::lines::next_line;
@@ -38,6 +38,30 @@ fn first_word(line: &[u8]) -> (&[u8], &[u8]) {
     let rest = &line[start..];
     let end = rest.iter().take_while(|byte| !is_blank(**byte)).count();
     (&rest[..end], &rest[end..])
+}
+
+/// A word of a line, and the byte with which it begins.
+#[derive(Clone, Copy)]
+pub(crate) struct Word<'l> {
+    pub at: usize,
+    pub text: &'l [u8],
+}
+
+/// The word of this number, from 0, of a line.
+pub(crate) fn nth_word(line: &[u8], number: usize) -> Option<Word<'_>> {
+    let mut left = line;
+    for _ in 0..number {
+        let (_, rest) = first_word(left);
+        left = rest;
+    }
+    let (text, rest) = first_word(left);
+    if text.is_empty() {
+        return None;
+    }
+    let at = line
+        .len()
+        .saturating_sub(rest.len().saturating_add(text.len()));
+    Some(Word { at, text })
 }
 
 // The level that the word behind a heading's word spells, up to 9.
@@ -134,6 +158,24 @@ pub(crate) fn line_of(text: &[u8], section: Section, place: u64) -> Option<usize
         if is_there(reading.read(line), section, place) {
             return Some(number);
         }
+        left = rest;
+    }
+    None
+}
+
+/// A line of a program's text, numbered from 1, and whether a section is open before it.
+pub(crate) fn line_at(text: &[u8], number: usize) -> Option<(&[u8], bool)> {
+    let mut reading = Reading::new();
+    let mut left = Some(text);
+    for at in 1..usize::MAX {
+        let Some(begun) = left else {
+            return None;
+        };
+        let (line, rest) = next_line(begun);
+        if at == number {
+            return Some((line, reading.section.is_some()));
+        }
+        let _line = reading.read(line);
         left = rest;
     }
     None

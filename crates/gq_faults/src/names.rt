@@ -20,11 +20,12 @@ use crate::tell::Teller;
 use gq_init::counted::Counted;
 use gq_model::letters::is_name;
 use gq_model::program::Name;
+use gq_program::spelling::same_text;
 use gq_reader::value::text_at;
 use gq_scenario::fault::ScenarioFault;
 use gq_scenario::key::Key;
 use gq_toml_places::Step;
-use std::alloc::AllocError;
+use std::alloc::{AllocError, Global};
 use std::collections::BTreeSet;
 use std::io::Write;
 use toml::Table;
@@ -49,10 +50,47 @@ fn was_seen<'d>(seen: &mut BTreeSet<&'d str>, name: &'d str) -> Result<bool, All
     Ok(!seen.insert(name)?)
 }
 
+// How many nodes are looked through for the first of a name. A document that has more has too many.
+const LOOKED_THROUGH: usize = 256;
+
+// The node that has a name first.
+fn first_named<'n, 'd>(nodes: &'n [NodeAt<'d>], name: &str) -> Option<&'n NodeAt<'d>> {
+    for node in nodes.iter().take(LOOKED_THROUGH) {
+        if let Some(text) = name_of(node) {
+            if same_text(text.as_bytes(), name.as_bytes()) {
+                return Some(node);
+            }
+        }
+    }
+    None
+}
+
+// The way to the name of a node.
+fn way_to_name(alloc: Global, node: &NodeAt<'_>) -> Result<Vec<Step<'static>>, AllocError> {
+    let table = node.place.way(alloc)?;
+    with_step(alloc, table.as_slice(), Step::Key(Key::Name.word()))
+}
+
+// Where a name stands first: the root's is in no document.
+fn first_of(
+    alloc: Global,
+    nodes: &[NodeAt<'_>],
+    name: &str,
+) -> Result<Detail<'static>, AllocError> {
+    if same_text(name.as_bytes(), b"init") {
+        return Ok(Detail::RootName);
+    }
+    match first_named(nodes, name) {
+        Some(node) => Ok(Detail::NamedFirst(way_to_name(alloc, node)?)),
+        None => Ok(Detail::Nothing),
+    }
+}
+
 // That a name stands for the second time.
 fn tell_name<W: Write>(
     teller: &Teller<'_>,
     out: &mut Counted<W>,
+    nodes: &[NodeAt<'_>],
     node: &NodeAt<'_>,
     text: &str,
 ) -> Result<(), TellError>
@@ -62,21 +100,10 @@ fn tell_name<W: Write>(
     let Some(name) = Name::new(text.as_bytes()) else {
         unreachable!()
     };
-    let table = node.place.way(teller.alloc())?;
-    let way = with_step(
-        teller.alloc(),
-        table.as_slice(),
-        Step::Key(Key::Name.word()),
-    )?;
+    let way = way_to_name(teller.alloc(), node)?;
+    let detail = first_of(teller.alloc(), nodes, text)?;
     let fault = ScenarioFault::NameTwice(name);
-    tell_fault(
-        teller,
-        out,
-        fault,
-        way.as_slice(),
-        Spot::Value,
-        &Detail::Nothing,
-    )
+    tell_fault(teller, out, fault, way.as_slice(), Spot::Value, &detail)
 }
 
 // That the name of a node was seen before; then it is among those that were.
@@ -84,6 +111,7 @@ fn tell_twice<'d, W: Write>(
     teller: &Teller<'_>,
     out: &mut Counted<W>,
     seen: &mut BTreeSet<&'d str>,
+    nodes: &[NodeAt<'d>],
     node: &NodeAt<'d>,
 ) -> Result<(), TellError>
     ensures told { (names : List (List ℕ)) → AreSeen seen.old names
@@ -94,7 +122,7 @@ fn tell_twice<'d, W: Write>(
         return Ok(());
     };
     if was_seen(seen, text)? {
-        tell_name(teller, out, node, text)
+        tell_name(teller, out, nodes, node, text)
     } else {
         Ok(())
     }
@@ -113,7 +141,7 @@ pub(crate) fn tell_names<W: Write>(
     let mut seen = BTreeSet::new(teller.alloc());
     was_seen(&mut seen, "init")?;
     for node in nodes {
-        tell_twice(teller, out, &mut seen, node)?;
+        tell_twice(teller, out, &mut seen, nodes, node)?;
     }
     Ok(())
 }

@@ -13,8 +13,8 @@ ghost use Rattle.gq_faults.specs.Scenario_faults.{cycles, routes_lost, services_
 ghost use Rattle.gq_faults.specs.Uses.{used_of};
 ghost use Rattle.gq_faults.specs.Found_lines.{lines_found};
 
-use crate::after::is_same;
-use crate::found::{Detail, Found, Hop, Spot, Where, push_fault};
+use crate::found::{Detail, Found, Spot, push_fault};
+use crate::hops::hops;
 use crate::leaves::way_of;
 use gq_load::fault::LoadFault;
 use gq_model::program::Name;
@@ -22,10 +22,10 @@ use gq_resolve::component::Component;
 use gq_resolve::cycle::reaches_itself;
 use gq_resolve::fault::ResolveFault;
 use gq_resolve::routes::server_of;
-use gq_resolve::routing::{Level, fits, provider, route};
+use gq_resolve::routing::route;
 use gq_resolve::services::once;
 use gq_resolve::unrouted::unrouted;
-use gq_scenario::scenario::{LeafNo, Node, Nodes, Route, Target};
+use gq_scenario::scenario::LeafNo;
 use gq_toml_places::Step;
 use std::alloc::{AllocError, Global};
 
@@ -34,84 +34,6 @@ use std::alloc::{AllocError, Global};
 struct Use {
     service: Name,
     server: usize,
-}
-
-// The first route that fits, with its number from 1.
-fn first_fit<'a>(routes: &'a [Route], service: &Name) -> Option<(usize, &'a Route)> {
-    for (place, route) in routes.iter().enumerate() {
-        if fits(route, service) {
-            return Some((place.saturating_add(1), route));
-        }
-    }
-    None
-}
-
-fn name_of(node: &Node) -> &Name {
-    match node {
-        Node::Leaf(leaf) => leaf.name(),
-        Node::Init(init, _) => init.name(),
-    }
-}
-
-// Whether a child has this name.
-fn has_child(siblings: &Nodes, name: &Name) -> bool {
-    siblings
-        .nodes()
-        .iter()
-        .any(|node| is_same(name_of(node), name))
-}
-
-// The children that provide a service.
-fn providers(alloc: Global, siblings: &Nodes, service: &Name) -> Result<Vec<Name>, AllocError> {
-    let mut names = Vec::new(alloc);
-    for node in siblings.nodes() {
-        if let Some(name) = provider(node, service) {
-            names.push(name.copied())?;
-        }
-    }
-    Ok(names)
-}
-
-// Where a target leads that refuses.
-fn led(
-    alloc: Global,
-    target: &Target,
-    siblings: &Nodes,
-    service: &Name,
-) -> Result<Where, AllocError> {
-    match target {
-        Target::Parent => Ok(Where::Parent),
-        Target::Child(name) if has_child(siblings, name) => Ok(Where::Differs(name.copied())),
-        Target::Child(name) => Ok(Where::NoChild(name.copied())),
-        Target::AnyChild => {
-            let names = providers(alloc, siblings, service)?;
-            if names.is_empty() {
-                Ok(Where::NoProvider)
-            } else {
-                Ok(Where::Providers(names))
-            }
-        }
-    }
-}
-
-// How a service that is refused is led, from the leaf's own init on.
-fn hops(alloc: Global, levels: &[Level<'_>], service: &Name) -> Result<Vec<Hop>, AllocError> {
-    let mut hops = Vec::new(alloc);
-    for level in levels {
-        let routes = level.routes();
-        let Some((number, route)) = first_fit(routes, service) else {
-            hops.push(Hop::NoEntry(routes.len()))?;
-            return Ok(hops);
-        };
-        let target = led(alloc, route.target(), level.siblings(), service)?;
-        let is_last = !matches!(target, Where::Parent);
-        hops.push(Hop::Entry(number, route.service().is_some(), target))?;
-        if is_last {
-            return Ok(hops);
-        }
-    }
-    hops.push(Hop::BeyondRoot)?;
-    Ok(hops)
 }
 
 // A service of a component that leads nowhere, at the end of what was found.
@@ -130,7 +52,7 @@ fn push_lost(
         Ok(_) => Ok(()),
         Err(why) => {
             let fault = LoadFault::Resolve(unrouted(why, component.leaf().name(), service));
-            let detail = Detail::Routed(hops(alloc, component.levels(), service)?);
+            let detail = Detail::Routed(hops(alloc, component, service)?);
             let way = way_of(alloc, leaves, place)?;
             push_fault(alloc, found, &fault, way, Spot::Table, detail)
         }

@@ -1,5 +1,5 @@
 // The first fault of each text and code, and the rule that each program breaks first.
-ghost use Rattle.std.specs.Prelude.{◌≡◌, ◌++◌, None, IfOk, OnOk, map, option_map};
+ghost use Rattle.std.specs.Prelude.{◌≡◌, ◌∷◌, ◌++◌, [], None, IfOk, OnOk, map, option_map};
 ghost use Rattle.gq_model.specs.rules.Verdict.{program_fault};
 ghost use Rattle.gq_model.specs.texts.Fault_texts.{refusal_text};
 ghost use Rattle.gq_load.specs.Faults.{load_fault_text};
@@ -12,12 +12,15 @@ ghost use Rattle.gq_faults.specs.Scenario_faults.{sources_faults};
 ghost use Rattle.gq_faults.specs.Found_lines.{lines_found};
 
 use crate::compared::compared;
-use crate::found::{Compared, Detail, Found, Spot, push_fault};
+use crate::found::{Compared, Detail, Found, Mistake, Pusher, Spot, push_fault};
 use crate::leaves::way_to;
-use crate::lines::line_of;
+use crate::lines::{line_at, line_of, nth_word};
+use crate::meant::near_interfaces;
+use crate::text_faults::mistake_on;
 use gq_load::fault::{LoadError, LoadFault};
 use gq_load::programs::read_program;
-use gq_program::{Interfaces, Program};
+use gq_model::fault::Rule;
+use gq_program::{Interfaces, Program, Section};
 use gq_resolve::component::Component;
 use gq_rules::Subject;
 use gq_scenario::key::Key;
@@ -35,11 +38,38 @@ fn source_key(leaf: &Leaf) -> Key {
     }
 }
 
-// Where a fault of a program's text stands; code has no lines.
-fn text_spot(leaf: &Leaf, fault: &LoadFault) -> Spot {
+// Where a fault of a program's text stands, and what is wrong there; code has no lines.
+fn text_fault(
+    alloc: Global,
+    leaf: &Leaf,
+    fault: &LoadFault,
+) -> Result<(Spot, Detail<'static>), AllocError> {
     match (leaf.source(), fault) {
-        (Source::Text(_), LoadFault::Text { line, .. }) => Spot::Line(*line as usize),
-        _ => Spot::Key,
+        (Source::Text(text), LoadFault::Text { fault, line, .. }) => {
+            let line = *line as usize;
+            let (at, mistake) = mistake_on(alloc, text.as_slice(), *fault, line)?;
+            Ok((Spot::Word(line, at), Detail::Text(mistake)))
+        }
+        _ => Ok((Spot::Key, Detail::Text(Mistake::Nothing))),
+    }
+}
+
+// The number of the word of a statement that breaks a rule: of a service without an interface that of its name, else that of the statement itself.
+fn word_of(fault: &Fault) -> usize {
+    match fault.rule {
+        Rule::UnknownService => 2,
+        _ => 0,
+    }
+}
+
+// The byte with which a word of a line of a program's text begins.
+fn word_at(text: &[u8], line: usize, word: usize) -> usize {
+    match line_at(text, line) {
+        Some((line, _)) => match nth_word(line, word) {
+            Some(word) => word.at,
+            None => 0,
+        },
+        None => 0,
     }
 }
 
@@ -47,7 +77,7 @@ fn text_spot(leaf: &Leaf, fault: &LoadFault) -> Spot {
 fn rule_spot(leaf: &Leaf, fault: &Fault) -> Spot {
     match leaf.source() {
         Source::Text(text) => match line_of(text.as_slice(), fault.section, fault.place) {
-            Some(line) => Spot::Line(line),
+            Some(line) => Spot::Word(line, word_at(text.as_slice(), line, word_of(fault))),
             None => Spot::Key,
         },
         Source::Code(_) => Spot::Key,
@@ -77,6 +107,20 @@ fn read_fault(alloc: Global, leaf: &Leaf) -> Result<Option<LoadFault>, AllocErro
     }
 }
 
+// A fault of the text or the code of a leaf at the end of those that were found.
+fn push_of_text(
+    alloc: Global,
+    found: &mut Vec<Found<'static>>,
+    leaf: &Leaf,
+    fault: &LoadFault,
+    way: Vec<Step<'static>>,
+) -> Result<(), AllocError>
+    ensures { OnOk result (lines_found found.new.items ≡ lines_found found.old.items ++ load_fault_text fault.now ∷ []) }
+{
+    let (spot, detail) = text_fault(alloc, leaf, fault)?;
+    push_fault(alloc, found, fault, way, spot, detail)
+}
+
 // The same at the end of those that were found.
 fn push_source(
     alloc: Global,
@@ -92,14 +136,7 @@ fn push_source(
     match read_fault(alloc, leaf)? {
         Some(fault) => {
             let way = way_to(alloc, leaves, place, source_key(leaf))?;
-            push_fault(
-                alloc,
-                found,
-                &fault,
-                way,
-                text_spot(leaf, &fault),
-                Detail::Nothing,
-            )
+            push_of_text(alloc, found, leaf, &fault, way)
         }
         None => Ok(()),
     }
@@ -120,6 +157,47 @@ pub(crate) fn push_sources(
     Ok(())
 }
 
+// The same statements, each with its line.
+fn with_lines(
+    alloc: Global,
+    leaf: &Leaf,
+    section: Section,
+    pushers: &[Pusher],
+) -> Result<Vec<Pusher>, AllocError> {
+    let mut placed = Vec::new(alloc);
+    for pusher in pushers {
+        placed.push(Pusher {
+            number: pusher.number,
+            line: match leaf.source() {
+                Source::Text(text) => line_of(text.as_slice(), section, pusher.number),
+                Source::Code(_) => None,
+            },
+        })?;
+    }
+    Ok(placed)
+}
+
+// What a rule compared, with what the text of the program and the interfaces have to it; none where they have nothing.
+fn completed(
+    alloc: Global,
+    leaf: &Leaf,
+    interfaces: &Interfaces,
+    section: Section,
+    found: &Compared,
+) -> Result<Option<Compared>, AllocError> {
+    match found {
+        Compared::Left(pushers) => {
+            let placed = with_lines(alloc, leaf, section, pushers.as_slice())?;
+            Ok(Some(Compared::Left(placed)))
+        }
+        Compared::Unknown(service, _) => {
+            let near = near_interfaces(alloc, interfaces, service.as_bytes())?;
+            Ok(Some(Compared::Unknown(service.copied(), near)))
+        }
+        _ => Ok(None),
+    }
+}
+
 // What a rule compared.
 fn detail_of(
     alloc: Global,
@@ -133,7 +211,11 @@ fn detail_of(
         None => None,
     };
     let subject = Subject::new(program, provided, interfaces);
-    compared(alloc, &subject, fault)
+    let found = compared(alloc, &subject, fault)?;
+    match completed(alloc, leaf, interfaces, fault.section, &found)? {
+        Some(more) => Ok(more),
+        None => Ok(found),
+    }
 }
 
 // The program of a leaf whose text or code is one.

@@ -27,6 +27,8 @@ pub(crate) fn of_statement(
         Rule::OutOfRange => Ok(of_index(context, state, instruction)),
         Rule::ValueTooLarge => Ok(of_value(context, state, instruction)),
         Rule::ShortDonation => Ok(of_donation(context, state, instruction)),
+        Rule::SessionBankChanged => Ok(Compared::Buffer(context.subject().buffer(), None)),
+        Rule::UnknownService => Ok(of_service(alloc, instruction)),
         _ => Ok(Compared::Nothing),
     }
 }
@@ -176,6 +178,14 @@ fn of_value(context: &Context<'_>, state: &mut State, instruction: &Instruction)
             Some((interface, _, _)) => Compared::Value(value, interface.arg(), Holder::Argument),
             None => Compared::Nothing,
         },
+        _ => Compared::Nothing,
+    }
+}
+
+// The service of an instruction that has no interface.
+fn of_service(alloc: Global, instruction: &Instruction) -> Compared {
+    match instruction {
+        Instruction::Open(_, service, _) => { Compared::Unknown(service.copied(), Vec::new(alloc)) }
         _ => Compared::Nothing,
     }
 }

@@ -5,7 +5,7 @@ ghost use Rattle.gq_faults.specs.Found_lines.{lines_found};
 
 use crate::details::push_detail;
 use crate::fault::TellError;
-use crate::found::{Detail, Found, Spot};
+use crate::found::{Compared, Detail, Found, Pusher, Spot};
 use crate::words::Details;
 use gq_init::counted::{Counted, put};
 use gq_toml_places::{Places, Position, Step};
@@ -62,6 +62,17 @@ fn is_blank(letter: char) -> bool {
     letter == ' ' || letter == '\t' || letter == '\r'
 }
 
+// How many bytes of a line stand before the word at an offset, from the first word on, where these begin what is written in a file.
+fn bytes_before(line: &str, written: &str, at: usize) -> usize {
+    let first = line
+        .len()
+        .saturating_sub(line.trim_start_matches(is_blank).len());
+    match line.get(first..at) {
+        Some(before) if written.starts_with(before) => before.len(),
+        _ => 0,
+    }
+}
+
 /// Tells faults of the file of a scenario.
 #[derive(Drop)]
 pub(crate) struct Teller<'f> {
@@ -98,13 +109,87 @@ impl<'f> Teller<'f> {
             Spot::Table => self.places.table(way),
             Spot::Key => self.places.key(way),
             Spot::Value => self.places.value(way),
-            Spot::Line(line) => {
-                let content = self.places.content_line(self.alloc, way, line)?;
-                push_line(details, content.text.as_str())?;
-                content.at
-            }
+            Spot::Word(line, at) => return self.word_place(way, line, at, details),
         };
         Ok(self.places.position(at))
+    }
+
+    // Where the word is that begins at a byte of a line of the text to which a way leads, and what is told of the line. Where the file spells the line in
+    // another way, the place is that of the line.
+    fn word_place(
+        &self,
+        way: &[Step<'_>],
+        line: usize,
+        at: usize,
+        details: &mut Details,
+    ) -> Result<Position, AllocError> {
+        let content = self.places.content_line(self.alloc, way, line)?;
+        push_line(details, content.text.as_str())?;
+        let start = self.places.position(content.at);
+        let written = self.places.line(start.line);
+        let written = written.get(start.column.saturating_sub(1)..).unwrap_or("");
+        let before = bytes_before(content.text.as_str(), written, at);
+        Ok(Position {
+            line: start.line,
+            column: start.column.saturating_add(before),
+        })
+    }
+
+    // What a detail says of other places of the file than that of the fault, to which a way leads.
+    fn push_elsewhere(
+        &self,
+        way: &[Step<'_>],
+        detail: &Detail<'_>,
+        details: &mut Details,
+    ) -> Result<(), AllocError> {
+        match detail {
+            Detail::NamedFirst(first) => {
+                let place = self.places.position(self.places.value(first.as_slice()));
+                details.text("the name stands first on line ")?;
+                details.number(place.line as u64)?;
+                details.end()
+            }
+            Detail::Rule(Compared::Left(pushers)) => {
+                self.push_pushers(way, pushers.as_slice(), details)
+            }
+            _ => Ok(()),
+        }
+    }
+
+    // Which statements of the program to which a way leads pushed the operands that are left over.
+    fn push_pushers(
+        &self,
+        way: &[Step<'_>],
+        pushers: &[Pusher],
+        details: &mut Details,
+    ) -> Result<(), AllocError> {
+        for pusher in pushers {
+            match pusher.line {
+                _ if pusher.number == 0 => details.text("the argument of the call")?,
+                Some(line) => self.push_statement(way, line, details)?,
+                None => {
+                    details.text("what statement ")?;
+                    details.number(pusher.number)?;
+                    details.text(" pushed")?;
+                }
+            }
+            details.line(" is left over")?;
+        }
+        Ok(())
+    }
+
+    // The statement on a line of the program to which a way leads, and the line of the file.
+    fn push_statement(
+        &self,
+        way: &[Step<'_>],
+        line: usize,
+        details: &mut Details,
+    ) -> Result<(), AllocError> {
+        let content = self.places.content_line(self.alloc, way, line)?;
+        details.text("what ")?;
+        details.quoted(content.text.as_str().trim_matches(is_blank))?;
+        details.text(" pushed on line ")?;
+        details.number(self.places.position(content.at).line as u64)
     }
 
     /// Writes a fault of this line at a spot of what a way leads to.
@@ -121,6 +206,7 @@ impl<'f> Teller<'f> {
         let mut details = Details::new(self.alloc);
         let position = self.place(way, spot, &mut details)?;
         push_detail(&mut details, detail)?;
+        self.push_elsewhere(way, detail, &mut details)?;
         put_fault(self.alloc, self.path, position, fault, &details, out)
     }
 

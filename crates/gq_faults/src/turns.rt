@@ -12,7 +12,8 @@ ghost use Rattle.gq_faults.specs.Turn_faults.{turn_fault_line, turn_faults, turn
 
 use crate::fault::TellError;
 use crate::faults::{File, faults};
-use crate::tell::{push_line, put_fault};
+use crate::tell::put_fault;
+use crate::turn_details::{turn_details, wrong_at};
 use crate::words::Details;
 use gq_init::counted::Counted;
 use gq_init::names::NameIndex;
@@ -20,7 +21,7 @@ use gq_init::turns::next_turn;
 use gq_load::accepted::Accepted;
 use gq_load::fault::{LoadError, LoadFault};
 use gq_model::fault::TurnFault;
-use gq_model::limits::{GREATEST_TURNS, GREATEST_TURNS_TEXT};
+use gq_model::limits::GREATEST_TURNS_TEXT;
 use gq_resolve::NodeTable;
 use gq_scenario::lines::next_line;
 use gq_scenario::scenario::LeafNo;
@@ -30,12 +31,12 @@ use std::io::Write;
 
 /// A line that is wrong, numbered from 1.
 #[derive(Clone, Copy)]
-struct Wrong<'t> {
-    fault: TurnFault,
-    line: u64,
-    text: &'t [u8],
+pub(crate) struct Wrong<'t> {
+    pub fault: TurnFault,
+    pub line: u64,
+    pub text: &'t [u8],
     /// How many turns the lines before it and it itself are.
-    total: u64,
+    pub total: u64,
 }
 
 // The fault that is told of a line that says this after so many turns: that there are too many is told once.
@@ -145,6 +146,7 @@ fn put_turn_fault<W: Write>(
     path: &str,
     fault: TurnFault,
     line: u64,
+    column: usize,
     details: &Details,
     out: &mut Counted<W>,
 ) -> Result<(), TellError>
@@ -153,7 +155,7 @@ fn put_turn_fault<W: Write>(
     let said = format!(in alloc; "{fault} line {line}")?;
     let position = Position {
         line: line.max(1) as usize,
-        column: 1,
+        column,
     };
     put_fault(alloc, path, position, said.as_str(), details, out)
 }
@@ -162,20 +164,15 @@ fn put_turn_fault<W: Write>(
 fn tell_wrong<W: Write>(
     alloc: Global,
     path: &str,
+    table: &NodeTable,
     wrong: &Wrong<'_>,
     out: &mut Counted<W>,
 ) -> Result<(), TellError>
     ensures { Tells W.contents path.now (turn_fault_line (wrong.now.fault, wrong.now.line) ∷ []) out.old out.new result }
 {
-    let mut details = Details::new(alloc);
-    push_line(
-        &mut details,
-        str::from_utf8(wrong.text).unwrap_or("this is no UTF-8"),
-    )?;
-    if wrong.fault == TurnFault::TooMany {
-        details.more_than(wrong.total, "turns", u64::from(GREATEST_TURNS))?;
-    }
-    put_turn_fault(alloc, path, wrong.fault, wrong.line, &details, out)
+    let details = turn_details(alloc, table, wrong)?;
+    let column = wrong_at(wrong).saturating_add(1);
+    put_turn_fault(alloc, path, wrong.fault, wrong.line, column, &details, out)
 }
 
 // Writes that a text of turns is too long.
@@ -188,7 +185,7 @@ fn tell_too_long<W: Write>(
 {
     let mut details = Details::new(alloc);
     details.more_than(file.text.len() as u64, "bytes", GREATEST_TURNS_TEXT as u64)?;
-    put_turn_fault(alloc, file.path, TurnFault::TooMany, 0, &details, out)
+    put_turn_fault(alloc, file.path, TurnFault::TooMany, 0, 1, &details, out)
 }
 
 // Writes all lines of a text of turns that are wrong, and answers the first.
@@ -212,7 +209,7 @@ fn tell_lines<W: Write>(
     let mut first: Option<(TurnFault, u64)> = None;
     while let Some(text) = reading.left {
         if let Some(wrong) = reading.read(text, table, &names) {
-            tell_wrong(alloc, file.path, &wrong, out)?;
+            tell_wrong(alloc, file.path, table, &wrong, out)?;
             first = first.or(Some((wrong.fault, wrong.line)));
         }
     }

@@ -113,7 +113,7 @@ impl Details {
     /// A text of the scenario: a long one is cut, and what can not stand in a line is left out.
     pub fn quoted(&mut self, text: &str) -> Result<(), AllocError> {
         for byte in cut(text).as_bytes() {
-            if !byte.is_ascii_control() {
+            if *byte == b'\t' || !byte.is_ascii_control() {
                 self.begun.push(*byte)?;
             }
         }
@@ -155,6 +155,16 @@ impl Details {
             self.name(name)?;
         }
         Ok(())
+    }
+
+    /// Names that may be meant, where there are some.
+    pub fn meant(&mut self, names: &[Name]) -> Result<(), AllocError> {
+        if names.is_empty() {
+            return Ok(());
+        }
+        self.text(": ")?;
+        self.names(names)?;
+        self.text("?")
     }
 
     /// A slot, as programs write it.
@@ -232,8 +242,8 @@ impl Details {
         }
     }
 
-    // A range of numbers.
-    fn range(&mut self, what: &str, low: u64, high: u64) -> Result<(), AllocError> {
+    /// A range of numbers.
+    pub fn range(&mut self, what: &str, low: u64, high: u64) -> Result<(), AllocError> {
         self.text(what)?;
         self.text(" from ")?;
         self.number(low)?;

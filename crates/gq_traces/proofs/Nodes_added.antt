@@ -208,7 +208,8 @@ pub shows_sums : (first : Option ℕ) (scenario turns text : List ℕ)
     → state_written first scenario turns ≡ Ok text → ShowsSums first scenario turns text
 shows_sums first scenario turns text world adds e = from (loaded scenario) refl e
   where
-    read : (s : Scenario) → loaded scenario ≡ Ok s → (r : Turned) → turned (components s) turns ≡ r → with_turns r (λ t. state_text s (some_turns first t)) ≡ Ok text
+    read : (s : Scenario) → loaded scenario ≡ Ok s → (r : Turned) → turned (components s) turns ≡ r
+        → with_turns r (λ t. state_text s (some_turns first t)) ≡ Ok text
         → ShowsSums first scenario turns text
     read s loads (Err fault) reads f = not_written _ text f
     read s loads (Ok all) reads f =

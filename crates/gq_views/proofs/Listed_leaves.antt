@@ -119,8 +119,8 @@ lists_program scenario name text e = from (scenario_in scenario) refl e
 pub lists_numbers : (scenario name text : List ℕ) → list_written Numbered scenario name ≡ Ok text → ListsNumbers scenario name text
 lists_numbers scenario name text e = from (scenario_in scenario) refl e
   where
-    of_leaf : (node : LeafNode) → (o : Option Fault) → program_text Numbered node.program o ≡ Ok text → list_written Plain scenario name ≡ program_text Plain node.program o
-        → ListsNumbers scenario name text
+    of_leaf : (node : LeafNode) → (o : Option Fault) → program_text Numbered node.program o ≡ Ok text
+        → list_written Plain scenario name ≡ program_text Plain node.program o → ListsNumbers scenario name text
     of_leaf node (Some fault) f plain = not_written _ text f
     of_leaf node None f plain = record {
       program = node.program;

@@ -1,6 +1,6 @@
 -- The numbered lines of a program as a text that grows at its end.
-use Rattle.std.proofs.Common.{◌≡◌, ◌∙◌, ℕ, zero, suc, ◌+◌, ◌-◌, ◌<◌, ◌≤◌, List, [], ◌∷◌, ◌++◌, length, get_or, drop, ap, sym, refl, arith, append_assoc, append-nil}
-use Rattle.std.proofs.Common.{codes, Some, None, Bool, true, false, true≢false, cond, eqb, map, subst}
+use Rattle.std.proofs.Common.{◌≡◌, ◌∙◌, ℕ, zero, suc, ◌+◌, ◌-◌, ◌<◌, ◌≤◌, List, [], ◌∷◌, ◌++◌, length, get_or, drop, ap, sym, refl, arith}
+use Rattle.std.proofs.Common.{append_assoc, append-nil, codes, Some, None, Bool, true, false, true≢false, cond, eqb, map, subst}
 use Rattle.std.specs.Prelude.{decimal, slice_index}
 use Rattle.std.proofs.Math.Seq.{drop-cons}
 use Rattle.gq_model.specs.declared.program.Section.{Section}
@@ -13,8 +13,8 @@ use Rattle.gq_program.specs.declared.program.Statement.{Statement}
 use Rattle.gq_program.specs.declared.program.Statement.TheVariants.{Plain, If, Loop}
 use Rattle.gq_program.proofs.Sizes.{here_is, size_first}
 use Rattle.gq_views.specs.Listing.{indented, instruction_text, joined, line, locals_lines, loop_text, other_lines, sections_lines, statements_lines}
-use Rattle.gq_views.specs.Numbered.{NumbersListing, Row, blanks, counted_from, local_rows, margin, number_in, numbered_listing, numbers_of, other_rows, section_rows}
-use Rattle.gq_views.specs.Numbered.{statement_rows, text_of}
+use Rattle.gq_views.specs.Numbered.{NumbersListing, Row, blanks, counted_from, local_rows, margin, number_in, numbered_listing, numbers_of, other_rows}
+use Rattle.gq_views.specs.Numbered.{section_rows, statement_rows, text_of}
 use Rattle.gq_views.proofs.Told_sections.{next_is}
 
 pub text_append : (a b : List Row) → text_of (a ++ b) ≡ text_of a ++ text_of b
@@ -94,7 +94,8 @@ module _ (d e n : ℕ) (deeper : e ≡ d + 1) where
       let a = statement_rows (suc d) (suc n) arm in
       let o = other_rows d other (statement_rows (suc d) (suc n + size arm) other) in
       let c : List Row = (None, indented d (codes "end")) ∷ [] in
-      let w1 : w ≡ v ++ text_of a = r ∙ ap (λ k. v ++ text_of (statement_rows k (n + 1) arm)) inside ∙ ap (λ k. v ++ text_of (statement_rows (suc d) k arm)) one in
+      let w1 : w ≡ v ++ text_of a =
+      r ∙ ap (λ k. v ++ text_of (statement_rows k (n + 1) arm)) inside ∙ ap (λ k. v ++ text_of (statement_rows (suc d) k arm)) one in
       let x1 : x ≡ w ++ text_of o =
       s ∙ ap (λ k. w ++ text_of (other_rows d other (statement_rows k m other))) inside
       ∙ ap (λ k. w ++ text_of (other_rows d other (statement_rows (suc d) k other))) all in
@@ -114,7 +115,8 @@ module _ (d e n : ℕ) (deeper : e ≡ d + 1) where
       let f : List Row = (Some n, indented d (loop_text count)) ∷ [] in
       let b = statement_rows (suc d) (suc n) body in
       let c : List Row = (None, indented d (codes "end")) ∷ [] in
-      let w1 : w ≡ v ++ text_of b = r ∙ ap (λ k. v ++ text_of (statement_rows k (n + 1) body)) inside ∙ ap (λ k. v ++ text_of (statement_rows (suc d) k body)) one in
+      let w1 : w ≡ v ++ text_of b =
+      r ∙ ap (λ k. v ++ text_of (statement_rows k (n + 1) body)) inside ∙ ap (λ k. v ++ text_of (statement_rows (suc d) k body)) one in
       let whole : text_of (f ++ (b ++ c)) ≡ text_of f ++ (text_of b ++ text_of c) =
       text_append f (b ++ c) ∙ ap (λ l. text_of f ++ l) (text_append b c) in
       three t (text_of f) (text_of b) (text_of c) v w x (plain_text (loop_text count) t u v p q) w1 z ∙ ap (λ l. t ++ l) (sym whole)

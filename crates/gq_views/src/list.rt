@@ -65,8 +65,8 @@ fn named_text<'a>(
 }
 
 /// Writes the program of the leaf of this name as text: its locals that are told, then its sections, a statement a line, with numbers if the margin has them.
-/// No other leaf's program is read. Nothing is written where the scenario is refused, where no leaf has the name, where that leaf's text or code is no program, or where host memory is refused.
-/// After a failed write a front of the text was written.
+/// No other leaf's program is read. Nothing is written where the scenario is refused, where no leaf has the name, where that leaf's text or code is no program,
+/// or where host memory is refused. After a failed write a prefix of the text was written.
 pub fn list<'a, W: Write>(
     alloc: Global,
     scenario: &[u8],

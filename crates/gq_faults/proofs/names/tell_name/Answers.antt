@@ -4,11 +4,11 @@ use Rattle.gq_scenario.specs.Reading.{document_text}
 use Rattle.gq_faults.proofs.Telling.{memory_ends}
 use Rattle.gq_faults.proofs.names.tell_name.Goals as goal
 
-pub returns-in_err-table : goal.returns-in_err-table
-returns-in_err-table g c =
-    memory_ends c.args.teller.now.path.now (map document_text (NameTwice c.args.text.now ∷ [])) _ _ c.from_residual.result c.from_residual.ensures.1
-
 pub returns-in_err-way : goal.returns-in_err-way
 returns-in_err-way g c =
+    memory_ends c.args.teller.now.path.now (map document_text (NameTwice c.args.text.now ∷ [])) _ _ c.from_residual.result c.from_residual.ensures.1
+
+pub returns-in_err-detail : goal.returns-in_err-detail
+returns-in_err-detail g c =
     memory_ends c.args.teller.now.path.now (map document_text (NameTwice c.args.text.now ∷ [])) _ _
-    c.from_residual-in_err-way.result c.from_residual-in_err-way.ensures.1
+    c.from_residual-in_err-detail.result c.from_residual-in_err-detail.ensures.1

@@ -20,10 +20,12 @@ state_after-requires-clause-leaves g c =
 given : (first : Option ℕ) (s t : Scenario) (text : List ℕ) (turns slice : List (ℕ × ℕ)) → t ≡ s → turned (components t) text ≡ Ok turns → slice ≡ turns
     → state_from first s text ≡ Ok (state_text s (some_turns first slice))
 given first s t text turns slice same reads is =
-    ap (λ r. with_turns r (λ l. state_text s (some_turns first l))) (ap (λ (r : Scenario). turned (components r) text) (sym same) ∙ reads) ∙ ap (λ l. Ok (state_text s (some_turns first l))) (sym is)
+    ap (λ r. with_turns r (λ l. state_text s (some_turns first l))) (ap (λ (r : Scenario). turned (components r) text) (sym same) ∙ reads)
+    ∙ ap (λ l. Ok (state_text s (some_turns first l))) (sym is)
 
 pub returns : goal.returns
 returns g c =
     let s = c.args.world.now.scenario in
-    let e = given c.args.first s c.table.result.now c.args.turns.now c.in-Ok.turns.items c.as_slice.result.now c.table.ensures c.in-Ok.ensures c.as_slice.ensures.value in
+    let e = given c.args.first s c.table.result.now c.args.turns.now c.in-Ok.turns.items c.as_slice.result.now c.table.ensures c.in-Ok.ensures
+    c.as_slice.ensures.value in
     subst (λ w. WritesAs g.W.Write.contents w c.args.out.now c.state_after.new.out c.state_after.result) (sym e) c.state_after.ensures

@@ -1,0 +1,154 @@
+// How a service that is refused is led, an init after the other.
+// No contract: its results are details alone. Tests show them.
+use crate::after::is_same;
+use crate::found::{Hop, Owner, Where};
+use crate::lines::nth_word;
+use crate::meant::Nearest;
+use gq_model::program::Name;
+use gq_resolve::component::Component;
+use gq_resolve::routing::{Level, fits, provider};
+use gq_scenario::scenario::{Node, Nodes, Route, Target};
+use std::alloc::{AllocError, Global};
+
+// The first route that fits, with its number from 1.
+fn first_fit<'a>(routes: &'a [Route], service: &Name) -> Option<(usize, &'a Route)> {
+    for (place, route) in routes.iter().enumerate() {
+        if fits(route, service) {
+            return Some((place.saturating_add(1), route));
+        }
+    }
+    None
+}
+
+fn name_of(node: &Node) -> &Name {
+    match node {
+        Node::Leaf(leaf) => leaf.name(),
+        Node::Init(init, _) => init.name(),
+    }
+}
+
+// Whether a node has routes of its own.
+fn has_routes(node: &Node) -> bool {
+    match node {
+        Node::Leaf(leaf) => leaf.routes().is_some(),
+        Node::Init(init, _) => init.routes().is_some(),
+    }
+}
+
+// The child of this name.
+fn child<'a>(siblings: &'a Nodes, name: &Name) -> Option<&'a Node> {
+    for node in siblings.nodes() {
+        if is_same(name_of(node), name) {
+            return Some(node);
+        }
+    }
+    None
+}
+
+// The children with names like this one.
+fn near_children(alloc: Global, siblings: &Nodes, name: &Name) -> Result<Vec<Name>, AllocError> {
+    let mut nearest = Nearest::new(alloc);
+    for node in siblings.nodes() {
+        nearest.compare(name.as_bytes(), name_of(node).as_bytes())?;
+    }
+    Ok(nearest.names())
+}
+
+// The services with names like this one for which there are routes.
+fn near_services(alloc: Global, routes: &[Route], service: &Name) -> Result<Vec<Name>, AllocError> {
+    let mut nearest = Nearest::new(alloc);
+    for route in routes {
+        if let Some(other) = route.service() {
+            nearest.compare(service.as_bytes(), other.as_bytes())?;
+        }
+    }
+    Ok(nearest.names())
+}
+
+// The children that provide a service.
+fn providers(alloc: Global, siblings: &Nodes, service: &Name) -> Result<Vec<Name>, AllocError> {
+    let mut names = Vec::new(alloc);
+    for node in siblings.nodes() {
+        if let Some(name) = provider(node, service) {
+            names.push(name.copied())?;
+        }
+    }
+    Ok(names)
+}
+
+// Where a target leads that refuses.
+fn led(
+    alloc: Global,
+    target: &Target,
+    siblings: &Nodes,
+    service: &Name,
+) -> Result<Where, AllocError> {
+    match target {
+        Target::Parent => Ok(Where::Parent),
+        Target::Child(name) if child(siblings, name).is_some() => {
+            Ok(Where::Differs(name.copied()))
+        }
+        Target::Child(name) => Ok(Where::NoChild(
+            name.copied(),
+            near_children(alloc, siblings, name)?,
+        )),
+        Target::AnyChild => {
+            let names = providers(alloc, siblings, service)?;
+            if names.is_empty() {
+                Ok(Where::NoProvider)
+            } else {
+                Ok(Where::Providers(names))
+            }
+        }
+    }
+}
+
+// The name of this number, from 0, of a label: names with arrows between them, the root's first.
+fn name_in(label: &[u8], number: usize) -> Option<Name> {
+    let word = nth_word(label, number.saturating_mul(2))?;
+    Name::new(word.text)
+}
+
+// Whose routes are followed at the level of this number of a component.
+fn owner(component: &Component<'_>, number: usize, level: &Level<'_>) -> Option<Owner> {
+    let depth = component.levels().len().saturating_sub(number);
+    let child_name = name_in(component.label(), depth)?;
+    let init = name_in(component.label(), depth.saturating_sub(1))?;
+    let is_own = match child(level.siblings(), &child_name) {
+        Some(node) => has_routes(node),
+        None => false,
+    };
+    Some(Owner {
+        child: child_name,
+        init,
+        is_own,
+    })
+}
+
+/// How a service of a component that is refused is led, from the leaf's own init on.
+pub(crate) fn hops(
+    alloc: Global,
+    component: &Component<'_>,
+    service: &Name,
+) -> Result<Vec<Hop>, AllocError> {
+    let mut hops = Vec::new(alloc);
+    for (number, level) in component.levels().iter().enumerate() {
+        let routes = level.routes();
+        let Some(owner) = owner(component, number, level) else {
+            return Ok(hops);
+        };
+        let Some((number, route)) = first_fit(routes, service) else {
+            let near = near_services(alloc, routes, service)?;
+            hops.push(Hop::NoEntry(owner, routes.len(), near))?;
+            return Ok(hops);
+        };
+        let target = led(alloc, route.target(), level.siblings(), service)?;
+        let is_last = !matches!(target, Where::Parent);
+        hops.push(Hop::Entry(owner, number, route.service().is_some(), target))?;
+        if is_last {
+            return Ok(hops);
+        }
+    }
+    hops.push(Hop::BeyondRoot)?;
+    Ok(hops)
+}
