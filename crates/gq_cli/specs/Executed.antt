@@ -14,7 +14,7 @@ use Rattle.gq_views.specs.declared.margin.Margin.TheVariants.{Plain, Numbered}
 use Rattle.gq_views.specs.Written.{list_written, tree_written, graph_written}
 use Rattle.gq_traces.specs.Rests.{WritesToRest}
 use Rattle.gq_traces.specs.Written.{state_written, trace_written, turns_written}
-use Rattle.gq_races.specs.Races.{IsRaceFree}
+use Rattle.gq_races.specs.Races.{IsOrderFree, IsRaceFree}
 use Rattle.gq_races.specs.Written.{WroteNothing, races_written}
 use Rattle.gq_sizes.specs.Written.{size_written}
 use Rattle.gq_why.specs.Written.{why_written}
@@ -142,11 +142,12 @@ written_of (Of_nothing written) = written
 abbrev pub IsRefusedBy : Asked → List ℕ → Type 0
 IsRefusedBy asked line = written_of asked ≡ Err line
 
--- what a command promises beside its text: a run upholds every promise; turns lead to rest; where no race was written there is none
+-- what a command promises beside its text: a run upholds every promise; turns lead to rest; where `races` wrote nothing there is no race, and no order
 abbrev pub IsUpheldBy : Asked → (before after : Option (List ℕ)) → Type 0
 IsUpheldBy (Of_both Run scenario turns) before after = WritesPromised scenario turns before after
 IsUpheldBy (Of_scenario Turns scenario) before after = WritesToRest scenario before after
-IsUpheldBy (Of_scenario Races scenario) before after = WroteNothing before after → IsOkAnd (loaded scenario) IsRaceFree
+IsUpheldBy (Of_scenario Races scenario) before after =
+    (WroteNothing before after → IsOkAnd (loaded scenario) IsRaceFree) × (WroteNothing before after → IsOkAnd (loaded scenario) IsOrderFree)
 IsUpheldBy _ before after = Unit {0}
 
 -- all that is wrong was told: with the scenario, or else with the turns

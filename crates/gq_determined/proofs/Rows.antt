@@ -4,7 +4,7 @@ use Rattle.std.specs.Fmt.{digits}
 use Rattle.gq_model.specs.machine.Scenario.{system}
 use Rattle.gq_model.specs.machine.Run.{run}
 use Rattle.gq_model.specs.machine.Accounts.{account_lines, accounts}
-use Rattle.gq_races.proofs.Rows.{together, apart, two, relayed_once}
+use Rattle.gq_races.proofs.Rows.{together, apart, two, relayed_once, behind_one}
 use Rattle.gq_determined.specs.Determined.{lines_of}
 
 -- the clients one after the other, in either order
@@ -66,3 +66,13 @@ relayed_after all = account_lines 1 (accounts relayed_once (run (system relayed_
 same_relayed : relayed_after upwards ≡ relayed_after downwards
 unfolding digits
 same_relayed = refl
+
+-- A SERVER BEHIND ANOTHER, BOTH OPENED FOR ONE LEAF
+
+first_behind : lines_of behind_one 2 upwards ≡ codes "[init -> a] 1" ++ 10 ∷ []
+unfolding digits
+first_behind = refl
+
+second_behind : lines_of behind_one 2 downwards ≡ codes "[init -> a] 1" ++ 10 ∷ []
+unfolding digits
+second_behind = refl

@@ -4,6 +4,11 @@
 pub mod Runs
 pub mod Outside
 pub mod Opened
+-- what does not depend on what is counted
+pub mod Uncounted_uses
 pub mod Openers
+pub mod Openings
+-- what each leaf showed
+pub mod Leaf_fronts
 pub mod Sound_runs
 pub mod At_rest

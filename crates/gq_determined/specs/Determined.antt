@@ -18,17 +18,20 @@ IsFront text more = (rest : List ℕ) × (more ≡ text ++ rest)
 abbrev pub ProvidesNothing : Scenario → ℕ → Type 0
 ProvidesNothing s x = (c : Component) × (slice_get (components s) x ≡ Some c) × (c.node.provides ≡ None)
 
+-- the x-th leaf is there
+abbrev pub IsLeaf : Scenario → ℕ → Type 0
+IsLeaf s x = (c : Component) × (slice_get (components s) x ≡ Some c)
+
 -- after these turns all work is at rest
 abbrev pub ComesToRest : Scenario → List (ℕ × ℕ) → Type 0
 ComesToRest s turns = AllRest (run (system s) turns).world
 
--- each leaf that provides nothing writes the same
-pub record WritesSame (s : Scenario) : Type 0 where
+-- these leaves write the same
+pub record WritesSame (s : Scenario) (Of : ℕ → Type 0) : Type 0 where
   -- in all runs to rest the same lines, in the same order
-  pub lines : (turns others : List (ℕ × ℕ)) → ComesToRest s turns → ComesToRest s others → (x : ℕ) → ProvidesNothing s x
-      → lines_of s x turns ≡ lines_of s x others
+  pub lines : (turns others : List (ℕ × ℕ)) → ComesToRest s turns → ComesToRest s others → (x : ℕ) → Of x → lines_of s x turns ≡ lines_of s x others
   -- of any two runs, at rest or not, what it wrote in one is a front of what it wrote in the other, or the other way round
-  pub fronts : (turns others : List (ℕ × ℕ)) (x : ℕ) → ProvidesNothing s x
+  pub fronts : (turns others : List (ℕ × ℕ)) (x : ℕ) → Of x
       → IsFront (lines_of s x turns) (lines_of s x others) ⊎ IsFront (lines_of s x others) (lines_of s x turns)
 
 -- all runs to rest end with the same accounts of all nodes, by any budgets

@@ -1,19 +1,21 @@
 // Laws of scenarios without races.
 ghost use Rattle.gq_model.specs.machine.Scenario.{Scenario};
 ghost use Rattle.gq_laws.specs.Sound.{IsSound};
-ghost use Rattle.gq_races.specs.Races.{IsRaceFree};
-ghost use Rattle.gq_determined.specs.Determined.{LeavesSame, WritesSame};
+ghost use Rattle.gq_races.specs.Races.{IsOrderFree, IsRaceFree};
+ghost use Rattle.gq_determined.specs.Determined.{IsLeaf, LeavesSame, ProvidesNothing, WritesSame};
 
-/// What does not depend on the turns, where a scenario is as the readers give it and is accepted, and `races` tells nothing of it: no statement outside `main`
-/// of a shared leaf changes an own slot, what is in one or what is behind one.
+/// What does not depend on the turns, where a scenario is as the readers give it and is accepted, and `races` writes no `race` line of it: no statement outside
+/// `main` of a shared leaf changes an own slot, what is in one or what is behind one.
 ///
-/// `writes`: each leaf that provides nothing writes the same lines, in the same order, in all runs that come to rest; and of any two runs, at rest or not,
-/// what it wrote in one is a front of what it wrote in the other, or the other way round.
+/// - `writes`: each leaf that provides nothing writes the same lines, in the same order, in all runs that come to rest. Of any two runs, at rest or not, what
+///   it wrote in one is a prefix of what it wrote in the other, or the other way round.
+/// - `all`: if `races` writes no `order` line either, the same holds of every leaf. No statement outside `main` of a shared leaf writes a line then.
+/// - `leaves`: all runs that come to rest end with the same accounts of all nodes: the same quotas, uses, steps and phases.
 ///
-/// `leaves`: all runs that come to rest end with the same accounts of all nodes: the same quotas, uses, steps and phases.
-///
-/// A leaf that is not shared may change its own slots wherever it stands: all sessions with it are opened in one `main`, so its requests come in one order.
+/// A leaf that has an owner may change its own slots, and write lines, wherever it stands: all its sections run for one thread at a time, so its requests come
+/// in one order.
 pub fn determined_laws()
-    ensures writes { (s : Scenario) → IsSound s → IsRaceFree s → WritesSame s }
+    ensures writes { (s : Scenario) → IsSound s → IsRaceFree s → WritesSame s (ProvidesNothing s) }
+    ensures all { (s : Scenario) → IsSound s → IsRaceFree s → IsOrderFree s → WritesSame s (IsLeaf s) }
     ensures leaves { (s : Scenario) → IsSound s → IsRaceFree s → LeavesSame s }
 {}

@@ -1,7 +1,8 @@
 -- texts that grow at their end, and the leaves that are shared
-mod Changed
+mod Found
 mod Opened
 mod Told
+mod Owned
 -- where nothing was written
 mod Free
 -- worked examples

@@ -1,8 +1,9 @@
 -- Leaves that are shared, by the servers of what each leaf opens.
-use Rattle.std.proofs.Common.{◌≡◌, ◌∙◌, ℕ, ◌+◌, ◌<◌, Bool, true, false, ◌||◌, ◌&&◌, cond, List, [], ◌∷◌, ◌++◌, map, length, get_or, drop, Option, ap, sym}
-use Rattle.std.proofs.Common.{refl, append-nil}
-use Rattle.std.specs.Prelude.{count_by, nat_lt, not}
-use Rattle.std.proofs.lemmas.List.Sums.{sum_by-cons}
+use Rattle.std.proofs.Common.{◌≡◌, ◌∙◌, ℕ, zero, suc, ◌==◌, ◌+◌, ◌<◌, Bool, true, false, ◌||◌, ◌&&◌, cond, List, []}
+use Rattle.std.proofs.Common.{◌∷◌, ◌++◌, map, length, get_or, drop, Option, ap, sym}
+use Rattle.std.proofs.Common.{refl, append-nil, arith}
+use Rattle.std.specs.Prelude.{not}
+use Rattle.std.proofs.lemmas.List.{length-map}
 use Rattle.gq_model.specs.declared.program.Section.{Section}
 use Rattle.gq_model.specs.machine.Lists.{any_of}
 use Rattle.gq_model.specs.machine.Program.{Statements}
@@ -12,8 +13,9 @@ use Rattle.gq_model.specs.rules.Use.{is_there, services_of}
 use Rattle.gq_resolve.specs.Served.{once, server_among}
 use Rattle.gq_resolve.proofs.Opened_services.{any_once}
 use Rattle.gq_resolve.proofs.Pushed.{next_is}
-use Rattle.gq_races.specs.Races.{is_shared, opens, opens_first, opens_later}
+use Rattle.gq_races.specs.Races.{all_for, any_below, implies, is_shared, opens, opens_first, opens_later, owns}
 use Rattle.gq_races.specs.internal.Openers.{first_servers, later_servers, opened_from, servers_of}
+use Rattle.gq_races.specs.internal.Owners.{AreShared, all_kept, owns_kept}
 
 or_assoc : (a b c : Bool) → (a || b) || c ≡ a || (b || c)
 or_assoc true b c = refl
@@ -63,37 +65,39 @@ module _ (s : Scenario) (x : ℕ) (c : Component) where
 
 -- LEAVES
 
-module _ (s : Scenario) (x : ℕ) where
-  any_later : (cs : List Component)
-      → any_of (λ o. any_of (is_there x) o.1) (map (opened_from (components s)) cs) ≡ any_of (opens_later (system s) x) cs
-  any_later [] = refl
-  any_later (c ∷ cs) = λ i. later_in s x c c.node.program.sections i || any_later cs i
+module _ (s : Scenario) where
+  kept_one : (owned : ℕ → Bool) (z x y : ℕ) (cs : List Component)
+      → all_kept owned z x y (map (opened_from (components s)) cs) ≡ all_for owned (system s) z x y cs
+  kept_one owned z x y [] = refl
+  kept_one owned z x y (c ∷ cs) =
+      λ e. implies (first_in s x c c.node.program.sections e) (y == z) && implies (later_in s x c c.node.program.sections e) (owned y)
+      && kept_one owned z x (suc y) cs e
 
-  count_first : (cs : List Component)
-      → count_by (λ o. any_of (is_there x) o.0) (map (opened_from (components s)) cs) ≡ count_by (opens_first (system s) x) cs
-  count_first [] = refl
-  count_first (c ∷ cs) =
-      sum_by-cons (λ o. cond (any_of (is_there x) o.0) 1 0) (opened_from (components s) c) (map (opened_from (components s)) cs)
-      ∙ ((λ i. cond (first_in s x c c.node.program.sections i) 1 0 + count_first cs i)
-      ∙ sym (sum_by-cons (λ d. cond (opens_first (system s) x d) 1 0) c cs))
+  all_owned : (owned more : ℕ → Bool) → ((y : ℕ) → owned y ≡ more y) → (z x y : ℕ) (cs : List Component)
+      → all_for owned (system s) z x y cs ≡ all_for more (system s) z x y cs
+  all_owned owned more same z x y [] = refl
+  all_owned owned more same z x y (c ∷ cs) =
+      λ e. implies (opens_first (system s) x c) (y == z) && implies (opens_later (system s) x c) (same y e)
+      && all_owned owned more same z x (suc y) cs e
 
-  -- the leaf is shared
-  shared_is : (any_of (λ o. any_of (is_there x) o.1) (map (opened_from (components s)) (components s))
-      || nat_lt 1 (count_by (λ o. any_of (is_there x) o.0) (map (opened_from (components s)) (components s)))) ≡ is_shared (system s) x
-  shared_is = λ i. any_later (components s) i || nat_lt 1 (count_first (components s) i)
+  owns_is : (n z x : ℕ) → owns_kept n (map (opened_from (components s)) (components s)) z x ≡ owns n (system s) z x
+  owns_is zero z x = refl
+  owns_is (suc n) z x =
+      kept_one (owns_kept n (map (opened_from (components s)) (components s)) z) z x 0 (components s)
+      ∙ all_owned _ _ (λ y. owns_is n z y) z x 0 (components s)
 
-  -- so it is by what the code keeps
-  pub shared_test : (all : List Component) → all ≡ components s → (opened : List (List (Option ℕ) × List (Option ℕ))) → opened ≡ map (opened_from all) all
-      → (y : ℕ) → y ≡ x → (shared : Bool)
-      → shared ≡ (any_of (λ o. any_of (is_there y) o.1) opened || nat_lt 1 (count_by (λ o. any_of (is_there y) o.0) opened))
-      → is_shared (system s) x ≡ shared
-  shared_test all same opened e y at shared t =
-      sym (t
-      ∙ (ap (λ k. tested k opened) at
-      ∙ (ap (tested x) (e ∙ ap (λ cs. map (opened_from cs) cs) same) ∙ shared_is)))
-    where
-      tested : ℕ → List (List (Option ℕ) × List (Option ℕ)) → Bool
-      tested k l = any_of (λ o. any_of (is_there k) o.1) l || nat_lt 1 (count_by (λ o. any_of (is_there k) o.0) l)
+  below_is : (test more : ℕ → Bool) → ((y : ℕ) → test y ≡ more y) → (n : ℕ) → any_below test n ≡ any_below more n
+  below_is test more same zero = refl
+  below_is test more same (suc n) = λ e. same n e || below_is test more same n e
+
+  -- a leaf is shared by what the code keeps
+  pub shared_is : (x : ℕ)
+      → not (any_below (λ z. owns_kept (length (map (opened_from (components s)) (components s))) (map (opened_from (components s)) (components s)) z x)
+      (length (map (opened_from (components s)) (components s)))) ≡ is_shared (system s) x
+  shared_is x =
+      let count : length (map (opened_from (components s)) (components s)) ≡ length (components s) = length-map (components s) (opened_from (components s)) in
+      ap (λ n. not (any_below (λ z. owns_kept n (map (opened_from (components s)) (components s)) z x) n)) count
+      ∙ ap not (below_is _ _ (λ z. owns_is (length (components s)) z x) (length (components s)))
 
 -- ONE SECTION MORE
 
@@ -109,3 +113,18 @@ module _ (all : List Component) (c : Component) (sections : List (Section × Sta
   later_here =
       ap (later_servers all c) (next_is sections i p within is)
       ∙ ap (λ l. l ++ later_servers all c (drop (i + 1) sections)) (sym (append-nil (cond (in_main p.0) [] (servers_of all c (services_of p.1)))))
+
+get_same : (l : List Bool) (x : ℕ) (a b : Bool) → x < length l → get_or l x a ≡ get_or l x b
+get_same [] x a b within = absurd (omega (arith, within))
+get_same (c ∷ l) zero a b within = refl
+get_same (c ∷ l) (suc x) a b within = get_same l x a b (omega (arith, within))
+
+-- a test of the code, by the place of a leaf
+pub shared_test : (s : Scenario) (all : List Component) → all ≡ components s → (shared : List Bool) → AreShared all shared → (x : ℕ) → x < length all
+    → (d b : Bool) → get_or shared x d ≡ b → is_shared (system s) x ≡ b
+shared_test s all same shared h x within d b is =
+    let count = length-map all (opened_from all) in
+    let there = h.0 in
+    let test = h.1 x b (omega (arith, within, count)) (sym is ∙ get_same shared x d b (omega (arith, within, count, there))) in
+    sym (test ∙ (ap (λ cs. not (any_below (λ z. owns_kept (length (map (opened_from cs) cs)) (map (opened_from cs) cs) z x) (length (map (opened_from cs) cs))))
+    same ∙ shared_is s x))

@@ -1,5 +1,5 @@
--- A server that counts what its clients ask of it together, and one that counts for each session alone. By computation.
-use Rattle.std.proofs.Common.{◌≡◌, ℕ, List, [], ◌∷◌, ◌++◌, codes, None, refl}
+-- A server that counts what its clients ask of it together, and one that counts for each session alone; and servers behind servers. By computation.
+use Rattle.std.proofs.Common.{◌≡◌, ℕ, true, false, List, [], ◌∷◌, ◌++◌, codes, None, refl}
 use Rattle.std.specs.Fmt.{digits}
 use Rattle.gq_model.specs.declared.program.Form.TheVariants.{Slice}
 use Rattle.gq_model.specs.declared.program.Instruction.TheVariants.{Out, Push, Combine, Drop, Make, Load, Store, Free, Give, Open, Call, Close}
@@ -11,10 +11,10 @@ use Rattle.gq_model.specs.declared.program.Width.TheVariants.{Byte, Word}
 use Rattle.gq_tariff.specs.declared.amount.Resource.TheVariants.{Ram}
 use Rattle.gq_model.specs.machine.Amounts.{amount}
 use Rattle.gq_model.specs.machine.Program.{Statements, Done, Do, If, Loop}
-use Rattle.gq_model.specs.machine.Scenario.{Scenario, Interface, LeafNode}
+use Rattle.gq_model.specs.machine.Scenario.{Scenario, Interface, LeafNode, system}
 use Rattle.gq_model.specs.rules.Accept.{refusal}
 use Rattle.gq_model.proofs.Samples.{all_do, leaf, server, leaves, served, main_of}
-use Rattle.gq_races.specs.Races.{changes_in, races_in, races}
+use Rattle.gq_races.specs.Races.{changes_own, found_in, is_owner, is_shared, orders, races}
 use Rattle.gq_races.specs.Text.{races_text}
 
 abbrev tally : Interface
@@ -68,6 +68,33 @@ relayed_once = relayed (client_of (codes "relay") (codes "a") ∷ [])
 abbrev pub relayed_twice : Scenario
 relayed_twice = relayed (client_of (codes "relay") (codes "a") ∷ client_of (codes "relay") (codes "b") ∷ [])
 
+-- a server that opens a session with the one that counts for each of its own, and its clients
+abbrev pub behind : LeafNode
+behind =
+    server (codes "mid") 16384 (codes "relay") ((Main, Done) ∷ (Opening, all_do (Open (Shared 0) (codes "tally") 8192 ∷ []))
+    ∷ (Calling 0, all_do (Call (Shared 0) ∷ [])) ∷ (Closing 0, all_do (Close (Shared 0) ∷ [])) ∷ [])
+
+abbrev wide : Interface
+wide = record tally { need = amount 16384 0 }
+
+abbrev client_both : LeafNode
+client_both =
+    leaf (codes "a") 32768 (main_of (Open (Own 0) (codes "relay") 16384 ∷ Open (Own 1) (codes "tally") 8192 ∷ Push 0 ∷ Call (Own 0) ∷ Out ∷ Close (Own 0)
+    ∷ Close (Own 1) ∷ []))
+
+abbrev client_of_mid : LeafNode
+client_of_mid = leaf (codes "a") 20480 (main_of (Open (Own 0) (codes "relay") 16384 ∷ Push 0 ∷ Call (Own 0) ∷ Out ∷ Close (Own 0) ∷ []))
+
+abbrev pub behind_of : List LeafNode → Scenario
+behind_of clients = served ((codes "relay", wide) ∷ (codes "tally", tally) ∷ []) (leaves (together ∷ behind ∷ clients))
+
+-- all clients are one leaf's `main`, or there is another
+abbrev pub behind_one : Scenario
+behind_one = behind_of (client_both ∷ [])
+
+abbrev pub behind_two : Scenario
+behind_two = behind_of (client_of_mid ∷ client_of (codes "tally") (codes "b") ∷ [])
+
 -- all are accepted
 accepted_together : refusal (two together) ≡ None
 accepted_together = refl
@@ -81,6 +108,28 @@ accepted_single = refl
 accepted_relayed : refusal relayed_once ≡ None
 accepted_relayed = refl
 
+accepted_behind : refusal behind_one ≡ None
+accepted_behind = refl
+
+-- OWNERS
+
+-- the client owns both, as all sessions with the one are opened for it, in its `main` or in a section of the other
+owner_of_mid : is_owner (system behind_one) 2 1 ≡ true
+owner_of_mid = refl
+
+owner_of_srv : is_owner (system behind_one) 2 0 ≡ true
+owner_of_srv = refl
+
+not_shared : is_shared (system behind_one) 0 ≡ false
+not_shared = refl
+
+-- with another client the server behind is shared, and the one before it is not
+shared_behind : is_shared (system behind_two) 0 ≡ true
+shared_behind = refl
+
+mid_of_two : is_shared (system behind_two) 1 ≡ false
+mid_of_two = refl
+
 -- WHAT RACES
 
 -- the sixth statement of the server's section for calls, where it has two clients
@@ -91,10 +140,6 @@ none_apart : races (two apart) ≡ []
 none_apart = refl
 
 -- with one client the same statement races with none
-changed_single : races_in (codes "init -> srv") together.program.sections
-    ≡ record { leaf = codes "init -> srv"; section = Calling 0; place = 6; statement = Store Byte (Own 0) } ∷ []
-changed_single = refl
-
 none_single : races (single together) ≡ []
 none_single = refl
 
@@ -106,17 +151,31 @@ none_relayed = refl
 race_relayed : races relayed_twice ≡ record { leaf = codes "init -> mid"; section = Calling 0; place = 1; statement = Call (Own 0) } ∷ []
 race_relayed = refl
 
+none_behind : races behind_one ≡ []
+none_behind = refl
+
+none_ordered : orders (two together) ≡ []
+none_ordered = refl
+
 -- AS TEXT
 
-told_together : races_text (two together) ≡ codes "race init -> srv in call 0 at 6 store o0" ++ 10 ∷ []
+told_together : races_text (two together)
+    ≡ codes "shared init -> srv tally" ++ 10 ∷ codes "  opened by init -> a in main at 1" ++ 10 ∷ codes "  opened by init -> b in main at 1" ++ 10
+    ∷ codes "race init -> srv in call 0 at 6 store o0" ++ 10 ∷ []
 unfolding digits
 told_together = refl
+
+told_behind : races_text behind_two
+    ≡ codes "shared init -> srv tally" ++ 10 ∷ codes "  opened by init -> mid in open at 1" ++ 10 ∷ codes "  opened by init -> b in main at 1" ++ 10
+    ∷ codes "race init -> srv in call 0 at 6 store o0" ++ 10 ∷ []
+unfolding digits
+told_behind = refl
 
 told_apart : races_text (two apart) ≡ []
 told_apart = refl
 
 -- an `if` and a `loop` are counted before what is in them, and the first arm before the second
-counted_inside : changes_in 1 (Loop 2 (If (Do Drop (Do (Give (Own 3)) Done)) (Do (Store Word (Own 0)) Done) (Do (Store Byte Object) Done))
+counted_inside : found_in changes_own 1 (Loop 2 (If (Do Drop (Do (Give (Own 3)) Done)) (Do (Store Word (Own 0)) Done) (Do (Store Byte Object) Done))
     (Do (Call (Own 1)) Done))
     ≡ (4, Give (Own 3)) ∷ (5, Store Word (Own 0)) ∷ (7, Call (Own 1)) ∷ []
 counted_inside = refl

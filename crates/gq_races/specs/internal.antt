@@ -1,2 +1,3 @@
 pub mod Openers
+pub mod Owners
 pub mod Lines

@@ -5,14 +5,19 @@
 //! use gq_world::Counted;
 //!
 //! let mut out = Counted::new(writer);
-//! // A line for each statement; nothing where there is none.
+//! // The shared leaves that have any, with the lines of their statements.
 //! races(alloc, scenario, &mut out)?;
 //! ```
 //!
-//! A leaf is shared if not all sessions with it are opened in `main` of one leaf. A race is a statement of a shared leaf, outside `main`, that changes an own
-//! slot, what is in it or what is behind it (`specs/Races`). What does not depend on the turns is said in `gq_determined`.
+//! A leaf has an owner if all sessions with it are opened in `main` of that one leaf, or in other sections of leaves that have the same owner. A leaf with
+//! which sessions are opened is shared if it has none: its sections may run for several threads. A race is a statement of a shared leaf, outside `main`, that
+//! changes an own slot, what is in it or what is behind it; an order is one that writes a line (`specs/Races`). `gq_determined` states what does not depend on
+//! the turns.
 #![tactic(auto)]
 
-mod changes;
+mod effects;
+mod front;
 mod openers;
+mod opens;
+mod owners;
 pub mod races;

@@ -1,5 +1,5 @@
-// Which leaves serve what a leaf opens, and which leaves are shared.
-ghost use Rattle.std.specs.Prelude.{◌≡◌, ◌≤◌, ◌++◌, ◌∷◌, [], ◌||◌, OnOk, IfOk, length, map, nat_lt, count_by};
+// Which leaves serve what a leaf opens.
+ghost use Rattle.std.specs.Prelude.{◌≡◌, ◌≤◌, ◌++◌, ◌∷◌, [], OnOk, IfOk, length, map};
 ghost use Rattle.gq_model.specs.machine.Lists.{any_of};
 ghost use Rattle.gq_model.specs.rules.Use as spec;
 ghost use Rattle.gq_model.specs.rules.Use.{is_there};
@@ -104,14 +104,14 @@ impl OpenedFrom {
     }
 
     // Whether the leaf opens a session with this one in `main`.
-    fn is_first(&self, leaf: LeafNo) -> bool
+    pub(crate) fn is_first(&self, leaf: LeafNo) -> bool
         ensures { result ≡ any_of (is_there leaf) self.now.0 }
     {
         is_among(self.first.as_slice(), leaf)
     }
 
     // Whether it does so in another section.
-    fn is_later(&self, leaf: LeafNo) -> bool
+    pub(crate) fn is_later(&self, leaf: LeafNo) -> bool
         ensures { result ≡ any_of (is_there leaf) self.now.1 }
     {
         is_among(self.later.as_slice(), leaf)
@@ -147,36 +147,4 @@ pub(crate) fn all_opened(
         all.push(OpenedFrom::of(alloc, components, component, &programs[place])?)?;
     }
     Ok(all)
-}
-
-// Whether a leaf opens a session with this one outside `main`.
-fn is_opened_later(opened: &[OpenedFrom], leaf: LeafNo) -> bool
-    ensures { result ≡ any_of (λ o. any_of (is_there leaf) o.1) opened.now }
-{
-    for from in opened {
-        if from.is_later(leaf) {
-            return true;
-        }
-    }
-    false
-}
-
-// How many leaves open a session with this one in `main`.
-fn first_openers(opened: &[OpenedFrom], leaf: LeafNo) -> usize
-    ensures { result ≡ count_by (λ o. any_of (is_there leaf) o.0) opened.now }
-{
-    let mut count = 0;
-    for from in opened {
-        if from.is_first(leaf) {
-            count += 1;
-        }
-    }
-    count
-}
-
-// Whether not all sessions with a leaf are opened in `main` of one leaf.
-pub(crate) fn is_shared(opened: &[OpenedFrom], leaf: LeafNo) -> bool
-    ensures { result ≡ (any_of (λ o. any_of (is_there leaf) o.1) opened.now || nat_lt 1 (count_by (λ o. any_of (is_there leaf) o.0) opened.now)) }
-{
-    is_opened_later(opened, leaf) || first_openers(opened, leaf) > 1
 }

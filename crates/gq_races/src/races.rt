@@ -1,18 +1,21 @@
 // The statements by which the outcome of an accepted scenario could depend on the turns.
-ghost use Rattle.std.specs.Prelude.{◌≡◌, ◌≤◌, ◌++◌, IfOk, IfErr, IsOkAnd, OnOk, length, map};
+ghost use Rattle.std.specs.Prelude.{◌≡◌, ◌≤◌, ◌++◌, ◌∷◌, [], List, IfOk, IfErr, IsOkAnd, OnOk, length, map};
 ghost use Rattle.gq_model.specs.machine.Scenario as model;
 ghost use Rattle.gq_init.specs.Counts.{written_to};
 ghost use Rattle.gq_load.specs.Faults.{Refuses};
 ghost use Rattle.gq_load.specs.Load.{loaded};
-ghost use Rattle.gq_races.specs.Races.{IsRaceFree, races_in};
-ghost use Rattle.gq_races.specs.Text.{race_text, races_text};
+ghost use Rattle.gq_races.specs.Races.{IsOrderFree, IsRaceFree, Stated, later_in};
+ghost use Rattle.gq_races.specs.Text.{effect_text, has_effect, heading, opened_text, races_text, shared_text};
 ghost use Rattle.gq_races.specs.Written.{races_written, WroteNothing};
-ghost use Rattle.gq_races.specs.internal.Openers.{opened_from};
+ghost use Rattle.gq_races.specs.internal.Openers.{opened_among};
+ghost use Rattle.gq_races.specs.internal.Owners.{AreShared};
 ghost use Rattle.gq_views.specs.Listing.{joined};
 ghost use Rattle.gq_world.specs.Outcomes.{WritesAs};
 
-use crate::changes::push_leaf;
-use crate::openers::{OpenedFrom, all_opened, is_shared};
+use crate::effects::push_leaf_effects;
+use crate::openers::all_opened;
+use crate::opens::push_openers;
+use crate::owners::shared;
 use gq_init::counted::Counted;
 use gq_load::accepted::Accepted;
 use gq_load::fault::LoadError;
@@ -25,38 +28,123 @@ use gq_world::text::put_text;
 use std::alloc::{AllocError, Global};
 use std::io::Write;
 
-// The lines of a leaf of this program.
-fn push_component(
-    alloc: Global,
-    text: &mut Vec<u8>,
-    component: &Component<'_>,
-    program: &Program,
-) -> Result<(), AllocError>
-    requires { program.now ≡ component.now.node.program }
-    ensures { OnOk result (text.new.items ≡ text.old.items ++ joined (map race_text (races_in component.now.label component.now.node.program.sections))) }
+// The first line of a shared leaf.
+fn push_shared(text: &mut Vec<u8>, component: &Component<'_>) -> Result<(), AllocError>
+    ensures { OnOk result (text.new.items ≡ text.old.items ++ joined (shared_text component.now ∷ [])) }
 {
-    push_leaf(alloc, text, component.label(), program)
+    text.extend_from_slice(b"shared ")?;
+    text.extend_from_slice(component.label())?;
+    if let Some(service) = component.leaf().provides() {
+        text.extend_from_slice(b" ")?;
+        text.extend_from_slice(service.as_bytes())?;
+    }
+    text.extend_from_slice(b"\n")
 }
 
-// The lines of all leaves that are shared.
-fn push_shared(
+// The lines of the races and orders of a leaf of this program.
+fn leaf_effects(
+    alloc: Global,
+    component: &Component<'_>,
+    program: &Program,
+) -> Result<Vec<u8>, AllocError>
+    requires { program.now ≡ component.now.node.program }
+    ensures { IfOk result (λ effects. effects.items ≡ joined (map effect_text (later_in has_effect component.now))) }
+{
+    let mut effects = Vec::new(alloc);
+    push_leaf_effects(alloc, &mut effects, component.label(), program)?;
+    Ok(effects)
+}
+
+// The lines of a shared leaf with these races and orders.
+fn push_with_effects(
     alloc: Global,
     text: &mut Vec<u8>,
     components: &[Component<'_>],
     programs: &[Program],
-    opened: &[OpenedFrom],
+    component: &Component<'_>,
+    leaf: LeafNo,
+    effects: &[u8],
 ) -> Result<(), AllocError>
     requires few { length components.now ≤ 64 }
     requires programs { programs.now ≡ map (λ c. c.node.program) components.now }
-    requires opened { opened.now ≡ map (opened_from components.now) components.now }
+    ensures { (found : List Stated) → effects.now ≡ joined (map effect_text found) → OnOk result (text.new.items ≡ text.old.items
+        ++ joined (heading (shared_text component.now ∷ map opened_text (opened_among components.now leaf components.now)) found)) }
+{
+    if effects.is_empty() {
+        return Ok(());
+    }
+    push_shared(text, component)?;
+    push_openers(alloc, text, components, programs, leaf)?;
+    text.extend_from_slice(effects)
+}
+
+// The lines of a shared leaf of this program.
+fn push_component(
+    alloc: Global,
+    text: &mut Vec<u8>,
+    components: &[Component<'_>],
+    programs: &[Program],
+    component: &Component<'_>,
+    leaf: LeafNo,
+    program: &Program,
+) -> Result<(), AllocError>
+    requires few { length components.now ≤ 64 }
+    requires programs { programs.now ≡ map (λ c. c.node.program) components.now }
+    requires program { program.now ≡ component.now.node.program }
+    ensures { OnOk result (text.new.items ≡ text.old.items ++ joined (heading
+        (shared_text component.now ∷ map opened_text (opened_among components.now leaf components.now)) (later_in has_effect component.now))) }
+{
+    let effects = leaf_effects(alloc, component, program)?;
+    let pushed = push_with_effects(
+        alloc,
+        text,
+        components,
+        programs,
+        component,
+        leaf,
+        effects.as_slice(),
+    );
+    drop(effects);
+    pushed
+}
+
+// The lines of all leaves that are shared.
+fn push_leaves(
+    alloc: Global,
+    text: &mut Vec<u8>,
+    components: &[Component<'_>],
+    programs: &[Program],
+    shared: &[bool],
+) -> Result<(), AllocError>
+    requires few { length components.now ≤ 64 }
+    requires programs { programs.now ≡ map (λ c. c.node.program) components.now }
+    requires shared { AreShared components.now shared.now }
     ensures { (s : model.Scenario) → components.now ≡ model.components s → OnOk result (text.new.items ≡ text.old.items ++ races_text s) }
 {
     for (place, component) in components.iter().enumerate() {
-        if is_shared(opened, LeafNo::new(place as u32)) {
-            push_component(alloc, text, component, &programs[place])?;
+        if shared[place] {
+            let leaf = LeafNo::new(place as u32);
+            let program = &programs[place];
+            push_component(alloc, text, components, programs, component, leaf, program)?;
         }
     }
     Ok(())
+}
+
+// Whether each leaf is shared, where these have these programs.
+fn all_shared(
+    alloc: Global,
+    components: &[Component<'_>],
+    programs: &[Program],
+) -> Result<Vec<bool>, AllocError>
+    requires few { length components.now ≤ 64 }
+    requires programs { programs.now ≡ map (λ c. c.node.program) components.now }
+    ensures { IfOk result (λ shared. AreShared components.now shared.items) }
+{
+    let opened = all_opened(alloc, components, programs)?;
+    let shared = shared(alloc, opened.as_slice());
+    drop(opened);
+    shared
 }
 
 // The text of the leaves of a scenario, which have these programs.
@@ -69,10 +157,10 @@ fn leaves_text(
     requires programs { programs.now ≡ map (λ c. c.node.program) components.now }
     ensures { (s : model.Scenario) → components.now ≡ model.components s → IfOk result (λ text. text.items ≡ races_text s) }
 {
-    let opened = all_opened(alloc, components, programs)?;
+    let shared = all_shared(alloc, components, programs)?;
     let mut text = Vec::new(alloc);
-    let pushed = push_shared(alloc, &mut text, components, programs, opened.as_slice());
-    drop(opened);
+    let pushed = push_leaves(alloc, &mut text, components, programs, shared.as_slice());
+    drop(shared);
     pushed?;
     Ok(text)
 }
@@ -102,10 +190,17 @@ fn loaded_text(alloc: Global, scenario: &[u8]) -> Result<Vec<u8>, LoadError>
     }
 }
 
-/// Writes the statements by which the outcome of an accepted scenario could depend on the turns: a line for each statement of a shared leaf, outside
-/// `main`, that changes an own slot, what is in it or what is behind it; leaves in preorder, statements in the order of the sections and the text. Where it
-/// is done and nothing was written there is none (`free`). Nothing is written where the scenario is refused, as `check` refuses it, or where host memory is.
-/// After a failed write a front of the text was written.
+/// Writes the statements by which the outcome of an accepted scenario could depend on the turns.
+///
+/// For each shared leaf that has any, leaves in preorder:
+///
+/// - a line `shared` with the leaf and its service;
+/// - below it a line `opened by` for each `open` of a session with it, leaves in preorder, statements in the order of the sections and the text;
+/// - a line `race` for each statement outside `main` that changes an own slot, what is in it or what is behind it, and a line `order` for each that writes a
+///   line, in the order of the sections and the text.
+///
+/// If nothing was written, there is no race (`free`) and no order (`quiet`). If the scenario is refused, as `check` refuses it, or host memory is, nothing is
+/// written. After a failed write a prefix of the text was written.
 pub fn races<W: Write>(
     alloc: Global,
     scenario: &[u8],
@@ -113,6 +208,7 @@ pub fn races<W: Write>(
 ) -> Result<(), RunFault<'static>>
     ensures writes { WritesAs W.contents (races_written scenario.now) out.old out.new result }
     ensures free { OnOk result (WroteNothing (written_to W.contents out.old) (written_to W.contents out.new) → IsOkAnd (loaded scenario.now) IsRaceFree) }
+    ensures quiet { OnOk result (WroteNothing (written_to W.contents out.old) (written_to W.contents out.new) → IsOkAnd (loaded scenario.now) IsOrderFree) }
 {
     let text = loaded_text(alloc, scenario)?;
     put_text(out, text.as_slice())

@@ -19,7 +19,8 @@ program = '''\nmain\nslice o0 16\npush 0\npush 1\nstore o0\nend\nopen\nend\n\
 call 0\ndrop\nloop 2\npush 1\nif\npush 1\ndrop\nelse\npush 0\npush 1\nstore o0\nend\nend\npush 0\npush 0\nload o0\nstore4 o0\npush 7\nend\nclose 0\nend\n'''\n";
 
 const TOLD: &[u8] =
-    b"race init -> srv in call 0 at 9 store o0\nrace init -> srv in call 0 at 13 store4 o0\n";
+    b"shared init -> srv tally\n  opened by init -> a in main at 1\n  opened by init -> b in main at 1\n\
+race init -> srv in call 0 at 9 store o0\nrace init -> srv in call 0 at 13 store4 o0\n";
 
 // The number stands in the object of the session.
 const APART: &[u8] = b"[[start]]\nname = \"srv\"\nquantum = 0\nprovides = \"tally\"\n\

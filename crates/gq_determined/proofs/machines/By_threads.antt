@@ -43,6 +43,8 @@ module _ (W : Type 0) (E : Type 0) (first : W) (step : W → ℕ → W) (who : W
     own : who (after before) x ≡ Some i
     more : List E
     front : shown i past ≡ shown i before ++ more
+    later : List ℕ
+    is : past ≡ later ++ before
 
   -- each step of a thread is the n-th for some n
   nth : (i n : ℕ) (past : List ℕ) → n < taken i past → Turn i n past
@@ -59,6 +61,8 @@ module _ (W : Type 0) (E : Type 0) (first : W) (step : W → ℕ → W) (who : W
             own = t.own;
             more = t.more ++ more;
             front = e ∙ (ap (λ l. l ++ more) t.front ∙ append_assoc (shown i t.before) t.more more);
+            later = x ∷ t.later;
+            is = ap (λ l. x ∷ l) t.is;
           }
 
       by : (n < taken i past → Turn i n past) → (b : Bool) → is_for i (who (after past) x) ≡ b → Turn i n (x ∷ past)
@@ -72,6 +76,8 @@ module _ (W : Type 0) (E : Type 0) (first : W) (step : W → ℕ → W) (who : W
           own = is_for_some i (who (after past) x) e;
           more = shows (after past) x;
           front = shown_own i past x e;
+          later = x ∷ [];
+          is = refl;
         }
         | inr t ↦
             let g : n < taken i past = omega (arith, subst (λ m. n < m) (taken_own i past x e) h, t.1) in
@@ -181,6 +187,27 @@ module _ (W : Type 0) (E : Type 0) (first : W) (step : W → ℕ → W) (who : W
       pub agree_ended : (i : ℕ) (a b : List ℕ) → Ended i (after a) → Ended i (after b) → Same i (after a) (after b) × (shown i a ≡ shown i b)
       agree_ended i a b end end_b =
           let n = length a + length b in agree i a b (as_many n (agree_within n) i a b (omega arith) end end_b)
+
+      -- a run has been where a thread is in another, if it has taken as many steps for it
+      pub record HasBeen (i : ℕ) (a b : List ℕ) : Type 0 where
+        pub before : List ℕ
+        pub later : List ℕ
+        pub is : b ≡ later ++ before
+        pub same : Same i (after a) (after before)
+
+      pub been : (i : ℕ) (a b : List ℕ) → taken i a ≤ taken i b → HasBeen i a b
+      been i a b few = elim (eqb_tells (taken i a) (taken i b)) [
+        | inl e ↦ record { before = b; later = []; is = refl; same = (agree i a b e.1).0 }
+        | inr e ↦
+            let turn = nth i (taken i a) b (omega (arith, few, e.1)) in
+            record { before = turn.before; later = turn.later; is = turn.is; same = (agree i a turn.before (sym turn.count)).0 }
+      ]
+
+      -- no run takes more steps for a thread than one in which it has ended
+      pub no_further : (i : ℕ) (a b : List ℕ) → Ended i (after a) → taken i b ≤ taken i a
+      no_further i a b end =
+          let n = length a + length b in
+          let less : (taken i a < taken i b) → ⊥ = more_steps n (agree_within n) i a b (omega arith) end in omega (arith, less)
 
       abbrev pub Front : List E → List E → Type 0
       Front one other = (rest : List E) × (other ≡ one ++ rest)

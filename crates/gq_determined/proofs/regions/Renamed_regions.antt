@@ -13,13 +13,11 @@ use Rattle.gq_laws.proofs.Stepping.{outlined}
 use Rattle.gq_laws.specs.internal.Renamed.{renamed_slot, renamed_spot, renamed_current, renamed_leaf, renamed_session, renamed_request}
 use Rattle.gq_determined.specs.internal.Threads.{Tracked, within, among, slots_of, seen, seen_by, IsAtSame, IsSameRegion}
 use Rattle.gq_determined.proofs.regions.Regions.{within_there}
-use Rattle.gq_determined.proofs.standing.Orderly.{IsBelowOf, IsTracked}
+use Rattle.gq_determined.proofs.standing.Orderly.{root_at, IsTracked}
 
 -- the root of what a slot names is that of the slot
 abbrev pub rooted : Tracked → Spot → ℕ
-rooted g (In_leaf y a) = g.own y
-rooted g (In_session j a) = g.root j
-rooted g (In_object j) = g.root j
+rooted g q = root_at g.own g.root q
 
 module _ (system : System) (g : Tracked) (t : IsTracked system g) where
   abbrev w : World
@@ -30,17 +28,8 @@ module _ (system : System) (g : Tracked) (t : IsTracked system g) where
       × (g.root (named n) ≡ rooted g q)
   named_there q n e =
       let m = t.linked.named q n e in
-      let s = outlined (session_at w (named n)) m.0 m.1 in (
-        s.0,
-        s.1,
-        by q (subst (IsBelowOf g (named n)) (ap (λ (s : Session). s.spot) s.2 ∙ m.2) (t.below (named n) s.0 s.1)) m.0.client
-            (subst (λ q. Belongs (links w) q m.0.client) m.2 (t.linked.belongs (named n) m.0 m.1)),
-      )
-    where
-      by : (q : Spot) → IsBelowOf g (named n) q → (client : ℕ) → Belongs (links w) q client → g.root (named n) ≡ rooted g q
-      by (In_leaf y a) below client b = below.0
-      by (In_session j a) below client b = below.0
-      by (In_object j) below client b = absurd b
+      let s = outlined (session_at w (named n)) m.0 m.1 in
+      (s.0, s.1, subst (λ q. g.root (named n) ≡ rooted g q) (ap (λ (s : Session). s.spot) s.2 ∙ m.2) (t.below (named n) s.0 s.1))
 
   module _ (f new : ℕ → ℕ) (y : ℕ) (agree : (k : ℕ) (s : Session) → session_at w k ≡ Some s → g.root k ≡ y → new k ≡ f k) where
     slot_name : (slot : Slot) → ((n : Naming) → naming slot ≡ Some n → new (named n) ≡ f (named n)) → renamed_slot new slot ≡ renamed_slot f slot
@@ -61,10 +50,10 @@ module _ (system : System) (g : Tracked) (t : IsTracked system g) where
     session_name : (k : ℕ) (s : Session) → session_at w k ≡ Some s → g.root k ≡ y → renamed_session new s ≡ renamed_session f s
     session_name k s there is = λ e. record s { spot = spot e; object = object e; slots = slots e }
       where
-        by : (q : Spot) → IsBelowOf g k q → Belongs (links w) q s.client → renamed_spot new q ≡ renamed_spot f q
+        by : (q : Spot) → g.root k ≡ rooted g q → Belongs (links w) q s.client → renamed_spot new q ≡ renamed_spot f q
         by (In_leaf z a) below b = refl
         by (In_session j a) below b =
-            let t = outlined (session_at w j) b.0 b.1 in ap (λ n. In_session n a) (agree j t.0 t.1 (sym below.0 ∙ is))
+            let t = outlined (session_at w j) b.0 b.1 in ap (λ n. In_session n a) (agree j t.0 t.1 (sym below ∙ is))
         by (In_object j) below b = absurd b
 
         spot : renamed_spot new s.spot ≡ renamed_spot f s.spot

@@ -29,18 +29,19 @@ use Rattle.gq_laws.proofs.linking.Sections.{gone_here}
 use Rattle.gq_laws.proofs.turning.Outcomes.{blocking, asked_world}
 use Rattle.gq_laws.proofs.turning.Instructs.{instruct_by, section_by, accept_by}
 
--- what is asked of a session's slot and its server
-module _ (Suits : Spot → ℕ → Type 0) where
+-- what is asked of a session's slot, its client and its server
+module _ (Suits : Spot → ℕ → ℕ → Type 0) where
   pub record AllSuit (w : World) : Type 0 where
-    pub at : (k : ℕ) (s : Session) → session_at w k ≡ Some s → Suits s.spot s.server
+    pub at : (k : ℕ) (s : Session) → session_at w k ≡ Some s → Suits s.spot s.client s.server
 
-  suits_session : (w : World) (j : ℕ) (t s : Session) → session_at w j ≡ Some t → s.spot ≡ t.spot → s.server ≡ t.server → AllSuit w
+  suits_session : (w : World) (j : ℕ) (t s : Session) → session_at w j ≡ Some t → s.spot ≡ t.spot → s.client ≡ t.client → s.server ≡ t.server → AllSuit w
       → AllSuit (with_session w j s)
-  suits_session w j t s e spot server h = record {
+  suits_session w j t s e spot client server h = record {
     at = λ k v f. elim (eqb_tells k j) [
-      | inl g ↦ subst (λ (v : Session). Suits v.spot v.server)
+      | inl g ↦ subst (λ (v : Session). Suits v.spot v.client v.server)
           (some_same (sym (session_here w j t s e) ∙ (ap (session_at (with_session w j s)) (sym g.1) ∙ f)))
-          (subst (λ q. Suits q s.server) (sym spot) (subst (Suits t.spot) (sym server) (h.at j t e)))
+          (subst (λ q. Suits q s.client s.server) (sym spot) (subst (λ c. Suits t.spot c s.server) (sym client) (subst (Suits t.spot t.client) (sym server)
+          (h.at j t e))))
       | inr g ↦ h.at k v (sym (session_else w j k s g.1) ∙ f)
     ];
   }
@@ -55,17 +56,17 @@ module _ (Suits : Spot → ℕ → Type 0) where
     where
       go : (o : Option Session) → session_at w j ≡ o → AllSuit (put_session_slot w o j i slot)
       go None e = h
-      go (Some s) e = suits_session w j s (record s { slots = slice_set s.slots i slot }) e refl refl h
+      go (Some s) e = suits_session w j s (record s { slots = slice_set s.slots i slot }) e refl refl refl h
   suits_slot w (In_object j) slot h = go (session_at w j) refl
     where
       go : (o : Option Session) → session_at w j ≡ o → AllSuit (put_object w o j slot)
       go None e = h
-      go (Some s) e = suits_session w j s (record s { object = slot }) e refl refl h
+      go (Some s) e = suits_session w j s (record s { object = slot }) e refl refl refl h
 
-  suits_added : (w : World) (s : Session) → Suits s.spot s.server → AllSuit w → AllSuit (record w { sessions = add_session s w.sessions })
+  suits_added : (w : World) (s : Session) → Suits s.spot s.client s.server → AllSuit w → AllSuit (record w { sessions = add_session s w.sessions })
   suits_added w s own h = record {
     at = λ k v e. elim (eqb_tells k (free_place w.sessions)) [
-      | inl f ↦ subst (λ (v : Session). Suits v.spot v.server)
+      | inl f ↦ subst (λ (v : Session). Suits v.spot v.client v.server)
           (some_same (sym (add_here s w.sessions) ∙ (ap (λ j. joined (slice_get (add_session s w.sessions) j)) (sym f.1) ∙ e))) own
       | inr f ↦ h.at k v (sym (add_else s w.sessions k f.1) ∙ e)
     ];
@@ -96,7 +97,7 @@ module _ (Suits : Spot → ℕ → Type 0) where
   -- what a statement opens suits
   abbrev pub OpensSuited : Doing → Instruction → Type 0
   OpensSuited d (Open place service n) =
-      (q : Spot) (server : ℕ) → spot_of d.x d.leaf.current place ≡ Some q → server_of d.system d.component service ≡ Some server → Suits q server
+      (q : Spot) (server : ℕ) → spot_of d.x d.leaf.current place ≡ Some q → server_of d.system d.component service ≡ Some server → Suits q d.x server
   OpensSuited d _ = Unit {0}
 
   abbrev pub FirstSuited : Doing → Statements → Type 0
@@ -128,7 +129,8 @@ module _ (Suits : Spot → ℕ → Type 0) where
     upgrade_suits : (place : Place) (n : ℕ) → Ends AllSuit (upgrade d place n)
     upgrade_suits place n =
         need_ends AllSuit (spot_of d.x d.leaf.current place) WrongKind _
-        (λ q. link_in_found AllSuit d.world (slot_at d.world q) _ (λ j s there. asked_suits _ q j Ask_upgrade (suits_session d.world j s _ there refl refl h)))
+        (λ q. link_in_found AllSuit d.world (slot_at d.world q) _ (λ j s there. asked_suits _ q j Ask_upgrade (suits_session d.world j s _ there refl
+        refl refl h)))
 
     instruct_suits : (i : Instruction) → OpensSuited d i → Ends AllSuit (instruct d i)
     instruct_suits i own = instruct_by d AllSuit AllSuit h suits_slot suits_slot (λ w operands locals same hw. record { at = hw.at })
@@ -148,14 +150,15 @@ module _ (Suits : Spot → ℕ → Type 0) where
 
     accept_suits : (r : Request) (rest : List Request) → Ends AllSuit (accept d r rest)
     accept_suits r rest = accept_by AllSuit d r rest (λ old there. record {
-      at = (suits_session d.world r.session old (accepted_as d.system r.ask old) there (kept r.ask old).0 (kept r.ask old).1 h).at;
+      at = (suits_session d.world r.session old (accepted_as d.system r.ask old) there (kept r.ask old).0 (kept r.ask old).1 (kept r.ask old).2 h).at;
     })
       where
-        kept : (ask : Ask) (old : Session) → ((accepted_as d.system ask old).spot ≡ old.spot) × ((accepted_as d.system ask old).server ≡ old.server)
-        kept Ask_open old = (refl, refl)
-        kept Ask_upgrade old = (refl, refl)
-        kept Ask_close old = (refl, refl)
-        kept (Ask_call value) old = (refl, refl)
+        kept : (ask : Ask) (old : Session) → ((accepted_as d.system ask old).spot ≡ old.spot)
+            × ((accepted_as d.system ask old).client ≡ old.client) × ((accepted_as d.system ask old).server ≡ old.server)
+        kept Ask_open old = (refl, refl, refl)
+        kept Ask_upgrade old = (refl, refl, refl)
+        kept Ask_close old = (refl, refl, refl)
+        kept (Ask_call value) old = (refl, refl, refl)
 
   perform_suits : (d : Doing) → AllSuit d.world → (todo : Statements) → FirstSuited d todo → Ends AllSuit (perform d todo)
   perform_suits d h Done first = body_suits d h d.leaf.loops

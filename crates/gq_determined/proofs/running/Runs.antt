@@ -1,5 +1,5 @@
 -- Runs in which no shared leaf changes its own slots outside `main`: what a thread has and shows depends on its own steps alone.
-use Rattle.std.proofs.Common.{◌≡◌, ◌≢◌, ◌⊎◌, ℕ, zero, suc, ◌==◌, ◌++◌, inl, inr, true, false, List, [], ◌∷◌, Option, Some, None, Ok}
+use Rattle.std.proofs.Common.{◌≡◌, ◌≢◌, ◌⊎◌, ℕ, zero, suc, ◌==◌, ◌++◌, inl, inr, Bool, true, false, List, [], ◌∷◌, Option, Some, None, Ok, is_some}
 use Rattle.gq_model.specs.declared.phase.Phase.{Phase}
 use Rattle.gq_model.specs.declared.phase.Phase.TheVariants.{Serving}
 use Rattle.std.proofs.Common.{refl, ap, sym, ◌∙◌, subst}
@@ -20,10 +20,13 @@ use Rattle.gq_determined.specs.internal.Threads.{events_of, shows, works, IsSame
 use Rattle.gq_determined.specs.internal.Machines.{is_for}
 use Rattle.gq_determined.proofs.machines.By_threads.{after, shown, AreThreads, agree_ended, fronts}
 use Rattle.gq_determined.proofs.regions.Elsewhere.{empty_waits}
-use Rattle.gq_determined.proofs.standing.Orderly.{AreOpened, IsTracked, IsByCurrent}
+use Rattle.gq_determined.proofs.standing.Orderly.{IsOpened, IsTracked, IsByCurrent}
+use Rattle.gq_determined.proofs.running.Opened.{kept_suited}
+use Rattle.gq_determined.proofs.running.Openings.{FirstOpens, firsts_opened}
+use Rattle.gq_model.specs.rules.Resolve.{cycle_fault}
 use Rattle.gq_determined.proofs.standing.Places.{IsWorking, ServesSame, is_equal, same_place, lives_who}
 use Rattle.gq_determined.proofs.standing.Given.{serving_else, serving_who, given_tracked, who_same, same_works, own_else, own_x, own_new, x_else}
-use Rattle.gq_determined.proofs.standing.Given.{own_else_back, own_from, own_moves, given_left, given_right}
+use Rattle.gq_determined.proofs.standing.Given.{own_else_back, own_from, own_moves, own_stays, given_left, given_right}
 use Rattle.gq_determined.proofs.standing.Ready.{Readies, readies, BothReady, both_ready}
 use Rattle.gq_determined.proofs.stepping.Itself.{thread_itself}
 use Rattle.gq_determined.proofs.stepping.Own_steps.{for_working, for_serving}
@@ -39,13 +42,14 @@ start_waits [] y a k e = none_some e
 start_waits (c ∷ cs) zero a k e = empty_waits 64 a k e
 start_waits (c ∷ cs) (suc y) a k e = start_waits cs y a k e
 
-pub start_tracked : (u : System) → IsTracked u (tracked_start u)
-start_tracked u = record {
+pub start_tracked : (u : System) → cycle_fault u 0 u.components ≡ None → IsTracked u (tracked_start u)
+start_tracked u acyclic = record {
+  acyclic = acyclic;
   linked = start_linked u;
   below = λ k s e. absurd (none_some e);
   waits = waits;
   stands = λ k s e. absurd (none_some e);
-  owned = record { opened = λ x ne. absurd (ne refl); whole = λ x. refl; first = λ x e. refl };
+  owned = record { opened = λ x ne. absurd (ne refl); whole = λ x. refl };
   lives = λ k s e. absurd (none_some e);
   main = λ y phase at act. refl;
   busy = λ y phase q at single. absurd (start_idle u.components y phase q at);
@@ -67,12 +71,14 @@ module _ (u : System) (pays : (z : World) → paid u z ≡ true) where
   tracked = after Tracked (ℕ × Event) (tracked_start u) (tracked_turn u) who (shows u)
 
   -- in each world that turns lead to every leaf can take its turn, there is a component for each leaf, outside `main` of a shared leaf no own slot is changed
-  -- next, and all sessions with a leaf that is not shared stand in own slots of its opener
+  -- next, and what is opened next is opened so by the program; and no leaf reaches itself by uses
   pub record AreGood : Type 0 where
+    pub acyclic : cycle_fault u 0 u.components ≡ None
     pub goes : (a : List ℕ) (x : ℕ) → (p : World × Event) × (next u (tracked a).world x ≡ Ok p)
     pub placed : (a : List ℕ) (x : ℕ) (leaf : Leaf) → slice_get (tracked a).world.leaves x ≡ Some leaf → (c : Component) × (slice_get u.components x ≡ Some c)
     pub stateless : (a : List ℕ) → IsStateless u (tracked a).world
-    pub opened : (a : List ℕ) → AreOpened u (tracked a).world
+    pub opens : (a : List ℕ) (x : ℕ) (c : Component) (leaf : Leaf) → slice_get u.components x ≡ Some c → slice_get (tracked a).world.leaves x ≡ Some leaf
+        → FirstOpens u c (is_some leaf.current) leaf.todo
 
   module _ (good : AreGood) where
     component_of : (a : List ℕ) (x i : ℕ) → who (tracked a) x ≡ Some i → (c : Component) × (slice_get u.components x ≡ Some c)
@@ -85,22 +91,22 @@ module _ (u : System) (pays : (z : World) → paid u z ≡ true) where
 
     -- BEFORE A STEP
 
-    abbrev shift : List ℕ → ℕ → ℕ → Option ℕ
+    abbrev shift : List ℕ → ℕ → ℕ → Bool
     shift a x i = first_by u (tracked a) x i (slice_get (tracked a).world.leaves x)
 
     abbrev pub before : List ℕ → ℕ → ℕ → Tracked
     before a x i = ready u (tracked a) x i
 
     -- the world after a turn that is a step
-    turn_is : (a : List ℕ) (x i : ℕ) → who (tracked a) x ≡ Some i
+    pub turn_is : (a : List ℕ) (x i : ℕ) → who (tracked a) x ≡ Some i
         → tracked (x ∷ a) ≡ stepped_to (before a x i) x i (Ok (good.goes a x).0)
     turn_is a x i is = ap (turn_for u (tracked a) x) is ∙ ap (stepped_to (before a x i) x i) (good.goes a x).1
 
-    turn_none : (a : List ℕ) (x : ℕ) → who (tracked a) x ≡ None → tracked (x ∷ a) ≡ tracked a
+    pub turn_none : (a : List ℕ) (x : ℕ) → who (tracked a) x ≡ None → tracked (x ∷ a) ≡ tracked a
     turn_none a x is = ap (turn_for u (tracked a) x) is
 
     -- what is tracked fits, and the step is still the thread's
-    pub record IsReady (g : Tracked) (x i : ℕ) (o : Option ℕ) : Type 0 where
+    pub record IsReady (g : Tracked) (x i : ℕ) (o : Bool) : Type 0 where
       pub tracks : IsTracked u (given g x i o)
       pub is : who (given g x i o) x ≡ Some i
       pub works_same : (j y : ℕ) → works (given g x i o) j y ≡ works g j y
@@ -113,9 +119,11 @@ module _ (u : System) (pays : (z : World) → paid u z ≡ true) where
       pub own_from : (y : ℕ) → (given g x i o).own y ≡ i
           → (g.own y ≡ i) ⊎ ((g.own y ≡ x) × (g.own x ≡ x) × (x ≢ i) × ((given g x i o).own x ≡ i))
       pub own_moves : (y : ℕ) → g.own y ≡ y → (given g x i o).own y ≢ y → (y ≡ x) × (x ≢ i)
+      -- what is a thread's stays so while it has its own leaf
+      pub own_stays : (y : ℕ) → (given g x i o).own (g.own y) ≡ g.own y → (given g x i o).own y ≡ g.own y
 
-    ready_by : (g : Tracked) (t : IsTracked u g) (x i : ℕ) → who g x ≡ Some i → (o : Option ℕ) → Readies u g i x o → IsReady g x i o
-    ready_by g t x i is None r = record {
+    ready_by : (g : Tracked) (t : IsTracked u g) (x i : ℕ) → who g x ≡ Some i → (o : Bool) → Readies u g i x o → IsReady g x i o
+    ready_by g t x i is false r = record {
       tracks = t;
       is = is;
       works_same = λ j y. refl;
@@ -126,26 +134,28 @@ module _ (u : System) (pays : (z : World) → paid u z ≡ true) where
       right = λ j ne e h s. s;
       own_from = λ y e. inl e;
       own_moves = λ y e ne. absurd (ne e);
+      own_stays = λ y e. refl;
     }
-    ready_by g t x i is (Some n) r =
-        let b = r.here n refl in
+    ready_by g t x i is true r =
+        let b = r.here refl in
         record {
-          tracks = given_tracked u g t i x n b;
-          is = who_same u g t i x n b;
-          works_same = same_works u g t i x n b;
-          taken = λ leaf there single serves. own_else u g t i x n b;
-          own_back = own_else_back u g t i x n b;
-          left = λ j ne e. given_left u g t i x n b j ne (λ same. own_else u g t i x n b (subst (λ y. (given g x i (Some n)).own y ≡ y) same e));
-          right = λ j ne e. given_right u g t i x n b j ne (λ same. own_else u g t i x n b (subst (λ y. (given g x i (Some n)).own y ≡ y) same e));
-          own_from = λ y e. elim (own_from u g t i x n b y e) [
+          tracks = given_tracked u g t i x b;
+          is = who_same u g t i x b;
+          works_same = same_works u g t i x b;
+          taken = λ leaf there single serves. own_else u g t i x b;
+          own_back = own_else_back u g t i x b;
+          left = λ j ne e. given_left u g t i x b j ne (λ same. own_else u g t i x b (subst (λ y. (given g x i true).own y ≡ y) same e));
+          right = λ j ne e. given_right u g t i x b j ne (λ same. own_else u g t i x b (subst (λ y. (given g x i true).own y ≡ y) same e));
+          own_from = λ y e. elim (own_from u g t i x b y e) [
             | inl q ↦ inl q
-            | inr q ↦ inr (q, own_x u g t i x n b, x_else u g t i x n b, own_new u g t i x n b)
+            | inr q ↦ inr (q, own_x u g t i x b, x_else u g t i x b, own_new u g t i x b)
           ];
-          own_moves = λ y e ne. (own_moves u g t i x n b y e ne, x_else u g t i x n b);
+          own_moves = λ y e ne. (own_moves u g t i x b y e ne, x_else u g t i x b);
+          own_stays = own_stays u g t i x b;
         }
 
     pub all_tracked : (a : List ℕ) → IsTracked u (tracked a)
-    all_tracked [] = start_tracked u
+    all_tracked [] = start_tracked u good.acyclic
     all_tracked (x ∷ a) = by (all_tracked a) (who (tracked a) x) refl
       where
         by : IsTracked u (tracked a) → (o : Option ℕ) → who (tracked a) x ≡ o → IsTracked u (tracked (x ∷ a))
@@ -157,7 +167,8 @@ module _ (u : System) (pays : (z : World) → paid u z ≡ true) where
             let one = solo u pays (before a x i) r.tracks (good.stateless a) i x r.is c.0 c.1 p.0.0 p.0.1 p.1 in
             subst (IsTracked u) (sym (turn_is a x i e))
             (still_tracked u (before a x i) r.tracks i x c.0 one.a one.there p.0.0 p.0.1 one.done
-            (subst (λ (g : Tracked). AreOpened u g.world) (turn_is a x i e) (good.opened (x ∷ a)))
+            (kept_suited (IsOpened u (before a x i).own (before a x i).root) u (before a x i).world x p.0.0 p.0.1 (record { at = r.tracks.stands })
+            (firsts_opened u (before a x i) r.tracks (good.stateless a) (good.opens a)) p.1).at
             (lives_who u (before a x i) r.tracks i x r.is) (λ single serves. r.taken one.a one.there single serves))
 
     pub ready_at : (a : List ℕ) (x i : ℕ) → who (tracked a) x ≡ Some i → IsReady (tracked a) x i (shift a x i)
@@ -321,7 +332,7 @@ module _ (u : System) (pays : (z : World) → paid u z ≡ true) where
     -- THREADS THAT HAVE BECOME OTHERS'
 
     -- what is its own was so before
-    own_before : (a : List ℕ) (x y : ℕ) → (tracked (x ∷ a)).own y ≡ y → (tracked a).own y ≡ y
+    pub own_before : (a : List ℕ) (x y : ℕ) → (tracked (x ∷ a)).own y ≡ y → (tracked a).own y ≡ y
     own_before a x y own = by (who (tracked a) x) refl
       where
         by : (o : Option ℕ) → who (tracked a) x ≡ o → (tracked a).own y ≡ y
@@ -332,13 +343,15 @@ module _ (u : System) (pays : (z : World) → paid u z ≡ true) where
         ]
 
     -- a thread that is another's had ended, just before it became that
-    record IsBefore (a : List ℕ) (i : ℕ) : Type 0 where
-      run : List ℕ
-      own : (tracked run).own i ≡ i
-      ended : HasEnded i (tracked run)
-      later : (y : ℕ) → (tracked a).own y ≡ y → (tracked run).own y ≡ y
+    pub record IsBefore (a : List ℕ) (i : ℕ) : Type 0 where
+      pub run : List ℕ
+      pub own : (tracked run).own i ≡ i
+      pub ended : HasEnded i (tracked run)
+      pub later : (y : ℕ) → (tracked a).own y ≡ y → (tracked run).own y ≡ y
+      pub more : List ℕ
+      pub is : a ≡ more ++ run
 
-    before_given : (a : List ℕ) (i : ℕ) → (tracked a).own i ≢ i → IsBefore a i
+    pub before_given : (a : List ℕ) (i : ℕ) → (tracked a).own i ≢ i → IsBefore a i
     before_given [] i ne = absurd (ne refl)
     before_given (x ∷ a) i ne = by (eqb_tells ((tracked a).own i) i) (before_given a i)
       where
@@ -351,9 +364,17 @@ module _ (u : System) (pays : (z : World) → paid u z ≡ true) where
         by : ((((tracked a).own i == i) ≡ true) × ((tracked a).own i ≡ i)) ⊎ ((((tracked a).own i == i) ≡ false) × ((tracked a).own i ≢ i))
             → ((tracked a).own i ≢ i → IsBefore a i) → IsBefore (x ∷ a) i
         by (inl q) further =
-            record { run = a; own = q.1; ended = here q.1 (who (tracked a) x) refl; later = own_before a x }
+            record { run = a; own = q.1; ended = here q.1 (who (tracked a) x) refl; later = own_before a x; more = x ∷ []; is = refl }
         by (inr q) further =
-            let b = further q.1 in record { run = b.run; own = b.own; ended = b.ended; later = λ y own. b.later y (own_before a x y own) }
+            let b = further q.1 in
+            record {
+              run = b.run;
+              own = b.own;
+              ended = b.ended;
+              later = λ y own. b.later y (own_before a x y own);
+              more = x ∷ b.more;
+              is = ap (λ l. x ∷ l) b.is;
+            }
 
     -- a thread that has ended in two runs has the same in both, and has shown the same
     pub same_end : (i : ℕ) (a b : List ℕ) → HasEnded i (tracked a) → HasEnded i (tracked b)

@@ -1,10 +1,10 @@
 -- The runs of sound scenarios without races.
-use Rattle.std.proofs.Common.{◌≡◌, ◌<◌, ℕ, zero, suc, List, [], ◌∷◌, length, true, Option, Some, None, is_some, Ok, refl, ap, sym, subst}
+use Rattle.std.proofs.Common.{◌≡◌, ◌<◌, ℕ, zero, suc, List, [], ◌∷◌, length, Bool, true, Option, Some, None, is_some, Ok, refl, ap, sym, ◌∙◌, subst}
 use Rattle.std.specs.Prelude.{slice_get}
 use Rattle.std.proofs.Common.{arith}
 use Rattle.gq_model.specs.machine.Scenario.{Scenario, Component, System, system}
 use Rattle.gq_model.specs.machine.World.{Leaf, World}
-use Rattle.gq_model.specs.machine.Doing.{Doing, Event}
+use Rattle.gq_model.specs.machine.Doing.{Event}
 use Rattle.gq_model.specs.machine.Step.{next}
 use Rattle.gq_model.proofs.Small.{none_some, get_within}
 use Rattle.gq_laws.specs.Sound.{IsSound}
@@ -18,12 +18,14 @@ use Rattle.gq_determined.specs.internal.Threads.{Tracked, who, stepped_to, ready
 use Rattle.gq_determined.proofs.stepping.Agreement.{IsStateless}
 use Rattle.gq_determined.proofs.running.Runs.{tracked, AreGood, same_end, same_fronts}
 use Rattle.gq_determined.proofs.running.Outside.{AreSections, Lefts, kept_outside, start_outside}
-use Rattle.gq_determined.proofs.running.Opened.{AllSuit, OpensSuited, FirstSuited, FirstsSuited, kept_suited}
-use Rattle.gq_determined.proofs.running.Openers.{IsFree, OpensThere, free_sections, IsOpener, opens_own}
+use Rattle.gq_determined.proofs.running.Openers.{IsFree, free_sections}
+use Rattle.gq_determined.proofs.running.Openings.{FirstOpens}
+use Rattle.gq_determined.proofs.running.Uncounted_uses.{cycle_same}
+use Rattle.gq_laws.proofs.verified.Use_chains.{resolved_acyclic}
+use Rattle.gq_laws.proofs.verified.Sound_systems.{is_resolved}
 use Rattle.gq_races.specs.Races.{IsRaceFree}
 use Rattle.gq_laws.specs.internal.Left.{AllAre}
 use Rattle.gq_model.specs.declared.program.Instruction.{Instruction}
-use Rattle.gq_model.specs.declared.program.Instruction.TheVariants.{Open}
 use Rattle.gq_model.specs.machine.Program.{Statements, Done, Do, If, Loop}
 
 -- where nothing is counted all is paid for
@@ -61,64 +63,49 @@ module _ (s : Scenario) (sound : IsSound s) where
       let less = within (after a).world.leaves x leaf e in
       get_within u.components x (omega (arith, count, less))
 
+  -- what is left to each leaf is made of statements of its program
+  pub all_left : (P : ℕ → Component → Bool → Instruction → Type 0) → AreSections P u → (a : List ℕ) → Lefts P u (after a).world
+  all_left P sections [] = start_outside P u sections
+  all_left P sections (x ∷ a) = by (all_left P sections a) (who (after a) x)
+    where
+      by : Lefts P u (after a).world → (o : Option ℕ) → Lefts P u (turn_for u (after a) x o).world
+      by h None = h
+      by h (Some i) =
+          let p = goes_by (after a).world x (all_stand a) in
+          subst (λ g. Lefts P u g.world) (sym (ap (stepped_to (ready u (after a) x i) x i) p.1))
+          (kept_outside P u sections (after a).world x p.0.0 p.0.1 h p.1)
+
   -- WHERE THERE IS NO RACE
 
   module _ (none : IsRaceFree s) where
-    sections : AreSections (IsFree u) u
-    sections = free_sections s sound none
-
-    all_left : (a : List ℕ) → Lefts (IsFree u) u (after a).world
-    all_left [] = start_outside (IsFree u) u sections
-    all_left (x ∷ a) = by (all_left a) (who (after a) x)
-      where
-        by : Lefts (IsFree u) u (after a).world → (o : Option ℕ) → Lefts (IsFree u) u (turn_for u (after a) x o).world
-        by h None = h
-        by h (Some i) =
-            let p = goes_by (after a).world x (all_stand a) in
-            subst (λ g. Lefts (IsFree u) u g.world) (sym (ap (stepped_to (ready u (after a) x i) x i) p.1))
-            (kept_outside (IsFree u) u sections (after a).world x p.0.0 p.0.1 h p.1)
+    left : (a : List ℕ) → Lefts (IsFree u) u (after a).world
+    left = all_left (IsFree u) (free_sections s sound none)
 
     stateless : (a : List ℕ) → IsStateless u (after a).world
     stateless a x leaf q i rest there current shared is =
         let c = placed a x leaf there in
-        let left = (all_left a).at x leaf there c.0 c.1 in
-        let first = subst (AllAre (IsFree u x c.0 (is_some leaf.current))) is left.0 in
+        let of_leaf = (left a).at x leaf there c.0 c.1 in
+        let first = subst (AllAre (IsFree u x c.0 (is_some leaf.current))) is of_leaf.0 in
         first.0.0 (ap is_some current) shared
 
-    abbrev doing : List ℕ → ℕ → Component → Leaf → Doing
-    doing a x c leaf = record { system = u; world = (after a).world; x = x; component = c; leaf = record leaf { steps = suc leaf.steps } }
-
-    -- what comes first opens sessions with leaves that are not shared in their openers' own slots
-    firsts : (a : List ℕ) → FirstsSuited (IsOpener u) u (after a).world
-    firsts a x c leaf component there = by leaf.todo ((all_left a).at x leaf there c component).0
+    -- what comes first opens sessions as the program is judged to
+    opens : (a : List ℕ) (x : ℕ) (c : Component) (leaf : Leaf) → slice_get u.components x ≡ Some c → slice_get (after a).world.leaves x ≡ Some leaf
+        → FirstOpens u c (is_some leaf.current) leaf.todo
+    opens a x c leaf component there = by leaf.todo ((left a).at x leaf there c component).0
       where
-        of : (i : Instruction) → OpensThere u c (is_some leaf.current) i → OpensSuited (IsOpener u) (doing a x c leaf) i
-        of (Open place service n) opens = opens_own u x c component leaf.current place service n opens
-        of _ opens = tt
-
-        by : (todo : Statements) → AllAre (IsFree u x c (is_some leaf.current)) todo → FirstSuited (IsOpener u) (doing a x c leaf) todo
+        by : (todo : Statements) → AllAre (IsFree u x c (is_some leaf.current)) todo → FirstOpens u c (is_some leaf.current) todo
         by Done h = tt
-        by (Do i rest) h = of i h.0.1
+        by (Do i rest) h = h.0.1
         by (If arm other rest) h = tt
         by (Loop n body rest) h = tt
 
-    all_opened : (a : List ℕ) → AllSuit (IsOpener u) (after a).world
-    all_opened [] = record { at = λ k t e. absurd (none_some e) }
-    all_opened (x ∷ a) = by (all_opened a) (who (after a) x)
-      where
-        by : AllSuit (IsOpener u) (after a).world → (o : Option ℕ) → AllSuit (IsOpener u) (turn_for u (after a) x o).world
-        by h None = h
-        by h (Some i) =
-            let p = goes_by (after a).world x (all_stand a) in
-            subst (λ g. AllSuit (IsOpener u) g.world) (sym (ap (stepped_to (ready u (after a) x i) x i) p.1))
-            (kept_suited (IsOpener u) u (after a).world x p.0.0 p.0.1 h (firsts a) p.1)
-
     pub good : AreGood u (all_pay (system s))
     good = record {
+      acyclic = cycle_same (system s) 0 (system s).components ∙ resolved_acyclic s (is_resolved s sound.accepted);
       goes = λ a x. (let p = goes_by (after a).world x (all_stand a) in (p.0, p.1));
       placed = placed;
       stateless = stateless;
-      opened = λ a. (all_opened a).at;
+      opens = opens;
     }
 
     pub ends_same : SameAtEnds u

@@ -1,5 +1,5 @@
 -- A leaf that is not shared takes its first request: from then on it is of the thread that asks, with all that was its. No other thread sees that.
-use Rattle.std.proofs.Common.{◌≡◌, ◌≢◌, ◌⊎◌, ℕ, suc, ◌+◌, ◌==◌, ◌&&◌, inl, inr, Bool, true, false, cond, List, [], ◌∷◌, map, Option, Some, None}
+use Rattle.std.proofs.Common.{◌≡◌, ◌≢◌, ◌⊎◌, ℕ, ◌==◌, ◌&&◌, inl, inr, true, false, cond, List, [], ◌∷◌, map, Option, Some, None}
 use Rattle.std.proofs.Common.{refl, ap, sym, ◌∙◌, subst, arith}
 use Rattle.std.specs.Prelude.{slice_get}
 use Rattle.std.proofs.lemmas.Bool.{true≢false}
@@ -13,43 +13,28 @@ use Rattle.gq_laws.specs.Shapes.{Each}
 use Rattle.gq_laws.specs.Links.{one_if, requests_of, stance, stance_in, links}
 use Rattle.gq_laws.proofs.linking.Events.{same_phase}
 use Rattle.gq_laws.specs.internal.Renamed.{renamed_request, Correspond}
-use Rattle.gq_determined.specs.internal.Threads.{is_unshared, opener, Tracked, thread_by, who, who_of, who_by, asker, moved, lowered, given}
+use Rattle.gq_determined.specs.internal.Threads.{is_unshared, Starts, Tracked, thread_by, who, who_of, who_by, asker, moved, given}
 use Rattle.gq_determined.specs.internal.Threads.{works, works_for, is_active, within, among, IsSameThread}
-use Rattle.gq_determined.proofs.standing.Orderly.{IsBelowOf, AreOwned, IsTracked, IsWaiting, handled, root_waits}
+use Rattle.gq_determined.proofs.standing.Orderly.{root_at, IsOpened, AreOpened, IsUnder, AreOwned, IsTracked, IsWaiting, handled, root_waits}
+use Rattle.gq_determined.proofs.standing.Owners.{one_start}
 use Rattle.gq_determined.proofs.standing.Places.{IsWorking, IsServing, who_is, taken_there, requested, requested_by}
 
 -- NUMBERS THAT MOVE
 
-pub moved_here : (n x i : ℕ) (f : ℕ → ℕ) (k : ℕ) → f k ≡ x → moved (Some n) x i f k ≡ i
-moved_here n x i f k e = ap (λ b. cond b i (f k)) (ap (λ m. m == x) e ∙ equal_self x)
+pub moved_here : (x i : ℕ) (f : ℕ → ℕ) (k : ℕ) → f k ≡ x → moved true x i f k ≡ i
+moved_here x i f k e = ap (λ b. cond b i (f k)) (ap (λ m. m == x) e ∙ equal_self x)
 
-pub moved_else : (n x i : ℕ) (f : ℕ → ℕ) (k : ℕ) → f k ≢ x → moved (Some n) x i f k ≡ f k
-moved_else n x i f k ne = elim (eqb_tells (f k) x) [ inl q ↦ absurd (ne q.1) | inr q ↦ ap (λ b. cond b i (f k)) q.0 ]
+pub moved_else : (x i : ℕ) (f : ℕ → ℕ) (k : ℕ) → f k ≢ x → moved true x i f k ≡ f k
+moved_else x i f k ne = elim (eqb_tells (f k) x) [ inl q ↦ absurd (ne q.1) | inr q ↦ ap (λ b. cond b i (f k)) q.0 ]
 
-moved_both : (n x i : ℕ) (f h : ℕ → ℕ) (j k : ℕ) → f j ≡ h k → moved (Some n) x i f j ≡ moved (Some n) x i h k
-moved_both n x i f h j k e = ap (λ m. cond (m == x) i m) e
-
-lowered_here : (n x : ℕ) (f m : ℕ → ℕ) (k : ℕ) → f k ≡ x → lowered (Some n) x f m k ≡ n + m k
-lowered_here n x f m k e = ap (λ b. cond b (n + m k) (m k)) (ap (λ m. m == x) e ∙ equal_self x)
-
-lowered_else : (n x : ℕ) (f m : ℕ → ℕ) (k : ℕ) → f k ≢ x → lowered (Some n) x f m k ≡ m k
-lowered_else n x f m k ne = elim (eqb_tells (f k) x) [ inl q ↦ absurd (ne q.1) | inr q ↦ ap (λ b. cond b (n + m k) (m k)) q.0 ]
-
-lowered_both : (n x : ℕ) (f h m o : ℕ → ℕ) (j k : ℕ) → f j ≡ h k → m j ≡ o k → lowered (Some n) x f m j ≡ lowered (Some n) x h o k
-lowered_both n x f h m o j k e g = λ t. cond (e t == x) (n + g t) (g t)
-
-lowered_suc : (n x : ℕ) (f h m o : ℕ → ℕ) (j k : ℕ) → f j ≡ h k → m j ≡ suc (o k) → lowered (Some n) x f m j ≡ suc (lowered (Some n) x h o k)
-lowered_suc n x f h m o j k e g = (λ t. cond (e t == x) (n + g t) (g t)) ∙ by (h k == x)
-  where
-    by : (b : Bool) → cond b (n + suc (o k)) (suc (o k)) ≡ suc (cond b (n + o k) (o k))
-    by true = omega arith
-    by false = refl
+moved_both : (x i : ℕ) (f h : ℕ → ℕ) (j k : ℕ) → f j ≡ h k → moved true x i f j ≡ moved true x i h k
+moved_both x i f h j k e = ap (λ m. cond (m == x) i m) e
 
 -- what is neither moved nor where it is moved to is told as before
-moved_test : (n x i j : ℕ) (f : ℕ → ℕ) (k : ℕ) → i ≢ j → x ≢ j → (moved (Some n) x i f k == j) ≡ (f k == j)
-moved_test n x i j f k ne nx = elim (eqb_tells (f k) x) [
-  | inl q ↦ ap (λ m. m == j) (moved_here n x i f k q.1) ∙ (out i ne ∙ sym (ap (λ m. m == j) q.1 ∙ out x nx))
-  | inr q ↦ ap (λ m. m == j) (moved_else n x i f k q.1)
+moved_test : (x i j : ℕ) (f : ℕ → ℕ) (k : ℕ) → i ≢ j → x ≢ j → (moved true x i f k == j) ≡ (f k == j)
+moved_test x i j f k ne nx = elim (eqb_tells (f k) x) [
+  | inl q ↦ ap (λ m. m == j) (moved_here x i f k q.1) ∙ (out i ne ∙ sym (ap (λ m. m == j) q.1 ∙ out x nx))
+  | inr q ↦ ap (λ m. m == j) (moved_else x i f k q.1)
 ]
   where
     out : (m : ℕ) → m ≢ j → (m == j) ≡ false
@@ -71,7 +56,7 @@ serving_inactive p e act = true≢false (sym act ∙ ap is_active e)
 not_rooted : (u : System) (g : Tracked) (t : IsTracked u g) (x : ℕ) (current : Option Current) → (links g.world).stances x ≡ Some (stance Serving current)
     → (j : ℕ) → IsWaiting u g t j → g.root j ≢ x
 not_rooted u g t x current stood j a e =
-    serving_blocked (same_phase (sym stood ∙ (ap (links g.world).stances (sym e) ∙ root_waits u g t (g.depth j) j refl a)))
+    serving_blocked (same_phase (sym stood ∙ (ap (links g.world).stances (sym e) ∙ root_waits u g t j a)))
 
 pub serving_else : (u : System) (g : Tracked) (t : IsTracked u g) (i x : ℕ) → IsServing g i x → x ≢ i
 serving_else u g t i x p e =
@@ -100,15 +85,14 @@ serving_who g i x is leaf there serves = by (who_is g i x is)
 -- ONE WORLD
 
 -- a leaf that is not shared takes its first request, which is of the thread
-pub record IsGiven (u : System) (g : Tracked) (i x n : ℕ) : Type 0 where
+pub record IsGiven (u : System) (g : Tracked) (i x : ℕ) : Type 0 where
   pub serving : IsServing g i x
   pub single : is_unshared u x ≡ true
   pub other : g.own x ≢ i
-  pub below : n ≡ suc (g.depth serving.taken.0.session)
 
-module _ (u : System) (g : Tracked) (t : IsTracked u g) (i x n : ℕ) (b : IsGiven u g i x n) where
+module _ (u : System) (g : Tracked) (t : IsTracked u g) (i x : ℕ) (b : IsGiven u g i x) where
   abbrev pub g_new : Tracked
-  g_new = given g x i (Some n)
+  g_new = given g x i true
 
   abbrev w : World
   w = g.world
@@ -132,19 +116,27 @@ module _ (u : System) (g : Tracked) (t : IsTracked u g) (i x n : ℕ) (b : IsGiv
   lives : g.own i ≡ i
   lives = subst (λ m. g.own m ≡ m) b.serving.root (t.lives k there.0 there.1)
 
-  -- its opener is of the thread, just above
-  opened : (g.own (opener u x) ≡ i) × (n ≡ suc (g.level (opener u x)))
-  opened =
-      let spot = t.stands k there.0 there.1 (ap (is_unshared u) there.2 ∙ b.single) in
-      let under = subst (IsBelowOf g k) (spot.1 ∙ ap (λ y. In_leaf (opener u y) spot.0) there.2) (t.below k there.0 there.1) in
-      (sym under.0 ∙ b.serving.root, b.below ∙ ap suc under.1)
+  -- whoever sessions with it are opened for is of the thread
+  asked : IsOpened u g.own g.root there.0.spot there.0.client there.0.server
+  asked = t.stands k there.0 there.1
+
+  starts : Starts u asked.n asked.z x
+  starts = subst (Starts u asked.n asked.z) there.2 asked.starts
+
+  owner_is : g.own asked.z ≡ i
+  owner_is = sym asked.is ∙ (sym (t.below k there.0 there.1) ∙ b.serving.root)
 
   -- so far it is its own
   pub own_x : g.own x ≡ x
-  own_x = elim (eqb_tells (g.own x) x) [ inl q ↦ q.1 | inr q ↦ absurd (b.other ((t.owned.opened x q.1).1 ∙ opened.0)) ]
+  own_x = elim (eqb_tells (g.own x) x) [
+    | inl q ↦ q.1
+    | inr q ↦
+        let under = t.owned.opened x q.1 in
+        absurd (b.other (under.is ∙ (ap g.own (one_start u x b.single under.n asked.n under.z asked.z under.starts starts) ∙ owner_is)))
+  ]
 
-  opener_else : g.own (opener u x) ≢ x
-  opener_else e = x_else (sym e ∙ opened.0)
+  owner_else : g.own asked.z ≢ x
+  owner_else e = x_else (sym e ∙ owner_is)
 
   i_else : g.own i ≢ x
   i_else e = x_else (sym e ∙ lives)
@@ -152,7 +144,7 @@ module _ (u : System) (g : Tracked) (t : IsTracked u g) (i x n : ℕ) (b : IsGiv
   -- SESSIONS AND REQUESTS THAT WAIT
 
   same_root : (j : ℕ) → IsWaiting u g t j → g_new.root j ≡ g.root j
-  same_root j a = moved_else n x i g.root j (not_root j a)
+  same_root j a = moved_else x i g.root j (not_root j a)
 
   same_thread : (y : ℕ) (phase : Phase) (current : Option Current) → (links w).stances y ≡ Some (stance phase current)
       → thread_by g_new.root y current ≡ thread_by g.root y current
@@ -191,97 +183,86 @@ module _ (u : System) (g : Tracked) (t : IsTracked u g) (i x n : ℕ) (b : IsGiv
   -- WHAT IS TRACKED FITS
 
   pub own_new : g_new.own x ≡ i
-  own_new = moved_here n x i g.own x own_x
+  own_new = moved_here x i g.own x own_x
 
   pub own_else : g_new.own x ≢ x
   own_else e = x_else (sym e ∙ own_new)
 
-  below_new : (j : ℕ) (s : Session) → session_at w j ≡ Some s → IsBelowOf g_new j s.spot
-  below_new j s at = by s.spot (t.below j s at)
+  root_new : (q : Spot) → root_at g_new.own g_new.root q ≡ moved true x i (λ m. m) (root_at g.own g.root q)
+  root_new (In_leaf y a) = refl
+  root_new (In_session m a) = refl
+  root_new (In_object m) = refl
+
+  below_new : (j : ℕ) (s : Session) → session_at w j ≡ Some s → g_new.root j ≡ root_at g_new.own g_new.root s.spot
+  below_new j s at = ap (moved true x i (λ m. m)) (t.below j s at) ∙ sym (root_new s.spot)
+
+  stands_new : AreOpened u g_new.own g_new.root w
+  stands_new j s at =
+      let o = t.stands j s at in
+      record { uses = o.uses; n = o.n; z = o.z; starts = o.starts; is = root_new s.spot ∙ ap (moved true x i (λ m. m)) o.is }
+
+  owned_new : AreOwned u g_new.own
+  owned_new = record { opened = opened_new; whole = whole }
     where
-      by : (q : Spot) → IsBelowOf g j q → IsBelowOf g_new j q
-      by (In_leaf y a) h = (moved_both n x i g.root g.own j y h.0, lowered_both n x g.root g.own g.depth g.level j y h.0 h.1)
-      by (In_session m a) h = (moved_both n x i g.root g.root j m h.0, lowered_suc n x g.root g.root g.depth g.depth j m h.0 h.1)
-      by (In_object m) h = tt
+      here : IsUnder u g_new.own x
+      here = record {
+        single = b.single;
+        n = asked.n;
+        z = asked.z;
+        starts = starts;
+        is = own_new ∙ sym (moved_else x i g.own asked.z owner_else ∙ owner_is);
+      }
 
-  abbrev Opened : ℕ → Type 0
-  Opened y = (is_unshared u y ≡ true) × (g_new.own y ≡ g_new.own (opener u y)) × (g_new.level y ≡ suc (g_new.level (opener u y)))
-
-  owned_new : AreOwned u g_new.own g_new.level
-  owned_new = record { opened = opened_new; whole = whole; first = first }
-    where
-      here : Opened x
-      here = (
-        b.single,
-        own_new ∙ sym (moved_else n x i g.own (opener u x) opener_else ∙ opened.0),
-        lowered_here n x g.own g.level x own_x
-            ∙ (ap (λ m. n + m) (t.owned.first x own_x)
-            ∙ (plus_zero n ∙ (opened.1 ∙ ap suc (sym (lowered_else n x g.own g.level (opener u x) opener_else))))),
-      )
-        where
-          plus_zero : (m : ℕ) → m + 0 ≡ m
-          plus_zero m = omega arith
-
-      opened_new : (y : ℕ) → g_new.own y ≢ y → Opened y
+      opened_new : (y : ℕ) → g_new.own y ≢ y → IsUnder u g_new.own y
       opened_new y ne = elim (eqb_tells (g.own y) y) [
         | inl q ↦ elim (eqb_tells y x) [
-          | inl e ↦ subst Opened (sym e.1) here
-          | inr e ↦ absurd (ne (moved_else n x i g.own y (λ f. e.1 (sym q.1 ∙ f)) ∙ q.1))
+          | inl e ↦ subst (IsUnder u g_new.own) (sym e.1) here
+          | inr e ↦ absurd (ne (moved_else x i g.own y (λ f. e.1 (sym q.1 ∙ f)) ∙ q.1))
         ]
         | inr q ↦
-            let o = t.owned.opened y q.1 in (
-              o.0,
-              moved_both n x i g.own g.own y (opener u y) o.1,
-              lowered_suc n x g.own g.own g.level g.level y (opener u y) o.1 o.2,
-            )
+            let o = t.owned.opened y q.1 in
+            record { single = o.single; n = o.n; z = o.z; starts = o.starts; is = moved_both x i g.own g.own y o.z o.is }
       ]
 
       whole : (y : ℕ) → g_new.own (g_new.own y) ≡ g_new.own y
       whole y = elim (eqb_tells (g.own y) x) [
         | inl q ↦
-            let is = moved_here n x i g.own y q.1 in
-            ap g_new.own is ∙ (moved_else n x i g.own i i_else ∙ (lives ∙ sym is))
+            let is = moved_here x i g.own y q.1 in
+            ap g_new.own is ∙ (moved_else x i g.own i i_else ∙ (lives ∙ sym is))
         | inr q ↦
-            let is = moved_else n x i g.own y q.1 in
-            ap g_new.own is ∙ (moved_else n x i g.own (g.own y) (λ f. q.1 (sym (t.owned.whole y) ∙ f)) ∙ (t.owned.whole y ∙ sym is))
-      ]
-
-      first : (y : ℕ) → g_new.own y ≡ y → g_new.level y ≡ 0
-      first y e = elim (eqb_tells (g.own y) x) [
-        | inl q ↦
-            let same : y ≡ i = sym e ∙ moved_here n x i g.own y q.1 in
-            absurd (i_else (ap g.own (sym same) ∙ q.1))
-        | inr q ↦ lowered_else n x g.own g.level y q.1 ∙ t.owned.first y (sym (moved_else n x i g.own y q.1) ∙ e)
+            let is = moved_else x i g.own y q.1 in
+            ap g_new.own is ∙ (moved_else x i g.own (g.own y) (λ f. q.1 (sym (t.owned.whole y) ∙ f)) ∙ (t.owned.whole y ∙ sym is))
       ]
 
   lives_new : (j : ℕ) (s : Session) → session_at w j ≡ Some s → g_new.own (g_new.root j) ≡ g_new.root j
   lives_new j s at = elim (eqb_tells (g.root j) x) [
     | inl q ↦
-        let is = moved_here n x i g.root j q.1 in
-        ap g_new.own is ∙ (moved_else n x i g.own i i_else ∙ (lives ∙ sym is))
+        let is = moved_here x i g.root j q.1 in
+        ap g_new.own is ∙ (moved_else x i g.own i i_else ∙ (lives ∙ sym is))
     | inr q ↦
-        let is = moved_else n x i g.root j q.1 in
-        ap g_new.own is ∙ (moved_else n x i g.own (g.root j) (λ f. q.1 (sym (t.lives j s at) ∙ f)) ∙ (t.lives j s at ∙ sym is))
+        let is = moved_else x i g.root j q.1 in
+        ap g_new.own is ∙ (moved_else x i g.own (g.root j) (λ f. q.1 (sym (t.lives j s at) ∙ f)) ∙ (t.lives j s at ∙ sym is))
   ]
 
   main_new : (y : ℕ) (phase : Phase) → (links w).stances y ≡ Some (stance phase None) → is_active phase ≡ true → g_new.own y ≡ y
   main_new y phase at act =
       let own = t.main y phase at act in
-      moved_else n x i g.own y (λ f. serving_inactive phase
+      moved_else x i g.own y (λ f. serving_inactive phase
       (same_phase (sym at ∙ (ap (links w).stances (sym own ∙ f) ∙ stood))) act) ∙ own
 
   busy_new : (y : ℕ) (phase : Phase) (q : Current) → (links w).stances y ≡ Some (stance phase (Some q)) → is_unshared u y ≡ true → g_new.own y ≢ y
   busy_new y phase q at single e = elim (eqb_tells (g.own y) x) [
-    | inl f ↦ i_else (ap g.own (sym (sym e ∙ moved_here n x i g.own y f.1)) ∙ f.1)
-    | inr f ↦ t.busy y phase q at single (sym (moved_else n x i g.own y f.1) ∙ e)
+    | inl f ↦ i_else (ap g.own (sym (sym e ∙ moved_here x i g.own y f.1)) ∙ f.1)
+    | inr f ↦ t.busy y phase q at single (sym (moved_else x i g.own y f.1) ∙ e)
   ]
 
   pub given_tracked : IsTracked u g_new
   given_tracked = record {
+    acyclic = t.acyclic;
     linked = t.linked;
     below = below_new;
     waits = t.waits;
-    stands = t.stands;
+    stands = stands_new;
     owned = owned_new;
     lives = lives_new;
     main = main_new;
@@ -290,29 +271,33 @@ module _ (u : System) (g : Tracked) (t : IsTracked u g) (i x n : ℕ) (b : IsGiv
 
   -- a leaf that is the thread's was so, or was of the leaf's thread
   pub own_from : (y : ℕ) → g_new.own y ≡ i → (g.own y ≡ i) ⊎ (g.own y ≡ x)
-  own_from y e = elim (eqb_tells (g.own y) x) [ inl q ↦ inr q.1 | inr q ↦ inl (sym (moved_else n x i g.own y q.1) ∙ e) ]
+  own_from y e = elim (eqb_tells (g.own y) x) [ inl q ↦ inr q.1 | inr q ↦ inl (sym (moved_else x i g.own y q.1) ∙ e) ]
 
   -- a leaf that is its own no more is the one that takes the request
   pub own_moves : (y : ℕ) → g.own y ≡ y → g_new.own y ≢ y → y ≡ x
-  own_moves y own ne = elim (eqb_tells (g.own y) x) [ inl q ↦ sym own ∙ q.1 | inr q ↦ absurd (ne (moved_else n x i g.own y q.1 ∙ own)) ]
+  own_moves y own ne = elim (eqb_tells (g.own y) x) [ inl q ↦ sym own ∙ q.1 | inr q ↦ absurd (ne (moved_else x i g.own y q.1 ∙ own)) ]
+
+  -- what is a thread's stays so while it has its own leaf
+  pub own_stays : (y : ℕ) → g_new.own (g.own y) ≡ g.own y → g_new.own y ≡ g.own y
+  own_stays y own = moved_else x i g.own y (λ e. own_else (ap g_new.own (sym e) ∙ (own ∙ e)))
 
   -- ANOTHER THREAD
 
   pub own_else_back : (j y : ℕ) → j ≢ i → g_new.own y ≡ j → g.own y ≡ j
   own_else_back j y ne e = elim (eqb_tells (g.own y) x) [
-    | inl q ↦ absurd (ne (sym e ∙ moved_here n x i g.own y q.1))
-    | inr q ↦ sym (moved_else n x i g.own y q.1) ∙ e
+    | inl q ↦ absurd (ne (sym e ∙ moved_here x i g.own y q.1))
+    | inr q ↦ sym (moved_else x i g.own y q.1) ∙ e
   ]
 
   module _ (j : ℕ) (ne : j ≢ i) (nx : j ≢ x) where
     own_test : (y : ℕ) → (g_new.own y == j) ≡ (g.own y == j)
-    own_test y = moved_test n x i j g.own y (λ e. ne (sym e)) (λ e. nx (sym e))
+    own_test y = moved_test x i j g.own y (λ e. ne (sym e)) (λ e. nx (sym e))
 
     owned_back : (y : ℕ) → g_new.own y ≡ j → g.own y ≡ j
     owned_back y is = equal_of (g.own y) j (sym (own_test y) ∙ (ap (λ m. m == j) is ∙ equal_self j))
 
     within_same : within g_new.root j w.sessions ≡ within g.root j w.sessions
-    within_same = λ e k. cond (moved_test n x i j g.root k (λ e. ne (sym e)) (λ e. nx (sym e)) e) (session_at w k) None
+    within_same = λ e k. cond (moved_test x i j g.root k (λ e. ne (sym e)) (λ e. nx (sym e)) e) (session_at w k) None
 
     pub given_left : (h : Tracked) → IsSameThread j g h → IsSameThread j g_new h
     given_left h s = record {
@@ -325,6 +310,7 @@ module _ (u : System) (g : Tracked) (t : IsTracked u g) (i x n : ℕ) (b : IsGiv
         sessions = subst (λ a. Correspond s.f a (within h.root j h.world.sessions)) (sym within_same) s.region.sessions;
         requests = s.region.requests ∙ ap (map (renamed_request s.f)) (sym (same_among j));
       };
+      wrote = λ y is. s.wrote y (owned_back y is);
     }
 
     pub given_right : (h : Tracked) → IsSameThread j h g → IsSameThread j h g_new
@@ -338,4 +324,5 @@ module _ (u : System) (g : Tracked) (t : IsTracked u g) (i x n : ℕ) (b : IsGiv
         sessions = subst (λ a. Correspond s.f (within h.root j h.world.sessions) a) (sym within_same) s.region.sessions;
         requests = same_among j ∙ s.region.requests;
       };
+      wrote = s.wrote;
     }

@@ -1,5 +1,5 @@
 -- Each thread is at one place: where a leaf works for it that does not wait, no request of it waits, and the other way round.
-use Rattle.std.proofs.Common.{◌≡◌, ◌≢◌, ◌⊎◌, ℕ, zero, suc, ◌+◌, ◌==◌, inl, inr, Bool, true, false, List, ◌∷◌, Option, Some, None}
+use Rattle.std.proofs.Common.{◌≡◌, ◌≢◌, ◌≤◌, ◌⊎◌, ℕ, zero, suc, ◌+◌, ◌==◌, inl, inr, Bool, true, false, List, [], ◌∷◌, length, Option, Some, None}
 use Rattle.std.proofs.Common.{refl, ap, sym, ◌∙◌, subst, arith}
 use Rattle.gq_model.specs.declared.phase.Phase.{Phase}
 use Rattle.gq_model.specs.declared.phase.Phase.TheVariants.{Blocked}
@@ -12,13 +12,17 @@ use Rattle.gq_laws.specs.Links.{Leads, Waits, naming_in, outline, outline_in, st
 use Rattle.gq_laws.specs.Links.{links, Stands, Belongs, IsLinkedWorld}
 use Rattle.gq_laws.proofs.linking.Events.{same_phase}
 use Rattle.gq_laws.proofs.Stepping.{outlined}
-use Rattle.gq_determined.specs.internal.Threads.{is_unshared, opener, Tracked, is_active}
+use Rattle.std.proofs.lemmas.Option.{slice_get_within}
+use Rattle.gq_model.specs.rules.Resolve.{cycle_fault}
+use Rattle.gq_laws.proofs.verified.Use_chains.{Uses, Chain, chain_short}
+use Rattle.gq_determined.specs.internal.Threads.{is_unshared, Starts, Tracked, is_active}
+use Rattle.gq_determined.proofs.standing.Owners.{one_start}
 
--- a session's slot, and what is said of its number
-abbrev pub IsBelowOf : Tracked → ℕ → Spot → Type 0
-IsBelowOf g k (In_leaf y a) = (g.root k ≡ g.own y) × (g.depth k ≡ g.level y)
-IsBelowOf g k (In_session j a) = (g.root k ≡ g.root j) × (g.depth k ≡ suc (g.depth j))
-IsBelowOf g k (In_object j) = Unit {0}
+-- the thread in whose region a slot is
+abbrev pub root_at : (ℕ → ℕ) → (ℕ → ℕ) → Spot → ℕ
+root_at own root (In_leaf y a) = own y
+root_at own root (In_session j a) = root j
+root_at own root (In_object j) = root j
 
 -- a slot that waits is one that the leaf's operands name
 abbrev pub IsByCurrent : System → World → Spot → Type 0
@@ -28,26 +32,41 @@ IsByCurrent system w (In_session j a) = (s : Session) → session_at w j ≡ Som
     → (links w).stances s.server ≡ Some (stance phase current) → (g : Current) × (current ≡ Some g) × (g.session ≡ j)
 IsByCurrent system w (In_object j) = Unit {0}
 
--- all sessions with a leaf that is not shared stand in own slots of its opener
-abbrev pub AreOpened : System → World → Type 0
-AreOpened system w = (k : ℕ) (s : Session) → session_at w k ≡ Some s → is_unshared system s.server ≡ true
-    → (a : ℕ) × (s.spot ≡ In_leaf (opener system s.server) a)
+-- a session of a client that uses its server stands in the region of whoever it was opened for
+pub record IsOpened (system : System) (own root : ℕ → ℕ) (q : Spot) (client server : ℕ) : Type 0 where
+  pub uses : Uses system client server
+  pub n : ℕ
+  pub z : ℕ
+  pub starts : Starts system n z server
+  pub is : root_at own root q ≡ own z
+
+-- so do all
+abbrev pub AreOpened : System → (ℕ → ℕ) → (ℕ → ℕ) → World → Type 0
+AreOpened system own root w = (k : ℕ) (s : Session) → session_at w k ≡ Some s → IsOpened system own root s.spot s.client s.server
+
+-- a leaf that is not shared is of the thread of whoever sessions with it are opened for
+pub record IsUnder (system : System) (own : ℕ → ℕ) (x : ℕ) : Type 0 where
+  pub single : is_unshared system x ≡ true
+  pub n : ℕ
+  pub z : ℕ
+  pub starts : Starts system n z x
+  pub is : own x ≡ own z
 
 -- which leaves are whose
-pub record AreOwned (system : System) (own level : ℕ → ℕ) : Type 0 where
-  -- a leaf that is another thread's is its opener's thread's, and stands below its opener
-  pub opened : (x : ℕ) → own x ≢ x → (is_unshared system x ≡ true) × (own x ≡ own (opener system x)) × (level x ≡ suc (level (opener system x)))
+pub record AreOwned (system : System) (own : ℕ → ℕ) : Type 0 where
+  -- a leaf that is another thread's is its owner's thread's
+  pub opened : (x : ℕ) → own x ≢ x → IsUnder system own x
   -- a thread that has leaves has its own
   pub whole : (x : ℕ) → own (own x) ≡ own x
-  pub first : (x : ℕ) → own x ≡ x → level x ≡ 0
 
 -- what is tracked fits the world
 pub record IsTracked (system : System) (g : Tracked) : Type 0 where
+  pub acyclic : cycle_fault system 0 system.components ≡ None
   pub linked : IsLinkedWorld system g.world
-  pub below : (k : ℕ) (s : Session) → session_at g.world k ≡ Some s → IsBelowOf g k s.spot
+  pub below : (k : ℕ) (s : Session) → session_at g.world k ≡ Some s → g.root k ≡ root_at g.own g.root s.spot
   pub waits : (q : Spot) (k : ℕ) → slot_at g.world q ≡ Some (Waiting k) → IsByCurrent system g.world q
-  pub stands : AreOpened system g.world
-  pub owned : AreOwned system g.own g.level
+  pub stands : AreOpened system g.own g.root g.world
+  pub owned : AreOwned system g.own
   -- a session is of a thread that has its own leaf
   pub lives : (k : ℕ) (s : Session) → session_at g.world k ≡ Some s → g.own (g.root k) ≡ g.root k
   -- in `main` a leaf is its own thread's, and in a section another's, if it is not shared
@@ -132,102 +151,109 @@ module _ (system : System) (g : Tracked) (t : IsTracked system g) where
 
   -- the session above one that waits is its client's current one
   pub record HasParent (k : ℕ) : Type 0 where
+    pub waiting : IsWaiting k
     pub parent : Current
-    pub y : ℕ
-    pub at : (links w).stances y ≡ Some (stance Blocked (Some parent))
+    pub at : (links w).stances waiting.session.client ≡ Some (stance Blocked (Some parent))
     pub root : g.root k ≡ g.root parent.session
-    pub depth : g.depth k ≡ suc (g.depth parent.session)
 
+  -- or there is none, where the leaf of its thread waits in `main`
   pub record IsFirst (k : ℕ) : Type 0 where
+    pub waiting : IsWaiting k
+    pub client : waiting.session.client ≡ g.root k
     pub at : (links w).stances (g.root k) ≡ Some (stance Blocked None)
-    pub depth : g.depth k ≡ 0
 
-  -- a leaf that is not shared stands below its current session
+  -- a leaf that is not shared is of the thread of its current session
   pub busy_below : (y : ℕ) (phase : Phase) (q : Current) → (links w).stances y ≡ Some (stance phase (Some q)) → is_unshared system y ≡ true
-      → (g.own y ≡ g.root q.session) × (g.level y ≡ suc (g.depth q.session))
+      → g.own y ≡ g.root q.session
   busy_below y phase q at single =
       let m = t.linked.handles y phase q at in
       let s = outlined (session_at w q.session) m.0 m.1 in
       let server : s.0.server ≡ y = ap (λ (s : Session). s.server) s.2 ∙ m.2 in
-      let spot = t.stands q.session s.0 s.1 (ap (is_unshared system) server ∙ single) in
-      let below = subst (IsBelowOf g q.session) (spot.1 ∙ ap (λ x. In_leaf (opener system x) spot.0) server) (t.below q.session s.0 s.1) in
-      let o = t.owned.opened y (t.busy y phase q at single) in
-      (o.1 ∙ sym below.0, o.2 ∙ ap suc (sym below.1))
+      let o = t.stands q.session s.0 s.1 in
+      let under = t.owned.opened y (t.busy y phase q at single) in
+      let same : o.z ≡ under.z = one_start system y single o.n under.n o.z under.z (subst (Starts system o.n o.z) server o.starts) under.starts in
+      under.is ∙ (ap g.own (sym same) ∙ (sym o.is ∙ sym (t.below q.session s.0 s.1)))
 
-  pub above : (k : ℕ) (a : IsWaiting k) → ((a.session.client ≡ g.root k) × IsFirst k)
-      ⊎ ((p : HasParent k) × (a.session.client ≡ p.y))
+  pub above : (k : ℕ) → IsWaiting k → IsFirst k ⊎ HasParent k
   above k a = by a.session.spot (t.below k a.session a.there) (by_current_of k a)
       (t.linked.belongs k (outline a.session) (ap outline_in a.there))
     where
-      by : (q : Spot) → IsBelowOf g k q → IsByCurrent system w q → Belongs (links w) q a.session.client
-          → ((a.session.client ≡ g.root k) × IsFirst k) ⊎ ((p : HasParent k) × (a.session.client ≡ p.y))
+      by : (q : Spot) → g.root k ≡ root_at g.own g.root q → IsByCurrent system w q → Belongs (links w) q a.session.client → IsFirst k ⊎ HasParent k
       by (In_leaf y i) below named b = of a.current refl
         where
           stood : (links w).stances y ≡ Some (stance Blocked a.current)
           stood = ap (links w).stances b ∙ a.client
 
-          of : (current : Option Current) → a.current ≡ current
-              → ((a.session.client ≡ g.root k) × IsFirst k) ⊎ ((p : HasParent k) × (a.session.client ≡ p.y))
+          of : (current : Option Current) → a.current ≡ current → IsFirst k ⊎ HasParent k
           of None e =
               let own = t.main y Blocked (stood ∙ ap (λ o. Some (stance Blocked o)) e) refl in
-              inl (
-                sym b ∙ sym (below.0 ∙ own),
-                record {
-                  at = ap (links w).stances (below.0 ∙ own) ∙ (stood ∙ ap (λ o. Some (stance Blocked o)) e);
-                  depth = below.1 ∙ t.owned.first y own;
-                },
-              )
-          of (Some q) e = inr (
-            record {
-              parent = q;
-              y = y;
-              at = stood ∙ ap (λ o. Some (stance Blocked o)) e;
-              root = below.0 ∙ under.0;
-              depth = below.1 ∙ under.1;
-            },
-            sym b,
-          )
+              inl record {
+                waiting = a;
+                client = sym b ∙ sym (below ∙ own);
+                at = ap (links w).stances (below ∙ own) ∙ (stood ∙ ap (λ o. Some (stance Blocked o)) e);
+              }
+          of (Some q) e = inr record {
+            waiting = a;
+            parent = q;
+            at = a.client ∙ ap (λ o. Some (stance Blocked o)) e;
+            root = below ∙ busy_below y Blocked q (stood ∙ ap (λ o. Some (stance Blocked o)) e) (single (is_unshared system y) refl);
+          }
             where
               single : (b : Bool) → is_unshared system y ≡ b → is_unshared system y ≡ true
               single true is = is
               single false is = absurd (some_none (sym e ∙ named Blocked a.current stood is))
-
-              under : (g.own y ≡ g.root q.session) × (g.level y ≡ suc (g.depth q.session))
-              under = busy_below y Blocked q (stood ∙ ap (λ o. Some (stance Blocked o)) e) (single (is_unshared system y) refl)
       by (In_session j i) below named b =
           let s = outlined (session_at w j) b.0 b.1 in
           let server : s.0.server ≡ a.session.client = ap (λ (s : Session). s.server) s.2 ∙ b.3 in
           let p = named s.0 s.1 Blocked a.current (ap (links w).stances server ∙ a.client) in
-          inr (
-            record {
-              parent = p.0;
-              y = a.session.client;
-              at = a.client ∙ ap (λ o. Some (stance Blocked o)) p.1;
-              root = below.0 ∙ ap g.root (sym p.2);
-              depth = below.1 ∙ ap (λ j. suc (g.depth j)) (sym p.2);
-            },
-            refl,
-          )
+          inr record {
+            waiting = a;
+            parent = p.0;
+            at = a.client ∙ ap (λ o. Some (stance Blocked o)) p.1;
+            root = below ∙ ap g.root (sym p.2);
+          }
       by (In_object j) below named b = absurd b
 
   -- the session above waits, too
-  parent_waits : (k : ℕ) (p : HasParent k) → IsWaiting p.parent.session
-  parent_waits k p = (handled p.y Blocked p.parent p.at).waiting
+  parent_handled : (k : ℕ) (p : HasParent k) → IsHandled p.waiting.session.client p.parent
+  parent_handled k p = handled p.waiting.session.client Blocked p.parent p.at
+
+  -- HOW MANY WAIT ABOVE ONE
+
+  abbrev pub Above : ℕ → ℕ → Type 0
+  Above zero k = IsFirst k
+  Above (suc n) k = (p : HasParent k) × Above n p.parent.session
+
+  -- a chain of uses leads from client to client, and none is longer than there are leaves
+  climb : (fuel k : ℕ) (a : IsWaiting k) (rest : List ℕ) → Chain system a.session.client rest → length system.components ≤ fuel + length rest
+      → (n : ℕ) × Above n k
+  climb zero k a rest chain enough = let short = chain_short system t.acyclic a.session.client rest chain in absurd (omega (arith, short, enough))
+  climb (suc fuel) k a rest chain enough = elim (above k a) [
+    | inl f ↦ (zero, f)
+    | inr p ↦
+        let h = parent_handled k p in
+        let b = h.waiting in
+        let uses = (t.stands p.parent.session b.session b.there).uses in
+        let same : p.waiting.session.client ≡ a.session.client = ap (λ (s : Session). s.client) (some_same (sym p.waiting.there ∙ a.there)) in
+        let up = climb fuel p.parent.session b (a.session.client ∷ rest) (subst (Uses system b.session.client) (h.server ∙ same) uses, chain)
+        (omega (arith, enough)) in
+        (suc up.0, (p, up.1))
+  ]
+
+  pub all_above : (k : ℕ) → IsWaiting k → (n : ℕ) × Above n k
+  all_above k a =
+      let u = (t.stands k a.session a.there).uses in
+      climb (length system.components) k a [] (slice_get_within system.components a.session.client u.0 u.1) (omega arith)
+
+  root_of : (n k : ℕ) → Above n k → (links w).stances (g.root k) ≡ Some (stance Blocked None)
+  root_of zero k f = f.at
+  root_of (suc n) k p = ap (links w).stances p.0.root ∙ root_of n p.0.parent.session p.1
 
   -- the leaf at the root of a session that waits waits in `main`
-  pub root_waits : (n k : ℕ) → g.depth k ≡ n → IsWaiting k → (links w).stances (g.root k) ≡ Some (stance Blocked None)
-  root_waits zero k e a = elim (above k a) [
-    | inl f ↦ f.1.at
-    | inr p ↦ let d = p.0.depth in absurd (omega (arith, d, e))
-  ]
-  root_waits (suc n) k e a = elim (above k a) [
-    | inl f ↦ f.1.at
-    | inr p ↦
-        let d = p.0.depth in
-        ap (links w).stances p.0.root ∙ root_waits n p.0.parent.session (omega (arith, d, e)) (parent_waits k p.0)
-  ]
+  pub root_waits : (k : ℕ) → IsWaiting k → (links w).stances (g.root k) ≡ Some (stance Blocked None)
+  root_waits k a = let up = all_above k a in root_of up.0 k up.1
 
-  -- ONE SESSION AT EACH DEPTH
+  -- ONE SESSION AT EACH HEIGHT
 
   -- two that wait, of the same client
   same_client : (j k : ℕ) (a : IsWaiting j) (b : IsWaiting k) → a.session.client ≡ b.session.client → j ≡ k
@@ -237,28 +263,14 @@ module _ (system : System) (g : Tracked) (t : IsTracked system g) where
   same_server : (j k : ℕ) (a : IsWaiting j) (b : IsWaiting k) → j ≡ k → a.session.server ≡ b.session.server
   same_server j k a b e = ap (λ (s : Session). s.server) (some_same (sym a.there ∙ (ap (session_at w) e ∙ b.there)))
 
-  pub one_at_depth : (n j k : ℕ) → g.depth j ≡ n → g.depth k ≡ n → g.root j ≡ g.root k → IsWaiting j → IsWaiting k → j ≡ k
-  one_at_depth zero j k e f same a b = elim (above j a) [
-    | inl p ↦ elim (above k b) [
-      | inl q ↦ same_client j k a b (p.0 ∙ (same ∙ sym q.0))
-      | inr q ↦ let d = q.0.depth in absurd (omega (arith, d, f))
-    ]
-    | inr p ↦ let d = p.0.depth in absurd (omega (arith, d, e))
-  ]
-  one_at_depth (suc n) j k e f same a b = elim (above j a) [
-    | inl p ↦ let d = p.1.depth in absurd (omega (arith, d, e))
-    | inr p ↦ elim (above k b) [
-      | inl q ↦ let d = q.1.depth in absurd (omega (arith, d, f))
-      | inr q ↦
-          let dp = p.0.depth in
-          let dq = q.0.depth in
-          let a_up = handled p.0.y Blocked p.0.parent p.0.at in
-          let b_up = handled q.0.y Blocked q.0.parent q.0.at in
-          let up : p.0.parent.session ≡ q.0.parent.session = one_at_depth n p.0.parent.session q.0.parent.session (omega (arith, dp, e))
-          (omega (arith, dq, f)) (sym p.0.root ∙ (same ∙ q.0.root)) a_up.waiting b_up.waiting in
-          same_client j k a b (p.1 ∙ (sym a_up.server ∙ (same_server _ _ a_up.waiting b_up.waiting up ∙ (b_up.server ∙ sym q.1))))
-    ]
-  ]
+  pub one_at_height : (n j k : ℕ) → Above n j → Above n k → g.root j ≡ g.root k → j ≡ k
+  one_at_height zero j k a b same = same_client j k a.waiting b.waiting (a.client ∙ (same ∙ sym b.client))
+  one_at_height (suc n) j k a b same =
+      let p = parent_handled j a.0 in
+      let q = parent_handled k b.0 in
+      let up : a.0.parent.session ≡ b.0.parent.session
+      = one_at_height n a.0.parent.session b.0.parent.session a.1 b.1 (sym a.0.root ∙ (same ∙ b.0.root)) in
+      same_client j k a.0.waiting b.0.waiting (sym p.server ∙ (same_server _ _ p.waiting q.waiting up ∙ q.server))
 
   -- a session that is current at a leaf that waits
   pub record IsPassed (k : ℕ) : Type 0 where
@@ -267,21 +279,19 @@ module _ (system : System) (g : Tracked) (t : IsTracked system g) where
     pub is : current.session ≡ k
     pub at : (links w).stances y ≡ Some (stance Blocked (Some current))
 
-  -- above a session that waits there is one such at each lesser depth
-  pub passed : (m n k : ℕ) → g.depth k ≡ suc (m + n) → IsWaiting k → (j : ℕ) × IsPassed j × (g.root j ≡ g.root k) × (g.depth j ≡ n)
-  passed zero n k e a = elim (above k a) [
-    | inl f ↦ let d = f.1.depth in absurd (omega (arith, d, e))
-    | inr p ↦
-        let d = p.0.depth in
-        (p.0.parent.session, record { y = p.0.y; current = p.0.parent; is = refl; at = p.0.at }, sym p.0.root, omega (arith, d, e))
-  ]
-  passed (suc m) n k e a = elim (above k a) [
-    | inl f ↦ let d = f.1.depth in absurd (omega (arith, d, e))
-    | inr p ↦
-        let d = p.0.depth in
-        let q = passed m n p.0.parent.session (omega (arith, d, e)) (parent_waits k p.0) in
-        (q.0, q.1, q.2 ∙ sym p.0.root, q.3)
-  ]
+  -- above a session that waits there is one such at each lesser height
+  pub passed : (m n k : ℕ) → Above (suc (m + n)) k → (j : ℕ) × IsPassed j × (g.root j ≡ g.root k) × Above n j
+  passed zero n k a =
+      let none : zero + n ≡ n = omega arith in (
+        a.0.parent.session,
+        record { y = a.0.waiting.session.client; current = a.0.parent; is = refl; at = a.0.at },
+        sym a.0.root,
+        subst (λ n. Above n a.0.parent.session) none a.1,
+      )
+  passed (suc m) n k a =
+      let more : suc m + n ≡ suc (m + n) = omega arith in
+      let q = passed m n a.0.parent.session (subst (λ n. Above n a.0.parent.session) more a.1) in
+      (q.0, q.1, q.2 ∙ sym a.0.root, q.3)
 
   -- WHERE A THREAD IS
 
@@ -301,9 +311,6 @@ module _ (system : System) (g : Tracked) (t : IsTracked system g) where
 
   pub busy_waits : (k : ℕ) (b : IsBusy k) → IsWaiting k
   busy_waits k b = subst IsWaiting b.is (handled b.y b.phase b.current b.at).waiting
-
-  passed_waits : (k : ℕ) (p : IsPassed k) → IsWaiting k
-  passed_waits k p = subst IsWaiting p.is (handled p.y Blocked p.current p.at).waiting
 
   handled_at : (k y : ℕ) (phase : Phase) (h : Current) (a : IsWaiting k) → h.session ≡ k → (links w).stances y ≡ Some (stance phase (Some h))
       → a.session.server ≡ y
@@ -336,31 +343,35 @@ module _ (system : System) (g : Tracked) (t : IsTracked system g) where
 
   -- the thread is at one session alone
   module _ (P Q : ℕ → Type 0) (not_p : (k : ℕ) → P k → IsPassed k → ⊥) (not_q : (k : ℕ) → Q k → IsPassed k → ⊥) where
-    pub one_place : (j k : ℕ) → g.root j ≡ g.root k → P j → Q k → IsWaiting j → IsWaiting k → j ≡ k
-    one_place j k same p q a b = by (less_or (g.depth j) (g.depth k))
-      where
-        less_or : (m n : ℕ) → (m ≡ n) ⊎ (((d : ℕ) × (n ≡ suc (d + m))) ⊎ ((d : ℕ) × (m ≡ suc (d + n))))
-        less_or zero zero = inl refl
-        less_or zero (suc n) = inr (inl (n, omega arith))
-        less_or (suc m) zero = inr (inr (m, omega arith))
-        less_or (suc m) (suc n) = elim (less_or m n) [
-          | inl e ↦ inl (ap suc e)
-          | inr h ↦ elim h [
-            | inl d ↦ let e = d.1 in inr (inl (d.0, omega (arith, e)))
-            | inr d ↦ let e = d.1 in inr (inr (d.0, omega (arith, e)))
-          ]
-        ]
+    less_or : (m n : ℕ) → (m ≡ n) ⊎ (((d : ℕ) × (n ≡ suc (d + m))) ⊎ ((d : ℕ) × (m ≡ suc (d + n))))
+    less_or zero zero = inl refl
+    less_or zero (suc n) = inr (inl (n, omega arith))
+    less_or (suc m) zero = inr (inr (m, omega arith))
+    less_or (suc m) (suc n) = elim (less_or m n) [
+      | inl e ↦ inl (ap suc e)
+      | inr h ↦ elim h [
+        | inl d ↦ let e = d.1 in inr (inl (d.0, omega (arith, e)))
+        | inr d ↦ let e = d.1 in inr (inr (d.0, omega (arith, e)))
+      ]
+    ]
 
-        by : (g.depth j ≡ g.depth k) ⊎ (((d : ℕ) × (g.depth k ≡ suc (d + g.depth j))) ⊎ ((d : ℕ) × (g.depth j ≡ suc (d + g.depth k)))) → j ≡ k
-        by (inl e) = one_at_depth (g.depth k) j k e refl same a b
-        by (inr (inl d)) =
-            let u = passed d.0 (g.depth j) k d.1 b in
-            let up : u.0 ≡ j = one_at_depth (g.depth j) u.0 j u.3 refl (u.2 ∙ sym same) (passed_waits u.0 u.1) a in
-            absurd (not_p j p (subst IsPassed up u.1))
-        by (inr (inr d)) =
-            let u = passed d.0 (g.depth k) j d.1 a in
-            let up : u.0 ≡ k = one_at_depth (g.depth k) u.0 k u.3 refl (u.2 ∙ same) (passed_waits u.0 u.1) b in
-            absurd (not_q k q (subst IsPassed up u.1))
+    place_by : (j k : ℕ) → g.root j ≡ g.root k → P j → Q k → (m n : ℕ) → Above m j → Above n k
+        → (m ≡ n) ⊎ (((d : ℕ) × (n ≡ suc (d + m))) ⊎ ((d : ℕ) × (m ≡ suc (d + n)))) → j ≡ k
+    place_by j k same p q m n a b (inl e) = one_at_height n j k (subst (λ m. Above m j) e a) b same
+    place_by j k same p q m n a b (inr (inl d)) =
+        let u = passed d.0 m k (subst (λ n. Above n k) d.1 b) in
+        let up : u.0 ≡ j = one_at_height m u.0 j u.3 a (u.2 ∙ sym same) in
+        absurd (not_p j p (subst IsPassed up u.1))
+    place_by j k same p q m n a b (inr (inr d)) =
+        let u = passed d.0 n j (subst (λ m. Above m j) d.1 a) in
+        let up : u.0 ≡ k = one_at_height n u.0 k u.3 b (u.2 ∙ same) in
+        absurd (not_q k q (subst IsPassed up u.1))
+
+    pub one_place : (j k : ℕ) → g.root j ≡ g.root k → P j → Q k → IsWaiting j → IsWaiting k → j ≡ k
+    one_place j k same p q a b =
+        let m = all_above j a in
+        let n = all_above k b in
+        place_by j k same p q m.0 n.0 m.1 n.1 (less_or m.0 n.0)
 
   -- two leaves with a current session that do not wait, of the same thread
   pub busy_same : (j k : ℕ) (a : IsBusy j) (b : IsBusy k) → g.root j ≡ g.root k → a.y ≡ b.y

@@ -171,7 +171,7 @@ module _ (system : System) (g : Tracked) (t : IsTracked system g) where
       )
 
   root_blocked : (i k : ℕ) → g.root k ≡ i → IsWaiting system g t k → (links w).stances i ≡ Some (stance Blocked None)
-  root_blocked i k e a = ap (links w).stances (sym e) ∙ root_waits system g t (g.depth k) k refl a
+  root_blocked i k e a = ap (links w).stances (sym e) ∙ root_waits system g t k a
 
   pub at_same : (i x y : ℕ) → IsAt g i x → IsAt g i y → x ≡ y
   at_same i x y a b = by (where_at i x a) (where_at i y b)

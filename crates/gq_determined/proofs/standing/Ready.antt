@@ -1,5 +1,5 @@
 -- Before a step: a leaf that is not shared and takes its first request becomes the thread's. Where the thread has the same in two worlds, it has the same then.
-use Rattle.std.proofs.Common.{◌≡◌, ◌≢◌, ◌⊎◌, ℕ, suc, ◌==◌, ◌&&◌, ◌||◌, not, inl, inr, Bool, true, false, cond, List, map, Option, Some, None}
+use Rattle.std.proofs.Common.{◌≡◌, ◌≢◌, ◌⊎◌, ℕ, ◌==◌, ◌&&◌, ◌||◌, not, inl, inr, Bool, true, false, cond, List, map, Option, Some, None}
 use Rattle.std.proofs.Common.{refl, ap, sym, ◌∙◌, subst}
 use Rattle.std.specs.Prelude.{option_map, slice_get}
 use Rattle.std.proofs.lemmas.Bool.{true≢false}
@@ -9,7 +9,7 @@ use Rattle.gq_model.specs.declared.phase.Phase.TheVariants.{Running, Serving, Ha
 use Rattle.gq_model.specs.machine.Scenario.{System}
 use Rattle.gq_model.specs.machine.World.{Session, Request, Current, Leaf, session_at}
 use Rattle.gq_model.specs.machine.Step.{oldest}
-use Rattle.gq_model.proofs.Small.{none_some, some_none, some_same, equal_self}
+use Rattle.gq_model.proofs.Small.{some_same, equal_self}
 use Rattle.gq_laws.specs.Links.{stance, stance_in, links}
 use Rattle.gq_laws.specs.internal.Renamed.{renamed_slot, renamed_request, renamed_session}
 use Rattle.gq_determined.specs.internal.Threads.{is_unshared, Tracked, thread_by, who, moved, given, first_of, first_by}
@@ -43,13 +43,13 @@ module _ (u : System) (g h : Tracked) (t : IsTracked u g) (th : IsTracked u h) (
 -- TWO WORLDS
 
 -- what was of the leaf and what is of the thread are named together
-module _ (u : System) (g h : Tracked) (t : IsTracked u g) (th : IsTracked u h) (i x n m : ℕ) (b : IsGiven u g i x n) (d : IsGiven u h i x m)
+module _ (u : System) (g h : Tracked) (t : IsTracked u g) (th : IsTracked u h) (i x : ℕ) (b : IsGiven u g i x) (d : IsGiven u h i x)
     (s : IsSameThread i g h) (sx : IsSameThread x g h) where
   abbrev g_given : Tracked
-  g_given = given g x i (Some n)
+  g_given = given g x i true
 
   abbrev h_given : Tracked
-  h_given = given h x i (Some m)
+  h_given = given h x i true
 
   both : ℕ → ℕ
   both k = cond (g.root k == i) (s.f k) (sx.f k)
@@ -60,7 +60,7 @@ module _ (u : System) (g h : Tracked) (t : IsTracked u g) (th : IsTracked u h) (
 
   both_x : (k : ℕ) → g.root k ≡ x → both k ≡ sx.f k
   unfolding both
-  both_x k is = ap (λ b. cond b (s.f k) (sx.f k)) (unequal (g.root k) i (λ e. x_else u g t i x n b (sym is ∙ e)))
+  both_x k is = ap (λ b. cond b (s.f k) (sx.f k)) (unequal (g.root k) i (λ e. x_else u g t i x b (sym is ∙ e)))
 
   region_i : IsSameRegion both g.own g.root h.root i g.world h.world
   region_i = region_renamed u g t s.f both i (λ k q there is. both_i k is) h.root h.world s.region
@@ -69,26 +69,26 @@ module _ (u : System) (g h : Tracked) (t : IsTracked u g) (th : IsTracked u h) (
   region_x = region_renamed u g t sx.f both x (λ k q there is. both_x k is) h.root h.world sx.region
 
   ne : x ≢ i
-  ne = x_else u g t i x n b
+  ne = x_else u g t i x b
 
   -- which of both it was
-  was : (l : ℕ) (f : ℕ → ℕ) (k : ℕ) → moved (Some l) x i f k ≡ i → (f k ≡ i) ⊎ (f k ≡ x)
-  was l f k e = elim (eqb_tells (f k) x) [ inl q ↦ inr q.1 | inr q ↦ inl (sym (moved_else l x i f k q.1) ∙ e) ]
+  was : (f : ℕ → ℕ) (k : ℕ) → moved true x i f k ≡ i → (f k ≡ i) ⊎ (f k ≡ x)
+  was f k e = elim (eqb_tells (f k) x) [ inl q ↦ inr q.1 | inr q ↦ inl (sym (moved_else x i f k q.1) ∙ e) ]
 
-  from_i : (l : ℕ) (f : ℕ → ℕ) (k : ℕ) → f k ≡ i → moved (Some l) x i f k ≡ i
-  from_i l f k e = moved_else l x i f k (λ q. ne (sym q ∙ e)) ∙ e
+  from_i : (f : ℕ → ℕ) (k : ℕ) → f k ≡ i → moved true x i f k ≡ i
+  from_i f k e = moved_else x i f k (λ q. ne (sym q ∙ e)) ∙ e
 
-  from_x : (l : ℕ) (f : ℕ → ℕ) (k : ℕ) → f k ≡ x → moved (Some l) x i f k ≡ i
-  from_x l f k e = moved_here l x i f k e
+  from_x : (f : ℕ → ℕ) (k : ℕ) → f k ≡ x → moved true x i f k ≡ i
+  from_x f k e = moved_here x i f k e
 
   -- a number is moved to the thread where it was of one of both
-  either : (l : ℕ) (f : ℕ → ℕ) (k : ℕ) → (moved (Some l) x i f k == i) ≡ (f k == i || f k == x)
-  either l f k = elim (eqb_tells (f k) x) [
+  either : (f : ℕ → ℕ) (k : ℕ) → (moved true x i f k == i) ≡ (f k == i || f k == x)
+  either f k = elim (eqb_tells (f k) x) [
     | inl q ↦
-        ap (λ a. a == i) (from_x l f k q.1)
+        ap (λ a. a == i) (from_x f k q.1)
         ∙ (equal_self i ∙ sym (ap (λ a. f k == i || a) q.0 ∙ or_true (f k == i)))
     | inr q ↦
-        ap (λ a. a == i) (moved_else l x i f k q.1)
+        ap (λ a. a == i) (moved_else x i f k q.1)
         ∙ sym (ap (λ a. f k == i || a) q.0 ∙ or_none (f k == i))
   ]
     where
@@ -105,30 +105,30 @@ module _ (u : System) (g h : Tracked) (t : IsTracked u g) (th : IsTracked u h) (
       → within h_given.root i h.world.sessions (both k) ≡ Some (renamed_session both q)
   there_both k q e =
       let o = within_there g_given.root i g.world.sessions k q e in
-      elim (was n g.root k o.0) [
+      elim (was g.root k o.0) [
         | inl is ↦
             let p = within_there h.root i h.world.sessions (both k) (renamed_session both q)
             (region_i.sessions.there k q (within_here g.root i g.world.sessions k is ∙ o.1)) in
-            within_here h_given.root i h.world.sessions (both k) (from_i m h.root (both k) p.0) ∙ p.1
+            within_here h_given.root i h.world.sessions (both k) (from_i h.root (both k) p.0) ∙ p.1
         | inr is ↦
             let p = within_there h.root x h.world.sessions (both k) (renamed_session both q)
             (region_x.sessions.there k q (within_here g.root x g.world.sessions k is ∙ o.1)) in
-            within_here h_given.root i h.world.sessions (both k) (from_x m h.root (both k) p.0) ∙ p.1
+            within_here h_given.root i h.world.sessions (both k) (from_x h.root (both k) p.0) ∙ p.1
       ]
 
   back_both : (k : ℕ) (q : Session) → within h_given.root i h.world.sessions k ≡ Some q
       → (j : ℕ) × (r : Session) × (within g_given.root i g.world.sessions j ≡ Some r) × (both j ≡ k)
   back_both k q e =
       let o = within_there h_given.root i h.world.sessions k q e in
-      elim (was m h.root k o.0) [
+      elim (was h.root k o.0) [
         | inl is ↦
             let p = region_i.sessions.back k q (within_here h.root i h.world.sessions k is ∙ o.1) in
             let r = within_there g.root i g.world.sessions p.0 p.1 p.2 in
-            (p.0, p.1, within_here g_given.root i g.world.sessions p.0 (from_i n g.root p.0 r.0) ∙ r.1, p.3)
+            (p.0, p.1, within_here g_given.root i g.world.sessions p.0 (from_i g.root p.0 r.0) ∙ r.1, p.3)
         | inr is ↦
             let p = region_x.sessions.back k q (within_here h.root x h.world.sessions k is ∙ o.1) in
             let r = within_there g.root x g.world.sessions p.0 p.1 p.2 in
-            (p.0, p.1, within_here g_given.root i g.world.sessions p.0 (from_x n g.root p.0 r.0) ∙ r.1, p.3)
+            (p.0, p.1, within_here g_given.root i g.world.sessions p.0 (from_x g.root p.0 r.0) ∙ r.1, p.3)
       ]
 
   -- the region in which a session is in the other world
@@ -143,7 +143,7 @@ module _ (u : System) (g h : Tracked) (t : IsTracked u g) (th : IsTracked u h) (
   single_both : (j k : ℕ) (q r : Session) → within g_given.root i g.world.sessions j ≡ Some q → within g_given.root i g.world.sessions k ≡ Some r
       → both j ≡ both k
       → j ≡ k
-  single_both j k q r e f same = by (was n g.root j p.0) (was n g.root k o.0)
+  single_both j k q r e f same = by (was g.root j p.0) (was g.root k o.0)
     where
       p : (g_given.root j ≡ i) × (session_at g.world j ≡ Some q)
       p = within_there g_given.root i g.world.sessions j q e
@@ -161,7 +161,7 @@ module _ (u : System) (g h : Tracked) (t : IsTracked u g) (th : IsTracked u h) (
 
   slots_both : (y : ℕ) → g_given.own y ≡ i
       → option_map slots_of (slice_get h.world.leaves y) ≡ option_map (λ leaf. map (renamed_slot both) (slots_of leaf)) (slice_get g.world.leaves y)
-  slots_both y is = elim (was n g.own y is) [ inl a ↦ region_i.slots y a | inr a ↦ region_x.slots y a ]
+  slots_both y is = elim (was g.own y is) [ inl a ↦ region_i.slots y a | inr a ↦ region_x.slots y a ]
 
   current_i : (y : ℕ) → works g i y ≡ true → (l : Leaf) (q : Current) → slice_get g.world.leaves y ≡ Some l → l.current ≡ Some q → g.root q.session ≡ i
   current_i y is l q at current =
@@ -174,80 +174,77 @@ module _ (u : System) (g h : Tracked) (t : IsTracked u g) (th : IsTracked u h) (
   pub given_both : IsSameThread i g_given h_given
   given_both = record {
     f = both;
-    owned = λ y. either n g.own y ∙ ((λ e. s.owned y e || sx.owned y e) ∙ sym (either m h.own y));
-    leaves = λ y. same_works u g t i x n b i y ∙ (s.leaves y ∙ sym (same_works u h th i x m d i y));
+    owned = λ y. either g.own y ∙ ((λ e. s.owned y e || sx.owned y e) ∙ sym (either h.own y));
+    leaves = λ y. same_works u g t i x b i y ∙ (s.leaves y ∙ sym (same_works u h th i x d i y));
     alike = λ y is. (
-        let works_g = sym (same_works u g t i x n b i y) ∙ is in
+        let works_g = sym (same_works u g t i x b i y) ∙ is in
         at_renamed u g t s.f both y h.world (λ l q at current. both_i q.session (current_i y works_g l q at current)) (s.alike y works_g));
     region = record {
       slots = slots_both;
       sessions = record { there = there_both; back = back_both; single = single_both };
-      requests = same_among u h th i x m d i ∙ (region_i.requests ∙ ap (map (renamed_request both)) (sym (same_among u g t i x n b i)));
+      requests = same_among u h th i x d i ∙ (region_i.requests ∙ ap (map (renamed_request both)) (sym (same_among u g t i x b i)));
     };
+    wrote = λ y is. elim (was g.own y is) [ inl a ↦ s.wrote y a | inr a ↦ sx.wrote y a ];
   }
 
 -- BEFORE A STEP
 
-pub record Readies (u : System) (g : Tracked) (i x : ℕ) (o : Option ℕ) : Type 0 where
-  pub here : (n : ℕ) → o ≡ Some n → IsGiven u g i x n
+pub record Readies (u : System) (g : Tracked) (i x : ℕ) (o : Bool) : Type 0 where
+  pub here : o ≡ true → IsGiven u g i x
   -- a leaf that is not shared is of the thread whose request it takes
-  pub taken : (leaf : Leaf) → slice_get g.world.leaves x ≡ Some leaf → leaf.phase ≡ Serving → is_unshared u x ≡ true → o ≡ None → g.own x ≡ i
+  pub taken : (leaf : Leaf) → slice_get g.world.leaves x ≡ Some leaf → leaf.phase ≡ Serving → is_unshared u x ≡ true → o ≡ false → g.own x ≡ i
 
 pub readies : (u : System) (g : Tracked) (i x : ℕ) → who g x ≡ Some i → Readies u g i x (first_by u g x i (slice_get g.world.leaves x))
 readies u g i x is = by (who_is g i x is)
   where
     working : (leaf : Leaf) (found : Option (Request × List Request)) → (leaf.phase ≡ Running) ⊎ (leaf.phase ≡ Handling)
-        → first_of u g x i leaf.phase found ≡ None
+        → first_of u g x i leaf.phase found ≡ false
     working leaf found (inl e) = ap (λ p. first_of u g x i p found) e
     working leaf found (inr e) = ap (λ p. first_of u g x i p found) e
 
-    none : (o : Option ℕ) → o ≡ None → ((leaf : Leaf) → slice_get g.world.leaves x ≡ Some leaf → leaf.phase ≡ Serving → ⊥) → Readies u g i x o
-    none o e busy = record { here = λ n f. absurd (none_some (sym e ∙ f)); taken = λ leaf there serves single f. absurd (busy leaf there serves) }
+    none : (o : Bool) → o ≡ false → ((leaf : Leaf) → slice_get g.world.leaves x ≡ Some leaf → leaf.phase ≡ Serving → ⊥) → Readies u g i x o
+    none o e busy = record { here = λ f. absurd (true≢false (sym f ∙ e)); taken = λ leaf there serves single f. absurd (busy leaf there serves) }
 
     by : IsWorking g i x ⊎ IsServing g i x → Readies u g i x (first_by u g x i (slice_get g.world.leaves x))
     by (inl w) = none _ (ap (first_by u g x i) w.at.there ∙ working w.at.leaf (oldest g.world x g.world.requests) w.runs)
         (λ leaf there serves. working_serving w.at.leaf.phase w.runs (ap (λ (l : Leaf). l.phase) (some_same (sym w.at.there ∙ there)) ∙ serves))
     by (inr p) = subst (Readies u g i x) (sym is_first) (of (is_unshared u x) (g.own x == i) refl refl)
       where
-        n : ℕ
-        n = suc (g.depth p.taken.0.session)
-
-        is_first : first_by u g x i (slice_get g.world.leaves x) ≡ cond (is_unshared u x && not (g.own x == i)) (Some n) None
+        is_first : first_by u g x i (slice_get g.world.leaves x) ≡ (is_unshared u x && not (g.own x == i))
         is_first =
             ap (first_by u g x i) p.there
             ∙ (ap (λ q. first_of u g x i q (oldest g.world x g.world.requests)) p.serves ∙ ap (first_of u g x i Serving) p.found)
 
-        of : (a c : Bool) → is_unshared u x ≡ a → (g.own x == i) ≡ c → Readies u g i x (cond (a && not c) (Some n) None)
+        of : (a c : Bool) → is_unshared u x ≡ a → (g.own x == i) ≡ c → Readies u g i x (a && not c)
         of true true single own = record {
-          here = λ l f. absurd (none_some f);
+          here = λ f. absurd (true≢false (sym f));
           taken = λ leaf there serves unshared none. equal_of (g.own x) i own;
         }
         of true false single own = record {
-          here = λ l f. record {
+          here = λ f. record {
             serving = p;
             single = single;
             other = λ e. true≢false (sym (ap (λ m. m == i) e ∙ equal_self i) ∙ own);
-            below = sym (some_same f);
           };
-          taken = λ leaf there serves unshared none. absurd (some_none none);
+          taken = λ leaf there serves unshared none. absurd (true≢false none);
         }
         of false c single own = record {
-          here = λ l f. absurd (none_some f);
+          here = λ f. absurd (true≢false (sym f));
           taken = λ leaf there serves unshared none. absurd (true≢false (sym unshared ∙ single));
         }
 
 -- a leaf that takes a step is its own, or the thread's
-pub own_who : (u : System) (g : Tracked) → IsTracked u g → (i x : ℕ) → who g x ≡ Some i → Readies u g i x None → (g.own x ≡ x) ⊎ (g.own x ≡ i)
+pub own_who : (u : System) (g : Tracked) → IsTracked u g → (i x : ℕ) → who g x ≡ Some i → Readies u g i x false → (g.own x ≡ x) ⊎ (g.own x ≡ i)
 own_who u g t i x is r = by (who_is g i x is)
   where
     shared : is_unshared u x ≡ false → g.own x ≡ x
-    shared e = elim (eqb_tells (g.own x) x) [ inl q ↦ q.1 | inr q ↦ absurd (true≢false (sym (t.owned.opened x q.1).0 ∙ e)) ]
+    shared e = elim (eqb_tells (g.own x) x) [ inl q ↦ q.1 | inr q ↦ absurd (true≢false (sym (t.owned.opened x q.1).single ∙ e)) ]
 
     of : (phase : Phase) (current : Option Current) → (links g.world).stances x ≡ Some (stance phase current) → is_active phase ≡ true
         → thread_by g.root x current ≡ i
         → (single : Bool) → is_unshared u x ≡ single → (g.own x ≡ x) ⊎ (g.own x ≡ i)
     of phase None at act is single e = inl (t.main x phase at act)
-    of phase (Some q) at act is true e = inr ((busy_below u g t x phase q at e).0 ∙ is)
+    of phase (Some q) at act is true e = inr (busy_below u g t x phase q at e ∙ is)
     of phase (Some q) at act is false e = inl (shared e)
 
     serves : (p : IsServing g i x) (single : Bool) → is_unshared u x ≡ single → (g.own x ≡ x) ⊎ (g.own x ≡ i)
@@ -274,7 +271,7 @@ module _ (u : System) (g h : Tracked) (t : IsTracked u g) (th : IsTracked u h) (
   told_back e = equal_of (g.own x) i (s.owned x ∙ (ap (λ m. m == i) e ∙ equal_self i))
 
   -- a leaf of its own
-  leaf_own : Readies u g i x None → Readies u h i x None → g.own x ≢ i → IsSameThread (g.own x) g h
+  leaf_own : Readies u g i x false → Readies u h i x false → g.own x ≢ i → IsSameThread (g.own x) g h
   leaf_own r q ne = by (own_who u g t i x is r) (own_who u h th i x is_h q)
     where
       by : (g.own x ≡ x) ⊎ (g.own x ≡ i) → (h.own x ≡ x) ⊎ (h.own x ≡ i) → IsSameThread (g.own x) g h
@@ -282,20 +279,20 @@ module _ (u : System) (g h : Tracked) (t : IsTracked u g) (th : IsTracked u h) (
       by (inl e) (inr o) = absurd (ne (told_back o))
       by (inl e) (inl o) = subst (λ z. IsSameThread z g h) (sym e) (ends (λ same. ne (e ∙ same)) e o)
 
-  pub both_ready : (o p : Option ℕ) → Readies u g i x o → Readies u h i x p → BothReady i x (given g x i o) (given h x i p)
-  both_ready None None r q = record { thread = s; leaf = leaf_own r q }
-  both_ready (Some n) None r q =
-      let b = r.here n refl in
+  pub both_ready : (o p : Bool) → Readies u g i x o → Readies u h i x p → BothReady i x (given g x i o) (given h x i p)
+  both_ready false false r q = record { thread = s; leaf = leaf_own r q }
+  both_ready true false r q =
+      let b = r.here refl in
       let p = serving_other u g h t th i x is is_h s b.serving in
       absurd (b.other (told_back (q.taken p.leaf p.there p.serves b.single refl)))
-  both_ready None (Some m) r q =
-      let d = q.here m refl in
+  both_ready false true r q =
+      let d = q.here refl in
       let p = serving_back u g h t th i x is is_h s d.serving in
       absurd (d.other (told (r.taken p.leaf p.there p.serves d.single refl)))
-  both_ready (Some n) (Some m) r q =
-      let b = r.here n refl in
-      let d = q.here m refl in
+  both_ready true true r q =
+      let b = r.here refl in
+      let d = q.here refl in
       record {
-        thread = given_both u g h t th i x n m b d s (ends (x_else u g t i x n b) (own_x u g t i x n b) (own_x u h th i x m d));
-        leaf = λ ne. absurd (ne (own_new u g t i x n b));
+        thread = given_both u g h t th i x b d s (ends (x_else u g t i x b) (own_x u g t i x b) (own_x u h th i x d));
+        leaf = λ ne. absurd (ne (own_new u g t i x b));
       }

@@ -164,7 +164,7 @@ module _ (u : System) (pays : (z : World) → paid u z ≡ true) (g h : Tracked)
 
             of : (single : Bool) → is_unshared u x ≡ single → IsAllowed f (suc b.steps) b.peaks d h.world K M O instr
             of true single =
-                let own = (busy_below u g t x a.phase q (ap stance_in there ∙ ap (λ o. Some (stance a.phase o)) e) single).0 ∙ section q e in
+                let own = busy_below u g t x a.phase q (ap stance_in there ∙ ap (λ o. Some (stance a.phase o)) e) single ∙ section q e in
                 all_allowed f (suc b.steps) b.peaks d h.world K M O (may own (λ shared. absurd (true_false (sym single ∙ shared)))) instr
             of false shared = none_allowed f (suc b.steps) b.peaks d h.world K M O instr (stateless x a q instr rest there e shared begins)
 

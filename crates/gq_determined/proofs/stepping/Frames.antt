@@ -1,5 +1,5 @@
 -- A step for one thread is not seen by another; and after a step of its own in two worlds a thread has the same in both.
-use Rattle.std.proofs.Common.{◌≡◌, ◌≢◌, ◌⊎◌, ℕ, suc, ◌==◌, ◌&&◌, ◌||◌, inl, inr, Bool, true, false, cond, List, [], ◌∷◌, map, Option, Some, None, Ok}
+use Rattle.std.proofs.Common.{◌≡◌, ◌≢◌, ◌⊎◌, ℕ, suc, ◌==◌, ◌&&◌, ◌||◌, inl, inr, Bool, true, false, cond, List, [], ◌∷◌, map, Option, Some, None, Ok, ◌++◌}
 use Rattle.std.proofs.Common.{refl, ap, sym, ◌∙◌, subst}
 use Rattle.std.specs.Prelude.{option_map, slice_get}
 use Rattle.std.proofs.lemmas.Bool.{true≢false}
@@ -248,6 +248,20 @@ module _ (u : System) (g : Tracked) (t : IsTracked u g) (j x : ℕ) (component :
       mapped_slots f None = refl
       mapped_slots f (Some l) = refl
 
+      -- a leaf that is another thread's showed nothing for it
+      wrote_kept : (y : ℕ) → g.own y ≡ i → g_new.wrote y ≡ g.wrote y
+      wrote_kept y is = elim (eqb_tells y x) [
+        | inl q ↦ ap (λ b. cond b (g.wrote y ++ event ∷ []) (g.wrote y)) (none (y == x) (g.own x == j) (not_j (ap g.own (sym q.1) ∙ is)))
+        | inr q ↦ ap (λ b. cond (b && (g.own x == j)) (g.wrote y ++ event ∷ []) (g.wrote y)) q.0
+      ]
+        where
+          none : (b c : Bool) → c ≡ false → (b && c) ≡ false
+          none true c e = e
+          none false c e = refl
+
+          not_j : g.own x ≡ i → (g.own x == j) ≡ false
+          not_j e = elim (eqb_tells (g.own x) j) [ inl q ↦ absurd (ne (sym e ∙ q.1)) | inr q ↦ q.0 ]
+
       pub unseen_left : IsSameThread i g h → IsSameThread i g_new h
       unseen_left s = record {
         f = s.f;
@@ -269,6 +283,7 @@ module _ (u : System) (g : Tracked) (t : IsTracked u g) (j x : ℕ) (component :
           };
           requests = s.region.requests ∙ ap (map (renamed_request s.f)) (sym (among_kept i ne));
         };
+        wrote = λ y is. wrote_kept y is ∙ s.wrote y is;
       }
 
       pub unseen_right : IsSameThread i h g → IsSameThread i h g_new
@@ -287,4 +302,6 @@ module _ (u : System) (g : Tracked) (t : IsTracked u g) (j x : ℕ) (component :
           };
           requests = among_kept i ne ∙ s.region.requests;
         };
+        wrote = λ y is. s.wrote y is
+            ∙ sym (wrote_kept y (equal_of (g.own y) i (sym (s.owned y) ∙ (ap (λ n. n == i) is ∙ equal_self i))));
       }

@@ -68,4 +68,5 @@ thread_itself i g =
       leaves = λ y. refl;
       alike = λ y is. at_itself y g.world;
       region = region_itself g.own g.root i g.world;
+      wrote = λ y is. refl;
     }

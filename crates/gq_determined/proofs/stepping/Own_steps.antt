@@ -25,7 +25,7 @@ use Rattle.gq_determined.proofs.passing.Kept_around.{AreTaken, Match, FirstAllow
 use Rattle.gq_determined.proofs.regions.Elsewhere.{else_first}
 use Rattle.gq_determined.proofs.regions.Related.{IsBelow, Ours, Mine, IsRelated, IsRelatedWithin, IsBefore}
 use Rattle.gq_determined.proofs.regions.Related_around.{IsOne, kept_around}
-use Rattle.gq_determined.proofs.standing.Orderly.{IsBelowOf, IsTracked, IsWaiting, IsHandled, handled, IsFirst, HasParent, above, root_waits}
+use Rattle.gq_determined.proofs.standing.Orderly.{root_at, IsTracked, IsWaiting, IsHandled, handled, IsFirst, HasParent, above, root_waits}
 use Rattle.gq_determined.proofs.regions.Renamed_regions.{region_renamed, region_roots, at_renamed}
 use Rattle.gq_determined.proofs.standing.Places.{IsWorking, ServesSame, taken_there, works_at, requested}
 
@@ -200,11 +200,11 @@ module _ (u : System) (pays : (z : World) → paid u z ≡ true) (g h : Tracked)
         own : root k ≡ g.root k
         own = anew_else g.root k0 i k (not_free g.world k s at)
 
-        by : (q : Spot) → IsBelowOf g k q → Belongs (links g.world) q s.client → IsBelow g.own root k q
-        by (In_leaf y a) below b = own ∙ below.0
+        by : (q : Spot) → g.root k ≡ root_at g.own g.root q → Belongs (links g.world) q s.client → IsBelow g.own root k q
+        by (In_leaf y a) below b = own ∙ below
         by (In_session j a) below b =
             let p = outlined (session_at g.world j) b.0 b.1 in
-            own ∙ (below.0 ∙ sym (anew_else g.root k0 i j (not_free g.world j p.0 p.1)))
+            own ∙ (below ∙ sym (anew_else g.root k0 i j (not_free g.world j p.0 p.1)))
         by (In_object j) below b = tt
 
     -- the client of the current session works for the thread
@@ -236,10 +236,15 @@ module _ (u : System) (pays : (z : World) → paid u z ≡ true) (g h : Tracked)
         works_client : works g i s.client ≡ true
         works_client = ap (λ (s : Session). works g i s.client) (sym same) ∙ of (above u g t q.session m.waiting)
           where
-            of : ((m.waiting.session.client ≡ g.root q.session) × IsFirst u g t q.session)
-                ⊎ ((p : HasParent u g t q.session) × (m.waiting.session.client ≡ p.y)) → works g i m.waiting.session.client ≡ true
-            of (inl p) = ap (works g i) p.0 ∙ works_so (g.root q.session) None p.1.at (o.current q at)
-            of (inr p) = ap (works g i) p.1 ∙ works_so p.0.y (Some p.0.parent) p.0.at (sym p.0.root ∙ o.current q at)
+            client_is : (a : IsWaiting u g t q.session) → m.waiting.session.client ≡ a.session.client
+            client_is a = ap (λ (s : Session). s.client) (some_same (sym m.waiting.there ∙ a.there))
+
+            of : IsFirst u g t q.session ⊎ HasParent u g t q.session → works g i m.waiting.session.client ≡ true
+            of (inl p) =
+                ap (works g i) (client_is p.waiting ∙ p.client) ∙ works_so (g.root q.session) None p.at (o.current q at)
+            of (inr p) =
+                ap (works g i) (client_is p.waiting)
+                ∙ works_so p.waiting.session.client (Some p.parent) p.at (sym p.root ∙ o.current q at)
 
     takes : TakesLeaf d
     takes = record { old = a; there = there; slots = refl; phase = refl; current = refl }
@@ -277,7 +282,7 @@ module _ (u : System) (pays : (z : World) → paid u z ≡ true) (g h : Tracked)
           ∙ (ap (λ n. n == i) (ap (thread_by g.root y) currents ∙ is) ∙ equal_self i)
 
   root_alive : (k : ℕ) → g.root k ≡ i → IsWaiting u g t k → works g i i ≡ true
-  root_alive k is w = works_blocked i None (ap (λ y. stance_in (slice_get g.world.leaves y)) (sym is) ∙ root_waits u g t (g.depth k) k refl w) refl
+  root_alive k is w = works_blocked i None (ap (λ y. stance_in (slice_get g.world.leaves y)) (sym is) ∙ root_waits u g t k w) refl
 
   fits_serving : (current : Option Current) → Fits Serving current → (q : Current) → current ≡ Some q → ⊥
   fits_serving None f q e = none_some e

@@ -1,5 +1,5 @@
 -- A thread that has the same in two worlds has the same after a step of its own in both, and shows the same.
-use Rattle.std.proofs.Common.{◌≡◌, ◌≢◌, ◌⊎◌, ℕ, ◌==◌, ◌&&◌, ◌||◌, inl, inr, Bool, true, false, Option, Some, None, Ok}
+use Rattle.std.proofs.Common.{◌≡◌, ◌≢◌, ◌⊎◌, ℕ, ◌==◌, ◌&&◌, ◌||◌, inl, inr, Bool, true, false, cond, [], ◌∷◌, ◌++◌, Option, Some, None, Ok}
 use Rattle.std.proofs.Common.{refl, ap, sym, ◌∙◌}
 use Rattle.std.specs.Prelude.{option_map, slice_get}
 use Rattle.std.proofs.lemmas.Bool.{true≢false}
@@ -11,7 +11,7 @@ use Rattle.gq_model.specs.machine.Doing.{Event}
 use Rattle.gq_model.specs.machine.Step.{next}
 use Rattle.gq_model.proofs.Small.{none_some, some_none, some_same}
 use Rattle.gq_laws.specs.internal.Renamed.{renamed_leaf}
-use Rattle.gq_determined.specs.internal.Threads.{Tracked, thread_by, who, stepped_to, works, works_for, is_active, seen, IsAtSame, IsSameThread}
+use Rattle.gq_determined.specs.internal.Threads.{Tracked, thread_by, who, more_of, stepped_to, works, works_for, is_active, seen, IsAtSame, IsSameThread}
 use Rattle.gq_determined.proofs.standing.Orderly.{IsTracked}
 use Rattle.gq_determined.proofs.standing.Places.{IsWorking, ServesSame, same_place}
 use Rattle.gq_determined.proofs.stepping.Itself.{thread_itself}
@@ -130,4 +130,8 @@ module _ (u : System) (pays : (z : World) → paid u z ≡ true) (g h : Tracked)
       leaves = leaves_same;
       alike = λ y w. r.goes.related.at y (in_c y w);
       region = r.goes.related.regions i (inl refl);
+      wrote = wrote;
     }
+      where
+        wrote : (y : ℕ) → g.own y ≡ i → more_of g.wrote x (g.own x == i) event y ≡ more_of h.wrote x (h.own x == i) event y
+        wrote y is = λ e. cond (y == x && s.owned x e) (s.wrote y is e ++ event ∷ []) (s.wrote y is e)

@@ -9,16 +9,16 @@ use Rattle.gq_model.specs.machine.Scenario.{System, Component}
 use Rattle.gq_model.specs.machine.World.{Waiting, Spot, In_leaf, In_session, In_object, Session, Current, Leaf, World, session_at, slot_at, spot_of}
 use Rattle.gq_model.specs.machine.Doing.{Doing, Event}
 use Rattle.gq_model.specs.machine.Requests.{free_place}
-use Rattle.gq_model.proofs.Small.{none_some, some_none, some_same, equal_self}
+use Rattle.gq_model.proofs.Small.{none_some, some_same, equal_self}
 use Rattle.std.proofs.lemmas.Bool.{true≢false}
 use Rattle.std.proofs.lemmas.Bool.Decides.{eqb_tells}
 use Rattle.gq_laws.specs.Links.{Waits, naming_in, outline, outline_in, stance, stance_in, links, Belongs, Fits, IsLinkedWorld}
 use Rattle.gq_laws.proofs.linking.Events.{same_phase, same_current}
 use Rattle.gq_laws.proofs.Stepping.{outlined}
-use Rattle.gq_determined.specs.internal.Threads.{is_unshared, Tracked, thread_by, anew, depth_in, depth_by, stepped_to, is_active, works, seen}
+use Rattle.gq_determined.specs.internal.Threads.{is_unshared, Tracked, thread_by, anew, stepped_to, is_active, works, seen}
 use Rattle.gq_determined.proofs.passing.Kept_by_steps.{IsNamed}
-use Rattle.gq_determined.proofs.regions.Elsewhere.{OursBy, IsOld, IsElse, current_of}
-use Rattle.gq_determined.proofs.standing.Orderly.{IsBelowOf, IsByCurrent, AreOpened, IsTracked, busy_below}
+use Rattle.gq_determined.proofs.regions.Elsewhere.{OursBy, IsOld, IsNew, IsElse, current_of}
+use Rattle.gq_determined.proofs.standing.Orderly.{root_at, IsByCurrent, AreOpened, IsTracked}
 use Rattle.gq_determined.proofs.stepping.Own_steps.{anew_else, anew_here, not_free}
 use Rattle.gq_determined.proofs.stepping.Frames.{seen_active, is_or_not, IsDone, thread_new}
 
@@ -66,15 +66,12 @@ module _ (u : System) (g : Tracked) (t : IsTracked u g) (i x : ℕ) (component :
   abbrev c : ℕ → Bool
   c y = works g i y || y == x
 
-  abbrev depth : ℕ → ℕ
-  depth = anew g.depth k0 (depth_by g.depth (slice_get g.world.leaves x))
-
   -- what the step may change
   abbrev pub Ours : Spot → Type 0
   Ours = OursBy d i g.own root
 
-  -- the thread has its own leaf; a leaf that is not shared is of another thread once it takes a request; and all sessions are opened where they may be
-  module _ (new : World) (event : Event) (done : IsDone u g t i x component a there new) (opened : AreOpened u new) (lives : g.own i ≡ i)
+  -- the thread has its own leaf; a leaf that is not shared is of another thread once it takes a request; and all sessions are opened for someone
+  module _ (new : World) (event : Event) (done : IsDone u g t i x component a there new) (opened : AreOpened u g.own g.root new) (lives : g.own i ≡ i)
       (taken : is_unshared u x ≡ true → a.phase ≡ Serving → g.own x ≢ x) where
     abbrev g_new : Tracked
     g_new = stepped_to g x i (Ok (new, event))
@@ -88,58 +85,51 @@ module _ (u : System) (g : Tracked) (t : IsTracked u g) (i x : ℕ) (component :
     same_root : (k : ℕ) (s : Session) → session_at g.world k ≡ Some s → root k ≡ g.root k
     same_root k s at = anew_else g.root k0 i k (not_free g.world k s at)
 
-    same_depth : (k : ℕ) (s : Session) → session_at g.world k ≡ Some s → depth k ≡ g.depth k
-    same_depth k s at = anew_else g.depth k0 (depth_by g.depth (slice_get g.world.leaves x)) k (not_free g.world k s at)
-
-    new_depth : (current : Option Current) → a.current ≡ current → depth k0 ≡ depth_in g.depth current
-    new_depth current e = anew_here g.depth k0 (depth_by g.depth (slice_get g.world.leaves x)) ∙ (ap (depth_by g.depth) there ∙ ap (depth_in g.depth) e)
-
     current_there : (q : Current) → a.current ≡ Some q → (s : Session) × (session_at g.world q.session ≡ Some s) × (s.server ≡ x)
     current_there q at =
         let m = t.linked.handles x a.phase q (ap stance_in there ∙ ap (λ o. Some (stance a.phase o)) at) in
         let s = outlined (session_at g.world q.session) m.0 m.1 in
         (s.0, s.1, ap (λ (s : Session). s.server) s.2 ∙ m.2)
 
-    below : (k : ℕ) (s : Session) → session_at new k ≡ Some s → IsBelowOf g_new k s.spot
-    below k s at = elim (rest.spots k s at) [ inl o ↦ subst (IsBelowOf g_new k) (sym o.spot) (old o) | inr o ↦ fresh s.spot o.free o.named o.ours ]
+    -- a slot that was there is in the region where it was
+    kept : (q : Spot) (client : ℕ) → Belongs (links g.world) q client → root_at g.own root q ≡ root_at g.own g.root q
+    kept (In_leaf y b) client r = refl
+    kept (In_session j b) client r = let p = outlined (session_at g.world j) r.0 r.1 in same_root j p.0 p.1
+    kept (In_object j) client r = absurd r
+
+    kept_old : (k : ℕ) (s : Session) (o : IsOld d i g.own root c Ours k s) → root_at g.own root s.spot ≡ root_at g.own g.root s.spot
+    kept_old k s o = subst (λ q. root_at g.own root q ≡ root_at g.own g.root q) (sym o.spot)
+        (kept o.old.spot o.old.client (t.linked.belongs k (outline o.old) (ap outline_in o.there)))
+
+    kept_new : (q : Spot) (client : ℕ) → IsNamed d q → Belongs (links new) q client → root_at g.own root q ≡ root_at g.own g.root q
+    kept_new (In_leaf y b) client named r = refl
+    kept_new (In_session j b) client named r =
+        let q = named_session x a.current named.0 j b named.1 in
+        let m = current_there q.0 q.1 in
+        same_root j m.0 (ap (session_at g.world) (sym q.2) ∙ m.1)
+    kept_new (In_object j) client named r = absurd r
+
+    fresh : (q : Spot) → Ours q → root_at g.own root q ≡ i
+    fresh (In_leaf y b) ours = ours.0
+    fresh (In_session j b) ours = ours
+    fresh (In_object j) ours = ours
+
+    below : (k : ℕ) (s : Session) → session_at new k ≡ Some s → root k ≡ root_at g.own root s.spot
+    below k s at = elim (rest.spots k s at) [
+      | inl o ↦
+          same_root k o.old o.there
+          ∙ (t.below k o.old o.there ∙ (ap (root_at g.own g.root) (sym o.spot) ∙ sym (kept_old k s o)))
+      | inr o ↦ ap root o.free ∙ (anew_here g.root k0 i ∙ sym (fresh s.spot o.ours))
+    ]
+
+    stands : AreOpened u g.own root new
+    stands k s at =
+        let o = opened k s at in
+        record { uses = o.uses; n = o.n; z = o.z; starts = o.starts; is = by (rest.spots k s at) ∙ o.is }
       where
-        old : (o : IsOld d i g.own root c Ours k s) → IsBelowOf g_new k o.old.spot
-        old o = by o.old.spot (t.below k o.old o.there) (t.linked.belongs k (outline o.old) (ap outline_in o.there))
-          where
-            by : (q : Spot) → IsBelowOf g k q → Belongs (links g.world) q o.old.client → IsBelowOf g_new k q
-            by (In_leaf y b) e r = (same_root k o.old o.there ∙ e.0, same_depth k o.old o.there ∙ e.1)
-            by (In_session j b) e r =
-                let p = outlined (session_at g.world j) r.0 r.1 in (
-                  same_root k o.old o.there ∙ (e.0 ∙ sym (same_root j p.0 p.1)),
-                  same_depth k o.old o.there ∙ (e.1 ∙ ap suc (sym (same_depth j p.0 p.1))),
-                )
-            by (In_object j) e r = tt
-
-        -- a session in an own slot of the leaf
-        under : (y : ℕ) → y ≡ x → (is_unshared u y ≡ false → a.current ≡ None) → (a.current ≡ None → y ≡ i) → depth k0 ≡ g.level y
-        under y same shared main = by a.current refl
-          where
-            single : (q : Current) → a.current ≡ Some q → (b : Bool) → is_unshared u y ≡ b → is_unshared u y ≡ true
-            single q e true is = is
-            single q e false is = absurd (some_none (sym e ∙ shared is))
-
-            by : (current : Option Current) → a.current ≡ current → depth k0 ≡ g.level y
-            by None e = new_depth None e ∙ sym (t.owned.first y (ap g.own (main e) ∙ (lives ∙ sym (main e))))
-            by (Some q) e =
-                new_depth (Some q) e
-                ∙ sym (busy_below u g t y a.phase q (ap (links g.world).stances same ∙ (ap stance_in there ∙ ap (λ o. Some (stance a.phase o)) e))
-                (single q e (is_unshared u y) refl)).1
-
-        fresh : (q : Spot) → k ≡ k0 → IsNamed d q → Ours q → IsBelowOf g_new k q
-        fresh (In_leaf y b) e named ours =
-            (ap root e ∙ (anew_here g.root k0 i ∙ sym ours.0), ap depth e ∙ under y ours.1 ours.2 ours.3)
-        fresh (In_session j b) e named ours =
-            let q = named_session x a.current named.0 j b named.1 in
-            let m = current_there q.0 q.1 in (
-              ap root e ∙ (anew_here g.root k0 i ∙ sym ours),
-              ap depth e ∙ (new_depth (Some q.0) q.1 ∙ ap suc (sym (same_depth q.0.session m.0 m.1) ∙ ap depth q.2)),
-            )
-        fresh (In_object j) e named ours = tt
+        by : IsOld d i g.own root c Ours k s ⊎ IsNew d i g.own root c Ours k s → root_at g.own root s.spot ≡ root_at g.own g.root s.spot
+        by (inl o) = kept_old k s o
+        by (inr o) = kept_new s.spot s.client o.named (linked.belongs k (outline s) (ap outline_in at))
 
     -- the client of a session that waits
     client_of : (w : World) → IsLinkedWorld u w → (q : Spot) (k : ℕ) → slot_at w q ≡ Some (Waiting k)
@@ -290,10 +280,11 @@ module _ (u : System) (g : Tracked) (t : IsTracked u g) (i x : ℕ) (component :
 
     pub still_tracked : IsTracked u g_new
     still_tracked = record {
+      acyclic = t.acyclic;
       linked = linked;
       below = below;
       waits = waits;
-      stands = opened;
+      stands = stands;
       owned = t.owned;
       lives = lives_on;
       main = main;

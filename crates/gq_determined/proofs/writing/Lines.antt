@@ -41,6 +41,93 @@ said_more x label (e ∷ one) other =
     ap (λ l. cond (e.0 == x) (line_of label e.1) [] ++ l) (said_more x label one other)
     ∙ sym (append_assoc (cond (e.0 == x) (line_of label e.1) []) (said x label one) (said x label other))
 
+-- what is told of each turn is what the leaf writes in it
+module _ (s : Scenario) (sound : IsSound s) (idle : (w : World) (x : ℕ) → StandsStill (system s) w x) (x : ℕ) (told : List ℕ → List ℕ)
+    (begins : told [] ≡ []) (goes : (y : ℕ) (a : List ℕ) (p : World × Event) → next (system s) (at s sound idle a).world y ≡ Ok p
+    → told (y ∷ a) ≡ told a ++ cond (y == x) (line_of (label_at (slice_get (system s).components x)) p.1) []) where
+  abbrev own_label : List ℕ
+  own_label = label_at (slice_get (system s).components x)
+
+  abbrev run_at : List ℕ → Tracked
+  run_at = at s sound idle
+
+  -- a run so far
+  abbrev ran_at : List ℕ → List ℕ → Ran
+  ran_at a text = record { world = (run_at a).world; text = text; wrong = None }
+
+  label_of : ℕ → List ℕ
+  label_of y = label_at (slice_get (system s).components y)
+
+  -- one turn
+  turn_ran : (y : ℕ) (a text : List ℕ) → (l : List ℕ) × (turn_from (system s) y (ran_at a text) None ≡ ran_at (y ∷ a) (text ++ l))
+      × (told (y ∷ a) ≡ told a ++ cond (y == x) l [])
+  unfolding label_of
+  turn_ran y a text =
+      let p = goes_by s sound (run_at a).world y (all_stand s sound a) in
+      let world : p.0.0 ≡ (run_at (y ∷ a)).world = sym (ap (world_after (run_at a).world) p.2) ∙ next_world s sound idle a y in (
+        line_of (label_of y) p.0.1,
+        ap (after_step (system s) y (ran_at a text)) p.2
+            ∙ (λ e. record { world = world e; text = text ++ line_of (label_of y) p.0.1; wrong = None }),
+        goes y a p.0 p.2 ∙ ap (λ l. told a ++ l) (same_label (eqb_tells y x) p.0.1),
+      )
+    where
+      same_label : (((y == x) ≡ true) × (y ≡ x)) ⊎ (((y == x) ≡ false) × (y ≢ x)) → (e : Event)
+          → cond (y == x) (line_of own_label e) [] ≡ cond (y == x) (line_of (label_at (slice_get (system s).components y)) e) []
+      same_label (inl q) e = ap (λ z. cond (y == x) (line_of (label_at (slice_get (system s).components z)) e) []) (sym q.1)
+      same_label (inr q) e = ap (λ b. cond b (line_of own_label e) []) q.0
+          ∙ sym (ap (λ b. cond b (line_of (label_at (slice_get (system s).components y)) e) []) q.0)
+
+  joined_if : (b : Bool) (l m : List ℕ) → cond b l [] ++ cond b m [] ≡ cond b (l ++ m) []
+  joined_if true l m = refl
+  joined_if false l m = refl
+
+  -- n turns of a leaf
+  turns_ran : (y n : ℕ) (a text : List ℕ) → (l : List ℕ)
+      × (turns_of (system s) y n (ran_at a text) ≡ ran_at (turned (replicate n y) a) (text ++ l))
+      × (told (turned (replicate n y) a) ≡ told a ++ cond (y == x) l [])
+  turns_ran y zero a text = (
+    [],
+    ap (ran_at a) (sym (append-nil text)),
+    sym (ap (λ l. told a ++ l) (none (y == x)) ∙ append-nil (told a)),
+  )
+    where
+      nothing : List ℕ
+      nothing = []
+
+      none : (b : Bool) → cond b nothing nothing ≡ nothing
+      none true = refl
+      none false = refl
+  turns_ran y (suc n) a text =
+      let one = turn_ran y a text in
+      let more = turns_ran y n (y ∷ a) (text ++ one.0) in (
+        one.0 ++ more.0,
+        ap (turns_of (system s) y n) one.1 ∙ (more.1 ∙ ap (ran_at (turned (replicate n y) (y ∷ a))) (append_assoc text one.0 more.0)),
+        more.2 ∙ (ap (λ l. l ++ cond (y == x) more.0 []) one.2 ∙ (append_assoc (told a) (cond (y == x) one.0 []) (cond (y == x) more.0 [])
+            ∙ ap (λ l. told a ++ l) (joined_if (y == x) one.0 more.0))),
+      )
+
+  turned_more : (xs ys a : List ℕ) → turned (xs ++ ys) a ≡ turned ys (turned xs a)
+  turned_more [] ys a = refl
+  turned_more (z ∷ xs) ys a = turned_more xs ys (z ∷ a)
+
+  lines_ran : (turns : List (ℕ × ℕ)) (a text : List ℕ)
+      → told (turned (each_turn turns) a) ≡ told a ++ lines_from (system s) (λ y. y == x) turns (ran_at a text)
+  lines_ran [] a text = sym (append-nil (told a))
+  lines_ran (t ∷ turns) a text =
+      let one = turns_ran t.0 t.1 a [] in
+      let next_a = turned (replicate t.1 t.0) a in
+      ap told (turned_more (replicate t.1 t.0) (each_turn turns) a)
+      ∙ (lines_ran turns next_a one.0
+      ∙ (ap (λ l. l ++ lines_from (system s) (λ y. y == x) turns (ran_at next_a one.0)) one.2
+      ∙ (append_assoc (told a) (cond (t.0 == x) one.0 []) (lines_from (system s) (λ y. y == x) turns (ran_at next_a one.0))
+      ∙ ap (λ (ran : Ran). told a ++ (cond (t.0 == x) ran.text [] ++ lines_from (system s) (λ y. y == x) turns ran)) (sym one.1))))
+
+  -- the lines of the leaf in a run
+  pub lines_told : (turns : List (ℕ × ℕ)) → lines_of s x turns ≡ told (past_of turns)
+  lines_told turns = sym (lines_ran turns [] [] ∙ ap (λ l. l ++ lines_of s x turns) begins)
+
+-- A LEAF WHOSE STEPS ARE ALL FOR ITS OWN THREAD
+
 module _ (s : Scenario) (sound : IsSound s) (idle : (w : World) (x : ℕ) → StandsStill (system s) w x) (x : ℕ)
     (own : (a : List ℕ) (i : ℕ) → who (tracked_after (uncounted (system s)) a) x ≡ Some i → i ≡ x) where
   abbrev u : System
@@ -101,81 +188,9 @@ module _ (s : Scenario) (sound : IsSound s) (idle : (w : World) (x : ℕ) → St
           none true = refl
           none false = refl
 
-  -- a run so far
-  abbrev ran_at : List ℕ → List ℕ → Ran
-  ran_at a text = record { world = (now a).world; text = text; wrong = None }
-
-  label_of : ℕ → List ℕ
-  label_of y = label_at (slice_get (system s).components y)
-
-  -- one turn
-  turn_ran : (y : ℕ) (a text : List ℕ) → (l : List ℕ) × (turn_from (system s) y (ran_at a text) None ≡ ran_at (y ∷ a) (text ++ l))
-      × (said x label (shown (y ∷ a)) ≡ said x label (shown a) ++ cond (y == x) l [])
-  unfolding label_of
-  turn_ran y a text =
-      let p = goes_by s sound (now a).world y (all_stand s sound a) in
-      let world : p.0.0 ≡ (now (y ∷ a)).world = sym (ap (world_after (now a).world) p.2) ∙ next_world s sound idle a y in (
-        line_of (label_of y) p.0.1,
-        ap (after_step (system s) y (ran_at a text)) p.2
-            ∙ (λ e. record { world = world e; text = text ++ line_of (label_of y) p.0.1; wrong = None }),
-        turn_shows y a p.0 p.2 ∙ ap (λ l. said x label (shown a) ++ l) (same_label (eqb_tells y x) p.0.1),
-      )
-    where
-      same_label : (((y == x) ≡ true) × (y ≡ x)) ⊎ (((y == x) ≡ false) × (y ≢ x)) → (e : Event)
-          → cond (y == x) (line_of label e) [] ≡ cond (y == x) (line_of (label_at (slice_get (system s).components y)) e) []
-      same_label (inl q) e = ap (λ z. cond (y == x) (line_of (label_at (slice_get (system s).components z)) e) []) (sym q.1)
-      same_label (inr q) e = ap (λ b. cond b (line_of label e) []) q.0
-          ∙ sym (ap (λ b. cond b (line_of (label_at (slice_get (system s).components y)) e) []) q.0)
-
-  joined_if : (b : Bool) (l m : List ℕ) → cond b l [] ++ cond b m [] ≡ cond b (l ++ m) []
-  joined_if true l m = refl
-  joined_if false l m = refl
-
-  -- n turns of a leaf
-  turns_ran : (y n : ℕ) (a text : List ℕ) → (l : List ℕ)
-      × (turns_of (system s) y n (ran_at a text) ≡ ran_at (turned (replicate n y) a) (text ++ l))
-      × (said x label (shown (turned (replicate n y) a)) ≡ said x label (shown a) ++ cond (y == x) l [])
-  turns_ran y zero a text = (
-    [],
-    ap (ran_at a) (sym (append-nil text)),
-    sym (ap (λ l. said x label (shown a) ++ l) (none (y == x))
-        ∙ append-nil (said x label (shown a))),
-  )
-    where
-      nothing : List ℕ
-      nothing = []
-
-      none : (b : Bool) → cond b nothing nothing ≡ nothing
-      none true = refl
-      none false = refl
-  turns_ran y (suc n) a text =
-      let one = turn_ran y a text in
-      let more = turns_ran y n (y ∷ a) (text ++ one.0) in (
-        one.0 ++ more.0,
-        ap (turns_of (system s) y n) one.1 ∙ (more.1 ∙ ap (ran_at (turned (replicate n y) (y ∷ a))) (append_assoc text one.0 more.0)),
-        more.2 ∙ (ap (λ l. l ++ cond (y == x) more.0 []) one.2 ∙ (append_assoc (said x label (shown a)) (cond (y == x) one.0 []) (cond (y == x) more.0 [])
-            ∙ ap (λ l. said x label (shown a) ++ l) (joined_if (y == x) one.0 more.0))),
-      )
-
-  turned_more : (xs ys a : List ℕ) → turned (xs ++ ys) a ≡ turned ys (turned xs a)
-  turned_more [] ys a = refl
-  turned_more (z ∷ xs) ys a = turned_more xs ys (z ∷ a)
-
-  lines_ran : (turns : List (ℕ × ℕ)) (a text : List ℕ)
-      → said x label (shown (turned (each_turn turns) a)) ≡ said x label (shown a) ++ lines_from (system s) (λ y. y == x) turns (ran_at a text)
-  lines_ran [] a text = sym (append-nil (said x label (shown a)))
-  lines_ran (t ∷ turns) a text =
-      let one = turns_ran t.0 t.1 a [] in
-      let next_a = turned (replicate t.1 t.0) a in
-      ap (λ a. said x label (shown a)) (turned_more (replicate t.1 t.0) (each_turn turns) a)
-      ∙ (lines_ran turns next_a one.0
-      ∙ (ap (λ l. l ++ lines_from (system s) (λ y. y == x) turns (ran_at next_a one.0)) one.2
-      ∙ (append_assoc (said x label (shown a)) (cond (t.0 == x) one.0 []) (lines_from (system s) (λ y. y == x) turns (ran_at next_a one.0))
-      ∙ ap (λ (ran : Ran). said x label (shown a) ++ (cond (t.0 == x) ran.text [] ++ lines_from (system s) (λ y. y == x) turns ran)) (sym one.1))))
-
   -- the lines of the leaf in a run
   pub lines_are : (turns : List (ℕ × ℕ)) → lines_of s x turns ≡ said x label (shown (past_of turns))
-  lines_are turns = sym (lines_ran turns [] [])
+  lines_are = lines_told s sound idle x (λ a. said x label (shown a)) refl turn_shows
 
 -- A LEAF THAT PROVIDES NOTHING
 

@@ -29,7 +29,7 @@ module _ (s : Scenario) (sound : IsSound s) (none : IsRaceFree s) where
   moved : (a b c d : List ℕ) → a ≡ c → b ≡ d → IsFront c d → IsFront a b
   moved a b c d e g f = (f.0, g ∙ (f.1 ∙ ap (λ l. l ++ f.0) (sym e)))
 
-  pub writes_same : WritesSame s
+  pub writes_same : WritesSame s (ProvidesNothing s)
   writes_same = record {
     lines = λ turns others rest rest_other x p. are x p turns
         ∙ (ap (said x (label x)) ((rest_same s sound (stands_still (system s)) none turns others rest rest_other).shown x) ∙ sym (are x p others));

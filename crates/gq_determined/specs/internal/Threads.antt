@@ -1,7 +1,7 @@
 -- Threads: `main` of a leaf, with the sections that other leaves run for it while it waits. Each has a region of the world, that no other changes: the own
 -- slots of the leaves that are its, and the sessions below them. A leaf is at first its own thread's. One that is not shared is, from its first request on, the
 -- thread's that asks, with all that was its own; so its own thread is over. Regions of two worlds are compared up to the numbers of sessions.
-use Rattle.std.specs.Prelude.{◌≡◌, ◌⊎◌, ◌++◌, ℕ, suc, ◌+◌, ◌==◌, if◌then◌else◌, Bool, true, false, ◌&&◌, not, List, [], ◌∷◌, map, Option, Some, None}
+use Rattle.std.specs.Prelude.{◌≡◌, ◌⊎◌, ◌++◌, ℕ, zero, suc, ◌==◌, if◌then◌else◌, Bool, true, false, ◌&&◌, not, List, [], ◌∷◌, map, Option, Some, None}
 use Rattle.std.specs.Prelude.{Ok, Err, option_map, slice_get}
 use Rattle.gq_model.specs.declared.phase.Phase.{Phase}
 use Rattle.gq_model.specs.declared.phase.Phase.TheVariants.{Pending, Running, Blocked, Serving, Handling, Exited}
@@ -15,33 +15,30 @@ use Rattle.gq_model.specs.machine.Doing.{Event, Stepped}
 use Rattle.gq_model.specs.machine.Requests.{free_place}
 use Rattle.gq_model.specs.machine.Step.{oldest, next}
 use Rattle.gq_laws.specs.internal.Renamed.{renamed_slot, renamed_leaf, renamed_request, Correspond}
-use Rattle.gq_races.specs.Races.{opens_first, is_shared}
+use Rattle.gq_races.specs.Races.{opens_first, opens_later, is_shared}
 use Rattle.gq_determined.specs.internal.Machines.{after, shown}
 
 -- LEAVES THAT ARE NOT SHARED
 
--- all sessions with the x-th leaf are opened in `main` of one and the same leaf
+-- a leaf is the owner of the x-th, or nobody opens sessions with it
 abbrev pub is_unshared : System → ℕ → Bool
 is_unshared system x = not (is_shared system x)
 
--- the first leaf of these in whose `main` sessions with the x-th are opened, where the first of the list is the n-th
-abbrev pub opener_from : System → ℕ → ℕ → List Component → ℕ
-opener_from system x n [] = 0
-opener_from system x n (c ∷ rest) = if opens_first system x c then n else opener_from system x (suc n) rest
-
-abbrev pub opener : System → ℕ → ℕ
-opener system x = opener_from system x 0 system.components
+-- sessions with the x-th leaf are opened for z: in `main` of z, or in another section of a leaf with which sessions are opened for z, over n such leaves
+abbrev pub Starts : System → ℕ → ℕ → ℕ → Type 0
+Starts system zero z x = (c : Component) × (slice_get system.components z ≡ Some c) × (opens_first system x c ≡ true)
+Starts system (suc n) z x =
+    (y : ℕ) × (c : Component) × (slice_get system.components y ≡ Some c) × (opens_later system x c ≡ true) × Starts system n z y
 
 -- WHOSE A STEP IS
 
--- a world; of each number of a session the thread below whose leaves' own slots it stands, and how many sessions stand above it; of each leaf the thread
--- whose it is, and how many sessions stand above those in its own slots
+-- a world; of each number of a session the thread below whose leaves' own slots it stands; of each leaf the thread whose it is, and what it showed in steps for
+-- that thread
 pub record Tracked : Type 0 where
   pub world : World
   pub root : ℕ → ℕ
-  pub depth : ℕ → ℕ
   pub own : ℕ → ℕ
-  pub level : ℕ → ℕ
+  pub wrote : ℕ → List Event
 
 -- a leaf works for itself in `main`, and else for the thread of its current session
 abbrev pub thread_by : (ℕ → ℕ) → ℕ → Option Current → ℕ
@@ -72,58 +69,39 @@ who g x = who_of g x (slice_get g.world.leaves x)
 abbrev pub anew : (ℕ → ℕ) → ℕ → ℕ → ℕ → ℕ
 anew f k a j = if j == k then a else f j
 
--- the sessions above a new one of a leaf
-abbrev pub depth_in : (ℕ → ℕ) → Option Current → ℕ
-depth_in depth None = 0
-depth_in depth (Some current) = suc (depth current.session)
-
-abbrev pub depth_by : (ℕ → ℕ) → Option Leaf → ℕ
-depth_by depth None = 0
-depth_by depth (Some leaf) = depth_in depth leaf.current
+-- what leaves showed, after a leaf showed more
+abbrev pub more_of : (ℕ → List Event) → ℕ → Bool → Event → ℕ → List Event
+more_of wrote x told event y = if y == x && told then wrote y ++ event ∷ [] else wrote y
 
 -- after a step for a thread; if it opens a session, that has the first free number
 abbrev pub stepped_to : Tracked → ℕ → ℕ → Stepped → Tracked
 stepped_to g x i (Err wrong) = g
 stepped_to g x i (Ok p) =
-    let k = free_place g.world.sessions in
     record {
       world = p.0;
-      root = anew g.root k i;
-      depth = anew g.depth k (depth_by g.depth (slice_get g.world.leaves x));
+      root = anew g.root (free_place g.world.sessions) i;
       own = g.own;
-      level = g.level;
+      wrote = more_of g.wrote x (g.own x == i) p.1;
     }
 
 -- THE FIRST REQUEST OF A LEAF THAT IS NOT SHARED
 
--- what was thread x's is thread i's, where there is a number
-abbrev pub moved : Option ℕ → ℕ → ℕ → (ℕ → ℕ) → ℕ → ℕ
-moved None x i f = f
-moved (Some n) x i f = λ k. if f k == x then i else f k
-
--- and it has n sessions more above it
-abbrev pub lowered : Option ℕ → ℕ → (ℕ → ℕ) → (ℕ → ℕ) → ℕ → ℕ
-lowered None x f m = m
-lowered (Some n) x f m = λ k. if f k == x then n + m k else m k
+-- what was thread x's is thread i's
+abbrev pub moved : Bool → ℕ → ℕ → (ℕ → ℕ) → ℕ → ℕ
+moved false x i f = f
+moved true x i f = λ k. if f k == x then i else f k
 
 -- so it is with all that was the x-th leaf's
-abbrev pub given : Tracked → ℕ → ℕ → Option ℕ → Tracked
-given g x i o =
-    record {
-      world = g.world;
-      root = moved o x i g.root;
-      depth = lowered o x g.root g.depth;
-      own = moved o x i g.own;
-      level = lowered o x g.own g.level;
-    }
+abbrev pub given : Tracked → ℕ → ℕ → Bool → Tracked
+given g x i first = record { world = g.world; root = moved first x i g.root; own = moved first x i g.own; wrote = g.wrote }
 
--- a leaf that is not shared, and not yet this thread's, takes a request: so many sessions stand above its own slots then
-abbrev pub first_of : System → Tracked → ℕ → ℕ → Phase → Option (Request × List Request) → Option ℕ
-first_of system g x i Serving (Some p) = if is_unshared system x && not (g.own x == i) then Some (suc (g.depth p.0.session)) else None
-first_of system g x i phase found = None
+-- a leaf that is not shared, and not yet this thread's, takes a request
+abbrev pub first_of : System → Tracked → ℕ → ℕ → Phase → Option (Request × List Request) → Bool
+first_of system g x i Serving (Some p) = is_unshared system x && not (g.own x == i)
+first_of system g x i phase found = false
 
-abbrev pub first_by : System → Tracked → ℕ → ℕ → Option Leaf → Option ℕ
-first_by system g x i None = None
+abbrev pub first_by : System → Tracked → ℕ → ℕ → Option Leaf → Bool
+first_by system g x i None = false
 first_by system g x i (Some leaf) = first_of system g x i leaf.phase (oldest g.world x g.world.requests)
 
 -- what a step of a leaf for a thread begins with
@@ -139,7 +117,7 @@ abbrev pub tracked_turn : System → Tracked → ℕ → Tracked
 tracked_turn system g x = turn_for system g x (who g x)
 
 abbrev pub tracked_start : System → Tracked
-tracked_start system = record { world = start system; root = λ k. 0; depth = λ k. 0; own = λ x. x; level = λ x. 0 }
+tracked_start system = record { world = start system; root = λ k. 0; own = λ x. x; wrote = λ x. [] }
 
 -- what a turn shows: the leaf, and what it wrote
 abbrev pub events_of : ℕ → Stepped → List (ℕ × Event)
@@ -205,13 +183,14 @@ pub record IsSameRegion (f own root other : ℕ → ℕ) (i : ℕ) (w v : World)
   pub sessions : Correspond f (within root i w.sessions) (within other i v.sessions)
   pub requests : among other i v.requests ≡ map (renamed_request f) (among root i w.requests)
 
--- a thread has the same in two worlds: the same leaves are its, the same work for it and are at the same, and its region is the same
+-- a thread has the same in two worlds: the same leaves are its and showed the same, the same work for it and are at the same, and its region is the same
 pub record IsSameThread (i : ℕ) (g h : Tracked) : Type 0 where
   pub f : ℕ → ℕ
   pub owned : (y : ℕ) → (g.own y == i) ≡ (h.own y == i)
   pub leaves : (y : ℕ) → works g i y ≡ works h i y
   pub alike : (y : ℕ) → works g i y ≡ true → IsAtSame f y g.world h.world
   pub region : IsSameRegion f g.own g.root h.root i g.world h.world
+  pub wrote : (y : ℕ) → g.own y ≡ i → g.wrote y ≡ h.wrote y
 
 -- so it is, if it has not become another's in either of them
 pub record IsAlike (i : ℕ) (g h : Tracked) : Type 0 where

@@ -1,10 +1,13 @@
--- The lines of the statements of a section, behind the same front.
-use Rattle.std.specs.Prelude.{ℕ, List, ◌++◌, map, codes, decimal}
+-- The lines of the statements of a kind in a list.
+use Rattle.std.specs.Prelude.{ℕ, List, ◌++◌, codes, decimal}
 use Rattle.gq_model.specs.declared.program.Instruction.{Instruction}
 use Rattle.gq_views.specs.Listing.{instruction_text}
+use Rattle.gq_races.specs.Text.{word_of}
 
-abbrev pub change_text : List ℕ → ℕ × Instruction → List ℕ
-change_text front c = front ++ decimal c.0 ++ codes " " ++ instruction_text c.1
+-- a race or an order, by what stands before its number
+abbrev pub effect_line : List ℕ → ℕ × Instruction → List ℕ
+effect_line front c = word_of c.1 ++ (front ++ decimal c.0) ++ codes " " ++ instruction_text c.1
 
-abbrev pub change_texts : List ℕ → List (ℕ × Instruction) → List (List ℕ)
-change_texts front changes = map (change_text front) changes
+-- where a session is opened
+abbrev pub opened_line : List ℕ → ℕ × Instruction → List ℕ
+opened_line front c = codes "  opened by " ++ front ++ decimal c.0

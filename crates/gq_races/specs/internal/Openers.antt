@@ -1,11 +1,14 @@
 -- The leaves that serve what a leaf opens, as the code keeps them: those of `main` apart from all others.
-use Rattle.std.specs.Prelude.{ℕ, if◌then◌else◌, List, [], ◌∷◌, ◌++◌, map, Option}
+use Rattle.std.specs.Prelude.{ℕ, if◌then◌else◌, Bool, false, List, [], ◌∷◌, ◌++◌, map, Option}
+use Rattle.gq_model.specs.declared.program.Instruction.{Instruction}
+use Rattle.gq_model.specs.declared.program.Instruction.TheVariants.{Open}
 use Rattle.gq_model.specs.declared.program.Section.{Section}
 use Rattle.gq_model.specs.machine.Program.{Statements}
 use Rattle.gq_model.specs.machine.Scenario.{Component}
 use Rattle.gq_model.specs.rules.Kinds.{in_main}
-use Rattle.gq_model.specs.rules.Use.{services_of}
+use Rattle.gq_model.specs.rules.Use.{is_there, services_of}
 use Rattle.gq_resolve.specs.Served.{once, server_among}
+use Rattle.gq_races.specs.Races.{Stated, in_any, stated_in}
 
 -- the servers of these services, each asked for once
 abbrev pub servers_of : List Component → Component → List (List ℕ) → List (Option ℕ)
@@ -24,3 +27,13 @@ later_servers all c (p ∷ rest) = (if in_main p.0 then [] else servers_of all c
 -- a leaf's servers
 abbrev pub opened_from : List Component → Component → List (Option ℕ) × List (Option ℕ)
 opened_from all c = (first_servers all c c.node.program.sections, later_servers all c c.node.program.sections)
+
+-- a statement of a leaf opens a session with the x-th of these
+abbrev pub opens_among : List Component → Component → ℕ → Instruction → Bool
+opens_among all c x (Open place service n) = is_there x (server_among all c service)
+opens_among all c x _ = false
+
+-- where these leaves do so
+abbrev pub opened_among : List Component → ℕ → List Component → List Stated
+opened_among all x [] = []
+opened_among all x (c ∷ rest) = stated_in in_any (opens_among all c x) c.label c.node.program.sections ++ opened_among all x rest

@@ -1,4 +1,5 @@
 use Rattle.gq_determined.proofs.accounting.Left.{leaves_same}
+use Rattle.gq_determined.proofs.writing.All_lines.{all_write_same}
 use Rattle.gq_determined.proofs.writing.Written.{writes_same}
 use Rattle.gq_determined.proofs.determined.determined_laws.Goals as goal
 
@@ -7,3 +8,6 @@ returns-clause-writes c s sound none = writes_same s sound none
 
 pub returns-clause-leaves : goal.returns-clause-leaves
 returns-clause-leaves c s sound none = leaves_same s sound none
+
+pub returns-clause-all : goal.returns-clause-all
+returns-clause-all c s sound none quiet = all_write_same s sound none quiet

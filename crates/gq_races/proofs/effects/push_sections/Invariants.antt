@@ -1,0 +1,17 @@
+use Rattle.std.proofs.Common.{◌≡◌, ◌≤◌, ◌++◌, drop, map}
+use Rattle.std.specs.Prelude.{sum_by}
+use Rattle.gq_model.specs.machine.Program.{size}
+use Rattle.gq_model.specs.texts.Code.{greatest_statements}
+use Rattle.gq_races.specs.Races.{in_other, stated_in}
+use Rattle.gq_races.specs.Text.{effect_text, has_effect}
+use Rattle.gq_views.specs.Listing.{joined}
+use Rattle.gq_races.proofs.effects.push_sections.Given as goal
+
+-- the lines so far, with those of the sections that are left, are all; and these are few
+abbrev pub invariant-loop-section : goal.invariant-loop-section
+invariant-loop-section l = record {
+  lines :
+      l.text.items ++ joined (map effect_text (stated_in in_other has_effect l.label (drop l.section-index l.sections)))
+      ≡ l.fn.text.items ++ joined (map effect_text (stated_in in_other has_effect l.label l.sections));
+  few : sum_by (λ p. size p.1) (drop l.section-index l.sections) ≤ greatest_statements;
+}

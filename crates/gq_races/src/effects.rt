@@ -1,0 +1,199 @@
+// The statements of a section that change own slots or write lines.
+ghost use Rattle.std.specs.Prelude.{◌≡◌, ◌≤◌, ◌+◌, ◌++◌, ◌∷◌, [], OnOk, IfOk, map, sum_by};
+ghost use Rattle.gq_model.specs.machine.Program.{Do, Done, size};
+ghost use Rattle.gq_model.specs.texts.Code.{greatest_statements};
+ghost use Rattle.gq_program.specs.Trees.{tree_of};
+ghost use Rattle.gq_races.specs.Races as spec;
+ghost use Rattle.gq_races.specs.Races.{found_in, in_other, is_own, stated_in};
+ghost use Rattle.gq_races.specs.Text as text;
+ghost use Rattle.gq_races.specs.Text.{effect_text, has_effect};
+ghost use Rattle.gq_races.specs.internal.Lines.{effect_line};
+ghost use Rattle.gq_views.specs.Listing.{joined, line};
+
+use crate::front::front_of;
+use gq_model::program::{Instruction, Place, Section};
+use gq_program::program::{Body, Program, Statement};
+use gq_views::instructions::push_instruction;
+use itoa::Buffer;
+use std::alloc::{AllocError, Global};
+
+// Whether a place is an own slot.
+fn is_own(place: Place) -> bool
+    ensures { result ≡ is_own place }
+{
+    match place {
+        Place::Own(_) => true,
+        Place::Shared(_) | Place::Object => false,
+    }
+}
+
+// Whether a statement changes an own slot, what is in it or what is behind it.
+fn changes_own(instruction: &Instruction) -> bool
+    ensures { result ≡ spec.changes_own instruction.now }
+{
+    match instruction {
+        Instruction::Store(_, place)
+        | Instruction::Take(place)
+        | Instruction::Give(place)
+        | Instruction::Poke(place)
+        | Instruction::Call(place)
+        | Instruction::Make(_, place, _)
+        | Instruction::MakePool(place, _, _)
+        | Instruction::Free(place)
+        | Instruction::Open(place, _, _)
+        | Instruction::Upgrade(place, _)
+        | Instruction::Close(place) => is_own(*place),
+        _ => false,
+    }
+}
+
+// Whether a line of a statement is written.
+fn has_effect(instruction: &Instruction) -> bool
+    ensures { result ≡ has_effect instruction.now }
+{
+    match instruction {
+        Instruction::Say(_) | Instruction::Out => true,
+        _ => changes_own(instruction),
+    }
+}
+
+// What a statement is that changes an own slot, or else writes a line.
+fn word_of(instruction: &Instruction) -> &'static [u8]
+    ensures { result.now ≡ text.word_of instruction.now }
+{
+    if changes_own(instruction) {
+        b"race "
+    } else {
+        b"order "
+    }
+}
+
+// The line of a statement with its number.
+fn push_effect(
+    text: &mut Vec<u8>,
+    front: &[u8],
+    number: usize,
+    instruction: &Instruction,
+) -> Result<(), AllocError>
+    ensures { OnOk result (text.new.items ≡ text.old.items ++ line 0 (effect_line front.now (number, instruction.now))) }
+{
+    text.extend_from_slice(word_of(instruction))?;
+    text.extend_from_slice(front)?;
+    text.extend_from_slice(Buffer::new().format(number as u64).as_bytes())?;
+    text.extend_from_slice(b" ")?;
+    push_instruction(text, instruction)?;
+    text.extend_from_slice(b"\n")
+}
+
+// The line of a statement without statements in it, if it has one.
+fn push_if_effect(
+    text: &mut Vec<u8>,
+    front: &[u8],
+    number: usize,
+    instruction: &Instruction,
+) -> Result<(), AllocError>
+    ensures { OnOk result (text.new.items ≡ text.old.items ++ joined (map (effect_line front.now) (found_in has_effect number (Do instruction.now Done)))) }
+{
+    if has_effect(instruction) {
+        push_effect(text, front, number, instruction)
+    } else {
+        Ok(())
+    }
+}
+
+// The lines of a statement with this number, and of those in it; tells the number of the next.
+#[cycle(effects)]
+fn push_effects_in(
+    text: &mut Vec<u8>,
+    front: &[u8],
+    number: usize,
+    statement: &Statement,
+) -> Result<usize, AllocError>
+    requires { number + size (tree_of (statement.now ∷ [])) ≤ 65536 }
+    ensures lines { OnOk result (text.new.items ≡ text.old.items
+        ++ joined (map (effect_line front.now) (found_in has_effect number (tree_of (statement.now ∷ []))))) }
+    ensures next { IfOk result (λ next. next ≡ number + size (tree_of (statement.now ∷ []))) }
+{
+    match statement {
+        Statement::Plain(instruction) => {
+            push_if_effect(text, front, number, instruction)?;
+            Ok(number + 1)
+        }
+        Statement::If(arm, other) => {
+            let between = push_effects(text, front, number + 1, arm)?;
+            push_effects(text, front, between, other)
+        }
+        Statement::Loop(_, body) => push_effects(text, front, number + 1, body),
+    }
+}
+
+// The lines of the statements of a list whose first has this number; tells the number of the next.
+#[cycle(effects)]
+fn push_effects(
+    text: &mut Vec<u8>,
+    front: &[u8],
+    first: usize,
+    body: &Body,
+) -> Result<usize, AllocError>
+    requires { first + size body.now ≤ 65536 }
+    ensures lines { OnOk result (text.new.items ≡ text.old.items ++ joined (map (effect_line front.now) (found_in has_effect first body.now))) }
+    ensures next { IfOk result (λ next. next ≡ first + size body.now) }
+{
+    let mut number = first;
+    for statement in body.statements() {
+        number = push_effects_in(text, front, number, statement)?;
+    }
+    Ok(number)
+}
+
+// The lines of a section, if it is not `main`.
+fn push_section(
+    alloc: Global,
+    text: &mut Vec<u8>,
+    label: &[u8],
+    section: Section,
+    body: &Body,
+) -> Result<(), AllocError>
+    requires { size body.now ≤ 4096 }
+    ensures { OnOk result (text.new.items ≡ text.old.items ++ joined (map effect_text (stated_in in_other has_effect label.now ((section, body.now) ∷ [])))) }
+{
+    if let Section::Main = section {
+        return Ok(());
+    }
+    let front = front_of(alloc, label, section)?;
+    let pushed = push_effects(text, front.as_slice(), 1, body);
+    drop(front);
+    match pushed {
+        Ok(_) => Ok(()),
+        Err(refused) => Err(refused),
+    }
+}
+
+// The lines of sections, outside `main`.
+fn push_sections(
+    alloc: Global,
+    text: &mut Vec<u8>,
+    label: &[u8],
+    sections: &[(Section, Body)],
+) -> Result<(), AllocError>
+    requires { sum_by (λ p. size p.1) sections.now ≤ greatest_statements }
+    ensures { OnOk result (text.new.items ≡ text.old.items ++ joined (map effect_text (stated_in in_other has_effect label.now sections.now))) }
+{
+    for (section, body) in sections {
+        push_section(alloc, text, label, *section, body)?;
+    }
+    Ok(())
+}
+
+// The lines of the sections of a program, outside `main`.
+pub(crate) fn push_leaf_effects(
+    alloc: Global,
+    text: &mut Vec<u8>,
+    label: &[u8],
+    program: &Program,
+) -> Result<(), AllocError>
+    ensures { OnOk result (text.new.items ≡ text.old.items ++ joined (map effect_text (stated_in in_other has_effect label.now program.now.sections))) }
+{
+    program.laws();
+    push_sections(alloc, text, label, program.sections())
+}

@@ -1,0 +1,211 @@
+// Where sessions with a leaf are opened.
+ghost use Rattle.std.specs.Prelude.{◌≡◌, ◌≤◌, ◌+◌, ◌++◌, ◌∷◌, [], OnOk, IfOk, codes, decimal, length, map, sum_by};
+ghost use Rattle.gq_model.specs.machine.Program.{Do, Done, size};
+ghost use Rattle.gq_model.specs.texts.Code.{greatest_statements};
+ghost use Rattle.gq_program.specs.Trees.{tree_of};
+ghost use Rattle.gq_races.specs.Races.{found_in, in_any, stated_in};
+ghost use Rattle.gq_races.specs.Text.{opened_text};
+ghost use Rattle.gq_races.specs.internal.Lines.{opened_line};
+ghost use Rattle.gq_races.specs.internal.Openers.{opened_among, opens_among};
+ghost use Rattle.gq_views.specs.Listing.{joined, line};
+
+use crate::front::front_of;
+use gq_model::program::{Instruction, Section};
+use gq_program::program::{Body, Program, Statement};
+use gq_resolve::component::Component;
+use gq_resolve::routes::server_of;
+use gq_scenario::scenario::LeafNo;
+use itoa::Buffer;
+use std::alloc::{AllocError, Global};
+
+// Whether a statement of a leaf opens a session with this one.
+fn opens(
+    components: &[Component<'_>],
+    component: &Component<'_>,
+    leaf: LeafNo,
+    instruction: &Instruction,
+) -> bool
+    requires { length components.now ≤ 64 }
+    ensures { result ≡ opens_among components.now component.now leaf instruction.now }
+{
+    if let Instruction::Open(_, service, _) = instruction {
+        if let Some(server) = server_of(components, component, service) {
+            return server.number() == leaf.number();
+        }
+    }
+    false
+}
+
+// The line of a statement with its number.
+fn push_number(text: &mut Vec<u8>, front: &[u8], number: usize) -> Result<(), AllocError>
+    ensures { OnOk result (text.new.items ≡ text.old.items ++ line 0 (codes "  opened by " ++ front.now ++ decimal number)) }
+{
+    text.extend_from_slice(b"  opened by ")?;
+    text.extend_from_slice(front)?;
+    text.extend_from_slice(Buffer::new().format(number as u64).as_bytes())?;
+    text.extend_from_slice(b"\n")
+}
+
+// The line of a statement without statements in it, if it opens a session with this leaf.
+fn push_if_opens(
+    text: &mut Vec<u8>,
+    components: &[Component<'_>],
+    component: &Component<'_>,
+    leaf: LeafNo,
+    front: &[u8],
+    number: usize,
+    instruction: &Instruction,
+) -> Result<(), AllocError>
+    requires { length components.now ≤ 64 }
+    ensures { OnOk result (text.new.items ≡ text.old.items
+        ++ joined (map (opened_line front.now) (found_in (opens_among components.now component.now leaf) number (Do instruction.now Done)))) }
+{
+    if opens(components, component, leaf, instruction) {
+        push_number(text, front, number)
+    } else {
+        Ok(())
+    }
+}
+
+// The lines of a statement with this number, and of those in it; returns the number of the next.
+#[cycle(opens)]
+fn push_opens_in(
+    text: &mut Vec<u8>,
+    components: &[Component<'_>],
+    component: &Component<'_>,
+    leaf: LeafNo,
+    front: &[u8],
+    number: usize,
+    statement: &Statement,
+) -> Result<usize, AllocError>
+    requires few { length components.now ≤ 64 }
+    requires numbers { number + size (tree_of (statement.now ∷ [])) ≤ 65536 }
+    ensures lines { OnOk result (text.new.items ≡ text.old.items
+        ++ joined (map (opened_line front.now) (found_in (opens_among components.now component.now leaf) number (tree_of (statement.now ∷ []))))) }
+    ensures next { IfOk result (λ next. next ≡ number + size (tree_of (statement.now ∷ []))) }
+{
+    match statement {
+        Statement::Plain(instruction) => {
+            push_if_opens(
+                text,
+                components,
+                component,
+                leaf,
+                front,
+                number,
+                instruction,
+            )?;
+            Ok(number + 1)
+        }
+        Statement::If(arm, other) => {
+            let between = push_opens(text, components, component, leaf, front, number + 1, arm)?;
+            push_opens(text, components, component, leaf, front, between, other)
+        }
+        Statement::Loop(_, body) => {
+            push_opens(text, components, component, leaf, front, number + 1, body)
+        }
+    }
+}
+
+// The lines of the statements of a list whose first has this number; returns the number of the next.
+#[cycle(opens)]
+fn push_opens(
+    text: &mut Vec<u8>,
+    components: &[Component<'_>],
+    component: &Component<'_>,
+    leaf: LeafNo,
+    front: &[u8],
+    first: usize,
+    body: &Body,
+) -> Result<usize, AllocError>
+    requires few { length components.now ≤ 64 }
+    requires numbers { first + size body.now ≤ 65536 }
+    ensures lines { OnOk result (text.new.items ≡ text.old.items
+        ++ joined (map (opened_line front.now) (found_in (opens_among components.now component.now leaf) first body.now))) }
+    ensures next { IfOk result (λ next. next ≡ first + size body.now) }
+{
+    let mut number = first;
+    for statement in body.statements() {
+        number = push_opens_in(text, components, component, leaf, front, number, statement)?;
+    }
+    Ok(number)
+}
+
+// The lines of a section.
+fn push_section(
+    alloc: Global,
+    text: &mut Vec<u8>,
+    components: &[Component<'_>],
+    component: &Component<'_>,
+    leaf: LeafNo,
+    section: Section,
+    body: &Body,
+) -> Result<(), AllocError>
+    requires few { length components.now ≤ 64 }
+    requires statements { size body.now ≤ 4096 }
+    ensures { OnOk result (text.new.items ≡ text.old.items
+        ++ joined (map opened_text (stated_in in_any (opens_among components.now component.now leaf) component.now.label ((section, body.now) ∷ [])))) }
+{
+    let front = front_of(alloc, component.label(), section)?;
+    let pushed = push_opens(text, components, component, leaf, front.as_slice(), 1, body);
+    drop(front);
+    match pushed {
+        Ok(_) => Ok(()),
+        Err(refused) => Err(refused),
+    }
+}
+
+// The lines of a leaf's sections.
+fn push_sections(
+    alloc: Global,
+    text: &mut Vec<u8>,
+    components: &[Component<'_>],
+    component: &Component<'_>,
+    leaf: LeafNo,
+    sections: &[(Section, Body)],
+) -> Result<(), AllocError>
+    requires few { length components.now ≤ 64 }
+    requires statements { sum_by (λ p. size p.1) sections.now ≤ greatest_statements }
+    ensures { OnOk result (text.new.items ≡ text.old.items
+        ++ joined (map opened_text (stated_in in_any (opens_among components.now component.now leaf) component.now.label sections.now))) }
+{
+    for (section, body) in sections {
+        push_section(alloc, text, components, component, leaf, *section, body)?;
+    }
+    Ok(())
+}
+
+// The lines of a leaf of this program.
+fn push_client(
+    alloc: Global,
+    text: &mut Vec<u8>,
+    components: &[Component<'_>],
+    component: &Component<'_>,
+    leaf: LeafNo,
+    program: &Program,
+) -> Result<(), AllocError>
+    requires few { length components.now ≤ 64 }
+    requires program { program.now ≡ component.now.node.program }
+    ensures { OnOk result (text.new.items ≡ text.old.items ++ joined (map opened_text (opened_among components.now leaf (component.now ∷ [])))) }
+{
+    program.laws();
+    push_sections(alloc, text, components, component, leaf, program.sections())
+}
+
+// The lines of all leaves, which have these programs.
+pub(crate) fn push_openers(
+    alloc: Global,
+    text: &mut Vec<u8>,
+    components: &[Component<'_>],
+    programs: &[Program],
+    leaf: LeafNo,
+) -> Result<(), AllocError>
+    requires few { length components.now ≤ 64 }
+    requires programs { programs.now ≡ map (λ c. c.node.program) components.now }
+    ensures { OnOk result (text.new.items ≡ text.old.items ++ joined (map opened_text (opened_among components.now leaf components.now))) }
+{
+    for (place, component) in components.iter().enumerate() {
+        push_client(alloc, text, components, component, leaf, &programs[place])?;
+    }
+    Ok(())
+}
