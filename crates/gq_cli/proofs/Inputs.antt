@@ -79,7 +79,7 @@ not_run : (command : TurnsCommand) (scenario turns : List ℕ) (before after : O
 not_run Run scenario turns before after ne = absurd (ne refl)
 not_run Trace scenario turns before after ne = tt {0}
 not_run TraceAll scenario turns before after ne = tt {0}
-not_run State scenario turns before after ne = tt {0}
+not_run (State first) scenario turns before after ne = tt {0}
 
 pub upheld_otherwise : (scenario scenario_left turns turns_left : Option (List ℕ)) (command : TurnsCommand) (result : Result (Unit {0}) Fault)
     (before after : Option (List ℕ)) → command ≢ Run
