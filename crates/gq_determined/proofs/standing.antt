@@ -3,6 +3,7 @@
 -- So where a thread has the same in two worlds, the leaf of its next step is the same, and the same becomes its own at it.
 -- owners
 pub mod Owners
+pub mod Owners_meant
 pub mod Orderly
 pub mod Places
 -- the first request of a leaf that is not shared, in one world and in two

@@ -1,3 +1,5 @@
+-- what the owner of a leaf is
+pub mod Owned
 -- what does not depend on the turns
 pub mod Determined
 -- what only proofs speak of

@@ -9,3 +9,4 @@
 #![tactic(auto)]
 
 pub mod determined;
+pub mod owners;

@@ -50,11 +50,11 @@ module _ (u : System) (m w x y : ℕ) (c : Component) (e : owns (suc m) u w x �
   from_zero : 0 + y ≡ y
   from_zero = omega arith
 
-  for_first : opens_first u x c ≡ true → y ≡ w
+  pub for_first : opens_first u x c ≡ true → y ≡ w
   for_first opens =
       sym from_zero ∙ is_equal (0 + y) w (implied (opens_first u x c) (0 + y == w) (all_at u (owns m u w) w x 0 u.components y c e at).0 opens)
 
-  for_later : opens_later u x c ≡ true → owns m u w y ≡ true
+  pub for_later : opens_later u x c ≡ true → owns m u w y ≡ true
   for_later opens =
       ap (owns m u w) (sym from_zero)
       ∙ implied (opens_later u x c) (owns m u w (0 + y)) (all_at u (owns m u w) w x 0 u.components y c e at).1 opens
