@@ -78,7 +78,7 @@ pub enum CommandError {
     #[error("host memory refused")]
     Memory(AllocError),
     /// The program has no such command, or it is used with other arguments. The text has the lines that say so, each indented by two blanks: what the
-    /// parser found, and the usage of the command that the first word names.
+    /// parser found, and the usage of the command that was meant.
     #[error("bad command line")]
     Usage(String),
 }
