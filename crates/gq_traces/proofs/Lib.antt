@@ -15,6 +15,7 @@ mod Told
 -- a worked example
 mod Rows_text
 mod Rows_state
+mod Rows_peaks
 mod Entries
 mod Sections_put
 mod Passing
@@ -23,6 +24,8 @@ mod Dues
 mod Labels
 mod Going
 mod Accounts_told
+mod Chance_length
+mod Chances
 mod Changes_told
 mod Noting
 mod Step_told
@@ -65,3 +68,9 @@ mod Nodes_added
 mod Left_steps
 mod Left_to_do
 mod First_taken
+mod First_greatest
+mod Runs_on
+mod Peaks_kept
+mod Leaf_accounts
+mod Peaks_told
+mod Peaks_shown

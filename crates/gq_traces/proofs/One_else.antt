@@ -37,7 +37,7 @@ else_right olds news more others k m e h at = subst (λ l. OneElse (olds ++ more
     by (a ∷ olds) (suc m) at = (refl, by olds m (omega (arith, at)))
 
 -- a place in one list or in the one behind it
-in_both : {A : Type 0} (xs ys : List A) (j : ℕ) (a : A) → slice_get (xs ++ ys) j ≡ Some a
+pub in_both : {A : Type 0} (xs ys : List A) (j : ℕ) (a : A) → slice_get (xs ++ ys) j ≡ Some a
     → ((slice_get xs j ≡ Some a) × (j < length xs)) ⊎ ((i : ℕ) × (j ≡ length xs + i) × (slice_get ys i ≡ Some a))
 in_both [] ys j a e = inr (j, omega arith, e)
 in_both (x ∷ xs) ys zero a e = inl (e, omega arith)

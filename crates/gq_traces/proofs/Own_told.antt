@@ -16,7 +16,7 @@ place_in s (p ∷ places) [] x r e = absurd (none_some e)
 place_in s (p ∷ places) (c ∷ cs) zero r e = ap (λ (r : LeafRow). Some r.node) (some_same e)
 place_in s (p ∷ places) (c ∷ cs) (suc x) r e = place_in s places cs x r e
 
-within : {A : Type 0} (xs : List A) (i : ℕ) (a : A) → slice_get xs i ≡ Some a → i < length xs
+pub within : {A : Type 0} (xs : List A) (i : ℕ) (a : A) → slice_get xs i ≡ Some a → i < length xs
 within [] i a e = absurd (none_some e)
 within (x ∷ xs) zero a e = omega arith
 within (x ∷ xs) (suc i) a e = let less = within xs i a e in omega (arith, less)

@@ -128,6 +128,7 @@ pub record GoesRounds (whole : Taken) (system : System) (left : ℕ) (now : Worl
   pub enough : left < fuel
   pub done : List (ℕ × ℕ)
   pub turns : whole.turns ≡ done ++ (rounds fuel system left now).turns
+  pub left_is : whole.left ≡ (rounds fuel system left now).left
   pub world_is : whole.world ≡ (rounds fuel system left now).world
   pub written : Appends before after (turns_text system.components done)
 
@@ -139,6 +140,7 @@ rounds_first whole system k most w o is enough =
       enough = enough;
       done = [];
       turns = ap (λ (t : Taken). t.turns) is;
+      left_is = ap (λ (t : Taken). t.left) is;
       world_is = ap (λ (t : Taken). t.world) is;
       written = appends_nothing o;
     }
@@ -203,13 +205,14 @@ module _ (whole : Taken) (system : System) (left : ℕ) (now : World) (before be
         done = h.done ++ next_round.turns;
         turns = turns_left ∙ (ap (λ (u : Taken). h.done ++ u.turns) next
             ∙ (ap (λ (u : Taken). h.done ++ (next_round.turns ++ u.turns)) there ∙ sym (append_assoc h.done next_round.turns (go f rest new).turns)));
+        left_is = h.left_is ∙ (ap (λ (u : Taken). u.left) (is_next ∙ next) ∙ ap (λ (u : Taken). u.left) there);
         world_is = h.world_is ∙ (ap (λ (u : Taken). u.world) (is_next ∙ next) ∙ ap (λ (u : Taken). u.world) there);
         written = written_both leaves h.done next_round.turns before between after h.written t.written;
       }
 
   -- no turn was taken: all are told
   pub rounds_end : (new : World) → IsThrough next_round leaves left new between after
-      → IsThrough whole leaves whole.left new before after
+      → IsThrough whole leaves left new before after
   rounds_end new t =
       let none : next_round.turns ≡ [] = elim (round_takes system left now 0 system.components) [
         | inl none ↦ none.0
@@ -217,7 +220,7 @@ module _ (whole : Taken) (system : System) (left : ℕ) (now : World) (before be
       ] in
       let last = further_none next_round next_round.turns (go f) none in
       record {
-        left_is = refl;
+        left_is = t.left_is ∙ sym (h.left_is ∙ ap (λ (u : Taken). u.left) (is_next ∙ last));
         world_is = t.world_is ∙ sym (h.world_is ∙ ap (λ (u : Taken). u.world) (is_next ∙ last));
         written = subst (λ (l : List (ℕ × ℕ)). Appends before after (turns_text leaves l))
             (sym (turns_left ∙ ap (λ (u : Taken). h.done ++ u.turns) last))
@@ -236,26 +239,19 @@ module _ (whole : Taken) (system : System) (left : ℕ) (now : World) (before be
 
 -- WHETHER SOME LEAF CAN GO ON
 
--- none of the leaves before the x-th can
-pub record GoesOn (system : System) (cs : List Component) (x : ℕ) (old now : World) : Type 0 where
-  pub same : now ≡ old
-  pub can : some_can system old 0 cs ≡ some_can system old x (drop x cs)
+-- whether some leaf can is whether some from the x-th on can: none of those before it
+abbrev pub NoneBefore : System → List Component → ℕ → World → Type 0
+NoneBefore system cs x w = some_can system w 0 cs ≡ some_can system w x (drop x cs)
 
-pub none_first : (system : System) (cs : List Component) (w : World) → GoesOn system cs 0 w w
-none_first system cs w = record { same = refl; can = refl }
+module _ (system : System) (cs : List Component) (x : ℕ) (w : World) (less : x < length cs) (h : NoneBefore system cs x w) where
+  can_from : some_can system w 0 cs ≡ can_run system w x || some_can system w (suc x) (drop (suc x) cs)
+  can_from = h ∙ ap (some_can system w x) (drop_at cs x less).1
 
-module _ (system : System) (cs : List Component) (x : ℕ) (old now : World) (less : x < length cs) (h : GoesOn system cs x old now) where
-  can_from : some_can system old 0 cs ≡ can_run system now x || some_can system old (suc x) (drop (suc x) cs)
-  can_from =
-      h.can ∙ (ap (some_can system old x) (drop_at cs x less).1
-      ∙ ap (λ (w : World). can_run system w x || some_can system old (suc x) (drop (suc x) cs)) (sym h.same))
+  pub one_can : can_run system w x ≡ true → some_can system w 0 cs ≡ true
+  one_can can = can_from ∙ ap (λ (b : Bool). b || some_can system w (suc x) (drop (suc x) cs)) can
 
-  pub one_can : can_run system now x ≡ true → some_can system old 0 cs ≡ true
-  one_can can = can_from ∙ ap (λ (b : Bool). b || some_can system old (suc x) (drop (suc x) cs)) can
+  pub none_on : can_run system w x ≡ false → NoneBefore system cs (suc x) w
+  none_on can = can_from ∙ ap (λ (b : Bool). b || some_can system w (suc x) (drop (suc x) cs)) can
 
-  pub none_on : (new : World) → new ≡ now → can_run system now x ≡ false → GoesOn system cs (suc x) old new
-  none_on new stays can =
-      record { same = stays ∙ h.same; can = can_from ∙ ap (λ (b : Bool). b || some_can system old (suc x) (drop (suc x) cs)) can }
-
-pub none_end : (system : System) (cs : List Component) (x : ℕ) (old now : World) → x ≡ length cs → GoesOn system cs x old now → some_can system old 0 cs ≡ false
-none_end system cs x old now all h = h.can ∙ ap (some_can system old x) (drop_all cs x all)
+pub none_end : (system : System) (cs : List Component) (x : ℕ) (w : World) → x ≡ length cs → NoneBefore system cs x w → some_can system w 0 cs ≡ false
+none_end system cs x w all h = h ∙ ap (some_can system w x) (drop_all cs x all)

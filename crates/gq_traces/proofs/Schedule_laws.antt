@@ -1,5 +1,5 @@
 -- The turns that are scheduled are told, and where they are all of them every leaf is at rest.
-use Rattle.std.proofs.Common.{◌≡◌, ◌∙◌, ℕ, zero, suc, ◌+◌, ◌≤◌, ◌^◌, ◌⊎◌, inl, inr, Bool, true, false, List, [], ◌∷◌, length, Option, Some, None, Ok}
+use Rattle.std.proofs.Common.{◌≡◌, ◌∙◌, ℕ, zero, suc, ◌+◌, ◌-◌, ◌≤◌, ◌^◌, ◌⊎◌, inl, inr, Bool, true, false, List, [], ◌∷◌, length, Option, Some, None, Ok}
 use Rattle.std.proofs.Common.{refl, ap, sym, subst, arith, true≢false}
 use Rattle.std.specs.Prelude.{◌||◌, if◌then◌else◌, slice_get}
 use Rattle.gq_model.specs.machine.Program.{text_eq}
@@ -13,7 +13,10 @@ use Rattle.gq_laws.specs.Names.{NamesDiffer}
 use Rattle.gq_laws.specs.Progress.{AllRest}
 use Rattle.gq_laws.specs.Reached.{IsReached}
 use Rattle.gq_laws.specs.Turns.{can_run, runs_as}
-use Rattle.gq_traces.specs.Schedule.{name_at, schedule_text, scheduled, some_can}
+use Rattle.gq_traces.specs.Schedule.{chosen, greatest_choices, name_at, schedule_text, scheduled, scheduled_by, some_can}
+use Rattle.rand_core.specs.Pcg32Seed.{pcg32_seed}
+use Rattle.rand_pcg.specs.Pcg.{pcg32_of_seed}
+use Rattle.gq_traces.proofs.Chances.{choices_taken}
 use Rattle.gq_traces.proofs.Turned_back.{IsCalled, read_back}
 use Rattle.gq_traces.proofs.Scheduled.{IsTaken, rounds_taken}
 
@@ -51,20 +54,32 @@ pub all_taken : (s : Scenario) → NamesDiffer s → AreNames s → IsTaken (sys
 unfolding scheduled
 all_taken s differ names = rounds_taken (system s) (called s differ names) (suc greatest_turns) greatest_turns (start (system s))
 
+-- those by chance, too
+pub all_chosen : (seed : ℕ) (s : Scenario) → NamesDiffer s → AreNames s → IsTaken (system s) greatest_turns (start (system s)) (chosen seed s)
+unfolding chosen
+all_chosen seed s differ names =
+    choices_taken (system s) (called s differ names) greatest_choices greatest_turns (start (system s)) (pcg32_of_seed (pcg32_seed 16 seed))
+
+pub taken_by : (seed : Option ℕ) (s : Scenario) → NamesDiffer s → AreNames s → IsTaken (system s) greatest_turns (start (system s)) (scheduled_by seed s)
+taken_by None s differ names = all_taken s differ names
+taken_by (Some seed) s differ names = all_chosen seed s differ names
+
 -- the text is read as the turns
-pub told_back : (s : Scenario) → NamesDiffer s → AreNames s → length (schedule_text s) ≤ 2 ^ 24 → turned (components s) (schedule_text s) ≡ Ok
-    (scheduled s).turns
-told_back s differ names short =
-    let all = all_taken s differ names in
+pub told_back : (seed : Option ℕ) (s : Scenario) → NamesDiffer s → AreNames s → length (schedule_text seed s) ≤ 2 ^ 24
+    → turned (components s) (schedule_text seed s) ≡ Ok (scheduled_by seed s).turns
+told_back seed s differ names short =
+    let all = taken_by seed s differ names in
     let left = all.counted in
-    read_back (components s) (scheduled s).turns (some_can (system s) (scheduled s).world 0 (components s)) all.turns (omega (arith, left)) short
+    let t = scheduled_by seed s in
+    read_back (components s) t.turns (some_can (system s) t.world 0 (components s)) (greatest_turns - t.left) (omega arith) all.turns (omega (arith, left))
+    short
 
 -- a run over the turns ends in the world that is scheduled
-pub is_reached : (s : Scenario) → NamesDiffer s → AreNames s → IsReached s (scheduled s).world
-is_reached s differ names =
-    let all = all_taken s differ names in
+pub is_reached : (seed : Option ℕ) (s : Scenario) → NamesDiffer s → AreNames s → IsReached s (scheduled_by seed s).world
+is_reached seed s differ names =
+    let all = taken_by seed s differ names in
     record {
-      turns = (scheduled s).turns;
+      turns = (scheduled_by seed s).turns;
       is = (all.runs (record { world = start (system s); text = []; wrong = None })
           (record { world = refl; right = refl })).world;
     }

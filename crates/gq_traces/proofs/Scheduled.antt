@@ -47,7 +47,7 @@ one_runs : (system : System) (w : World) (x : ℕ) (ran : Ran) (go : World → �
 one_runs system w x ran go h further (Ok p) e = further p.0 (turn_from system x ran ran.wrong) (step_runs system w x ran p h e)
 one_runs system w x ran go h further (Err wrong) e = h
 
-while_runs : (n : ℕ) (system : System) (w : World) (x : ℕ) (ran : Ran) → IsAt ran w → Comes system x ran (while_can n system w x)
+pub while_runs : (n : ℕ) (system : System) (w : World) (x : ℕ) (ran : Ran) → IsAt ran w → Comes system x ran (while_can n system w x)
 while_runs zero system w x ran h = h
 while_runs (suc n) system w x ran h =
     by (can_run system w x)
@@ -72,7 +72,7 @@ pub record IsTaken (system : System) (n : ℕ) (w : World) (t : Taken) : Type 0 
   pub counted : all_turns t.turns + t.left ≡ n
   pub runs : (ran : Ran) → IsAt ran w → IsAt (run_on system t.turns ran) t.world
 
-both_taken : (system : System) (n : ℕ) (w : World) (a b : Taken) → IsTaken system n w a → IsTaken system a.left a.world b
+pub both_taken : (system : System) (n : ℕ) (w : World) (a b : Taken) → IsTaken system n w a → IsTaken system a.left a.world b
     → IsTaken system n w (record b { turns = a.turns ++ b.turns })
 both_taken system n w a b h g =
     record {
@@ -81,7 +81,7 @@ both_taken system n w a b h g =
       runs = λ ran at. subst (λ (r : Ran). IsAt r b.world) (sym (run_on_both system a.turns b.turns ran)) (g.runs (run_on system a.turns ran) (h.runs ran at));
     }
 
-one_taken : (system : System) (n : ℕ) (w new : World) (x k : ℕ) → IsCalled system.components x → k ≤ n
+pub one_taken : (system : System) (n : ℕ) (w new : World) (x k : ℕ) → IsCalled system.components x → k ≤ n
     → ((ran : Ran) → IsAt ran w → IsAt (turns_of system x k ran) new) → IsTaken system n w (record { turns = told_turns x k; left = n - k; world = new })
 one_taken system n w new x zero called few runs = record { turns = tt; counted = omega arith; runs = runs }
 one_taken system n w new x (suc k) called few runs = record { turns = (called, omega arith, tt); counted = omega (arith, few); runs = runs }

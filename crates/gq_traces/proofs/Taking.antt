@@ -1,15 +1,17 @@
 -- Turns of a leaf, one after the other, as long as it can take one.
 use Rattle.std.proofs.Common.{◌≡◌, ◌∙◌, ℕ, zero, suc, ◌+◌, ◌-◌, ◌<◌, ◌≤◌, Bool, true, false, List, length, option_map, Ok}
-use Rattle.std.proofs.Common.{refl, ap, sym, arith, eqb, not}
-use Rattle.std.specs.Prelude.{if◌then◌else◌, slice_index}
+use Rattle.std.proofs.Common.{refl, ap, sym, subst, arith, eqb, not, IfSome, Option, Some}
+use Rattle.std.specs.Prelude.{if◌then◌else◌, slice_get, slice_index}
 use Rattle.std.proofs.lemmas.Bool.Decides.{nat_tests}
 use Rattle.std.proofs.lemmas.List.{get_or-set_same}
 use Rattle.std.proofs.lemmas.Option.{get_or_from_slice_get, slice_get-map, slice_get_within}
 use Rattle.gq_model.specs.machine.Doing.{Event, Stepped}
-use Rattle.gq_model.specs.machine.Scenario.{System}
+use Rattle.gq_model.specs.machine.Scenario.{Component, System}
+use Rattle.gq_model.specs.declared.phase.Phase.{Phase}
+use Rattle.gq_model.proofs.Small.{get_within}
 use Rattle.gq_model.specs.machine.Step.{next}
 use Rattle.gq_model.specs.machine.World.{Leaf, World}
-use Rattle.gq_laws.specs.Turns.{CountsSteps, StandsStill, can_run, steps_of}
+use Rattle.gq_laws.specs.Turns.{CountsSteps, StandsStill, can_run, runs, runs_as, steps_of}
 use Rattle.gq_world.specs.Worlds.{HasTaken}
 use Rattle.gq_traces.specs.Schedule.{one_and, while_can}
 use Rattle.gq_traces.specs.internal.Takes.{TakesTurn}
@@ -63,6 +65,15 @@ pub stays : (system : System) (w u : World) (x a b : ℕ) (e : Event) → Counts
     → HasTaken w x a → HasTaken u x b → not (eqb b a) ≡ false → u ≡ w
 stays system w u x a b e counts stands goes before after none =
     still system w u x e stands (sym (tells_can system w u x a b e counts stands goes before after) ∙ none) goes
+
+-- whether a leaf can run is read off its phase
+pub can_by : (system : System) (w : World) (x n : ℕ) (phase : Phase) → x < length system.components → HasTaken w x n
+    → IfSome (slice_get w.leaves x) (λ l. phase ≡ l.phase) → can_run system w x ≡ runs w x phase
+can_by system w x n phase less taken is =
+    let c = get_within system.components x less in
+    let same : phase ≡ taken.leaf.phase = subst (λ (o : Option Leaf). IfSome o (λ l. phase ≡ l.phase)) taken.there is in
+    ap (λ (o : Option Component). runs_as w x o (slice_get w.leaves x)) c.1
+    ∙ (ap (runs_as w x (Some c.0)) taken.there ∙ ap (runs w x) (sym same))
 
 -- MANY TURNS
 

@@ -2,7 +2,7 @@
 use Rattle.std.proofs.Common.{◌≡◌, ◌∙◌, ℕ, zero, suc, ◌+◌, ◌-◌, ◌*◌, ◌<◌, ◌≤◌, ◌^◌, ◌⊎◌, inl, inr, Bool, true, false, List, [], ◌∷◌, ◌++◌, length, Option}
 use Rattle.std.proofs.Common.{Some, None, Ok, Err}
 use Rattle.std.proofs.Common.{refl, ap, sym, subst, arith, true≢false, length-append}
-use Rattle.std.specs.Prelude.{if◌then◌else◌, nat_le, slice_get, sum_by, option_map, decimal}
+use Rattle.std.specs.Prelude.{if◌then◌else◌, nat_le, slice_get, sum_by, option_map, codes, decimal}
 use Rattle.std.proofs.lemmas.List.Sums.{sum_by-append, sum_by-cons}
 use Rattle.std.proofs.lemmas.Option.{slice_get-map}
 use Rattle.std.proofs.lemmas.List.{length-map}
@@ -23,8 +23,8 @@ use Rattle.gq_model.proofs.Small.{none_some, some_same}
 use Rattle.gq_laws.specs.Links.{IsLinkedWorld, Stance, stance}
 use Rattle.gq_laws.specs.Reached.{IsReached}
 use Rattle.gq_laws.specs.Turns.{can_run, runs, runs_as}
-use Rattle.gq_traces.specs.Schedule.{Taken, and_further, one_and, round, rounds, schedule_lines, schedule_text, scheduled, some_can, told_turns, turn_line}
-use Rattle.gq_traces.specs.Schedule.{while_can}
+use Rattle.gq_traces.specs.Schedule.{Taken, and_further, cut_lines, one_and, round, rounds, schedule_lines, schedule_text, scheduled, some_can}
+use Rattle.gq_traces.specs.Schedule.{told_turns, turn_line, while_can}
 use Rattle.gq_traces.proofs.Turned_back.{AreTurns, IsCalled, all_turns}
 use Rattle.gq_traces.proofs.Schedule_laws.{AreNames, all_taken, told_back}
 use Rattle.gq_views.specs.Listing.{joined}
@@ -207,41 +207,53 @@ worth_few (t ∷ ts) = omega (arith, sum_by-cons value t ts, by t.phase t.curren
     by Handling current = omega arith
     by Exited current = omega arith
 
-line_short : (cs : List Component) (t : ℕ × ℕ) → IsCalled cs t.0 → t.1 ≤ greatest_turns → length (turn_line cs t) ≤ 24
-line_short cs t called few =
+pub line_short : (cs : List Component) (t : ℕ × ℕ) → IsCalled cs t.0 → length (turn_line cs t) ≤ 17 + length (decimal t.1)
+line_short cs t called =
     let u = and_parts (between 1 16 (length called.name)) (all_of is_name_byte called.name) called.is_name in
     let v = and_parts (nat_le 1 (length called.name)) (nat_le (length called.name) 16) u.0 in
     let long : length (turn_line cs t) ≡ length called.name + suc (length (decimal t.1)) =
     ap (λ (l : List ℕ). length (l ++ 32 ∷ decimal t.1)) called.there ∙ length-append called.name (32 ∷ decimal t.1) in
-    omega (arith, long, leb-true (length called.name) 16 v.1, length-decimal-le 7 t.1 (omega arith) (omega (arith, few)) (omega (arith, few)))
+    omega (arith, long, leb-true (length called.name) 16 v.1)
 
-joined_both : (l : List ℕ) (ls : List (List ℕ)) → length (joined (l ∷ ls)) ≡ length l + suc (length (joined ls))
+pub joined_both : (l : List ℕ) (ls : List (List ℕ)) → length (joined (l ∷ ls)) ≡ length l + suc (length (joined ls))
 joined_both l ls = length-append l (10 ∷ joined ls)
 
-lines_short : (cs : List Component) (ts : List (ℕ × ℕ)) (cut : Bool) → AreTurns cs ts → all_turns ts ≤ greatest_turns
-    → length (joined (schedule_lines cs ts cut)) ≤ 25 * length ts + 26
-lines_short cs [] true h few = omega arith
-lines_short cs [] false h few = omega arith
-lines_short cs (t ∷ ts) cut h few =
+pub cut_short : (n : ℕ) → n ≤ greatest_turns → length (joined (cut_lines true n)) ≤ 26
+cut_short n few =
+    omega (
+      arith,
+      joined_both ((codes "# cut after " ++ decimal n) ++ codes " turns") [],
+      length-append (codes "# cut after " ++ decimal n) (codes " turns"),
+      length-append (codes "# cut after ") (decimal n),
+      length-decimal-le 7 n (omega arith) (omega (arith, few)) (omega (arith, few)),
+    )
+
+lines_short : (cs : List Component) (ts : List (ℕ × ℕ)) (cut : Bool) (n : ℕ) → n ≤ greatest_turns → AreTurns cs ts → all_turns ts ≤ greatest_turns
+    → length (joined (schedule_lines cs ts cut n)) ≤ 25 * length ts + 26
+lines_short cs [] true n most h few = let cut = cut_short n most in omega (arith, cut)
+lines_short cs [] false n most h few = omega arith
+lines_short cs (t ∷ ts) cut n most h few =
     let sum = sum_by-cons (λ (t : ℕ × ℕ). t.1) t ts in
     omega (
       arith,
-      joined_both (turn_line cs t) (schedule_lines cs ts cut),
-      line_short cs t h.0 (omega (arith, sum, few)),
-      lines_short cs ts cut h.2 (omega (arith, sum, few)),
+      joined_both (turn_line cs t) (schedule_lines cs ts cut n),
+      line_short cs t h.0,
+      length-decimal-le 7 t.1 (omega arith) (omega (arith, sum, few)) (omega (arith, sum, few)),
+      lines_short cs ts cut n most h.2 (omega (arith, sum, few)),
     )
 
 -- the text of `turns` is one that is read
 pub text_short : (s : Scenario) → ((w : World) → IsReached s w → IsLinkedWorld (system s) w)
     → ((w : World) (x : ℕ) → IsReached s w → (p : World × Event) × (next (system s) w x ≡ Ok p))
     → ((w : World) → IsReached s w → length w.leaves ≡ length (components s)) → NamesDiffer s → AreNames s → length (components s) ≤ 64
-    → length (schedule_text s) ≤ 2 ^ 24
+    → length (schedule_text None s) ≤ 2 ^ 24
 unfolding scheduled
 text_short s linked right whole differ names few =
     let all = all_taken s differ names in
     let t = scheduled s in
     let lines = rounds_few s linked right (suc greatest_turns) greatest_turns (start (system s)) ([], record { world = refl; right = refl }) in
-    let text = lines_short (components s) t.turns (some_can (system s) t.world 0 (components s)) all.turns (omega (arith, all.counted)) in
+    let text = lines_short (components s) t.turns (some_can (system s) t.world 0 (components s)) (greatest_turns - t.left) (omega arith) all.turns
+    (omega (arith, all.counted)) in
     let leaves = whole t.world (reached_so s linked right t.world lines.reached) in
     omega (
       arith,
@@ -259,5 +271,5 @@ text_short s linked right whole differ names few =
 pub turns_told : (s : Scenario) → ((w : World) → IsReached s w → IsLinkedWorld (system s) w)
     → ((w : World) (x : ℕ) → IsReached s w → (p : World × Event) × (next (system s) w x ≡ Ok p))
     → ((w : World) → IsReached s w → length w.leaves ≡ length (components s)) → NamesDiffer s → AreNames s → length (components s) ≤ 64
-    → turned (components s) (schedule_text s) ≡ Ok (scheduled s).turns
-turns_told s linked right whole differ names few = told_back s differ names (text_short s linked right whole differ names few)
+    → turned (components s) (schedule_text None s) ≡ Ok (scheduled s).turns
+turns_told s linked right whole differ names few = told_back None s differ names (text_short s linked right whole differ names few)

@@ -1,7 +1,7 @@
 -- The text of a list of turns is read back as these turns.
 use Rattle.std.proofs.Common.{◌≡◌, ◌∙◌, ℕ, suc, ◌+◌, ◌≤◌, ◌^◌, Bool, true, false, List, [], ◌∷◌, ◌++◌, length, Some, None, Result, Ok, Err}
 use Rattle.std.proofs.Common.{refl, ap, ap₂, sym, arith, true≢false}
-use Rattle.std.specs.Prelude.{nat_le, ◌==◌, if◌then◌else◌, decimal, slice_get, sum_by}
+use Rattle.std.specs.Prelude.{nat_le, ◌==◌, if◌then◌else◌, codes, decimal, slice_get, sum_by}
 use Rattle.std.proofs.lemmas.Bool.{and_from, and_parts, le-leb}
 use Rattle.std.proofs.lemmas.Bool.Decides.{nat_tests}
 use Rattle.std.proofs.lemmas.List.Sums.{sum_by-cons}
@@ -75,14 +75,14 @@ onto_back components k m t go ts called some few more =
     ∙ ap (λ (b : Bool). if b then turn_onto t (go (m + t.1)) else Err (TooMany, k)) (le-leb (m + t.1) greatest_turns few)
     ∙ ap (turn_onto t) more
 
-rest_back : (components : List Component) (k m : ℕ) (ts : List (ℕ × ℕ)) (cut : Bool) → AreTurns components ts → m + all_turns ts ≤ greatest_turns
-    → turns_from components k m (schedule_lines components ts cut ++ [] ∷ []) ≡ Ok ts
-rest_back components k m [] true h few = refl
-rest_back components k m [] false h few = refl
-rest_back components k m (t ∷ ts) cut h few =
+rest_back : (components : List Component) (k m : ℕ) (ts : List (ℕ × ℕ)) (cut : Bool) (n : ℕ) → AreTurns components ts → m + all_turns ts ≤ greatest_turns
+    → turns_from components k m (schedule_lines components ts cut n ++ [] ∷ []) ≡ Ok ts
+rest_back components k m [] true n h few = refl
+rest_back components k m [] false n h few = refl
+rest_back components k m (t ∷ ts) cut n h few =
     let sum = sum_by-cons (λ (t : ℕ × ℕ). t.1) t ts in
-    onto_back components k m t (λ j. turns_from components (suc k) j (schedule_lines components ts cut ++ [] ∷ [])) ts h.0 h.1
-    (omega (arith, sum, few)) (rest_back components (suc k) (m + t.1) ts cut h.2 (omega (arith, sum, few)))
+    onto_back components k m t (λ j. turns_from components (suc k) j (schedule_lines components ts cut n ++ [] ∷ [])) ts h.0 h.1
+    (omega (arith, sum, few)) (rest_back components (suc k) (m + t.1) ts cut n h.2 (omega (arith, sum, few)))
 
 line_printed : (components : List Component) (t : ℕ × ℕ) → IsCalled components t.0 → t.1 ≤ greatest_turns → all_of is_printed (turn_line components t) ≡ true
 line_printed components t called few =
@@ -91,21 +91,26 @@ line_printed components t called few =
     ∙ all_append is_printed called.name (32 ∷ decimal t.1) (solid_printed called.name (name_solid called.name u.1))
     (solid_printed (decimal t.1) (decimal_solid t.1 (omega (arith, few))))
 
-cut_printed : (cut : Bool) → AllPrinted (cut_lines cut)
-cut_printed true = (refl, tt)
-cut_printed false = tt
+cut_printed : (cut : Bool) (n : ℕ) → n ≤ greatest_turns → AllPrinted (cut_lines cut n)
+cut_printed true n few = (
+  all_append is_printed (codes "# cut after " ++ decimal n) (codes " turns")
+      (all_append is_printed (codes "# cut after ") (decimal n) refl (solid_printed (decimal n) (decimal_solid n (omega (arith, few))))) refl,
+  tt,
+)
+cut_printed false n few = tt
 
-all_printed : (components : List Component) (ts : List (ℕ × ℕ)) (cut : Bool) → AreTurns components ts → all_turns ts ≤ greatest_turns
-    → AllPrinted (schedule_lines components ts cut)
-all_printed components [] cut h few = cut_printed cut
-all_printed components (t ∷ ts) cut h few =
+all_printed : (components : List Component) (ts : List (ℕ × ℕ)) (cut : Bool) (n : ℕ) → n ≤ greatest_turns → AreTurns components ts
+    → all_turns ts ≤ greatest_turns → AllPrinted (schedule_lines components ts cut n)
+all_printed components [] cut n most h few = cut_printed cut n most
+all_printed components (t ∷ ts) cut n most h few =
     let sum = sum_by-cons (λ (t : ℕ × ℕ). t.1) t ts in
-    (line_printed components t h.0 (omega (arith, sum, few)), all_printed components ts cut h.2 (omega (arith, sum, few)))
+    (line_printed components t h.0 (omega (arith, sum, few)), all_printed components ts cut n most h.2 (omega (arith, sum, few)))
 
-pub read_back : (components : List Component) (ts : List (ℕ × ℕ)) (cut : Bool) → AreTurns components ts → all_turns ts ≤ greatest_turns
-    → length (joined (schedule_lines components ts cut)) ≤ 2 ^ 24 → turned components (joined (schedule_lines components ts cut)) ≡ Ok ts
-read_back components ts cut h few short =
-    let text = joined (schedule_lines components ts cut) in
+pub read_back : (components : List Component) (ts : List (ℕ × ℕ)) (cut : Bool) (n : ℕ) → n ≤ greatest_turns → AreTurns components ts
+    → all_turns ts ≤ greatest_turns → length (joined (schedule_lines components ts cut n)) ≤ 2 ^ 24
+    → turned components (joined (schedule_lines components ts cut n)) ≡ Ok ts
+read_back components ts cut n most h few short =
+    let text = joined (schedule_lines components ts cut n) in
     ap (λ (b : Bool). if b then turns_from components 1 0 (lines text) else Err (TooMany, 0)) (le-leb (length text) (2 ^ 24) short)
-    ∙ ap (turns_from components 1 0) (lines_joined (schedule_lines components ts cut) (all_printed components ts cut h few))
-    ∙ rest_back components 1 0 ts cut h (omega (arith, few))
+    ∙ ap (turns_from components 1 0) (lines_joined (schedule_lines components ts cut n) (all_printed components ts cut n most h few))
+    ∙ rest_back components 1 0 ts cut n h (omega (arith, few))

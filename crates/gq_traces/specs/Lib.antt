@@ -5,6 +5,8 @@ pub mod Places
 pub mod Trace
 pub mod State
 pub mod Made_of
+pub mod Peaks
+pub mod Greatest
 pub mod Written
 pub mod Lines_of
 pub mod Left

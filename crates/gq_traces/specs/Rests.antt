@@ -20,18 +20,18 @@ RestsUnless true w = Unit {0}
 RestsUnless false w = AllRest w
 
 -- from bytes to bytes: the scenario is loaded, and the text is read as turns over which a run comes to no wrong step and, unless they are cut, to rest
-pub record BringsToRest (scenario text : List ℕ) : Type 0 where
+pub record BringsToRest (seed : Option ℕ) (scenario text : List ℕ) : Type 0 where
   pub accepted : Scenario
   pub loads : loaded scenario ≡ Ok accepted
-  pub tells : text ≡ schedule_text accepted
+  pub tells : text ≡ schedule_text seed accepted
   pub turns : List (ℕ × ℕ)
   pub reads : turned (components accepted) text ≡ Ok turns
   pub world : World
   pub ends : EndsIn accepted turns world
-  pub rests : RestsUnless (is_cut accepted) world
+  pub rests : RestsUnless (is_cut seed accepted) world
 
 -- such a text was written, and nothing else
-pub record WritesToRest (scenario : List ℕ) (before after : Option (List ℕ)) : Type 0 where
+pub record WritesToRest (seed : Option ℕ) (scenario : List ℕ) (before after : Option (List ℕ)) : Type 0 where
   pub text : List ℕ
-  pub rests : BringsToRest scenario text
+  pub rests : BringsToRest seed scenario text
   pub written : Appends before after text

@@ -5,15 +5,16 @@ use Rattle.gq_model.specs.texts.Turns.{Turned, turned}
 use Rattle.gq_load.specs.Load.{loaded}
 use Rattle.gq_world.specs.Whole.{Written, refused_with, turn_fault_text, with_scenario}
 use Rattle.gq_traces.specs.First_turns.{some_turns}
+use Rattle.gq_traces.specs.Peaks.{peaks_text}
 use Rattle.gq_traces.specs.Schedule.{schedule_text}
 use Rattle.gq_traces.specs.State.{state_text}
 use Rattle.gq_traces.specs.Trace.{trace_text}
 use Rattle.gq_traces.specs.declared.telling.Telling.{Telling}
 use Rattle.gq_traces.specs.declared.telling.Telling.TheVariants.{Changes, All}
 
--- the turns that bring all work of an accepted scenario to rest
-abbrev pub turns_written : List ℕ → Written
-turns_written scenario = with_scenario (loaded scenario) (λ s. Ok (schedule_text s))
+-- the turns that bring all work of an accepted scenario to rest, in rounds or by chance
+abbrev pub turns_written : Option ℕ → List ℕ → Written
+turns_written seed scenario = with_scenario (loaded scenario) (λ s. Ok (schedule_text seed s))
 
 -- goes on with the turns of a text, or tells its first fault
 abbrev pub with_turns : Turned → (List (ℕ × ℕ) → List ℕ) → Written
@@ -38,3 +39,10 @@ state_from first s text = with_turns (turned (components s) text) (λ turns. sta
 
 abbrev pub state_written : Option ℕ → List ℕ → List ℕ → Written
 state_written first scenario turns = with_scenario (loaded scenario) (λ s. state_from first s turns)
+
+-- the greatest use of each account over a run
+abbrev pub peaks_from : Scenario → List ℕ → Written
+peaks_from s text = with_turns (turned (components s) text) (peaks_text s)
+
+abbrev pub peaks_written : List ℕ → List ℕ → Written
+peaks_written scenario turns = with_scenario (loaded scenario) (λ s. peaks_from s turns)

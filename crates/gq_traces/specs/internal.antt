@@ -6,3 +6,4 @@ pub mod Items
 pub mod Alone
 pub mod Follows
 pub mod Adding
+pub mod Peaking

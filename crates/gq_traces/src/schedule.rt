@@ -13,6 +13,7 @@ use gq_init::NodeTable;
 use gq_init::counted::{Counted, WriteFault, put};
 use gq_laws::turns::turn_laws;
 use gq_model::limits::GREATEST_TURNS;
+use gq_model::phase::Phase;
 use gq_scenario::scenario::LeafNo;
 use gq_world::world::World;
 use itoa::Buffer;
@@ -20,6 +21,20 @@ use std::io::Write;
 
 // The greatest number of bytes of a line: a name of 16, a blank, seven digits and a line feed.
 const LINE: usize = 25;
+
+/// Whether a leaf can take a turn: it runs, handles a request, or serves and a request waits for it.
+pub(crate) fn can_take(world: &World, leaf: LeafNo) -> bool
+    requires { leaf < length (components world.now.scenario) }
+    ensures { result ≡ can_run (system world.now.scenario) world.now.world leaf }
+{
+    let _steps = world.steps(leaf);
+    let machine = world.machine();
+    match machine.phase(leaf) {
+        Phase::Running | Phase::Handling => true,
+        Phase::Serving => machine.oldest(leaf).is_some(),
+        Phase::Pending | Phase::Blocked | Phase::Exited => false,
+    }
+}
 
 // A turn of a leaf, if it can take one; else nothing is done. It tells whether it was taken. What it says is not told.
 fn take_turn(world: &mut World, leaf: LeafNo) -> bool
@@ -39,8 +54,8 @@ fn take_turn(world: &mut World, leaf: LeafNo) -> bool
     after != before
 }
 
-// Turns of a leaf one after the other, as long as it can take one, and at most so many. It tells how many were taken.
-fn take_turns(world: &mut World, leaf: LeafNo, most: u32) -> u32
+/// Takes turns of a leaf one after the other, as long as it can take one, and at most so many. Returns how many it took.
+pub(crate) fn take_turns(world: &mut World, leaf: LeafNo, most: u32) -> u32
     requires leaf { leaf < length (components world.old.scenario) }
     requires running { world.old.stopped ≡ false }
     ensures scenario { world.new.scenario ≡ world.old.scenario }
@@ -58,9 +73,9 @@ fn take_turns(world: &mut World, leaf: LeafNo, most: u32) -> u32
     taken
 }
 
-// Puts bytes at the end of a line.
-fn extend(line: &mut ArrayVec<u8, LINE>, bytes: &[u8])
-    requires { length line.old.items + length bytes.now ≤ LINE }
+/// Puts bytes at the end of a line.
+pub(crate) fn extend<const N: usize>(line: &mut ArrayVec<u8, N>, bytes: &[u8])
+    requires { length line.old.items + length bytes.now ≤ N }
     ensures { line.new.items ≡ line.old.items ++ bytes.now }
 {
     match line.try_extend_from_slice(bytes) {
@@ -83,8 +98,8 @@ fn turn_line(table: &NodeTable, leaf: LeafNo, count: u32) -> ArrayVec<u8, LINE>
     line
 }
 
-// Writes the line of the turns that a leaf took, if it took any.
-fn write_taken<W: Write>(
+/// Writes the line of the turns that a leaf took, if it took any.
+pub(crate) fn write_taken<W: Write>(
     world: &World,
     leaf: LeafNo,
     count: u32,
@@ -126,15 +141,17 @@ fn write_round<W: Write>(
     Ok(left)
 }
 
-/// Rounds from the start of a world, up to one in which no leaf takes a turn: all turns that are taken are written, of at most 1,000,000.
+/// Takes turns in rounds from the start of a world, up to a round in which no leaf takes one, and writes them. Returns how many of 1,000,000 are left.
 pub(crate) fn write_rounds<W: Write>(
     world: &mut World,
     out: &mut Counted<W>,
-) -> Result<(), WriteFault>
+) -> Result<u32, WriteFault>
     requires start { world.old.world ≡ start (system world.old.scenario) }
     requires running { world.old.stopped ≡ false }
     ensures scenario { world.new.scenario ≡ world.old.scenario }
     ensures running { world.new.stopped ≡ false }
+    ensures left { IfOk result (λ left. left ≡ (scheduled world.old.scenario).left) }
+    ensures few { IfOk result (λ left. left ≤ greatest_turns) }
     ensures world { OnOk result (world.new.world ≡ (scheduled world.old.scenario).world) }
     ensures writes { Writes W.contents out.old out.new (turns_text (components world.old.scenario) (scheduled world.old.scenario).turns) result }
 {
@@ -142,19 +159,18 @@ pub(crate) fn write_rounds<W: Write>(
     loop {
         let rest = write_round(world, left, out)?;
         if rest == left {
-            return Ok(());
+            return Ok(left);
         }
         left = rest;
     }
 }
 
-/// Whether some leaf can take a turn. The first that can takes it.
-pub(crate) fn some_can(world: &mut World) -> bool
-    requires running { world.old.stopped ≡ false }
-    ensures { result ≡ some_can (system world.old.scenario) world.old.world 0 (components world.old.scenario) }
+/// Whether some leaf can take a turn.
+pub(crate) fn some_can(world: &World) -> bool
+    ensures { result ≡ some_can (system world.now.scenario) world.now.world 0 (components world.now.scenario) }
 {
     for number in 0..world.table().leaf_count() {
-        if take_turn(world, LeafNo::new(number as u32)) {
+        if can_take(world, LeafNo::new(number as u32)) {
             return true;
         }
     }

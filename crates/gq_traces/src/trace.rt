@@ -382,8 +382,12 @@ fn write_end<W: Write>(turns: u32, going: bool, out: &mut Counted<W>) -> bool
     write_on(out, going, line.as_slice())
 }
 
-// The turns of a text, of the leaves of a world.
-fn turns_of(alloc: Global, world: &World, turns: &[u8]) -> Result<Vec<TurnItem>, RunFault<'static>>
+/// The turns of a text, of the leaves of a world.
+pub(crate) fn turns_of(
+    alloc: Global,
+    world: &World,
+    turns: &[u8],
+) -> Result<Vec<TurnItem>, RunFault<'static>>
     ensures read { IfOk result (λ t. turned (components world.now.scenario) turns.now ≡ Ok t.items) }
     ensures refused { IfErr result (λ f. IsTurnsFault f (turned (components world.now.scenario) turns.now)) }
 {

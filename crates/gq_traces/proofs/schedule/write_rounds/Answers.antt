@@ -70,6 +70,20 @@ returns-then-rest-left-clause-world g c =
     c.write_round.new.world.world b d) c.if-rest-left.true all in
     (rounds_end (scheduled old.scenario) (system old.scenario) l.left l.world.world a b d l.invariant.goes c.write_round.new.world.world last).world_is
 
+pub returns-then-rest-left-clause-left : goal.returns-then-rest-left-clause-left
+returns-then-rest-left-clause-left g c =
+    let old = c.args.world.now in
+    let l = c.loop-rest in
+    let e = c.in_ok-rest.ensures in
+    let a = g.W.Write.contents c.args.out.now.writer in
+    let b = g.W.Write.contents l.out.writer in
+    let d = g.W.Write.contents c.write_round.new.out.writer in
+    let all = through old.scenario l.world.scenario l.left c.in_ok-rest.rest l.world.world c.write_round.new.world.world b d l.invariant.scenario e.left e.world
+    e.writes.written in
+    let last = subst (λ (n : ℕ). IsThrough (round (system old.scenario) l.left l.world.world 0 (components old.scenario)) (components old.scenario) n
+    c.write_round.new.world.world b d) c.if-rest-left.true all in
+    (rounds_end (scheduled old.scenario) (system old.scenario) l.left l.world.world a b d l.invariant.goes c.write_round.new.world.world last).left_is
+
 pub returns-then-rest-left-clause-writes : goal.returns-then-rest-left-clause-writes
 returns-then-rest-left-clause-writes g c =
     let old = c.args.world.now in

@@ -1,0 +1,265 @@
+-- Peaks that go on through the turns of a run.
+use Rattle.std.proofs.Common.{◌≡◌, ◌∙◌, ◌<◌, ◌≤◌, ◌+◌, ℕ, zero, suc, inl, inr, List, [], ◌∷◌, ◌++◌, length, get_or, Option, Some, None, Ok}
+use Rattle.std.proofs.Common.{refl, ap, sym, subst, arith}
+use Rattle.std.specs.Prelude.{slice_get, slice_set}
+use Rattle.std.proofs.lemmas.Bool.Decides.{eqb_tells}
+use Rattle.std.proofs.lemmas.Option.{slice_get_within}
+use Rattle.gq_bytecode.specs.Alones.{State}
+use Rattle.gq_bytecode.specs.Nexts.{GoesAlone, leaf_with}
+use Rattle.gq_laws.proofs.linking.Worlds.{set_else, set_here}
+use Rattle.gq_model.proofs.Small.{none_some, some_same}
+use Rattle.gq_model.specs.machine.Amounts.{Resource, Ram, Caps}
+use Rattle.gq_model.specs.machine.Doing.{Event, Quiet}
+use Rattle.gq_model.specs.machine.Run.{Ran}
+use Rattle.gq_model.specs.machine.Scenario.{Scenario, System, system}
+use Rattle.gq_model.specs.machine.Step.{next}
+use Rattle.gq_model.specs.machine.World as model
+use Rattle.gq_model.specs.machine.World.{Leaf, with_leaf}
+use Rattle.gq_world.specs.Worlds.{World}
+use Rattle.gq_traces.specs.Peaks.{first_greatest, held_by, peak_at, peak_in, quota_in, used_in}
+use Rattle.gq_traces.specs.declared.noted.Use.{Use}
+use Rattle.gq_traces.specs.declared.peaks.LeafPeaks.{LeafPeaks}
+use Rattle.gq_traces.specs.declared.peaks.Peak.{Peak}
+use Rattle.gq_traces.specs.internal.Peaking.{AllNow, AllPeaks, ArePeaksNow, AreRaised, Comes, HasAll, HasTurns, IsIn, IsRaised, Peaked, higher}
+use Rattle.gq_traces.specs.internal.Peaking.{peak_now}
+use Rattle.gq_traces.specs.internal.Noted.{IsUse}
+use Rattle.gq_traces.proofs.First_greatest.{no_higher, over_more, stays}
+use Rattle.gq_traces.specs.internal.Telling.{turns_in}
+use Rattle.gq_traces.proofs.Runs_on.{first_part, goes_to, item_parts, last_part}
+use Rattle.gq_traces.proofs.Standing.{there_is}
+
+-- STEPS OF A LEAF ALONE
+
+-- the world after such a step
+abbrev stepped : model.World → ℕ → Leaf → State → model.World
+stepped w x leaf s = with_leaf w x (leaf_with leaf s)
+
+other_held : (r : Resource) (y : ℕ) (w : model.World) (x : ℕ) (leaf : Leaf) (s : State) (o : Option Leaf)
+    → held_by r (stepped w x leaf s) y o ≡ held_by r w y o
+other_held r y w x leaf s None = refl
+other_held r y w x leaf s (Some l) = refl
+
+-- it changes nothing that a leaf holds
+alone_used : (r : Resource) (y : ℕ) (w : model.World) (x : ℕ) (leaf : Leaf) (s : State) → slice_get w.leaves x ≡ Some leaf
+    → used_in r y (stepped w x leaf s) ≡ used_in r y w
+alone_used r y w x leaf s there = elim (eqb_tells y x) [
+  | inl e ↦ subst (λ z. used_in r z (stepped w x leaf s) ≡ used_in r z w) (sym e.1)
+      (ap (held_by r (stepped w x leaf s) x) (set_here w.leaves x (leaf_with leaf s) leaf there) ∙ ap (held_by r w x) (sym there))
+  | inr e ↦ ap (held_by r (stepped w x leaf s) y) (set_else w.leaves x y (leaf_with leaf s) e.1) ∙ other_held r y w x leaf s (slice_get w.leaves y)
+]
+
+-- a run that takes such steps
+record Stays (runs : ℕ → Ran) (n m : ℕ) (v : model.World) : Type 0 where
+  at : IsIn runs m v
+  first : (r : Resource) (y : ℕ) → first_greatest (λ k. used_in r y (runs k).world) m ≡ first_greatest (λ k. used_in r y (runs k).world) n
+
+alone_stays : (system : System) (x : ℕ) (runs : ℕ → Ran) (m n : ℕ) (w v : model.World) → HasTurns system x runs n m → IsIn runs n w
+    → GoesAlone system x m w v → Stays runs n (n + m) v
+alone_stays system x runs zero n w v has at goes =
+    let none : n ≡ n + 0 = omega arith in
+    subst (λ k. Stays runs n k v) none (subst (Stays runs n n) goes (record { at = at; first = λ r y. refl }))
+alone_stays system x runs (suc m) n w v has at goes =
+    let mid = stepped w x goes.0 goes.1 in
+    let then = goes_to system runs x n w mid Quiet has.0 at goes.4 in
+    let rest = alone_stays system x runs m (suc n) mid v has.1 then goes.5 in
+    let end : suc n + m ≡ n + suc m = omega arith in
+    subst (λ k. Stays runs n k v) end (record {
+      at = rest.at;
+      first = λ r y. rest.first r y ∙ stays (λ k. used_in r y (runs k).world) n
+          (ap (used_in r y) then.world ∙ (alone_used r y w x goes.0 goes.1 goes.2 ∙ ap (used_in r y) (sym at.world)));
+    })
+
+pub alone_peaked : (w v : World) (x n m : ℕ) (peaks : List LeafPeaks) → v.scenario ≡ w.scenario → GoesAlone (system w.scenario) x m w.world v.world
+    → Peaked (λ runs. HasTurns (system w.scenario) x runs n m) n (n + m) w v peaks peaks
+alone_peaked w v x n m peaks same goes = record {
+  scenario = same;
+  long = refl;
+  comes = λ runs has at. (
+      let s = w.scenario in
+      let all = system s in
+      let st = alone_stays all x runs m n w.world v.world has at goes in
+      let on : (r : Resource) (y : ℕ) → peak_in all (λ k. (runs k).world) r y n ≡ peak_in all (λ k. (runs k).world) r y (n + m) =
+      λ r y. ap (peak_at (λ k. used_in r y (runs k).world) (λ k. quota_in all r y (runs k).world)) (sym (st.first r y)) in
+      record {
+        at = st.at;
+        peaks = λ h y p there. (let q = h y p there in record { ram = q.ram ∙ on Ram y; caps = λ two. q.caps two ∙ on Caps y });
+      });
+}
+
+-- ANY STEP
+
+-- what a leaf has in the world of a run after so many turns
+now_at : (all : System) (runs : ℕ → Ran) (n y : ℕ) (v : model.World) (r : Resource) → (runs n).world ≡ v
+    → peak_now all v r y n ≡ peak_at (λ k. used_in r y (runs k).world) (λ k. quota_in all r y (runs k).world) n
+now_at all runs n y v r e = ap (λ (u : model.World). peak_now all u r y n) (sym e)
+
+raised_on : (all : System) (runs : ℕ → Ran) (n y : ℕ) (v : model.World) (r : Resource) (old new : Peak) → (runs (suc n)).world ≡ v
+    → old ≡ peak_in all (λ k. (runs k).world) r y n → new ≡ higher old (peak_now all v r y (suc n)) → new ≡ peak_in all (λ k. (runs k).world) r y (suc n)
+raised_on all runs n y v r old new e was is =
+    is ∙ ((λ i. higher (was i) (now_at all runs (suc n) y v r e i))
+    ∙ over_more (λ k. used_in r y (runs k).world) (λ k. quota_in all r y (runs k).world) n)
+
+pub step_peaked : (w v : World) (x n turn : ℕ) (olds news : List LeafPeaks) (event : Event) → v.scenario ≡ w.scenario
+    → next (system w.scenario) w.world x ≡ Ok (v.world, event) → turn ≡ suc n → AreRaised v.scenario v.world turn olds news
+    → Peaked (λ runs. HasTurns (system w.scenario) x runs n 1) n (suc n) w v olds news
+step_peaked w v x n turn olds news event same goes is raised = record {
+  scenario = same;
+  long = raised.long;
+  comes = λ runs has at. (
+      let s = w.scenario in
+      let all = system s in
+      let then = goes_to all runs x n w.world v.world event has.0 at goes in
+      record {
+        at = then;
+        peaks = λ h y q there. (
+            let less = slice_get_within news y q there in
+            let long = raised.long in
+            let old = there_is olds y (omega (arith, less, long)) in
+            let was = h y old.0 old.1 in
+            let now = subst (λ m. IsRaised s v.world y m old.0 q) is (subst (λ (t : Scenario). IsRaised t v.world y turn old.0 q) same (raised.raised y old.0 q
+            old.1 there)) in
+            record {
+              ram = raised_on all runs n y v.world Ram old.0.ram q.ram then.world was.ram now.ram;
+              caps = λ two. raised_on all runs n y v.world Caps old.0.caps q.caps then.world (was.caps two) (now.caps two);
+            });
+      });
+}
+
+-- SOME TURNS AND THEN OTHERS
+
+pub peaked_none : (has : (ℕ → Ran) → Type 0) (n : ℕ) (w : World) (peaks : List LeafPeaks) → Peaked has n n w w peaks peaks
+peaked_none has n w peaks = record { scenario = refl; long = refl; comes = λ runs h at. record { at = at; peaks = λ all. all } }
+
+pub peaked_both : (first second both : (ℕ → Ran) → Type 0) (n m k : ℕ) (u v w : World) (ps qs rs : List LeafPeaks)
+    → ((runs : ℕ → Ran) → both runs → first runs × second runs) → Peaked first n m u v ps qs → Peaked second m k v w qs rs → Peaked both n k u w ps rs
+peaked_both first second both n m k u v w ps qs rs parts p q = record {
+  scenario = q.scenario ∙ p.scenario;
+  long = q.long ∙ p.long;
+  comes = λ runs has at. (
+      let h = parts runs has in
+      let a = p.comes runs h.0 at in
+      let b = subst (λ (t : Scenario). Comes t runs m k w.world qs rs) p.scenario (q.comes runs h.1 a.at) in
+      record { at = b.at; peaks = λ all. b.peaks (a.peaks all) });
+}
+
+-- AT THE START
+
+pub peaks_first : (s : Scenario) (runs : ℕ → Ran) (w : model.World) (peaks : List LeafPeaks) → IsIn runs 0 w → AllNow s w 0 peaks → AllPeaks s runs 0 peaks
+peaks_first s runs w peaks at now y p there =
+    let h = now y p there in
+    record {
+      ram = h.ram ∙ now_at (system s) runs 0 y w Ram at.world;
+      caps = λ two. h.caps two ∙ now_at (system s) runs 0 y w Caps at.world;
+    }
+
+-- WHAT IS READ OF A LEAF
+
+pub used_is : (s : Scenario) (w : model.World) (x : ℕ) (u : Use) → IsUse s w x u → u.used.ram ≡ used_in Ram x w
+used_is s w x u h = h.ram ∙ sym (ap (held_by Ram w x) h.there)
+
+pub taken_is : (s : Scenario) (w : model.World) (x : ℕ) (u : Use) → IsUse s w x u → s.version ≡ 2 → u.used.caps ≡ used_in Caps x w
+taken_is s w x u h two = h.caps two ∙ sym (ap (held_by Caps w x) h.there)
+
+-- what the leaf has in a world, by what is read of it
+pub now_by : (all : System) (w : model.World) (r : Resource) (x turn used q : ℕ) (p : Peak) → p ≡ record { used = used; quota = q; turn = turn }
+    → used ≡ used_in r x w → q ≡ quota_in all r x w → p ≡ peak_now all w r x turn
+now_by all w r x turn used q p is e f = is ∙ (λ i. record { used = e i; quota = f i; turn = turn })
+
+-- a leaf that uses no more than it did raises nothing
+pub not_raised : (s : Scenario) (w : model.World) (x turn : ℕ) (u : Use) (old : LeafPeaks) → IsUse s w x u → u.used.ram ≤ old.ram.used
+    → u.used.caps ≤ old.caps.used → IsRaised s w x turn old old
+not_raised s w x turn u old h few few_caps = record {
+  ram = no_higher old.ram (peak_now (system s) w Ram x turn) (let e = used_is s w x u h in omega (arith, e, few));
+  caps = λ two. no_higher old.caps (peak_now (system s) w Caps x turn) (let e = taken_is s w x u h two in omega (arith, e, few_caps));
+}
+
+pub is_raised : (s : Scenario) (w : model.World) (x turn : ℕ) (old now new : LeafPeaks) → ArePeaksNow s w x turn now → new.ram ≡ higher old.ram now.ram
+    → new.caps ≡ higher old.caps now.caps → IsRaised s w x turn old new
+is_raised s w x turn old now new h ram caps = record {
+  ram = ram ∙ ap (higher old.ram) h.ram;
+  caps = λ two. caps ∙ ap (higher old.caps) (h.caps two);
+}
+
+-- ONE LEAF AFTER THE OTHER
+
+-- of a list with one more at its end
+pub at_end : {A : Type 0} (P : ℕ → A → Type 0) (xs : List A) (a : A) → ((x : ℕ) (b : A) → slice_get xs x ≡ Some b → P x b) → P (length xs) a
+    → (x : ℕ) (b : A) → slice_get (xs ++ a ∷ []) x ≡ Some b → P x b
+at_end P [] a all here zero b e = subst (P 0) (some_same e) here
+at_end P [] a all here (suc x) b e = absurd (none_some e)
+at_end P (c ∷ xs) a all here zero b e = all 0 b e
+at_end P (c ∷ xs) a all here (suc x) b e = at_end (λ y. P (suc y)) xs a (λ y d there. all (suc y) d there) here x b e
+
+-- one of them is raised, where those before it were
+pub raised_more : (s : Scenario) (w : model.World) (turn n k : ℕ) (olds news : List LeafPeaks) (d new : LeafPeaks) → k ≡ n → n < length news
+    → IsRaised s w k turn (get_or news n d) new
+    → ((x : ℕ) (p q : LeafPeaks) → x < n → slice_get olds x ≡ Some p → slice_get news x ≡ Some q → IsRaised s w x turn p q)
+    → ((x : ℕ) → n ≤ x → slice_get news x ≡ slice_get olds x)
+    → (x : ℕ) (p q : LeafPeaks) → x < n + 1 → slice_get olds x ≡ Some p → slice_get (slice_set news n new) x ≡ Some q → IsRaised s w x turn p q
+raised_more s w turn n k olds news d new at less here all others x p q below was now = elim (eqb_tells x n) [
+  | inl t ↦ (
+      let there = got news n less in
+      let first : get_or news n d ≡ p = some_same (sym there ∙ (others n (omega arith) ∙ (ap (slice_get olds) (sym t.1) ∙ was))) in
+      let then : new ≡ q = some_same (sym (set_here news n new (get_or news n d) there) ∙ (ap (slice_get (slice_set news n new)) (sym t.1) ∙ now)) in
+      subst (λ y. IsRaised s w y turn p q) (at ∙ sym t.1) (subst (λ c. IsRaised s w k turn p c) then (subst (λ c. IsRaised s w k turn c new) first here)))
+  | inr o ↦ (
+      let other = o.1 in
+      all x p q (before x n below other) was (sym (set_else news n x new other) ∙ now))
+]
+  where
+    before : (x n : ℕ) → x < n + 1 → (x ≡ n → ⊥) → x < n
+    before x n below other = grind (arith, below, other)
+
+    got : (xs : List LeafPeaks) (n : ℕ) → n < length xs → slice_get xs n ≡ Some (get_or xs n d)
+    got [] n less = absurd (omega (arith, less))
+    got (c ∷ xs) zero less = refl
+    got (c ∷ xs) (suc n) less = got xs n (omega (arith, less))
+
+-- turns that a leaf takes alone, and one more
+pub alone_then : (u v w : World) (x n m k : ℕ) (olds news : List LeafPeaks) (event : Event) → k ≡ m + 1 → v.scenario ≡ u.scenario → w.scenario ≡ v.scenario
+    → GoesAlone (system u.scenario) x m u.world v.world → next (system v.scenario) v.world x ≡ Ok (w.world, event)
+    → AreRaised w.scenario w.world (n + k) olds news → Peaked (λ runs. HasTurns (system u.scenario) x runs n k) n (n + k) u w olds news
+alone_then u v w x n m k olds news event is first second alone step raised =
+    let sum : n + k ≡ suc (n + m) = omega (arith, is) in
+    let whole : k ≡ m + 1 = is in
+    subst (λ t. Peaked (λ runs. HasTurns (system u.scenario) x runs n k) n t u w olds news) (sym sum)
+    (peaked_both (λ runs. HasTurns (system u.scenario) x runs n m) (λ runs. HasTurns (system v.scenario) x runs (n + m) 1)
+    (λ runs. HasTurns (system u.scenario) x runs n k) n (n + m) (suc (n + m)) u v w olds olds news
+    (λ runs has. (
+      first_part (system u.scenario) x runs m 1 n k whole has,
+      subst (λ (t : Scenario). HasTurns (system t) x runs (n + m) 1) (sym first) (last_part (system u.scenario) x runs m 1 n k whole has),
+    ))
+    (alone_peaked u v x n m olds first alone)
+    (step_peaked v w x (n + m) (n + k) olds news event second step sum raised))
+
+-- turns of a leaf and more of them
+pub turns_then : (u v w : World) (x n a b c : ℕ) (ps qs rs : List LeafPeaks) → c ≡ a + b
+    → Peaked (λ runs. HasTurns (system u.scenario) x runs n a) n (n + a) u v ps qs
+    → Peaked (λ runs. HasTurns (system v.scenario) x runs (n + a) b) (n + a) (n + a + b) v w qs rs
+    → Peaked (λ runs. HasTurns (system u.scenario) x runs n c) n (n + c) u w ps rs
+turns_then u v w x n a b c ps qs rs is p q =
+    let sum : n + c ≡ n + a + b = omega (arith, is) in
+    subst (λ t. Peaked (λ runs. HasTurns (system u.scenario) x runs n c) n t u w ps rs) (sym sum)
+    (peaked_both (λ runs. HasTurns (system u.scenario) x runs n a) (λ runs. HasTurns (system v.scenario) x runs (n + a) b)
+    (λ runs. HasTurns (system u.scenario) x runs n c) n (n + a) (n + a + b) u v w ps qs rs
+    (λ runs has. (
+      first_part (system u.scenario) x runs a b n c is has,
+      subst (λ (t : Scenario). HasTurns (system t) x runs (n + a) b) (sym p.scenario) (last_part (system u.scenario) x runs a b n c is has),
+    ))
+    p q)
+
+-- the turns of a list up to an item, and those of the item
+pub items_then : (u v w : World) (turns more : List (ℕ × ℕ)) (i : ℕ × ℕ) (n x c : ℕ) (ps qs rs : List LeafPeaks) → turns ++ i ∷ [] ≡ more
+    → n ≡ turns_in turns → x ≡ i.0 → c ≡ i.1 → Peaked (λ runs. HasAll (system u.scenario) turns runs 0) 0 n u v ps qs
+    → Peaked (λ runs. HasTurns (system v.scenario) x runs n c) n (n + c) v w qs rs
+    → Peaked (λ runs. HasAll (system u.scenario) more runs 0) 0 (n + c) u w ps rs
+items_then u v w turns more i n x c ps qs rs is at leaf count p q =
+    peaked_both (λ runs. HasAll (system u.scenario) turns runs 0) (λ runs. HasTurns (system v.scenario) x runs n c)
+    (λ runs. HasAll (system u.scenario) more runs 0) 0 n (n + c) u v w ps qs rs
+    (λ runs has. (
+    let h = item_parts (system u.scenario) runs turns more i n is at has in (
+      h.0,
+      subst (λ (t : Scenario). HasTurns (system t) x runs n c) (sym p.scenario)
+          (subst (λ y. HasTurns (system u.scenario) y runs n c) (sym leaf) (subst (HasTurns (system u.scenario) i.0 runs n) (sym count) h.1)),
+    )))
+    p q

@@ -1,0 +1,41 @@
+-- More turns.
+use Rattle.std.proofs.Common.{◌≡◌, ◌+◌, arith, refl, subst}
+use Rattle.gq_model.specs.machine.Scenario.{system}
+use Rattle.gq_traces.specs.internal.Peaking.{HasTurns, Peaked}
+use Rattle.gq_traces.proofs.Peaks_kept.{peaked_none, turns_then}
+use Rattle.gq_traces.proofs.peaks.take_turns.Goals as goal
+
+pub loop-done-init : goal.loop-done-init
+loop-done-init c =
+    let w = c.args.world.now in
+    let n = c.args.turns in
+    let none : n ≡ n + 0 = omega arith in
+    record {
+      few = omega arith;
+      peaked = subst (λ m. Peaked (λ runs. HasTurns (system w.scenario) c.args.leaf runs n 0) n m w w c.args.peaks.now c.args.peaks.now) none
+          (peaked_none (λ runs. HasTurns (system w.scenario) c.args.leaf runs n 0) n w c.args.peaks.now);
+    }
+
+pub loop-done-preserved : goal.loop-done-preserved
+loop-done-preserved c =
+    let w = c.args.world.now in
+    let l = c.loop-done in
+    let took = c.take_some-done in
+    let few = took.ensures.few in
+    let within = l.invariant.few in
+    let test = c.loop-done-test.true in
+    record {
+      few = omega (arith, few, within, test);
+      peaked = turns_then w l.world took.new.world c.args.leaf c.args.turns l.done took.result (l.done + took.result) c.args.peaks.now l.peaks
+          took.new.peaks refl l.invariant.peaked took.ensures.peaked;
+    }
+
+pub returns : goal.returns
+returns c =
+    let w = c.args.world.now in
+    let l = c.loop-done in
+    let over = c.loop-done-test.false in
+    let few = l.invariant.few in
+    let same : l.done ≡ c.args.count = omega (arith, over, few) in
+    subst (λ m. Peaked (λ runs. HasTurns (system w.scenario) c.args.leaf runs c.args.turns m) c.args.turns (c.args.turns + m) w l.world c.args.peaks.now
+    l.peaks) same l.invariant.peaked

@@ -1,0 +1,50 @@
+-- The turns are taken, and all lines are written.
+use Rattle.std.proofs.Common.{◌≡◌, ◌∙◌, Bool, List, ℕ, Option, length, refl, subst, true}
+use Rattle.gq_init.specs.declared.counted.Counted.{Counted}
+use Rattle.gq_model.specs.machine.Run.{Ran, run}
+use Rattle.gq_model.specs.machine.Scenario.{Scenario, components, system}
+use Rattle.gq_model.specs.machine.World.{start}
+use Rattle.gq_world.specs.Worlds.{World}
+use Rattle.gq_traces.specs.First_turns.{first_turns}
+use Rattle.gq_traces.specs.Peaks.{peak_lines, peaks_text}
+use Rattle.gq_traces.specs.declared.peaks.LeafPeaks.{LeafPeaks}
+use Rattle.gq_traces.specs.internal.Peaking.{AllNow, Comes, HasAll, Peaked}
+use Rattle.gq_traces.specs.internal.Telling.{Goes, turns_in}
+use Rattle.gq_traces.proofs.Leaves_told.{all_went, cut_off}
+use Rattle.gq_traces.proofs.Peaks_kept.{peaks_first}
+use Rattle.gq_traces.proofs.Peaks_told.{all_shown}
+use Rattle.gq_traces.proofs.Runs_on.{at_start, has_all}
+use Rattle.gq_traces.proofs.peaks.write_peaks.Goals as goal
+
+-- the lines that are written are those of the peaks over all turns
+went : {W : Type 0} (contents : W → Option (List ℕ)) (s : Scenario) (turns : List (ℕ × ℕ)) (old new : World) (olds news : List LeafPeaks)
+    (out_old out_new : Counted W) (was : Bool) → old.scenario ≡ s → old.world ≡ start (system s) → length olds ≡ length (components s)
+    → AllNow s old.world 0 olds → Peaked (λ runs. HasAll (system s) turns runs 0) 0 (turns_in turns) old new olds news
+    → Goes contents out_old out_new true was (peak_lines new.scenario.version (components new.scenario) news)
+    → Goes contents out_old out_new true was (peaks_text s turns)
+went contents s turns old new olds news out_old out_new was same first long now peaked goes =
+    let runs : ℕ → Ran = λ n. run (system s) (first_turns n turns) in
+    let at = at_start (system s) turns old.world first in
+    let come = subst (λ (t : Scenario). Comes t runs 0 (turns_in turns) new.world olds news) same
+    (peaked.comes runs (has_all (system s) turns) at) in
+    let over = come.peaks (peaks_first s runs old.world olds at now) in
+    subst (Goes contents out_old out_new true was) (all_shown s turns news (peaked.long ∙ long) over)
+    (subst (λ (t : Scenario). Goes contents out_old out_new true was (peak_lines t.version (components t) news)) (peaked.scenario ∙ same) goes)
+
+pub returns-then-write_lines : goal.returns-then-write_lines
+returns-then-write_lines g c =
+    let w = c.args.world.now in
+    let t = c.take_all in
+    let n = c.write_lines in
+    all_went g.W.Write.contents c.args.out.now n.new.out n.result (peaks_text w.scenario c.args.turns.now) _ c.if-write_lines.true
+    (went g.W.Write.contents w.scenario c.args.turns.now w t.new.world c.args.peaks.now t.new.peaks c.args.out.now n.new.out n.result refl c.requires.start
+    c.requires.long c.requires.now t.ensures n.ensures)
+
+pub returns-else-write_lines : goal.returns-else-write_lines
+returns-else-write_lines g c =
+    let w = c.args.world.now in
+    let t = c.take_all in
+    let n = c.write_lines in
+    cut_off g.W.Write.contents c.args.out.now n.new.out n.result (peaks_text w.scenario c.args.turns.now) _ c.if-write_lines.false
+    (went g.W.Write.contents w.scenario c.args.turns.now w t.new.world c.args.peaks.now t.new.peaks c.args.out.now n.new.out n.result refl c.requires.start
+    c.requires.long c.requires.now t.ensures n.ensures)

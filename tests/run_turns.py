@@ -1,0 +1,91 @@
+#!/usr/bin/env python3
+"""tests/run_turns.py PROGRAM: holds `trade turns` and `trade turns --seed N` against `trade run`, over all examples and the scenarios of all cases.
+
+A run over such a list is done. Where the list isn't cut and a run may have as many, 16 more turns of each leaf change nothing. A line of a list with a seed has 1 to
+16 turns. The same seed gives the same list. Of the scenarios in which two leaves take turns, some have lists that differ from seed to seed. The last line is
+'N passed, M failed', and the exit status is 1 where one failed.
+"""
+import pathlib
+import subprocess
+import sys
+import tempfile
+
+TOP = pathlib.Path(__file__).resolve().parent.parent
+SECONDS = 120
+SEEDS = ("0", "1", "4294967295")
+CUT = "# cut after "
+MOST, MORE = 1_000_000, 16
+
+
+def told(program, *words):
+    """What the program writes, where it is done."""
+    ran = subprocess.run([program, *map(str, words)], stdin=subprocess.DEVNULL, stdout=subprocess.PIPE, stderr=subprocess.DEVNULL, timeout=SECONDS)
+    return ran.stdout.decode() if ran.returncode == 0 else None
+
+
+def scenarios():
+    """The scenarios of the examples and of the cases."""
+    yield from sorted((TOP / "examples").glob("*.toml"))
+    for folder in sorted((TOP / "tests" / "cases").iterdir()):
+        if (folder / "scenario.toml").exists():
+            yield folder / "scenario.toml"
+
+
+def listed(text):
+    """The leaf and the number of turns of each line, and whether the list is cut."""
+    lines = text.splitlines()
+    cut = bool(lines) and lines[-1].startswith(CUT)
+    turns = [(name, int(count)) for name, count in (line.split(" ") for line in lines[: len(lines) - cut])]
+    if cut and lines[-1] != f"{CUT}{sum(count for _, count in turns)} turns":
+        return turns, None
+    return turns, cut
+
+
+def faults(program, scenario, text, most):
+    """What of a list is not as it should be."""
+    turns, cut = listed(text)
+    if cut is None:
+        yield "its last line"
+    if any(not 1 <= count <= most for _, count in turns):
+        yield "the turns of a line"
+    with tempfile.TemporaryDirectory() as room:
+        path, more = pathlib.Path(room, "turns"), pathlib.Path(room, "more")
+        path.write_text(text)
+        names = sorted({name for name, _ in turns})
+        more.write_text(text + "".join(f"{name} {MORE}\n" for name in names))
+        run = told(program, "run", scenario, path)
+        if run is None:
+            yield "its run"
+        elif not cut and sum(count for _, count in turns) + MORE * len(names) <= MOST and run != told(program, "run", scenario, more):
+            yield "rest at its end"
+
+
+def main(words):
+    if len(words) != 1:
+        sys.exit(__doc__)
+    program, passed, failed, differ, seen = str(pathlib.Path(words[0]).resolve()), 0, 0, 0, set()
+    for scenario in scenarios():
+        rounds = told(program, "turns", scenario)
+        if rounds is None or scenario.read_bytes() in seen:
+            continue
+        seen.add(scenario.read_bytes())
+        lists = {seed: told(program, "turns", "--seed", seed, scenario) for seed in SEEDS}
+        found = [f"rounds: {fault}" for fault in faults(program, scenario, rounds, MOST)]
+        for seed, text in lists.items():
+            if text is None or text != told(program, "turns", "--seed", seed, scenario):
+                found.append(f"seed {seed}: not the same again")
+            else:
+                found += [f"seed {seed}: {fault}" for fault in faults(program, scenario, text, 16)]
+        differ += len({name for name, _ in listed(rounds)[0]}) > 1 and len(set(lists.values())) == len(SEEDS)
+        passed, failed = passed + (not found), failed + bool(found)
+        for fault in found:
+            print(f"FAILED {scenario}, {fault}")
+    if not differ:
+        print("FAILED no lists that differ from seed to seed")
+        failed += 1
+    print(f"{passed} passed, {failed} failed")
+    return 1 if failed or not passed else 0
+
+
+if __name__ == "__main__":
+    sys.exit(main(sys.argv[1:]))
