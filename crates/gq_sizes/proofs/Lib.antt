@@ -50,3 +50,7 @@ pub mod Beside
 pub mod Judged_texts
 mod Sized_rows
 pub mod Leaves_endless
+mod Compared
+mod Nodes_apart
+mod Giving_right
+mod Upgrades_apart

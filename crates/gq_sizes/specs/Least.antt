@@ -56,9 +56,13 @@ sized s =
 
 -- WHAT IS TOLD OF A SCENARIO
 
+-- the lines of the `open` statements that are short
+abbrev pub shorts_of : Scenario → List ℕ
+shorts_of s = let all = system (unsized s) in all_short all (all_gifts all all.components) all.components
+
 -- no `open` is short
 abbrev pub NoneShort : Scenario → Type 0
-NoneShort s = let all = system (unsized s) in all_short all (all_gifts all all.components) all.components ≡ []
+NoneShort s = shorts_of s ≡ []
 
 -- these quantities are no greater than those
 pub record IsWithin (least has : Amount) : Type 0 where

@@ -9,4 +9,5 @@ pub mod Alike
 pub mod Size
 pub mod Least
 pub mod Endless
+pub mod Gives
 pub mod Passing

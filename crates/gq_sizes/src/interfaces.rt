@@ -94,6 +94,23 @@ impl Sums {
     }
 }
 
+impl Sums {
+    /// What a session of the interface at a place needs at least, to be opened.
+    pub fn least_need(&self, place: usize) -> Least {
+        least_of(self.need(place), self.is_endless(place, 0))
+    }
+
+    /// What has to be added at least for the level above one.
+    pub fn least_upgrade(&self, place: usize, level: usize) -> Least
+        requires { level < 3 }
+    {
+        least_of(
+            self.upgrade(place, level),
+            self.is_endless(place, level + 1),
+        )
+    }
+}
+
 /// Puts the line of what a session needs to be opened at the end of a text.
 fn push_need(
     text: &mut Vec<u8>,

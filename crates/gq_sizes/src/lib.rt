@@ -21,18 +21,24 @@
 //! - `specs/Size_text`: the text, by that scenario.
 #![tactic(auto)]
 
+pub mod donations;
 mod endless;
+mod found;
 mod gifts;
+pub mod gives;
 mod interfaces;
 mod judged;
 pub mod laws;
+pub mod leasts;
 mod leaves;
 mod needs;
 mod nodes;
 mod places;
 mod points;
 mod programs;
+mod same;
 mod sections;
 mod shorts;
 pub mod size;
+pub mod sized;
 mod unending;

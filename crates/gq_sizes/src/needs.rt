@@ -219,6 +219,27 @@ pub(crate) fn least_ram(
     Ok(sums)
 }
 
+/// The greatest numbers up to each level.
+fn rising(needs: [u64; LEVELS]) -> [u64; LEVELS] {
+    let one = needs[1].max(needs[0]);
+    let two = needs[2].max(one);
+    [needs[0], one, two, needs[3].max(two)]
+}
+
+/// What sessions of each interface need in bytes, up to each level, whatever is given for upgrades.
+pub(crate) fn free_ram(
+    alloc: Global,
+    components: &[Component<'_>],
+    leaves: &[Verified<'_>],
+    interfaces: &Interfaces,
+) -> Result<Needs, AllocError> {
+    let mut needs = Vec::new(alloc);
+    for (service, interface) in interfaces.entries() {
+        needs.push(rising(needs_ram(components, leaves, service, interface)))?;
+    }
+    Ok(needs)
+}
+
 /// What sessions of each interface need in capabilities, up to each level, by all leaves, where so much is given at least for the sessions of links.
 fn round_caps(
     alloc: Global,

@@ -10,7 +10,7 @@ ghost use Rattle.gq_verify.specs.Counting.{saturated};
 ghost use Rattle.gq_sizes.specs.Endless.{children_endless, endless_at};
 ghost use Rattle.gq_sizes.specs.Size_text.{node_line, unless};
 ghost use Rattle.gq_sizes.specs.Tables.{AreLeast};
-ghost use Rattle.gq_sizes.specs.internal.Told.{init_least_told, leaf_least_told, node_lines, root_line};
+ghost use Rattle.gq_sizes.specs.internal.Told.{init_least_told, leaf_least_told, node_lines, root_least_told, root_line};
 
 use crate::leaves::{least_at, least_of_children};
 use crate::places::{Least, least_of, push_caps, push_pair};
@@ -30,7 +30,7 @@ pub(crate) struct Leaves<'a> {
 
 impl<'a> Leaves<'a> {
     /// What the leaf of a number needs at least.
-    fn of_leaf(&self, leaf: usize) -> Least
+    pub fn of_leaf(&self, leaf: usize) -> Least
         ensures { (all : model.System) → AreLeast all self.now.least.now self.now.endless.now → (result.ram ≡ (leaf_least_told all leaf).ram)
             × (result.caps ≡ unless (endless_at all leaf) (leaf_least_told all leaf).caps) }
     {
@@ -38,7 +38,7 @@ impl<'a> Leaves<'a> {
     }
 
     /// What an init needs at least for its children, of which the first leaf has a number.
-    fn of_init(&self, children: &Nodes, first: usize) -> Least
+    pub fn of_init(&self, children: &Nodes, first: usize) -> Least
         requires { first + leaf_count children.now ≤ 64 }
         ensures { (all : model.System) → AreLeast all self.now.least.now self.now.endless.now
             → (result.ram ≡ (init_least_told all first children.now).ram)
@@ -194,6 +194,20 @@ fn root_least(needed: Amount) -> Amount
     }
 }
 
+impl<'a> Leaves<'a> {
+    /// What the whole system needs at least.
+    pub fn of_root(&self, scenario: &Scenario) -> Least
+        ensures { (all : model.System) → AreLeast all self.now.least.now self.now.endless.now
+            → (result.ram ≡ (root_least_told all scenario.now.nodes).ram)
+            × (result.caps ≡ unless (children_endless all 0 scenario.now.nodes) (root_least_told all scenario.now.nodes).caps) }
+    {
+        let _leaves = scenario.leaf_count();
+        let (needed, _after) = least_of_children(scenario.nodes(), self.least, 0);
+        let (endless, _after) = of_children(scenario.nodes(), self.endless, 0);
+        least_of(root_least(needed), endless)
+    }
+}
+
 /// Puts the lines of the root and of all nodes at the end of a text.
 pub(crate) fn push_tree(
     alloc: Global,
@@ -208,10 +222,13 @@ pub(crate) fn push_tree(
 {
     let _leaves = scenario.leaf_count();
     let version = scenario.version();
-    let (needed, _after) = least_of_children(scenario.nodes(), leaves.least, 0);
-    let (endless, _after) = of_children(scenario.nodes(), leaves.endless, 0);
-    let least = least_of(root_least(needed), endless);
-    push_node(text, version, b"init", scenario.total(), least)?;
+    push_node(
+        text,
+        version,
+        b"init",
+        scenario.total(),
+        leaves.of_root(scenario),
+    )?;
     push_nodes(alloc, text, version, b"init", scenario.nodes(), leaves, 0)?;
     Ok(())
 }

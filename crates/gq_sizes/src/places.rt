@@ -10,8 +10,10 @@ use std::alloc::AllocError;
 
 /// What a quantity is at least. It has no capabilities where no number of them is enough.
 #[derive(Clone, Copy)]
-pub(crate) struct Least {
+pub struct Least {
+    /// Bytes.
     pub ram: u64,
+    /// Capabilities.
     pub caps: Option<u64>,
 }
 

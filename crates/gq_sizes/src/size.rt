@@ -10,98 +10,26 @@ ghost use Rattle.gq_world.specs.Outcomes.{WritesAs};
 ghost use Rattle.gq_sizes.specs.Size.{all_gifts};
 ghost use Rattle.gq_sizes.specs.Judged.{fault_without, judged_without};
 ghost use Rattle.gq_sizes.specs.Size_text.{size_text};
-ghost use Rattle.gq_sizes.specs.Passing.{endless_from, endless_rows};
-ghost use Rattle.gq_sizes.specs.Tables.{AreLeast, AreOf, caps_rows, leasts_from, ram_rows};
+ghost use Rattle.gq_sizes.specs.Passing.{endless_rows};
+ghost use Rattle.gq_sizes.specs.Tables.{AreLeast, caps_rows, ram_rows};
 ghost use Rattle.gq_sizes.specs.Written.{size_written};
 
-use crate::endless::{Sessions, endless};
+use crate::found::found_of;
 use crate::interfaces::{Sums, push_interfaces};
 use crate::judged::read;
-use crate::leaves::{least_of_leaves, owns};
-use crate::needs::{least_caps, least_ram};
 use crate::nodes::{Leaves, push_tree};
-use crate::points::Given;
-use crate::programs::all_verified;
-use crate::sections::levels_are_low;
 use crate::shorts::push_shorts;
-use crate::unending::{endless_leaves, endless_owns};
 use gq_init::counted::Counted;
-use gq_load::budget::Budget;
 use gq_load::fault::LoadError;
 use gq_load::quantities::{Unsized, judge_unsized};
 use gq_program::program::Program;
 use gq_resolve::component::{Component, components};
 use gq_scenario::quantities::without_quantities;
 use gq_scenario::scenario::Scenario;
-use gq_tariff::Amount;
-use gq_verify::Verified;
 use gq_world::RunFault;
 use gq_world::text::put_text;
 use std::alloc::{AllocError, Global};
 use std::io::Write;
-
-/// The least sums of need and upgrades of each interface of a scenario without its quantities.
-fn sums_of(
-    alloc: Global,
-    free: &Scenario,
-    components: &[Component<'_>],
-    leaves: &[Verified<'_>],
-) -> Result<Sums, AllocError>
-    requires { AreOf (system free.now) components.now leaves.now free.now.interfaces }
-    ensures ram { IfOk result (λ s. s.ram.items ≡ ram_rows (system free.now) (all_gifts (system free.now) components.now) free.now.interfaces) }
-    ensures caps { IfOk result (λ s. s.caps.items ≡ caps_rows (system free.now) free.now.interfaces) }
-    ensures endless { IfOk result (λ s. s.endless.items ≡ endless_rows (system free.now) free.now.interfaces) }
-{
-    let interfaces = free.interfaces();
-    let ram = least_ram(alloc, components, leaves, interfaces)?;
-    let caps = least_caps(alloc, components, leaves, interfaces)?;
-    let endless = endless(alloc, components, leaves, interfaces)?;
-    Ok(Sums { ram, caps, endless })
-}
-
-/// What each leaf of a scenario without its quantities needs at least, by these least sums.
-fn least_leaves(
-    alloc: Global,
-    free: &Scenario,
-    components: &[Component<'_>],
-    leaves: &[Verified<'_>],
-    budgets: &[Budget],
-    sums: &Sums,
-) -> Result<Vec<Amount>, AllocError>
-    requires leaves { AreOf (system free.now) components.now leaves.now free.now.interfaces }
-    requires budgets { budgets.now ≡ accept.budgets free.now }
-    requires caps { sums.now.caps.items ≡ caps_rows (system free.now) free.now.interfaces }
-    ensures { IfOk result (λ least. least.items ≡ leasts_from (system free.now) 0 components.now) }
-{
-    levels_are_low(leaves);
-    let given = Given {
-        interfaces: free.interfaces(),
-        sums: sums.caps.as_slice(),
-    };
-    let owns = owns(alloc, leaves, budgets, &given)?;
-    least_of_leaves(alloc, components, owns.as_slice())
-}
-
-/// For which leaves of a scenario without its quantities no number of capabilities is enough, by these interfaces and levels.
-fn unending_leaves(
-    alloc: Global,
-    free: &Scenario,
-    components: &[Component<'_>],
-    leaves: &[Verified<'_>],
-    sums: &Sums,
-) -> Result<Vec<bool>, AllocError>
-    requires leaves { AreOf (system free.now) components.now leaves.now free.now.interfaces }
-    requires endless { sums.now.endless.items ≡ endless_rows (system free.now) free.now.interfaces }
-    ensures { IfOk result (λ endless. endless.items ≡ endless_from (system free.now) 0 components.now) }
-{
-    levels_are_low(leaves);
-    let sessions = Sessions {
-        interfaces: free.interfaces(),
-        tests: sums.endless.as_slice(),
-    };
-    let owns = endless_owns(alloc, leaves, &sessions)?;
-    endless_leaves(alloc, components, owns.as_slice())
-}
 
 /// The text of a scenario, of which all this is least.
 fn pushed(
@@ -144,17 +72,21 @@ fn text_of(
     requires faultless { unsized_fault free.now ≡ None }
     ensures { IfOk result (λ text. text.items ≡ size_text scenario.now) }
 {
-    let programs = found.programs.as_slice();
-    let leaves = all_verified(alloc, components, programs, free.interfaces())?;
-    let sums = sums_of(alloc, free, components, leaves.as_slice())?;
-    let budgets = found.budgets.as_slice();
-    let least = least_leaves(alloc, free, components, leaves.as_slice(), budgets, &sums)?;
-    let endless = unending_leaves(alloc, free, components, leaves.as_slice(), &sums)?;
-    let found = Leaves {
-        least: least.as_slice(),
-        endless: endless.as_slice(),
+    let least = found_of(alloc, free, components, found)?;
+    let leaves = Leaves {
+        least: least.leaves.as_slice(),
+        endless: least.endless.as_slice(),
     };
-    pushed(alloc, scenario, free, components, programs, &sums, &found)
+    let programs = found.programs.as_slice();
+    pushed(
+        alloc,
+        scenario,
+        free,
+        components,
+        programs,
+        &least.sums,
+        &leaves,
+    )
 }
 
 /// The text of a scenario, by this one without its quantities; or the first fault of this one.

@@ -1,0 +1,4 @@
+mod Changing
+mod Fault_words
+mod Made_again
+mod Writing

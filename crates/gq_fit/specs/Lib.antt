@@ -1,0 +1,4 @@
+pub mod Fitted
+pub mod internal
+pub mod Layout
+pub mod Words

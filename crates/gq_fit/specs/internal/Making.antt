@@ -1,0 +1,31 @@
+-- What faults say of a text, and of what was made of it.
+use Rattle.std.specs.Prelude.{◌≡◌, ◌≢◌, ℕ, List, [], Result, Ok}
+use Rattle.gq_model.specs.machine.Scenario.{Scenario}
+use Rattle.gq_load.specs.Faults.{Refuses}
+use Rattle.gq_load.specs.Load.{Fault, loaded}
+use Rattle.gq_load.specs.declared.fault.LoadError.TheVariants as error
+use Rattle.gq_sizes.specs.Gives.{GivesLeast}
+use Rattle.gq_sizes.specs.Least.{sized}
+use Rattle.gq_fit.specs.declared.fault.FitFault.{FitFault}
+use Rattle.gq_fit.specs.declared.fault.FitFault.TheVariants as faults
+
+-- a text is refused with this fault
+abbrev pub IsRefusedBy : FitFault → Result Scenario Fault → Type 0
+IsRefusedBy (faults.Load fault) judged = Refuses (error.Fault fault) judged
+IsRefusedBy (faults.Short lines) judged = ⊥
+IsRefusedBy (faults.NoFit reason) judged = ⊥
+IsRefusedBy faults.Memory judged = Unit {0}
+IsRefusedBy faults.Write judged = ⊥
+
+-- an `open` is short, as these lines say
+abbrev pub IsShort : FitFault → List ℕ → Type 0
+IsShort (faults.Short lines) shorts = (lines.items ≡ shorts) × (lines.items ≢ [])
+IsShort faults.Memory shorts = Unit {0}
+IsShort _ shorts = ⊥
+
+-- what was made is accepted, has its least quantities, and gives just what its interfaces ask
+pub record IsGiven (made : List ℕ) : Type 0 where
+  pub scenario : Scenario
+  pub accepted : loaded made ≡ Ok scenario
+  pub least : sized scenario ≡ scenario
+  pub gives : GivesLeast scenario

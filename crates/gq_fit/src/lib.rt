@@ -1,0 +1,30 @@
+//! Scenarios with the least quantities in place of their own, as texts: what stays of a text stays byte for byte.
+//!
+//! ```rust
+//! use gq_fit::fit::{fit, fit_donations};
+//! use gq_world::Counted;
+//!
+//! let mut out = Counted::new(writer);
+//! // The text of the scenario with its least quantities.
+//! fit(alloc, scenario, &mut out)?;
+//! // The same, with programs that give just what sessions need.
+//! fit_donations(alloc, scenario, &mut out)?;
+//! ```
+//!
+//! Both commands collect what changes: quantities (`quantities`, by the places of `extent` and the words of `spelling`), and what programs give (`giving`,
+//! `programs`, by the places of `letters`). They make the new text of it (`edits`) and read that before they write it (`made`, `given`). The contract rests on
+//! this reading alone: `specs/Fitted`.
+#![tactic(auto)]
+
+pub mod edits;
+mod extent;
+pub mod fault;
+pub mod fit;
+mod given;
+mod giving;
+mod letters;
+mod made;
+mod programs;
+mod quantities;
+mod spelling;
+mod ways;

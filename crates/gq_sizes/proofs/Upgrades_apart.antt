@@ -1,0 +1,54 @@
+-- Upgrades and interfaces with the least sums that are put together.
+use Rattle.std.proofs.Common.{◌≡◌, ◌∙◌, ℕ, zero, suc, ◌+◌, ◌-◌, ◌*◌, ◌<◌, ◌≤◌, List, [], ◌∷◌, length, get_or, drop, take, ap, ap₂, sym, arith, add-one, refl}
+use Rattle.std.proofs.Math.Seq.{take-length}
+use Rattle.gq_model.specs.machine.Amounts.{Amount, amount}
+use Rattle.gq_scenario.specs.Trees.{version_number}
+use Rattle.gq_scenario.specs.declared.scenario.Version.{Version}
+use Rattle.gq_scenario.specs.declared.scenario.Version.TheVariants.{One, Two}
+use Rattle.gq_verify.specs.Counting.{saturated}
+use Rattle.gq_sizes.specs.Least.{beyond, caps_of, least_upgrades}
+use Rattle.gq_sizes.specs.Tables.{row}
+use Rattle.gq_sizes.proofs.Rounds.{row_get}
+
+-- the number of a level of these rows
+pub level_is : (f : ℕ → ℕ) (xs : List ℕ) (n l : ℕ) → xs ≡ row f → n ≡ get_or xs l 0 → l ≤ 3 → n ≡ f l
+level_is f xs n l e is h = is ∙ (ap (λ r. get_or r l 0) e ∙ row_get f l h)
+
+kept : (n m sum : ℕ) → sum ≡ n → n ≡ saturated m → sum ≤ 1048576 → sum ≡ m
+kept n m sum a b c = omega (arith, a, b, c)
+
+-- the sum up to the level above one, where capabilities are counted
+pub sum_is : (g : ℕ → ℕ) (caps : List ℕ) (l before a next : ℕ) → caps ≡ row (λ k. saturated (g k)) → next ≡ get_or caps (l + 1) 0 → l < 3
+    → before ≤ (l + 1) * 65536 → a ≤ 65536 → before + a ≡ next → before + a ≡ g (l + 1)
+sum_is g caps l before a next is at low small few e =
+    let next_is : next ≡ saturated (g (l + 1)) = level_is (λ k. saturated (g k)) caps next (l + 1) is at (omega (arith, low)) in
+    kept next (g (l + 1)) (before + a) e next_is (omega (arith, low, small, few))
+
+less : (a before below sum : ℕ) → before + a ≡ sum → before ≡ below → a ≡ sum - below
+less a before below sum e is = omega (arith, e, is)
+
+-- an upgrade is what its sum has more than the one below
+pub added_is : (version : Version) (f g : ℕ → ℕ) (l before : ℕ) (a : Amount) → a.ram ≡ f (l + 1) - f l → (version ≡ One → a.caps ≡ 0)
+    → (version ≡ Two → before + a.caps ≡ g (l + 1)) → (version ≡ Two → before ≡ g l)
+    → a ≡ beyond (amount (f (suc l)) (caps_of (version_number version) (g (suc l)))) (amount (f l) (caps_of (version_number version) (g l)))
+added_is One f g l before a ram one two is = (λ j. amount ((ram ∙ ap (λ k. f k - f l) (add-one l)) j) (one refl j))
+added_is Two f g l before a ram one two is =
+    (λ j. amount ((ram ∙ ap (λ k. f k - f l) (add-one l)) j)
+    ((less a.caps before (g l) (g (l + 1)) (two refl) (is refl) ∙ ap (λ k. g k - g l) (add-one l)) j))
+
+-- LISTS
+
+rest_all : {A : Type 0} (a : A) (rest : List A) → take (length (a ∷ rest) - 1) rest ≡ rest
+rest_all a rest = let e : length (a ∷ rest) - 1 ≡ length rest = omega arith in ap (λ k. take k rest) e ∙ take-length rest
+
+-- the first upgrade and those after it
+pub upgrades_joined : (sum : ℕ → Amount) (made upgrades : List Amount) (a : Amount) (l : ℕ) → 1 ≤ length made → 1 ≤ length upgrades → a ≡ get_or made 0 a
+    → a ≡ beyond (sum (suc l)) (sum l)
+    → take (length made - 1) (drop 1 made) ≡ least_upgrades sum (l + 1) (take (length upgrades - 1) (drop 1 upgrades))
+    → made ≡ least_upgrades sum l upgrades
+upgrades_joined sum [] upgrades a l some any is first rest = absurd (omega (arith, some))
+upgrades_joined sum (b ∷ made) [] a l some any is first rest = absurd (omega (arith, any))
+upgrades_joined sum (b ∷ made) (u ∷ upgrades) a l some any is first rest =
+    let after =
+    sym (rest_all b made) ∙ (rest ∙ ((λ j. least_upgrades sum (add-one l j) (rest_all u upgrades j)))) in
+    (λ j. (sym is ∙ first) j ∷ after j)

@@ -1,0 +1,18 @@
+use Rattle.std.proofs.Common.{◌≡◌, ◌+◌, ◌*◌, ◌∷◌, [], drop}
+use Rattle.gq_model.specs.machine.Accounts.{leaf_count}
+use Rattle.gq_scenario.specs.Sizes.{node_count}
+use Rattle.gq_scenario.specs.Trees.{nodes_of}
+use Rattle.gq_sizes.proofs.leasts.+nodes.Given as goal
+
+abbrev pub decreases-push_nodes : goal.decreases-push_nodes
+decreases-push_nodes l = 3 * node_count l.nodes.now + 1
+
+abbrev pub decreases-push_node : goal.decreases-push_node
+decreases-push_node l = 3 * node_count (nodes_of (l.node.now ∷ []))
+
+-- the numbers are those of the leaves
+abbrev pub invariant-push_nodes-loop-node : goal.invariant-push_nodes-loop-node
+invariant-push_nodes-loop-node l =
+    record {
+      leaves : l.next + leaf_count (nodes_of (drop l.node-index l.node-items)) ≡ l.first + leaf_count (nodes_of l.node-items);
+    }

@@ -1,0 +1,7 @@
+use Rattle.gq_sizes.proofs.Compared.{same_is}
+use Rattle.gq_sizes.proofs.same.same_name.Goals as goal
+
+pub returns : goal.returns
+returns c h =
+    same_is c.same_bytes.result c.as_bytes.result.now c.as_bytes-2.result.now c.args.a.now c.args.b.now c.same_bytes.ensures c.as_bytes.ensures.bytes
+    c.as_bytes-2.ensures.bytes h

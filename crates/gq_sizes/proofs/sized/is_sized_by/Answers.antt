@@ -1,0 +1,47 @@
+-- All parts are those of the scenario with the least quantities.
+use Rattle.std.proofs.Common.{◌∙◌, ap, refl, sym, arith}
+use Rattle.gq_model.specs.machine.Accounts.{leaf_count}
+use Rattle.gq_model.specs.machine.Scenario.{components, system}
+use Rattle.gq_scenario.proofs.Preorder.{components-count}
+use Rattle.gq_scenario.specs.Unsized.{unsized}
+use Rattle.gq_sizes.specs.Least.{least_interfaces, least_nodes}
+use Rattle.gq_sizes.specs.Size.{all_gifts}
+use Rattle.gq_sizes.specs.Tables.{AreLeast}
+use Rattle.gq_sizes.proofs.Sized_texts.{caps_told, ram_told}
+use Rattle.gq_sizes.proofs.sized.is_sized_by.Goals as goal
+
+pub nodes_sized-requires : goal.nodes_sized-requires
+nodes_sized-requires c =
+    let all = components-count c.args.scenario.now in
+    let nodes = c.nodes-old.ensures ∙ c.nodes-2.ensures in
+    omega (arith, ap leaf_count nodes, all, c.leaf_count-count.ensures.count, c.leaf_count-count.ensures.few)
+
+pub returns-in-Some : goal.returns-in-Some
+returns-in-Some c h =
+    let s = c.args.scenario.now in
+    let all = system (unsized s) in
+    let given = all_gifts all all.components in
+    let least : AreLeast all c.as_slice.result.now c.as_slice-2.result.now =
+    record { least = c.as_slice.ensures.value ∙ c.requires.leaves.least; endless = c.as_slice-2.ensures.value ∙ c.requires.leaves.endless } in
+    let top = c.if-not-is_top_sized.false in
+    let version = c.version-version.ensures in
+    let old = c.entries-old.ensures.entries ∙ c.interfaces-2.ensures in
+    let rams =
+    c.as_slice-ram.ensures.value
+    ∙ ram_told all s (unsized s) c.entries-old.result.now c.args.found.now.sums.ram.items refl old (components (unsized s)) refl c.requires.ram in
+    let capss =
+    c.as_slice-caps.ensures.value
+    ∙ caps_told all s (unsized s) c.entries-old.result.now c.args.found.now.sums.caps.items refl old c.requires.caps in
+    let interfaces =
+    sym (c.entries-new.ensures.entries ∙ c.interfaces.ensures)
+    ∙ (c.interfaces_sized.ensures all given rams capss c.if-not-interfaces_sized.false ∙ (λ j. least_interfaces (version j) all given (old j))) in
+    let nodes =
+    sym (c.nodes-new.ensures ∙ c.nodes.ensures)
+    ∙ (c.in-Some.ensures.least all least ∙ (λ j. least_nodes (version j) all 0 ((c.nodes-old.ensures ∙ c.nodes-2.ensures) j))) in
+    (λ j. record {
+      version = c.is_top_sized.ensures.version top j;
+      total = c.is_top_sized.ensures.total all least top j;
+      default_routes = c.is_top_sized.ensures.routes top j;
+      interfaces = interfaces j;
+      nodes = nodes j;
+    })

@@ -1,0 +1,167 @@
+// Whether statements give for sessions just what the interfaces ask.
+ghost use Rattle.std.specs.Prelude.{◌≡◌, ◌+◌, IsTrue, None, IfOk, IfErr, map};
+ghost use Rattle.gq_model.specs.machine.Lists.{all_of};
+ghost use Rattle.gq_model.specs.machine.Scenario as model;
+ghost use Rattle.gq_model.specs.machine.Scenario.{interface_in, number_of};
+ghost use Rattle.gq_model.specs.texts.Code.{is_section};
+ghost use Rattle.gq_load.specs.Faults.{PrintsFault};
+ghost use Rattle.gq_load.specs.Unsized.{unsized_fault};
+ghost use Rattle.gq_scenario.specs.Unsized.{unsized};
+ghost use Rattle.gq_verify.specs.Visits.{section_sights};
+ghost use Rattle.gq_sizes.specs.Gives.{GivesLeast, gives_right, leaf_gives_right, upgrade_to};
+ghost use Rattle.gq_sizes.specs.Judged.{fault_without};
+
+use crate::programs::all_verified;
+use gq_load::fault::LoadError;
+use gq_load::quantities::{Unsized, judge_unsized};
+use gq_program::{Instruction, Interface, Interfaces, Section};
+use gq_resolve::component::{Component, components};
+use gq_rules::{Context, State};
+use gq_scenario::quantities::without_quantities;
+use gq_scenario::scenario::Scenario;
+use gq_verify::{Verified, Visitor};
+use std::alloc::{AllocError, Global};
+
+/// Whether each statement seen so far gives what its interface asks.
+#[derive(Drop)]
+struct Exact<'a> {
+    interfaces: &'a Interfaces,
+    right: bool,
+}
+
+/// The bytes that an interface asks for its upgrade to the level above one.
+fn upgrade_above(interface: &Interface, level: u8) -> u32
+    ensures { result ≡ upgrade_to (level + 1) interface.now }
+{
+    match interface.upgrades().get(usize::from(level)) {
+        Some(upgrade) => upgrade.ram(),
+        None => 0,
+    }
+}
+
+impl<'a> Exact<'a> {
+    /// The bytes that a service asks with a session.
+    fn need(&self, service: &[u8]) -> u32
+        ensures { result ≡ number_of (interface_in service.now self.now.interfaces.now) (λ i. i.need.ram) }
+    {
+        match self.interfaces.named(service) {
+            Some(interface) => interface.need(),
+            None => 0,
+        }
+    }
+
+    /// The bytes that a service asks for the upgrade to the level above one.
+    fn upgrade(&self, service: &[u8], level: u8) -> u32
+        ensures { result ≡ number_of (interface_in service.now self.now.interfaces.now) (upgrade_to (level + 1)) }
+    {
+        match self.interfaces.named(service) {
+            Some(interface) => upgrade_above(interface, level),
+            None => 0,
+        }
+    }
+}
+
+impl<'a> Visitor for Exact<'a> {
+    ghost use Rattle.std.specs.Prelude.{◌≡◌, ◌&&◌};
+    ghost use Rattle.gq_sizes.specs.Gives.{gives_right};
+
+    ghost leads = { λ a e b. (b.interfaces ≡ a.interfaces) × (b.right ≡ (a.right && gives_right a.interfaces.now e)) };
+
+    fn statement(&mut self, context: &Context<'_>, state: &State, instruction: &Instruction) {
+        match instruction {
+            Instruction::Open(_, service, given) => {
+                let asked = self.need(service.as_bytes());
+                self.right &= *given == asked;
+            }
+            Instruction::Upgrade(place, given) => {
+                if let Some(link) = context.link_at(state, *place) {
+                    let asked = self.upgrade(link.service(), link.level());
+                    self.right &= *given == asked;
+                }
+            }
+            _ => {}
+        }
+    }
+
+    fn point(&mut self, _number: u64, _state: &State) {}
+}
+
+/// Whether the statements of a section give what the interfaces ask.
+fn section_gives(verified: &Verified<'_>, section: Section, interfaces: &Interfaces) -> bool
+    requires { IsTrue (is_section section) }
+    ensures { result ≡ all_of (gives_right interfaces.now) (section_sights verified.now section) }
+{
+    let mut visitor = Exact {
+        interfaces,
+        right: true,
+    };
+    verified.visit(section, &mut visitor);
+    visitor.right
+}
+
+/// Whether the statements of a leaf give what the interfaces ask.
+fn leaf_gives(verified: &Verified<'_>, interfaces: &Interfaces) -> bool
+    ensures { result ≡ leaf_gives_right interfaces.now verified.now }
+{
+    for (section, _body) in verified.sections() {
+        if !section_gives(verified, *section, interfaces) {
+            return false;
+        }
+    }
+    true
+}
+
+/// Whether the statements of these leaves give what the interfaces ask.
+fn all_give(leaves: &[Verified<'_>], interfaces: &Interfaces) -> bool
+    ensures { result ≡ all_of (leaf_gives_right interfaces.now) leaves.now }
+{
+    for verified in leaves {
+        if !leaf_gives(verified, interfaces) {
+            return false;
+        }
+    }
+    true
+}
+
+/// Whether the statements of a scenario give what its interfaces ask, by this one without its quantities.
+fn gives_by(
+    alloc: Global,
+    scenario: &Scenario,
+    free: &Scenario,
+    components: &[Component<'_>],
+    judged: &Unsized,
+) -> Result<bool, AllocError>
+    requires free { free.now ≡ unsized scenario.now }
+    requires components { components.now ≡ model.components free.now }
+    requires programs { judged.now.programs.items ≡ map (λ c. c.node.program) components.now }
+    requires faultless { unsized_fault free.now ≡ None }
+    ensures { IfOk result (λ b. IsTrue b → GivesLeast scenario.now) }
+{
+    let programs = judged.programs.as_slice();
+    let leaves = all_verified(alloc, components, programs, free.interfaces())?;
+    Ok(all_give(leaves.as_slice(), scenario.interfaces()))
+}
+
+/// Whether the statements of a scenario give what its interfaces ask, by this one without its quantities; or the first fault of this one.
+fn gives_without(alloc: Global, scenario: &Scenario, free: &Scenario) -> Result<bool, LoadError>
+    requires { free.now ≡ unsized scenario.now }
+    ensures least { IfOk result (λ b. IsTrue b → GivesLeast scenario.now) }
+    ensures refused { IfErr result (λ e. PrintsFault e (fault_without scenario.now)) }
+{
+    let components = components(alloc, free)?;
+    let judged = judge_unsized(alloc, free, components.as_slice())?;
+    Ok(gives_by(alloc, scenario, free, components.as_slice(), &judged)?)
+}
+
+/// Whether each `open` of a scenario gives just the need of its interface, and each `upgrade` just its upgrade.
+///
+/// Fails with the first fault that no quantity decides, or if the host refuses memory.
+pub fn gives_least(alloc: Global, scenario: &Scenario) -> Result<bool, LoadError>
+    ensures least { IfOk result (λ b. IsTrue b → GivesLeast scenario.now) }
+    ensures refused { IfErr result (λ e. PrintsFault e (fault_without scenario.now)) }
+{
+    let free = without_quantities(alloc, scenario)?;
+    let right = gives_without(alloc, scenario, &free);
+    drop(free);
+    right
+}

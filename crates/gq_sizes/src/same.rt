@@ -1,0 +1,103 @@
+// Parts of scenarios that are the same in two of them.
+ghost use Rattle.std.specs.Prelude.{◌≡◌, IsTrue, option_map};
+ghost use Rattle.gq_scenario.specs.Given.{source_of};
+ghost use Rattle.gq_scenario.specs.Targets.{target_of};
+
+use gq_model::program::Name;
+use gq_program::{Counts, Interface};
+use gq_scenario::lines::same_bytes;
+use gq_scenario::scenario::{Route, Target, Version};
+use gq_scenario::source::Source;
+
+/// Whether two names are one.
+pub(crate) fn same_name(a: &Name, b: &Name) -> bool
+    ensures { IsTrue result → a.now ≡ b.now }
+{
+    same_bytes(a.as_bytes(), b.as_bytes())
+}
+
+/// Whether two names are one, or there is neither.
+pub(crate) fn same_names(a: Option<&Name>, b: Option<&Name>) -> bool
+    ensures { IsTrue result → option_map (λ n. n.now) a.entry ≡ option_map (λ n. n.now) b.entry }
+{
+    match (a, b) {
+        (Some(a), Some(b)) => same_name(a, b),
+        (None, None) => true,
+        _ => false,
+    }
+}
+
+/// Whether two versions are one.
+pub(crate) fn same_version(a: Version, b: Version) -> bool
+    ensures { IsTrue result → a ≡ b }
+{
+    match (a, b) {
+        (Version::One, Version::One) => true,
+        (Version::Two, Version::Two) => true,
+        _ => false,
+    }
+}
+
+/// Whether two routes lead to the same place.
+fn same_target(a: &Target, b: &Target) -> bool
+    ensures { IsTrue result → target_of a.now ≡ target_of b.now }
+{
+    match (a, b) {
+        (Target::Child(a), Target::Child(b)) => same_name(a, b),
+        (Target::AnyChild, Target::AnyChild) => true,
+        (Target::Parent, Target::Parent) => true,
+        _ => false,
+    }
+}
+
+/// Whether two routes are the same.
+fn same_route(a: &Route, b: &Route) -> bool
+    ensures { IsTrue result → a.now ≡ b.now }
+{
+    same_names(a.service(), b.service()) && same_target(a.target(), b.target())
+}
+
+/// Whether two lists of routes are the same.
+fn same_list(a: &[Route], b: &[Route]) -> bool
+    ensures { IsTrue result → a.now ≡ b.now }
+{
+    match (a, b) {
+        ([], []) => true,
+        ([a, more @ ..], [b, others @ ..]) => same_route(a, b) && same_list(more, others),
+        _ => false,
+    }
+}
+
+/// Whether two lists of routes are the same, or there is neither.
+pub(crate) fn same_routes(a: Option<&[Route]>, b: Option<&[Route]>) -> bool
+    ensures { IsTrue result → option_map (λ r. r.now) a.entry ≡ option_map (λ r. r.now) b.entry }
+{
+    match (a, b) {
+        (Some(a), Some(b)) => same_list(a, b),
+        (None, None) => true,
+        _ => false,
+    }
+}
+
+/// Whether two programs are given alike.
+pub(crate) fn same_source(a: &Source, b: &Source) -> bool
+    ensures { IsTrue result → source_of a.now ≡ source_of b.now }
+{
+    match (a, b) {
+        (Source::Text(a), Source::Text(b)) => same_bytes(a.as_slice(), b.as_slice()),
+        (Source::Code(a), Source::Code(b)) => same_bytes(a.as_slice(), b.as_slice()),
+        _ => false,
+    }
+}
+
+/// Whether the sessions of two interfaces may cost no more of the same.
+pub(crate) fn same_counts(a: &Interface, b: &Interface) -> bool
+    ensures { IsTrue result → a.now.counted ≡ b.now.counted }
+{
+    match (a.counts(), b.counts()) {
+        (Counts::Nothing, Counts::Nothing) => true,
+        (Counts::Bytes, Counts::Bytes) => true,
+        (Counts::BytesAndCaps, Counts::BytesAndCaps) => true,
+        _ => false,
+    }
+}
