@@ -39,7 +39,7 @@ CASES = TOP / "tests" / "cases"
 TABLES = TOP / "tests" / "tables"
 EXAMPLES = TOP / "examples"
 UNVERIFIED = TOP / "crates" / "unverified" / "out" / "unverified"
-OF_TURNS = {"run", "trace", "state"}
+OF_TURNS = {"run", "trace", "state", "peaks"}
 DEEPEST = 4
 SECONDS = 120
 

@@ -50,9 +50,9 @@ def commands():
     """The name and the words of each command that is no run: over each example, and without one."""
     for scenario in sorted(EXAMPLES.glob("*.toml")):
         leaf = first_leaf(tomllib.loads(scenario.read_text())["start"])
-        for words in (["check"], ["tree"], ["tree", "--dot"], ["size"], ["turns"]):
+        for words in (["check"], ["tree"], ["tree", "--dot"], ["size"], ["fit"], ["fit", "--donations"], ["turns"], ["turns", "--seed", "7"]):
             yield f"{' '.join(words)} of {scenario.name}", [*words, str(scenario)]
-        for words in (["trace"], ["trace", "--all"], ["state"], ["state", "--at", "3"]):
+        for words in (["trace"], ["trace", "--all"], ["state"], ["state", "--at", "3"], ["peaks"]):
             yield f"{' '.join(words)} of {scenario.name}", [*words, str(scenario), str(scenario.with_suffix(".turns"))]
         for words in (["asm"], ["list"], ["list", "--numbers"], ["why"]):
             yield f"{' '.join(words)} of {leaf} of {scenario.name}", [*words, str(scenario), leaf]

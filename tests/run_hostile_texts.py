@@ -18,9 +18,14 @@ import tempfile
 TOP = pathlib.Path(__file__).resolve().parent.parent
 SECONDS = 120
 CHANGES = 400
-OF_TURNS = {"run", "trace", "state"}
+OF_TURNS = {"run", "trace", "state", "peaks"}
 OF_LEAVES = {"list", "why"}
-COMMANDS = [[word] for word in ("check", "run", "tree", "size", "turns", "races", "trace", "state", "faults", "list", "why")] + [["tree", "--dot"]]
+COMMANDS = [
+    *([word] for word in ("check", "run", "tree", "size", "fit", "turns", "races", "trace", "state", "peaks", "faults", "list", "why")),
+    ["tree", "--dot"],
+    ["fit", "--donations"],
+    ["turns", "--seed", "7"],
+]
 # The program may take so many times the text, beside 64 MiB.
 TIMES, TIMES_OF_TABLES = 50, 640
 

@@ -36,11 +36,12 @@ OF_DESIGNERS = (
     "tree-inits", "graph-inits", "tree-version-2", "graph-a-leaf-after-another",
 )
 OF_SIZES = "size-servers-of-servers", "size-of-an-open-that-gives-too-little", "why-every-statement", "why-a-server-of-two"
+OF_FITS = "fit-servers-of-servers", "fit-donations-of-servers-of-servers"
 OF_RUNS = (
     "turns-inits", "turns-version-2", "races-stores-of-a-shared-server", "trace-an-upgrade-and-a-buffer", "trace-all-inits",
-    "state-in-a-call", "state-version-2", "state-at-a-request-at-hand",
+    "state-in-a-call", "state-version-2", "state-at-a-request-at-hand", "peaks-echo",
 )
-OF_TURNS = {"run", "trace", "state"}
+OF_TURNS = {"run", "trace", "state", "peaks"}
 RULES = TOP / "tests" / "tables" / "rule.toml"
 FAULTS = TOP / "tests" / "tables" / "faults.toml"
 # Of each kind one: of no TOML, of tables, of counts and names, of texts and codes, of rules, of routes, of budgets and of turns.
@@ -82,7 +83,7 @@ def runs():
         if status == 0:
             yield " ".join(words), words, b"", text
     yield "--version", ["--version"], b"", b"trade 1.0.0\n"
-    for name in SOME_CASES + OF_DESIGNERS + OF_SIZES + OF_RUNS:
+    for name in SOME_CASES + OF_DESIGNERS + OF_SIZES + OF_FITS + OF_RUNS:
         case = CASES / name
         command, *more = (case / "command").read_text().split()
         files = [str(case / "scenario.toml")] + ([str(case / "turns")] if command in OF_TURNS else [])

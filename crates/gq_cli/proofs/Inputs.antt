@@ -1,19 +1,19 @@
 -- Inputs that were read, and what is asked of them.
 use Rattle.std.proofs.Common.{◌≡◌, ◌≢◌, Bool, true, false, List, ℕ, Option, Result, Ok, Err, OnOk, Global, Some, None, option_map, refl, subst}
 use Rattle.std.specs.Prelude.{String, string_bytes}
-use Rattle.gq_world.specs.Outcomes.{IsCutShort, IsWhole}
 use Rattle.gq_cli.specs.declared.execute.Fault.{Fault}
 use Rattle.gq_cli.specs.declared.execute.Fault.TheVariants.{Refused, Write}
 use Rattle.gq_cli.specs.Ends.{Ended, EndedFaults, IsKnown}
 use Rattle.gq_command.specs.declared.command.Command.{Command}
-use Rattle.gq_command.specs.declared.command.Command.TheVariants.{OfScenario, OfLeaf, OfTurns, Faults, Rule, Version, Stored, Help}
+use Rattle.gq_command.specs.declared.command.Command.TheVariants.{OfScenario, OfLeaf, OfTurns, Fit, Faults, Rule, Version, Stored, Help}
 use Rattle.gq_command.specs.declared.command.TurnsCommand.{TurnsCommand}
-use Rattle.gq_command.specs.declared.command.TurnsCommand.TheVariants.{Run, Trace, TraceAll, State}
+use Rattle.gq_command.specs.declared.command.TurnsCommand.TheVariants.{Run, Trace, TraceAll, State, Peaks}
 use Rattle.gq_init.specs.declared.counted.Counted.{Counted}
 use Rattle.gq_rule_texts.specs.Rules.{Table}
 use Rattle.gq_command.specs.Stored.{parted}
-use Rattle.gq_cli.specs.Executed.{Asked, Of_scenario, Of_leaf, Of_both, Of_faults, Of_nothing, Executes, IsInput, IsRefusal, IsTold, IsUpheldBy, ReadsBoth}
-use Rattle.gq_cli.specs.Executed.{TellsAll, TellsPart, rules_written, version_written, writes_refusals, written_of}
+use Rattle.gq_cli.specs.Executed.{Asked, Of_scenario, Of_leaf, Of_both, Of_fit, Of_faults, Of_nothing, Executes}
+use Rattle.gq_cli.specs.Executed.{IsInput, IsRefusal, IsTold, IsUpheldBy, ReadsBoth}
+use Rattle.gq_cli.specs.Executed.{TellsAll, TellsPart, WritesCut, WritesWhole, rules_written, version_written, writes_refusals}
 
 module _ (scenario scenario_left turns turns_left : Option (List ℕ)) (asked : List ℕ → List ℕ → Asked) (holds : Asked → Type 0) where
   pub reads_both : (s t s' t' : List ℕ) → IsInput scenario scenario_left s → IsInput turns turns_left t → s' ≡ s → t' ≡ t → holds (asked s' t')
@@ -28,7 +28,7 @@ module _ (scenario scenario_left turns turns_left : Option (List ℕ)) (asked : 
 
 -- after a failed write a front of the text was written
 pub cut_short : (A : Type 0) (E : (Asked → Type 0) → Type 0) (f : Fault) (before after : Option (List ℕ)) → f ≡ Write
-    → (IsKnown {A = A} (Err f) → E (Ended {A = A} (Err f) before after)) → E (λ asked. IsCutShort (written_of asked) before after)
+    → (IsKnown {A = A} (Err f) → E (Ended {A = A} (Err f) before after)) → E (λ asked. WritesCut asked before after)
 cut_short A E f before after e h = subst (λ x. IsKnown {A = A} (Err x) → E (Ended {A = A} (Err x) before after)) e h (tt {0})
 
 -- what holds of all that is asked holds of what a command asks
@@ -46,6 +46,8 @@ executes_by table (OfTurns command s t) scenario scenario_left turns turns_left 
   turns_read = h.turns_read;
   so = so (Of_both command h.scenario_text h.turns_text) h.so;
 }
+executes_by table (Fit fitting s) scenario scenario_left turns turns_left P Q so h =
+    record { text = h.text; read = h.read; so = so (Of_fit fitting h.text) h.so }
 executes_by table (Faults a None) scenario scenario_left turns turns_left P Q so h =
     record { text = h.text; read = h.read; so = so (Of_faults (string_bytes a) h.text None) h.so }
 executes_by table (Faults a (Some b)) scenario scenario_left turns turns_left P Q so h = record {
@@ -80,6 +82,7 @@ not_run Run scenario turns before after ne = absurd (ne refl)
 not_run Trace scenario turns before after ne = tt {0}
 not_run TraceAll scenario turns before after ne = tt {0}
 not_run (State first) scenario turns before after ne = tt {0}
+not_run Peaks scenario turns before after ne = tt {0}
 
 pub upheld_otherwise : (scenario scenario_left turns turns_left : Option (List ℕ)) (command : TurnsCommand) (result : Result (Unit {0}) Fault)
     (before after : Option (List ℕ)) → command ≢ Run
@@ -102,7 +105,7 @@ module _ (table : Table) (command : Command) (scenario scenario_left turns turns
   Come = Executes table command scenario scenario_left turns turns_left
 
   pub done_either : (b : Bool) → writes_refusals command ≡ b → (writes_refusals command ≡ false → Come (Ended {A = Unit {0}} (Ok tt) before after))
-      → (writes_refusals command ≡ true → Come (EndedFaults {A = Unit {0}} (Ok tt) before after m n)) → Come (λ asked. IsWhole (written_of asked) before after)
+      → (writes_refusals command ≡ true → Come (EndedFaults {A = Unit {0}} (Ok tt) before after m n)) → Come (λ asked. WritesWhole asked before after)
   done_either true e h g = g e
   done_either false e h g = h e
 

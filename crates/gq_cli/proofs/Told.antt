@@ -11,7 +11,10 @@ use Rattle.gq_world.specs.Whole.{Written, refused_with, run_written}
 use Rattle.gq_world.specs.declared.fault.RunFault.{RunFault}
 use Rattle.gq_world.specs.declared.fault.RunFault.TheVariants as faults
 use Rattle.gq_cli.specs.Ends.{Ended, IsKnown, IsSilent, IsToldAs, LeavesWriter}
-use Rattle.gq_cli.specs.Executed.{Asked, ReadsText, written_of}
+use Rattle.gq_cli.specs.Executed.{Asked, IsRefusedBy, ReadsText, WritesCut, both_written, leaf_written, scenario_written, Of_scenario, Of_leaf, Of_both}
+use Rattle.gq_command.specs.declared.command.LeafCommand.{LeafCommand}
+use Rattle.gq_command.specs.declared.command.ScenarioCommand.{ScenarioCommand}
+use Rattle.gq_command.specs.declared.command.TurnsCommand.{TurnsCommand}
 use Rattle.gq_cli.specs.declared.execute.Fault.{Fault}
 use Rattle.gq_cli.specs.declared.execute.Fault.TheVariants.{Refused, Memory, Read, Write}
 use Rattle.gq_cli.specs.internal.Running.{ReadsTurns, RefusesAs}
@@ -25,13 +28,18 @@ refused_line w (faults.Turns f k) line h m u e = h ∙ ap Err (sym e)
 refused_line w faults.Memory line h m u e = absurd (m refl)
 refused_line w faults.Write line h m u e = absurd (u refl)
 
-ends : (asked : Asked) (before after : Option (List ℕ)) (f : RunFault) (r : Fault) → IsToldAs f r → IsFaultOf f (written_of asked)
-    → (f ≡ faults.Write → IsCutShort (written_of asked) before after) → IsKnown {A = Unit {0}} (Err r) → Ended {A = Unit {0}} (Err r) before after asked
-ends asked before after f (Refused line) told h cut known =
-    refused_line (written_of asked) f (string_bytes line) h told.0 told.1 told.2
-ends asked before after f Memory told h cut known = absurd known
-ends asked before after f Read told h cut known = absurd known
-ends asked before after f Write told h cut known = cut told
+-- what is asked for is given by this definition
+pub record IsGivenBy (asked : Asked) (w : Written) : Type 0 where
+  pub refused : (line : List ℕ) → w ≡ Err line → IsRefusedBy asked line
+  pub cut : (before after : Option (List ℕ)) → IsCutShort w before after → WritesCut asked before after
+
+ends : (asked : Asked) (w : Written) → IsGivenBy asked w → (before after : Option (List ℕ)) (f : RunFault) (r : Fault) → IsToldAs f r → IsFaultOf f w
+    → (f ≡ faults.Write → IsCutShort w before after) → IsKnown {A = Unit {0}} (Err r) → Ended {A = Unit {0}} (Err r) before after asked
+ends asked w by before after f (Refused line) told h cut known =
+    by.refused (string_bytes line) (refused_line w f (string_bytes line) h told.0 told.1 told.2)
+ends asked w by before after f Memory told h cut known = absurd known
+ends asked w by before after f Read told h cut known = absurd known
+ends asked w by before after f Write told h cut known = by.cut before after (cut told)
 
 same_fault : (a b : Fault) → ◌≡◌ {A = Result (Unit {0}) Fault} (Err a) (Err b) → a ≡ b
 same_fault a b e = cc
@@ -52,12 +60,21 @@ told_silent f Write told silent = absurd silent
 told_written : (f : RunFault) (r : Fault) → IsToldAs f r → r ≡ Write → f ≡ faults.Write
 told_written f r told e = subst (IsToldAs f) e told
 
+pub by_scenario : (command : ScenarioCommand) (scenario : List ℕ) → IsGivenBy (Of_scenario command scenario) (scenario_written command scenario)
+by_scenario command scenario = record { refused = λ line e. e; cut = λ before after c. c }
+
+pub by_leaf : (command : LeafCommand) (scenario leaf : List ℕ) → IsGivenBy (Of_leaf command scenario leaf) (leaf_written command scenario leaf)
+by_leaf command scenario leaf = record { refused = λ line e. e; cut = λ before after c. c }
+
+pub by_both : (command : TurnsCommand) (scenario turns : List ℕ) → IsGivenBy (Of_both command scenario turns) (both_written command scenario turns)
+by_both command scenario turns = record { refused = λ line e. e; cut = λ before after c. c }
+
 -- what is called was not done
 
-module _ {W : Type 0} (contents : W → Option (List ℕ)) (asked : Asked) (old new : Counted W) (f : RunFault) (r : Fault) (told : IsToldAs f r)
-    (h : WritesAs {A = Unit {0}} contents (written_of asked) old new (Err f)) where
+module _ {W : Type 0} (contents : W → Option (List ℕ)) (asked : Asked) (w : Written) (by : IsGivenBy asked w) (old new : Counted W) (f : RunFault)
+    (r : Fault) (told : IsToldAs f r) (h : WritesAs {A = Unit {0}} contents w old new (Err f)) where
   pub told_ends : IsKnown {A = Unit {0}} (Err r) → Ended {A = Unit {0}} (Err r) (written_to contents old) (written_to contents new) asked
-  told_ends = ends asked (written_to contents old) (written_to contents new) f r told h.refused (λ e. h.cut (ap Err e))
+  told_ends = ends asked w by (written_to contents old) (written_to contents new) f r told h.refused (λ e. h.cut (ap Err e))
 
   pub told_leaves : LeavesWriter {A = Unit {0}} old new (Err r)
   told_leaves =

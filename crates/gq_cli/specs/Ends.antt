@@ -3,11 +3,11 @@ use Rattle.std.specs.Prelude.{◌≡◌, ◌≢◌, ℕ, List, Option, Result, O
 use Rattle.gq_init.specs.declared.counted.Counted.{Counted}
 use Rattle.gq_init.specs.Counts.{failures_of}
 use Rattle.gq_init.specs.Writes.{IsRaised}
-use Rattle.gq_world.specs.Outcomes.{IsCutShort, IsWhole, run_fault_text}
+use Rattle.gq_world.specs.Outcomes.{run_fault_text}
 use Rattle.gq_world.specs.Whole.{refused_with}
 use Rattle.gq_world.specs.declared.fault.RunFault.{RunFault}
 use Rattle.gq_world.specs.declared.fault.RunFault.TheVariants as faults
-use Rattle.gq_cli.specs.Executed.{Asked, IsRefusedBy, TellsAll, TellsPart, written_of}
+use Rattle.gq_cli.specs.Executed.{Asked, IsRefusedBy, TellsAll, TellsPart, WritesCut, WritesWhole}
 use Rattle.gq_faults.specs.declared.fault.TellError.{TellError}
 use Rattle.gq_faults.specs.declared.fault.TellError.TheVariants as errors
 use Rattle.gq_faults.specs.declared.turns.Refused as refused
@@ -25,15 +25,15 @@ IsKnown (Err Write) = Unit {0}
 
 -- the text was written whole, or it is refused by this line, or a front of it was written
 abbrev pub Ended : {A : Type 0} → Result A Fault → (before after : Option (List ℕ)) → Asked → Type 0
-Ended (Ok u) before after asked = IsWhole (written_of asked) before after
+Ended (Ok u) before after asked = WritesWhole asked before after
 Ended (Err (Refused line)) before after asked = IsRefusedBy asked (string_bytes line)
 Ended (Err Memory) before after asked = ⊥
 Ended (Err Read) before after asked = ⊥
-Ended (Err Write) before after asked = IsCutShort (written_of asked) before after
+Ended (Err Write) before after asked = WritesCut asked before after
 
 -- nothing was wrong and nothing was written, or all that is wrong was written before the texts are refused by this line, or not all of it could be written
 abbrev pub EndedFaults : {A : Type 0} → Result A Fault → (before after : Option (List ℕ)) → ℕ → ℕ → Asked → Type 0
-EndedFaults (Ok u) before after m n asked = IsWhole (written_of asked) before after
+EndedFaults (Ok u) before after m n asked = WritesWhole asked before after
 EndedFaults (Err (Refused line)) before after m n asked = IsRefusedBy asked (string_bytes line) × TellsAll asked before after
 EndedFaults (Err Memory) before after m n asked = ⊥
 EndedFaults (Err Read) before after m n asked = ⊥

@@ -1,22 +1,25 @@
 -- What a command does: what it reads, writes and tells.
-use Rattle.std.specs.Prelude.{◌≡◌, ◌⊎◌, ℕ, ◌≤◌, Bool, true, false, List, [], ◌++◌, length, Option, Some, None, option_map, Ok, Err, IsOkAnd}
+use Rattle.std.specs.Prelude.{◌≡◌, ◌⊎◌, ℕ, ◌≤◌, Bool, true, false, List, [], ◌∷◌, ◌++◌, length, Option, Some, None, option_map, Result, Ok, Err, IsOkAnd}
 use Rattle.std.specs.Prelude.{codes, string_bytes}
 use Rattle.std.specs.Io.KnownBytes.{Appends, Consumes, IsAtEnd}
 use Rattle.gq_init.specs.declared.counted.Counted.{Counted}
 use Rattle.gq_init.specs.Counts.{written_to, failures_of}
 use Rattle.gq_init.specs.Writes.{IsFront, IsRaised}
-use Rattle.gq_load.specs.Load.{loaded}
-use Rattle.gq_model.specs.machine.Scenario.{components}
+use Rattle.gq_load.specs.Load.{Fault, fault_text, loaded}
+use Rattle.gq_model.specs.machine.Scenario.{Scenario, components}
 use Rattle.gq_model.specs.texts.Turns.{Turned, turned}
 use Rattle.gq_world.specs.Whole.{Written, refused_with, with_scenario, turn_fault_text, run_written, check_written, asm_written}
 use Rattle.gq_world.specs.Headline.{WritesPromised}
+use Rattle.gq_world.specs.Outcomes.{IsCutShort, IsWhole}
 use Rattle.gq_views.specs.declared.margin.Margin.TheVariants.{Plain, Numbered}
 use Rattle.gq_views.specs.Written.{list_written, tree_written, graph_written}
 use Rattle.gq_traces.specs.Rests.{WritesToRest}
-use Rattle.gq_traces.specs.Written.{state_written, trace_written, turns_written}
+use Rattle.gq_traces.specs.Written.{peaks_written, state_written, trace_written, turns_written}
 use Rattle.gq_races.specs.Races.{IsOrderFree, IsRaceFree}
 use Rattle.gq_races.specs.Written.{WroteNothing, races_written}
+use Rattle.gq_sizes.specs.Judged.{judged_without}
 use Rattle.gq_sizes.specs.Written.{size_written}
+use Rattle.gq_fit.specs.Fitted.{IsFitted, IsFittedWhole, WritesPart, WritesSome}
 use Rattle.gq_why.specs.Written.{why_written}
 use Rattle.gq_faults.specs.Faults.{fault_lines}
 use Rattle.gq_faults.specs.Told.{WritesFaults, WritesPrefix}
@@ -25,13 +28,15 @@ use Rattle.gq_rule_texts.specs.declared.table.Rule.{Rule as RuleText}
 use Rattle.gq_rule_texts.specs.Rules.{Table, lines_of_all, rule_of}
 use Rattle.gq_command.specs.Stored.{parted}
 use Rattle.gq_command.specs.declared.command.Command.{Command}
-use Rattle.gq_command.specs.declared.command.Command.TheVariants.{OfScenario, OfLeaf, OfTurns, Faults, Rule, Version, Stored, Help}
+use Rattle.gq_command.specs.declared.command.Command.TheVariants.{OfScenario, OfLeaf, OfTurns, Fit, Faults, Rule, Version, Stored, Help}
 use Rattle.gq_command.specs.declared.command.ScenarioCommand.{ScenarioCommand}
 use Rattle.gq_command.specs.declared.command.ScenarioCommand.TheVariants.{Check, Tree, Graph, Turns, Races, Size}
+use Rattle.gq_command.specs.declared.command.Fitting.{Fitting}
+use Rattle.gq_command.specs.declared.command.Fitting.TheVariants.{Quantities, Donations}
 use Rattle.gq_command.specs.declared.command.LeafCommand.{LeafCommand}
 use Rattle.gq_command.specs.declared.command.LeafCommand.TheVariants as of_a_leaf
 use Rattle.gq_command.specs.declared.command.TurnsCommand.{TurnsCommand}
-use Rattle.gq_command.specs.declared.command.TurnsCommand.TheVariants.{Run, Trace, TraceAll, State}
+use Rattle.gq_command.specs.declared.command.TurnsCommand.TheVariants.{Run, Trace, TraceAll, State, Peaks}
 use Rattle.gq_command.specs.declared.status.Status.{Status}
 use Rattle.gq_command.specs.declared.status.Status.TheVariants.{Done, Refused, BadCommandLine, HostMemory, FileFault}
 
@@ -81,7 +86,7 @@ abbrev pub scenario_written : ScenarioCommand → List ℕ → Written
 scenario_written Check scenario = check_written scenario
 scenario_written Tree scenario = tree_written scenario
 scenario_written Graph scenario = graph_written scenario
-scenario_written Turns scenario = turns_written scenario
+scenario_written (Turns seed) scenario = turns_written seed scenario
 scenario_written Races scenario = races_written scenario
 scenario_written Size scenario = size_written scenario
 
@@ -98,6 +103,7 @@ both_written Run scenario turns = run_written scenario turns
 both_written Trace scenario turns = trace_written false scenario turns
 both_written TraceAll scenario turns = trace_written true scenario turns
 both_written (State first) scenario turns = state_written first scenario turns
+both_written Peaks scenario turns = peaks_written scenario turns
 
 -- nothing is to be written of a scenario that is accepted, nor of turns that are taken; what is refused is refused as `check` and `run` refuse it
 abbrev pub none_written : Turned → Written
@@ -122,30 +128,61 @@ rules_written table None = Ok (lines_of_all table)
 abbrev pub version_written : Written
 version_written = Ok (codes "trade 1.0.0\n")
 
--- what a command is to write: of a scenario, of a leaf, of a scenario and turns, all that is wrong with the files at these paths, or what no input decides
+-- what fits the text of a scenario
+abbrev pub fits : Fitting → List ℕ → List ℕ → Type 0
+fits Quantities = IsFitted
+fits Donations = IsFittedWhole
+
+-- a scenario has no fit, and what follows this line says why
+abbrev pub no_fit : List ℕ
+no_fit = codes "trade: no fit\n"
+
+-- a scenario that breaks a rule which no quantity decides is refused by its line; any other one by the line that it has no fit, and why
+abbrev pub IsUnfit : Result Scenario Fault → List ℕ → Type 0
+IsUnfit (Ok s) line = (why : List ℕ) × (line ≡ no_fit ++ why ++ 10 ∷ [])
+IsUnfit (Err fault) line = line ≡ refused_with (fault_text fault)
+
+-- what a command is to write: of a scenario, of a leaf, of a scenario and turns, a text that fits a scenario, all that is wrong with the files at these paths,
+-- or what no input decides
 pub data Asked : Type 0 where
   Of_scenario : (command : ScenarioCommand) (scenario : List ℕ) → Asked
   Of_leaf : (command : LeafCommand) (scenario leaf : List ℕ) → Asked
   Of_both : (command : TurnsCommand) (scenario turns : List ℕ) → Asked
+  Of_fit : (fitting : Fitting) (scenario : List ℕ) → Asked
   Of_faults : (path scenario : List ℕ) (turns : Option (List ℕ × List ℕ)) → Asked
   Of_nothing : (written : Written) → Asked
 
--- its text by the definition, or the line that refuses it
-abbrev pub written_of : Asked → Written
-written_of (Of_scenario command scenario) = scenario_written command scenario
-written_of (Of_leaf command scenario leaf) = leaf_written command scenario leaf
-written_of (Of_both command scenario turns) = both_written command scenario turns
-written_of (Of_faults path scenario turns) = faults_written scenario (option_map (λ t. t.1) turns)
-written_of (Of_nothing written) = written
+-- the text of the definition was written whole; or one that fits
+abbrev pub WritesWhole : Asked → (before after : Option (List ℕ)) → Type 0
+WritesWhole (Of_scenario command scenario) before after = IsWhole (scenario_written command scenario) before after
+WritesWhole (Of_leaf command scenario leaf) before after = IsWhole (leaf_written command scenario leaf) before after
+WritesWhole (Of_both command scenario turns) before after = IsWhole (both_written command scenario turns) before after
+WritesWhole (Of_fit fitting scenario) before after = WritesSome (fits fitting scenario) before after
+WritesWhole (Of_faults path scenario turns) before after = IsWhole (faults_written scenario (option_map (λ t. t.1) turns)) before after
+WritesWhole (Of_nothing written) before after = IsWhole written before after
 
--- the line that refuses it is the definition's
+-- a prefix of such a text was written
+abbrev pub WritesCut : Asked → (before after : Option (List ℕ)) → Type 0
+WritesCut (Of_scenario command scenario) before after = IsCutShort (scenario_written command scenario) before after
+WritesCut (Of_leaf command scenario leaf) before after = IsCutShort (leaf_written command scenario leaf) before after
+WritesCut (Of_both command scenario turns) before after = IsCutShort (both_written command scenario turns) before after
+WritesCut (Of_fit fitting scenario) before after = WritesPart (fits fitting scenario) before after
+WritesCut (Of_faults path scenario turns) before after = IsCutShort (faults_written scenario (option_map (λ t. t.1) turns)) before after
+WritesCut (Of_nothing written) before after = IsCutShort written before after
+
+-- the line that refuses it is the definition's; a scenario is refused, or it is judged and has no fit
 abbrev pub IsRefusedBy : Asked → List ℕ → Type 0
-IsRefusedBy asked line = written_of asked ≡ Err line
+IsRefusedBy (Of_scenario command scenario) line = scenario_written command scenario ≡ Err line
+IsRefusedBy (Of_leaf command scenario leaf) line = leaf_written command scenario leaf ≡ Err line
+IsRefusedBy (Of_both command scenario turns) line = both_written command scenario turns ≡ Err line
+IsRefusedBy (Of_fit fitting scenario) line = IsUnfit (judged_without scenario) line
+IsRefusedBy (Of_faults path scenario turns) line = faults_written scenario (option_map (λ t. t.1) turns) ≡ Err line
+IsRefusedBy (Of_nothing written) line = written ≡ Err line
 
 -- what a command promises beside its text: a run upholds every promise; turns lead to rest; where `races` wrote nothing there is no race, and no order
 abbrev pub IsUpheldBy : Asked → (before after : Option (List ℕ)) → Type 0
 IsUpheldBy (Of_both Run scenario turns) before after = WritesPromised scenario turns before after
-IsUpheldBy (Of_scenario Turns scenario) before after = WritesToRest scenario before after
+IsUpheldBy (Of_scenario (Turns seed) scenario) before after = WritesToRest seed scenario before after
 IsUpheldBy (Of_scenario Races scenario) before after =
     (WroteNothing before after → IsOkAnd (loaded scenario) IsRaceFree) × (WroteNothing before after → IsOkAnd (loaded scenario) IsOrderFree)
 IsUpheldBy _ before after = Unit {0}
@@ -195,6 +232,7 @@ Executes table (OfLeaf command a leaf) scenario scenario_left turns turns_left h
     ReadsScenario scenario scenario_left (λ text. Of_leaf command text (string_bytes leaf)) holds
 Executes table (OfTurns command a b) scenario scenario_left turns turns_left holds =
     ReadsBoth scenario scenario_left turns turns_left (Of_both command) holds
+Executes table (Fit fitting a) scenario scenario_left turns turns_left holds = ReadsScenario scenario scenario_left (Of_fit fitting) holds
 Executes table (Faults a None) scenario scenario_left turns turns_left holds =
     ReadsScenario scenario scenario_left (λ text. Of_faults (string_bytes a) text None) holds
 Executes table (Faults a (Some b)) scenario scenario_left turns turns_left holds =

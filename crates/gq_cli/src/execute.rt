@@ -3,7 +3,7 @@ ghost use Rattle.std.specs.Prelude.{◌≡◌, ◌≢◌, ◌⊎◌, ◌++◌, t
 ghost use Rattle.std.specs.Io.KnownBytes.{Keeps};
 ghost use Rattle.gq_init.specs.Counts.{written_to, failures_of};
 ghost use Rattle.gq_init.specs.Writes.{IsRaised};
-ghost use Rattle.gq_world.specs.Outcomes.{GivesOf, IsCutShort, IsWhole, WritesAs};
+ghost use Rattle.gq_world.specs.Outcomes.{GivesOf, WritesAs};
 ghost use Rattle.gq_world.specs.Whole.{refused_with, run_written};
 ghost use Rattle.gq_world.specs.Headline.{WritesPromised};
 ghost use Rattle.gq_command.specs.Input.{GivesAtMost};
@@ -12,10 +12,11 @@ ghost use Rattle.gq_cli.specs.internal.Running.{RefusesAs};
 ghost use Rattle.gq_cli.specs.Executed.{Executes, IsRefusal, IsTold, IsUpheldBy, ReadsBoth, ReadsScenario, ReadsText, RunsStored};
 ghost use Rattle.gq_cli.specs.Executed.{Of_both, Of_faults, Of_leaf, Of_nothing, Of_scenario, TellsAll, TellsPart, TellsPrefix};
 ghost use Rattle.gq_cli.specs.Executed.{both_written, is_never_refused, leaf_written, reads_scenario, reads_turns, rules_written};
-ghost use Rattle.gq_cli.specs.Executed.{scenario_written, status_line, version_written, writes_refusals, written_of};
+ghost use Rattle.gq_cli.specs.Executed.{WritesCut, WritesWhole, scenario_written, status_line, version_written, writes_refusals};
 ghost use Rattle.gq_cli.specs.declared.execute.Fault.TheVariants as fault;
 ghost use Rattle.gq_command.specs.declared.command.TurnsCommand.TheVariants.{Run};
 
+use crate::fit::of_fit;
 use crate::turns::run_loaded;
 use gq_command::command::{Command, LeafCommand, ScenarioCommand, TurnsCommand, VERSION};
 use gq_command::input::{InputError, read_input};
@@ -29,6 +30,7 @@ use gq_init::counted::{Counted, put};
 use gq_races::races::races;
 use gq_rule_texts::{Rule, rule_of, write_rules};
 use gq_sizes::size::size;
+use gq_traces::peaks::peaks;
 use gq_traces::state::state;
 use gq_traces::telling::Telling;
 use gq_traces::trace::trace;
@@ -86,6 +88,7 @@ impl From<InputError> for Fault {
 ///
 /// - `OfScenario` and `OfLeaf` read the scenario. `OfTurns` reads the scenario and then the turns, each whole. `Stored` reads both from
 ///   `scenario`, separated by a line `%%`. Each writes the text of its command to `out`.
+/// - `Fit` reads the scenario, and writes a text that fits it.
 /// - `Faults` reads the scenario, and the turns if it has their path. It writes every fault with its place before the texts are refused.
 /// - `Rule`, `Version` and `Help` read nothing. `Rule` writes the text of the code's rule in `rules`, or without a code the line of each.
 ///
@@ -104,7 +107,7 @@ pub fn execute<R: Read, T: Read, W: Write, E: Write>(
 ) -> Status
     // The whole text was written, that of a run which upholds what is promised, and nothing was told.
     ensures done { result ≡ Status.Done → Executes rules.now command.now (R.remaining scenario.old) (R.remaining scenario.new) (T.remaining turns.old)
-        (T.remaining turns.new) (λ asked. IsWhole (written_of asked) (written_to W.contents out.old) (written_to W.contents out.new)) }
+        (T.remaining turns.new) (λ asked. WritesWhole asked (written_to W.contents out.old) (written_to W.contents out.new)) }
     ensures upheld { result ≡ Status.Done → Executes rules.now command.now (R.remaining scenario.old) (R.remaining scenario.new) (T.remaining turns.old)
         (T.remaining turns.new) (λ asked. IsUpheldBy asked (written_to W.contents out.old) (written_to W.contents out.new)) }
     ensures counted { result ≡ Status.Done → failures_of out.new ≡ failures_of out.old }
@@ -134,7 +137,7 @@ pub fn execute<R: Read, T: Read, W: Write, E: Write>(
     // A read failed and nothing was written, or a write failed and a front of the text was written.
     ensures cut { writes_refusals command.now ≡ false → result ≡ Status.FileFault → ((reads_scenario command.now ≡ true) × (out.new ≡ out.old))
         ⊎ (Executes rules.now command.now (R.remaining scenario.old) (R.remaining scenario.new) (T.remaining turns.old) (T.remaining turns.new)
-        (λ asked. IsCutShort (written_of asked) (written_to W.contents out.old) (written_to W.contents out.new))
+        (λ asked. WritesCut asked (written_to W.contents out.old) (written_to W.contents out.new))
         × IsRaised (failures_of out.old) (failures_of out.new)) }
 
     // Other refusals have the line of their status.
@@ -228,6 +231,7 @@ fn perform<R: Read, T: Read, W: Write>(
             of_leaf(alloc, *command, scenario, leaf.as_str(), out)
         }
         Command::OfTurns(command, _, _) => of_turns(alloc, *command, scenario, turns, out),
+        Command::Fit(fitting, _) => of_fit(alloc, *fitting, scenario, out),
         Command::Faults(path, None) => of_faults(alloc, path.as_str(), scenario, out),
         Command::Faults(path, Some(other)) => {
             of_both_faults(alloc, path.as_str(), other.as_str(), scenario, turns, out)
@@ -317,6 +321,7 @@ fn write_both<W: Write>(
         TurnsCommand::Trace => trace(alloc, scenario, turns, Telling::Changes, out),
         TurnsCommand::TraceAll => trace(alloc, scenario, turns, Telling::All, out),
         TurnsCommand::State(first) => state(alloc, scenario, turns, first, out),
+        TurnsCommand::Peaks => peaks(alloc, scenario, turns, out),
     }
 }
 
@@ -477,7 +482,7 @@ fn write_scenario<W: Write>(
         ScenarioCommand::Check => check(alloc, scenario, out),
         ScenarioCommand::Tree => tree(alloc, scenario, out),
         ScenarioCommand::Graph => graph(alloc, scenario, out),
-        ScenarioCommand::Turns => turns(alloc, scenario, out),
+        ScenarioCommand::Turns(seed) => turns(alloc, scenario, seed, out),
         ScenarioCommand::Races => races(alloc, scenario, out),
         ScenarioCommand::Size => size(alloc, scenario, out),
     }

@@ -11,6 +11,7 @@
 #![tactic(auto)]
 
 pub mod execute;
+mod fit;
 mod turns;
 
 pub use gq_command::{command, command_line, input, status, stored};

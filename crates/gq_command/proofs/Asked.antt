@@ -8,12 +8,13 @@ use Rattle.clap.specs.declared.error.Error.{Error}
 use Rattle.clap.specs.declared.error.kind.ErrorKind.{ErrorKind}
 use Rattle.clap.specs.declared.error.kind.ErrorKind.TheVariants.{DisplayHelp, DisplayVersion, OutOfMemory}
 use Rattle.clap.proofs.OnLiterals.{clap_on_literals}
-use Rattle.gq_command.specs.CommandLine.{IsAsked, IsMisused, IsUsage, IsWanted, Wanted, Scenario_wanted, Leaf_wanted, Turns_wanted, Rule_wanted}
+use Rattle.gq_command.specs.CommandLine.{IsAsked, IsMisused, IsUsage, IsWanted, Wanted, Scenario_wanted, Leaf_wanted, Turns_wanted, Fit_wanted, Rule_wanted}
 use Rattle.gq_command.specs.CommandLine.{trade, wanted, wanted_in}
 use Rattle.gq_command.specs.internal.Entries.{IsShown}
 use Rattle.gq_command.specs.declared.command.Command.{Command}
-use Rattle.gq_command.specs.declared.command.Command.TheVariants.{OfScenario, OfLeaf, OfTurns, Faults, Rule, Version, Stored, Help}
+use Rattle.gq_command.specs.declared.command.Command.TheVariants.{OfScenario, OfLeaf, OfTurns, Fit, Faults, Rule, Version, Stored, Help}
 use Rattle.gq_command.specs.declared.command.ScenarioCommand.TheVariants.{Check, Tree, Graph}
+use Rattle.gq_command.specs.declared.command.Fitting.TheVariants.{Quantities, Donations}
 use Rattle.gq_command.specs.declared.command.LeafCommand.TheVariants as of_a_leaf
 use Rattle.gq_command.specs.declared.command.TurnsCommand.TheVariants.{Run, State}
 use Rattle.gq_command.specs.declared.command.CommandError.{CommandError}
@@ -41,6 +42,7 @@ pub asked-ok : (words : List Text) (found : Option (Text × List Row)) (command 
 asked-ok words found (OfScenario command scenario) ne passes is h = (ne, ap₂ chosen passes (sym is) ∙ h)
 asked-ok words found (OfLeaf command scenario leaf) ne passes is h = (ne, ap₂ chosen passes (sym is) ∙ h)
 asked-ok words found (OfTurns command scenario turns) ne passes is h = (ne, ap₂ chosen passes (sym is) ∙ h)
+asked-ok words found (Fit fitting scenario) ne passes is h = (ne, ap₂ chosen passes (sym is) ∙ h)
 asked-ok words found (Faults scenario turns) ne passes is h = (ne, ap₂ chosen passes (sym is) ∙ h)
 asked-ok words found (Rule code) ne passes is h = (ne, ap₂ chosen passes (sym is) ∙ h)
 asked-ok words found Version ne passes is h = absurd h
@@ -80,6 +82,7 @@ pub asked-err : (words : List Text) (error : Error) (command : Command) → word
 asked-err words error (OfScenario command scenario) ne kinds h = absurd h
 asked-err words error (OfLeaf command scenario leaf) ne kinds h = absurd h
 asked-err words error (OfTurns command scenario turns) ne kinds h = absurd h
+asked-err words error (Fit fitting scenario) ne kinds h = absurd h
 asked-err words error (Faults scenario turns) ne kinds h = absurd h
 asked-err words error (Rule code) ne kinds h = absurd h
 asked-err words error Stored ne kinds h = absurd h
@@ -148,6 +151,14 @@ state_at_is_wanted = refl
 state_at_no_number_is_misused : wanted (codes "state" ∷ codes "--at=4294967296" ∷ codes "hello.toml" ∷ codes "hello.turns" ∷ []) ≡ None
 unfolding clap_on_literals
 state_at_no_number_is_misused = refl
+
+fit_is_wanted : wanted (codes "fit" ∷ codes "hello.toml" ∷ []) ≡ Some (Fit_wanted Quantities (codes "hello.toml"))
+unfolding clap_on_literals
+fit_is_wanted = refl
+
+donations_are_wanted : wanted (codes "fit" ∷ codes "--donations" ∷ codes "hello.toml" ∷ []) ≡ Some (Fit_wanted Donations (codes "hello.toml"))
+unfolding clap_on_literals
+donations_are_wanted = refl
 
 rule_is_wanted : wanted (codes "rule" ∷ codes "v12" ∷ []) ≡ Some (Rule_wanted (Some (codes "v12")))
 unfolding clap_on_literals

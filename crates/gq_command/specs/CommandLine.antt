@@ -11,13 +11,15 @@ use Rattle.std.specs.Str.{bytes_eq}
 use Rattle.clap.specs.declared.builder.action.ArgAction.TheVariants.{SetTrue}
 use Rattle.clap.specs.declared.error.kind.ErrorKind.TheVariants.{DisplayHelp, DisplayVersion}
 use Rattle.gq_command.specs.declared.command.Command.{Command}
-use Rattle.gq_command.specs.declared.command.Command.TheVariants.{OfScenario, OfLeaf, OfTurns, Faults, Rule as RuleOf, Version, Stored, Help}
+use Rattle.gq_command.specs.declared.command.Command.TheVariants.{OfScenario, OfLeaf, OfTurns, Fit, Faults, Rule as RuleOf, Version, Stored, Help}
 use Rattle.gq_command.specs.declared.command.ScenarioCommand.{ScenarioCommand}
 use Rattle.gq_command.specs.declared.command.ScenarioCommand.TheVariants.{Check, Tree, Graph, Turns, Races, Size}
+use Rattle.gq_command.specs.declared.command.Fitting.{Fitting}
+use Rattle.gq_command.specs.declared.command.Fitting.TheVariants.{Quantities, Donations}
 use Rattle.gq_command.specs.declared.command.LeafCommand.{LeafCommand}
 use Rattle.gq_command.specs.declared.command.LeafCommand.TheVariants as of_a_leaf
 use Rattle.gq_command.specs.declared.command.TurnsCommand.{TurnsCommand}
-use Rattle.gq_command.specs.declared.command.TurnsCommand.TheVariants.{Run, Trace, TraceAll, State}
+use Rattle.gq_command.specs.declared.command.TurnsCommand.TheVariants.{Run, Trace, TraceAll, State, Peaks}
 use Rattle.gq_command.specs.declared.command.CommandError.{CommandError}
 use Rattle.gq_command.specs.declared.command.CommandError.TheVariants.{Memory, Usage}
 
@@ -64,11 +66,13 @@ commands =
     ∷ with_rule (of_leaf (codes "list")) (switch_rule (codes "numbers"))
     ∷ with_rule (of_scenario (codes "tree")) (switch_rule (codes "dot"))
     ∷ of_scenario (codes "size")
+    ∷ with_rule (of_scenario (codes "fit")) (switch_rule (codes "donations"))
     ∷ of_leaf (codes "why")
-    ∷ of_scenario (codes "turns")
+    ∷ with_rule (of_scenario (codes "turns")) (number_rule (codes "seed"))
     ∷ of_scenario (codes "races")
     ∷ with_rule (of_turns (codes "trace")) (switch_rule (codes "all"))
     ∷ with_rule (of_turns (codes "state")) (number_rule (codes "at"))
+    ∷ of_turns (codes "peaks")
     ∷ of_maybe_turns (codes "faults")
     ∷ of_code (codes "rule")
     ∷ []
@@ -84,12 +88,13 @@ trade =
 
 -- WHAT THEY ASK FOR
 
--- what is wanted of the file of a scenario alone, of a leaf of it, or of it and the file of turns; all that is wrong with it, and with turns;
--- or what a code means, or without one of all
+-- what is wanted of the file of a scenario alone, of a leaf of it, or of it and the file of turns; it with this fitted; all that is wrong with it, and with
+-- turns; or what a code means, or without one of all
 pub data Wanted : Type 0 where
   Scenario_wanted : (command : ScenarioCommand) (scenario : Text) → Wanted
   Leaf_wanted : (command : LeafCommand) (scenario leaf : Text) → Wanted
   Turns_wanted : (command : TurnsCommand) (scenario turns : Text) → Wanted
+  Fit_wanted : (fitting : Fitting) (scenario : Text) → Wanted
   Faults_wanted : (scenario : Text) (turns : Option Text) → Wanted
   Rule_wanted : (code : Option Text) → Wanted
 
@@ -114,7 +119,7 @@ abbrev pub scenario_command : Text → List Row → Option ScenarioCommand
 scenario_command name rows =
     if bytes_eq name (codes "check") then Some Check
     else if bytes_eq name (codes "tree") then Some (if is_given (codes "dot") rows then Graph else Tree)
-    else if bytes_eq name (codes "turns") then Some Turns
+    else if bytes_eq name (codes "turns") then option_map Turns (number_given (first_of (codes "seed") rows))
     else if bytes_eq name (codes "races") then Some Races
     else if bytes_eq name (codes "size") then Some Size
     else None
@@ -131,7 +136,12 @@ turns_command name rows =
     if bytes_eq name (codes "run") then Some Run
     else if bytes_eq name (codes "trace") then Some (if is_given (codes "all") rows then TraceAll else Trace)
     else if bytes_eq name (codes "state") then option_map State (number_given (first_of (codes "at") rows))
+    else if bytes_eq name (codes "peaks") then Some Peaks
     else None
+
+-- what is to be fitted
+abbrev pub fitting : List Row → Fitting
+fitting rows = if is_given (codes "donations") rows then Donations else Quantities
 
 -- the command that this name has among those on a scenario alone, else among those on a leaf, else among those on turns
 abbrev pub wanted_with : Text → List Row → Option ScenarioCommand → Option LeafCommand → Option TurnsCommand → Option Wanted
@@ -144,6 +154,7 @@ abbrev pub wanted_of : Text → List Row → Option Wanted
 wanted_of name rows =
     if bytes_eq name (codes "rule") then Some (Rule_wanted (first_of (codes "CODE") rows))
     else option_and_then (λ scenario. if bytes_eq name (codes "faults") then Some (Faults_wanted scenario (first_of (codes "TURNS") rows))
+    else if bytes_eq name (codes "fit") then Some (Fit_wanted (fitting rows) scenario)
     else wanted_with scenario rows (scenario_command name rows) (leaf_command name rows) (turns_command name rows)) (first_of (codes "SCENARIO") rows)
 
 abbrev pub wanted_in : Option (Text × List Row) → Option Wanted
@@ -158,6 +169,7 @@ abbrev pub IsWanted : Option Wanted → Command → Type 0
 IsWanted found (OfScenario command scenario) = found ≡ Some (Scenario_wanted command (string_bytes scenario))
 IsWanted found (OfLeaf command scenario leaf) = found ≡ Some (Leaf_wanted command (string_bytes scenario) (string_bytes leaf))
 IsWanted found (OfTurns command scenario turns) = found ≡ Some (Turns_wanted command (string_bytes scenario) (string_bytes turns))
+IsWanted found (Fit fitting scenario) = found ≡ Some (Fit_wanted fitting (string_bytes scenario))
 IsWanted found (Faults scenario turns) = found ≡ Some (Faults_wanted (string_bytes scenario) (option_map string_bytes turns))
 IsWanted found (RuleOf code) = found ≡ Some (Rule_wanted (option_map string_bytes code))
 IsWanted found _ = ⊥

@@ -16,12 +16,21 @@ pub enum ScenarioCommand {
     Tree,
     /// To write its nodes as a graph for Graphviz.
     Graph,
-    /// To write a list of turns that brings all work to rest.
-    Turns,
+    /// To write a list of turns that brings all work to rest: in rounds, or by chance from this seed.
+    Turns(Option<u32>),
     /// To write the statements by which the outcome could depend on the turns.
     Races,
     /// To write what each quantity is at least.
     Size,
+}
+
+/// What is fitted of a scenario.
+#[derive(Clone, Copy, Debug, PartialEq, Eq)]
+pub enum Fitting {
+    /// Its quantities.
+    Quantities,
+    /// Its quantities, and what its programs give.
+    Donations,
 }
 
 /// What is asked of a leaf of a scenario.
@@ -48,6 +57,8 @@ pub enum TurnsCommand {
     TraceAll,
     /// To write what the accounts are made of after the last turn, or after the first so many.
     State(Option<u32>),
+    /// To write the greatest use of each account over them.
+    Peaks,
 }
 
 /// What the words of a command line ask for.
@@ -59,6 +70,8 @@ pub enum Command {
     OfLeaf(LeafCommand, String, String),
     /// Do this with the scenario at the first path and the turns at the second.
     OfTurns(TurnsCommand, String, String),
+    /// Write the scenario at this path with this fitted.
+    Fit(Fitting, String),
     /// Tell all that is wrong with the scenario at the first path and, where there is a second, with the turns there.
     Faults(String, Option<String>),
     /// Tell what this code of a fault means, or without one list all.

@@ -6,7 +6,7 @@ ghost use Rattle.gq_command.specs.CommandLine as words;
 ghost use Rattle.gq_command.specs.internal.Entries.{IsShown};
 ghost use Rattle.gq_command.specs.internal.Meant.{meant};
 
-use crate::command::{Command, CommandError, LeafCommand, ScenarioCommand, TurnsCommand};
+use crate::command::{Command, CommandError, Fitting, LeafCommand, ScenarioCommand, TurnsCommand};
 use crate::entries::command_line;
 use crate::misuse::misuse;
 use clap::ArgMatches;
@@ -18,6 +18,7 @@ use std::alloc::{AllocError, Global};
 /// - A command of `ScenarioCommand` with a path is `OfScenario`. Its options stand before or after the path, as those of all commands do.
 /// - A command of `LeafCommand` with a path and a name is `OfLeaf`.
 /// - A command of `TurnsCommand` with two paths is `OfTurns`.
+/// - `fit` with a path is `Fit`.
 /// - `faults` with a path, and perhaps a second one, is `Faults`.
 /// - `rule`, perhaps with a code, is `Rule`.
 /// - `--version` and `-V` are `Version`; `help`, `--help` and `-h` are `Help` with the text to show.
@@ -47,6 +48,8 @@ enum Wanted<'a> {
     OfLeaf(LeafCommand, &'a str, &'a str),
     // Of the files of a scenario and of turns.
     OfTurns(TurnsCommand, &'a str, &'a str),
+    // The file of a scenario with this fitted.
+    Fit(Fitting, &'a str),
     // Of the file of a scenario, and that of turns where there is one.
     Faults(&'a str, Option<&'a str>),
     // What a code means, or without one all codes.
@@ -78,6 +81,9 @@ fn wanted_of<'a>(name: &str, found: &ArgMatches<'a>) -> Option<Wanted<'a>>
     if name == "faults" {
         return Some(Wanted::Faults(scenario, first_named(found, "TURNS")));
     }
+    if name == "fit" {
+        return Some(Wanted::Fit(fitting(found), scenario));
+    }
     if let Some(command) = scenario_command(name, found) {
         return Some(Wanted::OfScenario(command, scenario));
     }
@@ -90,6 +96,17 @@ fn wanted_of<'a>(name: &str, found: &ArgMatches<'a>) -> Option<Wanted<'a>>
     Some(Wanted::OfTurns(command, scenario, turns))
 }
 
+// What is to be fitted.
+fn fitting(found: &ArgMatches<'_>) -> Fitting
+    ensures { result ≡ words.fitting (rows_of (found_of found.now)) }
+{
+    if is_given(found, "donations") {
+        Fitting::Donations
+    } else {
+        Fitting::Quantities
+    }
+}
+
 // The command of this name, if it is one on a scenario alone.
 fn scenario_command(name: &str, found: &ArgMatches<'_>) -> Option<ScenarioCommand>
     ensures { result ≡ words.scenario_command name.now (rows_of (found_of found.now)) }
@@ -98,7 +115,7 @@ fn scenario_command(name: &str, found: &ArgMatches<'_>) -> Option<ScenarioComman
         "check" => Some(ScenarioCommand::Check),
         "tree" if is_given(found, "dot") => Some(ScenarioCommand::Graph),
         "tree" => Some(ScenarioCommand::Tree),
-        "turns" => Some(ScenarioCommand::Turns),
+        "turns" => Some(ScenarioCommand::Turns(number_given(found, "seed")?)),
         "races" => Some(ScenarioCommand::Races),
         "size" => Some(ScenarioCommand::Size),
         _ => None,
@@ -127,6 +144,7 @@ fn turns_command(name: &str, found: &ArgMatches<'_>) -> Option<TurnsCommand>
         "trace" if is_given(found, "all") => Some(TurnsCommand::TraceAll),
         "trace" => Some(TurnsCommand::Trace),
         "state" => Some(TurnsCommand::State(number_given(found, "at")?)),
+        "peaks" => Some(TurnsCommand::Peaks),
         _ => None,
     }
 }
@@ -147,6 +165,10 @@ fn command_of(alloc: Global, wanted: Wanted<'_>) -> Result<Command, CommandError
         },
         Wanted::OfTurns(command, scenario, turns) => match both_owned(alloc, scenario, turns) {
             Ok((scenario, turns)) => Ok(Command::OfTurns(command, scenario, turns)),
+            Err(refused) => Err(CommandError::Memory(refused)),
+        },
+        Wanted::Fit(fitting, scenario) => match String::from_str(alloc, scenario) {
+            Ok(scenario) => Ok(Command::Fit(fitting, scenario)),
             Err(refused) => Err(CommandError::Memory(refused)),
         },
         Wanted::Faults(scenario, None) => match String::from_str(alloc, scenario) {

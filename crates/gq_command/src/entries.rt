@@ -103,9 +103,13 @@ const TREE: Entry<'static> = Entry {
 const TURNS: Entry<'static> = Entry {
     name: "turns",
     takes: Takes::Scenario,
-    flag: None,
+    flag: Some(Flag {
+        name: "seed",
+        kind: FlagKind::Number,
+        help: "Choose the components by chance: the same N gives the same turns",
+    }),
     about: "Print turns that bring all work of the scenario in the file SCENARIO to rest",
-    usage: "trade turns <SCENARIO>",
+    usage: "trade turns [--seed <N>] <SCENARIO>",
 };
 
 const RACES: Entry<'static> = Entry {
@@ -140,12 +144,32 @@ const STATE: Entry<'static> = Entry {
     usage: "trade state [--at <N>] <SCENARIO> <TURNS>",
 };
 
+const PEAKS: Entry<'static> = Entry {
+    name: "peaks",
+    takes: Takes::Turns,
+    flag: None,
+    about: "Print the greatest use of each account over a run, and after which turn it is first so",
+    usage: "trade peaks <SCENARIO> <TURNS>",
+};
+
 const SIZE: Entry<'static> = Entry {
     name: "size",
     takes: Takes::Scenario,
     flag: None,
     about: "Print the least quantities under which the scenario in the file SCENARIO is accepted",
     usage: "trade size <SCENARIO>",
+};
+
+const FIT: Entry<'static> = Entry {
+    name: "fit",
+    takes: Takes::Scenario,
+    flag: Some(Flag {
+        name: "donations",
+        kind: FlagKind::Switch,
+        help: "Fit what programs give for sessions, too",
+    }),
+    about: "Print the file SCENARIO with its least quantities in place of its own",
+    usage: "trade fit [--donations] <SCENARIO>",
 };
 
 const WHY: Entry<'static> = Entry {
@@ -173,8 +197,8 @@ const RULE: Entry<'static> = Entry {
 };
 
 // All commands.
-const ENTRIES: [Entry<'static>; 13] = [
-    CHECK, RUN, ASM, LIST, TREE, SIZE, WHY, TURNS, RACES, TRACE, STATE, FAULTS, RULE,
+const ENTRIES: [Entry<'static>; 15] = [
+    CHECK, RUN, ASM, LIST, TREE, SIZE, FIT, WHY, TURNS, RACES, TRACE, STATE, PEAKS, FAULTS, RULE,
 ];
 
 const ABOUT: &str = "Runs components that trade memory and capabilities under quotas";

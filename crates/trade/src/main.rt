@@ -160,6 +160,7 @@ fn paths(command: &Command) -> (&str, &str) {
         }
         Command::OfScenario(_, scenario)
         | Command::OfLeaf(_, scenario, _)
+        | Command::Fit(_, scenario)
         | Command::Faults(scenario, None) => (scenario.as_str(), ""),
         Command::Rule(_) | Command::Version | Command::Stored | Command::Help(_) => {
             ("standard input", "")
@@ -212,6 +213,7 @@ fn execute_to(
         }
         Command::OfScenario(_, scenario)
         | Command::OfLeaf(_, scenario, _)
+        | Command::Fit(_, scenario)
         | Command::Faults(scenario, None) => {
             let Some(mut scenario) = open(rt, scenario.as_str(), &notes.scenario) else {
                 return tell(err, Status::FileFault);
