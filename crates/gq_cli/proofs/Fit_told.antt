@@ -17,33 +17,37 @@ use Rattle.gq_model.specs.machine.Scenario.{Scenario}
 use Rattle.gq_sizes.specs.Judged.{judged_without}
 use Rattle.gq_world.specs.Whole.{refused_with}
 use Rattle.gq_cli.specs.Ends.{Ended, IsKnown, IsSilent, LeavesWriter}
-use Rattle.gq_cli.specs.Executed.{IsUnfit, Of_fit, fits}
+use Rattle.gq_cli.specs.Executed.{IsUnfit, Of_fit, fits, reasons}
 use Rattle.gq_cli.specs.declared.execute.Fault.{Fault}
 use Rattle.gq_cli.specs.declared.execute.Fault.TheVariants.{Refused, Memory, Read, Write}
-use Rattle.gq_cli.specs.internal.Fitting.{IsToldFit, reasons}
+use Rattle.gq_cli.specs.internal.Fitting.{IsToldFit}
 
 -- THE LINE
 
--- a rule is broken which no quantity decides
-rule_line : (judged : Result Scenario LoadRule) (f : LoadFault) (line : List ℕ) → Refuses (error.Fault f) judged
-    → line ≡ refused_with (load_fault_text f) → IsUnfit judged line
-rule_line (Ok s) f line h e = absurd h
-rule_line (Err fault) f line h e = e ∙ ap refused_with h
+module _ (fitting : Fitting) (scenario line : List ℕ) where
+  -- a rule is broken which no quantity decides
+  rule_line : (judged : Result Scenario LoadRule) (f : LoadFault) → Refuses (error.Fault f) judged → line ≡ refused_with (load_fault_text f)
+      → IsUnfit fitting scenario judged line
+  rule_line (Ok s) f h e = absurd h
+  rule_line (Err fault) f h e = e ∙ ap refused_with h
 
--- there is no fit
-no_fit_line : (judged : Result Scenario LoadRule) (P : Scenario → Type 0) (why line : List ℕ) → IsOkAnd judged P
-    → line ≡ refused_with (codes "no fit\n" ++ why) → IsUnfit judged line
-no_fit_line (Ok s) P why line h e = (why, e)
-no_fit_line (Err fault) P why line h e = absurd h
+  -- there is no fit
+  no_fit_line : (judged : Result Scenario LoadRule) (P : Scenario → Type 0) (f : FitFault) (why : List ℕ) → IsOkAnd judged P → reasons fitting f scenario
+      → line ≡ refused_with (fit_fault_text f) → line ≡ refused_with (codes "no fit\n" ++ why) → IsUnfit fitting scenario judged line
+  no_fit_line (Ok s) P f why h reason e begins = record { fault = f; reason = reason; text = e; why = why; begins = begins }
+  no_fit_line (Err fault) P f why h reason e begins = absurd h
 
 unfit_line : (fitting : Fitting) (f : FitFault) (scenario line : List ℕ) → reasons fitting f scenario → f ≢ faults.Memory → f ≢ faults.Write
-    → line ≡ refused_with (fit_fault_text f) → IsUnfit (judged_without scenario) line
-unfit_line Quantities (faults.Load f) scenario line h m u e = rule_line (judged_without scenario) f line h e
-unfit_line Quantities (faults.Short lines) scenario line h m u e = no_fit_line (judged_without scenario) _ (short_text lines.items) line h e
-unfit_line Quantities (faults.NoFit reason) scenario line h m u e = no_fit_line (judged_without scenario) _ (no_fit_text reason) line h e
-unfit_line Donations (faults.Load f) scenario line h m u e = rule_line (judged_without scenario) f line h e
+    → line ≡ refused_with (fit_fault_text f) → IsUnfit fitting scenario (judged_without scenario) line
+unfit_line Quantities (faults.Load f) scenario line h m u e = rule_line Quantities scenario line (judged_without scenario) f h e
+unfit_line Quantities (faults.Short lines) scenario line h m u e =
+    no_fit_line Quantities scenario line (judged_without scenario) _ (faults.Short lines) (short_text lines.items) h h e e
+unfit_line Quantities (faults.NoFit reason) scenario line h m u e =
+    no_fit_line Quantities scenario line (judged_without scenario) _ (faults.NoFit reason) (no_fit_text reason) h h e e
+unfit_line Donations (faults.Load f) scenario line h m u e = rule_line Donations scenario line (judged_without scenario) f h e
 unfit_line Donations (faults.Short lines) scenario line h m u e = absurd h
-unfit_line Donations (faults.NoFit reason) scenario line h m u e = no_fit_line (judged_without scenario) _ (no_fit_text reason) line h e
+unfit_line Donations (faults.NoFit reason) scenario line h m u e =
+    no_fit_line Donations scenario line (judged_without scenario) _ (faults.NoFit reason) (no_fit_text reason) h h e e
 unfit_line fitting faults.Memory scenario line h m u e = absurd (m refl)
 unfit_line fitting faults.Write scenario line h m u e = absurd (u refl)
 

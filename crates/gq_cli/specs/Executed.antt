@@ -19,7 +19,9 @@ use Rattle.gq_races.specs.Races.{IsOrderFree, IsRaceFree}
 use Rattle.gq_races.specs.Written.{WroteNothing, races_written}
 use Rattle.gq_sizes.specs.Judged.{judged_without}
 use Rattle.gq_sizes.specs.Written.{size_written}
-use Rattle.gq_fit.specs.Fitted.{IsFitted, IsFittedWhole, WritesPart, WritesSome}
+use Rattle.gq_fit.specs.Fitted.{IsFitted, IsFittedWhole, IsReason, IsReasonWhole, WritesPart, WritesSome}
+use Rattle.gq_fit.specs.Words.{fit_fault_text}
+use Rattle.gq_fit.specs.declared.fault.FitFault.{FitFault}
 use Rattle.gq_why.specs.Written.{why_written}
 use Rattle.gq_faults.specs.Faults.{fault_lines}
 use Rattle.gq_faults.specs.Told.{WritesFaults, WritesPrefix}
@@ -137,10 +139,23 @@ fits Donations = IsFittedWhole
 abbrev pub no_fit : List ℕ
 no_fit = codes "trade: no fit\n"
 
--- a scenario that breaks a rule which no quantity decides is refused by its line; any other one by the line that it has no fit, and why
-abbrev pub IsUnfit : Result Scenario Fault → List ℕ → Type 0
-IsUnfit (Ok s) line = (why : List ℕ) × (line ≡ no_fit ++ why ++ 10 ∷ [])
-IsUnfit (Err fault) line = line ≡ refused_with (fault_text fault)
+-- why no text that fits was written
+abbrev pub reasons : Fitting → FitFault → List ℕ → Type 0
+reasons Quantities = IsReason
+reasons Donations = IsReasonWhole
+
+-- a scenario has no fit: the line is that of a fault which is a reason, and says so first
+pub record HasNoFit (fitting : Fitting) (scenario line : List ℕ) : Type 0 where
+  pub fault : FitFault
+  pub reason : reasons fitting fault scenario
+  pub text : line ≡ refused_with (fit_fault_text fault)
+  pub why : List ℕ
+  pub begins : line ≡ no_fit ++ why ++ 10 ∷ []
+
+-- a scenario that breaks a rule which no quantity decides is refused by its line; any other one has no fit
+abbrev pub IsUnfit : Fitting → List ℕ → Result Scenario Fault → List ℕ → Type 0
+IsUnfit fitting scenario (Ok s) line = HasNoFit fitting scenario line
+IsUnfit fitting scenario (Err fault) line = line ≡ refused_with (fault_text fault)
 
 -- what a command is to write: of a scenario, of a leaf, of a scenario and turns, a text that fits a scenario, all that is wrong with the files at these paths,
 -- or what no input decides
@@ -175,7 +190,7 @@ abbrev pub IsRefusedBy : Asked → List ℕ → Type 0
 IsRefusedBy (Of_scenario command scenario) line = scenario_written command scenario ≡ Err line
 IsRefusedBy (Of_leaf command scenario leaf) line = leaf_written command scenario leaf ≡ Err line
 IsRefusedBy (Of_both command scenario turns) line = both_written command scenario turns ≡ Err line
-IsRefusedBy (Of_fit fitting scenario) line = IsUnfit (judged_without scenario) line
+IsRefusedBy (Of_fit fitting scenario) line = IsUnfit fitting scenario (judged_without scenario) line
 IsRefusedBy (Of_faults path scenario turns) line = faults_written scenario (option_map (λ t. t.1) turns) ≡ Err line
 IsRefusedBy (Of_nothing written) line = written ≡ Err line
 

@@ -3,8 +3,8 @@ ghost use Rattle.gq_command.specs.Input.{GivesAtMost};
 ghost use Rattle.gq_fit.specs.Fitted.{WritesFit};
 ghost use Rattle.gq_init.specs.Counts.{written_to};
 ghost use Rattle.gq_cli.specs.Ends.{Ended, IsKnown, LeavesWriter};
-ghost use Rattle.gq_cli.specs.Executed.{Of_fit, ReadsScenario, fits};
-ghost use Rattle.gq_cli.specs.internal.Fitting.{IsToldFit, reasons};
+ghost use Rattle.gq_cli.specs.Executed.{Of_fit, ReadsScenario, fits, reasons};
+ghost use Rattle.gq_cli.specs.internal.Fitting.{IsToldFit};
 
 use crate::execute::Fault;
 use gq_command::command::Fitting;

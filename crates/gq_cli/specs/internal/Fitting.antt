@@ -1,19 +1,11 @@
 -- Why a text that fits a scenario was not written to its end.
-use Rattle.std.specs.Prelude.{◌≡◌, ◌≢◌, ℕ, List, string_bytes}
+use Rattle.std.specs.Prelude.{◌≡◌, ◌≢◌, string_bytes}
 use Rattle.gq_world.specs.Whole.{refused_with}
-use Rattle.gq_command.specs.declared.command.Fitting.{Fitting}
-use Rattle.gq_command.specs.declared.command.Fitting.TheVariants.{Quantities, Donations}
-use Rattle.gq_fit.specs.Fitted.{IsReason, IsReasonWhole}
 use Rattle.gq_fit.specs.Words.{fit_fault_text}
 use Rattle.gq_fit.specs.declared.fault.FitFault.{FitFault}
 use Rattle.gq_fit.specs.declared.fault.FitFault.TheVariants as faults
 use Rattle.gq_cli.specs.declared.execute.Fault.{Fault}
 use Rattle.gq_cli.specs.declared.execute.Fault.TheVariants.{Refused, Memory, Read, Write}
-
--- by what is fitted
-abbrev pub reasons : Fitting → FitFault → List ℕ → Type 0
-reasons Quantities = IsReason
-reasons Donations = IsReasonWhole
 
 -- why the command was not done: the line of a refusal, or host memory for that line was refused
 abbrev pub IsToldFit : FitFault → Fault → Type 0

@@ -1,8 +1,7 @@
 -- What is fitted decides what fits, and why there is no fit.
 use Rattle.std.proofs.Common.{sym, subst}
 use Rattle.gq_fit.specs.Fitted.{WritesFit}
-use Rattle.gq_cli.specs.Executed.{fits}
-use Rattle.gq_cli.specs.internal.Fitting.{reasons}
+use Rattle.gq_cli.specs.Executed.{fits, reasons}
 use Rattle.gq_cli.proofs.fit.write_fit.Goals as goal
 
 pub returns-in-Quantities : goal.returns-in-Quantities
