@@ -6,6 +6,8 @@
 //! let program = assemble(rt.alloc(), b"main\nsay \"hello\"\nend\n")?;
 //! assert_eq!(rt; program.sections().len(), 1);
 //! ```
+//!
+//! Modules: words of a line (`words`, `lines`), usual lines in one go (`usual`), and the text of a program (`text`).
 #![tactic(auto)]
 
 mod faults;

@@ -7,6 +7,8 @@
 //! // What was counted of each leaf's program, in the order of the leaves, and the routes that were told as the scenario was resolved.
 //! let steps = steps_of(alloc, &scenario, &components, &routes, &counted)?;
 //! ```
+//!
+//! Modules: steps along chains of use (`budgets`), and by the routes of a scenario (`steps`).
 #![tactic(auto)]
 
 mod asks;

@@ -12,6 +12,8 @@
 //! let input = read_input(rt.alloc(), &mut rt.stdin())?;
 //! let (scenario, turns) = parted(input.as_slice());
 //! ```
+//!
+//! Modules: words (`entries` with a line for each command, `command_line`, and `misuse` for wrong ones), and inputs (`input`, `stored`).
 #![tactic(auto)]
 
 pub mod command;

@@ -18,6 +18,8 @@
 //! let line = text_line(b"init -> hello", b"hello");
 //! put(&mut out, line.as_slice())?;
 //! ```
+//!
+//! Modules: lines (`lines`, `account_line`), writers (`counted`), and the turns of a text (`turns`, `turn_reader`).
 #![tactic(auto)]
 
 pub mod account;

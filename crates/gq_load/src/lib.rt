@@ -18,6 +18,8 @@
 //! // From here on the proof of this function knows of the scenario of any text that is loaded.
 //! loaded_laws();
 //! ```
+//!
+//! Modules: loading (`accepted`, `checked`), and laws of what is loaded (`loaded`, `read`).
 #![tactic(auto)]
 
 pub mod accepted;

@@ -14,6 +14,8 @@
 //! ```
 //!
 //! `quotas` and `endings` are laws of the nodes: that stored balances are the accounts of the definition, and how the nodes go on where a leaf has ended.
+//!
+//! Modules: the plan of the accounts (`plans`), and what is fixed at load (`openings`, `sections`, `services`).
 #![tactic(auto)]
 
 pub mod endings;

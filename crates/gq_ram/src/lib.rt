@@ -25,6 +25,8 @@
 //! tree.hand_out(&mut accounts, &handed);
 //! tree.donate(&mut accounts, client, server, Amount { ram: 8192, caps: 1 })?;
 //! ```
+//!
+//! Modules: accounts (`accounts`), and the tree of nodes along which quota goes (`tree`, `opening`, `handing`).
 #![tactic(auto)]
 
 mod account;

@@ -5,6 +5,8 @@
 //!
 //! let scenario = read_scenario(alloc, text)?;
 //! ```
+//!
+//! Modules: the keys of each table (`keys`), faults of tables (`rules`, `walk`), and what is read (`reader`).
 #![tactic(auto)]
 
 pub mod document;

@@ -13,6 +13,8 @@
 //! let table = NodeTable::new(scenario, programs, entries);
 //! let hello = table.leaf_named(b"hello");
 //! ```
+//!
+//! Modules: routes (`routing`, `routes`), what is wrong with a scenario (`resolved`), and the table of nodes (`table`).
 #![tactic(auto)]
 
 pub mod after;

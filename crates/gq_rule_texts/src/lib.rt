@@ -7,6 +7,8 @@
 //! let rule = rule_of(&families(), "v12").ok_or("known")?;
 //! assert_eq!(rt; rule.name, "ShortDonation");
 //! ```
+//!
+//! Modules: the texts by family (`scenario`, `program`, `verifier`, `limits`), and their table (`table`).
 #![tactic(auto)]
 
 mod limits;

@@ -19,6 +19,9 @@
 //! - `specs/Endless`: where no number of capabilities is enough,
 //! - `specs/Least`: the scenario with the least quantities in place of its own,
 //! - `specs/Size_text`: the text, by that scenario.
+//!
+//! Modules: least quantities (`needs`, `gifts`, `leaves`) and their lines (`size`, by `interfaces`, `shorts` and `nodes`); what is least in numbers
+//! (`leasts`, `donations`, `found`); whether a scenario has the least quantities of another (`sized`, `same`), and gives what its interfaces ask (`gives`).
 #![tactic(auto)]
 
 pub mod donations;

@@ -35,6 +35,8 @@
 //!
 //! `laws`, `linked` and `requests` say who is paid for: in the machine's world of lawful slots every leaf is, and with what is refused there for want of quota
 //! it would not be. Each is the contract of a call that does nothing.
+//!
+//! Modules: statements on memory (`actor`), requests of a client (`asking`), the server's part (`serving_requests`, `replies`), ends of leaves (`endings`).
 #![tactic(auto)]
 
 pub mod actor;

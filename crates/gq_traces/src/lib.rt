@@ -25,6 +25,8 @@
 //! `numbered` has the statements of a program with their numbers, `tracker` where each leaf stands among them, `alone` steps of a leaf in one go; `noted` has
 //! what is noted of a world, and `sessions` what of a session; `steps` tells a step, by `telling`. `state` tells accounts, by `items`, after turns that
 //! `follow` takes. `peaks` takes turns itself, since it shows no place in a program.
+//!
+//! Modules: lists of turns (`turns`, in rounds by `schedule`, by chance by `chance`), traces (`trace`, `steps`), states (`state`, `items`), and `peaks`.
 #![tactic(auto)]
 
 mod alone;

@@ -8,6 +8,8 @@
 //! assert_eq!(rt; verified.own(), 8192);
 //! assert_eq!(rt; verified.cost(Section::Main), Some(2));
 //! ```
+//!
+//! Modules: steps and requests (`steps`, `asked`), and the verdict (`verified`).
 #![tactic(auto)]
 
 mod asked;

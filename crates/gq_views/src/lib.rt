@@ -14,6 +14,8 @@
 //! ```
 //!
 //! Each of these writes the text of its definition (`specs/Written`) and nothing else, and refuses what `check` and `asm` refuse.
+//!
+//! Modules: programs (`list`, `listing`, `numbered`, `instructions`), scenarios (`tree`, `graph`), and what both need (`drawn`).
 #![tactic(auto)]
 
 mod drawn;

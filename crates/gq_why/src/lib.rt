@@ -10,6 +10,9 @@
 //! ```
 //!
 //! It looks at the scenario without its quantities, whose points it sees by the verifier's walk (`points`).
+//!
+//! Modules: the first points at which numbers are greatest (`points`), with what slots hold (`places`); what a leaf uses (`own`), what its sessions need
+//! (`need`), its steps (`steps`), all of it as a text (`why`), and that it adds up (`laws`).
 #![tactic(auto)]
 
 pub mod laws;
