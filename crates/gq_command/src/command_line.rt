@@ -23,7 +23,7 @@ use std::alloc::{AllocError, Global};
 /// - `rule`, perhaps with a code, is `Rule`.
 /// - `--version` and `-V` are `Version`; `help`, `--help` and `-h` are `Help` with the text to show.
 ///
-/// Fails with `Usage` for other words, with the lines that say what is wrong with them, and with `Memory` where the host refuses memory, which it can for any
+/// Fails with `Usage` for other words, with the lines that say what is wrong with them. Fails with `Memory` if the host refuses memory, which it can for any
 /// words but none.
 pub fn command<'a>(alloc: Global, words: &'a [&'a str]) -> Result<Command, CommandError>
     ensures asked { IfOk result (IsAsked (map (λ word. word.now) words.now)) }

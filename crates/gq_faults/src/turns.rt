@@ -233,9 +233,14 @@ fn tell_turns<W: Write>(
     tell_lines(alloc, file, table, out)
 }
 
-/// Writes all that is wrong with a scenario, as `faults` does; where that is accepted, all that is wrong with a text of turns: that it is too long, or each
-/// line of another form, each name that is no leaf's, and the first line at which there are too many turns. The first of these is the one that `run` tells
-/// (`laws`). Answers why `run` refuses both, if it does. Ends early where host memory is refused or a write fails; then a prefix of the text was written.
+/// Writes all that is wrong with a scenario, as `faults` does. If it is accepted, writes all that is wrong with a text of turns:
+///
+/// - The text is too long.
+/// - A line has another form, or a name that is no leaf's.
+/// - There are too many turns; this is reported at the first line at which there are.
+///
+/// The first of these is the one that `run` prints (`laws`). Returns why `run` refuses both, if it does. Ends early if host memory is refused or a write
+/// fails; then a prefix of the text was written.
 pub fn faults_of_both<W: Write>(
     alloc: Global,
     scenario: File<'_>,

@@ -284,8 +284,9 @@ fn tell_nodes<W: Write>(
     Ok(())
 }
 
-/// Tells all faults of a document's tables, in the order in which they are looked for: of the top table, of the interfaces in the order of their names, of
-/// the root's routes, and of the nodes in preorder, each with its routes; of a table all unknown keys, all that are missing, all bad values.
+/// Writes all faults of a document's tables, in the order in which they are looked for. The top table comes first, then the interfaces in the order of their
+/// names, the root's routes, and the nodes in preorder, each with its routes. Of a table all unknown keys come first, then all that are missing, then all bad
+/// values.
 pub(crate) fn tell_walk<W: Write>(
     teller: &Teller<'_>,
     out: &mut Counted<W>,

@@ -30,7 +30,7 @@ fn put_made<W: Write>(out: &mut Counted<W>, text: &[u8]) -> Result<(), FitFault>
 /// What is written is accepted, and `size` prints each of its numbers as its least.
 ///
 /// - A scenario that breaks a rule which quantities do not decide is refused, as by `size`.
-/// - It has no fit where an `open` gives less than a session needs, a least quantity is none that its key takes, or it stands in no key of the text.
+/// - It has no fit if an `open` gives less than a session needs, or a least quantity is none that its key takes or stands in no key of the text.
 ///
 /// Nothing is written after a refusal or an allocation failure. After a failed write a prefix of the text is written.
 pub fn fit<W: Write>(alloc: Global, scenario: &[u8], out: &mut Counted<W>) -> Result<(), FitFault>
@@ -48,8 +48,8 @@ pub fn fit<W: Write>(alloc: Global, scenario: &[u8], out: &mut Counted<W>) -> Re
 /// What is written is accepted, `size` prints each of its numbers as its least, and no statement gives more or less than its interface asks.
 ///
 /// - A scenario that breaks a rule which quantities do not decide is refused, as by `size`.
-/// - It has no fit where sessions hold one another without end, a program is given as code, a least quantity is none that its key takes, or it stands in no
-///   key of the text.
+/// - It has no fit if sessions hold one another without end, or a program is given as code.
+/// - It has no fit if a least quantity is none that its key takes, or stands in no key of the text.
 ///
 /// Nothing is written after a refusal or an allocation failure. After a failed write a prefix of the text is written.
 pub fn fit_donations<W: Write>(

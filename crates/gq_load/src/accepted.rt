@@ -165,9 +165,13 @@ fn accept(alloc: Global, scenario: Scenario) -> Result<Accepted, LoadError>
 impl Accepted {
     /// The scenario of a text in TOML, of either version, where the verifier accepts it.
     ///
-    /// Refused where host memory is, and with the first fault: the text is no scenario; the text or the code of a leaf's program, in
-    /// preorder, is none; a leaf's program breaks a rule; the scenario is not resolved; a leaf uses more bytes of its own account than
-    /// its quantum has, may take more than 10^12 steps, or uses more capabilities than it is given.
+    /// Refuses if host memory runs out, and by the first fault, in this order.
+    ///
+    /// - The text is no scenario.
+    /// - The text or the code of a leaf's program is no program, leaves in preorder.
+    /// - A leaf's program breaks a rule.
+    /// - The scenario is not resolved.
+    /// - A leaf uses more bytes of its own account than its quantum has, may take more than 10^12 steps, or uses more capabilities than it is given.
     pub fn read(alloc: Global, text: &[u8]) -> Result<Accepted, LoadError>
         ensures loaded { IfOk result (λ a. loaded text.now ≡ Ok a) }
         ensures refused { IfErr result (λ e. Refuses e (loaded text.now)) }

@@ -194,10 +194,10 @@ fn loaded_text(alloc: Global, scenario: &[u8]) -> Result<Vec<u8>, LoadError>
 ///
 /// For each shared leaf that has any, leaves in preorder:
 ///
-/// - a line `shared` with the leaf and its service;
-/// - below it a line `opened by` for each `open` of a session with it, leaves in preorder, statements in the order of the sections and the text;
-/// - a line `race` for each statement outside `main` that changes an own slot, what is in it or what is behind it, and a line `order` for each that writes a
-///   line, in the order of the sections and the text.
+/// - A line `shared` with the leaf and its service.
+/// - Below it a line `opened by` for each `open` of a session with it. Leaves go in preorder, statements in the order of the sections and the text.
+/// - A line `race` for each statement outside `main` that changes an own slot, what is in it or what is behind it.
+/// - A line `order` for each statement outside `main` that writes a line. Both go in the order of the sections and the text.
 ///
 /// If nothing was written, there is no race (`free`) and no order (`quiet`). If the scenario is refused, as `check` refuses it, or host memory is, nothing is
 /// written. After a failed write a prefix of the text was written.

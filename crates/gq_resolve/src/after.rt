@@ -129,9 +129,12 @@ pub fn is_bad_after(
     }
 }
 
-/// Whether each leaf may start after the one that it names: that one is a leaf of the same init, none of the two provides
-/// a service, no earlier leaf names it, it has at least as many bytes and capabilities, and the leaf does not come after
-/// itself. The components are those of a scenario, in preorder.
+/// Whether each leaf may start after the one that it names. The components are those of a scenario, in preorder.
+///
+/// - That one is a leaf of the same init, and no earlier leaf names it.
+/// - None of the two provides a service.
+/// - That one has at least as many bytes and capabilities.
+/// - The leaf does not come after itself.
 ///
 /// Refuses the first leaf of which that does not hold, `BadAfter`.
 pub fn check_after(components: &[Component<'_>]) -> Result<(), ResolveFault>

@@ -43,11 +43,12 @@ fn check_cycle(
 /// Which leaf serves each service that a leaf of a scenario opens; each such service has one. The programs are those of its
 /// leaves, in preorder.
 ///
-/// Refused where memory runs out, and by the first fault of the scenario, in this order: an init that hands out more bytes
-/// than it has, `QuantaExceed`, or more capabilities, `CapsExceed`; a leaf that may not start after the one that it names,
-/// `BadAfter`; the first leaf in preorder with a service that leads nowhere, its first in the order of its text, `NoRoute`,
-/// `Ambiguous` or `ProvidesDiffers`; and the first leaf that reaches itself by the servers of the services that are
-/// opened, `Cycle`.
+/// Refuses if host memory runs out, and by the first fault of the scenario, in this order.
+///
+/// - An init hands out more bytes than it has (`QuantaExceed`), or more capabilities (`CapsExceed`).
+/// - A leaf may not start after the one that it names (`BadAfter`).
+/// - A service leads nowhere (`NoRoute`, `Ambiguous` or `ProvidesDiffers`): of the first leaf in preorder, its first one in the order of its text.
+/// - A leaf reaches itself by the servers of the services that are opened (`Cycle`): the first one.
 pub fn resolve(
     alloc: Global,
     scenario: &Scenario,

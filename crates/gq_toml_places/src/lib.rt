@@ -1,6 +1,9 @@
-//! Where things stand in a TOML text: for a path of keys and indices of arrays the offset of a table's header, a key or a value, for an
-//! offset its line and column, for a line of a string's contents the place of that line in the text, and for a text that is no TOML the
-//! place at which it stops being one.
+//! Where things stand in a TOML text.
+//!
+//! - For a path of keys and indices of arrays: the offset of a table's header, a key or a value.
+//! - For an offset: its line and column.
+//! - For a line of a string's contents: the place of that line in the text.
+//! - For a text that is no TOML: the place at which it stops being one.
 //!
 //! ```rust
 //! use gq_toml_places::{Places, Step};

@@ -310,8 +310,8 @@ fn peaks_of_world<W: Write>(
 /// Writes the greatest use of each leaf's account over a run, a line for each leaf in preorder.
 ///
 /// - The greatest number of bytes that the leaf holds after any of the turns, or at the start.
-/// - Its quota then, and the first turn after which it is so: 0 if it is so from the start.
-/// - The same for capabilities, where they are counted.
+/// - Its quota then, and the first turn after which it is so (0 if it is so from the start).
+/// - The same for capabilities, if they are counted.
 ///
 /// If the scenario or the turns are refused, or the host refuses memory, nothing is written; turns need none. After a failed write a prefix of the text was
 /// written.

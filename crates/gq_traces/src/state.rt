@@ -431,8 +431,8 @@ fn state_after<W: Write>(
 /// a list with fewer is taken whole.
 ///
 /// - Of an init: what it was given, and what it hands to its live children.
-/// - Of a leaf that lives: what it was given, what each of its slots holds or lends, the places of its heap, the sessions to it with what they hold, and the
-///   place of its next step, if it can take one.
+/// - Of a leaf that lives: what it was given, what each of its slots holds or lends, and the cells of its heap. Then the sessions to it with what they hold,
+///   and the place of its next step, if it can take one.
 /// - Of a pending leaf: after which leaf it starts.
 ///
 /// If the scenario or the turns are refused, or the host refuses memory, nothing is written; turns need none. All turns of the text are read, those that are

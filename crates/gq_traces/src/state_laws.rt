@@ -10,9 +10,11 @@ use gq_load::loaded::loaded_laws;
 
 /// What holds of whatever `state` writes, for any text of a scenario and any text of turns. It does nothing.
 ///
-/// The text is that of an accepted scenario, in the world that a run over these turns comes to, or over the first so many of them. Of each resource that is
-/// counted, of each leaf that lives, what the text says that it holds adds up to what its account has used, and what it is given and what it receives to its
-/// quota and what it lends; of each init, its quota and what it hands to its children add up to what it is given.
+/// The text is that of an accepted scenario, in the world that a run over these turns comes to, or over the first so many of them. For each resource that is
+/// counted, the lines add up.
+///
+/// - Of a leaf that lives, what it holds adds up to what its account has used. What it is given and receives adds up to its quota and what it lends.
+/// - Of an init, its quota and what it hands to its children add up to what it is given.
 pub fn state_laws()
     ensures { (first : Option ℕ) (scenario turns text : List ℕ) → state_written first scenario turns ≡ Ok text → ShowsSums first scenario turns text }
 {

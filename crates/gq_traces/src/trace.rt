@@ -441,11 +441,13 @@ fn trace_world<W: Write>(
     write_trace(world, &mut tracing, telling, turns.as_slice(), out)
 }
 
-/// Writes what each turn of a run did. A step is told by a line with the number of its turn, its leaf and its place in the text of the program, and below it by
-/// the line that it writes, the account of each node that it changes in anything but its steps, and each session that it changes; steps of which there is
-/// nothing of this are told where all are asked for. Then come how many turns there were, and the accounts of all nodes.
+/// Writes what each turn of a run did, then how many turns there were, and the accounts of all nodes.
 ///
-/// Nothing is written where the scenario or the turns are refused, or where host memory is, which no turn takes. After a failed write a front of the text was
+/// - A step has a line with the number of its turn, its leaf and its place in the text of the program.
+/// - Below it stand the line that it writes, the account of each node that it changes in anything but its steps, and each session that it changes.
+/// - A step of which there is nothing of this is printed if all are asked for.
+///
+/// If the scenario or the turns are refused, or the host refuses memory, nothing is written; turns need none. After a failed write a prefix of the text was
 /// written.
 pub fn trace<W: Write>(
     alloc: Global,

@@ -465,9 +465,12 @@ fn loaded_text(alloc: Global, scenario: &[u8]) -> Result<Vec<u8>, LoadError>
     }
 }
 
-/// Writes an accepted scenario as a graph in the language of Graphviz: what `tree` tells, with a box in a box for each init, a node for each leaf, an arrow
-/// from each leaf to the server of each service that it opens, and a dashed one to each leaf that starts after another. Nothing is written where the scenario
-/// is refused, as `check` refuses it, or where host memory is. After a failed write a front of the text was written.
+/// Writes an accepted scenario as a graph in the language of Graphviz: what `tree` prints, as a picture.
+///
+/// - Each init is a box with its children in it, and each leaf a node.
+/// - An arrow leads from each leaf to the server of each service that it opens, and a dashed one to each leaf that starts after another.
+///
+/// If the scenario is refused, as `check` refuses it, or the host refuses memory, nothing is written. After a failed write a prefix of the text was written.
 pub fn graph<W: Write>(
     alloc: Global,
     scenario: &[u8],

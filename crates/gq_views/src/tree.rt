@@ -264,10 +264,13 @@ fn loaded_text(alloc: Global, scenario: &[u8]) -> Result<Vec<u8>, LoadError>
     }
 }
 
-/// Writes an accepted scenario as a tree: a line for each node in preorder, two blanks deeper below each init, with its quantum in bytes, in version 2 its
-/// capabilities, what an init has left of them, and what each leaf uses at most; and below a leaf a line for each service that it opens, with the leaf that
-/// serves it. Nothing is written where the scenario is refused, as `check` refuses it, or where host memory is. After a failed write a front of the text was
-/// written.
+/// Writes an accepted scenario as a tree.
+///
+/// - Each node has a line, in preorder, two blanks deeper below each init.
+/// - It shows the node's quantum in bytes, in version 2 its capabilities, what an init has left of them, and what a leaf uses at most.
+/// - Below a leaf there is a line for each service that it opens, with the leaf that serves it.
+///
+/// If the scenario is refused, as `check` refuses it, or the host refuses memory, nothing is written. After a failed write a prefix of the text was written.
 pub fn tree<W: Write>(
     alloc: Global,
     scenario: &[u8],

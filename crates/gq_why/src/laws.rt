@@ -1,9 +1,13 @@
 // Laws of what is told of a leaf's numbers.
 ghost use Rattle.gq_why.specs.Adds.{ItemsAddUp, OwnAddsUp, SessionsAddUp, StepsAddUp, TimesAddUp};
 
-/// What each number that `why` tells of a leaf is made of adds up to it: the lines of slots to what they hold and have lent, in a leaf and in a session; these
-/// and the places of the heap to what the leaf uses of its own; the products of its sections to its steps; and of a section but `main` those of all that ask
-/// for it to how often it runs, in each scenario that passes what no quantity decides. It does nothing.
+/// The numbers that `why` prints below a number of a leaf add up to it. It does nothing.
+///
+/// - The lines of slots add up to what they hold and have lent, in a leaf and in a session.
+/// - These and the cells of the heap add up to what the leaf uses of its own.
+/// - The products of its sections add up to its steps.
+/// - Of a section but `main`, the products of all that ask for it add up to how often it runs. This holds of each scenario that passes what no quantity
+///   decides.
 pub fn why_laws()
     ensures items { ItemsAddUp }
     ensures sessions { SessionsAddUp }

@@ -102,10 +102,13 @@ fn named_text<'a>(
     Ok(leaf_text(alloc, scenario, leaf)?)
 }
 
-/// Writes what the numbers of a leaf are made of: what it uses of its own account, what a session of each level needs, and its steps, each with the point where
-/// it is greatest, what is held there, and who asks how often. Bytes, in version 2 capabilities, and steps. It tells it of every scenario that passes the rules
-/// that quantities do not decide; another is refused by the first of them, in the words of `check`. Nothing is written where it is refused, where no leaf has
-/// the name, or where host memory is refused. After a failed write a front of the text was written.
+/// Writes what the numbers of a leaf are made of, in bytes, in version 2 capabilities, and steps.
+///
+/// - What it uses of its own account, what a session of each level needs, and its steps.
+/// - Of each the point at which it is greatest, what is held there, and who asks how often.
+///
+/// It does so for every scenario that passes the rules that quantities do not decide. Another is refused by the first of them, in the words of `check`. If it
+/// is refused, if no leaf has the name, or if the host refuses memory, nothing is written. After a failed write a prefix of the text was written.
 pub fn why<'a, W: Write>(
     alloc: Global,
     scenario: &[u8],
