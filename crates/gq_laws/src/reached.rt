@@ -12,23 +12,23 @@ ghost use Rattle.gq_laws.specs.Resolved.{IsResolved};
 
 /// What each world has that a run of any scenario comes to.
 ///
-/// `whole`: a leaf for each component, with 64 slots, 8 locals and 8 peaks; sessions with 8 slots each, whose client and server are
-/// among the leaves.
+/// `whole`: there is a leaf for each component, with 64 slots, 8 locals and 8 peaks. Sessions have 8 slots each, and their clients and servers are among the
+/// leaves.
 ///
-/// `linked`: each session stands in just one slot of its client, as a link where it is accepted and has no request, and waiting
-/// where just one request of its waits or is current; its server is where the client's route leads. A leaf is blocked just where
-/// one slot of its waits, and then one alone.
+/// `linked`: each session stands in just one slot of its client. The slot is a link if the session is accepted and has no request. It waits if just one
+/// request of the session waits or is current. The server is where the client's route leads. A leaf is blocked exactly if a slot of its waits, and then just
+/// one does.
 ///
-/// `paid`: where no two leaves have the same name, each leaf is paid for: what it holds and has lent is no more than it was handed
-/// and has received, of each resource that is counted.
+/// `paid`: if no two leaves have the same name, each leaf is paid for. What it holds and has lent is no more than it was handed and has received, of each
+/// resource that is counted.
 ///
-/// `closes`: then a session ends with the reply to its close alone. Its slots are empty, and in that step the client has its whole donation
-/// back, of each resource that is counted, the server has it no more, and what the server holds falls by what the session's object cost.
+/// `closes`: then a session ends with the reply to its close alone, with empty slots. In that step the client has its whole donation back, of each resource
+/// that is counted, and the server has it no more. What the server holds falls by what the session's object cost.
 ///
 /// `ends`: the reply to a close does end the session.
 ///
-/// `sums`: where the scenario is resolved, so that its quanta fit and who starts after another fits it, the quotas of all nodes sum
-/// to what the root was given, of each resource that is counted.
+/// `sums`: if the scenario is resolved, its quanta fit and so does who starts after whom. Then the quotas of all nodes sum to what the root was given, of
+/// each resource that is counted.
 pub fn reached_laws()
     ensures whole { (s : Scenario) (w : World) → IsReached s w → IsWholeWorld (system s) w }
     ensures linked { (s : Scenario) (w : World) → IsReached s w → IsLinkedWorld (system s) w }

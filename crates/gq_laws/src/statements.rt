@@ -12,39 +12,39 @@ ghost use Rattle.gq_laws.specs.Asking.{TellsLinks, AsksAsRuled};
 ghost use Rattle.gq_laws.specs.Statements.{TakesLeaf, Grants, StartsAsRuled, GoesAsRuled, LeadsAsRuled, LeavesOthers, KeepsToItself, StandElse, KeepsPromises};
 ghost use Rattle.gq_laws.specs.Statements.{IsAwake};
 
-/// What statements do where the verifier's rules allow them. But for `asks` of one that asks nothing of a session: on operands, locals or
-/// memory, with its operands in range.
+/// What statements do if the verifier's rules allow them. But for `asks` these are statements that ask nothing of a session: on operands, locals or memory,
+/// with operands in range. "Not wrong" means not wrong but for want of quota.
 ///
 /// `starts`: a leaf at the start of `main` stands where the rules start, if its program has 8 locals.
 ///
-/// `own`: where a leaf stands at a state of the rules, a statement that the rules allow there is not wrong, but for want of quota,
-/// and leaves the leaf at the state that the rules tell, with the same statements left and the same current session.
+/// `own`: a leaf stands at a state of the rules. A statement that the rules allow there is not wrong. It leaves the leaf at the state that the rules give,
+/// with the same statements left and the same current session.
 ///
-/// `leads`: inside a section such a statement, a choice, a loop that is entered and the end of a loop's body are not wrong either, but
-/// for want of quota, and from where the leaf stands then what is left of the section leads by the rules to the same end of it.
+/// `leads`: inside a section such a statement, a choice, a loop that is entered and the end of a loop's body are not wrong either. What is left of the
+/// section leads, by the rules, from where the leaf stands then to the same end of it.
 ///
-/// `others`: whatever the rules say, such a step keeps every other leaf and the requests. Each session keeps its parts and the kind
-/// of its object, and one that is not current the kinds of its slots: of those, bytes alone may change, behind a link.
+/// `others`: whatever the rules say, such a step keeps every other leaf and the requests. Each session keeps its parts and the kind of its object. One that
+/// is not current keeps the kinds of its slots: of those, bytes alone may change, behind a link.
 ///
 /// `stand`: so another leaf stands where it stood, if no session is current at both.
 ///
 /// `kept`: in a linked world such a step keeps what is promised of links and of the buffers behind them.
 ///
-/// `asks`: where a leaf stands at a state of the rules, links are as promised and an `open` leads to a server, a statement that the rules
-/// allow and that asks something of a session is not wrong, but for want of quota. The leaf waits then, its request is the last, with an
-/// argument in the interface's bound; it stands where the rules say but for the reply, and of its slot is promised what the reply makes of it.
+/// `asks`: a leaf stands at a state of the rules, links are as promised, and an `open` leads to a server. A statement that the rules allow and that asks
+/// something of a session is not wrong. The leaf waits then. Its request is the last, with an argument in the interface's bound. It stands where the rules
+/// say but for the reply, and of its slot is promised what the reply makes of it.
 ///
-/// `begins`: a request that is taken up is not wrong, but for want of quota, and the leaf stands at the start of the section that it asks for:
-/// where the session's slots are of the kinds that the rules tell for it, the argument is in the interface's bound, and the section is there.
+/// `begins`: a request asks for a section that is there. The session's slots are of the kinds that the rules have for it, and the argument is in the
+/// interface's bound. Taking it up is not wrong, and the leaf stands at the start of that section.
 ///
-/// `ends`: where a leaf stands at a state in which its section may end by the rules, the end is not wrong, but for want of quota.
+/// `ends`: a leaf stands at a state in which its section may end by the rules. The end is not wrong.
 ///
-/// `replies`: in a linked world, where a current section may end by the rules and does, its server waits for a request with the same slots,
-/// and the session stays with its slots as they are, but a close ends it. Its client, another leaf, goes on: the slot that waited holds the
-/// link, or nothing after a close, and the reply to a call, in the interface's bound, is on top. All other leaves, slots and requests stay.
+/// `replies`: in a linked world a current section ends where it may end by the rules. Its server waits for a request then, with the same slots. The session
+/// stays with its slots as they are, but a close ends it. Its client is another leaf and goes on. The slot that waited holds the link, or nothing after a
+/// close. The reply to a call, in the interface's bound, is on top. All other leaves, slots and requests stay.
 ///
-/// `resumes`: then the client stands where it stood, with the reply to a call in the interface's bound, if of its slot was promised what the
-/// reply makes of it. Another leaf with another current session stands where it stood, and no slot of another session is of another kind.
+/// `resumes`: then the client stands where it stood, with the reply to a call in the interface's bound, if of its slot was promised what the reply makes of
+/// it. Another leaf with another current session stands where it stood, and no slot of another session is of another kind.
 ///
 /// `awake`: in a linked world no slot that a leaf can name waits, unless the leaf is blocked. `own`, `leads` and `asks` take this for granted.
 pub fn statement_laws()
