@@ -23,7 +23,7 @@ IsKnown (Err Memory) = ⊥
 IsKnown (Err Read) = ⊥
 IsKnown (Err Write) = Unit {0}
 
--- the text was written whole, or it is refused by this line, or a front of it was written
+-- the text was written whole, or it is refused by this line, or a prefix of it was written
 abbrev pub Ended : {A : Type 0} → Result A Fault → (before after : Option (List ℕ)) → Asked → Type 0
 Ended (Ok u) before after asked = WritesWhole asked before after
 Ended (Err (Refused line)) before after asked = IsRefusedBy asked (string_bytes line)

@@ -267,7 +267,7 @@ status_line BadCommandLine = refused_with (codes "bad command line")
 status_line HostMemory = refused_with (codes "host memory refused")
 status_line FileFault = refused_with (codes "file fault")
 
--- a line was written whole, without a failure; or a write failed, and a front of it was written
+-- a line was written whole, without a failure; or a write failed, and a prefix of it was written
 abbrev pub IsTold : {E : Type 0} → (E → Option (List ℕ)) → (old new : Counted E) → List ℕ → Type 0
 IsTold contents old new line =
     (Appends (written_to contents old) (written_to contents new) line × (failures_of new ≡ failures_of old))

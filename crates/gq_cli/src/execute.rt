@@ -134,7 +134,7 @@ pub fn execute<R: Read, T: Read, W: Write, E: Write>(
     // Host memory was refused, and nothing was written.
     ensures silent { writes_refusals command.now ≡ false → result ≡ Status.HostMemory → out.new ≡ out.old }
 
-    // A read failed and nothing was written, or a write failed and a front of the text was written.
+    // A read failed and nothing was written, or a write failed and a prefix of the text was written.
     ensures cut { writes_refusals command.now ≡ false → result ≡ Status.FileFault → ((reads_scenario command.now ≡ true) × (out.new ≡ out.old))
         ⊎ (Executes rules.now command.now (R.remaining scenario.old) (R.remaining scenario.new) (T.remaining turns.old) (T.remaining turns.new)
         (λ asked. WritesCut asked (written_to W.contents out.old) (written_to W.contents out.new))

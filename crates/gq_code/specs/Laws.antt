@@ -25,7 +25,7 @@ OnlyCodeIsRead = (bytes : List ℕ) (p : Program) → AreBytes bytes → decoded
 abbrev pub CodeTellsPrograms : Type 0
 CodeTellsPrograms = (p q : Program) → IsProgram p → IsProgram q → code_of p ≡ code_of q → p ≡ q
 
--- no two codes begin the same bytes: none is a proper front of another
+-- no two codes begin the same bytes: none is a proper prefix of another
 abbrev pub CodeEndsItself : Type 0
 CodeEndsItself = (p q : Program) (a b : List ℕ) → IsProgram p → IsProgram q → code_of p ++ a ≡ code_of q ++ b → (p ≡ q) × (a ≡ b)
 

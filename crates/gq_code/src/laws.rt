@@ -2,7 +2,7 @@
 ghost use Rattle.gq_code.specs.Laws.{CodeIsBytes, CodeIsReadBack, OnlyCodeIsRead, CodeTellsPrograms, CodeEndsItself, PartsAreRefused};
 
 /// What holds of every program and its code: each program has one code and each code one program, which is what is decoded of it; no
-/// code is a proper front of another's, and a part of one is refused. It does nothing.
+/// code is a proper prefix of another's, and a part of one is refused. It does nothing.
 pub fn code_laws()
     ensures bytes { CodeIsBytes }
     ensures read_back { CodeIsReadBack }

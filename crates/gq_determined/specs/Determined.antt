@@ -30,7 +30,7 @@ ComesToRest s turns = AllRest (run (system s) turns).world
 pub record WritesSame (s : Scenario) (Of : ℕ → Type 0) : Type 0 where
   -- in all runs to rest the same lines, in the same order
   pub lines : (turns others : List (ℕ × ℕ)) → ComesToRest s turns → ComesToRest s others → (x : ℕ) → Of x → lines_of s x turns ≡ lines_of s x others
-  -- of any two runs, at rest or not, what it wrote in one is a front of what it wrote in the other, or the other way round
+  -- of any two runs, at rest or not, what it wrote in one is a prefix of what it wrote in the other, or the other way round
   pub fronts : (turns others : List (ℕ × ℕ)) (x : ℕ) → Of x
       → IsFront (lines_of s x turns) (lines_of s x others) ⊎ IsFront (lines_of s x others) (lines_of s x turns)
 

@@ -16,7 +16,7 @@ written_to contents c = contents c.writer
 abbrev pub failures_of : {W : Type 0} → Counted W → ℕ
 failures_of c = c.failures
 
--- who writes a text: all of it was written, and no write failed; or a write failed, which was counted, and a front of the text was written
+-- who writes a text: all of it was written, and no write failed; or a write failed, which was counted, and a prefix of the text was written
 pub record Writes {W A E : Type 0} (contents : W → Option (List ℕ)) (old new : Counted W) (text : List ℕ) (result : Result A E) : Type 0 where
   pub written : OnOk result (Appends (written_to contents old) (written_to contents new) text)
   pub counted : OnOk result (failures_of new ≡ failures_of old)

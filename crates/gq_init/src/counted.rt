@@ -67,7 +67,7 @@ impl<W: Write> Write for Counted<W> {
 #[derive(Clone, Copy, Debug, PartialEq, Eq)]
 pub struct WriteFault;
 
-/// Writes these bytes, in as many writes as it takes, up to the first that fails. Then a front of them went out.
+/// Writes these bytes, in as many writes as it takes, up to the first that fails. Then a prefix of them went out.
 pub fn put<W: Write>(out: &mut Counted<W>, bytes: &[u8]) -> Result<(), WriteFault>
     ensures { Writes W.contents out.old out.new bytes.now result }
 {

@@ -139,7 +139,7 @@ fn a_failed_read_is_a_file_fault_with_nothing_written(rt: HostRuntime) -> Result
     Ok(())
 }
 
-/// Runs with a writer that has so much room, and says whether the front of the text that fits was written, and how the command ended.
+/// Runs with a writer that has so much room, and says whether the prefix of the text that fits was written, and how the command ended.
 fn is_cut(alloc: Global, command: &Command, room: usize, fails: bool) -> bool {
     let mut taken = Vec::new(alloc);
     let mut err = Vec::new(alloc);

@@ -81,7 +81,7 @@ fn pair(
     Ok(vec![in alloc; first, second]?)
 }
 
-/// How many interfaces there are, whether `log` and `echo` are found by their names, and whether none is by a front of a name.
+/// How many interfaces there are, whether `log` and `echo` are found by their names, and whether none is by a prefix of a name.
 fn found(interfaces: &Interfaces) -> (usize, bool, bool, bool) {
     (
         interfaces.entries().len(),

@@ -6,7 +6,7 @@ use crate::table::Rule;
 use gq_init::counted::{Counted, WriteFault, put};
 use std::io::Write;
 
-/// Writes the line of each rule of a table, which `families` gives, up to the first write that fails. Then a front of these lines went out.
+/// Writes the line of each rule of a table, which `families` gives, up to the first write that fails. Then a prefix of these lines went out.
 pub fn write_rules<W: Write>(table: &[&[Rule]], out: &mut Counted<W>) -> Result<(), WriteFault>
     ensures { Writes W.contents out.old out.new (lines_of_all table.now) result }
 {

@@ -18,7 +18,7 @@ pub record IsTested (t : Tested) (wrong : Option (List ℕ × Wrong)) (before af
   pub given : t ≡ Ok (text, wrong)
   pub written : Appends before after text
 
--- the definition gives a text, and a front of it was written
+-- the definition gives a text, and a prefix of it was written
 pub record IsTestedShort (t : Tested) (before after : Option (List ℕ)) : Type 0 where
   pub text : List ℕ
   pub wrong : Option (List ℕ × Wrong)
@@ -42,6 +42,6 @@ pub record EndsTested {W : Type 0} (contents : W → Option (List ℕ)) (t : Tes
   -- the fault is that of the definition
   pub refused : IfErr result (λ fault. IsTestFault fault t)
   pub silent : IfErr result (λ fault. IsBefore fault → new ≡ old)
-  -- a write failed: a front of the text was written
+  -- a write failed: a prefix of the text was written
   pub cut : result ≡ Err Write → IsTestedShort t (written_to contents old) (written_to contents new)
   pub raised : result ≡ Err Write → IsRaised (failures_of old) (failures_of new)

@@ -31,7 +31,7 @@ pub record IsWhole (w : Written) (before after : Option (List ℕ)) : Type 0 whe
   pub given : w ≡ Ok text
   pub written : Appends before after text
 
--- the definition gives a text, and a front of it was written
+-- the definition gives a text, and a prefix of it was written
 pub record IsCutShort (w : Written) (before after : Option (List ℕ)) : Type 0 where
   pub text : List ℕ
   pub given : w ≡ Ok text
@@ -61,7 +61,7 @@ pub record WritesAs {W A : Type 0} (contents : W → Option (List ℕ)) (w : Wri
   -- the fault is that of the definition; then nothing was written
   pub refused : IfErr result (λ fault. IsFaultOf fault w)
   pub silent : IfErr result (λ fault. IsBefore fault → new ≡ old)
-  -- a write failed, which was counted, and a front of the text was written
+  -- a write failed, which was counted, and a prefix of the text was written
   pub cut : result ≡ Err Write → IsCutShort w (written_to contents old) (written_to contents new)
   pub raised : result ≡ Err Write → IsRaised (failures_of old) (failures_of new)
 

@@ -34,7 +34,7 @@ pub record IsTurn (old new : World) (leaf : ℕ) (event : Event) (before after :
   pub told : event ≡ shown step
   pub written : Appends before after (line_told old.scenario leaf step)
 
--- the step was taken, and a front of its line was written
+-- the step was taken, and a prefix of its line was written
 pub record StopsWriting (old new : World) (leaf : ℕ) (before after : Option (List ℕ)) : Type 0 where
   pub step : doing.Event
   pub next : next (system old.scenario) old.world leaf ≡ Ok (new.world, step)

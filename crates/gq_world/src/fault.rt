@@ -19,7 +19,7 @@ pub enum RunFault<'a> {
     Turns { fault: TurnFault, line: u64 },
     /// Host memory was refused.
     Memory,
-    /// A write failed. A front of the text went out.
+    /// A write failed. A prefix of the text went out.
     Write,
 }
 

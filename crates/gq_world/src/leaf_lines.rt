@@ -11,7 +11,7 @@ use gq_init::leaf_line::text_line;
 use gq_scenario::scenario::LeafNo;
 use std::io::Write;
 
-/// Writes the line of a leaf that gives this text, with the leaf's label. Where a write fails a front of it was written.
+/// Writes the line of a leaf that gives this text, with the leaf's label. Where a write fails a prefix of it was written.
 pub fn write_line<W: Write>(
     table: &NodeTable,
     leaf: LeafNo,

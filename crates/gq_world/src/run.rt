@@ -56,7 +56,7 @@ pub(crate) fn take_all<W: Write>(
 }
 
 /// Takes all turns of a list from the start of a world, and writes the lines that they give and then the accounts of all nodes: what `run` does once it has
-/// read both texts. After a failed write a front of that was written. It takes no host memory.
+/// read both texts. After a failed write a prefix of that was written. It takes no host memory.
 pub fn run_world<W: Write>(
     world: &mut World,
     turns: &[TurnItem],

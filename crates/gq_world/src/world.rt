@@ -41,7 +41,7 @@ use std::marker::Model;
 /// Why a turn ended a world.
 #[derive(Clone, Copy, Debug, PartialEq, Eq)]
 pub enum Stop {
-    /// A write failed. The step was taken, and a front of its line went out.
+    /// A write failed. The step was taken, and a prefix of its line went out.
     Write,
     /// An earlier turn ended the world: nothing was done.
     Stopped,

@@ -217,7 +217,7 @@ SameAtEnds system =
     (i : ℕ) (turns others : List ℕ) → HasEnded i (tracked_after system turns) → HasEnded i (tracked_after system others)
     → IsAlike i (tracked_after system turns) (tracked_after system others) × (shown_by system i turns ≡ shown_by system i others)
 
--- what it shows in one run is a front of what it shows in the other, or the other way round
+-- what it shows in one run is a prefix of what it shows in the other, or the other way round
 abbrev pub SameFronts : System → Type 0
 SameFronts system =
     (i : ℕ) (turns others : List ℕ) → ((rest : List (ℕ × Event)) × (shown_by system i others ≡ shown_by system i turns ++ rest))

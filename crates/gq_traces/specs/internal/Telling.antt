@@ -53,7 +53,7 @@ use Rattle.gq_traces.specs.internal.Flat.{AllStand, AreAheads, ArePrograms, IsAh
 
 -- WRITES
 
--- Text was written after which all went well so far, or a front of it; or nothing, where a write had failed before.
+-- Text was written after which all went well so far, or a prefix of it; or nothing, where a write had failed before.
 pub record Goes {W : Type 0} (contents : W → Option (List ℕ)) (old new : Counted W) (was now : Bool) (text : List ℕ) : Type 0 where
   pub well : now ≡ true → was ≡ true
   pub written : now ≡ true → Appends (written_to contents old) (written_to contents new) text

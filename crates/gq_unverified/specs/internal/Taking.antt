@@ -22,7 +22,7 @@ pub record HasLeft (left all : Ran → Ran) (old now : World) (before after : Op
   pub written : Appends before after text
   pub same : (front : List ℕ) → left (going now (front ++ text)) ≡ all (going old front)
 
--- a front of what the turns write was written
+-- a prefix of what the turns write was written
 pub record IsCut (turns : Ran → Ran) (old : World) (before after : Option (List ℕ)) : Type 0 where
   pub text : List ℕ
   pub more : List ℕ → List ℕ

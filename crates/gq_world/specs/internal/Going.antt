@@ -30,14 +30,14 @@ pub record HasLeft (left all : Ran → Ran) (old new : World) (before after : Op
   pub same : (front : List ℕ) → left (going new.world (front ++ text)) ≡ all (going old.world front)
   pub running : new.stopped ≡ false
 
--- a front of what the turns write was written
+-- a prefix of what the turns write was written
 pub record IsCut (turns : Ran → Ran) (old : World) (before after : Option (List ℕ)) : Type 0 where
   pub text : List ℕ
   pub more : List ℕ → List ℕ
   pub written : Appends before after text
   pub front : (front : List ℕ) → (turns (going old.world front)).text ≡ front ++ text ++ more front
 
--- a world runs through turns, and what they write is written; or a write fails, which is counted, and a front of it was written
+-- a world runs through turns, and what they write is written; or a write fails, which is counted, and a prefix of it was written
 pub record RunsThrough {W A E : Type 0} (contents : W → Option (List ℕ)) (turns : Ran → Ran) (old new : World) (before after : Counted W)
     (result : Result A E) : Type 0 where
   pub scenario : new.scenario ≡ old.scenario
