@@ -4,11 +4,11 @@ ghost use Rattle.gq_laws.specs.Sound.{IsSound};
 ghost use Rattle.gq_races.specs.Races.{IsOrderFree, IsRaceFree};
 ghost use Rattle.gq_determined.specs.Determined.{IsLeaf, LeavesSame, ProvidesNothing, WritesSame};
 
-/// What does not depend on the turns, where a scenario is as the readers give it and is accepted, and `races` writes no `race` line of it: no statement outside
-/// `main` of a shared leaf changes an own slot, what is in one or what is behind one.
+/// What does not depend on the turns, if a scenario is as the readers give it and is accepted, and `races` writes no `race` line of it. No statement outside
+/// `main` of a shared leaf then changes an own slot, what is in one or what is behind one.
 ///
-/// - `writes`: each leaf that provides nothing writes the same lines, in the same order, in all runs that come to rest. Of any two runs, at rest or not, what
-///   it wrote in one is a prefix of what it wrote in the other, or the other way round.
+/// - `writes`: each leaf that provides nothing writes the same lines, in the same order, in all runs that come to rest. Take any two runs, at rest or not:
+///   what it wrote in one is a prefix of what it wrote in the other, or the other way round.
 /// - `all`: if `races` writes no `order` line either, the same holds of every leaf. No statement outside `main` of a shared leaf writes a line then.
 /// - `leaves`: all runs that come to rest end with the same accounts of all nodes: the same quotas, uses, steps and phases.
 ///

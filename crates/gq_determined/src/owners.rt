@@ -5,10 +5,10 @@ ghost use Rattle.gq_laws.specs.Sound.{IsSound};
 ghost use Rattle.gq_races.specs.Races.{is_owner};
 ghost use Rattle.gq_determined.specs.Owned.{IsOwnedBy};
 
-/// What the owner of a leaf is, where a scenario is as the readers give it and is accepted. `races` decides it by chains of openers of bounded length.
+/// What the owner of a leaf is, if a scenario is as the readers give it and is accepted. `races` decides it by chains of openers of bounded length.
 ///
-/// - `owned`: if z is the owner of a leaf, each leaf that opens sessions with it in `main` is z, and each that opens some in another section has the owner z.
-/// - `owner`: where that holds, z is the owner. So the bound leaves nothing out, as uses have no cycle.
+/// - `owned`: let z be the owner of a leaf. Each leaf that opens sessions with it in `main` is z. Each that opens some in another section has the owner z.
+/// - `owner`: a z of which that holds is the owner. So the bound leaves nothing out, as uses have no cycle.
 pub fn owner_laws()
     ensures owned { (s : Scenario) → IsSound s → (z x : ℕ) → x < length (components s) → is_owner (system s) z x ≡ true → IsOwnedBy (system s) z x }
     ensures owner { (s : Scenario) → IsSound s → (z x : ℕ) → x < length (components s) → IsOwnedBy (system s) z x → is_owner (system s) z x ≡ true }

@@ -12,8 +12,8 @@ ghost use Rattle.gq_slots.specs.Slots.{Frame, Slots, world_seen};
 ghost use Rattle.gq_statements.specs.Systems.{AreLawful, IsOf};
 ghost use Rattle.gq_prepared.specs.Nodes.{AreNodesOf};
 
-/// In lawful slots of a scenario that is ready, the account that the definition gives each node has the quota that is stored for it, in bytes and, in version
-/// 2, capabilities; and what a leaf holds of each is what its stored account has in use. It does nothing.
+/// What is stored of a node is its account by the definition, in lawful slots of a scenario that is ready. It has the quota that is stored for it, in bytes
+/// and, in version 2, capabilities. What a leaf holds of each is what its stored account has in use. It does nothing.
 pub fn stored_accounts()
     ensures quotas { (s : Scenario) (f : Frame) (t : Slots) (told : List ℕ) (n : ℕ) (a : Account) → IsReady s → AreLawful t → IsOf (system s) f t
         → AreNodesOf s t.trades → slice_get (accounts s (world_seen f t) told) n ≡ Some a

@@ -11,15 +11,15 @@ ghost use Rattle.gq_sizes.specs.Size.{refusal_without};
 
 /// What `size` prints of a scenario is what trial would find. It does nothing.
 ///
-/// `accepted`: of an accepted scenario, as the readers give them, no `open` is short, none of the least capabilities is none, and its numbers are not
-/// less than the least ones: of an interface the sums up to each level, of a node its own.
+/// `accepted`: of an accepted scenario, as the readers give them, no `open` is short, and none of the least capabilities is none. Its numbers are not less
+/// than the least ones: of an interface the sums up to each level, of a node its own.
 ///
 /// `sized`: a scenario that passes what is judged, of which no `open` is short and no interface needs capabilities without end, is accepted with the
 /// least quantities in place of its own. It is then as the readers give them, but for a number that is too great for its key.
 ///
-/// `short`, `judged`, `endless`: if an `open` is short, a rule that quantities do not decide is broken, or one of the least capabilities is none, then no
-/// quantities in place of its own make a scenario accepted. The clauses state it the other way round: one that differs in quantities alone is accepted,
-/// so none of these is the case.
+/// `short`, `judged`, `endless`: an `open` is short, a rule that quantities do not decide is broken, or one of the least capabilities is none. Then no
+/// quantities in place of its own make a scenario accepted. The clauses state it the other way round: one that differs in quantities alone is accepted, so
+/// none of these is the case.
 ///
 /// `least`: the numbers of such an accepted scenario are not less than the least ones.
 pub fn least_laws()

@@ -488,10 +488,13 @@ impl Slots {
         &self.trades
     }
 
-    /// What holds in all `Slots`: what each leaf uses, of bytes and where they are counted of capabilities, is what the machine's definition says that it
-    /// holds, and its peaks are no less than what is in use; a heap's price rises by `rise` where one place more of a class is in use, and an entry of a
-    /// pool is such a place. Each slot reads in the machine's world as what is in it; a leaf has 64 slots and a session has 8; and a session's object is a
-    /// slice, or nothing before its request to open is accepted. It does nothing.
+    /// What holds in all `Slots`. It does nothing.
+    ///
+    /// - What each leaf uses, of bytes and where they are counted of capabilities, is what the machine's definition says that it holds.
+    /// - A leaf's peaks are no less than what is in use. A heap's price rises by `rise` if one cell more of a class is in use, and an entry of a pool is such
+    ///   a cell.
+    /// - Each slot reads in the machine's world as what is in it. A leaf has 64 slots and a session has 8.
+    /// - A session's object is a slice, or nothing before its request to open is accepted.
     pub fn laws(&self)
         ensures trades { IsTrades self.now.trades }
         ensures leaves { length self.now.own ≡ length self.now.trades.trading.leaves }

@@ -63,8 +63,8 @@ pub fn linked_leaves()
         → HasNoSessions s.trades.trading x }
 {}
 
-/// There are at most 16448 sessions at a time: at most 64 that are not accepted, since each has a request of another leaf, and at most 16384 that are, since
-/// the server of each pays at least 4096 bytes for its object.
+/// There are at most 16448 sessions at a time. At most 64 are not accepted, since each has a request of another leaf. At most 16384 are, since the server of
+/// each pays at least 4096 bytes for its object.
 pub fn few_sessions()
     ensures { (system : System) (f : Frame) (s : Slots) → AreLawful s → IsLinkedWorld system (world_seen f s) → AreSound s.trades.trading
         → free_number s.trades.trading.sessions ≤ 16448 }

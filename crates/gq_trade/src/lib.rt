@@ -1,8 +1,12 @@
 //! Accounts that trade: sessions between the leaves of a scenario, whose donations move quota along the tree, and leaves that start and end.
 //!
-//! [`Trades`] is what the crates above use. It stands on [`Numbered`] (values by their numbers, where a new one takes the lowest that is free), on `requests`
-//! (what waits for a server, the oldest first), on `node` (what is known of a node beside its account), and on [`Memory`] (the memory of many accounts as a
-//! store of chunks: a chunk is a dataspace of the account that pays, and has its number), in which the objects of sessions are made (`objects`).
+//! [`Trades`] is what the crates above use. It stands on these:
+//!
+//! - [`Numbered`]: values by their numbers, where a new one takes the lowest that is free.
+//! - `requests`: what waits for a server, the oldest first.
+//! - `node`: what is known of a node beside its account.
+//! - [`Memory`]: the memory of many accounts as a store of chunks. A chunk is a dataspace of the account that pays, and has its number.
+//! - `objects`: the objects of sessions, which are made in that memory.
 //!
 //! ```rust
 //! use gq_trade::Spot;
@@ -28,10 +32,14 @@
 //! assert_eq!(rt; trades.used(1), 4096);
 //! ```
 //!
-//! Of what trade is, three things have their homes above, beside the slots that they change: the slots of leaves and sessions (`put`, `clear`, `kind`,
-//! `handle`; `Slots` of `gq_slots`), the end of a leaf with all that it holds (`end`; `gq_slots::leaves`), and memory by address (`load`, `store`, `load4`,
-//! `store4`; `gq_region::addresses`). Room for sessions and requests is made in `Trades::new`, as much as its caller says, and who asks shows that there is
-//! room: that as many sessions as pages and one for each leaf are enough is an invariant of the machine, which knows that an accepted session costs a page.
+//! Three parts of trade stand above, beside the slots that they change:
+//!
+//! - The slots of leaves and sessions (`put`, `clear`, `kind`, `handle`): `Slots` of `gq_slots`.
+//! - The end of a leaf with all that it holds (`end`): `gq_slots::leaves`.
+//! - Memory by address (`load`, `store`, `load4`, `store4`): `gq_region::addresses`.
+//!
+//! `Trades::new` makes room for sessions and requests, as much as its caller says, and who asks shows that there is room. As many sessions as pages and one
+//! for each leaf are enough. That is an invariant of the machine, which knows that an accepted session costs a page.
 #![tactic(auto)]
 
 mod memory;

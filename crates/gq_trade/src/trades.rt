@@ -61,8 +61,12 @@ impl Model for Trades {
     ghost invariant = { λ t. Holds (trades_of t.memory t.tree t.leaves.items t.objects.items t.sessions t.requests t.nodes.items) };
 }
 
-/// The nodes of a scenario in preorder, the root first: the node above each (that of the root is not looked at), and its quantum, with which node it
-/// starts after; which node each leaf is; and how many bytes the object of a session has, for each service.
+/// The nodes of a scenario in preorder, the root first.
+///
+/// - `parents`: the node above each (that of the root is not looked at).
+/// - `nodes`: the quantum of each, and with which node it starts after.
+/// - `leaves`: which node each leaf is.
+/// - `objects`: how many bytes the object of a session has, for each service.
 #[derive(Drop)]
 pub struct Plan {
     pub parents: Vec<usize>,
@@ -633,8 +637,10 @@ impl Trades {
         self.memory.pay_by(account);
     }
 
-    /// What holds in every `Trades`: the stored quota of each node is what it was handed and was given for sessions, less what it has lent and handed
-    /// on, of bytes and of capabilities; client and server of each session are live, and are two leaves. It does nothing.
+    /// What holds in every `Trades`. It does nothing.
+    ///
+    /// - The stored quota of each node is what it was handed and was given for sessions, less what it has lent and handed on, of bytes and of capabilities.
+    /// - Client and server of each session are live, and are two leaves.
     pub fn laws(&self)
         ensures trades { IsTrades self.now }
         ensures trading { IsTrading self.now.trading }

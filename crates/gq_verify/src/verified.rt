@@ -58,8 +58,8 @@ impl<'a> Verified<'a> {
         let _own = self.own;
     }
 
-    /// The most bytes of its own account that its `main` uses: at a point of it the prices of what the own slots hold with what they have
-    /// lent, and the heap by the greatest number of places of each class, pools counted as full. Less than 2^42.
+    /// The most bytes of its own account that its `main` uses. At a point of it these are the prices of what the own slots hold with what they have lent, and
+    /// the heap by the greatest number of cells of each class, pools counted as full. Less than 2^42.
     pub fn own(&self) -> u64
         ensures { result ≡ own Ram self.now }
     {

@@ -9,9 +9,10 @@ use gq_load::checked::checked_lines;
 use std::alloc::Global;
 use std::io::Write;
 
-/// Writes the verified budget of each leaf in preorder, a line each: the most bytes, and in version 2 capabilities, of its own account
-/// that it holds or lends, and the most steps that it takes, whatever the turns. Nothing is written where the scenario is refused, or
-/// where host memory is.
+/// Writes the verified budget of each leaf in preorder, a line each. It has the most bytes, and in version 2 capabilities, of its own account that the leaf
+/// holds or lends, and the most steps that it takes, whatever the turns.
+///
+/// If the scenario is refused, or the host refuses memory, nothing is written.
 pub fn check<W: Write>(
     alloc: Global,
     scenario: &[u8],

@@ -94,9 +94,10 @@ fn run_turns<W: Write>(
     }
 }
 
-/// Runs a scenario, a text in TOML, by the turns of a second text: loads it, takes all its turns, and writes the lines that
-/// they give and then the accounts of all nodes. Nothing is written where the scenario or the turns are refused, or where host
-/// memory is, which only loading and reading the turns take.
+/// Runs a scenario, a text in TOML, by the turns of a second text. It loads the scenario, takes all turns, and writes the lines that they give and then the
+/// accounts of all nodes.
+///
+/// If the scenario or the turns are refused, or the host refuses memory, nothing is written. Only loading and reading the turns take host memory.
 pub fn run<W: Write>(
     alloc: Global,
     scenario: &[u8],
