@@ -8,7 +8,7 @@ use std::alloc::{AllocError, Global};
 
 /// A value of a text, from one offset up to another, and what is to stand in its place.
 #[derive(Drop)]
-pub struct Edit {
+pub(crate) struct Edit {
     pub at: usize,
     pub end: usize,
     pub new: Vec<u8>,
@@ -108,7 +108,7 @@ fn push_edited(
 ///
 /// Fails with `Differs` where one begins before the end of another or ends after the text, or where something else than a value is to be replaced, or is to
 /// replace it.
-pub fn edited(alloc: Global, text: &[u8], edits: &[Edit]) -> Result<Vec<u8>, MakeError>
+pub(crate) fn edited(alloc: Global, text: &[u8], edits: &[Edit]) -> Result<Vec<u8>, MakeError>
     ensures { IfOk result (λ made. DiffersInValues text.now made.items) }
 {
     let mut made = Vec::new(alloc);

@@ -16,7 +16,7 @@
 //! this reading alone: `specs/Fitted`.
 #![tactic(auto)]
 
-pub mod edits;
+mod edits;
 mod extent;
 pub mod fault;
 pub mod fit;
