@@ -45,7 +45,9 @@ OF_TURNS = {"run", "trace", "state", "peaks"}
 RULES = TOP / "tests" / "tables" / "rule.toml"
 FAULTS = TOP / "tests" / "tables" / "faults.toml"
 # Of each kind one: of no TOML, of tables, of counts and names, of texts and codes, of rules, of routes, of budgets and of turns.
-SOME_FAULTS = {"S1", "S2", "S3", "S4", "S5", "S6", "S7", "M1", "C2", "V12", "V13", "V14", "V18", "S8", "S9", "S10", "S11", "S12", "S13", "S14", "B1", "B2", "B3", "U1"}
+SOME_FAULTS = {
+    "S1", "S2", "S3", "S4", "S5", "S6", "S7", "M1", "C2", "V12", "V13", "V14", "V18", "V19", "S8", "S9", "S10", "S11", "S12", "S13", "S14", "B1", "B2", "B3", "U1",
+}
 SOURCE = TOP / "tests" / "refuse_growth.c"
 SECONDS = 120
 REFUSED = b"", b"trade: host memory refused\n", 3

@@ -36,11 +36,12 @@ EXCEPTIONS = {"check-bad-provides": UNDECLARED, "node 3": UNDECLARED}
 WRONG = re.compile(rb"trade: (S[2347] |S5 NameTwice init$)", re.MULTILINE)
 RIGHT = re.compile(rb"trade: (S[589]|S1\d|U\d|[\w-]+: [MCVB]\d+) |trade: no component |wrong ")
 
-# Where the tables of the format stand in the schema, and the keys of both versions.
+# Where the tables of the format stand in the schema, and the keys of all versions.
 INTERFACE = "properties", "interface", "additionalProperties"
 NODE = "properties", "start", "items"
 ROUTE = "properties", "default-route", "items"
-NODE_KEYS, ROUTE_KEYS = "name quantum caps route start default-route provides after program code", "service any-service child any-child parent"
+NODE_KEYS = "name quantum caps route start default-route provides after inputs program code"
+ROUTE_KEYS = "service any-service child any-child parent"
 TABLES = [
     ((), "version ram caps default-route interface start"),
     (INTERFACE, "arg reply need need-caps object upgrades upgrade-caps buffer"),
@@ -50,8 +51,9 @@ TABLES = [
     ((*NODE, "properties", "route", "items"), ROUTE_KEYS),
     ((*NODE, "properties", "default-route", "items"), ROUTE_KEYS),
 ]
-OPTIONAL = {"default-route", "interface", "object", "upgrades", "upgrade-caps", "buffer", "route", "provides", "after"}
-OF_VERSION_2 = {"caps", "need-caps", "upgrade-caps"}
+OPTIONAL = {"default-route", "interface", "object", "upgrades", "upgrade-caps", "buffer", "route", "provides", "after", "inputs"}
+# The keys that each version lacks.
+LACKING = {1: {"caps", "need-caps", "upgrade-caps", "inputs"}, 2: {"inputs"}, 3: set()}
 
 # Quantities: the place, the least value, the greatest one, and of what it is a multiple.
 QUANTITIES = [
@@ -67,13 +69,14 @@ NO_QUANTITIES = ["", "K", "4k", "4 K", " 4K", "4K ", "K4", "4KK", "4KM", "-4", "
 
 # Numbers: the place, the least value and the greatest one.
 NUMBERS = [
-    (("properties", "version"), 1, 2),
+    (("properties", "version"), 1, 3),
     (("properties", "caps"), 1, 65536),
     ((*INTERFACE, "properties", "arg"), 0, 4294967295),
     ((*INTERFACE, "properties", "reply"), 0, 4294967295),
     ((*INTERFACE, "properties", "need-caps"), 0, 65536),
     ((*INTERFACE, "properties", "upgrade-caps", "items"), 0, 65536),
     ((*NODE, "properties", "caps"), 0, 65536),
+    ((*NODE, "properties", "inputs", "items"), 0, 4294967295),
 ]
 
 # Other values: the place, values that fit and values that don't.
@@ -95,6 +98,7 @@ VALUES = [
     ((*NODE, "properties", "default-route"), *ROUTES),
     ((*NODE, "properties", "provides"), *NAMES),
     ((*NODE, "properties", "after"), *NAMES),
+    ((*NODE, "properties", "inputs"), [[], [0, 1], [4294967295] * 8], [0, {}, "1", ["1"], [-1], [4294967296], [0] * 9]),
     ((*NODE, "properties", "program"), ["", "main\nend\n"], [1, True, []]),
     ((*NODE, "properties", "code"), ["", "00", "09afAF"], ["0", "000", "0g", " 00", 10, []]),
     (ROUTE, [PARENT], [[], 1, ""]),
@@ -106,7 +110,8 @@ VALUES = [
 ]
 
 # Typical mistakes: the text, and what has to be reported, where and with which words.
-ONE, TWO = 'version = 1\nram = "64K"\n', 'version = 2\nram = "64K"\ncaps = 4\n'
+ONE, TWO, THREE = 'version = 1\nram = "64K"\n', 'version = 2\nram = "64K"\ncaps = 4\n', 'version = 3\nram = "64K"\ncaps = 4\n'
+NODE_2, NODE_3 = (it + 'start = [{{ name = "a", quantum = 0, caps = 0, {} }}]' for it in (TWO, THREE))
 NODE_1, ROUTE_1 = ONE + 'start = [{{ name = "a", quantum = 0, {} }}]', ONE + "start = []\ndefault-route = [{{ {} }}]"
 LOG, DEEP = "start = []\n[interface.log]\narg = 1\nreply = 1\nneed = 0\n", '{ name = "a", quantum = 0, caps = 0, start = [' * 5 + "] }" * 5
 MISTAKES = [
@@ -114,15 +119,17 @@ MISTAKES = [
     (ONE.replace("K", "k") + "start = []", [("ram", "'64k'")]),
     (ONE.replace("64K", "65K") + "start = []", [("ram", "'65K'")]),
     (ONE.replace("64K", "65M") + "start = []", [("ram", "'65M'")]),
-    ("version = 3\nram = 4096\ncaps = 4\nstart = []", [("version", "3"), ("caps", "in version 1")]),
+    ("version = 4\nram = 4096\ncaps = 4\nstart = []", [("version", "4"), ("caps", "in version 1")]),
     ("ram = 4096\ncaps = 4\nstart = []", [("", "'version'"), ("caps", "in version 1")]),
     (TWO.replace("caps = 4", "") + "start = []", [("", "'caps'")]),
+    (THREE.replace("caps = 4", "") + "start = []", [("", "'caps'")]),
     (ONE + "default_route = []\nstart = []", [("", "'default_route'")]),
     (ONE + LOG.replace("interface", "interfaces"), [("", "'interfaces'")]),
     (ONE + LOG.replace("log", '"a b"'), [("interface", "'a b'")]),
     (ONE + LOG + "upgrades = [0, 0, 0, 0]", [("interface.log.upgrades", "")]),
     (ONE + LOG + "need-caps = 1", [("interface.log.need-caps", "in version 1")]),
     (TWO + LOG, [("interface.log", "'need-caps'")]),
+    (THREE + LOG, [("interface.log", "'need-caps'")]),
     (TWO + LOG + "need_caps = 1", [("interface.log", "'need_caps'"), ("interface.log", "'need-caps'")]),
     (TWO + LOG + "need-caps = 1\nupgrade-caps = [1]", [("interface.log.upgrade-caps", "")]),
     (TWO + 'start = [{ name = "a", quantum = 0, cap = 4, start = [] }]', [("start.0", "'cap'"), ("start.0", "'caps'")]),
@@ -134,6 +141,14 @@ MISTAKES = [
     (NODE_1.format("caps = 1, start = []"), [("start.0.caps", "in version 1")]),
     (NODE_1.format("after = 'b', start = []"), [("start.0.after", "on an init")]),
     (NODE_1.format("default-route = [], program = ''"), [("start.0.default-route", "on a leaf")]),
+    (NODE_1.format("inputs = [1], code = ''"), [("start.0.inputs", "in version 1")]),
+    (NODE_2.format("inputs = [1], code = ''"), [("start.0.inputs", "in version 2")]),
+    (NODE_3.format("input = [1], code = ''"), [("start.0", "'input'")]),
+    (NODE_3.format("inputs = [1], start = []"), [("start.0.inputs", "on an init")]),
+    (NODE_3.format("inputs = 1, code = ''"), [("start.0.inputs", "1")]),
+    (NODE_3.format("inputs = [1, 4294967296], code = ''"), [("start.0.inputs.1", "4294967296")]),
+    (NODE_3.format("inputs = [1, 1, 1, 1, 1, 1, 1, 1, 1], code = ''"), [("start.0.inputs", "")]),
+    (NODE_3.format("inputs = [1], code = ''").replace("caps = 0, ", ""), [("start.0", "'caps'")]),
     (NODE_1.format("provides = 'log'"), [("start.0", "'program'")]),
     (NODE_1.format("program = '', code = '00'"), [("start.0.code", "beside program")]),
     (NODE_1.format("code = '0'"), [("start.0.code", "'0'")]),
@@ -243,7 +258,7 @@ def nodes(depth):
     """Two nodes at this depth, which have all keys of a node."""
     node = {"name": f"a{depth}", "quantum": 0, "caps": 0, "route": []}
     init = {**node, "start": nodes(depth + 1) if depth < 4 else [], "default-route": []}
-    return [{**node, "provides": "e", "after": "a", "program": ""}, init]
+    return [{**node, "provides": "e", "after": "a", "inputs": [], "program": ""}, init]
 
 
 def without(value, keys):
@@ -258,7 +273,7 @@ def whole(version):
     interface = {**ECHO, "need-caps": 0, "object": 0, "upgrades": [], "upgrade-caps": [], "buffer": 0}
     routes = [{"service": "e", "child": "a"}]
     tables = {"version": version, "ram": 4096, "caps": 1, "default-route": routes, "interface": {"e": interface}, "start": nodes(1)}
-    return without(tables, OF_VERSION_2 if version == 1 else ())
+    return without(tables, LACKING[version])
 
 
 def tables_in(value):
@@ -272,8 +287,8 @@ def tables_in(value):
 def of_keys(schema):
     """Tables that have all their keys are valid, without one that is required they are not, and not with one more, whose value fits elsewhere."""
     validator = part_validator(schema, ())
-    values = {**LEAF, **PARENT, "any-child": True, "colour": 0} | {key: value for table in tables_in(whole(2)) for key, value in table.items()}
-    for version in (1, 2):
+    values = {**LEAF, **PARENT, "any-child": True, "colour": 0} | {key: value for table in tables_in(whole(3)) for key, value in table.items()}
+    for version in LACKING:
         tables = whole(version)
         yield f"all keys of version {version}", told(reports(validator, tables))
         for table in tables_in(tables):
@@ -292,14 +307,14 @@ def of_keys(schema):
 def of_upgrades(schema):
     """An interface has capabilities for none of its upgrades, or for each."""
     validator = part_validator(schema, ())
-    for upgrades in (None, 0, 1, 2, 3):
+    for version, upgrades in ((version, upgrades) for version in (2, 3) for upgrades in (None, 0, 1, 2, 3)):
         bad = []
         for caps in (None, 0, 1, 2, 3, 4):
             given = {"upgrades": upgrades, "upgrade-caps": caps}
-            tables = whole(2)
+            tables = whole(version)
             tables["interface"] = {"e": {**ECHO, "need-caps": 0, **{key: [1] * count for key, count in given.items() if count is not None}}}
             bad += [f"{caps} capabilities"] if validator.is_valid(tables) != (caps in (None, upgrades or 0)) else []
-        yield f"{upgrades} upgrades", told(bad)
+        yield f"{upgrades} upgrades in version {version}", told(bad)
 
 
 def bytes_of(value):

@@ -1,10 +1,11 @@
 #!/usr/bin/env python3
 """tests/run_traces.py PROGRAM: holds `trade trace` and `trade state` against `trade run`, over all examples and all cases of runs.
 
-The lines of a trace that begin with `[`, with the account lines at its end, are the run's text, with `--all` and without; and without it the trace is
-what it is with it, but for the steps of which nothing but the first line is told. The lines of a state that are not indented are the run's account lines; of a
-leaf that lives the lines `holds` add up to what it has used, and its quantum with what it receives less what it lends to its quota; of an init its quantum less
-what it hands on; so for capabilities. With `--at N` a state is that of a list of the first N turns. The last line is 'N passed, M failed', and the exit status is 1 where one failed.
+The lines of a trace that begin with `[`, with the account lines at its end, are the run's text, with `--all` and without. Without it the trace is what it is
+with it, but for the steps of which nothing but the first line is told, and the settings that change no value. The lines of a state that are not indented are
+the run's account lines; of a leaf that lives the lines `holds` add up to what it has used, and its quantum with what it receives less what it lends to its
+quota; of an init its quantum less what it hands on; so for capabilities. With `--at N` a state is that of a list of the first N turns with the settings
+before the last of them. The last line is 'N passed, M failed', and the exit status is 1 where one failed.
 """
 import pathlib
 import re
@@ -15,6 +16,7 @@ import tempfile
 TOP = pathlib.Path(__file__).resolve().parent.parent
 SECONDS = 120
 ITEM = re.compile(r" +(quantum|hands|holds|lends|receives) (\d+)(?: caps (\d+))?")
+SETTING = re.compile(r"input (.*)\.(\d) = (\d+)$")
 ACCOUNT = re.compile(r"account .* quota (\d+)(?: used (\d+))?(?: caps (\d+))?(?: taken (\d+))?(?: steps \S+ (\w+))?$")
 
 
@@ -41,10 +43,23 @@ def of_trace(text):
 
 
 def changes_in(text):
-    """What a trace of all steps has of those that change something: all lines but the first ones of steps, behind which there is no other."""
+    """What a trace of all steps has of those that change something: all lines but the first ones of steps behind which there is no other, and settings that
+    change no value; those of a leaf that has exited change none."""
     lines = text.splitlines(keepends=True)
-    heads = [line.startswith(("turn ", "end after ")) for line in lines] + [True]
-    return "".join(line for i, line in enumerate(lines) if not (line.startswith("turn ") and heads[i + 1]))
+    heads = [line.startswith(("turn ", "input ", "end after ")) for line in lines] + [True]
+    values, exited, kept = {}, set(), []
+    for i, line in enumerate(lines):
+        setting, account = SETTING.match(line), ACCOUNT.match(line.rstrip("\n"))
+        if account and account.group(5) == "exited":
+            exited.add(line.split(" quota ")[0].removeprefix("account "))
+        if setting:
+            label, value = setting.group(1), setting.group(3)
+            if label not in exited and values.get((label, setting.group(2)), "0") != value:
+                kept.append(line)
+            values[label, setting.group(2)] = value
+        elif not (line.startswith("turn ") and heads[i + 1]):
+            kept.append(line)
+    return "".join(kept)
 
 
 def adds_up(block):
@@ -76,16 +91,20 @@ def blocks(text):
 
 
 def listed(text):
-    """The leaf and the number of turns of each line of a list of turns."""
-    return [(name, int(count)) for name, count in (line.split(" ") for line in text.splitlines() if line and not line.startswith("#"))]
+    """Each line of a list of turns, with its number of turns; a setting has none."""
+    lines = [line for line in text.splitlines() if line and not line.startswith("#")]
+    return [(line, 0 if "=" in line else int(line.split(" ")[1])) for line in lines]
 
 
 def first(turns, most):
-    """The lines of the first so many of these turns."""
+    """The lines of the first so many of these turns, with the settings before the last of them."""
     lines = []
-    for name, count in turns:
+    for line, count in turns:
         taken = min(count, most)
-        lines += [f"{name} {taken}\n"] if taken else []
+        if not count and most:
+            lines.append(f"{line}\n")
+        elif taken:
+            lines.append(f"{line.split(' ')[0]} {taken}\n")
         most -= taken
     return "".join(lines)
 

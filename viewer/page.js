@@ -11,6 +11,8 @@ function drawEvent(changes, moved) {
   byId("slider").setAttribute("aria-valuetext", `turn ${run.events.turn[cursor]}, event ${cursor} of ${run.last}`);
   byId("event").replaceChildren(...sentence(run, cursor).map(part => part.code === undefined ? part : make("code", {}, part.code)));
   setTitle(byId("event"), byId("event").textContent);
+  setText(byId("inputs"), inputsTold(run, cursor));
+  setTitle(byId("inputs"), byId("inputs").textContent);
   const words = cursor === run.last ? [] : [...changes.map(c => changeWords(run, c)), ...moved.map(c => sessionWords(run, c))];
   byId("changes").replaceChildren(...words.map(text => make("li", {}, text)));
 }
@@ -125,6 +127,7 @@ function onKey(event) {
 function makeLegend() {
   const band = (name, text) => make("span", {}, make("i", { style: `background:var(--${name})` }), text);
   byId("legend").replaceChildren(...PHASES.map(phase => make("span", {}, glyph(phase), phase)), band("quota", "quota"), band("used", "used"),
+    ...page.run.nodes.some(n => n.inputs?.length) ? [band("input", "an input is set")] : [],
     make("span", {}, "sessions in the server's colour; dashed: waits, thick: at hand"));
 }
 

@@ -73,7 +73,18 @@ class Plot {
         this.pen.globalAlpha = 1;
       }
     }
+    this.drawSettings(node, top + 1);
     this.run.nodes[node].lanes.forEach((lane, i) => this.drawLane(lane, base + 2 + i * ROW.lane));
+  }
+  /** A mark at each event of this window at which an input of a leaf is set. */
+  drawSettings(node, y) {
+    const { event } = this.run.settings, half = this.axis === "event" ? 0.5 : 0;
+    let last = -1;
+    for (const row of this.run.settingRows.of(node)) {
+      const x = Math.round(this.xOf(positionOf(this.run, this.axis, event[row]) + half, this.view));
+      if (x !== last && x >= 0 && x <= this.width) this.rect("--input", x - 1, y, 2, 5);
+      last = x;
+    }
   }
   drawLane(lane, y) {
     const { server, stage } = this.columnsOf(lane, () => laneOf(this.run, lane, this.columns));

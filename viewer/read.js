@@ -2,7 +2,8 @@
 // Reading: the texts of `trade tree` and `trade trace` become a run. Pure functions; nothing here touches the page.
 //
 // A run can have a million events, so what a trace tells is kept in columns of plain numbers (a Table) and not as an object for each line. Everything
-// that changes has rows: a row says at which event it came and what holds from there on. An event is the start (0), a told turn, or the end (the last one).
+// that changes has rows: a row says at which event it came and what holds from there on. An event is the start (0), a told turn, a setting of an
+// input, or the end (the last one).
 
 const PHASES = ["pending", "running", "blocked", "serving", "handling", "exited"];
 const SECTIONS = ["main", "open", "up 1", "up 2", "up 3", "call 0", "call 1", "call 2", "call 3", "close 0", "close 1", "close 2", "close 3"];
@@ -10,6 +11,8 @@ const STAGES = ["gone", "idle", "waits", "at hand"];
 const [GONE, IDLE, WAITS, AT_HAND] = [0, 1, 2, 3];
 /** The leaf of an event that is no turn, the lane of a session that has none, the node of a label that is none's. */
 const NOBODY = 0xffff;
+/** Inputs that a leaf can have. */
+const INPUTS = 8;
 /** Sessions of one client at one time that have a lane of their own on the time line. */
 const MAX_LANES = 12;
 /** A session's number is below this: one per page of the largest `ram`, and one per leaf. */
@@ -81,7 +84,7 @@ class Words {
   }
 }
 
-const FEED = 10, RETURN = 13, SPACE = 32, DASH = 45, ABOVE = 62, CLOSE = 93, ZERO = 48, N = 110;
+const FEED = 10, RETURN = 13, SPACE = 32, DASH = 45, DOT = 46, ABOVE = 62, CLOSE = 93, ZERO = 48, N = 110;
 
 /** Goes over the bytes of a text line by line, and in a line from word to word. */
 class Scanner {
@@ -133,11 +136,11 @@ class Scanner {
     this.at = to;
     return number;
   }
-  /** The number of the label that stands here: names joined by ` -> `, up to a `]` or to a blank with another word behind it. */
+  /** The number of the label that stands here: names joined by ` -> `, up to a `]`, a dot or a blank with another word behind it. */
   label(labels) {
     const { bytes, end } = this;
     let to = this.at, hash = 0;
-    for (let byte; to < end && (byte = bytes[to]) !== CLOSE; to++) {
+    for (let byte; to < end && (byte = bytes[to]) !== CLOSE && byte !== DOT; to++) {
       if (byte === SPACE && bytes[to + 1] !== DASH && bytes[to - 1] !== ABOVE) break;
       hash = hashWith(hash, byte);
     }
@@ -149,14 +152,17 @@ class Scanner {
 const NAME = "[A-Za-z0-9_-]+", LABEL = `${NAME}(?: -> ${NAME})*`;
 const OPENS = new RegExp(`^opens (${NAME}) of (${LABEL})$`);
 const INIT = new RegExp(`^(${NAME}) quantum (\\d+) left (\\d+)(?: caps (\\d+) left (\\d+))?$`);
-const LEAF = new RegExp(`^(${NAME}) quantum (\\d+)(?: caps (\\d+))?(?: provides (${NAME}))?(?: after (${NAME}))? own (\\d+)(?: caps (\\d+))? steps (\\d+)$`);
+const GREATEST = `\\d+(?: \\d+){0,${INPUTS - 1}}`;
+const LEAF = new RegExp(`^(${NAME}) quantum (\\d+)(?: caps (\\d+))?(?: provides (${NAME}))?(?: after (${NAME}))?(?: inputs (${GREATEST}))?`
+  + " own (\\d+)(?: caps (\\d+))? steps (\\d+)$");
 const optional = digits => digits === undefined ? undefined : Number(digits);
 
 /** What a line of the tree says of a node, or undefined. */
 function nodeOf(line) {
   let m = LEAF.exec(line);
   if (m) {
-    return { leaf: true, name: m[1], quantum: +m[2], caps: optional(m[3]), provides: m[4], after: m[5], own: +m[6], ownCaps: optional(m[7]), steps: +m[8] };
+    const inputs = m[6] === undefined ? [] : m[6].split(" ").map(Number), [own, ownCaps, steps] = [+m[7], optional(m[8]), +m[9]];
+    return { leaf: true, name: m[1], quantum: +m[2], caps: optional(m[3]), provides: m[4], after: m[5], inputs, own, ownCaps, steps };
   }
   m = INIT.exec(line);
   return m ? { leaf: false, name: m[1], quantum: +m[2], left: +m[3], caps: optional(m[4]), capsLeft: optional(m[5]) } : undefined;
@@ -205,26 +211,30 @@ function addFirstAccount(accounts, node) {
   accounts.caps[row] = (node.leaf ? waits ? 0 : node.caps : node.capsLeft) ?? 0;
   accounts.phase[row] = PHASES.indexOf(node.leaf && !waits ? "running" : "pending");
 }
-function addEvent({ events }, turn, leaf, section, place, statement) {
+/** An event; `setting` is one more than its row among the settings, or 0 where it is none. */
+function addEvent({ events }, turn, leaf, section, place, statement, setting = 0) {
   const row = events.add();
   events.turn[row] = turn;
   events.leaf[row] = leaf;
   events.section[row] = section;
   events.place[row] = place;
   events.statement[row] = statement;
+  events.setting[row] = setting;
 }
 
 const SECTION_WORDS = new Words(SECTIONS), PHASE_WORDS = new Words(PHASES), STAGE_WORDS = new Words(STAGES);
 const [BLANK, AT, QUOTA, USED, CAPS, TAKEN, STEPS, SLASH, ENDS, OF, FOR, LEVEL, LENDS, COMMA, CLOSED] =
   [" ", " at ", " quota ", " used ", " caps ", " taken ", " steps ", "/", "ends", " of ", " for ", " at level ", " lends ", ", ", "] "].map(bytesOf);
-const [TURN, ACCOUNT, SESSION, OUTPUT, END, TURNS] = ["turn ", "account ", "session ", "[", "end after ", " turns"].map(bytesOf);
+const [POINT, IS] = [".", " = "].map(bytesOf);
+const [TURN, ACCOUNT, SESSION, INPUT, OUTPUT, END, TURNS] = ["turn ", "account ", "session ", "input ", "[", "end after ", " turns"].map(bytesOf);
 
 function emptyRun(nodes, bytes) {
   const whole = Uint32Array, short = Uint16Array, byte = Uint8Array;
   const run = {
     nodes, bytes, two: nodes[0].caps !== undefined, turns: 0,
     labels: new Words(nodes.map(n => n.label)), statements: new Words([""]), services: new Words(),
-    events: new Table({ turn: whole, leaf: short, section: byte, place: short, statement: whole }),
+    events: new Table({ turn: whole, leaf: short, section: byte, place: short, statement: whole, setting: whole }),
+    settings: new Table({ event: whole, leaf: short, input: byte, value: whole }),
     accounts: new Table({ event: whole, node: short, quota: whole, used: whole, caps: whole, taken: whole, steps: Float64Array, phase: byte }),
     sessions: new Table({ event: whole, number: short, service: short, server: short, client: short, level: byte, lends: whole, caps: whole, stage: byte,
       request: byte }),
@@ -303,6 +313,18 @@ function readSession(scanner, run) {
   } else scanner.wantEnd();
 }
 
+/** A setting of an input: an event at the turn of the one before it. */
+function readSetting(scanner, run) {
+  const { settings, events } = run, row = settings.add(), leaf = settings.leaf[row] = scanner.label(run.labels);
+  scanner.want(POINT);
+  const input = settings.input[row] = scanner.number();
+  settings.value[row] = readAfter(scanner, IS);
+  scanner.wantEnd();
+  if (!run.nodes[leaf].leaf || input >= run.nodes[leaf].inputs.length) scanner.refuse();
+  settings.event[row] = events.length;
+  addEvent(run, events.turn[events.length - 1], leaf, 0, 0, 0, row + 1);
+}
+
 function readOutput(scanner, run) {
   const { lines } = run, row = lines.add();
   lines.leaf[row] = scanner.label(run.labels);
@@ -347,12 +369,13 @@ function giveLanes(run) {
 
 /** What is looked up while one moves about in a run. */
 function index(run) {
-  const { events, accounts, sessions, lines, nodes } = run;
-  for (const table of [events, accounts, sessions, lines]) table.resize(Math.max(1, table.length));
+  const { events, accounts, sessions, settings, lines, nodes } = run;
+  for (const table of [events, accounts, sessions, settings, lines]) table.resize(Math.max(1, table.length));
   run.last = events.length - 1;
   run.accountRows = groupRows(accounts.node, accounts.length, nodes.length);
   run.sessionCount = sessions.number.subarray(0, sessions.length).reduce((most, n) => Math.max(most, n + 1), 0);
   run.sessionRows = groupRows(sessions.number, sessions.length, run.sessionCount);
+  run.settingRows = groupRows(settings.leaf, settings.length, nodes.length);
   for (const table of [accounts, sessions, lines]) table.at = groupRows(table.event, table.length, events.length).start;
   giveLanes(run);
   run.greatest = nodes.map(node => {
@@ -372,6 +395,7 @@ function readTrace(text, nodes) {
     else if (scanner.skips(SESSION)) readSession(scanner, run);
     else if (scanner.skips(TURN)) readTurn(scanner, run);
     else if (scanner.skips(OUTPUT)) readOutput(scanner, run);
+    else if (scanner.skips(INPUT)) readSetting(scanner, run);
     else if (scanner.skips(END)) ended = true;
     else scanner.refuse();
   }

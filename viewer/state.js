@@ -20,6 +20,19 @@ function accountAt(run, node, event) {
   return accountOf(run, rows[lastUpTo(rows, run.accounts.event, event)]);
 }
 
+/** The values of a leaf's inputs after an event; those of a leaf that has exited are 0. */
+function inputsAt(run, node, event) {
+  const { settings: t, nodes } = run, values = (nodes[node].inputs ?? []).map(() => 0), rows = run.settingRows.of(node);
+  if (!values.length || accountAt(run, node, event).phase === "exited") return values;
+  const seen = new Set();
+  for (let place = lastUpTo(rows, t.event, event); place >= 0 && seen.size < values.length; place--) {
+    const input = t.input[rows[place]];
+    if (!seen.has(input)) values[input] = t.value[rows[place]];
+    seen.add(input);
+  }
+  return values;
+}
+
 /** The session of a row, or null where it is gone. */
 function sessionOf(run, row) {
   const t = run.sessions;
@@ -122,6 +135,10 @@ function sentence(run, event) {
   const t = run.events, name = node => run.nodes[node].name;
   if (event === 0) return ["Start: each component that does not wait for another has its quantum"];
   if (event === run.last) return [`End, after ${counted(run.turns, "turn")}: ${phaseCounts(run, event)}`];
+  if (t.setting[event]) {
+    const { leaf, input, value } = run.settings, row = t.setting[event] - 1;
+    return [`From outside: input ${input[row]} of ${name(leaf[row])} is ${grouped(value[row])} from here on`];
+  }
   const who = name(t.leaf[event]), section = SECTIONS[t.section[event]], code = run.statements.texts[t.statement[event]];
   const [change] = sessionChanges(run, event), session = change?.after ?? change?.before;
   const which = session ? `session ${session.number} (${session.service})` : "its session";
@@ -136,6 +153,12 @@ function sentence(run, event) {
     return [`${who} ends ${section} and answers ${session ? `${name(session.client)} in ${which}` : "its client"}${gone}`];
   }
   return [`${who} ends main and ${accountAt(run, t.leaf[event], event).phase === "exited" ? "exits" : "serves from now on"}`];
+}
+
+/** The values of all inputs after an event, in words; empty where no component has inputs. */
+function inputsTold(run, event) {
+  const told = run.nodes.filter(n => n.inputs?.length).map(n => `${n.name} ${inputsAt(run, n.number, event).map(grouped).join(" ")}`);
+  return told.length ? `Inputs: ${told.join(" · ")}` : "";
 }
 
 /** A change in words. */

@@ -40,7 +40,7 @@ function replay(tree, trace, visit) {
     const [, indent, name, rest] = /^( *)(\S+) (.*)$/.exec(line), number = word => Number(new RegExp(`(?:^| )${word} (\\d+)`).exec(rest)?.[1] ?? 0);
     path.length = indent.length / 2;
     path.push(name);
-    const leaf = !/^quantum \d+ left/.test(rest), waits = / after \S+ own/.test(rest), left = / caps \d+ left (\d+)/.exec(rest);
+    const leaf = !/^quantum \d+ left/.test(rest), waits = / after \S+ (?:own|inputs)/.test(rest), left = / caps \d+ left (\d+)/.exec(rest);
     const quota = leaf ? waits ? 0 : number("quantum") : number("left"), caps = leaf ? waits ? 0 : number("caps") : Number(left?.[1] ?? 0);
     accounts.set(path.join(" -> "), { quota, used: 0, caps, taken: 0, steps: 0, phase: leaf ? waits ? "pending" : "running" : "" });
   }
@@ -48,7 +48,7 @@ function replay(tree, trace, visit) {
   for (const line of trace.split("\n").filter(l => l)) {
     const account = /^account (.*?) quota (\d+)(?: used (\d+))?(?: caps (\d+))?(?: taken (\d+))?(?: steps (\d+)\/\d+ (\w+))?$/.exec(line);
     const session = /^session (\d+) (\S+) of (.*) for (.*) at level (\d) lends (\d+)(?: caps (\d+))?(?:, (.*) (waits|at hand))?$/.exec(line);
-    if (/^turn |^end after /.test(line)) visit(accounts, sessions, k++);
+    if (/^turn |^end after |^input /.test(line)) visit(accounts, sessions, k++);
     else if (account) {
       const [quota, used, caps, taken, steps] = account.slice(2, 7).map(digits => Number(digits ?? 0));
       accounts.set(account[1], { quota, used, caps, taken, steps, phase: account[7] ?? "" });
@@ -179,7 +179,8 @@ for (const { name, tree, trace } of pairs) {
     for (const axis of ["event", "turn"]) for (const count of [3, 50, 700]) {
       const [low, high] = v.wholeWindow(run, axis), view = count === 50 ? v.windowAround(run, axis, high / 3, (high - low) / 4) : [low, high];
       const columns = v.columnEvents(run, axis, view, count);
-      if (count !== 50) assert.deepEqual([columns.first[0], columns.last[count - 1]], [0, run.last]);
+      const first = axis === "event" ? 0 : run.events.turn.subarray(0, run.events.length).lastIndexOf(0);  // settings before the first turn
+      if (count !== 50) assert.deepEqual([columns.first[0], columns.last[count - 1]], [first, run.last]);
       const node = nodes.at(-1).number, band = v.bandOf(run, node, "quota", columns);
       for (let x = 0; x < count; x++) {
         const values = [];
@@ -502,4 +503,28 @@ test("a million turns of 64 leaves are read, and the state in their middle is ma
   const [read, middle, bands, places] = marks.slice(1).map((m, i) => `${(m - marks[i]).toFixed(1)} ms`);
   t.diagnostic(`${bytes.length} bytes, ${long.last} events: read in ${read}, state in the middle ${middle}, whole time line ${bands}, layout ${places}`);
   assert.ok(marks[1] - marks[0] < 60000 && marks[2] - marks[1] < 1000);
+});
+
+test("settings are events between turns, and the values of inputs hold from there on", () => {
+  const tree = text(join(viewer, "tests", "settings.tree")), trace = text(join(viewer, "tests", "settings.trace"));
+  const nodes = v.readTree(tree), run = v.readTrace(trace, nodes), values = new Map(), told = [];
+  const named = new Map(nodes.filter(n => n.leaf).map(n => [n.name, n.number]));
+  let event = 0;
+  for (const line of trace.split("\n")) {
+    const set = /^input (?:\S+ -> )*(\S+)\.(\d) = (\d+)$/.exec(line);
+    if (set) {
+      values.set(`${named.get(set[1])} ${set[2]}`, Number(set[3]));
+      told.push(v.sentence(run, ++event)[0]);
+      assert.equal(v.inputsAt(run, named.get(set[1]), event)[Number(set[2])], Number(set[3]));
+      assert.equal(told.at(-1), `From outside: input ${set[2]} of ${set[1]} is ${Number(set[3]).toLocaleString("en")} from here on`);
+    } else if (/^turn /.test(line)) event++;
+    for (const { number, inputs } of nodes.filter(n => n.leaf)) {
+      const exited = v.accountAt(run, number, event).phase === "exited";
+      if (!set && !/^turn /.test(line)) continue;
+      assert.deepEqual(v.inputsAt(run, number, event), inputs.map((_, i) => exited ? 0 : values.get(`${number} ${i}`) ?? 0));
+    }
+  }
+  assert.ok(told.length > 2);
+  assert.match(v.inputsTold(run, event), /^Inputs: drv /);
+  assert.throws(() => v.readTrace(trace.replace(".0 = ", ".7 = "), nodes), v.Malformed);
 });

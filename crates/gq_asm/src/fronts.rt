@@ -59,6 +59,20 @@ fn of_d(text: &[u8]) -> Option<(Shape, &[u8])>
     }
 }
 
+/// `in` and `index`.
+#[inline(always)]
+fn of_i(text: &[u8]) -> Option<(Shape, &[u8])>
+    ensures { IfSome result (λ p. BeginsWith text.now p.0 p.1.now) }
+{
+    match text {
+        [b'i', b'n', b'd', b'e', b'x', rest @ ..] => {
+            found(text, Shape::Number(WithNumber::Index), rest)
+        }
+        [b'i', b'n', rest @ ..] => found(text, Shape::Number(WithNumber::Input), rest),
+        _ => None,
+    }
+}
+
 /// `load`, `load4` and `lt`.
 #[inline(always)]
 fn of_l(text: &[u8]) -> Option<(Shape, &[u8])>
@@ -131,12 +145,10 @@ pub fn front_shape(text: &[u8]) -> Option<(Shape, &[u8])>
         [b'm', ..] => of_m(text),
         [b's', ..] => of_s(text),
         [b'f', b'r', b'e', b'e', rest @ ..] => found(text, Shape::Slot(WithSlot::Free), rest),
-        [b'i', b'n', b'd', b'e', b'x', rest @ ..] => {
-            found(text, Shape::Number(WithNumber::Index), rest)
-        }
+        [b'i', ..] => of_i(text),
         [b'c', ..] => of_c(text),
         [b'e', b'q', rest @ ..] => found(text, Shape::Plain(Bare::Combine(Operator::Equal)), rest),
-        [b'o', b'u', b't', rest @ ..] => found(text, Shape::Plain(Bare::Out), rest),
+        [b'o', b'u', b't', rest @ ..] => found(text, Shape::Out, rest),
         [b'o', b'p', b'e', b'n', rest @ ..] => found(text, Shape::Open, rest),
         [b'b', b'l', b'o', b'c', b'k', rest @ ..] => {
             found(text, Shape::Amount(WithAmount::Make(Form::Block)), rest)

@@ -14,6 +14,15 @@ use gq_model::program::Instruction;
 use gq_program::{Bare, Shape, WithAmount, WithBytes, WithNumber, WithSlot};
 use std::alloc::Global;
 
+/// `out`: without operands.
+#[inline(always)]
+pub fn out(after: &[u8]) -> Result<Instruction, TextFault>
+    ensures { result ≡ instruction_in after.now (shape_of Shape.Out) (words after.now) }
+{
+    at_end(after)?;
+    Ok(Instruction::Out)
+}
+
 /// Without operands.
 #[inline(always)]
 pub fn plain(statement: Bare, after: &[u8]) -> Result<Instruction, TextFault>
@@ -28,7 +37,8 @@ pub fn plain(statement: Bare, after: &[u8]) -> Result<Instruction, TextFault>
 pub fn with_number(statement: WithNumber, after: &[u8]) -> Result<Instruction, TextFault>
     ensures { result ≡ instruction_in after.now (shape_of (Shape.Number statement)) (words after.now) }
 {
-    let (number, rest) = next_number(after, statement.low(), statement.high())?;
+    let entry = statement.entry();
+    let (number, rest) = next_number(after, entry.low, entry.high)?;
     at_end(rest)?;
     Ok(statement.instruction(number))
 }

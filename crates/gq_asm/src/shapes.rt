@@ -14,6 +14,7 @@ fn of_two(word: &[u8]) -> Option<Shape>
     match word {
         [b'e', b'q'] => Some(Shape::Plain(Bare::Combine(Operator::Equal))),
         [b'l', b't'] => Some(Shape::Plain(Bare::Combine(Operator::Less))),
+        [b'i', b'n'] => Some(Shape::Number(WithNumber::Input)),
         _ => None,
     }
 }
@@ -32,7 +33,7 @@ fn of_three(word: &[u8]) -> Option<Shape>
         [b'd', b'i', b'v'] => Some(Shape::Number(WithNumber::Divide)),
         [b'm', b'o', b'd'] => Some(Shape::Number(WithNumber::Modulo)),
         [b'a', b'n', b'd'] => Some(Shape::Plain(Bare::Combine(Operator::And))),
-        [b'o', b'u', b't'] => Some(Shape::Plain(Bare::Out)),
+        [b'o', b'u', b't'] => Some(Shape::Out),
         [b's', b'a', b'y'] => Some(Shape::Say),
         _ => None,
     }

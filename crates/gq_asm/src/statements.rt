@@ -9,7 +9,7 @@ ghost use Rattle.gq_asm.specs.internal.State.{AnswersBy, reading_of};
 
 use crate::faults::LineError;
 use crate::instructions::{
-    open, plain, pool, say, with_amount, with_bytes, with_number, with_slot,
+    open, out, plain, pool, say, with_amount, with_bytes, with_number, with_slot,
 };
 use crate::operands::{at_end, next_number};
 use crate::reading::{BlockKind, Reading};
@@ -83,6 +83,7 @@ impl Reading {
         ensures { AnswersBy (λ _. reading_of self.new) result (put (reading_of self.old) (instruction_in after.now (shape_of shape) (words after.now))) }
     {
         match shape {
+            Shape::Out => self.put(out(after)),
             Shape::Plain(statement) => self.put(plain(statement, after)),
             Shape::Number(statement) => self.put(with_number(statement, after)),
             Shape::Slot(statement) => self.put(with_slot(statement, after)),

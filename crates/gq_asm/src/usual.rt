@@ -52,6 +52,17 @@ fn last_word(text: &[u8]) -> Option<(&[u8], &[u8])>
     }
 }
 
+/// `out`: without operands.
+#[inline(always)]
+fn out(text: &[u8]) -> Option<(Instruction, &[u8])>
+    ensures { IfSome result (λ p. Completes text.now (shape_of Shape.Out) p.0 p.1.now) }
+{
+    match text {
+        [b'\n', rest @ ..] => Some((Instruction::Out, rest)),
+        _ => None,
+    }
+}
+
 /// Without operands.
 #[inline(always)]
 fn plain(statement: Bare, text: &[u8]) -> Option<(Instruction, &[u8])>
@@ -69,7 +80,8 @@ fn with_number(statement: WithNumber, text: &[u8]) -> Option<(Instruction, &[u8]
     ensures { IfSome result (λ p. Completes text.now (shape_of (Shape.Number statement)) p.0 p.1.now) }
 {
     let (word, rest) = last_word(text)?;
-    let number = number_in(word, 10, statement.low(), statement.high())?;
+    let entry = statement.entry();
+    let number = number_in(word, 10, entry.low, entry.high)?;
     Some((statement.instruction(number), rest))
 }
 
@@ -128,6 +140,7 @@ fn completed(shape: Shape, text: &[u8]) -> Option<(Instruction, &[u8])>
     ensures { IfSome result (λ p. Completes text.now (shape_of shape) p.0 p.1.now) }
 {
     match shape {
+        Shape::Out => out(text),
         Shape::Plain(statement) => plain(statement, text),
         Shape::Number(statement) => with_number(statement, text),
         Shape::Slot(statement) => with_slot(statement, text),

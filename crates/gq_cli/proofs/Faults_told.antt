@@ -9,7 +9,7 @@ use Rattle.gq_load.specs.Load.{Fault, loaded}
 use Rattle.gq_load.specs.declared.fault.LoadFault.{LoadFault}
 use Rattle.gq_model.proofs.Small.{none_some, some_same}
 use Rattle.gq_model.specs.declared.fault.TurnFault.{TurnFault}
-use Rattle.gq_model.specs.machine.Scenario.{Component, Scenario, components}
+use Rattle.gq_model.specs.machine.Scenario.{Scenario}
 use Rattle.gq_model.specs.texts.Turns.{Turned, turned}
 use Rattle.gq_world.specs.Outcomes.{IsWhole, run_fault_text}
 use Rattle.gq_world.specs.Whole.{refused_with, turn_fault_text, with_scenario}
@@ -70,11 +70,11 @@ module _ (path other text turns : List ℕ) (before after : Option (List ℕ)) w
   both_line w line h e = by (loaded text) w h e
     where
       by : (r : Result Scenario Fault) (w : why.Refused) → Answers (Some w) r turns → line ≡ refused_with (run_fault_text (refusal_fault w))
-          → with_scenario r (λ s. none_written (turned (components s) turns)) ≡ Err line
+          → with_scenario r (λ s. none_written (turned s turns)) ≡ Err line
       by (Err fault) (answers.Scenario f) h e = ap Err (ap refused_with (sym h) ∙ sym e)
       by (Err fault) (answers.Turns f k) h e = absurd h
       by (Ok s) (answers.Scenario f) h e = absurd h
-      by (Ok s) (answers.Turns f k) h e = turns_line (turned (components s) turns) f k line h e
+      by (Ok s) (answers.Turns f k) h e = turns_line (turned s turns) f k line h e
 
   pub both_ends : (w : why.Refused) (r : untold.Fault) (m n : ℕ) → Answers (Some w) (loaded text) turns
       → WritesFaults (told_of (loaded text) path other) (lines_of_both text turns) before after → (r ≡ Write) ⊎ IsToldAs (refusal_fault w) r
@@ -96,18 +96,18 @@ module _ (path other text turns : List ℕ) (before after : Option (List ℕ)) w
   no_fault [] e = refl
   no_fault (x ∷ xs) e = absurd (none_some (sym e))
 
-  pub both_none : ((cs : List Component) (t : List ℕ) → first (turn_faults cs t) ≡ fault_of_turns (turned cs t)) → Answers None (loaded text) turns
+  pub both_none : ((s : Scenario) (t : List ℕ) → first (turn_faults s t) ≡ fault_of_turns (turned s t)) → Answers None (loaded text) turns
       → WritesFaults (told_of (loaded text) path other) (lines_of_both text turns) before after → IsWhole (faults_written text (Some turns)) before after
   both_none law h f = by (loaded text) h f
     where
       by : (r : Result Scenario Fault) → Answers None r turns → WritesFaults (told_of r path other) (lines_from r text turns) before after
-          → IsWhole (with_scenario r (λ s. none_written (turned (components s) turns))) before after
+          → IsWhole (with_scenario r (λ s. none_written (turned s turns))) before after
       by (Err fault) h f = absurd h
       by (Ok s) h f = record {
         text = [];
-        given = whole (turned (components s) turns) h;
-        written = told_none other (map turn_fault_line (turn_faults (components s) turns))
-            (ap (map turn_fault_line) (no_fault (turn_faults (components s) turns) (law (components s) turns ∙ h))) f;
+        given = whole (turned s turns) h;
+        written = told_none other (map turn_fault_line (turn_faults s turns))
+            (ap (map turn_fault_line) (no_fault (turn_faults s turns) (law s turns ∙ h))) f;
       }
         where
           whole : (t : Turned) → fault_of_turns t ≡ None → none_written t ≡ Ok []

@@ -5,7 +5,7 @@ use Rattle.std.specs.Io.KnownBytes.{IsAtEnd}
 use Rattle.std.proofs.KnownBytes.{Consumes-nil, Consumes-trans}
 use Rattle.gq_command.specs.Input.{GivesAtMost}
 use Rattle.std.specs.Prelude.{OnOk}
-use Rattle.gq_model.specs.machine.Scenario.{Component, Scenario, components}
+use Rattle.gq_model.specs.machine.Scenario.{Scenario}
 use Rattle.gq_model.specs.rules.Accept.{IsAccepted}
 use Rattle.gq_model.specs.texts.Turns.{turned}
 use Rattle.gq_init.specs.TurnReading.{Reading, answer}
@@ -26,7 +26,7 @@ use Rattle.gq_cli.specs.declared.execute.Fault.TheVariants.{Refused, Memory, Rea
 use Rattle.gq_cli.specs.internal.Running.{EndsAs, HasCome, ReadsTurns}
 
 -- what was read to its end
-pub read_to_end : (cs : List Component) (old new : Option (List ℕ)) (first last : Reading)
+pub read_to_end : (cs : Scenario) (old new : Option (List ℕ)) (first last : Reading)
     → ReadsText old new (λ text. (rest : List ℕ) → answer cs last rest ≡ answer cs first (text ++ rest))
     → ((rest : List ℕ) → answer cs first rest ≡ turned cs rest) → ReadsText old new (λ text. answer cs last [] ≡ turned cs text)
 read_to_end cs old new first last h starts = record {
@@ -40,10 +40,10 @@ reads_by old new by h = record { text = h.text; read = h.read; so = by h.text h.
 
 -- PIECES
 
-pub come_none : (cs : List Component) (old : Option (List ℕ)) (first : Reading) → HasCome cs old old first first
+pub come_none : (cs : Scenario) (old : Option (List ℕ)) (first : Reading) → HasCome cs old old first first
 come_none cs old first = record { text = []; taken = Consumes-nil old; size = omega arith; same = λ rest. refl }
 
-pub come_both : (cs : List Component) (old between new : Option (List ℕ)) (first mid last : Reading) → HasCome cs old between first mid
+pub come_both : (cs : Scenario) (old between new : Option (List ℕ)) (first mid last : Reading) → HasCome cs old between first mid
     → HasCome cs between new mid last → HasCome cs old new first last
 come_both cs old between new first mid last h g = record {
   text = h.text ++ g.text;
@@ -53,7 +53,7 @@ come_both cs old between new first mid last h g = record {
 }
 
 -- the reader is at its end
-pub come_all : (cs : List Component) (old new : Option (List ℕ)) (first last : Reading) → HasCome cs old new first last → first.size ≡ 0 → IsAtEnd new
+pub come_all : (cs : Scenario) (old new : Option (List ℕ)) (first last : Reading) → HasCome cs old new first last → first.size ≡ 0 → IsAtEnd new
     → last.size ≤ 18874368 → ReadsText old new (λ text. (rest : List ℕ) → answer cs last rest ≡ answer cs first (text ++ rest))
 come_all cs old new first last h starts end size = record {
   text = h.text;
@@ -61,11 +61,11 @@ come_all cs old new first last h starts end size = record {
   so = h.same;
 }
 
-pub come_at_most : (cs : List Component) (n : ℕ) (old new : Option (List ℕ)) (first last : Reading) → HasCome cs old new first last → first.size ≡ 0
+pub come_at_most : (cs : Scenario) (n : ℕ) (old new : Option (List ℕ)) (first last : Reading) → HasCome cs old new first last → first.size ≡ 0
     → last.size ≤ n → GivesAtMost n old new
 come_at_most cs n old new first last h starts size = (h.text, h.taken, omega (arith, size, h.size, starts))
 
-pub at_most_both : (n m : ℕ) (cs : List Component) (old between new : Option (List ℕ)) (first mid : Reading) → HasCome cs old between first mid → first.size ≡ 0
+pub at_most_both : (n m : ℕ) (cs : Scenario) (old between new : Option (List ℕ)) (first mid : Reading) → HasCome cs old between first mid → first.size ≡ 0
     → mid.size + m ≤ n → GivesAtMost m between new → GivesAtMost n old new
 at_most_both n m cs old between new first mid h starts size g =
     (h.text ++ g.0, Consumes-trans old between new h.text g.0 h.taken g.1, omega (arith, size, h.size, starts, g.2, length-append h.text g.0))
@@ -88,13 +88,13 @@ refused_by faults.Memory scenario text line gives not e = absurd (not refl)
 refused_by faults.Write scenario text line gives not e = absurd gives
 
 -- turns that are refused
-pub turns_refused : (s : Scenario) (text line : List ℕ) (fault : TurnFault) (k : ℕ) → turned (components s) text ≡ Err (fault, k)
+pub turns_refused : (s : Scenario) (text line : List ℕ) (fault : TurnFault) (k : ℕ) → turned s text ≡ Err (fault, k)
     → line ≡ refused_with (turn_fault_text fault k) → turns_written s text ≡ Err line
 turns_refused s text line fault k e is = ap (written_turns s) e ∙ ap Err (sym is)
 
 module _ (scenario : List ℕ) (s : Scenario) (load : loaded scenario ≡ Ok s) where
   runs : (text : List ℕ) → run_written scenario text ≡ turns_written s text
-  runs text = ap (λ l. with_scenario l (λ r. written_turns r (turned (components r) text))) load
+  runs text = ap (λ l. with_scenario l (λ r. written_turns r (turned r text))) load
 
   pub ended_as : {A : Type 0} (text : List ℕ) (r : Result A Fault) (before after : Option (List ℕ)) → EndsAs s text r before after
       → Ended r before after (Of_both Run scenario text)

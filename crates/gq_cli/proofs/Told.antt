@@ -2,7 +2,7 @@
 use Rattle.std.proofs.Common.{◌≡◌, ◌≢◌, ◌∙◌, List, ℕ, Option, Result, Err, refl, ap, sym, subst}
 use Rattle.std.specs.Prelude.{string_bytes}
 use Rattle.gq_model.specs.declared.fault.TurnFault.{TurnFault}
-use Rattle.gq_model.specs.machine.Scenario.{Scenario, components}
+use Rattle.gq_model.specs.machine.Scenario.{Scenario}
 use Rattle.gq_model.specs.texts.Turns.{turned}
 use Rattle.gq_init.specs.declared.counted.Counted.{Counted}
 use Rattle.gq_init.specs.Counts.{written_to}
@@ -102,7 +102,7 @@ refusal_silent f scenario Read gives told = tt {0}
 refusal_silent f scenario Write gives told = gives_before f scenario gives told
 
 pub told_turns : (s : Scenario) (old new : Option (List ℕ)) (fault : TurnFault) (k : ℕ) (r : Fault) → IsToldAs (faults.Turns fault k) r
-    → ReadsText old new (λ text. turned (components s) text ≡ Err (fault, k)) → ReadsTurns s old new (Err r)
+    → ReadsText old new (λ text. turned s text ≡ Err (fault, k)) → ReadsTurns s old new (Err r)
 told_turns s old new fault k (Refused line) told h = reads_by old new (λ text e. turns_refused s text (string_bytes line) fault k e told.2) h
 told_turns s old new fault k Memory told h = tt {0}
 told_turns s old new fault k Read told h = tt {0}

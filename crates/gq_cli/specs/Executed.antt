@@ -6,7 +6,7 @@ use Rattle.gq_init.specs.declared.counted.Counted.{Counted}
 use Rattle.gq_init.specs.Counts.{written_to, failures_of}
 use Rattle.gq_init.specs.Writes.{IsFront, IsRaised}
 use Rattle.gq_load.specs.Load.{Fault, fault_text, loaded}
-use Rattle.gq_model.specs.machine.Scenario.{Scenario, components}
+use Rattle.gq_model.specs.machine.Scenario.{Scenario}
 use Rattle.gq_model.specs.texts.Turns.{Turned, turned}
 use Rattle.gq_world.specs.Whole.{Written, refused_with, with_scenario, turn_fault_text, run_written, check_written, asm_written}
 use Rattle.gq_world.specs.Headline.{WritesPromised}
@@ -114,7 +114,7 @@ none_written (Err fault) = Err (refused_with (turn_fault_text fault.0 fault.1))
 
 abbrev pub faults_written : List ℕ → Option (List ℕ) → Written
 faults_written scenario None = with_scenario (loaded scenario) (λ s. Ok [])
-faults_written scenario (Some turns) = with_scenario (loaded scenario) (λ s. none_written (turned (components s) turns))
+faults_written scenario (Some turns) = with_scenario (loaded scenario) (λ s. none_written (turned s turns))
 
 -- the text of a rule, where there is one of that code
 abbrev pub rule_text : List ℕ → Option RuleText → Written

@@ -75,7 +75,7 @@ fn read_pieces<R: Read>(
 ) -> Result<(), Fault>
     requires start { turns.old.size ≡ 0 }
     ensures text { OnOk result (ReadsText (R.remaining reader.old) (R.remaining reader.new) (λ text. (rest : List ℕ) →
-        answer (components table.now) turns.new rest ≡ answer (components table.now) turns.old (text ++ rest))) }
+        answer table.now turns.new rest ≡ answer table.now turns.old (text ++ rest))) }
     ensures unread { IfErr result (λ f. IsUnread f) }
     ensures most { GivesAtMost 18874369 (R.remaining reader.old) (R.remaining reader.new) }
 {
@@ -98,7 +98,7 @@ fn read_piece<R: Read>(
     table: &NodeTable,
 ) -> Result<usize, Fault>
     requires size { turns.old.size + length room.old < 2 ^ 60 }
-    ensures come { OnOk result (HasCome (components table.now) (R.remaining reader.old) (R.remaining reader.new) turns.old turns.new) }
+    ensures come { OnOk result (HasCome table.now (R.remaining reader.old) (R.remaining reader.new) turns.old turns.new) }
     ensures taken { IfOk result (λ n. turns.new.size ≡ turns.old.size + n) }
     ensures bound { IfOk result (λ n. n ≤ length room.old) }
     ensures end { IfOk result (λ n. n ≡ 0 → 0 < length room.old → IsAtEnd (R.remaining reader.new)) }

@@ -1,14 +1,10 @@
 -- The code of statements is read back as these statements.
-use Rattle.std.proofs.Common.{◌≡◌, ℕ, zero, suc, ◌+◌, ◌-◌, ◌*◌, ◌<◌, ◌≤◌, List, ◌∷◌, ◌++◌, length, true, false, ◌==◌, if◌then◌else◌, Ok, Err, refl}
+use Rattle.std.proofs.Common.{◌≡◌, ℕ, zero, suc, ◌+◌, ◌-◌, ◌*◌, ◌<◌, ◌≤◌, List, ◌∷◌, ◌++◌, length, true, false, ◌==◌, if◌then◌else◌, Ok, Err}
 use Rattle.std.proofs.Common.{ap, ◌∙◌, arith, append_assoc}
 use Rattle.std.specs.Prelude.{nat_lt, nat_le, ◌&&◌}
 use Rattle.std.proofs.lemmas.Bool.{and_parts, lt-ltb, leb-true, cond-true, cond-false}
+use Rattle.std.proofs.lemmas.Bool.Decides.{nat_tests}
 use Rattle.gq_model.specs.declared.program.Instruction.{Instruction}
-use Rattle.gq_model.specs.declared.program.Instruction.TheVariants.{Say, Out, Drop, Dup, Push, Divide, Modulo, Get, Set, Index, Combine, Make}
-use Rattle.gq_model.specs.declared.program.Instruction.TheVariants.{MakePool, Load, Store, Free, Take, Give, Peek, Poke, Open, Upgrade, Call, Close}
-use Rattle.gq_model.specs.declared.program.Operator.TheVariants.{Add, Subtract, Multiply, And, Equal, Less}
-use Rattle.gq_model.specs.declared.program.Form.TheVariants.{Block, Slice, Space}
-use Rattle.gq_model.specs.declared.program.Width.TheVariants.{Byte, Word}
 use Rattle.gq_model.specs.declared.fault.CodeFault.TheVariants.{Truncated, BadNesting, BadOperand, TooLong}
 use Rattle.gq_model.specs.machine.Program.{Statements, Done, Do, If, Loop, size, spelled}
 use Rattle.gq_model.specs.machine.Lists.{all_of, between}
@@ -17,7 +13,7 @@ use Rattle.gq_model.specs.texts.Code.{is_body, body_code, body_length, greatest_
 use Rattle.gq_model.specs.texts.Spelling.{spellings, shape_of_opcode}
 use Rattle.gq_model.specs.texts.Decode.{decoded_then, number_at, checked, cut, operands_at}
 use Rattle.gq_model.proofs.Code_laws.{number_at-spelled_2, number_at-spelled_4, cut-append, checked_true}
-use Rattle.gq_model.proofs.Instruction_laws.{each_spelled, instruction_back}
+use Rattle.gq_model.proofs.Instruction_laws.{each_spelled, opcode_small, instruction_back}
 use Rattle.gq_code.specs.internal.Bodies.{body_in, opened_at, arms_at, round_at, plain_at, choice_with, round_with, instruction_at, statement_with}
 use Rattle.gq_code.specs.internal.Bodies.{continued, section_at}
 use Rattle.gq_code.proofs.Bodies.{then_along, body_in-cons}
@@ -30,39 +26,10 @@ abbrev IsPlain : Instruction → Type 0
 IsPlain i = (opcode i == 0x40 ≡ false) × (opcode i == 0x41 ≡ false)
 
 each_plain : (i : Instruction) → IsPlain i
-each_plain (Say text) = (refl, refl)
-each_plain Out = (refl, refl)
-each_plain Drop = (refl, refl)
-each_plain Dup = (refl, refl)
-each_plain (Push n) = (refl, refl)
-each_plain (Divide n) = (refl, refl)
-each_plain (Modulo n) = (refl, refl)
-each_plain (Get i) = (refl, refl)
-each_plain (Set i) = (refl, refl)
-each_plain (Index d) = (refl, refl)
-each_plain (Combine Add) = (refl, refl)
-each_plain (Combine Subtract) = (refl, refl)
-each_plain (Combine Multiply) = (refl, refl)
-each_plain (Combine And) = (refl, refl)
-each_plain (Combine Equal) = (refl, refl)
-each_plain (Combine Less) = (refl, refl)
-each_plain (Make Block place n) = (refl, refl)
-each_plain (Make Slice place n) = (refl, refl)
-each_plain (Make Space place n) = (refl, refl)
-each_plain (MakePool place n m) = (refl, refl)
-each_plain (Load Byte place) = (refl, refl)
-each_plain (Load Word place) = (refl, refl)
-each_plain (Store Byte place) = (refl, refl)
-each_plain (Store Word place) = (refl, refl)
-each_plain (Free place) = (refl, refl)
-each_plain (Take place) = (refl, refl)
-each_plain (Give place) = (refl, refl)
-each_plain (Peek place) = (refl, refl)
-each_plain (Poke place) = (refl, refl)
-each_plain (Open place service n) = (refl, refl)
-each_plain (Upgrade place n) = (refl, refl)
-each_plain (Call place) = (refl, refl)
-each_plain (Close place) = (refl, refl)
+each_plain i = let small = opcode_small i in (other (opcode i) 0x40 (omega (arith, small)), other (opcode i) 0x41 (omega (arith, small)))
+  where
+    other : (a b : ℕ) → a < b → (a == b) ≡ false
+    other a b less = grind (arith, nat_tests, less)
 
 plain_back : (i : Instruction) (k : ℕ) (rest : List ℕ) → all_of in_range (operands i) ≡ true → k < greatest_statements →
     plain_at (shape_of_opcode (opcode i) spellings) k (operands_code (operands i) ++ rest) ≡ Ok (i, (suc k, rest))

@@ -5,14 +5,10 @@ use Rattle.std.proofs.lemmas.Bool.{and_parts, or_cases, leb-true, ltb-true, eqb-
 use Rattle.gq_model.specs.declared.program.Place.{Place}
 use Rattle.gq_model.specs.declared.program.Place.TheVariants.{Own, Shared, Object}
 use Rattle.gq_model.specs.declared.program.Instruction.{Instruction}
-use Rattle.gq_model.specs.declared.program.Instruction.TheVariants.{Say, Out, Drop, Dup, Push, Divide, Modulo, Get, Set, Index, Combine, Make}
-use Rattle.gq_model.specs.declared.program.Instruction.TheVariants.{MakePool, Load, Store, Free, Take, Give, Peek, Poke, Open, Upgrade, Call, Close}
-use Rattle.gq_model.specs.declared.program.Operator.TheVariants.{Add, Subtract, Multiply, And, Equal, Less}
-use Rattle.gq_model.specs.declared.program.Form.TheVariants.{Block, Slice, Space}
-use Rattle.gq_model.specs.declared.program.Width.TheVariants.{Byte, Word}
 use Rattle.gq_model.specs.machine.Program.{Program, Statements, Done, Do, If, Loop, spelled}
 use Rattle.gq_model.specs.machine.Lists.{all_of, between}
 use Rattle.gq_model.specs.texts.Letters.{is_name_byte, is_said_byte, is_digit}
+use Rattle.gq_model.proofs.Instruction_laws.{opcode_small}
 use Rattle.gq_model.specs.texts.Operands.{Operand, Number, Slot, Bytes, Text, Service, opcode, operands, in_range, is_slot_or_object}
 use Rattle.gq_model.specs.texts.Operands.{slot_code, operand_code, operands_code}
 use Rattle.gq_model.specs.texts.Code.{IsProgram, is_body, body_code, body_length, section_number, are_sections, has_limit, limits_code, section_bits}
@@ -87,39 +83,7 @@ operands_bytes (o ∷ rest) h =
     let p = and_parts (in_range o) (all_of in_range rest) h in bytes_then (operand_code o) (operands_code rest) (operand_bytes o p.0) (operands_bytes rest p.1)
 
 opcode_byte : (i : Instruction) → opcode i < 256
-opcode_byte (Say text) = omega arith
-opcode_byte Out = omega arith
-opcode_byte Drop = omega arith
-opcode_byte Dup = omega arith
-opcode_byte (Push n) = omega arith
-opcode_byte (Divide n) = omega arith
-opcode_byte (Modulo n) = omega arith
-opcode_byte (Get i) = omega arith
-opcode_byte (Set i) = omega arith
-opcode_byte (Index d) = omega arith
-opcode_byte (Combine Add) = omega arith
-opcode_byte (Combine Subtract) = omega arith
-opcode_byte (Combine Multiply) = omega arith
-opcode_byte (Combine And) = omega arith
-opcode_byte (Combine Equal) = omega arith
-opcode_byte (Combine Less) = omega arith
-opcode_byte (Make Block place n) = omega arith
-opcode_byte (Make Slice place n) = omega arith
-opcode_byte (Make Space place n) = omega arith
-opcode_byte (MakePool place n m) = omega arith
-opcode_byte (Load Byte place) = omega arith
-opcode_byte (Load Word place) = omega arith
-opcode_byte (Store Byte place) = omega arith
-opcode_byte (Store Word place) = omega arith
-opcode_byte (Free place) = omega arith
-opcode_byte (Take place) = omega arith
-opcode_byte (Give place) = omega arith
-opcode_byte (Peek place) = omega arith
-opcode_byte (Poke place) = omega arith
-opcode_byte (Open place service n) = omega arith
-opcode_byte (Upgrade place n) = omega arith
-opcode_byte (Call place) = omega arith
-opcode_byte (Close place) = omega arith
+opcode_byte i = let small = opcode_small i in omega (arith, small)
 
 -- STATEMENTS
 

@@ -1,15 +1,18 @@
 -- How long the code of statements is.
-use Rattle.std.proofs.Common.{◌≡◌, ℕ, ◌-◌, ◌*◌, ◌≤◌, List, [], ◌∷◌, ◌++◌, length, true, arith, length-append}
+use Rattle.std.proofs.Common.{◌≡◌, ℕ, zero, suc, ◌-◌, ◌*◌, ◌/◌, ◌≤◌, List, [], ◌∷◌, ◌++◌, length, true, refl, ap, arith, length-append}
 use Rattle.std.specs.Prelude.{nat_le, nat_lt, ◌&&◌}
 use Rattle.std.proofs.lemmas.Bool.{and_parts, leb-true}
 use Rattle.gq_model.specs.declared.program.Instruction.{Instruction}
-use Rattle.gq_model.specs.declared.program.Instruction.TheVariants.{Say, Out, Drop, Dup, Push, Divide, Modulo, Get, Set, Index, Combine, Make}
+use Rattle.gq_model.specs.declared.program.Instruction.TheVariants.{Say, Out, Operands, Make}
 use Rattle.gq_model.specs.declared.program.Instruction.TheVariants.{MakePool, Load, Store, Free, Take, Give, Peek, Poke, Open, Upgrade, Call, Close}
-use Rattle.gq_model.specs.machine.Program.{Statements, Done, Do, If, Loop, size}
+use Rattle.gq_model.specs.declared.program.OperandStatement.TheVariants.{Plain, Numbered}
+use Rattle.gq_model.specs.machine.Program.{Statements, Done, Do, If, Loop, size, spelled}
 use Rattle.gq_model.specs.machine.Lists.{all_of, between}
 use Rattle.gq_model.specs.texts.Letters.{is_name, is_said, is_name_byte, is_said_byte}
-use Rattle.gq_model.specs.texts.Operands.{Service, number, operands, in_range, is_slot, operand_code, instruction_code}
+use Rattle.gq_model.specs.texts.Operands.{Service, number, number_entry, operands, in_range, is_slot, operand_code, instruction_code}
 use Rattle.gq_model.specs.texts.Code.{is_body, body_code}
+use Rattle.gq_model.proofs.Operand_laws.{IsWidth}
+use Rattle.gq_model.proofs.Instruction_laws.{each_numbered}
 
 text_short : (text : List ℕ) → is_said text ≡ true → length text ≤ 64
 text_short text h = leb-true (length text) 64 ((and_parts (nat_le (length text) 64) (all_of is_said_byte text) h).0)
@@ -18,6 +21,17 @@ name_short : (name : List ℕ) → is_name name ≡ true → length name ≤ 16
 name_short name h =
     let n =
     length name in let range = (and_parts (between 1 16 n) (all_of is_name_byte name) h).0 in leb-true n 16 ((and_parts (nat_le 1 n) (nat_le n 16) range).1)
+
+number_length : (k v : ℕ) → length (spelled k v) ≡ k
+number_length zero v = refl
+number_length (suc k) v = ap suc (number_length k (v / 256))
+
+-- a number takes at most four bytes
+narrow : (w high : ℕ) → IsWidth w high → w ≤ 4
+narrow (suc zero) high h = omega arith
+narrow (suc (suc zero)) high h = omega arith
+narrow (suc (suc (suc (suc zero)))) high h = omega arith
+narrow _ high h = absurd h
 
 -- at most 66 bytes, those of the longest text
 instruction_short : (i : Instruction) → all_of in_range (operands i) ≡ true → length (instruction_code i) ≤ 66
@@ -28,15 +42,12 @@ instruction_short (Open p name n) h =
     name_short name ((and_parts (is_name name) (all_of in_range (number n ∷ [])) parts.1).0) in
     omega (arith, k, length-append name (operand_code (number n) ++ []))
 instruction_short Out h = omega arith
-instruction_short Drop h = omega arith
-instruction_short Dup h = omega arith
-instruction_short (Push n) h = omega arith
-instruction_short (Divide n) h = omega arith
-instruction_short (Modulo n) h = omega arith
-instruction_short (Get i) h = omega arith
-instruction_short (Set i) h = omega arith
-instruction_short (Index d) h = omega arith
-instruction_short (Combine f) h = omega arith
+instruction_short (Operands (Plain s)) h = omega arith
+instruction_short (Operands (Numbered s n)) h =
+    let w = (number_entry s).width in
+    let count = number_length w n in
+    let few = narrow w (number_entry s).high (each_numbered s).1 in
+    omega (arith, count, few, length-append (spelled w n) [])
 instruction_short (Make form p n) h = omega arith
 instruction_short (MakePool p n m) h = omega arith
 instruction_short (Load width p) h = omega arith

@@ -161,6 +161,10 @@ fn push_plain<'a>(
     ensures rest { IfOk result (λ rest. length rest.now ≤ length bytes.now) }
 {
     match shape {
+        Shape::Out => {
+            push(body, Instruction::Out)?;
+            Ok(bytes)
+        }
         Shape::Plain(statement) => {
             push(body, statement.instruction())?;
             Ok(bytes)

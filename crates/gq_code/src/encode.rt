@@ -8,7 +8,7 @@ ghost use Rattle.gq_model.specs.texts.Code.{body_code, body_length};
 ghost use Rattle.gq_program.specs.Trees.{tree_of};
 ghost use Rattle.gq_code.specs.Codes.{has_code};
 
-use gq_model::program::{Instruction, Place};
+use gq_model::program::{Instruction, OperandStatement, Place};
 use gq_program::Shape;
 use gq_program::program::{Body, Statement};
 use std::alloc::{AllocError, Global};
@@ -71,13 +71,10 @@ fn write_operands(out: &mut Vec<u8>, instruction: &Instruction) -> Result<(), Al
     ensures { OnOk result (out.new.items ≡ out.old.items ++ operands_code (operands instruction.now)) }
 {
     match instruction {
-        Instruction::Out | Instruction::Drop | Instruction::Dup | Instruction::Combine(_) => Ok(()),
+        Instruction::Out | Instruction::Operands(OperandStatement::Plain(_)) => Ok(()),
         Instruction::Say(text) => write_text(out, text.as_bytes()),
-        Instruction::Push(n) | Instruction::Divide(n) | Instruction::Modulo(n) => {
-            write_number(out, 4, u64::from(*n))
-        }
-        Instruction::Get(i) | Instruction::Set(i) | Instruction::Index(i) => {
-            write_number(out, 1, u64::from(*i))
+        Instruction::Operands(OperandStatement::Numbered(statement, n)) => {
+            write_number(out, statement.entry().width, u64::from(*n))
         }
         Instruction::Make(_, place, n) | Instruction::Upgrade(place, n) => {
             write_place(out, *place)?;

@@ -155,7 +155,8 @@ pub(crate) fn with_number(
     ensures read { Answers (λ p. (p.0, p.1.now)) result (operands_at (shape_of (Shape.Number statement)) bytes.now) }
     ensures rest { IfOk result (λ p. length p.1.now ≤ length bytes.now) }
 {
-    let (number, rest) = ranged(bytes, statement.width(), statement.low(), statement.high())?;
+    let entry = statement.entry();
+    let (number, rest) = ranged(bytes, entry.width, entry.low, entry.high)?;
     Ok((statement.instruction(number), rest))
 }
 

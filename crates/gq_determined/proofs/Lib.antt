@@ -4,6 +4,7 @@ pub mod regions
 pub mod standing
 pub mod stepping
 pub mod running
+pub mod unread
 pub mod writing
 pub mod accounting
 -- worked examples

@@ -4,8 +4,10 @@ ghost use Rattle.gq_laws.specs.Sound.{IsSound};
 ghost use Rattle.gq_races.specs.Races.{IsOrderFree, IsRaceFree};
 ghost use Rattle.gq_determined.specs.Determined.{IsLeaf, LeavesSame, ProvidesNothing, WritesSame};
 
-/// What does not depend on the turns, if a scenario is as the readers give it and is accepted, and `races` writes no `race` line of it. No statement outside
-/// `main` of a shared leaf then changes an own slot, what is in one or what is behind one.
+/// What depends neither on the turns nor on the inputs. A run is over turns of leaves and settings of their inputs, in any order.
+///
+/// The scenario is as the readers give it and is accepted, and `races` writes no `race` line of it. So no statement outside `main` of a shared leaf changes an
+/// own slot, what is in one or what is behind one. No section of a leaf has an `in`, so nobody reads an input.
 ///
 /// - `writes`: each leaf that provides nothing writes the same lines, in the same order, in all runs that come to rest. Take any two runs, at rest or not:
 ///   what it wrote in one is a prefix of what it wrote in the other, or the other way round.

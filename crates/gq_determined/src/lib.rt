@@ -1,4 +1,4 @@
-//! Which outcomes of a scenario do not depend on the turns: a theorem over definitions alone, the contract of a call that does nothing.
+//! Which outcomes of a scenario depend neither on the turns nor on the inputs: a theorem over definitions alone, the contract of a call that does nothing.
 //!
 //! ```rust
 //! use gq_determined::determined::determined_laws;

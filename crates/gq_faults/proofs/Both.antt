@@ -1,6 +1,6 @@
 -- Why a scenario and turns are refused.
 use Rattle.std.proofs.Common.{◌≡◌, ℕ, List, [], map, Option, Some, None, Result, Ok, Err, ap, refl, sym, subst, ◌∙◌}
-use Rattle.gq_model.specs.machine.Scenario.{Scenario, components}
+use Rattle.gq_model.specs.machine.Scenario.{Scenario}
 use Rattle.gq_model.specs.declared.fault.TurnFault.{TurnFault}
 use Rattle.gq_load.specs.Load.{Fault, fault_text, loaded}
 use Rattle.gq_faults.specs.Faults.{fault_lines}
@@ -18,13 +18,13 @@ use Rattle.gq_faults.proofs.Telling.{prefix_of_none, tells_memory}
 use Rattle.gq_faults.proofs.Turn_lines.{first_of_turns}
 
 module _ (r : Result Scenario Fault) (s : Scenario) (turns : List ℕ) (accepted : r ≡ Ok s) where
-  pub answers_none : None ≡ first (turn_faults (components s) turns) → Answers None r turns
-  answers_none h = subst (λ o. Answers None o turns) (sym accepted) (sym (h ∙ first_of_turns (components s) turns))
+  pub answers_none : None ≡ first (turn_faults s turns) → Answers None r turns
+  answers_none h = subst (λ o. Answers None o turns) (sym accepted) (sym (h ∙ first_of_turns s turns))
 
-  pub answers_some : (fault : TurnFault) (line : ℕ) → Some (fault, line) ≡ first (turn_faults (components s) turns)
+  pub answers_some : (fault : TurnFault) (line : ℕ) → Some (fault, line) ≡ first (turn_faults s turns)
       → Answers (Some (refused.Turns fault line)) r turns
   answers_some fault line h =
-      subst (λ o. Answers (Some (refused.Turns fault line)) o turns) (sym accepted) (sym (h ∙ first_of_turns (components s) turns))
+      subst (λ o. Answers (Some (refused.Turns fault line)) o turns) (sym accepted) (sym (h ∙ first_of_turns s turns))
 
 -- of one that is accepted nothing was told, and then host memory was refused
 pub both_memory : {W A F : Type 0} (P : Type 0) (contents : W → Option (List ℕ)) (path : List ℕ) (lines : List (List ℕ)) (old new : Counted W)
@@ -47,7 +47,7 @@ both_early {B = B} path other text turns before after m n e h = by (loaded text)
         record {
           told = tt;
           counted = tt;
-          cut = prefix_of_none path other (map turn_fault_line (turn_faults (components s) turns)) before after
+          cut = prefix_of_none path other (map turn_fault_line (turn_faults s turns)) before after
               (subst (λ (l : List (List ℕ)). WritesPrefix path l before after) none h.cut);
           ended = h.ended;
         }

@@ -1,9 +1,10 @@
 -- The first of a document's faults is the one that its reader tells.
-use Rattle.std.proofs.Common.{◌≡◌, ◌==◌, ℕ, zero, suc, Bool, true, false, ◌&&◌, not, cond, List, []}
+use Rattle.std.proofs.Common.{◌≡◌, ℕ, zero, suc, nat_le, Bool, true, false, ◌&&◌, not, cond, List, []}
 use Rattle.std.proofs.Common.{◌∷◌, ◌++◌, Option, Some, None}
 use Rattle.std.proofs.Common.{refl, ap, ◌∙◌}
 use Rattle.std.specs.Prelude.{codes}
 use Rattle.toml.specs.Data.{Data, string, integer, float, boolean, datetime, array, table, Members, no_members, member, get_member}
+use Rattle.gq_model.specs.machine.Amounts.{counts_caps}
 use Rattle.gq_model.specs.machine.Lists.{any_of, all_of, or_first}
 use Rattle.gq_model.specs.machine.Program.{text_eq}
 use Rattle.gq_model.proofs.Small.{or_first_none}
@@ -19,7 +20,7 @@ use Rattle.std.proofs.lemmas.Bool.{and_parts}
 use Rattle.gq_model.specs.texts.Letters.{is_name}
 use Rattle.gq_scenario.specs.Document.{list_of, walk_fault}
 use Rattle.gq_scenario.specs.Keys.{items_of, is_list, required, optional, either, other, is_number, is_quantity, is_text, is_hex, is_name_text}
-use Rattle.gq_scenario.specs.Tables.{are_named_tables, is_named_tables, is_total, is_declared, greatest_caps}
+use Rattle.gq_scenario.specs.Tables.{are_named_tables, is_named_tables, is_total, is_declared, is_inputs, greatest_caps}
 use Rattle.gq_reader.specs.internal.Walk.{own_fault}
 use Rattle.gq_reader.proofs.Kept.{kept, fits_or_none}
 use Rattle.gq_reader.proofs.Passed.{absent}
@@ -123,49 +124,67 @@ node_keys_by two rest =
 abbrev init_rest : List KeyRule
 init_rest = required (codes "start") (is_list is_table) ∷ optional (codes "default-route") (is_list is_table) ∷ []
 
-abbrev leaf_rest : List (List ℕ) → List KeyRule
-leaf_rest services =
+abbrev leaf_rest : Bool → List (List ℕ) → List KeyRule
+leaf_rest three services =
     optional (codes "provides") (is_declared services) ∷ optional (codes "after") is_name_text
-    ∷ either (codes "program") (codes "code" ∷ []) is_text ∷ other (codes "code") (codes "program" ∷ []) is_hex ∷ []
+    ∷ cond three (optional (codes "inputs") is_inputs ∷ []) []
 
-abbrev keys_by : Bool → Bool → List (List ℕ) → List KeyRule
-keys_by inner two services = cond inner (node_keys_by two init_rest) (node_keys_by two (leaf_rest services))
+abbrev leaf_keys_by : Bool → Bool → List (List ℕ) → List KeyRule
+leaf_keys_by two three services =
+    node_keys_by two (leaf_rest three services)
+    ++ either (codes "program") (codes "code" ∷ []) is_text ∷ other (codes "code") (codes "program" ∷ []) is_hex ∷ []
 
-lists_by : (inner two : Bool) (services : List (List ℕ)) (entries : Members) → table_fault (keys_by inner two services) entries ≡ None → HasLists entries
-lists_by true true services entries e =
+abbrev keys_by : Bool → Bool → Bool → List (List ℕ) → List KeyRule
+keys_by inner two three services = cond inner (node_keys_by two init_rest) (leaf_keys_by two three services)
+
+-- a leaf has no nodes, and no routes for some
+no_nodes : (two three : Bool) (services : List (List ℕ)) (entries : Members) → unknown_key (leaf_keys_by two three services) entries ≡ None
+    → (get_member (codes "start") entries ≡ None) × (get_member (codes "default-route") entries ≡ None)
+no_nodes true true services entries e =
+    let keys = leaf_keys_by true true services in (absent keys entries (codes "start") e refl, absent keys entries (codes "default-route") e refl)
+no_nodes true false services entries e =
+    let keys = leaf_keys_by true false services in (absent keys entries (codes "start") e refl, absent keys entries (codes "default-route") e refl)
+no_nodes false true services entries e =
+    let keys = leaf_keys_by false true services in (absent keys entries (codes "start") e refl, absent keys entries (codes "default-route") e refl)
+no_nodes false false services entries e =
+    let keys = leaf_keys_by false false services in (absent keys entries (codes "start") e refl, absent keys entries (codes "default-route") e refl)
+
+leaf_lists : (two three : Bool) (services : List (List ℕ)) (entries : Members) → HasTables entries (codes "route")
+    → unknown_key (leaf_keys_by two three services) entries ≡ None → HasLists entries
+leaf_lists two three services entries routes e =
+    let none = no_nodes two three services entries e in
+    record {
+      routes = routes;
+      start = tables_none entries (codes "start") none.0;
+      default_routes = tables_none entries (codes "default-route") none.1;
+    }
+
+lists_by : (inner two three : Bool) (services : List (List ℕ)) (entries : Members) → table_fault (keys_by inner two three services) entries ≡ None
+    → HasLists entries
+lists_by true true three services entries e =
     let (known, k) = kept (node_keys_by true init_rest) entries e in
     record {
       routes = tables_at entries (codes "route") k.1.1.1.0.fits;
       start = tables_at entries (codes "start") k.1.1.1.1.0.fits;
       default_routes = tables_at entries (codes "default-route") k.1.1.1.1.1.0.fits;
     }
-lists_by true false services entries e =
+lists_by true false three services entries e =
     let (known, k) = kept (node_keys_by false init_rest) entries e in
     record {
       routes = tables_at entries (codes "route") k.1.1.0.fits;
       start = tables_at entries (codes "start") k.1.1.1.0.fits;
       default_routes = tables_at entries (codes "default-route") k.1.1.1.1.0.fits;
     }
-lists_by false true services entries e =
-    let (known, k) = kept (node_keys_by true (leaf_rest services)) entries e in
-    record {
-      routes = tables_at entries (codes "route") k.1.1.1.0.fits;
-      start = tables_none entries (codes "start") (absent (node_keys_by true (leaf_rest services)) entries (codes "start") known refl);
-      default_routes =
-          tables_none entries (codes "default-route") (absent (node_keys_by true (leaf_rest services)) entries (codes "default-route") known refl);
-    }
-lists_by false false services entries e =
-    let (known, k) = kept (node_keys_by false (leaf_rest services)) entries e in
-    record {
-      routes = tables_at entries (codes "route") k.1.1.0.fits;
-      start = tables_none entries (codes "start") (absent (node_keys_by false (leaf_rest services)) entries (codes "start") known refl);
-      default_routes =
-          tables_none entries (codes "default-route") (absent (node_keys_by false (leaf_rest services)) entries (codes "default-route") known refl);
-    }
+lists_by false true three services entries e =
+    let (known, k) = kept (leaf_keys_by true three services) entries e in
+    leaf_lists true three services entries (tables_at entries (codes "route") k.1.1.1.0.fits) known
+lists_by false false three services entries e =
+    let (known, k) = kept (leaf_keys_by false three services) entries e in
+    leaf_lists false three services entries (tables_at entries (codes "route") k.1.1.0.fits) known
 
 pub lists_of : (version : ℕ) (services : List (List ℕ)) (entries : Members) → table_fault (keys_of_node version services entries) entries ≡ None
     → HasLists entries
-lists_of version services entries e = lists_by (is_init entries) (version == 2) services entries e
+lists_of version services entries e = lists_by (is_init entries) (counts_caps version) (nat_le 3 version) services entries e
 
 module _ (version : ℕ) (services : List (List ℕ)) where
   own_first : (entries : Members) → first (own_faults version services entries) ≡ own_fault version services entries
@@ -221,7 +240,7 @@ pub record HasParts (top : Members) : Type 0 where
 
 abbrev top_by : Bool → List KeyRule
 top_by two =
-    required (codes "version") (is_number 1 2) ∷ required (codes "ram") is_total
+    required (codes "version") (is_number 1 3) ∷ required (codes "ram") is_total
     ∷ cond two (required (codes "caps") (is_number 1 greatest_caps) ∷ []) []
     ++ optional (codes "default-route") (is_list is_table) ∷ optional (codes "interface") is_named_tables ∷ required (codes "start") (is_list is_table) ∷ []
 
@@ -255,7 +274,7 @@ parts_by false top e =
     }
 
 pub parts_of : (top : Members) → table_fault (top_keys (version_of top)) top ≡ None → HasParts top
-parts_of top e = parts_by (version_of top == 2) top e
+parts_of top e = parts_by (counts_caps (version_of top)) top e
 
 pub walk_first : (top : Members) → first (walk_faults top) ≡ walk_fault top
 walk_first top =

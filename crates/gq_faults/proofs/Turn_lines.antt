@@ -2,46 +2,55 @@
 use Rattle.std.proofs.Common.{◌≡◌, ℕ, suc, ◌+◌, ◌^◌, ◌==◌, nat_le, Bool, true, false, cond, List, [], ◌∷◌, ◌++◌, length, Option, Some, None, option_map}
 use Rattle.std.proofs.Common.{Result, Ok, Err, refl, ap, sym, subst, ◌∙◌, arith, unwrap_or, Bor}
 use Rattle.std.specs.Option.{option_or}
+use Rattle.std.specs.Prelude.{◌&&◌, codes, slice_get}
 use Rattle.gq_model.specs.machine.Lists.{or_first}
-use Rattle.gq_model.specs.machine.Scenario.{Component}
+use Rattle.gq_model.specs.declared.act.Act.{Act}
+use Rattle.gq_model.specs.declared.act.Act.TheVariants.{Sets}
+use Rattle.gq_model.specs.machine.Program.{text_eq}
+use Rattle.gq_model.specs.machine.Scenario.{Scenario, Component, components}
 use Rattle.gq_model.specs.machine.Routes.{numbered}
-use Rattle.gq_model.specs.texts.Letters.{is_name, pieces, lines}
-use Rattle.gq_model.specs.texts.Turns.{Turned, turn_count, turn_of, turn_in, says_nothing, turn_onto}
+use Rattle.gq_model.specs.texts.Letters.{is_name, number_in, pieces, lines}
+use Rattle.gq_model.specs.texts.Turns.{Given, Turned, turn_count, turn_of, turn_in, turns_given, says_nothing, turn_onto}
+use Rattle.gq_model.specs.texts.Turns.{has_inputs, input_in, inputs_at, setting_at, setting_of, setting_within}
+use Rattle.gq_model.specs.texts.Operands.{greatest_number}
 use Rattle.gq_model.specs.declared.fault.TurnFault.{TurnFault}
-use Rattle.gq_model.specs.declared.fault.TurnFault.TheVariants.{BadLine, NoSuchComponent, TooMany}
+use Rattle.gq_model.specs.declared.fault.TurnFault.TheVariants.{BadLine, NoSuchComponent, TooMany, NoInput, InputTooLarge}
 use Rattle.gq_model.specs.texts.Turns.{after_line, greatest_turns, turns_from, turned}
 use Rattle.gq_scenario.specs.Lines.{lines_left}
-use Rattle.gq_init.specs.TurnLines.{turn_on}
+use Rattle.gq_init.specs.TurnLines.{given_in, turn_on}
 use Rattle.gq_init.specs.internal.Ahead.{IsLineAhead}
 use Rattle.gq_faults.specs.Lists.{first, listed_if}
 use Rattle.gq_faults.specs.Turn_faults.{too_many_at, past_line, line_faults, turn_faults, fault_of_turns, told_fault, turns_after, faults_left}
 
 -- THE FIRST
 
-first_onto : (turn : ℕ × ℕ) (t : Turned) → fault_of_turns (turn_onto turn t) ≡ fault_of_turns t
+first_onto : (turn : ℕ × Act) (t : Turned) → fault_of_turns (turn_onto turn t) ≡ fault_of_turns t
 first_onto turn (Ok turns) = refl
 first_onto turn (Err fault) = refl
 
-first_with : (b : Bool) (turn : ℕ × ℕ) (k n m : ℕ) (go : Option ℕ → List (TurnFault × ℕ)) (on : Turned) → first (go (Some m)) ≡ fault_of_turns on
+first_with : (b : Bool) (turn : ℕ × Act) (k n m : ℕ) (go : Option ℕ → List (TurnFault × ℕ)) (on : Turned) → first (go (Some m)) ≡ fault_of_turns on
     → first (too_many_at k (Some n) (cond b (Some m) None) ++ go (cond b (Some m) None)) ≡ fault_of_turns (cond b (turn_onto turn on) (Err (TooMany, k)))
 first_with true turn k n m go on h = h ∙ sym (first_onto turn on)
 first_with false turn k n m go on h = refl
 
-first_past : (b : Bool) (turn : Result (ℕ × ℕ) TurnFault) (k n : ℕ) (go : Option ℕ → List (TurnFault × ℕ)) (on : ℕ → Turned)
+first_past : (b : Bool) (turn : Given) (k n : ℕ) (go : Option ℕ → List (TurnFault × ℕ)) (on : ℕ → Turned)
     → ((m : ℕ) → first (go (Some m)) ≡ fault_of_turns (on m)) → first (past_line b turn k (Some n) go) ≡ fault_of_turns (after_line b turn k n on)
 first_past true turn k n go on h = h n
 first_past false (Err fault) k n go on h = refl
-first_past false (Ok turn) k n go on h = first_with (nat_le (n + turn.1) greatest_turns) turn k n (n + turn.1) go (on (n + turn.1)) (h (n + turn.1))
+first_past false (Ok turn) k n go on h =
+    let more = n + turns_given turn.1 in first_with (nat_le more greatest_turns) turn k n more go (on more) (h more)
 
-first_lines : (cs : List Component) (k n : ℕ) (ls : List (List ℕ)) → first (line_faults cs k (Some n) ls) ≡ fault_of_turns (turns_from cs k n ls)
-first_lines cs k n [] = refl
-first_lines cs k n (line ∷ ls) =
-    first_past (says_nothing line) (turn_in cs (pieces (λ c. c == 32) line)) k n (λ after. line_faults cs (suc k) after ls) (λ m. turns_from cs (suc k) m ls)
-    (λ m. first_lines cs (suc k) m ls)
+first_lines : (s : Scenario) (k n : ℕ) (ls : List (List ℕ)) → first (line_faults s k (Some n) ls) ≡ fault_of_turns (turns_from s.version (components s) k n ls)
+first_lines s k n [] = refl
+first_lines s k n (line ∷ ls) =
+    first_past (says_nothing line) (given_in s (pieces (λ c. c == 32) line)) k n (λ after. line_faults s (suc k) after ls) (λ m. turns_from s.version
+    (components s) (suc k) m ls)
+    (λ m. first_lines s (suc k) m ls)
 
-pub first_of_turns : (cs : List Component) (text : List ℕ) → first (turn_faults cs text) ≡ fault_of_turns (turned cs text)
-first_of_turns cs text =
-    let all = lines text in by (nat_le (length text) (2 ^ 24)) (line_faults cs 1 (Some 0) all) (turns_from cs 1 0 all) (first_lines cs 1 0 all)
+pub first_of_turns : (s : Scenario) (text : List ℕ) → first (turn_faults s text) ≡ fault_of_turns (turned s text)
+first_of_turns s text =
+    let all = lines text in
+    by (nat_le (length text) (2 ^ 24)) (line_faults s 1 (Some 0) all) (turns_from s.version (components s) 1 0 all) (first_lines s 1 0 all)
   where
     by : (b : Bool) (faults : List (TurnFault × ℕ)) (turns : Turned) → first faults ≡ fault_of_turns turns
         → first (cond b faults ((TooMany, 0) ∷ [])) ≡ fault_of_turns (cond b turns (Err (TooMany, 0)))
@@ -51,11 +60,13 @@ first_of_turns cs text =
 -- A LINE
 
 -- the faults that a line has alone
-abbrev IsOwn : Result (ℕ × ℕ) TurnFault → Type 0
+abbrev IsOwn : Given → Type 0
 IsOwn (Ok turn) = Unit {0}
 IsOwn (Err TooMany) = ⊥
 IsOwn (Err BadLine) = Unit {0}
 IsOwn (Err NoSuchComponent) = Unit {0}
+IsOwn (Err NoInput) = Unit {0}
+IsOwn (Err InputTooLarge) = Unit {0}
 
 own_of : (x n : Option ℕ) → IsOwn (turn_of x n)
 own_of None None = tt
@@ -63,77 +74,97 @@ own_of (Some x) None = tt
 own_of None (Some n) = tt
 own_of (Some x) (Some n) = tt
 
-own_if : (b : Bool) (turn : Result (ℕ × ℕ) TurnFault) → IsOwn turn → IsOwn (cond b turn (Err BadLine))
-own_if true turn h = h
-own_if false turn h = tt
+own_if : (b : Bool) (turn other : Given) → IsOwn turn → IsOwn other → IsOwn (cond b turn other)
+own_if true turn other h g = h
+own_if false turn other h g = g
 
-own_in : (cs : List Component) (ps : List (List ℕ)) → IsOwn (turn_in cs ps)
-own_in cs [] = tt
-own_in cs (name ∷ []) = tt
-own_in cs (name ∷ count ∷ []) = own_if (is_name name) (turn_of (numbered 0 name cs) (turn_count count)) (own_of (numbered 0 name cs) (turn_count count))
-own_in cs (name ∷ count ∷ more ∷ rest) = tt
+own_within : (greatest : Option ℕ) (x i n : ℕ) → IsOwn (setting_within greatest x i n)
+own_within None x i n = tt
+own_within (Some g) x i n = own_if (nat_le n g) (Ok (x, Sets i n)) (Err InputTooLarge) tt tt
+
+own_at : (all : List Component) (x : Option ℕ) (i n : ℕ) → IsOwn (setting_at all x i n)
+own_at all None i n = tt
+own_at all (Some x) i n = own_within (slice_get (inputs_at (slice_get all x)) i) x i n
+
+own_setting : (all : List Component) (input : Option (List ℕ × ℕ)) (n : Option ℕ) → IsOwn (setting_of all input n)
+own_setting all None n = tt
+own_setting all (Some p) None = tt
+own_setting all (Some p) (Some n) = own_at all (numbered 0 p.0 all) p.1 n
+
+own_in : (version : ℕ) (all : List Component) (ps : List (List ℕ)) → IsOwn (turn_in version all ps)
+own_in version all [] = tt
+own_in version all (name ∷ []) = tt
+own_in version all (name ∷ count ∷ []) =
+    own_if (is_name name) (turn_of (numbered 0 name all) (turn_count count)) (Err BadLine) (own_of (numbered 0 name all) (turn_count count)) tt
+own_in version all (input ∷ sign ∷ number ∷ []) =
+    own_if (has_inputs version && text_eq sign (codes "="))
+    (setting_of all (input_in (pieces (λ c. c == 46) input)) (number_in 10 0 greatest_number number)) (Err BadLine)
+    (own_setting all (input_in (pieces (λ c. c == 46) input)) (number_in 10 0 greatest_number number)) tt
+own_in version all (name ∷ count ∷ number ∷ more ∷ rest) = tt
 
 -- what is told of the k-th line, which says this after so many turns, and of those after it
-abbrev told_by : Result (Option (ℕ × ℕ)) TurnFault → ℕ → Option ℕ → (Option ℕ → List (TurnFault × ℕ)) → List (TurnFault × ℕ)
+abbrev told_by : Result (Option (ℕ × Act)) TurnFault → ℕ → Option ℕ → (Option ℕ → List (TurnFault × ℕ)) → List (TurnFault × ℕ)
 told_by said k before go = listed_if (option_map (λ fault. (fault, k)) (told_fault said before)) ++ go (turns_after said before)
 
-none_more : (b : Bool) (turn : ℕ × ℕ) (k : ℕ) (go : Option ℕ → List (TurnFault × ℕ))
+none_more : (b : Bool) (turn : ℕ × Act) (k : ℕ) (go : Option ℕ → List (TurnFault × ℕ))
     → go None ≡ told_by (cond b (Ok (Some turn)) (Err TooMany)) k None go
 none_more true turn k go = refl
 none_more false turn k go = refl
 
-some_more : (b : Bool) (turn : ℕ × ℕ) (k n : ℕ) (go : Option ℕ → List (TurnFault × ℕ))
-    → too_many_at k (Some n) (cond b (Some (n + turn.1)) None) ++ go (cond b (Some (n + turn.1)) None)
+some_more : (b : Bool) (turn : ℕ × Act) (k n : ℕ) (go : Option ℕ → List (TurnFault × ℕ))
+    → too_many_at k (Some n) (cond b (Some (n + turns_given turn.1)) None) ++ go (cond b (Some (n + turns_given turn.1)) None)
     ≡ told_by (cond b (Ok (Some turn)) (Err TooMany)) k (Some n) go
 some_more true turn k n go = refl
 some_more false turn k n go = refl
 
-past_is : (b : Bool) (turn : Result (ℕ × ℕ) TurnFault) (k : ℕ) (before : Option ℕ) (go : Option ℕ → List (TurnFault × ℕ)) → IsOwn turn
+past_is : (b : Bool) (turn : Given) (k : ℕ) (before : Option ℕ) (go : Option ℕ → List (TurnFault × ℕ)) → IsOwn turn
     → past_line b turn k before go ≡ told_by (turn_on b (unwrap_or before 0) turn) k before go
 past_is true turn k before go h = refl
 past_is false (Err TooMany) k before go h = absurd h
 past_is false (Err BadLine) k before go h = refl
 past_is false (Err NoSuchComponent) k before go h = refl
-past_is false (Ok turn) k None go h = none_more (nat_le (0 + turn.1) greatest_turns) turn k go
-past_is false (Ok turn) k (Some n) go h = some_more (nat_le (n + turn.1) greatest_turns) turn k n go
+past_is false (Err NoInput) k before go h = refl
+past_is false (Err InputTooLarge) k before go h = refl
+past_is false (Ok turn) k None go h = none_more (nat_le (0 + turns_given turn.1) greatest_turns) turn k go
+past_is false (Ok turn) k (Some n) go h = some_more (nat_le (n + turns_given turn.1) greatest_turns) turn k n go
 
 -- what is told of what is left, whose first line says this
-pub line_told : (cs : List Component) (k : ℕ) (before : Option ℕ) (text : List ℕ) (said : Result (Option (ℕ × ℕ)) TurnFault) (rest : Option (List ℕ))
-    → IsLineAhead cs (unwrap_or before 0) text said rest
-    → faults_left cs k before (Some text)
-    ≡ listed_if (option_map (λ fault. (fault, k + 1)) (told_fault said before)) ++ faults_left cs (k + 1) (turns_after said before) rest
-line_told cs k before text said rest h =
-    let turn = turn_in cs (pieces (λ c. c == 32) h.line) in
-    let go : Option ℕ → List (TurnFault × ℕ) = λ after. line_faults cs (suc (k + 1)) after (lines_left rest) in
+pub line_told : (s : Scenario) (k : ℕ) (before : Option ℕ) (text : List ℕ) (said : Result (Option (ℕ × Act)) TurnFault) (rest : Option (List ℕ))
+    → IsLineAhead s (unwrap_or before 0) text said rest
+    → faults_left s k before (Some text)
+    ≡ listed_if (option_map (λ fault. (fault, k + 1)) (told_fault said before)) ++ faults_left s (k + 1) (turns_after said before) rest
+line_told s k before text said rest h =
+    let turn = given_in s (pieces (λ c. c == 32) h.line) in
+    let go : Option ℕ → List (TurnFault × ℕ) = λ after. line_faults s (suc (k + 1)) after (lines_left rest) in
     let next : suc (k + 1) ≡ k + 1 + 1 = omega arith in
-    ap (line_faults cs (k + 1) before) h.is
-    ∙ (past_is (says_nothing h.line) turn (k + 1) before go (own_in cs (pieces (λ c. c == 32) h.line))
-    ∙ (ap (λ s. told_by s (k + 1) before go) (sym h.said_is)
-    ∙ ap (λ j. listed_if (option_map (λ fault. (fault, k + 1)) (told_fault said before)) ++ line_faults cs j (turns_after said before) (lines_left rest)) next))
+    ap (line_faults s (k + 1) before) h.is
+    ∙ (past_is (says_nothing h.line) turn (k + 1) before go (own_in s.version (components s) (pieces (λ c. c == 32) h.line))
+    ∙ (ap (λ w. told_by w (k + 1) before go) (sym h.said_is)
+    ∙ ap (λ j. listed_if (option_map (λ fault. (fault, k + 1)) (told_fault said before)) ++ line_faults s j (turns_after said before) (lines_left rest)) next))
 
 -- nothing is told of it
-pub line_right : (cs : List Component) (k n : ℕ) (before after : Option ℕ) (text : List ℕ) (said : Result (Option (ℕ × ℕ)) TurnFault)
-    (rest : Option (List ℕ)) (told : Option TurnFault) → n ≡ unwrap_or before 0 → IsLineAhead cs n text said rest → told ≡ told_fault said before
-    → after ≡ turns_after said before → told ≡ None → faults_left cs k before (Some text) ≡ faults_left cs (k + 1) after rest
-line_right cs k n before after text said rest told is h e f none =
-    line_told cs k before text said rest (subst (λ m. IsLineAhead cs m text said rest) is h)
-    ∙ (ap (λ t. listed_if (option_map (λ fault. (fault, k + 1)) t) ++ faults_left cs (k + 1) (turns_after said before) rest) (sym e ∙ none)
-    ∙ ap (λ a. faults_left cs (k + 1) a rest) (sym f))
+pub line_right : (s : Scenario) (k n : ℕ) (before after : Option ℕ) (text : List ℕ) (said : Result (Option (ℕ × Act)) TurnFault)
+    (rest : Option (List ℕ)) (told : Option TurnFault) → n ≡ unwrap_or before 0 → IsLineAhead s n text said rest → told ≡ told_fault said before
+    → after ≡ turns_after said before → told ≡ None → faults_left s k before (Some text) ≡ faults_left s (k + 1) after rest
+line_right s k n before after text said rest told is h e f none =
+    line_told s k before text said rest (subst (λ m. IsLineAhead s m text said rest) is h)
+    ∙ (ap (λ t. listed_if (option_map (λ fault. (fault, k + 1)) t) ++ faults_left s (k + 1) (turns_after said before) rest) (sym e ∙ none)
+    ∙ ap (λ a. faults_left s (k + 1) a rest) (sym f))
 
 -- this fault is told of it
-pub line_wrong : (cs : List Component) (k n : ℕ) (before after : Option ℕ) (text : List ℕ) (said : Result (Option (ℕ × ℕ)) TurnFault)
-    (rest : Option (List ℕ)) (told : Option TurnFault) (fault : TurnFault) → n ≡ unwrap_or before 0 → IsLineAhead cs n text said rest
+pub line_wrong : (s : Scenario) (k n : ℕ) (before after : Option ℕ) (text : List ℕ) (said : Result (Option (ℕ × Act)) TurnFault)
+    (rest : Option (List ℕ)) (told : Option TurnFault) (fault : TurnFault) → n ≡ unwrap_or before 0 → IsLineAhead s n text said rest
     → told ≡ told_fault said before → after ≡ turns_after said before → told ≡ Some fault
-    → faults_left cs k before (Some text) ≡ (fault, k + 1) ∷ faults_left cs (k + 1) after rest
-line_wrong cs k n before after text said rest told fault is h e f some =
-    line_told cs k before text said rest (subst (λ m. IsLineAhead cs m text said rest) is h)
-    ∙ (ap (λ t. listed_if (option_map (λ fault. (fault, k + 1)) t) ++ faults_left cs (k + 1) (turns_after said before) rest) (sym e ∙ some)
-    ∙ ap (λ a. (fault, k + 1) ∷ faults_left cs (k + 1) a rest) (sym f))
+    → faults_left s k before (Some text) ≡ (fault, k + 1) ∷ faults_left s (k + 1) after rest
+line_wrong s k n before after text said rest told fault is h e f some =
+    line_told s k before text said rest (subst (λ m. IsLineAhead s m text said rest) is h)
+    ∙ (ap (λ t. listed_if (option_map (λ fault. (fault, k + 1)) t) ++ faults_left s (k + 1) (turns_after said before) rest) (sym e ∙ some)
+    ∙ ap (λ a. (fault, k + 1) ∷ faults_left s (k + 1) a rest) (sym f))
 
 -- text is left
-pub text_left : (cs : List Component) (k : ℕ) (before : Option ℕ) (left : Option (Bor (List ℕ))) (text : Bor (List ℕ)) (all : List (TurnFault × ℕ))
-    → left ≡ Some text → faults_left cs k before (Some text.now) ≡ all → faults_left cs k before (option_map (λ t. t.now) left) ≡ all
-text_left cs k before left text all e h = ap (λ (o : Option (Bor (List ℕ))). faults_left cs k before (option_map (λ t. t.now) o)) e ∙ h
+pub text_left : (s : Scenario) (k : ℕ) (before : Option ℕ) (left : Option (Bor (List ℕ))) (text : Bor (List ℕ)) (all : List (TurnFault × ℕ))
+    → left ≡ Some text → faults_left s k before (Some text.now) ≡ all → faults_left s k before (option_map (λ t. t.now) left) ≡ all
+text_left s k before left text all e h = ap (λ (o : Option (Bor (List ℕ))). faults_left s k before (option_map (λ t. t.now) o)) e ∙ h
 
 -- THE FIRST THAT IS FOUND
 

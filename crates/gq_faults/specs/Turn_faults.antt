@@ -1,13 +1,15 @@
--- All faults of a text of turns that are told at once, and why a scenario and turns are refused.
+-- All faults of a text of turns and settings that are told at once, and why a scenario and turns are refused.
 use Rattle.std.specs.Prelude.{◌≡◌, ℕ, suc, ◌+◌, ◌^◌, nat_le, ◌==◌, if◌then◌else◌, Bool, true, false, List, [], ◌∷◌, ◌++◌, length, map}
 use Rattle.std.specs.Prelude.{Option, Some, None, option_map, Result, Ok, Err, codes, decimal}
-use Rattle.gq_model.specs.machine.Scenario.{Scenario, Component, components}
+use Rattle.gq_model.specs.declared.act.Act.{Act}
+use Rattle.gq_model.specs.machine.Scenario.{Scenario}
 use Rattle.gq_model.specs.texts.Fault_texts.{turn_fault_word}
 use Rattle.gq_model.specs.texts.Letters.{pieces, lines}
-use Rattle.gq_model.specs.texts.Turns.{Turned, turn_in, says_nothing, greatest_turns, turned}
+use Rattle.gq_model.specs.texts.Turns.{Given, Turned, says_nothing, turns_given, greatest_turns, turned}
 use Rattle.gq_model.specs.declared.fault.TurnFault.{TurnFault}
-use Rattle.gq_model.specs.declared.fault.TurnFault.TheVariants.{BadLine, NoSuchComponent, TooMany}
+use Rattle.gq_model.specs.declared.fault.TurnFault.TheVariants.{BadLine, NoSuchComponent, TooMany, NoInput, InputTooLarge}
 use Rattle.gq_scenario.specs.Lines.{lines_left}
+use Rattle.gq_init.specs.TurnLines.{given_in}
 use Rattle.gq_load.specs.Load.{Fault, fault_text, loaded}
 use Rattle.gq_load.specs.Faults.{load_fault_text}
 use Rattle.gq_faults.specs.Faults.{fault_lines}
@@ -27,20 +29,21 @@ too_many_at k (Some n) None = (TooMany, k) ∷ []
 too_many_at k before after = []
 
 -- goes on after the k-th line, with the number of turns so far
-abbrev pub past_line : Bool → Result (ℕ × ℕ) TurnFault → ℕ → Option ℕ → (Option ℕ → List (TurnFault × ℕ)) → List (TurnFault × ℕ)
+abbrev pub past_line : Bool → Given → ℕ → Option ℕ → (Option ℕ → List (TurnFault × ℕ)) → List (TurnFault × ℕ)
 past_line true turn k before go = go before
 past_line false (Err fault) k before go = (fault, k) ∷ go before
-past_line false (Ok turn) k before go = let after = with_turns turn.1 before in too_many_at k before after ++ go after
+past_line false (Ok turn) k before go = let after = with_turns (turns_given turn.1) before in too_many_at k before after ++ go after
 
 -- the faults of these lines, of which the first is the k-th, after so many turns
-abbrev pub line_faults : List Component → ℕ → Option ℕ → List (List ℕ) → List (TurnFault × ℕ)
-line_faults components k before [] = []
-line_faults components k before (line ∷ rest) =
-    past_line (says_nothing line) (turn_in components (pieces (λ c. c == 32) line)) k before (λ after. line_faults components (suc k) after rest)
+abbrev pub line_faults : Scenario → ℕ → Option ℕ → List (List ℕ) → List (TurnFault × ℕ)
+line_faults s k before [] = []
+line_faults s k before (line ∷ rest) =
+    past_line (says_nothing line) (given_in s (pieces (λ c. c == 32) line)) k before (λ after. line_faults s (suc k) after rest)
 
--- each line of another form, each name that is no leaf's, and the line at which there are too many turns, each with its line; a text above 16 MiB has one fault
-abbrev pub turn_faults : List Component → List ℕ → List (TurnFault × ℕ)
-turn_faults components text = if nat_le (length text) (2 ^ 24) then line_faults components 1 (Some 0) (lines text) else (TooMany, 0) ∷ []
+-- each line of another form, each name that is no leaf's, each input that a leaf has not, each value that is too large, and the line at which there are too
+-- many turns, each with its line; a text above 16 MiB has one fault
+abbrev pub turn_faults : Scenario → List ℕ → List (TurnFault × ℕ)
+turn_faults s text = if nat_le (length text) (2 ^ 24) then line_faults s 1 (Some 0) (lines text) else (TooMany, 0) ∷ []
 
 -- the line that tells a fault of turns
 abbrev pub turn_fault_line : TurnFault × ℕ → List ℕ
@@ -61,7 +64,7 @@ told_of (Ok s) scenario turns = turns
 -- the faults of a scenario's text, or else those of a text of turns
 abbrev pub lines_from : Result Scenario Fault → List ℕ → List ℕ → List (List ℕ)
 lines_from (Err fault) scenario turns = fault_lines scenario
-lines_from (Ok s) scenario turns = map turn_fault_line (turn_faults (components s) turns)
+lines_from (Ok s) scenario turns = map turn_fault_line (turn_faults s turns)
 
 abbrev pub lines_of_both : List ℕ → List ℕ → List (List ℕ)
 lines_of_both scenario turns = lines_from (loaded scenario) scenario turns
@@ -81,25 +84,29 @@ AnswersTurns (Some (refused.Turns fault line)) first = first ≡ Some (fault, li
 -- the answer says why a run of the scenario by the turns is refused, if it is
 abbrev pub Answers : Option Refused → Result Scenario Fault → List ℕ → Type 0
 Answers answer (Err fault) turns = AnswersFault answer fault
-Answers answer (Ok s) turns = AnswersTurns answer (fault_of_turns (turned (components s) turns))
+Answers answer (Ok s) turns = AnswersTurns answer (fault_of_turns (turned s turns))
 
 -- WALKS
 
 -- the fault that is told of a line that says this after so many turns
-abbrev pub told_fault : Result (Option (ℕ × ℕ)) TurnFault → Option ℕ → Option TurnFault
+abbrev pub told_fault : Result (Option (ℕ × Act)) TurnFault → Option ℕ → Option TurnFault
 told_fault (Ok turn) before = None
 told_fault (Err TooMany) before = option_map (λ n. TooMany) before
 told_fault (Err BadLine) before = Some BadLine
 told_fault (Err NoSuchComponent) before = Some NoSuchComponent
+told_fault (Err NoInput) before = Some NoInput
+told_fault (Err InputTooLarge) before = Some InputTooLarge
 
 -- how many turns there are after it
-abbrev pub turns_after : Result (Option (ℕ × ℕ)) TurnFault → Option ℕ → Option ℕ
+abbrev pub turns_after : Result (Option (ℕ × Act)) TurnFault → Option ℕ → Option ℕ
 turns_after (Ok None) before = before
-turns_after (Ok (Some turn)) before = option_map (λ n. n + turn.1) before
+turns_after (Ok (Some turn)) before = option_map (λ n. n + turns_given turn.1) before
 turns_after (Err TooMany) before = None
 turns_after (Err BadLine) before = before
 turns_after (Err NoSuchComponent) before = before
+turns_after (Err NoInput) before = before
+turns_after (Err InputTooLarge) before = before
 
 -- the faults of what is left after the k-th line
-abbrev pub faults_left : List Component → ℕ → Option ℕ → Option (List ℕ) → List (TurnFault × ℕ)
-faults_left components k before left = line_faults components (k + 1) before (lines_left left)
+abbrev pub faults_left : Scenario → ℕ → Option ℕ → Option (List ℕ) → List (TurnFault × ℕ)
+faults_left s k before left = line_faults s (k + 1) before (lines_left left)

@@ -102,12 +102,26 @@ fn unknown(told: &mut Details, kind: TableKind, key: &str) -> Result<(), AllocEr
     told.text(" is no key of ")?;
     told.text(table_word(kind))?;
     if keys_of(kind).iter().any(|known| known.is(key)) {
-        told.text(" in version 1")?;
+        in_version(told, kind)?;
     } else {
         let near = near_keys(told.alloc(), kind, key)?;
         told.meant(near.as_slice())?;
     }
     told.end()
+}
+
+// The version of such a table, where its keys depend on that.
+fn in_version(told: &mut Details, kind: TableKind) -> Result<(), AllocError> {
+    match kind {
+        TableKind::Top(version)
+        | TableKind::Interface(version)
+        | TableKind::Init(version)
+        | TableKind::Leaf(version) => {
+            told.text(" in version ")?;
+            told.number(u64::from(version.number()))
+        }
+        TableKind::Route => Ok(()),
+    }
 }
 
 // A key that is missing, and those that can stand in its place.
@@ -194,7 +208,32 @@ fn push_compared(told: &mut Details, compared: &Compared) -> Result<(), AllocErr
         Compared::Session(cost) => session(told, cost),
         Compared::Section(section, is_missing) => sections(told, *section, *is_missing),
         Compared::Cost(cost) => too_many_steps(told, *cost),
+        Compared::Input(input, inputs) => other_input(told, *input, inputs.as_slice()),
     }
+}
+
+// An input that a leaf has not, and those that it has.
+fn other_input(told: &mut Details, input: u32, inputs: &[u32]) -> Result<(), AllocError> {
+    told.text("input ")?;
+    told.number(u64::from(input))?;
+    told.text(", and ")?;
+    push_inputs(told, inputs)?;
+    told.end()
+}
+
+/// The inputs that a leaf has, each with its greatest value.
+pub(crate) fn push_inputs(told: &mut Details, inputs: &[u32]) -> Result<(), AllocError> {
+    if inputs.is_empty() {
+        return told.text("the leaf has no inputs");
+    }
+    told.text("the leaf has")?;
+    for (number, greatest) in inputs.iter().enumerate() {
+        told.text(if number == 0 { " input " } else { ", input " })?;
+        told.number(number as u64)?;
+        told.text(" up to ")?;
+        told.number(u64::from(*greatest))?;
+    }
+    Ok(())
 }
 
 // The buffer that an interface asks for, and what stands in its place where that is another kind.

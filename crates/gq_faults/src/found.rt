@@ -8,6 +8,7 @@ use gq_load::fault::LoadFault;
 use gq_model::program::{Name, Place, Section};
 use gq_reader::rules::ValueRule;
 use gq_scenario::key::Key;
+use gq_scenario::scenario::Version;
 use gq_toml_places::Step;
 use std::alloc::{AllocError, Global};
 use toml::Value;
@@ -38,13 +39,13 @@ pub enum Spot {
     Word(usize, usize),
 }
 
-/// The tables of a document, by the keys that they have.
-#[derive(Clone, Copy, Debug, PartialEq, Eq)]
+/// The tables of a document, by the keys that they have. Routes have the same keys in each version.
+#[derive(Clone, Copy)]
 pub enum TableKind {
-    Top,
-    Interface,
-    Init,
-    Leaf,
+    Top(Version),
+    Interface(Version),
+    Init(Version),
+    Leaf(Version),
     Route,
 }
 
@@ -188,6 +189,8 @@ pub enum Compared {
     Section(Section, bool),
     /// How many steps a section takes.
     Cost(u64),
+    /// An input of this number, which the leaf has not, and the greatest values of those that it has.
+    Input(u32, Vec<u32>),
 }
 
 /// What a statement needs in a slot.
@@ -217,7 +220,7 @@ pub enum Unit {
 /// What a value is for.
 #[derive(Clone, Copy, Debug, PartialEq, Eq)]
 pub enum Holder {
-    Local(u8),
+    Local(u32),
     Argument,
     Reply,
 }

@@ -1,7 +1,7 @@
 // Which statements pushed the operands that are there.
 // No contract: its results are details alone. Tests show them.
 use crate::found::{Compared, Pusher};
-use gq_model::program::Instruction;
+use gq_model::program::{Bare, Instruction, OperandStatement, WithNumber};
 use gq_program::Section;
 use std::alloc::{AllocError, Global};
 
@@ -12,20 +12,30 @@ pub(crate) struct Pushers {
     numbers: Vec<u64>,
 }
 
+// How many operands a statement on operands alone takes off, and how many it puts there.
+fn effect_alone(statement: OperandStatement) -> (usize, usize) {
+    match statement {
+        OperandStatement::Plain(Bare::Drop) => (1, 0),
+        OperandStatement::Plain(Bare::Dup) => (0, 1),
+        OperandStatement::Plain(Bare::Combine(_)) => (2, 1),
+        OperandStatement::Numbered(statement, _) => match statement {
+            WithNumber::Push | WithNumber::Get | WithNumber::Index | WithNumber::Input => (0, 1),
+            WithNumber::Divide | WithNumber::Modulo => (1, 1),
+            WithNumber::Set => (1, 0),
+        },
+    }
+}
+
 // How many operands an instruction takes off, and how many it puts there.
 fn effect(instruction: &Instruction) -> (usize, usize) {
     match instruction {
-        Instruction::Push(_) | Instruction::Dup | Instruction::Get(_) | Instruction::Index(_) => {
-            (0, 1)
-        }
-        Instruction::Out | Instruction::Drop | Instruction::Set(_) => (1, 0),
-        Instruction::Divide(_)
-        | Instruction::Modulo(_)
-        | Instruction::Load(_, _)
+        Instruction::Operands(statement) => effect_alone(*statement),
+        Instruction::Out => (1, 0),
+        Instruction::Load(_, _)
         | Instruction::Take(_)
         | Instruction::Give(_)
         | Instruction::Call(_) => (1, 1),
-        Instruction::Combine(_) | Instruction::Peek(_) => (2, 1),
+        Instruction::Peek(_) => (2, 1),
         Instruction::Store(_, _) => (2, 0),
         Instruction::Poke(_) => (3, 0),
         Instruction::Say(_)

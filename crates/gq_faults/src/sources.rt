@@ -47,17 +47,21 @@ fn text_fault(
     match (leaf.source(), fault) {
         (Source::Text(text), LoadFault::Text { fault, line, .. }) => {
             let line = *line as usize;
-            let (at, mistake) = mistake_on(alloc, text.as_slice(), *fault, line)?;
+            let (at, mistake) = mistake_on(alloc, leaf.inputs(), text.as_slice(), *fault, line)?;
             Ok((Spot::Word(line, at), Detail::Text(mistake)))
         }
         _ => Ok((Spot::Key, Detail::Text(Mistake::Nothing))),
     }
 }
 
-// The number of the word of a statement that breaks a rule: of a service without an interface that of its name, else that of the statement itself.
+// The number of the word that is wrong in a statement that breaks a rule:
+// - of a service without an interface its name
+// - of an input that is not there its number
+// - else the word of the statement itself
 fn word_of(fault: &Fault) -> usize {
     match fault.rule {
         Rule::UnknownService => 2,
+        Rule::NoInput => 1,
         _ => 0,
     }
 }
@@ -210,7 +214,7 @@ fn detail_of(
         Some(service) => interfaces.named(service.as_bytes()),
         None => None,
     };
-    let subject = Subject::new(program, provided, interfaces);
+    let subject = Subject::new(program, provided, interfaces, leaf.inputs());
     let found = compared(alloc, &subject, fault)?;
     match completed(alloc, leaf, interfaces, fault.section, &found)? {
         Some(more) => Ok(more),
@@ -238,7 +242,8 @@ fn broken(component: &Component<'_>, program: &Program, interfaces: &Interfaces)
     requires { program.now ≡ component.now.node.program }
     ensures { option_map known_fault result ≡ program_fault (judged_by interfaces.now component.now) }
 {
-    match verify(program, component.leaf().provides(), interfaces) {
+    let leaf = component.leaf();
+    match verify(program, leaf.provides(), interfaces, leaf.inputs()) {
         Ok(_) => None,
         Err(fault) => Some(fault),
     }

@@ -4,7 +4,8 @@ use crate::found::{Compared, Holder, Needed, Unit};
 use crate::session::session_cost_of;
 use gq_caps::Kind;
 use gq_model::fault::Rule;
-use gq_model::program::{Instruction, Name, Place, Width};
+use gq_model::limits::INPUTS;
+use gq_model::program::{Instruction, Name, OperandStatement, Place, Width, WithNumber};
 use gq_program::Interface;
 use gq_rules::{Context, State};
 use std::alloc::{AllocError, Global};
@@ -29,6 +30,7 @@ pub(crate) fn of_statement(
         Rule::ShortDonation => Ok(of_donation(context, state, instruction)),
         Rule::SessionBankChanged => Ok(Compared::Buffer(context.subject().buffer(), None)),
         Rule::UnknownService => Ok(of_service(alloc, instruction)),
+        Rule::NoInput => of_input(alloc, context, instruction),
         _ => Ok(Compared::Nothing),
     }
 }
@@ -171,7 +173,7 @@ fn of_value(context: &Context<'_>, state: &mut State, instruction: &Instruction)
         return Compared::Nothing;
     };
     match instruction {
-        Instruction::Set(local) => {
+        Instruction::Operands(OperandStatement::Numbered(WithNumber::Set, local)) => {
             Compared::Value(value, context.local(*local), Holder::Local(*local))
         }
         Instruction::Call(place) => match linked(context, state, *place) {
@@ -188,6 +190,25 @@ fn of_service(alloc: Global, instruction: &Instruction) -> Compared {
         Instruction::Open(_, service, _) => { Compared::Unknown(service.copied(), Vec::new(alloc)) }
         _ => Compared::Nothing,
     }
+}
+
+// The input of an instruction, and those that the leaf has.
+fn of_input(
+    alloc: Global,
+    context: &Context<'_>,
+    instruction: &Instruction,
+) -> Result<Compared, AllocError> {
+    let Instruction::Operands(OperandStatement::Numbered(WithNumber::Input, input)) = instruction
+    else {
+        return Ok(Compared::Nothing);
+    };
+    let mut inputs = Vec::new(alloc);
+    for number in 0..INPUTS as u32 {
+        if let Some(greatest) = context.greatest_input(number) {
+            inputs.push(greatest)?;
+        }
+    }
+    Ok(Compared::Input(*input, inputs))
 }
 
 // What an instruction gives, and what a session needs.

@@ -4,7 +4,7 @@ use crate::found::{Mistake, Operand};
 use crate::lines::{Word, line_at, nth_word};
 use crate::meant::Nearest;
 use gq_model::fault::TextFault;
-use gq_model::program::Name;
+use gq_model::program::{Name, WithNumber};
 use gq_program::shapes::SHAPES;
 use gq_program::{Shape, shape_of_word};
 use std::alloc::{AllocError, Global};
@@ -28,8 +28,11 @@ fn one(operand: Operand) -> Operands {
 fn of_shape(shape: Shape) -> Operands {
     match shape {
         Shape::Say => one(Operand::Said),
-        Shape::Plain(_) => NONE,
-        Shape::Number(statement) => one(Operand::Number(statement.low(), statement.high())),
+        Shape::Out | Shape::Plain(_) => NONE,
+        Shape::Number(statement) => {
+            let entry = statement.entry();
+            one(Operand::Number(entry.low, entry.high))
+        }
         Shape::Slot(_) => one(Operand::Slot),
         Shape::Bytes(_) => one(Operand::SlotOrObject),
         Shape::Amount(statement) => [
@@ -91,11 +94,21 @@ fn told(alloc: Global, word: &[u8]) -> Result<String, AllocError> {
     String::from_str(alloc, str::from_utf8(word).unwrap_or("?"))
 }
 
+// Whether a statement may be meant in the program of a leaf with these inputs. One that reads an input is not, where there are none.
+fn is_meant(shape: Shape, inputs: &[u32]) -> bool {
+    match shape {
+        Shape::Number(WithNumber::Input) => !inputs.is_empty(),
+        _ => true,
+    }
+}
+
 // The words like one with which a line in a section may begin.
-fn near_statements(alloc: Global, word: &[u8]) -> Result<Vec<Name>, AllocError> {
+fn near_statements(alloc: Global, inputs: &[u32], word: &[u8]) -> Result<Vec<Name>, AllocError> {
     let mut nearest = Nearest::new(alloc);
     for shape in &SHAPES {
-        nearest.compare(word, shape.word())?;
+        if is_meant(*shape, inputs) {
+            nearest.compare(word, shape.word())?;
+        }
     }
     compare_words(&mut nearest, word, &BLOCKS)?;
     Ok(nearest.names())
@@ -122,25 +135,31 @@ fn compare_words(
 // The words like one with which a line may begin there; none for one with which a line elsewhere may.
 fn near_words(
     alloc: Global,
+    inputs: &[u32],
     word: &[u8],
     is_inside: bool,
     is_elsewhere: bool,
 ) -> Result<Vec<Name>, AllocError> {
     match (is_elsewhere, is_inside) {
         (true, _) => Ok(Vec::new(alloc)),
-        (false, true) => near_statements(alloc, word),
+        (false, true) => near_statements(alloc, inputs, word),
         (false, false) => near_headings(alloc, word),
     }
 }
 
 // A word with which no line begins there.
-fn unknown(alloc: Global, word: &[u8], is_inside: bool) -> Result<Mistake, AllocError> {
+fn unknown(
+    alloc: Global,
+    inputs: &[u32],
+    word: &[u8],
+    is_inside: bool,
+) -> Result<Mistake, AllocError> {
     let is_elsewhere = operands_of(!is_inside, word).is_some();
     Ok(Mistake::Unknown {
         word: told(alloc, word)?,
         is_inside,
         is_elsewhere,
-        near: near_words(alloc, word, is_inside, is_elsewhere)?,
+        near: near_words(alloc, inputs, word, is_inside, is_elsewhere)?,
     })
 }
 
@@ -236,23 +255,27 @@ fn first_bad(
 // What is wrong on a line with this first word.
 fn mistake_in(
     alloc: Global,
+    inputs: &[u32],
     line: &[u8],
     is_inside: bool,
     first: Word<'_>,
     fault: TextFault,
 ) -> Result<(usize, Mistake), AllocError> {
     match (operands_of(is_inside, first.text), fault) {
-        (None, TextFault::UnknownWord) => Ok((first.at, unknown(alloc, first.text, is_inside)?)),
+        (None, TextFault::UnknownWord) => {
+            Ok((first.at, unknown(alloc, inputs, first.text, is_inside)?))
+        }
         (Some(operands), TextFault::UnknownWord) => surplus(alloc, line, first, &operands),
         (Some(operands), _) => first_bad(alloc, line, first, &operands, fault),
         (None, _) => Ok((first.at, Mistake::Nothing)),
     }
 }
 
-/// What is wrong on a line of a program's text that has a fault, and the byte, from 0, with which the wrong word begins. Where a word is missing, that is the
-/// first one of the line.
+/// Returns what is wrong on a line of a program's text that has a fault, and the byte, from 0, with which the wrong word begins. Where a word is missing, that
+/// is the first one of the line. The leaf has inputs with these greatest values.
 pub(crate) fn mistake_on(
     alloc: Global,
+    inputs: &[u32],
     text: &[u8],
     fault: TextFault,
     number: usize,
@@ -261,7 +284,7 @@ pub(crate) fn mistake_on(
         return Ok((0, Mistake::Nothing));
     };
     match nth_word(line, 0) {
-        Some(first) => mistake_in(alloc, line, is_inside, first, fault),
+        Some(first) => mistake_in(alloc, inputs, line, is_inside, first, fault),
         None => Ok((0, Mistake::Nothing)),
     }
 }

@@ -1,5 +1,6 @@
-// The details of a line of turns, and which of its words is wrong.
+// The details of a line of turns or of a setting, and which of its words is wrong.
 // No contract: its results are places and details alone. Tests show them.
+use crate::details::push_inputs;
 use crate::lines::nth_word;
 use crate::meant::{Nearest, compare_leaves};
 use crate::tell::push_line;
@@ -20,6 +21,14 @@ fn name_in(line: &[u8]) -> &[u8] {
     }
 }
 
+// The name of the leaf of a line: what stands before the first blank or dot.
+fn leaf_in(line: &[u8]) -> &[u8] {
+    match line.iter().position(|byte| *byte == b' ' || *byte == b'.') {
+        Some(end) => line.get(..end).unwrap_or(line),
+        None => line,
+    }
+}
+
 // Whether a word is one to seven digits, of which the first is not 0.
 fn is_count(word: &[u8]) -> bool {
     match word {
@@ -30,8 +39,59 @@ fn is_count(word: &[u8]) -> bool {
     }
 }
 
+// Whether a word is one to ten digits of a number up to 4294967295.
+fn is_value(word: &[u8]) -> bool {
+    let mut number = 0_u64;
+    for byte in word {
+        if !byte.is_ascii_digit() {
+            return false;
+        }
+        number = number
+            .saturating_mul(10)
+            .saturating_add(u64::from(*byte - b'0'));
+    }
+    !word.is_empty() && word.len() <= 10 && number <= u64::from(u32::MAX)
+}
+
+// Whether the second word of a line is an equals sign, so that it is meant as a setting.
+fn is_meant_as_setting(line: &[u8]) -> bool {
+    match nth_word(line, 1) {
+        Some(sign) => sign.text == b"=".as_slice(),
+        None => false,
+    }
+}
+
+// The byte with which that begins what is wrong on a line that is meant as a setting: a name, the number of an input, a value, or what follows it.
+fn setting_at(line: &[u8]) -> usize {
+    let name = leaf_in(line);
+    let input = name.len().saturating_add(1);
+    if !is_name(name) {
+        return 0;
+    }
+    let first = name_in(line);
+    match first.get(name.len()..) {
+        Some([b'.', b'0'..=b'7']) => (),
+        _ => return input,
+    }
+    let value = first.len().saturating_add(3);
+    match (nth_word(line, 1), nth_word(line, 2)) {
+        (Some(sign), _) if sign.at != first.len().saturating_add(1) => sign.at,
+        (_, Some(number)) if number.at == value && is_value(number.text) => {
+            match nth_word(line, 3) {
+                Some(more) => more.at,
+                None => value.saturating_add(number.text.len()),
+            }
+        }
+        (_, Some(number)) => number.at,
+        _ => line.len(),
+    }
+}
+
 // The byte, from 0, with which that begins what is wrong on a line of another form: a name, a number that is no count, or what follows the number.
 fn form_at(line: &[u8]) -> usize {
+    if is_meant_as_setting(line) {
+        return setting_at(line);
+    }
     let name = name_in(line);
     let behind = name.len().saturating_add(1);
     if !is_name(name) || behind > line.len() {
@@ -51,13 +111,22 @@ pub(crate) fn wrong_at(wrong: &Wrong<'_>) -> usize {
     match wrong.fault {
         TurnFault::BadLine => form_at(wrong.text),
         TurnFault::NoSuchComponent => 0,
+        TurnFault::NoInput => leaf_in(wrong.text).len().saturating_add(1),
+        TurnFault::InputTooLarge => name_in(wrong.text).len().saturating_add(3),
         TurnFault::TooMany => name_in(wrong.text).len().saturating_add(1),
     }
 }
 
 // The form of a line.
-fn push_form(told: &mut Details, line: &[u8]) -> Result<(), AllocError> {
+fn push_form(told: &mut Details, table: &NodeTable, line: &[u8]) -> Result<(), AllocError> {
     told.line("a line of turns is NAME COUNT, and COUNT has one to seven digits, the first not 0")?;
+    if table.scenario().version().number() >= 3 {
+        told.line(
+            "a setting is NAME.I = N: I is 0 to 7, N has one to ten digits and is at most 4294967295",
+        )?;
+    } else if is_meant_as_setting(line) {
+        told.line("only a scenario of version 3 has inputs that can be set")?;
+    }
     match line.get(form_at(line)..) {
         Some(word) => push_comment(told, word),
         None => Ok(()),
@@ -73,7 +142,7 @@ fn push_unknown(
     table: &NodeTable,
     wrong: &Wrong<'_>,
 ) -> Result<(), AllocError> {
-    let name = name_in(wrong.text);
+    let name = leaf_in(wrong.text);
     let mut nearest = Nearest::new(told.alloc());
     if wrong.line <= LINES_COMPARED {
         compare_leaves(&mut nearest, name, table.scenario().nodes())?;
@@ -84,7 +153,26 @@ fn push_unknown(
     told.end()
 }
 
-/// The details of a line of turns that is wrong.
+// An input that a leaf has not, or a value that is too large for it, and the inputs that the leaf has.
+fn push_bad_input(
+    told: &mut Details,
+    table: &NodeTable,
+    wrong: &Wrong<'_>,
+) -> Result<(), AllocError> {
+    let at = wrong_at(wrong);
+    if let TurnFault::NoInput = wrong.fault {
+        told.text("input ")?;
+    }
+    told.raw(name_in(wrong.text.get(at..).unwrap_or(wrong.text)))?;
+    told.text(", and ")?;
+    match table.leaf_named(leaf_in(wrong.text)) {
+        Some(leaf) => push_inputs(told, table.scenario().leaf(leaf).inputs())?,
+        None => told.text("there is no such leaf")?,
+    }
+    told.end()
+}
+
+/// The details of a line of turns or of a setting that is wrong.
 pub(crate) fn turn_details(
     alloc: Global,
     table: &NodeTable,
@@ -94,8 +182,13 @@ pub(crate) fn turn_details(
     let line = str::from_utf8(wrong.text).unwrap_or("this is no UTF-8");
     push_line(&mut details, line)?;
     match wrong.fault {
-        TurnFault::BadLine => push_form(&mut details, wrong.text)?,
+        TurnFault::BadLine => push_form(&mut details, table, wrong.text)?,
         TurnFault::NoSuchComponent => push_unknown(&mut details, table, wrong)?,
+        TurnFault::NoInput | TurnFault::InputTooLarge => push_bad_input(
+            &mut details,
+            table,
+            wrong,
+        )?,
         TurnFault::TooMany => {
             details.more_than(wrong.total, "turns", u64::from(GREATEST_TURNS))?
         }

@@ -1,8 +1,7 @@
 // All lines of a text of turns that are wrong.
 ghost use Rattle.std.specs.Prelude.{◌≡◌, ◌+◌, ◌^◌, ◌<◌, ◌≤◌, ◌∷◌, ◌++◌, [], length, map, option_map, unwrap_or, IfOk, IfSome, Some};
-ghost use Rattle.gq_model.specs.machine.Scenario.{components};
 ghost use Rattle.gq_model.specs.texts.Letters.{lines};
-ghost use Rattle.gq_model.specs.texts.Turns.{greatest_turns};
+ghost use Rattle.gq_model.specs.texts.Turns.{greatest_turns, turns_given};
 ghost use Rattle.gq_scenario.specs.Lines.{length_left};
 ghost use Rattle.gq_load.specs.Load.{loaded};
 ghost use Rattle.gq_faults.specs.Lists.{first, listed_if};
@@ -18,8 +17,10 @@ use crate::words::Details;
 use gq_init::counted::Counted;
 use gq_init::names::NameIndex;
 use gq_init::turns::next_turn;
+use gq_init::turns_given;
 use gq_load::accepted::Accepted;
 use gq_load::fault::{LoadError, LoadFault};
+use gq_model::act::Act;
 use gq_model::fault::TurnFault;
 use gq_model::limits::GREATEST_TURNS_TEXT;
 use gq_resolve::NodeTable;
@@ -41,7 +42,7 @@ pub(crate) struct Wrong<'t> {
 
 // The fault that is told of a line that says this after so many turns: that there are too many is told once.
 fn told_fault(
-    said: &Result<Option<(LeafNo, u32)>, TurnFault>,
+    said: &Result<Option<(LeafNo, Act)>, TurnFault>,
     before: Option<u32>,
 ) -> Option<TurnFault>
     ensures { result ≡ told_fault said.now before }
@@ -54,16 +55,16 @@ fn told_fault(
 }
 
 // How many turns there are after a line that says this; `None` once there were too many.
-fn turns_after(said: &Result<Option<(LeafNo, u32)>, TurnFault>, before: Option<u32>) -> Option<u32>
+fn turns_after(said: &Result<Option<(LeafNo, Act)>, TurnFault>, before: Option<u32>) -> Option<u32>
     requires few { unwrap_or before 0 ≤ greatest_turns }
-    requires fits { IfOk said.now (λ turn. IfSome turn (λ t. unwrap_or before 0 + t.1 ≤ greatest_turns)) }
+    requires fits { IfOk said.now (λ turn. IfSome turn (λ t. unwrap_or before 0 + turns_given t.1 ≤ greatest_turns)) }
     ensures turns { result ≡ turns_after said.now before }
     ensures few { unwrap_or result 0 ≤ greatest_turns }
 {
     match said {
         Ok(None) => before,
-        Ok(Some((_, count))) => match before {
-            Some(total) => Some(total + *count),
+        Ok(Some((_, act))) => match before {
+            Some(total) => Some(total + turns_given(*act)),
             None => None,
         },
         Err(TurnFault::TooMany) => None,
@@ -114,9 +115,9 @@ impl<'t> Lines<'t> {
     fn read(&mut self, text: &'t [u8], table: &NodeTable, names: &NameIndex) -> Option<Wrong<'t>>
         requires few { unwrap_or self.old.total 0 ≤ greatest_turns }
         requires numbered { self.old.line + 1 < 2 ^ 64 }
-        ensures faults { faults_left (components table.now) self.old.line self.old.total (Some text.now)
+        ensures faults { faults_left table.now self.old.line self.old.total (Some text.now)
             ≡ listed_if (option_map (λ wrong. (wrong.fault, wrong.line)) result)
-            ++ faults_left (components table.now) self.new.line self.new.total (option_map (λ rest. rest.now) self.new.left) }
+            ++ faults_left table.now self.new.line self.new.total (option_map (λ rest. rest.now) self.new.left) }
         ensures few { unwrap_or self.new.total 0 ≤ greatest_turns }
         ensures numbered { self.new.line ≡ self.old.line + 1 }
         ensures shorter { length_left (option_map (λ rest. rest.now) self.new.left) ≤ length text.now }
@@ -196,9 +197,9 @@ fn tell_lines<W: Write>(
     out: &mut Counted<W>,
 ) -> Result<Option<(TurnFault, u64)>, TellError>
     requires { length file.text.now ≤ 2 ^ 24 }
-    ensures told { Tells W.contents file.entry.path.now (map turn_fault_line (line_faults (components table.now) 1 (Some 0) (lines file.entry.text.now)))
+    ensures told { Tells W.contents file.entry.path.now (map turn_fault_line (line_faults table.now 1 (Some 0) (lines file.entry.text.now)))
         out.old out.new result }
-    ensures first { IfOk result (λ answer. answer ≡ first (line_faults (components table.now) 1 (Some 0) (lines file.entry.text.now))) }
+    ensures first { IfOk result (λ answer. answer ≡ first (line_faults table.now 1 (Some 0) (lines file.entry.text.now))) }
 {
     let names = NameIndex::of(table);
     let mut reading = Lines {
@@ -223,8 +224,8 @@ fn tell_turns<W: Write>(
     table: &NodeTable,
     out: &mut Counted<W>,
 ) -> Result<Option<(TurnFault, u64)>, TellError>
-    ensures told { Tells W.contents file.entry.path.now (map turn_fault_line (turn_faults (components table.now) file.entry.text.now)) out.old out.new result }
-    ensures first { IfOk result (λ answer. answer ≡ first (turn_faults (components table.now) file.entry.text.now)) }
+    ensures told { Tells W.contents file.entry.path.now (map turn_fault_line (turn_faults table.now file.entry.text.now)) out.old out.new result }
+    ensures first { IfOk result (λ answer. answer ≡ first (turn_faults table.now file.entry.text.now)) }
 {
     if file.text.len() > GREATEST_TURNS_TEXT {
         tell_too_long(alloc, file, out)?;
@@ -237,6 +238,7 @@ fn tell_turns<W: Write>(
 ///
 /// - The text is too long.
 /// - A line has another form, or a name that is no leaf's.
+/// - A setting is of an input that the leaf has not, or has a value above the greatest.
 /// - There are too many turns; this is reported at the first line at which there are.
 ///
 /// The first of these is the one that `run` prints (`laws`). Returns why `run` refuses both, if it does. Ends early if host memory is refused or a write

@@ -40,7 +40,8 @@ fn tell_top<W: Write>(
     ensures { TellsOf W.contents teller.now.path.now (table_faults (top_keys (version_number version)) (table_view top.now)) out.old out.new result }
 {
     let rules = top_rules(version);
-    tell_table(teller, out, &[], TableKind::Top, rules.as_slice(), top)
+    let kind = TableKind::Top(version);
+    tell_table(teller, out, &[], kind, rules.as_slice(), top)
 }
 
 // An interface's table.
@@ -55,7 +56,7 @@ fn tell_interface<W: Write>(
         (table_faults (interface_keys (version_number version) (table_view table.now)) (table_view table.now)) out.old out.new result }
 {
     let rules = interface_rules(version, table);
-    let kind = TableKind::Interface;
+    let kind = TableKind::Interface(version);
     tell_table(teller, out, way, kind, rules.as_slice(), table)
 }
 
@@ -178,7 +179,8 @@ fn tell_init<W: Write>(
     ensures { TellsOf W.contents teller.now.path.now (table_faults (init_keys (version_number version)) (table_view table.now)) out.old out.new result }
 {
     let rules = init_rules(version);
-    tell_table(teller, out, way, TableKind::Init, rules.as_slice(), table)
+    let kind = TableKind::Init(version);
+    tell_table(teller, out, way, kind, rules.as_slice(), table)
 }
 
 // A leaf's table, among these interfaces.
@@ -195,7 +197,8 @@ fn tell_leaf<W: Write>(
         (table_view table.now)) out.old out.new result }
 {
     let rules = leaf_rules(version, interfaces);
-    tell_table(teller, out, way, TableKind::Leaf, rules.as_slice(), table)
+    let kind = TableKind::Leaf(version);
+    tell_table(teller, out, way, kind, rules.as_slice(), table)
 }
 
 // The keys of a node: one with `start` is an init.

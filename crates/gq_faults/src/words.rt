@@ -278,6 +278,7 @@ impl Details {
                 self.count(count as u64, "number", "numbers")?;
                 self.text(" from 0 to 65536, as many as upgrades has")
             }
+            ValueRule::Inputs => self.range("a list of at most 8 numbers", 0, 4294967295),
             ValueRule::Declared(_) => self.text("the name of an interface"),
         }
     }
@@ -299,10 +300,10 @@ fn cut(text: &str) -> &str {
 /// What a kind of table is called.
 pub(crate) fn table_word(kind: TableKind) -> &'static str {
     match kind {
-        TableKind::Top => "the top table",
-        TableKind::Interface => "an interface",
-        TableKind::Init => "an init",
-        TableKind::Leaf => "a leaf",
+        TableKind::Top(_) => "the top table",
+        TableKind::Interface(_) => "an interface",
+        TableKind::Init(_) => "an init",
+        TableKind::Leaf(_) => "a leaf",
         TableKind::Route => "a route",
     }
 }

@@ -3,7 +3,7 @@ use Rattle.std.proofs.Common.{◌≡◌, ◌∙◌, ℕ, ◌&&◌, Bool, true, L
 use Rattle.std.proofs.lemmas.List.{take-append-drop}
 use Rattle.std.proofs.lemmas.Bool.{and_parts}
 use Rattle.gq_model.specs.machine.Lists.{all_of}
-use Rattle.gq_fit.specs.Layout.{Change, DiffersInValues, EndsAs, is_change, is_spelled, is_value, with_new, with_old}
+use Rattle.gq_fit.specs.Layout.{Change, EndsAs, is_change, is_spelled, is_value}
 
 -- a text that is put at the end as it is
 pub same_put : (text before after : List ℕ) → after ≡ before ++ text → EndsAs text before after

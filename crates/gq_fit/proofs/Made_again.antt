@@ -1,8 +1,8 @@
 -- What was read again, and why a text is refused.
-use Rattle.std.proofs.Common.{◌≡◌, ◌≢◌, ◌∙◌, List, ℕ, Option, Some, None, Result, Ok, Err, [], ap, subst, sym}
+use Rattle.std.proofs.Common.{◌≡◌, ◌≢◌, ◌∙◌, List, ℕ, Option, Some, None, Result, Ok, [], ap, subst, sym}
 use Rattle.std.specs.Prelude.{IsOkAnd}
 use Rattle.gq_model.specs.machine.Scenario.{Scenario}
-use Rattle.gq_scenario.specs.Reading.{ReadFault, scenario_in}
+use Rattle.gq_scenario.specs.Reading.{scenario_in}
 use Rattle.gq_load.specs.Faults.{Prints, PrintsFault, Refuses}
 use Rattle.gq_load.specs.Load.{Fault, loaded, loaded_from, loaded_or, scenario_fault}
 use Rattle.gq_load.specs.declared.fault.LoadError.{LoadError}

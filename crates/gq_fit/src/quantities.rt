@@ -162,7 +162,7 @@ impl<'t> Collector<'t> {
             greatest: GREATEST_NEED,
         };
         self.number(&way, place, u64::from(interface.need()), Some(need.ram))?;
-        if let Version::Two = self.version {
+        if self.version.counts_caps() {
             let place = Place {
                 key: Key::NeedCaps,
                 name,
@@ -195,7 +195,7 @@ impl<'t> Collector<'t> {
         let mut caps = Vec::new(self.alloc);
         for (upgrade, least) in interface.upgrades().iter().zip(least) {
             ram.push((u64::from(upgrade.ram()), bytes.taken(Some(least.ram))?))?;
-            if let Version::Two = self.version {
+            if self.version.counts_caps() {
                 caps.push((u64::from(upgrade.caps()), counts.taken(least.caps)?))?;
             }
         }
@@ -212,7 +212,7 @@ impl<'t> Collector<'t> {
         least: Least,
     ) -> Result<(), MakeError> {
         self.number(way, ram, quantum.ram(), Some(least.ram))?;
-        if let Version::Two = self.version {
+        if self.version.counts_caps() {
             let caps = Place {
                 key: Key::Caps,
                 name: ram.name,

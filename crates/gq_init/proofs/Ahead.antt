@@ -1,19 +1,21 @@
 -- The first line of a text of turns, told from what stands at the front of the text.
 use Rattle.std.proofs.Common.{◌≡◌, ◌==◌, ◌≢◌, ℕ, zero, suc, ◌+◌, ◌*◌, ◌-◌, ◌^◌, ◌<◌, ◌≤◌, Bool, true, false, ◌&&◌, cond, List, [], ◌∷◌, ◌++◌, length}
-use Rattle.std.proofs.Common.{get_or, take, drop, Option, Some, None, Ok, refl, ap, sym, subst, ◌∙◌, arith, append_assoc, add-one}
+use Rattle.std.proofs.Common.{get_or, take, drop, Option, Some, None, Ok, Err, refl, ap, sym, subst, ◌∙◌, arith, append_assoc, add-one}
 use Rattle.std.proofs.lemmas.Bool.Decides.{nat_tests}
 use Rattle.std.proofs.Math.Nat.{pow-succ'}
 use Rattle.std.proofs.lemmas.List.{drop_more, get_or-take, length-take-le, take-append-drop, take_more}
 use Rattle.gq_model.specs.machine.Lists.{all_of, between}
 use Rattle.gq_model.specs.machine.Program.{text_eq}
 use Rattle.gq_model.specs.machine.Routes.{numbered}
-use Rattle.gq_model.specs.machine.Scenario.{Component}
+use Rattle.gq_model.specs.declared.act.Act.TheVariants.{Turns}
+use Rattle.gq_model.specs.machine.Scenario.{Scenario, components}
 use Rattle.gq_model.specs.texts.Letters.{is_digit, is_name, is_name_byte, lines, onto_first, pieces, spelled_on, without_return, without_returns}
-use Rattle.gq_model.specs.texts.Turns.{says_nothing, turn_count, turn_in}
+use Rattle.gq_model.specs.declared.fault.TurnFault.TheVariants.{BadLine}
+use Rattle.gq_model.specs.texts.Turns.{says_nothing, turn_count, turn_of}
 use Rattle.gq_model.proofs.Small.{text_self}
 use Rattle.gq_scenario.proofs.Pieces.{pieces_first, pieces_only, without_returns-pieces}
-use Rattle.gq_init.specs.TurnLines.{turn_on}
-use Rattle.gq_init.proofs.Counts.{turn_count-some, turn_in-named}
+use Rattle.gq_init.specs.TurnLines.{given_in, turn_on}
+use Rattle.gq_init.proofs.Counts.{turn_count-some}
 use Rattle.gq_init.specs.internal.Ahead.{IsCountAhead, IsCommentAhead, IsLeafAhead, IsLineAhead, IsTurnAhead}
 
 -- BYTES
@@ -77,6 +79,12 @@ pieces_before s (c ∷ xs) rest h =
     ap (λ b. cond b ([] ∷ pieces (λ d. d == s) (xs ++ s ∷ rest)) (onto_first c (pieces (λ d. d == s) (xs ++ s ∷ rest)))) (is_other s c h.0)
     ∙ ap (onto_first c) (pieces_before s xs rest h.1)
 
+-- no separator stands there
+pieces_alone : (s : ℕ) (xs : List ℕ) → Above s xs → pieces (λ c. c == s) xs ≡ xs ∷ []
+pieces_alone s [] h = refl
+pieces_alone s (c ∷ xs) h =
+    ap (λ b. cond b ([] ∷ pieces (λ d. d == s) xs) (onto_first c (pieces (λ d. d == s) xs))) (is_other s c h.0) ∙ ap (onto_first c) (pieces_alone s xs h.1)
+
 keeps_end : (line : List ℕ) → Above 13 line → without_return line ≡ line
 keeps_end [] h = refl
 keeps_end (c ∷ []) h = ap (λ b. cond b [] (c ∷ [])) (is_other 13 c h.0)
@@ -90,29 +98,38 @@ shorter_behind : (front : List ℕ) (c : ℕ) (rest : List ℕ) → length rest 
 shorter_behind [] c rest = omega arith
 shorter_behind (d ∷ front) c rest = omega (arith, shorter_behind front c rest)
 
-told : (cs : List Component) (name digits rest : List ℕ) (x n : ℕ) → is_name name ≡ true → numbered 0 name cs ≡ Some x → all_of is_digit digits ≡ true
-    → turn_count digits ≡ Some n → IsTurnAhead cs (name ++ (32 ∷ (digits ++ (10 ∷ rest)))) (x, n) rest
-told cs name digits rest x n named number are spells =
+-- a line of a name and a number
+given_named : (s : Scenario) (name digits : List ℕ) (x n : ℕ) → is_name name ≡ true → numbered 0 name (components s) ≡ Some x → turn_count digits ≡ Some n
+    → given_in s (name ∷ digits ∷ []) ≡ Ok (x, Turns n)
+given_named s name digits x n named number spells =
+    ap (λ b. cond b (turn_of (numbered 0 name (components s)) (turn_count digits)) (Err BadLine)) named
+    ∙ (ap (λ o. turn_of o (turn_count digits)) number ∙ ap (turn_of (Some x)) spells)
+
+told : (s : Scenario) (name digits rest : List ℕ) (x n : ℕ) → is_name name ≡ true → numbered 0 name (components s) ≡ Some x → all_of is_digit digits ≡ true
+    → turn_count digits ≡ Some n → IsTurnAhead s (name ++ (32 ∷ (digits ++ (10 ∷ rest)))) (x, Turns n) rest
+told s name digits rest x n named number are spells =
     let letters = name_above name (and_second (between 1 16 (length name)) (all_of is_name_byte name) named) in
+    let figures = digits_above digits are in
     let line : List ℕ = name ++ (32 ∷ digits) in
     let above : Above 13 line = above_both 13 name (32 ∷ digits) (above_less 13 35 name (omega arith) letters)
-    (omega arith, above_less 13 35 digits (omega arith) (digits_above digits are)) in
+    (omega arith, above_less 13 35 digits (omega arith) figures) in
     let joined : name ++ (32 ∷ (digits ++ (10 ∷ rest))) ≡ line ++ (10 ∷ rest) = sym (append_assoc name (32 ∷ digits) (10 ∷ rest)) in
     record {
       line = line;
       is = ap lines joined ∙ (ap without_returns (pieces_before 10 line rest (above_less 10 13 line (omega arith) above))
           ∙ (without_returns-pieces line 10 rest ∙ ap (λ l. l ∷ lines rest) (keeps_end line above)));
       says = says_something name (32 ∷ digits) named letters;
-      turn_is = ap (turn_in cs) (pieces_before 32 name digits (above_less 32 35 name (omega arith) letters))
-          ∙ turn_in-named cs name digits (Some x) (Some n) named (sym number) (sym spells);
+      turn_is = ap (given_in s) (pieces_before 32 name digits (above_less 32 35 name (omega arith) letters)
+          ∙ ap (λ ps. name ∷ ps) (pieces_alone 32 digits (above_less 32 35 digits (omega arith) figures)))
+          ∙ given_named s name digits x n named number spells;
       shorter = subst (λ t. length rest < length t) (sym joined) (shorter_behind line 10 rest);
     }
 
-pub turn_told : (cs : List Component) (text : List ℕ) (x : ℕ) (behind : List ℕ) (n : ℕ) (rest : List ℕ) → IsLeafAhead cs text x behind
-    → IsCountAhead behind n rest → IsTurnAhead cs text (x, n) rest
-turn_told cs text x behind n rest leaf count =
-    subst (λ t. IsTurnAhead cs t (x, n) rest) (sym (leaf.is ∙ ap (λ t. leaf.name ++ (32 ∷ t)) count.is))
-    (told cs leaf.name count.digits rest x n leaf.named leaf.number count.are count.spells)
+pub turn_told : (s : Scenario) (text : List ℕ) (x : ℕ) (behind : List ℕ) (n : ℕ) (rest : List ℕ) → IsLeafAhead (components s) text x behind
+    → IsCountAhead behind n rest → IsTurnAhead s text (x, Turns n) rest
+turn_told s text x behind n rest leaf count =
+    subst (λ t. IsTurnAhead s t (x, Turns n) rest) (sym (leaf.is ∙ ap (λ t. leaf.name ++ (32 ∷ t)) count.is))
+    (told s leaf.name count.digits rest x n leaf.named leaf.number count.are count.spells)
 
 -- COMMENTS
 
@@ -155,12 +172,12 @@ comment_open text some first none =
       says = all_says_nothing text some first;
     }
 
-pub comment_told : (cs : List Component) (n : ℕ) (text : List ℕ) (rest : Option (List ℕ)) → IsCommentAhead text rest → IsLineAhead cs n text (Ok None) rest
-comment_told cs n text rest h =
+pub comment_told : (s : Scenario) (n : ℕ) (text : List ℕ) (rest : Option (List ℕ)) → IsCommentAhead text rest → IsLineAhead s n text (Ok None) rest
+comment_told s n text rest h =
     record {
       line = h.line;
       is = h.is;
-      said_is = sym (ap (λ b. turn_on b n (turn_in cs (pieces (λ c. c == 32) h.line))) h.says);
+      said_is = sym (ap (λ b. turn_on b n (given_in s (pieces (λ c. c == 32) h.line))) h.says);
     }
 
 -- FRONTS

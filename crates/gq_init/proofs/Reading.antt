@@ -8,17 +8,19 @@ use Rattle.std.specs.Prelude.{Vec}
 use Rattle.std.specs.declared.alloc.Global.{Global}
 use Rattle.gq_model.specs.declared.fault.TurnFault.{TurnFault}
 use Rattle.gq_model.specs.declared.fault.TurnFault.TheVariants.{TooMany}
-use Rattle.gq_model.specs.machine.Scenario.{Component}
+use Rattle.gq_model.specs.declared.act.Act.{Act}
+use Rattle.gq_model.specs.machine.Run.{Acts}
+use Rattle.gq_model.specs.machine.Scenario.{Scenario, components}
 use Rattle.gq_model.specs.texts.Letters.{lines, onto_first, pieces, without_return, without_returns}
-use Rattle.gq_model.specs.texts.Turns.{Turned, turn_in, turned, turns_from, greatest_turns}
+use Rattle.gq_model.specs.texts.Turns.{Turned, turned, turns_given, greatest_turns}
 use Rattle.gq_scenario.specs.Lines.{lines_left}
 use Rattle.gq_scenario.proofs.Pieces.{without_returns-pieces}
-use Rattle.gq_init.specs.TurnLines.{IsTurned, limited, line_turn, turn_on}
+use Rattle.gq_init.specs.TurnLines.{IsTurned, given_in, limited, line_turn, turn_on}
 use Rattle.gq_init.specs.declared.turns.TurnsError.{TurnsError}
 use Rattle.gq_init.specs.TurnReading.{Reading, answer, prepended, told}
 use Rattle.gq_init.specs.internal.Ahead.{IsLineAhead, IsTurnAhead}
 use Rattle.gq_init.specs.internal.Reading.{IsEnded, all_but_last, lines_read}
-use Rattle.gq_init.proofs.Turning.{prepended-empty, turned_none, turned_some, turned_fault}
+use Rattle.gq_init.proofs.Turning.{prepended-empty, said_from, turned_none, turned_some, turned_fault}
 
 -- LINES
 
@@ -107,36 +109,36 @@ reads_none false line (Some rest) h = cc
 
 -- READING
 
-module _ (cs : List Component) (items : List (ℕ × ℕ)) (total line : ℕ) (is_last : Bool) (text : List ℕ) (said : Result (Option (ℕ × ℕ)) TurnFault)
-    (after : Option (Bor (List ℕ))) (ahead : IsLineAhead cs total text said (option_map (λ rest. rest.now) after)) where
+module _ (s : Scenario) (items : Acts) (total line : ℕ) (is_last : Bool) (text : List ℕ) (said : Result (Option (ℕ × Act)) TurnFault)
+    (after : Option (Bor (List ℕ))) (ahead : IsLineAhead s total text said (option_map (λ rest. rest.now) after)) where
   -- what is told by these lines of the text
   abbrev before : List (List ℕ) → List (List ℕ) → Turned
-  before ls more = told cs items total line None (ls ++ more)
+  before ls more = told s items total line None (ls ++ more)
 
   first_is : (is_none after && not is_last) ≡ false → lines_read is_last (lines text) ≡ ahead.line ∷ lines_read is_last (behind after)
   first_is h = ap (lines_read is_last) ahead.is ∙ reads_line is_last ahead.line after h
 
   pub read_none : (is_none after && not is_last) ≡ false → said ≡ Ok None → (more : List (List ℕ))
-      → told cs items total (line + 1) None (lines_read is_last (behind after) ++ more) ≡ before (lines_read is_last (lines text)) more
+      → told s items total (line + 1) None (lines_read is_last (behind after) ++ more) ≡ before (lines_read is_last (lines text)) more
   read_none h e more =
-      ap (prepended items) (sym (turned_none cs (line + 1) total ahead.line (lines_read is_last (behind after) ++ more) (sym ahead.said_is ∙ e)))
+      ap (prepended items) (sym (turned_none s (line + 1) total ahead.line (lines_read is_last (behind after) ++ more) (sym ahead.said_is ∙ e)))
       ∙ ap (λ ls. before ls more) (sym (first_is h))
 
-  pub read_some : (is_none after && not is_last) ≡ false → (turn : ℕ × ℕ) → said ≡ Ok (Some turn) → (more : List (List ℕ))
-      → told cs (items ++ turn ∷ []) (total + turn.1) (line + 1) None (lines_read is_last (behind after) ++ more)
+  pub read_some : (is_none after && not is_last) ≡ false → (turn : ℕ × Act) → said ≡ Ok (Some turn) → (more : List (List ℕ))
+      → told s (items ++ turn ∷ []) (total + turns_given turn.1) (line + 1) None (lines_read is_last (behind after) ++ more)
       ≡ before (lines_read is_last (lines text)) more
   read_some h turn e more =
-      sym (turned_some cs (line + 1) total ahead.line (lines_read is_last (behind after) ++ more) items turn (sym ahead.said_is ∙ e))
+      sym (turned_some s (line + 1) total ahead.line (lines_read is_last (behind after) ++ more) items turn (sym ahead.said_is ∙ e))
       ∙ ap (λ ls. before ls more) (sym (first_is h))
 
   pub read_fault : (is_none after && not is_last) ≡ false → (fault : TurnFault) → said ≡ Err fault → (more : List (List ℕ))
       → Err (fault, line + 1) ≡ before (lines_read is_last (lines text)) more
   read_fault h fault e more =
-      sym (turned_fault cs (line + 1) total ahead.line (lines_read is_last (behind after) ++ more) items fault (sym ahead.said_is ∙ e))
+      sym (turned_fault s (line + 1) total ahead.line (lines_read is_last (behind after) ++ more) items fault (sym ahead.said_is ∙ e))
       ∙ ap (λ ls. before ls more) (sym (first_is h))
 
   pub read_begun : (is_none after && not is_last) ≡ true → (more : List (List ℕ))
-      → told cs items total line None more ≡ before (lines_read is_last (lines text)) more
+      → told s items total line None more ≡ before (lines_read is_last (lines text)) more
   read_begun h more = ap (λ ls. before ls more) (sym (ap (lines_read is_last) ahead.is ∙ reads_none is_last ahead.line after h))
 
 within : (n : ℕ) → n ≤ greatest_turns → nat_le n greatest_turns ≡ true
@@ -147,76 +149,76 @@ reads_ended true line rest = refl
 reads_ended false line rest = last_later line (lines rest) (some_lines (pieces (λ c. c == 10) rest) (some_pieces rest))
 
 -- a line that is a turn
-pub read_turn_ahead : (cs : List Component) (items : List (ℕ × ℕ)) (total line : ℕ) (text rest : List ℕ) (turn : ℕ × ℕ) → IsTurnAhead cs text turn rest
-    → total + turn.1 ≤ greatest_turns → (is_last : Bool) (more : List (List ℕ))
-    → told cs (items ++ turn ∷ []) (total + turn.1) (line + 1) None (lines_read is_last (lines rest) ++ more)
-    ≡ told cs items total line None (lines_read is_last (lines text) ++ more)
-read_turn_ahead cs items total line text rest turn h few is_last more =
-    let said : line_turn cs total h.line ≡ Ok (Some turn) =
-    ap (λ b. turn_on b total (turn_in cs (pieces (λ c. c == 32) h.line))) h.says
-    ∙ (ap (limited total) h.turn_is ∙ ap (λ b. cond b (Ok (Some turn)) (Err TooMany)) (within (total + turn.1) few)) in
-    sym (turned_some cs (line + 1) total h.line (lines_read is_last (lines rest) ++ more) items turn said)
-    ∙ ap (λ ls. told cs items total line None (ls ++ more)) (sym (ap (lines_read is_last) h.is ∙ reads_ended is_last h.line rest))
+pub read_turn_ahead : (s : Scenario) (items : Acts) (total line : ℕ) (text rest : List ℕ) (turn : ℕ × Act) → IsTurnAhead s text turn rest
+    → total + turns_given turn.1 ≤ greatest_turns → (is_last : Bool) (more : List (List ℕ))
+    → told s (items ++ turn ∷ []) (total + turns_given turn.1) (line + 1) None (lines_read is_last (lines rest) ++ more)
+    ≡ told s items total line None (lines_read is_last (lines text) ++ more)
+read_turn_ahead s items total line text rest turn h few is_last more =
+    let said : line_turn s total h.line ≡ Ok (Some turn) =
+    ap (λ b. turn_on b total (given_in s (pieces (λ c. c == 32) h.line))) h.says
+    ∙ (ap (limited total) h.turn_is ∙ ap (λ b. cond b (Ok (Some turn)) (Err TooMany)) (within (total + turns_given turn.1) few)) in
+    sym (turned_some s (line + 1) total h.line (lines_read is_last (lines rest) ++ more) items turn said)
+    ∙ ap (λ ls. told s items total line None (ls ++ more)) (sym (ap (lines_read is_last) h.is ∙ reads_ended is_last h.line rest))
 
-pub told_end : (cs : List Component) (items : List (ℕ × ℕ)) (total line : ℕ) → told cs items total line None [] ≡ Ok items
-told_end cs items total line = ap Ok (append-nil items)
+pub told_end : (s : Scenario) (items : Acts) (total line : ℕ) → told s items total line None [] ≡ Ok items
+told_end s items total line = ap Ok (append-nil items)
 
 -- PIECES
 
-pub answer_start : (cs : List Component) (rest : List ℕ)
-    → answer cs (record { items = []; total = 0; line = 0; fault = None; size = 0; last = [] }) rest ≡ turned cs rest
-answer_start cs rest =
-    ap (λ n. cond (nat_le n (2 ^ 24)) (prepended [] (turns_from cs 1 0 (lines rest))) (Err (TooMany, 0))) (omega arith)
-    ∙ ap (λ t. cond (nat_le (length rest) (2 ^ 24)) t (Err (TooMany, 0))) (prepended-empty (turns_from cs 1 0 (lines rest)))
+pub answer_start : (s : Scenario) (rest : List ℕ)
+    → answer s (record { items = []; total = 0; line = 0; fault = None; size = 0; last = [] }) rest ≡ turned s rest
+answer_start s rest =
+    ap (λ n. cond (nat_le n (2 ^ 24)) (prepended [] (said_from s 1 0 (lines rest))) (Err (TooMany, 0))) (omega arith)
+    ∙ ap (λ t. cond (nat_le (length rest) (2 ^ 24)) t (Err (TooMany, 0))) (prepended-empty (said_from s 1 0 (lines rest)))
 
-pub answer_kept : (cs : List Component) (old : Reading) (piece rest : List ℕ)
-    → answer cs (record old { size = old.size + length piece; last = old.last ++ piece }) rest ≡ answer cs old (piece ++ rest)
-answer_kept cs old piece rest =
+pub answer_kept : (s : Scenario) (old : Reading) (piece rest : List ℕ)
+    → answer s (record old { size = old.size + length piece; last = old.last ++ piece }) rest ≡ answer s old (piece ++ rest)
+answer_kept s old piece rest =
     let size : old.size + length piece + length rest ≡ old.size + length (piece ++ rest) = omega (arith, length-append piece rest) in
-    ap (λ n. cond (nat_le n (2 ^ 24)) (told cs old.items old.total old.line old.fault (lines ((old.last ++ piece) ++ rest))) (Err (TooMany, 0))) size
-    ∙ ap (λ t. cond (nat_le (old.size + length (piece ++ rest)) (2 ^ 24)) (told cs old.items old.total old.line old.fault (lines t)) (Err (TooMany, 0)))
+    ap (λ n. cond (nat_le n (2 ^ 24)) (told s old.items old.total old.line old.fault (lines ((old.last ++ piece) ++ rest))) (Err (TooMany, 0))) size
+    ∙ ap (λ t. cond (nat_le (old.size + length (piece ++ rest)) (2 ^ 24)) (told s old.items old.total old.line old.fault (lines t)) (Err (TooMany, 0)))
     (append_assoc old.last piece rest)
 
 -- lines that ended were read, and nothing is kept
-pub answer_read : (cs : List Component) (old new : Reading) → IsEnded old.last → new.last ≡ [] → new.size ≡ old.size
-    → ((more : List (List ℕ)) → told cs new.items new.total new.line new.fault more
-    ≡ told cs old.items old.total old.line old.fault (lines_read false (lines old.last) ++ more))
-    → (rest : List ℕ) → answer cs new rest ≡ answer cs old rest
-answer_read cs old new ended last size same rest =
-    ap (λ n. cond (nat_le (n + length rest) (2 ^ 24)) (told cs new.items new.total new.line new.fault (lines (new.last ++ rest))) (Err (TooMany, 0))) size
+pub answer_read : (s : Scenario) (old new : Reading) → IsEnded old.last → new.last ≡ [] → new.size ≡ old.size
+    → ((more : List (List ℕ)) → told s new.items new.total new.line new.fault more
+    ≡ told s old.items old.total old.line old.fault (lines_read false (lines old.last) ++ more))
+    → (rest : List ℕ) → answer s new rest ≡ answer s old rest
+answer_read s old new ended last size same rest =
+    ap (λ n. cond (nat_le (n + length rest) (2 ^ 24)) (told s new.items new.total new.line new.fault (lines (new.last ++ rest))) (Err (TooMany, 0))) size
     ∙ ap (λ t. cond (nat_le (old.size + length rest) (2 ^ 24)) t (Err (TooMany, 0)))
-    (ap (λ l. told cs new.items new.total new.line new.fault (lines (l ++ rest))) last
-    ∙ (same (lines rest) ∙ ap (told cs old.items old.total old.line old.fault) (sym (lines_ended old.last rest ended))))
+    (ap (λ l. told s new.items new.total new.line new.fault (lines (l ++ rest))) last
+    ∙ (same (lines rest) ∙ ap (told s old.items old.total old.line old.fault) (sym (lines_ended old.last rest ended))))
 
 -- END
 
 -- what was read at last is the answer
-pub answer_finished : (cs : List Component) (r : Reading) (items : List (ℕ × ℕ)) (total line : ℕ) (fault : Option (TurnFault × ℕ))
-    (result : Result (Vec (ℕ × ℕ) Global) TurnsError) → nat_le r.size (2 ^ 24) ≡ true
-    → ((more : List (List ℕ)) → told cs items total line fault more ≡ told cs r.items r.total r.line r.fault (lines r.last ++ more))
-    → IsTurned result (told cs items total line fault []) → IsTurned result (answer cs r [])
-answer_finished cs r items total line fault result small same is =
+pub answer_finished : (s : Scenario) (r : Reading) (items : Acts) (total line : ℕ) (fault : Option (TurnFault × ℕ))
+    (result : Result (Vec (ℕ × Act) Global) TurnsError) → nat_le r.size (2 ^ 24) ≡ true
+    → ((more : List (List ℕ)) → told s items total line fault more ≡ told s r.items r.total r.line r.fault (lines r.last ++ more))
+    → IsTurned result (told s items total line fault []) → IsTurned result (answer s r [])
+answer_finished s r items total line fault result small same is =
     subst (IsTurned result) (same []
-    ∙ ap (told cs r.items r.total r.line r.fault) (append-nil (lines r.last) ∙ ap lines (sym (append-nil r.last)))
-    ∙ sym (ap (λ n. cond (nat_le n (2 ^ 24)) (told cs r.items r.total r.line r.fault (lines (r.last ++ []))) (Err (TooMany, 0))) (omega arith)
-    ∙ ap (λ b. cond b (told cs r.items r.total r.line r.fault (lines (r.last ++ []))) (Err (TooMany, 0))) small)) is
+    ∙ ap (told s r.items r.total r.line r.fault) (append-nil (lines r.last) ∙ ap lines (sym (append-nil r.last)))
+    ∙ sym (ap (λ n. cond (nat_le n (2 ^ 24)) (told s r.items r.total r.line r.fault (lines (r.last ++ []))) (Err (TooMany, 0))) (omega arith)
+    ∙ ap (λ b. cond b (told s r.items r.total r.line r.fault (lines (r.last ++ []))) (Err (TooMany, 0))) small)) is
 
 -- a text in one piece
-pub text_finished : (cs : List Component) (text : List ℕ) (items : List (ℕ × ℕ)) (total line : ℕ) (fault : Option (TurnFault × ℕ))
-    (result : Result (Vec (ℕ × ℕ) Global) TurnsError) → nat_le (length text) (2 ^ 24) ≡ true
-    → ((more : List (List ℕ)) → told cs items total line fault more ≡ told cs [] 0 0 None (lines text ++ more))
-    → IsTurned result (told cs items total line fault []) → IsTurned result (turned cs text)
-text_finished cs text items total line fault result small same is =
-    subst (IsTurned result) (same [] ∙ ap (told cs [] 0 0 None) (append-nil (lines text)) ∙ prepended-empty (turns_from cs 1 0 (lines text))
-    ∙ sym (ap (λ b. cond b (turns_from cs 1 0 (lines text)) (Err (TooMany, 0))) small)) is
+pub text_finished : (s : Scenario) (text : List ℕ) (items : Acts) (total line : ℕ) (fault : Option (TurnFault × ℕ))
+    (result : Result (Vec (ℕ × Act) Global) TurnsError) → nat_le (length text) (2 ^ 24) ≡ true
+    → ((more : List (List ℕ)) → told s items total line fault more ≡ told s [] 0 0 None (lines text ++ more))
+    → IsTurned result (told s items total line fault []) → IsTurned result (turned s text)
+text_finished s text items total line fault result small same is =
+    subst (IsTurned result) (same [] ∙ ap (told s [] 0 0 None) (append-nil (lines text)) ∙ prepended-empty (said_from s 1 0 (lines text))
+    ∙ sym (ap (λ b. cond b (said_from s 1 0 (lines text)) (Err (TooMany, 0))) small)) is
 
 -- of which nothing was read before
-pub told_start : (cs : List Component) (items : List (ℕ × ℕ)) (total line : ℕ) (fault : Option (TurnFault × ℕ)) (more : List (List ℕ)) → items ≡ [] → total ≡ 0
-    → line ≡ 0 → fault ≡ None → told cs items total line fault more ≡ told cs [] 0 0 None more
-told_start cs items total line fault more a b d e = rw (a, b, d, e) refl
+pub told_start : (s : Scenario) (items : Acts) (total line : ℕ) (fault : Option (TurnFault × ℕ)) (more : List (List ℕ)) → items ≡ [] → total ≡ 0
+    → line ≡ 0 → fault ≡ None → told s items total line fault more ≡ told s [] 0 0 None more
+told_start s items total line fault more a b d e = rw (a, b, d, e) refl
 
 -- a piece in two parts
-pub in_parts : (cs : List Component) (old : Reading) (piece rest : List ℕ) (k : ℕ)
-    → answer cs old (take k piece ++ (drop k piece ++ rest)) ≡ answer cs old (piece ++ rest)
-in_parts cs old piece rest k =
-    ap (answer cs old) (sym (append_assoc (take k piece) (drop k piece) rest) ∙ ap (λ t. t ++ rest) (take-append-drop k piece))
+pub in_parts : (s : Scenario) (old : Reading) (piece rest : List ℕ) (k : ℕ)
+    → answer s old (take k piece ++ (drop k piece ++ rest)) ≡ answer s old (piece ++ rest)
+in_parts s old piece rest k =
+    ap (answer s old) (sym (append_assoc (take k piece) (drop k piece) rest) ∙ ap (λ t. t ++ rest) (take-append-drop k piece))

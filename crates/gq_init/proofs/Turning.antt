@@ -3,52 +3,55 @@ use Rattle.std.proofs.Common.{◌≡◌, ◌==◌, ℕ, suc, ◌+◌, nat_le, Bo
 use Rattle.std.proofs.Common.{add-one, append_assoc}
 use Rattle.gq_model.specs.declared.fault.TurnFault.{TurnFault}
 use Rattle.gq_model.specs.declared.fault.TurnFault.TheVariants.{TooMany}
+use Rattle.gq_model.specs.declared.act.Act.{Act}
 use Rattle.gq_model.specs.texts.Letters.{pieces}
-use Rattle.gq_model.specs.machine.Scenario.{Component}
-use Rattle.gq_model.specs.texts.Turns.{Turned, turns_from, turn_in, turn_onto, says_nothing, after_line, greatest_turns}
-use Rattle.gq_init.specs.TurnLines.{turn_on, line_turn}
+use Rattle.gq_model.specs.machine.Run.{Acts}
+use Rattle.gq_model.specs.machine.Scenario.{Scenario, components}
+use Rattle.gq_model.specs.texts.Turns.{Given, Turned, turns_from, turns_given, turn_onto, says_nothing, after_line, greatest_turns}
+use Rattle.gq_init.specs.TurnLines.{given_in, turn_on, line_turn}
 use Rattle.gq_init.specs.TurnReading.{prepended}
 
 pub prepended-empty : (answer : Turned) → prepended [] answer ≡ answer
 prepended-empty (Ok rest) = refl
 prepended-empty (Err fault) = refl
 
-prepended-append : (turns : List (ℕ × ℕ)) (turn : ℕ × ℕ) (answer : Turned) → prepended turns (turn_onto turn answer) ≡ prepended (turns ++ turn ∷ []) answer
+prepended-append : (turns : Acts) (turn : ℕ × Act) (answer : Turned) → prepended turns (turn_onto turn answer) ≡ prepended (turns ++ turn ∷ []) answer
 prepended-append turns turn (Ok rest) = ap Ok (sym (append_assoc turns (turn ∷ []) rest))
 prepended-append turns turn (Err fault) = refl
 
 -- what follows a line that gave this
-abbrev on_line : Result (Option (ℕ × ℕ)) TurnFault → ℕ → ℕ → (ℕ → Turned) → Turned
+abbrev on_line : Result (Option (ℕ × Act)) TurnFault → ℕ → ℕ → (ℕ → Turned) → Turned
 on_line (Ok None) k n go = go n
-on_line (Ok (Some turn)) k n go = turn_onto turn (go (n + turn.1))
+on_line (Ok (Some turn)) k n go = turn_onto turn (go (n + turns_given turn.1))
 on_line (Err fault) k n go = Err (fault, k)
 
-limited_by : (b : Bool) (turn : ℕ × ℕ) (k n : ℕ) (go : ℕ → Turned)
-    → cond b (turn_onto turn (go (n + turn.1))) (Err (TooMany, k)) ≡ on_line (cond b (Ok (Some turn)) (Err TooMany)) k n go
+limited_by : (b : Bool) (turn : ℕ × Act) (k n : ℕ) (go : ℕ → Turned)
+    → cond b (turn_onto turn (go (n + turns_given turn.1))) (Err (TooMany, k)) ≡ on_line (cond b (Ok (Some turn)) (Err TooMany)) k n go
 limited_by true turn k n go = refl
 limited_by false turn k n go = refl
 
-after_line-is : (b : Bool) (turn : Result (ℕ × ℕ) TurnFault) (k n : ℕ) (go : ℕ → Turned) → after_line b turn k n go ≡ on_line (turn_on b n turn) k n go
+after_line-is : (b : Bool) (turn : Given) (k n : ℕ) (go : ℕ → Turned) → after_line b turn k n go ≡ on_line (turn_on b n turn) k n go
 after_line-is true turn k n go = refl
 after_line-is false (Err fault) k n go = refl
-after_line-is false (Ok turn) k n go = limited_by (nat_le (n + turn.1) greatest_turns) turn k n go
+after_line-is false (Ok turn) k n go = limited_by (nat_le (n + turns_given turn.1) greatest_turns) turn k n go
 
-turns_from-line : (components : List Component) (k n : ℕ) (line : List ℕ) (rest : List (List ℕ))
-    → turns_from components k n (line ∷ rest) ≡ on_line (line_turn components n line) k n (λ m. turns_from components (suc k) m rest)
-turns_from-line components k n line rest =
-    after_line-is (says_nothing line) (turn_in components (pieces (λ c. c == 32) line)) k n (λ m. turns_from components (suc k) m rest)
+-- what lines say from the k-th on, after n turns
+abbrev pub said_from : Scenario → ℕ → ℕ → List (List ℕ) → Turned
+said_from s k n rest = turns_from s.version (components s) k n rest
 
-pub turned_none : (components : List Component) (k n : ℕ) (line : List ℕ) (rest : List (List ℕ)) → line_turn components n line ≡ Ok None
-    → turns_from components k n (line ∷ rest) ≡ turns_from components (k + 1) n rest
-turned_none components k n line rest e = rw (turns_from-line components k n line rest, e, add-one) refl
+turns_from-line : (s : Scenario) (k n : ℕ) (line : List ℕ) (rest : List (List ℕ))
+    → said_from s k n (line ∷ rest) ≡ on_line (line_turn s n line) k n (λ m. said_from s (suc k) m rest)
+turns_from-line s k n line rest = after_line-is (says_nothing line) (given_in s (pieces (λ c. c == 32) line)) k n (λ m. said_from s (suc k) m rest)
 
-pub turned_some : (components : List Component) (k n : ℕ) (line : List ℕ) (rest : List (List ℕ)) (turns : List (ℕ × ℕ)) (turn : ℕ × ℕ)
-    → line_turn components n line ≡ Ok (Some turn)
-    → prepended turns (turns_from components k n (line ∷ rest)) ≡ prepended (turns ++ turn ∷ []) (turns_from components (k + 1) (n + turn.1) rest)
-turned_some components k n line rest turns turn e =
-    rw (turns_from-line components k n line rest, e, add-one) (prepended-append turns turn (turns_from components (suc k) (n + turn.1) rest))
+pub turned_none : (s : Scenario) (k n : ℕ) (line : List ℕ) (rest : List (List ℕ)) → line_turn s n line ≡ Ok None
+    → said_from s k n (line ∷ rest) ≡ said_from s (k + 1) n rest
+turned_none s k n line rest e = rw (turns_from-line s k n line rest, e, add-one) refl
 
-pub turned_fault : (components : List Component) (k n : ℕ) (line : List ℕ) (rest : List (List ℕ)) (turns : List (ℕ × ℕ)) (fault : TurnFault)
-    → line_turn components n line ≡ Err fault
-    → prepended turns (turns_from components k n (line ∷ rest)) ≡ Err (fault, k)
-turned_fault components k n line rest turns fault e = rw (turns_from-line components k n line rest, e) refl
+pub turned_some : (s : Scenario) (k n : ℕ) (line : List ℕ) (rest : List (List ℕ)) (turns : Acts) (turn : ℕ × Act) → line_turn s n line ≡ Ok (Some turn)
+    → prepended turns (said_from s k n (line ∷ rest)) ≡ prepended (turns ++ turn ∷ []) (said_from s (k + 1) (n + turns_given turn.1) rest)
+turned_some s k n line rest turns turn e =
+    rw (turns_from-line s k n line rest, e, add-one) (prepended-append turns turn (said_from s (suc k) (n + turns_given turn.1) rest))
+
+pub turned_fault : (s : Scenario) (k n : ℕ) (line : List ℕ) (rest : List (List ℕ)) (turns : Acts) (fault : TurnFault) → line_turn s n line ≡ Err fault
+    → prepended turns (said_from s k n (line ∷ rest)) ≡ Err (fault, k)
+turned_fault s k n line rest turns fault e = rw (turns_from-line s k n line rest, e) refl

@@ -1,3 +1,4 @@
+pub mod Items
 pub mod TurnLines
 pub mod TurnReading
 pub mod internal

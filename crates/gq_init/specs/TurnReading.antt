@@ -1,20 +1,21 @@
--- Turns of a text that comes in pieces.
+-- Turns and settings of a text that comes in pieces.
 use Rattle.std.specs.Prelude.{ℕ, ◌+◌, ◌^◌, nat_le, if◌then◌else◌, List, ◌++◌, length, Option, Some, None, Ok, Err}
-use Rattle.gq_model.specs.machine.Scenario.{Component}
+use Rattle.gq_model.specs.machine.Run.{Acts}
+use Rattle.gq_model.specs.machine.Scenario.{Scenario, components}
 use Rattle.gq_model.specs.declared.fault.TurnFault.{TurnFault}
 use Rattle.gq_model.specs.declared.fault.TurnFault.TheVariants.{TooMany}
 use Rattle.gq_model.specs.texts.Letters.{lines}
 use Rattle.gq_model.specs.texts.Turns.{Turned, turns_from}
 
 -- these turns before others
-abbrev pub prepended : List (ℕ × ℕ) → Turned → Turned
+abbrev pub prepended : Acts → Turned → Turned
 prepended turns (Ok rest) = Ok (turns ++ rest)
 prepended turns (Err fault) = Err fault
 
--- what was read of a text: the turns of its lines, their sum, the number of lines, or the first fault with its line; how many bytes have come; and what follows
--- the last line feed
+-- what was read of a text: the turns and settings of its lines, how many turns they are, the number of lines, or the first fault with its line; how many bytes
+-- have come; and what follows the last line feed
 pub record Reading : Type 0 where
-  pub items : List (ℕ × ℕ)
+  pub items : Acts
   pub total : ℕ
   pub line : ℕ
   pub fault : Option (TurnFault × ℕ)
@@ -27,10 +28,10 @@ unless None turned = turned
 unless (Some fault) turned = Err fault
 
 -- what all lines say, when these are still to come
-abbrev pub told : List Component → List (ℕ × ℕ) → (total line : ℕ) → Option (TurnFault × ℕ) → List (List ℕ) → Turned
-told components items total line fault more = unless fault (prepended items (turns_from components (line + 1) total more))
+abbrev pub told : Scenario → Acts → (total line : ℕ) → Option (TurnFault × ℕ) → List (List ℕ) → Turned
+told s items total line fault more = unless fault (prepended items (turns_from s.version (components s) (line + 1) total more))
 
 -- what all of the text says, when this is still to come
-abbrev pub answer : List Component → Reading → List ℕ → Turned
-answer components r rest =
-    if nat_le (r.size + length rest) (2 ^ 24) then told components r.items r.total r.line r.fault (lines (r.last ++ rest)) else Err (TooMany, 0)
+abbrev pub answer : Scenario → Reading → List ℕ → Turned
+answer s r rest =
+    if nat_le (r.size + length rest) (2 ^ 24) then told s r.items r.total r.line r.fault (lines (r.last ++ rest)) else Err (TooMany, 0)

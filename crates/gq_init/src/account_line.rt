@@ -19,7 +19,7 @@ pub fn account_line(version: Version, label: &[u8], account: &Account) -> Line
     if let Some(leaf) = account.leaf() {
         extend_entry(&mut line, b"used", leaf.used());
     }
-    if let Version::Two = version {
+    if version.counts_caps() {
         extend_caps(&mut line, account);
     }
     if let Some(leaf) = account.leaf() {

@@ -1,4 +1,4 @@
-//! What a run starts with and how it tells: the turns of a text, and the lines that go to a writer which counts its failures.
+//! What a run starts with and how it tells: the turns and settings of a text, and the lines that go to a writer which counts its failures.
 //!
 //! ```rust
 //! use gq_init::{NodeTable, read_turns};
@@ -6,6 +6,9 @@
 //! // The table of an accepted scenario, from `gq_load`.
 //! let (table, _budgets) = accepted.into_parts();
 //! let turns = read_turns(alloc, b"hello 2\n", &table)?;
+//!
+//! // In version 3 a line may also set an input of a leaf.
+//! let acts = read_turns(alloc, b"pump.0 = 17\npump 100\n", &other)?;
 //! ```
 //!
 //! `leaf_line` and `lines` are what leaves say, `account_line` is the line of an account.
@@ -19,7 +22,7 @@
 //! put(&mut out, line.as_slice())?;
 //! ```
 //!
-//! Modules: lines (`lines`, `account_line`), writers (`counted`), and the turns of a text (`turns`, `turn_reader`).
+//! Modules: lines (`lines`, `account_line`), writers (`counted`), and the turns and settings of a text (`turns`, `settings`, `turn_reader`).
 #![tactic(auto)]
 
 pub mod account;
@@ -30,6 +33,7 @@ pub mod leaf_line;
 pub mod line;
 pub mod lines;
 pub mod names;
+mod settings;
 mod turn_list;
 pub mod turn_reader;
 pub mod turns;
@@ -39,6 +43,6 @@ pub use gq_resolve::routes::Routes;
 pub use gq_resolve::{NodeTable, resolve, table};
 pub use gq_scenario::scenario::Scenario;
 pub use gq_scenario::{fault, key, node, scenario, source};
-pub use item::TurnItem;
+pub use item::{TurnItem, turns_given};
 pub use turn_reader::TurnReader;
 pub use turns::{read_items, read_turns};

@@ -197,8 +197,8 @@ impl NameIndex {
         index
     }
 
-    /// The leaf of this name, where the index leads to it, which is of a table's names: in the same time whatever the number of leaves. `None` says nothing.
-    pub(crate) fn leaf_likely(&self, name: &[u8], table: &NodeTable) -> Option<LeafNo>
+    // The leaf of this name, where the index leads to it, which is of a table's names: in the same time whatever the number of leaves. `None` says nothing.
+    fn leaf_likely(&self, name: &[u8], table: &NodeTable) -> Option<LeafNo>
         ensures name { IfSome result (λ x. IsTrue (is_name name.now)) }
         ensures number { IfSome result (λ x. numbered 0 name.now (components table.now) ≡ Some x) }
         ensures there { IfSome result (λ x. x < length (components table.now)) }
@@ -214,6 +214,17 @@ impl NameIndex {
             return Some(leaf);
         }
         None
+    }
+
+    /// The leaf of this name, where there is one. The one to which the index leads, which is of a table's names, is compared first.
+    pub(crate) fn leaf_named(&self, name: &[u8], table: &NodeTable) -> Option<LeafNo>
+        ensures number { result ≡ numbered 0 name.now (components table.now) }
+        ensures there { IfSome result (λ x. x < length (components table.now)) }
+    {
+        match self.leaf_likely(name, table) {
+            Some(leaf) => Some(leaf),
+            None => table.leaf_named(name),
+        }
     }
 
     /// The leaf whose name stands at the front of a text with a space behind it, where the index leads to it, which is of a table's names, and what follows the

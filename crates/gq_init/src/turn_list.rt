@@ -1,13 +1,13 @@
-// Turns that are read line by line.
+// Turns and settings that are read line by line.
 ghost use Rattle.std.specs.Prelude.{◌≡◌, ℕ, List, [], ◌++◌, ◌<◌, ◌≤◌, ◌+◌, ◌^◌, ◌&&◌, Bool, not, is_none, None, length, IfOk, OnOk};
-ghost use Rattle.gq_model.specs.machine.Scenario.{Component, components};
+ghost use Rattle.gq_model.specs.machine.Scenario.{Scenario};
 ghost use Rattle.gq_model.specs.texts.Letters.{lines};
 ghost use Rattle.gq_model.specs.texts.Turns.{greatest_turns};
 ghost use Rattle.gq_init.specs.TurnLines.{IsTurned};
 ghost use Rattle.gq_init.specs.TurnReading.{told};
 ghost use Rattle.gq_init.specs.internal.Reading.{lines_read};
 
-use crate::item::TurnItem;
+use crate::item::{TurnItem, turns_given};
 use crate::names::NameIndex;
 use crate::turns::{TurnsError, next_turn, turn_ahead};
 use gq_model::fault::TurnFault;
@@ -23,11 +23,11 @@ fn is_begun(after: &Option<&[u8]>, is_last: bool) -> bool
     after.is_none() && !is_last
 }
 
-/// The turns of the lines that were read, up to the first that is no turn.
+/// The turns and settings of the lines that were read, up to the first that is wrong.
 #[derive(Drop)]
 pub(crate) struct TurnList {
     pub(crate) items: Vec<TurnItem>,
-    // How many turns they are together.
+    // How many turns they are together; settings are none.
     pub(crate) total: u32,
     // How many lines were read.
     pub(crate) line: u64,
@@ -64,8 +64,8 @@ impl TurnList {
         requires short { self.old.line + length text.now < 2 ^ 62 }
         ensures few { self.new.total ≤ greatest_turns }
         ensures counted { self.new.line ≤ self.old.line + length text.now + 1 }
-        ensures told { OnOk result ((more : List (List ℕ)) → told (components table.now) self.new.items.items self.new.total self.new.line self.new.fault more
-            ≡ told (components table.now) self.old.items.items self.old.total self.old.line self.old.fault (lines_read is_last (lines text.now) ++ more)) }
+        ensures told { OnOk result ((more : List (List ℕ)) → told table.now self.new.items.items self.new.total self.new.line self.new.fault more
+            ≡ told table.now self.old.items.items self.old.total self.old.line self.old.fault (lines_read is_last (lines text.now) ++ more)) }
     {
         if self.fault.is_some() {
             return Ok(());
@@ -82,9 +82,9 @@ impl TurnList {
             self.line += 1;
             match said {
                 Ok(None) => {}
-                Ok(Some((leaf, count))) => {
-                    self.total += count;
-                    match self.items.push(TurnItem::new(leaf, count)) {
+                Ok(Some((leaf, act))) => {
+                    self.total += turns_given(act);
+                    match self.items.push(TurnItem::of(leaf, act)) {
                         Ok(()) => {}
                         Err(_) => return Err(AllocError),
                     }
@@ -114,8 +114,8 @@ impl TurnList {
         ensures shorter { IfOk result (λ rest. length rest.now ≤ length text.now) }
         ensures most { self.new.line ≤ self.old.line + length text.now }
         ensures told { IfOk result (λ rest. (is_last : Bool) (more : List (List ℕ)) →
-            told (components table.now) self.new.items.items self.new.total self.new.line None (lines_read is_last (lines rest.now) ++ more)
-            ≡ told (components table.now) self.old.items.items self.old.total self.old.line None (lines_read is_last (lines text.now) ++ more)) }
+            told table.now self.new.items.items self.new.total self.new.line None (lines_read is_last (lines rest.now) ++ more)
+            ≡ told table.now self.old.items.items self.old.total self.old.line None (lines_read is_last (lines text.now) ++ more)) }
     {
         let _few = table.leaf_count();
         let mut left = text;
@@ -138,9 +138,9 @@ impl TurnList {
         Ok(left)
     }
 
-    /// The turns of all lines, or the first fault.
+    /// The turns and settings of all lines, or the first fault.
     pub(crate) fn finish(self) -> Result<Vec<TurnItem>, TurnsError>
-        ensures { (all : List Component) → IsTurned result (told all self.items.items self.total self.line self.fault []) }
+        ensures { (s : Scenario) → IsTurned result (told s self.items.items self.total self.line self.fault []) }
     {
         match self.fault {
             Some((fault, line)) => Err(TurnsError::Fault { fault, line }),

@@ -1,6 +1,5 @@
-//! Turns of a text that comes in pieces.
+//! Turns and settings of a text that comes in pieces.
 ghost use Rattle.std.specs.Prelude.{◌≡◌, ℕ, List, [], ◌++◌, ◌<◌, ◌≤◌, ◌+◌, ◌^◌, length, IfOk, OnOk};
-ghost use Rattle.gq_model.specs.machine.Scenario.{components};
 ghost use Rattle.gq_model.specs.texts.Turns.{turned};
 ghost use Rattle.gq_init.specs.TurnLines.{IsTurned};
 ghost use Rattle.gq_init.specs.TurnReading.{answer};
@@ -17,8 +16,8 @@ use memchr::{memchr, memrchr};
 use std::alloc::{AllocError, Global};
 use std::marker::Model;
 
-/// Turns that are read from a text that comes in pieces. Of the text it keeps no more than what follows its last line feed, and of each line four bytes: so the
-/// host gives far fewer pages than for the text.
+/// Turns and settings that are read from a text that comes in pieces. Of the text it keeps no more than what follows its last line feed, and of each line eight
+/// bytes at most.
 #[derive(Drop)]
 pub struct TurnReader {
     names: NameIndex,
@@ -50,7 +49,7 @@ impl TurnReader {
     /// A reader of which all of the text is still to come, and the leaves of whose turns are those of the table. Refused where host memory is.
     pub fn new(alloc: Global, table: &NodeTable) -> Result<TurnReader, AllocError>
         ensures size { IfOk result (λ r. r.size ≡ 0) }
-        ensures answer { IfOk result (λ r. (rest : List ℕ) → answer (components table.now) r rest ≡ turned (components table.now) rest) }
+        ensures answer { IfOk result (λ r. (rest : List ℕ) → answer table.now r rest ≡ turned table.now rest) }
     {
         let turns = TurnList::new(alloc, GREATEST_TURNS as usize)?;
         Ok(TurnReader {
@@ -73,7 +72,7 @@ impl TurnReader {
         requires { self.old.size + length piece.now < 2 ^ 60 }
         ensures size { OnOk result (self.new.size ≡ self.old.size + length piece.now) }
         ensures answer { OnOk result ((rest : List ℕ) →
-            answer (components table.now) self.new rest ≡ answer (components table.now) self.old (piece.now ++ rest)) }
+            answer table.now self.new rest ≡ answer table.now self.old (piece.now ++ rest)) }
     {
         let Some(end) = memchr(b'\n', piece) else {
             return self.keep(piece);
@@ -89,7 +88,7 @@ impl TurnReader {
         ensures size { OnOk result (self.new.size ≡ self.old.size + length piece.now) }
         ensures last { OnOk result (self.new.last ≡ []) }
         ensures answer { OnOk result ((rest : List ℕ) →
-            answer (components table.now) self.new rest ≡ answer (components table.now) self.old (piece.now ++ rest)) }
+            answer table.now self.new rest ≡ answer table.now self.old (piece.now ++ rest)) }
     {
         self.keep(piece)?;
         let read = self
@@ -105,7 +104,7 @@ impl TurnReader {
         requires last { self.old.last ≡ [] }
         ensures size { OnOk result (self.new.size ≡ self.old.size + length piece.now) }
         ensures answer { OnOk result ((rest : List ℕ) →
-            answer (components table.now) self.new rest ≡ answer (components table.now) self.old (piece.now ++ rest)) }
+            answer table.now self.new rest ≡ answer table.now self.old (piece.now ++ rest)) }
     {
         let Some(end) = memrchr(b'\n', piece) else {
             return self.keep(piece);
@@ -121,7 +120,7 @@ impl TurnReader {
         requires ended { IsEnded piece.now }
         ensures size { OnOk result (self.new.size ≡ self.old.size + length piece.now) }
         ensures answer { OnOk result ((rest : List ℕ) →
-            answer (components table.now) self.new rest ≡ answer (components table.now) self.old (piece.now ++ rest)) }
+            answer table.now self.new rest ≡ answer table.now self.old (piece.now ++ rest)) }
     {
         self.size += piece.len();
         self.turns.read_lines(piece, false, table, &self.names)
@@ -136,9 +135,9 @@ impl TurnReader {
         self.last.extend_from_slice(piece)
     }
 
-    /// The turns of the text, of which all has come, or its first fault, as `read_turns` tells them.
+    /// The turns and settings of the text, of which all has come, or its first fault, as `read_turns` tells them.
     pub fn finish(mut self, table: &NodeTable) -> Result<Vec<TurnItem>, TurnsError>
-        ensures { IsTurned result (answer (components table.now) self []) }
+        ensures { IsTurned result (answer table.now self []) }
     {
         if self.size > GREATEST_TURNS_TEXT {
             return Err(TurnsError::Fault {

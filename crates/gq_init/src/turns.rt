@@ -1,16 +1,19 @@
-// Turns, as texts say them.
-ghost use Rattle.std.specs.Prelude.{◌≡◌, ℕ, ◌==◌, ◌∷◌, ◌<◌, ◌≤◌, ◌^◌, ◌+◌, length, option_map, slice_index, IfNone, IfOk, IfSome};
+// Turns and settings, as texts say them.
+ghost use Rattle.std.specs.Prelude.{◌≡◌, ℕ, ◌==◌, [], ◌∷◌, ◌<◌, ◌≤◌, ◌^◌, ◌+◌, length, option_map, slice_index, IfNone, IfOk, IfSome};
 ghost use Rattle.std.specs.Prelude.{alloc_error};
+ghost use Rattle.gq_model.specs.declared.act.Act.TheVariants.{Turns};
 ghost use Rattle.gq_model.specs.texts.Letters.{pieces};
 ghost use Rattle.gq_model.specs.machine.Scenario.{components};
-ghost use Rattle.gq_model.specs.texts.Turns.{turned, turns_from, turn_in, turn_count, says_nothing, greatest_turns};
-ghost use Rattle.gq_model.specs.texts.Letters.{lines};
+ghost use Rattle.gq_model.specs.texts.Turns.{turned, turn_count, turns_given, says_nothing, greatest_turns};
+ghost use Rattle.gq_init.specs.Items.{IsKept};
 ghost use Rattle.gq_init.specs.internal.Ahead.{IsCommentAhead, IsCountAhead, IsLineAhead, IsTurnAhead};
-ghost use Rattle.gq_init.specs.TurnLines.{IsTurned, line_turn};
+ghost use Rattle.gq_init.specs.TurnLines.{IsTurned, given_in, line_turn};
 
-use crate::item::TurnItem;
+use crate::item::{TurnItem, turns_given};
 use crate::names::NameIndex;
+use crate::settings::read_setting;
 use crate::turn_list::TurnList;
+use gq_model::act::Act;
 use gq_model::fault::TurnFault;
 use gq_model::letters::{is_digit, is_name};
 use gq_model::limits::{GREATEST_TURNS, GREATEST_TURNS_TEXT};
@@ -79,10 +82,16 @@ fn read_count(text: &[u8]) -> Option<u32>
     Some(number)
 }
 
-// The leaf and the number of a line with this name and this number, by a search among all leaves.
-fn search_turn(name: &[u8], count: &[u8], table: &NodeTable) -> Result<(LeafNo, u32), TurnFault>
-    ensures turn { result ≡ turn_in (components table.now) (name.now ∷ pieces (λ c. c == 32) count.now) }
+// The leaf and the number of turns of a line with this name and this number.
+fn read_plain(
+    name: &[u8],
+    count: &[u8],
+    table: &NodeTable,
+    names: &NameIndex,
+) -> Result<(LeafNo, Act), TurnFault>
+    ensures turn { result ≡ given_in table.now (name.now ∷ count.now ∷ []) }
     ensures there { IfOk result (λ t. t.0 < length (components table.now)) }
+    ensures kept { IfOk result (λ t. IsKept t.1) }
 {
     if !is_name(name) {
         return Err(TurnFault::BadLine);
@@ -90,42 +99,42 @@ fn search_turn(name: &[u8], count: &[u8], table: &NodeTable) -> Result<(LeafNo, 
     let Some(count) = read_count(count) else {
         return Err(TurnFault::BadLine);
     };
-    match table.leaf_named(name) {
-        Some(leaf) => Ok((leaf, count)),
+    match names.leaf_named(name, table) {
+        Some(leaf) => Ok((leaf, Act::Turns(count))),
         None => Err(TurnFault::NoSuchComponent),
     }
 }
 
-// The leaf and the number of a line that says something.
-fn read_turn(line: &[u8], table: &NodeTable, names: &NameIndex) -> Result<(LeafNo, u32), TurnFault>
-    ensures turn { result ≡ turn_in (components table.now) (pieces (λ c. c == 32) line.now) }
+// The leaf of a line that says something, and what it is given: turns, or with two spaces a setting.
+fn read_turn(line: &[u8], table: &NodeTable, names: &NameIndex) -> Result<(LeafNo, Act), TurnFault>
+    ensures turn { result ≡ given_in table.now (pieces (λ c. c == 32) line.now) }
     ensures there { IfOk result (λ t. t.0 < length (components table.now)) }
+    ensures kept { IfOk result (λ t. IsKept t.1) }
 {
-    let (name, rest) = next_piece(line, b' ');
-    let Some(count) = rest else {
+    let (first, rest) = next_piece(line, b' ');
+    let Some(rest) = rest else {
         return Err(TurnFault::BadLine);
     };
-    let Some(leaf) = names.leaf_likely(name, table) else {
-        return search_turn(name, count, table);
-    };
-    match read_count(count) {
-        Some(count) => Ok((leaf, count)),
-        None => Err(TurnFault::BadLine),
+    let (second, rest) = next_piece(rest, b' ');
+    match rest {
+        Some(rest) => read_setting(first, second, rest, table, names),
+        None => read_plain(first, second, table, names),
     }
 }
 
-// What a line says after so many turns: nothing, or a turn, unless there are too many with it.
+// What a line says after so many turns: nothing, or a turn or a setting, unless there are too many turns with it.
 #[inline(never)]
 fn read_line(
     line: &[u8],
     turns: u32,
     table: &NodeTable,
     names: &NameIndex,
-) -> Result<Option<(LeafNo, u32)>, TurnFault>
+) -> Result<Option<(LeafNo, Act)>, TurnFault>
     requires { turns ≤ greatest_turns }
-    ensures answer { result ≡ line_turn (components table.now) turns line.now }
-    ensures few { IfOk result (λ turn. IfSome turn (λ t. turns + t.1 ≤ greatest_turns)) }
+    ensures answer { result ≡ line_turn table.now turns line.now }
+    ensures few { IfOk result (λ turn. IfSome turn (λ t. turns + turns_given t.1 ≤ greatest_turns)) }
     ensures there { IfOk result (λ turn. IfSome turn (λ t. t.0 < length (components table.now))) }
+    ensures kept { IfOk result (λ turn. IfSome turn (λ t. IsKept t.1)) }
 {
     if says_nothing(line) {
         return Ok(None);
@@ -134,7 +143,7 @@ fn read_line(
         Ok(turn) => turn,
         Err(fault) => return Err(fault),
     };
-    if turn.1 > GREATEST_TURNS - turns {
+    if turns_given(turn.1) > GREATEST_TURNS - turns {
         return Err(TurnFault::TooMany);
     }
     Ok(Some(turn))
@@ -170,7 +179,7 @@ pub(crate) fn turn_ahead<'a>(
     table: &NodeTable,
     names: &NameIndex,
 ) -> Option<((LeafNo, u32), &'a [u8])>
-    ensures turn { IfSome result (λ r. IsTurnAhead (components table.now) text.now r.0 r.1.now) }
+    ensures turn { IfSome result (λ r. IsTurnAhead table.now text.now (r.0.0, Turns r.0.1) r.1.now) }
     ensures there { IfSome result (λ r. r.0.0 < length (components table.now)) }
 {
     let Some((leaf, rest)) = names.leaf_ahead(text, table) else {
@@ -212,11 +221,12 @@ pub fn next_turn<'a>(
     turns: u32,
     table: &NodeTable,
     names: &NameIndex,
-) -> (Result<Option<(LeafNo, u32)>, TurnFault>, Option<&'a [u8]>)
+) -> (Result<Option<(LeafNo, Act)>, TurnFault>, Option<&'a [u8]>)
     requires { turns ≤ greatest_turns }
-    ensures line { IsLineAhead (components table.now) turns text.now result.0 (option_map (λ rest. rest.now) result.1) }
-    ensures few { IfOk result.0 (λ turn. IfSome turn (λ t. turns + t.1 ≤ greatest_turns)) }
+    ensures line { IsLineAhead table.now turns text.now result.0 (option_map (λ rest. rest.now) result.1) }
+    ensures few { IfOk result.0 (λ turn. IfSome turn (λ t. turns + turns_given t.1 ≤ greatest_turns)) }
     ensures there { IfOk result.0 (λ turn. IfSome turn (λ t. t.0 < length (components table.now))) }
+    ensures kept { IfOk result.0 (λ turn. IfSome turn (λ t. IsKept t.1)) }
     ensures shorter { IfSome result.1 (λ rest. length rest.now < length text.now) }
 {
     if !text.is_empty() && text[0] == b'#' {
@@ -226,19 +236,19 @@ pub fn next_turn<'a>(
     (read_line(line, turns, table, names), after)
 }
 
-// How many lines of a text can say a turn at most: each has four bytes or more, but for the last. A list with room for all never grows, and of what it does not
-// use the host gives no page.
-fn most_turns(text: &[u8]) -> usize {
+// For how many turns and settings of a text there is room at the start. A line of either has four bytes or more, but for the last. So a list of turns alone
+// never grows, since more than 1,000,000 are too many. One with settings may grow. Of what a list does not use the host gives no page.
+fn room_for(text: &[u8]) -> usize {
     (text.len() / 4 + 1).min(GREATEST_TURNS as usize)
 }
 
-/// The turns that a text says, as `read_turns` reads them, each in four bytes. Refused as there.
+/// The turns and settings that a text says, as `read_turns` reads them, each in eight bytes. Refused as there.
 pub fn read_items(
     alloc: Global,
     text: &[u8],
     table: &NodeTable,
 ) -> Result<Vec<TurnItem>, TurnsError>
-    ensures { IsTurned result (turned (components table.now) text.now) }
+    ensures { IsTurned result (turned table.now text.now) }
 {
     if text.len() > GREATEST_TURNS_TEXT {
         return Err(TurnsError::Fault {
@@ -247,32 +257,38 @@ pub fn read_items(
         });
     }
     let names = NameIndex::of(table);
-    let mut turns = TurnList::new(alloc, most_turns(text))?;
+    let mut turns = TurnList::new(alloc, room_for(text))?;
     turns.read_lines(text, true, table, &names)?;
     turns.finish()
 }
 
-// The leaf and the number of each of these items.
-fn unpacked(alloc: Global, items: &[TurnItem]) -> Result<Vec<(LeafNo, u32)>, AllocError>
+// The leaf of each of these items, and what it is given.
+fn unpacked(alloc: Global, items: &[TurnItem]) -> Result<Vec<(LeafNo, Act)>, AllocError>
     ensures { IfOk result (λ turns. turns.items ≡ items.now) }
 {
     let mut turns = Vec::with_capacity(alloc, items.len())?;
     for item in items {
-        turns.push((item.leaf(), item.count()))?;
+        turns.push((item.leaf(), item.act()))?;
     }
     Ok(turns)
 }
 
-/// The turns that a text says, in their order: each a leaf of the table's scenario and a number of turns from 1 to 9,999,999.
+/// The turns and settings that a text says, in their order. Each has a leaf of the table's scenario, and a number of turns from 1 to 9,999,999, or a value of
+/// one of its inputs.
 ///
-/// Refused where memory runs out, and by the first fault of the text: a line of another form, a name that is no leaf's,
-/// more than 1,000,000 turns, or a text of more than 16 MiB, which is at line 0.
+/// Refused if memory runs out, and by the first fault of the text:
+///
+/// - a line of another form (in versions 1 and 2 a setting is one),
+/// - a name that is no leaf's,
+/// - an input that the leaf has not, or a value above its greatest,
+/// - more than 1,000,000 turns,
+/// - a text of more than 16 MiB, which is at line 0.
 pub fn read_turns(
     alloc: Global,
     text: &[u8],
     table: &NodeTable,
-) -> Result<Vec<(LeafNo, u32)>, TurnsError>
-    ensures { IsTurned result (turned (components table.now) text.now) }
+) -> Result<Vec<(LeafNo, Act)>, TurnsError>
+    ensures { IsTurned result (turned table.now text.now) }
 {
     let items = read_items(alloc, text, table)?;
     match unpacked(alloc, items.as_slice()) {

@@ -2,12 +2,14 @@
 use Rattle.std.proofs.Common.{◌≡◌, ◌||◌, ◌==◌, ℕ, Bool, true, List, [], ◌∷◌, ◌++◌, codes, Option, Some, refl}
 use Rattle.std.specs.Fmt.{digits}
 use Rattle.std.specs.Prelude.{slice_get}
-use Rattle.gq_model.specs.declared.program.Instruction.TheVariants.{Out, Push}
+use Rattle.gq_model.specs.declared.act.Act.TheVariants.{Turns}
+use Rattle.gq_model.specs.declared.program.Instruction.TheVariants.{Out}
 use Rattle.gq_model.specs.machine.Scenario.{Scenario, system}
 use Rattle.gq_model.specs.machine.World.{Slot, Waiting, leaf_slot}
-use Rattle.gq_model.specs.machine.Run.{run}
+use Rattle.gq_model.specs.machine.Run.{run, Acts}
 use Rattle.gq_model.proofs.Samples.{main_of, leaf, server, leaves, served, echo, echo_sections, echo_server, asking, echo_client}
 use Rattle.gq_laws.specs.Alone.{own_turns, own_lines}
+use Rattle.gq_model.proofs.Words.{push}
 
 abbrev pairs : Scenario
 pairs =
@@ -20,20 +22,21 @@ abbrev first : ℕ → Bool
 first x = x == 0 || x == 1
 
 -- the second pair opens its session before the first does
-abbrev mixed : List (ℕ × ℕ)
-mixed = (2, 1) ∷ (0, 1) ∷ (3, 1) ∷ (1, 1) ∷ (2, 3) ∷ (0, 3) ∷ (3, 2) ∷ (1, 2) ∷ (2, 4) ∷ (0, 4) ∷ (3, 3) ∷ (1, 3) ∷ (0, 2) ∷ (2, 2) ∷ []
+abbrev mixed : Acts
+mixed = (2, Turns 1) ∷ (0, Turns 1) ∷ (3, Turns 1) ∷ (1, Turns 1) ∷ (2, Turns 3) ∷ (0, Turns 3) ∷ (3, Turns 2) ∷ (1, Turns 2) ∷ (2, Turns 4) ∷ (0, Turns 4) ∷
+    (3, Turns 3) ∷ (1, Turns 3) ∷ (0, Turns 2) ∷ (2, Turns 2) ∷ []
 
-abbrev slot_after : List (ℕ × ℕ) → Option Slot
+abbrev slot_after : Acts → Option Slot
 slot_after turns = leaf_slot (slice_get (run (system pairs) turns).world.leaves 1) 0
 
 -- so its session has another number than alone
-number_mixed : slot_after ((2, 1) ∷ (0, 1) ∷ (3, 1) ∷ (1, 1) ∷ []) ≡ Some (Waiting 1)
+number_mixed : slot_after ((2, Turns 1) ∷ (0, Turns 1) ∷ (3, Turns 1) ∷ (1, Turns 1) ∷ []) ≡ Some (Waiting 1)
 number_mixed = refl
 
-number_alone : slot_after (own_turns first ((2, 1) ∷ (0, 1) ∷ (3, 1) ∷ (1, 1) ∷ [])) ≡ Some (Waiting 0)
+number_alone : slot_after (own_turns first ((2, Turns 1) ∷ (0, Turns 1) ∷ (3, Turns 1) ∷ (1, Turns 1) ∷ [])) ≡ Some (Waiting 0)
 number_alone = refl
 
-own : own_turns first mixed ≡ (0, 1) ∷ (1, 1) ∷ (0, 3) ∷ (1, 2) ∷ (0, 4) ∷ (1, 3) ∷ (0, 2) ∷ []
+own : own_turns first mixed ≡ (0, Turns 1) ∷ (1, Turns 1) ∷ (0, Turns 3) ∷ (1, Turns 2) ∷ (0, Turns 4) ∷ (1, Turns 3) ∷ (0, Turns 2) ∷ []
 own = refl
 
 -- the lines of all leaves
@@ -68,13 +71,13 @@ client_alone = refl
 -- nor is it so where the scenario is not accepted: a wrong step outside ends the run, and with it the lines of the group
 abbrev wrong_beside : Scenario
 wrong_beside =
-    served [] (leaves (leaf (codes "talker") 4096 (main_of (Push 7 ∷ Out ∷ [])) ∷ leaf (codes "wrong") 4096 (main_of (Out ∷ [])) ∷ []))
+    served [] (leaves (leaf (codes "talker") 4096 (main_of (push 7 ∷ Out ∷ [])) ∷ leaf (codes "wrong") 4096 (main_of (Out ∷ [])) ∷ []))
 
 abbrev talker : ℕ → Bool
 talker x = x == 0
 
-abbrev wrong_first : List (ℕ × ℕ)
-wrong_first = (0, 1) ∷ (1, 1) ∷ (0, 2) ∷ []
+abbrev wrong_first : Acts
+wrong_first = (0, Turns 1) ∷ (1, Turns 1) ∷ (0, Turns 2) ∷ []
 
 talker_beside : own_lines (system wrong_beside) talker wrong_first ≡ []
 talker_beside = refl

@@ -2,19 +2,19 @@
 -- No leaf is looked at whether it is paid for: so it is in a system in which nothing is counted.
 use Rattle.std.proofs.Common.{◌≡◌, ◌≢◌, ℕ, ◌==◌, ◌&&◌, ◌||◌, not, Bool, true, false, cond, List, ◌∷◌, Option, Some, None, Ok, refl, ap, sym, ◌∙◌}
 use Rattle.std.proofs.Common.{subst}
-use Rattle.std.specs.Prelude.{◌+◌, ◌/◌, ◌%◌, ◌++◌, nat_le, nat_lt, length, take, drop, replicate, slice_range, decimal, option_map, slice_get, slice_index}
+use Rattle.std.specs.Prelude.{◌+◌, ◌++◌, nat_le, nat_lt, length, take, drop, replicate, slice_range, decimal, option_map, slice_get}
 use Rattle.std.specs.Prelude.{slice_set}
 use Rattle.gq_model.specs.machine.Amounts.{Amount, amount, plus}
 use Rattle.gq_model.specs.declared.program.Width.{Width}
 use Rattle.gq_model.specs.declared.program.Place.{Place}
 use Rattle.gq_model.specs.declared.program.Place.TheVariants.{Own, Shared, Object}
 use Rattle.gq_model.specs.declared.program.Instruction.{Instruction}
-use Rattle.gq_model.specs.declared.program.Instruction.TheVariants.{Say, Out, Drop, Dup, Push, Divide, Modulo, Get, Set, Index, Combine, Make, MakePool, Load}
+use Rattle.gq_model.specs.declared.program.Instruction.TheVariants.{Say, Out, Operands, Make, MakePool, Load}
 use Rattle.gq_model.specs.declared.program.Instruction.TheVariants.{Store, Free, Take, Give, Peek, Poke, Open, Upgrade, Call, Close}
 use Rattle.gq_model.specs.declared.phase.Phase.TheVariants.{Blocked}
 use Rattle.gq_model.specs.declared.fault.Wrong.{Wrong}
 use Rattle.gq_model.specs.declared.fault.Wrong.TheVariants.{MissingOperand, WrongKind, UnmappedByte, ExceededQuota}
-use Rattle.gq_model.specs.machine.Program.{combined, bytes_of, little, spelled}
+use Rattle.gq_model.specs.machine.Program.{bytes_of, little, spelled}
 use Rattle.gq_model.specs.machine.Scenario.{System, open_caps, upgrade_caps, interface_in}
 use Rattle.gq_model.specs.machine.World.{Slot, Empty, Bytes, Pool, Link, Waiting, Spot, In_leaf, In_session, In_object, Session, Ask, Ask_open, Ask_upgrade}
 use Rattle.gq_model.specs.machine.World.{Ask_close, Ask_call, Current, Leaf, World, session_at, slot_at, with_leaf, with_session, with_slot, spot_of}
@@ -25,7 +25,8 @@ use Rattle.gq_model.specs.machine.Memory.{is_kept, shares_buffer, buffer_of}
 use Rattle.gq_model.specs.machine.Memory.{load, store, if_absent, entry_byte, entry_with, take_entry, give_entry, peek, poke}
 use Rattle.gq_model.specs.machine.Requests.{new_session, add_session, free_place, asked, link_in, link_at, open_session, upgrade, call, close}
 use Rattle.gq_model.specs.machine.Routes.{server_of}
-use Rattle.gq_model.specs.machine.Step.{round_of, instruct}
+use Rattle.gq_model.specs.machine.Step.{bench, operated, instruct}
+use Rattle.gq_model.specs.machine.Operate.{operate}
 use Rattle.gq_model.proofs.Small.{some_same, none_some}
 use Rattle.gq_laws.specs.Shapes.{Each}
 use Rattle.gq_laws.specs.Links.{Leads, naming_in, outline, outline_in, stance, links, Belongs, AreLinked}
@@ -415,10 +416,6 @@ module _ (group : ℕ → Bool) (f : ℕ → ℕ) (d : Doing) (v : World) (t : T
     pushed : (a : ℕ) (operands : List ℕ) → Both K (push a operands (on_stack d)) (push a operands (on_stack e))
     pushed a operands = both_push K a operands (on_stack d) (on_stack e) stacked
 
-    popped : (g : ℕ → List ℕ → List ℕ)
-        → Both K (pop d.leaf.operands (λ a rest. on_stack d (g a rest))) (pop d.leaf.operands (λ a rest. on_stack e (g a rest)))
-    popped g = both_pop K d.leaf.operands (λ a rest. on_stack d (g a rest)) (λ a rest. on_stack e (g a rest)) (λ a rest. stacked (g a rest))
-
     both_load : (width : Width) (place : Place) → Both K (load d width place) (load e width place)
     both_load width place = both_pop K d.leaf.operands (λ i rest. bytes_at d d.world place (loading width i (λ a. on_stack d (a ∷ rest))))
         (λ i rest. bytes_at e v place (loading width i (λ a. on_stack e (a ∷ rest)))) (λ i rest.
@@ -485,7 +482,8 @@ module _ (group : ℕ → Bool) (f : ℕ → ℕ) (d : Doing) (v : World) (t : T
     both_instruct (Call place) = both_call place
     both_instruct (Close place) = both_close place
     both_instruct (Say text) = both_give K _ _ _ (stands d.leaf)
-    both_instruct (Set i) = both_pop K _ _ _ (λ a rest. both_give K _ _ _ (stands (record d.leaf { operands = rest; locals = slice_set d.leaf.locals i a })))
+    both_instruct (Operands s) = same_need K (operate (bench d) s) MissingOperand (operated d) (operated e)
+        (λ o. both_give K _ _ Quiet (stands (record d.leaf { operands = o.operands; locals = o.locals })))
     both_instruct (Make form place n) = both_make place _ refl
     both_instruct (MakePool place n m) = both_make place _ refl
     both_instruct (Free place) = both_free place
@@ -495,17 +493,4 @@ module _ (group : ℕ → Bool) (f : ℕ → ℕ) (d : Doing) (v : World) (t : T
     both_instruct (Give place) = both_give_entry place
     both_instruct (Peek place) = both_peek place
     both_instruct (Poke place) = both_poke place
-    both_instruct (Index n) = same_need K (round_of d.leaf.loops n) MissingOperand (λ r. push r d.leaf.operands (on_stack d))
-        (λ r. push r d.leaf.operands (on_stack e)) (λ r. pushed r d.leaf.operands)
     both_instruct Out = both_pop K d.leaf.operands _ _ (λ a rest. both_give K _ _ (Line (decimal a)) (stands (with_operands d rest)))
-    both_instruct Drop = popped (λ a rest. rest)
-    both_instruct Dup = both_pop K d.leaf.operands (λ a rest. push a (a ∷ rest) (on_stack d)) (λ a rest. push a (a ∷ rest) (on_stack e))
-        (λ a rest. pushed a (a ∷ rest))
-    both_instruct (Push n) = pushed n d.leaf.operands
-    both_instruct (Divide n) = popped (λ a rest. a / n ∷ rest)
-    both_instruct (Modulo n) = popped (λ a rest. a % n ∷ rest)
-    both_instruct (Get i) = pushed (slice_index d.leaf.locals i) d.leaf.operands
-    both_instruct (Combine g) = both_pop K d.leaf.operands (λ b below. pop below (λ a rest. on_stack d (combined g a b ∷ rest)))
-        (λ b below. pop below (λ a rest. on_stack e (combined g a b ∷ rest)))
-        (λ b below. both_pop K below (λ a rest. on_stack d (combined g a b ∷ rest)) (λ a rest. on_stack e (combined g a b ∷ rest))
-        (λ a rest. stacked (combined g a b ∷ rest)))

@@ -10,6 +10,7 @@ pub mod typing
 pub mod holding
 pub mod counting
 mod rows
+pub mod setting
 pub mod gathering
 -- what stays of a group in a world that is changed outside
 pub mod Staying

@@ -2,13 +2,16 @@
 use Rattle.std.proofs.Common.{◌≡◌, ℕ, zero, suc, Bool, true, false, cond, List, [], ◌∷◌, ◌++◌, map, Option, Some, None, Ok, Err, refl, ap, sym, ◌∙◌, subst}
 use Rattle.std.specs.Prelude.{option_map, slice_get}
 use Rattle.std.proofs.lemmas.List.{append_assoc, append-nil}
+use Rattle.gq_model.specs.declared.act.Act.{Act}
+use Rattle.gq_model.specs.declared.act.Act.TheVariants.{Turns, Sets}
 use Rattle.gq_model.specs.machine.Scenario.{System, Component, Scenario, system}
 use Rattle.gq_model.specs.machine.World.{World, start, start_leaves}
 use Rattle.gq_model.specs.declared.fault.Wrong.{Wrong}
 use Rattle.gq_model.specs.machine.Doing.{Event, Stepped}
 use Rattle.gq_model.specs.machine.Requests.{free_place}
 use Rattle.gq_model.specs.machine.Step.{next}
-use Rattle.gq_model.specs.machine.Run.{Ran, label_at, line_of, after_step, turn_from, turns_of, run_on, run}
+use Rattle.gq_model.specs.machine.Run.{Ran, Acts, label_at, line_of, after_step, turn_from, turns_of}
+use Rattle.gq_model.specs.machine.Run.{set_input, set_from, act_on, run_on, run}
 use Rattle.gq_model.proofs.Small.{none_some, some_none}
 use Rattle.gq_model.specs.machine.Accounts.{account_at}
 use Rattle.gq_laws.specs.Sound.{IsSound}
@@ -25,6 +28,8 @@ use Rattle.gq_laws.specs.internal.Renamed.{renamed_leaf, renamed_request, IsSame
 use Rattle.gq_laws.proofs.Renaming.{updated, updated_here, same_updated}
 use Rattle.gq_laws.proofs.Sums.{same_account}
 use Rattle.gq_laws.proofs.Counted.{Steps, both_step}
+use Rattle.gq_laws.proofs.setting.Settings.{set_linked, set_paid}
+use Rattle.gq_laws.proofs.setting.Groups.{inside_same, outside_kept}
 
 -- a step of a leaf outside is not seen
 unseen : (group : ℕ → Bool) (f : ℕ → ℕ) (w new v : World) → IsUntouched group w new → SameRequests group w new → IsSame group f w v → IsSame group f new v
@@ -80,9 +85,17 @@ module _ (s : Scenario) (differ : NamesDiffer s) (group : ℕ → Bool) (apart :
   right_before ran x zero ok = ok
   right_before ran x (suc n) ok = right_by x ran ran.wrong refl (right_before (turn_from real x ran ran.wrong) x n ok)
 
-  right_all_before : (ran : Ran) (turns : List (ℕ × ℕ)) → (run_on real turns ran).wrong ≡ None → ran.wrong ≡ None
+  set_wrong : (x i n : ℕ) (ran : Ran) (o : Option (ℕ × Wrong)) → (set_from real x i n ran o).wrong ≡ ran.wrong
+  set_wrong x i n ran None = refl
+  set_wrong x i n ran (Some p) = refl
+
+  right_act_before : (ran : Ran) (x : ℕ) (a : Act) → (act_on real x a ran).wrong ≡ None → ran.wrong ≡ None
+  right_act_before ran x (Turns n) ok = right_before ran x n ok
+  right_act_before ran x (Sets i n) ok = sym (set_wrong x i n ran ran.wrong) ∙ ok
+
+  right_all_before : (ran : Ran) (turns : Acts) → (run_on real turns ran).wrong ≡ None → ran.wrong ≡ None
   right_all_before ran [] ok = ok
-  right_all_before ran (t ∷ turns) ok = right_before ran t.0 t.1 (right_all_before (turns_of real t.0 t.1 ran) turns ok)
+  right_all_before ran (t ∷ turns) ok = right_act_before ran t.0 t.1 (right_all_before (act_on real t.0 t.1 ran) turns ok)
 
   step_by : (ran : Ran) (x : ℕ) (r : Stepped) → next real ran.world x ≡ r → (after_step real x ran r).wrong ≡ None
       → (p : World × Event) × (next real ran.world x ≡ Ok p)
@@ -115,11 +128,23 @@ module _ (s : Scenario) (differ : NamesDiffer s) (group : ℕ → Bool) (apart :
       turns_same x n (turn_from real x ran ran.wrong) (turn_from real x other other.wrong)
       (same.0 ∙ ap (λ o. (turn_from real x other o).world) e) (same.1 ∙ ap (λ o. (turn_from real x other o).wrong) e)
 
-  same_wrong : (turns : List (ℕ × ℕ)) (ran other : Ran) → ran.world ≡ other.world → ran.wrong ≡ other.wrong → (run_on real turns ran).wrong ≡ None
+  set_alike : (x i n : ℕ) (ran other : Ran) (o : Option (ℕ × Wrong)) → ran.world ≡ other.world → ran.wrong ≡ other.wrong
+      → ((set_from real x i n ran o).world ≡ (set_from real x i n other o).world) × ((set_from real x i n ran o).wrong ≡ (set_from real x i n other o).wrong)
+  set_alike x i n ran other None w e = (ap (λ v. set_input real v x i n) w, e)
+  set_alike x i n ran other (Some p) w e = (w, e)
+
+  act_same : (x : ℕ) (a : Act) (ran other : Ran) → ran.world ≡ other.world → ran.wrong ≡ other.wrong
+      → ((act_on real x a ran).world ≡ (act_on real x a other).world) × ((act_on real x a ran).wrong ≡ (act_on real x a other).wrong)
+  act_same x (Turns n) ran other w e = turns_same x n ran other w e
+  act_same x (Sets i n) ran other w e =
+      let same = set_alike x i n ran other ran.wrong w e in
+      (same.0 ∙ ap (λ o. (set_from real x i n other o).world) e, same.1 ∙ ap (λ o. (set_from real x i n other o).wrong) e)
+
+  same_wrong : (turns : Acts) (ran other : Ran) → ran.world ≡ other.world → ran.wrong ≡ other.wrong → (run_on real turns ran).wrong ≡ None
       → (run_on real turns other).wrong ≡ None
   same_wrong [] ran other w e ok = sym e ∙ ok
   same_wrong (t ∷ turns) ran other w e ok =
-      let same = turns_same t.0 t.1 ran other w e in same_wrong turns (turns_of real t.0 t.1 ran) (turns_of real t.0 t.1 other) same.0 same.1 ok
+      let same = act_same t.0 t.1 ran other w e in same_wrong turns (act_on real t.0 t.1 ran) (act_on real t.0 t.1 other) same.0 same.1 ok
 
   -- TURNS OF LEAVES INSIDE
 
@@ -174,6 +199,34 @@ module _ (s : Scenario) (differ : NamesDiffer s) (group : ℕ → Bool) (apart :
         alike = more.alike;
       }
 
+  -- SETTINGS OF LEAVES INSIDE
+
+  set_both : (ran alone : Ran) (x i n : ℕ) → group x ≡ true → AreAlike ran alone
+      → GoesOn ran alone (set_from real x i n ran ran.wrong) (set_from real x i n alone alone.wrong)
+  set_both ran alone x i n inside h =
+      subst (λ o. GoesOn ran alone (set_from real x i n ran o) (set_from real x i n alone alone.wrong)) (sym h.right)
+      (subst (λ o. GoesOn ran alone (set_from real x i n ran None) (set_from real x i n alone o)) (sym h.right_alone)
+      (record {
+        lines = [];
+        shown = sym (append-nil ran.text);
+        shown_alone = sym (append-nil alone.text);
+        alike = record {
+          f = h.f;
+          same = inside_same group h.f ran.world alone.world h.same x inside real i n;
+          linked = set_linked real ran.world x i n h.linked;
+          linked_alone = set_linked real alone.world x i n h.linked_alone;
+          pays = set_paid real ran.world x i n h.pays;
+          pays_alone = set_paid real alone.world x i n h.pays_alone;
+          right = h.right;
+          right_alone = h.right_alone;
+        };
+      }))
+
+  act_both : (ran alone : Ran) (x : ℕ) (a : Act) → group x ≡ true → (act_on real x a ran).wrong ≡ None → AreAlike ran alone
+      → GoesOn ran alone (act_on real x a ran) (act_on real x a alone)
+  act_both ran alone x (Turns n) inside ok h = turns_both ran alone x n inside ok h
+  act_both ran alone x (Sets i n) inside ok h = set_both ran alone x i n inside h
+
   -- TURNS OF LEAVES OUTSIDE
 
   turn_unseen : (ran alone : Ran) (x : ℕ) → group x ≡ false → (turn_from real x ran ran.wrong).wrong ≡ None → AreAlike ran alone
@@ -201,22 +254,41 @@ module _ (s : Scenario) (differ : NamesDiffer s) (group : ℕ → Bool) (apart :
       turns_unseen (turn_from real x ran ran.wrong) alone x n out ok
       (turn_unseen ran alone x out (right_before (turn_from real x ran ran.wrong) x n ok) h)
 
+  set_unseen : (ran alone : Ran) (x i n : ℕ) → group x ≡ false → AreAlike ran alone → AreAlike (set_from real x i n ran ran.wrong) alone
+  set_unseen ran alone x i n out h =
+      let u = outside_kept real group ran.world x i n out in
+      subst (λ o. AreAlike (set_from real x i n ran o) alone) (sym h.right) (record {
+        f = h.f;
+        same = unseen group h.f ran.world (set_input real ran.world x i n) alone.world u.0 u.1 h.same;
+        linked = set_linked real ran.world x i n h.linked;
+        linked_alone = h.linked_alone;
+        pays = set_paid real ran.world x i n h.pays;
+        pays_alone = h.pays_alone;
+        right = h.right;
+        right_alone = h.right_alone;
+      })
+
+  act_unseen : (ran alone : Ran) (x : ℕ) (a : Act) → group x ≡ false → (act_on real x a ran).wrong ≡ None → AreAlike ran alone
+      → AreAlike (act_on real x a ran) alone
+  act_unseen ran alone x (Turns n) out ok h = turns_unseen ran alone x n out ok h
+  act_unseen ran alone x (Sets i n) out ok h = set_unseen ran alone x i n out h
+
   -- RUNS
 
   -- these turns of any leaf, in the run, and in the run of the group alone
-  alike_by : (ran alone : Ran) (t : ℕ × ℕ) (b : Bool) → group t.0 ≡ b → (more : List (ℕ × ℕ)) → (turns_of real t.0 t.1 ran).wrong ≡ None
-      → ((alone_on : Ran) → AreAlike (turns_of real t.0 t.1 ran) alone_on
-      → AreAlike (run_on real more (turns_of real t.0 t.1 ran)) (run_on real (own_turns group more) alone_on)) → AreAlike ran alone
-      → AreAlike (run_on real more (turns_of real t.0 t.1 ran)) (run_on real (cond b (t ∷ own_turns group more) (own_turns group more)) alone)
-  alike_by ran alone t true e more ok go h = go (turns_of real t.0 t.1 alone) (turns_both ran alone t.0 t.1 e ok h).alike
-  alike_by ran alone t false e more ok go h = go alone (turns_unseen ran alone t.0 t.1 e ok h)
+  alike_by : (ran alone : Ran) (t : ℕ × Act) (b : Bool) → group t.0 ≡ b → (more : Acts) → (act_on real t.0 t.1 ran).wrong ≡ None
+      → ((alone_on : Ran) → AreAlike (act_on real t.0 t.1 ran) alone_on
+      → AreAlike (run_on real more (act_on real t.0 t.1 ran)) (run_on real (own_turns group more) alone_on)) → AreAlike ran alone
+      → AreAlike (run_on real more (act_on real t.0 t.1 ran)) (run_on real (cond b (t ∷ own_turns group more) (own_turns group more)) alone)
+  alike_by ran alone t true e more ok go h = go (act_on real t.0 t.1 alone) (act_both ran alone t.0 t.1 e ok h).alike
+  alike_by ran alone t false e more ok go h = go alone (act_unseen ran alone t.0 t.1 e ok h)
 
-  all_alike : (ran alone : Ran) (turns : List (ℕ × ℕ)) → (run_on real turns ran).wrong ≡ None → AreAlike ran alone
+  all_alike : (ran alone : Ran) (turns : Acts) → (run_on real turns ran).wrong ≡ None → AreAlike ran alone
       → AreAlike (run_on real turns ran) (run_on real (own_turns group turns) alone)
   all_alike ran alone [] ok h = h
   all_alike ran alone (t ∷ turns) ok h =
-      alike_by ran alone t (group t.0) refl turns (right_all_before (turns_of real t.0 t.1 ran) turns ok)
-      (λ alone_on k. all_alike (turns_of real t.0 t.1 ran) alone_on turns ok k) h
+      alike_by ran alone t (group t.0) refl turns (right_all_before (act_on real t.0 t.1 ran) turns ok)
+      (λ alone_on k. all_alike (act_on real t.0 t.1 ran) alone_on turns ok k) h
 
   -- LINES
 
@@ -233,26 +305,26 @@ module _ (s : Scenario) (differ : NamesDiffer s) (group : ℕ → Bool) (apart :
         right_alone = h.right_alone;
       }
 
-  lines_by : (ran alone : Ran) (t : ℕ × ℕ) (b : Bool) → group t.0 ≡ b → (more : List (ℕ × ℕ)) → (turns_of real t.0 t.1 ran).wrong ≡ None
-      → ((alone_on : Ran) → AreAlike (turns_of real t.0 t.1 ran) alone_on
-      → alone_on.text ++ lines_from real group more (turns_of real t.0 t.1 ran) ≡ (run_on real (own_turns group more) alone_on).text)
+  lines_by : (ran alone : Ran) (t : ℕ × Act) (b : Bool) → group t.0 ≡ b → (more : Acts) → (act_on real t.0 t.1 ran).wrong ≡ None
+      → ((alone_on : Ran) → AreAlike (act_on real t.0 t.1 ran) alone_on
+      → alone_on.text ++ lines_from real group more (act_on real t.0 t.1 ran) ≡ (run_on real (own_turns group more) alone_on).text)
       → AreAlike ran alone → ran.text ≡ []
-      → alone.text ++ (cond b (turns_of real t.0 t.1 ran).text [] ++ lines_from real group more (turns_of real t.0 t.1 ran))
+      → alone.text ++ (cond b (act_on real t.0 t.1 ran).text [] ++ lines_from real group more (act_on real t.0 t.1 ran))
       ≡ (run_on real (cond b (t ∷ own_turns group more) (own_turns group more)) alone).text
   lines_by ran alone t true e more ok go h none =
-      let on = turns_both ran alone t.0 t.1 e ok h in
-      let rest = lines_from real group more (turns_of real t.0 t.1 ran) in
+      let on = act_both ran alone t.0 t.1 e ok h in
+      let rest = lines_from real group more (act_on real t.0 t.1 ran) in
       ap (λ l. alone.text ++ (l ++ rest)) (on.shown ∙ ap (λ l. l ++ on.lines) none)
-      ∙ (sym (append_assoc alone.text on.lines rest) ∙ (ap (λ l. l ++ rest) (sym on.shown_alone) ∙ go (turns_of real t.0 t.1 alone) on.alike))
-  lines_by ran alone t false e more ok go h none = go alone (turns_unseen ran alone t.0 t.1 e ok h)
+      ∙ (sym (append_assoc alone.text on.lines rest) ∙ (ap (λ l. l ++ rest) (sym on.shown_alone) ∙ go (act_on real t.0 t.1 alone) on.alike))
+  lines_by ran alone t false e more ok go h none = go alone (act_unseen ran alone t.0 t.1 e ok h)
 
-  all_lines : (ran alone : Ran) (turns : List (ℕ × ℕ)) → (run_on real turns ran).wrong ≡ None → AreAlike ran alone
+  all_lines : (ran alone : Ran) (turns : Acts) → (run_on real turns ran).wrong ≡ None → AreAlike ran alone
       → alone.text ++ lines_from real group turns ran ≡ (run_on real (own_turns group turns) alone).text
   all_lines ran alone [] ok h = append-nil alone.text
   all_lines ran alone (t ∷ turns) ok h =
       let still = same_wrong (t ∷ turns) ran (silent ran) refl refl ok in
-      lines_by (silent ran) alone t (group t.0) refl turns (right_all_before (turns_of real t.0 t.1 (silent ran)) turns still)
-      (λ alone_on k. all_lines (turns_of real t.0 t.1 (silent ran)) alone_on turns still k) (silent_alike ran alone h) refl
+      lines_by (silent ran) alone t (group t.0) refl turns (right_all_before (act_on real t.0 t.1 (silent ran)) turns still)
+      (λ alone_on k. all_lines (act_on real t.0 t.1 (silent ran)) alone_on turns still k) (silent_alike ran alone h) refl
 
   first : Ran
   first = record { world = start real; text = []; wrong = None }
@@ -279,7 +351,7 @@ module _ (s : Scenario) (differ : NamesDiffer s) (group : ℕ → Bool) (apart :
         right_alone = refl;
       }
 
-  module _ (turns : List (ℕ × ℕ)) (right : (run real turns).wrong ≡ None) where
+  module _ (turns : Acts) (right : (run real turns).wrong ≡ None) where
     end : AreAlike (run real turns) (run real (own_turns group turns))
     unfolding first
     end = all_alike first first turns right first_alike
@@ -299,10 +371,10 @@ module _ (s : Scenario) (differ : NamesDiffer s) (group : ℕ → Bool) (apart :
 
 module _ (s : Scenario) (sound : IsSound s) (group : ℕ → Bool) (apart : IsApart (system s) group) where
   -- no step is wrong where the scenario is accepted
-  pub sound_alone : (turns : List (ℕ × ℕ)) → RunsAlone s group turns
+  pub sound_alone : (turns : Acts) → RunsAlone s group turns
   sound_alone turns = runs_alone s sound.formed.differ group apart turns (run_upholds s sound turns).never_wrong
 
-  pub sound_unseen : (turns others : List (ℕ × ℕ)) → own_turns group turns ≡ own_turns group others → SeeTheSame s group turns others
+  pub sound_unseen : (turns others : Acts) → own_turns group turns ≡ own_turns group others → SeeTheSame s group turns others
   sound_unseen turns others same =
       let a = sound_alone turns in
       let b = sound_alone others in

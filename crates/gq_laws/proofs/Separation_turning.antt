@@ -1,11 +1,13 @@
--- Turns of leaves outside leave a group that is apart untouched.
+-- Turns of leaves outside, and settings of their inputs, leave a group that is apart untouched.
 use Rattle.std.proofs.Common.{◌≡◌, ℕ, zero, suc, Bool, false, List, [], ◌∷◌, Option, Some, None, Ok, Err, refl, ◌∙◌}
+use Rattle.gq_model.specs.declared.act.Act.{Act}
+use Rattle.gq_model.specs.declared.act.Act.TheVariants.{Turns, Sets}
 use Rattle.gq_model.specs.machine.Scenario.{System, Scenario, system}
 use Rattle.gq_model.specs.machine.World.{World}
 use Rattle.gq_model.specs.declared.fault.Wrong.{Wrong}
 use Rattle.gq_model.specs.machine.Doing.{Stepped}
 use Rattle.gq_model.specs.machine.Step.{next}
-use Rattle.gq_model.specs.machine.Run.{Ran, after_step, turn_from, turns_of, run_on, run}
+use Rattle.gq_model.specs.machine.Run.{Ran, Acts, after_step, turn_from, turns_of, set_input, set_from, act_on, run_on, run}
 use Rattle.gq_laws.specs.Links.{IsLinkedWorld}
 use Rattle.gq_laws.proofs.linking.Linked_worlds.{kept_linked}
 use Rattle.gq_laws.proofs.gathering.Worlds.{reached_linked}
@@ -13,6 +15,8 @@ use Rattle.gq_laws.specs.Separation.{IsApart, IsUntouched, SameRequests, AreOuts
 use Rattle.gq_laws.proofs.Staying.{kept_self}
 use Rattle.gq_laws.proofs.Stepping.{step_untouched, step_requests}
 use Rattle.gq_laws.proofs.Accounting.{same_accounts}
+use Rattle.gq_laws.proofs.setting.Settings.{set_linked}
+use Rattle.gq_laws.proofs.setting.Groups.{outside_kept}
 
 module _ (real : System) (group : ℕ → Bool) (apart : IsApart real group) (old : World) where
   -- a run has come to a linked world in which the group is as it was
@@ -39,11 +43,26 @@ module _ (real : System) (group : ℕ → Bool) (apart : IsApart real group) (ol
   some_turns ran x zero out h = h
   some_turns ran x (suc n) out h = some_turns (turn_from real x ran ran.wrong) x n out (one_turn ran x ran.wrong out h)
 
-  pub all_turns : (ran : Ran) (more : List (ℕ × ℕ)) → AreOutside group more → IsStill ran → IsStill (run_on real more ran)
-  all_turns ran [] out h = h
-  all_turns ran (t ∷ more) out h = all_turns (turns_of real t.0 t.1 ran) more out.1 (some_turns ran t.0 t.1 out.0 h)
+  -- a setting of an input of a leaf outside
+  set_by : (ran : Ran) (x i n : ℕ) (o : Option (ℕ × Wrong)) → group x ≡ false → IsStill ran → IsStill (set_from real x i n ran o)
+  set_by ran x i n None out h =
+      let u = outside_kept real group ran.world x i n out in
+      record {
+        linked = set_linked real ran.world x i n h.linked;
+        still = record { leaves = λ y inside. u.0.leaves y inside ∙ h.still.leaves y inside; sessions = λ k. u.0.sessions k ∙ h.still.sessions k };
+        requests = u.1 ∙ h.requests;
+      }
+  set_by ran x i n (Some p) out h = h
 
-pub turns_touch_nothing : (s : Scenario) (group : ℕ → Bool) (turns : List (ℕ × ℕ)) → IsApart (system s) group → TurnsTouchNothing (system s) group turns
+  by_act : (ran : Ran) (x : ℕ) (a : Act) → group x ≡ false → IsStill ran → IsStill (act_on real x a ran)
+  by_act ran x (Turns n) out h = some_turns ran x n out h
+  by_act ran x (Sets i n) out h = set_by ran x i n ran.wrong out h
+
+  pub all_turns : (ran : Ran) (more : Acts) → AreOutside group more → IsStill ran → IsStill (run_on real more ran)
+  all_turns ran [] out h = h
+  all_turns ran (t ∷ more) out h = all_turns (act_on real t.0 t.1 ran) more out.1 (by_act ran t.0 t.1 out.0 h)
+
+pub turns_touch_nothing : (s : Scenario) (group : ℕ → Bool) (turns : Acts) → IsApart (system s) group → TurnsTouchNothing (system s) group turns
 turns_touch_nothing s group turns apart more out =
     let ran = run (system s) turns in
     let h = all_turns (system s) group apart ran.world ran more out

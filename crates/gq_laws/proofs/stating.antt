@@ -3,6 +3,7 @@
 -- Only want of quota stops it.
 pub mod Rules
 pub mod Numbers
+pub mod Operated
 pub mod Slots
 pub mod Memory
 pub mod Steps

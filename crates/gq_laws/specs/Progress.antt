@@ -3,6 +3,8 @@ use Rattle.std.specs.Prelude.{◌≡◌, ◌≤◌, ◌<◌, ◌⊎◌, ℕ, suc
 use Rattle.std.specs.Prelude.{Some}
 use Rattle.std.specs.Prelude.{is_some}
 use Rattle.std.specs.Prelude.{slice_get, slice_index, slice_set, sum_by}
+use Rattle.gq_model.specs.declared.act.Act.{Act}
+use Rattle.gq_model.specs.declared.act.Act.TheVariants.{Turns, Sets}
 use Rattle.gq_model.specs.machine.Lists.{any_of}
 use Rattle.gq_model.specs.machine.Scenario.{Scenario, System, system}
 use Rattle.gq_model.specs.machine.World.{Leaf, World, start}
@@ -10,7 +12,7 @@ use Rattle.gq_model.specs.declared.phase.Phase.{Phase}
 use Rattle.gq_model.specs.declared.phase.Phase.TheVariants.{Pending, Running, Blocked, Serving, Handling, Exited}
 use Rattle.gq_model.specs.machine.Doing.{Event, Stepped}
 use Rattle.gq_model.specs.machine.Step.{oldest, next}
-use Rattle.gq_model.specs.machine.Run.{run}
+use Rattle.gq_model.specs.machine.Run.{Acts, set_input, run}
 use Rattle.gq_model.specs.rules.Accept.{budgets, step_budgets}
 use Rattle.gq_laws.specs.Turns.{can_run, steps_of}
 use Rattle.gq_laws.specs.Shapes.{Each}
@@ -53,19 +55,44 @@ abbrev pub after_turns : System → World → List ℕ → World
 after_turns system w [] = w
 after_turns system w (x ∷ turns) = after_turns system (world_after w (next system w x)) turns
 
--- turns that are told as leaves and numbers of turns, one by one
-abbrev pub each_turn : List (ℕ × ℕ) → List ℕ
-each_turn [] = []
-each_turn (t ∷ turns) = replicate t.1 t.0 ++ each_turn turns
+-- MOVES
 
--- a run over turns ends in the world after each of them
-abbrev pub RunsThrough : System → List (ℕ × ℕ) → Type 0
-RunsThrough system turns = (run system turns).world ≡ after_turns system (start system) (each_turn turns)
+-- one turn of a leaf, or another value of an input of a leaf
+pub data Move : Type 0 where
+  Turn_of : (leaf : ℕ) → Move
+  Setting_of : (leaf input value : ℕ) → Move
 
--- how many of these turns are steps
-abbrev pub steps_in : System → World → List ℕ → ℕ
+abbrev pub after_move : System → World → Move → World
+after_move system w (Turn_of x) = world_after w (next system w x)
+after_move system w (Setting_of x i n) = set_input system w x i n
+
+-- after each of these, in this order
+abbrev pub after_moves : System → World → List Move → World
+after_moves system w [] = w
+after_moves system w (m ∷ moves) = after_moves system (after_move system w m) moves
+
+-- what a leaf is given, move by move
+abbrev pub moves_of : ℕ → Act → List Move
+moves_of x (Turns n) = replicate n (Turn_of x)
+moves_of x (Sets i n) = Setting_of x i n ∷ []
+
+abbrev pub each_move : Acts → List Move
+each_move [] = []
+each_move (t ∷ acts) = moves_of t.0 t.1 ++ each_move acts
+
+-- a run over turns and settings ends in the world after each of them
+abbrev pub RunsThrough : System → Acts → Type 0
+RunsThrough system acts = (run system acts).world ≡ after_moves system (start system) (each_move acts)
+
+-- whether a move is a step: a turn of a leaf that can run
+abbrev pub steps_by : System → World → Move → ℕ
+steps_by system w (Turn_of x) = if can_run system w x then 1 else 0
+steps_by system w (Setting_of x i n) = 0
+
+-- how many of these moves are steps
+abbrev pub steps_in : System → World → List Move → ℕ
 steps_in system w [] = 0
-steps_in system w (x ∷ turns) = (if can_run system w x then 1 else 0) + steps_in system (world_after w (next system w x)) turns
+steps_in system w (m ∷ moves) = steps_by system w m + steps_in system (after_move system w m) moves
 
 -- the steps that all leaves have taken
 abbrev pub taken : World → ℕ
@@ -75,21 +102,25 @@ taken w = sum_by (λ (n : ℕ). n) (steps_of w)
 abbrev pub budgeted : Scenario → ℕ
 budgeted s = sum_by (λ (n : ℕ). n) (step_budgets (budgets s))
 
--- from this world on at most as many turns are steps as are left of the budgets
+-- from this world on at most as many turns are steps as are left of the budgets, whatever is set between them
 abbrev pub WorkEnds : Scenario → World → Type 0
-WorkEnds s w = (turns : List ℕ) → taken w + steps_in (system s) w turns ≤ budgeted s
+WorkEnds s w = (moves : List Move) → taken w + steps_in (system s) w moves ≤ budgeted s
 
 -- ROUNDS
 
--- each leaf has a turn among these, in any order
-abbrev pub IsRound : System → List ℕ → Type 0
-IsRound system turns = (x : ℕ) → x < length system.components → any_of (λ y. y == x) turns ≡ true
+abbrev pub is_turn_of : ℕ → Move → Bool
+is_turn_of x (Turn_of y) = y == x
+is_turn_of x (Setting_of y i n) = false
 
-abbrev pub after_rounds : System → World → List (List ℕ) → World
+-- each leaf has a turn among these, in any order
+abbrev pub IsRound : System → List Move → Type 0
+IsRound system moves = (x : ℕ) → x < length system.components → any_of (is_turn_of x) moves ≡ true
+
+abbrev pub after_rounds : System → World → List (List Move) → World
 after_rounds system w [] = w
-after_rounds system w (round ∷ rounds) = after_rounds system (after_turns system w round) rounds
+after_rounds system w (round ∷ rounds) = after_rounds system (after_moves system w round) rounds
 
 -- after as many rounds as there are steps in the budgets every leaf is at rest
 abbrev pub RoundsSuffice : Scenario → World → Type 0
 RoundsSuffice s w =
-    (rounds : List (List ℕ)) → Each (IsRound (system s)) rounds → budgeted s ≤ length rounds → AllRest (after_rounds (system s) w rounds)
+    (rounds : List (List Move)) → Each (IsRound (system s)) rounds → budgeted s ≤ length rounds → AllRest (after_rounds (system s) w rounds)

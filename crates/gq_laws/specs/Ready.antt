@@ -1,6 +1,6 @@
 -- Scenarios that can be run with tests, whether they are accepted or not.
 use Rattle.std.specs.Prelude.{◌≡◌, ℕ, ◌==◌, false, List, Some, slice_get, slice_index_or}
-use Rattle.gq_model.specs.machine.Amounts.{amount}
+use Rattle.gq_model.specs.machine.Amounts.{amount, counts_caps}
 use Rattle.gq_model.specs.machine.Scenario.{Interface, Nodes, End, Leaf_node, Init_node, Scenario, Component, components, interface_in}
 use Rattle.gq_laws.specs.Resolved.{IsResolved}
 
@@ -28,7 +28,7 @@ AreDeclared s = (x : ℕ) (c : Component) (service : List ℕ) → slice_get (co
 -- What a reader of scenarios makes sure of, beside what every scenario has: capabilities are given in version 2 alone, and a service that is provided has an
 -- interface.
 pub record IsRead (s : Scenario) : Type 0 where
-  pub uncounted : (s.version == 2) ≡ false → IsUncounted s
+  pub uncounted : counts_caps s.version ≡ false → IsUncounted s
   pub declared : AreDeclared s
 
 -- and it is resolved: quanta fit, leaves start after fitting siblings, routes lead to leaves without cycle

@@ -5,7 +5,7 @@ use Rattle.gq_model.specs.machine.Routes.{server_of}
 use Rattle.gq_model.specs.machine.World.{Session, Request, World, session_at}
 use Rattle.gq_model.specs.machine.Step.{is_named}
 use Rattle.gq_model.specs.machine.Accounts.{account_at}
-use Rattle.gq_model.specs.machine.Run.{run, run_on}
+use Rattle.gq_model.specs.machine.Run.{Acts, run, run_on}
 use Rattle.gq_laws.specs.Shapes.{Each}
 
 -- A GROUP THAT IS APART
@@ -48,14 +48,14 @@ SameAccounts system group old new =
 
 -- TURNS
 
--- turns of leaves outside, as leaves and numbers of turns
-abbrev pub AreOutside : (ℕ → Bool) → List (ℕ × ℕ) → Type 0
+-- turns of leaves outside, and settings of their inputs
+abbrev pub AreOutside : (ℕ → Bool) → Acts → Type 0
 AreOutside group turns = Each (λ t. group t.0 ≡ false) turns
 
--- turns of leaves outside that come after these change no leaf inside, no session and no request of the group, and no account of a leaf inside
-abbrev pub TurnsTouchNothing : System → (ℕ → Bool) → List (ℕ × ℕ) → Type 0
+-- such turns and settings that come after these change no leaf inside, no session and no request of the group, and no account of a leaf inside
+abbrev pub TurnsTouchNothing : System → (ℕ → Bool) → Acts → Type 0
 TurnsTouchNothing system group turns =
-    (more : List (ℕ × ℕ)) → AreOutside group more
+    (more : Acts) → AreOutside group more
     → IsUntouched group (run system turns).world (run_on system more (run system turns)).world
     × SameRequests group (run system turns).world (run_on system more (run system turns)).world
     × SameAccounts system group (run system turns).world (run_on system more (run system turns)).world

@@ -18,6 +18,7 @@ use Rattle.gq_model.specs.rules.Flow.{context, start_of}
 use Rattle.gq_model.specs.rules.Rules.{judged}
 use Rattle.gq_laws.specs.Kept.{within, Continues}
 use Rattle.gq_laws.specs.Moves.{Moves}
+use Rattle.gq_laws.specs.Shapes.{AreInputs}
 use Rattle.gq_laws.specs.Typed.{StaysOfKind, StayOfKind, Meets, PromisesLinks, SharesBuffers}
 
 -- a step ends in worlds of which P holds, and only want of quota is wrong with it
@@ -45,7 +46,7 @@ pub record TakesLeaf (d : Doing) : Type 0 where
 abbrev pub IsAwake : Doing → Type 0
 IsAwake d = (place : Place) (q : Spot) (k : ℕ) → spot_of d.x d.leaf.current place ≡ Some q → slot_at d.world q ≢ Some (Waiting k)
 
--- what the rules take for granted of the system, of links and of the current session
+-- what the rules take for granted of the system, of links, of the current session and of inputs
 pub record Grants (promised : ℕ → Option Kind) (c : Context) (d : Doing) : Type 0 where
   pub interfaces : c.subject.interfaces ≡ d.system.interfaces
   -- the current session is one of the service that the leaf provides
@@ -54,6 +55,8 @@ pub record Grants (promised : ℕ → Option Kind) (c : Context) (d : Doing) : T
   pub links : PromisesLinks promised d.world
   pub buffers : SharesBuffers d.system promised d.world
   pub awake : IsAwake d
+  -- each input of the leaf is at most its greatest value
+  pub inputs : AreInputs c.subject.inputs d.leaf.inputs
 
 -- the leaf of the step stands at the state in this world, with the same statements left and the same current session
 pub record StandsAt (promised : ℕ → Option Kind) (c : Context) (state : State) (d : Doing) (w : World) : Type 0 where

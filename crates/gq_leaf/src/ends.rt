@@ -64,13 +64,14 @@ impl Leaf {
         self.steps += 1;
     }
 
-    /// It has exited, a step further.
+    /// It has exited, a step further, and its inputs are 0.
     pub fn exit(&mut self)
         requires { self.old.state.steps + 1 < 2 ^ 64 }
         ensures { self.new ≡ record self.old { state = exited self.old.state } }
     {
         self.phase = Phase::Exited;
         self.registers.begin();
+        self.registers.clear_inputs();
         self.steps += 1;
     }
 

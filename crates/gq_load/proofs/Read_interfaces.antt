@@ -2,7 +2,7 @@
 use Rattle.std.proofs.Common.{◌≡◌, ℕ, zero, suc, ◌==◌, ◌||◌, cond, Bool, true, false, List, [], ◌∷◌, Some, None, refl, ap, ◌∙◌, subst}
 use Rattle.std.specs.Prelude.{codes, slice_index_or}
 use Rattle.toml.specs.Data.{Data, Members, no_members, member, get_member}
-use Rattle.gq_model.specs.machine.Amounts.{amount}
+use Rattle.gq_model.specs.machine.Amounts.{amount, counts_caps}
 use Rattle.gq_model.specs.machine.Lists.{any_of}
 use Rattle.gq_model.specs.machine.Program.{text_eq}
 use Rattle.gq_model.specs.machine.Scenario.{Interface, interface_in}
@@ -27,7 +27,7 @@ plain_upgrades [] level = refl
 plain_upgrades (d ∷ rest) zero = refl
 plain_upgrades (d ∷ rest) (suc level) = plain_upgrades rest level
 
-module _ (version : ℕ) (one : (version == 2) ≡ false) where
+module _ (version : ℕ) (one : counts_caps version ≡ false) where
   plain : (entries : Members) → table_fault (interface_keys version entries) entries ≡ None → IsWithoutCaps (interface_of version entries)
   plain entries e =
       let known = (kept (interface_keys version entries) entries e).0 in

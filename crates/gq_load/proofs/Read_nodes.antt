@@ -1,13 +1,13 @@
--- The nodes of a document without fault: outside version 2 none is given capabilities, and what a leaf provides is declared.
+-- The nodes of a document without fault: in version 1 none is given capabilities, and what a leaf provides is declared.
 use Rattle.std.proofs.Common.{◌≡◌, ℕ, zero, suc, ◌==◌, cond, Bool, true, false, List, [], ◌∷◌, ◌++◌, map, Option, Some, None, refl, ap, sym, ◌∙◌, subst}
-use Rattle.std.specs.Prelude.{codes, slice_get}
+use Rattle.std.specs.Prelude.{codes, nat_le, slice_get}
 use Rattle.toml.specs.Data.{Data, Members, get_member}
 use Rattle.gq_model.specs.machine.Lists.{any_of, or_first}
 use Rattle.gq_model.specs.machine.Program.{text_eq}
 use Rattle.gq_model.specs.machine.Scenario.{LeafNode, Nodes, End, Leaf_node, Init_node, Scenario, Component, components}
 use Rattle.gq_scenario.specs.Keys.{DocumentFault, KeyRule, required, optional, either, other, text_of, members_of, passes, is_number, is_quantity, is_text}
 use Rattle.gq_scenario.specs.Keys.{is_hex, is_name_text, is_table, is_list, table_fault}
-use Rattle.gq_scenario.specs.Tables.{greatest_caps, is_declared, leaf_keys, init_keys}
+use Rattle.gq_scenario.specs.Tables.{greatest_caps, is_declared, is_inputs, leaf_keys, init_keys}
 use Rattle.gq_scenario.specs.Document.{value_of, list_at, leaf_of, is_init, init_of, nodes_by, node_onto, first_of, routes_fault, node_fault}
 use Rattle.gq_scenario.specs.Sizes.{leaves_in}
 use Rattle.gq_scenario.proofs.Preorder.{components-leaves_in}
@@ -18,6 +18,7 @@ use Rattle.gq_laws.specs.Ready.{AreWithoutCaps}
 use Rattle.gq_model.proofs.Small.{none_some, some_none, some_same, or_first_none}
 use Rattle.gq_load.proofs.Sound_programs.{each_append}
 use Rattle.gq_load.proofs.Read_interfaces.{no_number}
+use Rattle.gq_model.specs.machine.Amounts.{counts_caps}
 
 -- A LEAF
 
@@ -34,18 +35,24 @@ declared_there : (services : List (List ℕ)) (o : Option Data) → fits_or_none
 declared_there services None f service e = absurd (none_some e)
 declared_there services (Some d) f service e = passes_there (λ name. any_of (text_eq name) services) (text_of d) service e f
 
--- the keys of a leaf, in version 2 or not
-abbrev leaf_keys_by : Bool → List (List ℕ) → List KeyRule
-leaf_keys_by two services =
+-- the keys of a leaf, from version 2 on or not, and from version 3 on or not
+abbrev leaf_keys_by : Bool → Bool → List (List ℕ) → List KeyRule
+leaf_keys_by two three services =
     (required (codes "name") is_name_text ∷ required (codes "quantum") (is_quantity 0 1099511627776)
     ∷ cond two (required (codes "caps") (is_number 0 greatest_caps) ∷ []) [] ++ optional (codes "route") (is_list is_table) ∷ [])
-    ++ optional (codes "provides") (is_declared services) ∷ optional (codes "after") is_name_text
-    ∷ either (codes "program") (codes "code" ∷ []) is_text ∷ other (codes "code") (codes "program" ∷ []) is_hex ∷ []
+    ++ (optional (codes "provides") (is_declared services) ∷ optional (codes "after") is_name_text
+    ∷ cond three (optional (codes "inputs") is_inputs ∷ []) [])
+    ++ either (codes "program") (codes "code" ∷ []) is_text ∷ other (codes "code") (codes "program" ∷ []) is_hex ∷ []
 
-provides_fits : (two : Bool) (services : List (List ℕ)) (entries : Members) → AreKept (leaf_keys_by two services) entries
+-- no key of capabilities before version 2
+no_caps_key : (three : Bool) (services : List (List ℕ)) → any_of (λ (a : KeyRule). text_eq (codes "caps") a.key) (leaf_keys_by false three services) ≡ false
+no_caps_key true services = refl
+no_caps_key false services = refl
+
+provides_fits : (two three : Bool) (services : List (List ℕ)) (entries : Members) → AreKept (leaf_keys_by two three services) entries
     → fits_or_none (is_declared services) (get_member (codes "provides") entries) ≡ true
-provides_fits true services entries k = k.1.1.1.1.0.fits
-provides_fits false services entries k = k.1.1.1.0.fits
+provides_fits true three services entries k = k.1.1.1.1.0.fits
+provides_fits false three services entries k = k.1.1.1.0.fits
 
 -- LISTS
 
@@ -64,7 +71,7 @@ each_component P s h x c there = find (components s) (subst (Each P) (sym (compo
 module _ (version : ℕ) (services : List (List ℕ)) where
   -- what is known of nodes without fault
   pub record AreRead (nodes : Nodes) : Type 0 where
-    pub plain : (version == 2) ≡ false → AreWithoutCaps nodes
+    pub plain : counts_caps version ≡ false → AreWithoutCaps nodes
     pub declared : Each (IsDeclared services) (leaves_in nodes)
 
   none_read : AreRead End
@@ -76,11 +83,13 @@ module _ (version : ℕ) (services : List (List ℕ)) where
       let k = kept (leaf_keys version services) entries e in
       record {
         plain = λ one. (
-          no_number (codes "caps") entries (absent (leaf_keys version services) entries (codes "caps") k.0 (rw one refl)),
+          no_number (codes "caps") entries (absent (leaf_keys version services) entries (codes "caps") k.0
+              (subst (λ b. any_of (λ (a : KeyRule). text_eq (codes "caps") a.key) (leaf_keys_by b (nat_le 3 version) services) ≡ false) (sym one)
+              (no_caps_key (nat_le 3 version) services))),
           h.plain one,
         );
         declared = (
-          declared_there services (get_member (codes "provides") entries) (provides_fits (version == 2) services entries k.1),
+          declared_there services (get_member (codes "provides") entries) (provides_fits (counts_caps version) (nat_le 3 version) services entries k.1),
           h.declared,
         );
       }

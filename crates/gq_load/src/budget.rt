@@ -59,10 +59,7 @@ impl Budget {
 fn budget_of(version: Version, own: &Amount, steps: u64) -> Budget
     ensures { result ≡ budget_from (version_number version) own.now steps }
 {
-    let caps = match version {
-        Version::One => 0,
-        Version::Two => own.caps,
-    };
+    let caps = if version.counts_caps() { own.caps } else { 0 };
     Budget::new(Amount { ram: own.ram, caps }, steps)
 }
 

@@ -12,7 +12,7 @@ use gq_verify::{Verified, verify};
 
 // What is said of a leaf's program.
 pub(crate) fn judge<'a>(
-    component: &Component<'_>,
+    component: &Component<'a>,
     program: &'a Program,
     interfaces: &'a Interfaces,
 ) -> Result<Verified<'a>, LoadFault>
@@ -22,7 +22,7 @@ pub(crate) fn judge<'a>(
     ensures refused { IfErr result (λ f. Prints f (refused (leaf_refusal interfaces.now component.now))) }
 {
     let leaf = component.leaf();
-    match verify(program, leaf.provides(), interfaces) {
+    match verify(program, leaf.provides(), interfaces, leaf.inputs()) {
         Ok(verified) => Ok(verified),
         Err(fault) => Err(LoadFault::Rule {
             leaf: leaf.name().copied(),

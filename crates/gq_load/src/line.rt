@@ -34,7 +34,7 @@ fn push_line(
     text.extend_from_slice(b"budget ")?;
     text.extend_from_slice(label)?;
     push_entry(text, b"own", budget.own())?;
-    if let Version::Two = version {
+    if version.counts_caps() {
         push_entry(text, b"caps", budget.own_caps())?;
     }
     push_entry(text, b"steps", budget.steps())?;

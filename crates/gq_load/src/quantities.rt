@@ -92,14 +92,15 @@ pub fn judge_unsized(
 
 /// Verifies a program again that breaks no rule, and returns what the verifier has of it.
 pub fn verified<'a>(
-    component: &Component<'_>,
+    component: &Component<'a>,
     program: &'a Program,
     interfaces: &'a Interfaces,
 ) -> Verified<'a>
-    requires { program_fault (subject_of program.now component.now.node.provides interfaces.now) ≡ None }
-    ensures { result ≡ subject_of program.now component.now.node.provides interfaces.now }
+    requires { program_fault (subject_of program.now component.now.node.provides interfaces.now component.now.node.inputs) ≡ None }
+    ensures { result ≡ subject_of program.now component.now.node.provides interfaces.now component.now.node.inputs }
 {
-    match verify(program, component.leaf().provides(), interfaces) {
+    let leaf = component.leaf();
+    match verify(program, leaf.provides(), interfaces, leaf.inputs()) {
         Ok(verified) => verified,
         Err(_) => unreachable!(),
     }

@@ -116,6 +116,7 @@ with_body l p body =
       slots = [];
       peaks = [];
       steps = state.steps;
+      inputs = state.inputs;
     }
 
 released_leaf : (program : Program) (l : LeafState) (name : List ℕ) (after : Option (List ℕ))

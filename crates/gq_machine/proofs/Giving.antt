@@ -16,6 +16,7 @@ use Rattle.gq_machine.specs.declared.state.Fixed.{Fixed}
 use Rattle.gq_machine.specs.declared.state.State.{State}
 use Rattle.gq_machine.specs.internal.Holds.{Holds}
 use Rattle.gq_machine.proofs.Standing.{service_count}
+use Rattle.gq_model.specs.machine.Amounts.{counts_caps}
 
 -- WHERE NO CAPABILITIES ARE COUNTED
 
@@ -24,7 +25,7 @@ version_one true price e none = cc
 version_one false price e none = refl
 
 pub uncounted : (f : Fixed) (m : State) → Holds f m → m.slots.trades.trading.memory.ledger.price ≡ 0 → IsUncounted f.table
-uncounted f m h none = h.ready.read.uncounted (version_one (f.table.version == 2) m.slots.trades.trading.memory.ledger.price h.nodes.price none)
+uncounted f m h none = h.ready.read.uncounted (version_one (counts_caps f.table.version) m.slots.trades.trading.memory.ledger.price h.nodes.price none)
 
 pub no_open_caps : (s : Scenario) → IsUncounted s → (name : List ℕ) → open_caps (interface_in name s.interfaces) ≡ 0
 no_open_caps s u name = by (interface_in name s.interfaces) refl

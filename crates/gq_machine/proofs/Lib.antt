@@ -27,3 +27,4 @@ pub mod Same
 pub mod Saying
 pub mod Requested
 pub mod Several
+pub mod Setting

@@ -8,7 +8,7 @@ use Rattle.gq_tariff.specs.declared.amount.Amount.{Amount}
 use Rattle.gq_model.specs.declared.phase.Phase.{Phase}
 use Rattle.gq_model.specs.declared.phase.Phase.TheVariants as phase
 use Rattle.gq_model.specs.machine.Accounts.{accounts, amount_in}
-use Rattle.gq_model.specs.machine.Amounts.{Resource, Ram, Caps}
+use Rattle.gq_model.specs.machine.Amounts.{Resource, Ram, Caps, counts_caps}
 use Rattle.gq_model.specs.machine.Scenario.{Scenario, Component, components}
 use Rattle.gq_model.specs.machine.Sums.{held}
 use Rattle.gq_model.specs.machine.World as world
@@ -137,14 +137,14 @@ ends_exited phase.Serving e = absurd cc
 ends_exited phase.Handling e = absurd cc
 ends_exited phase.Exited e = refl
 
-no_caps : (version ram caps : ℕ) → version ≡ 1 → (amount_in version ram caps).caps ≡ 0
-no_caps version ram caps e = ap (λ v. (amount_in v ram caps).caps) e
+no_caps : (version ram caps : ℕ) → counts_caps version ≡ false → (amount_in version ram caps).caps ≡ 0
+no_caps version ram caps e = ap (λ b. cond b caps 0) e
 
-all_caps : (version ram caps : ℕ) → version ≡ 2 → (amount_in version ram caps).caps ≡ caps
-all_caps version ram caps e = ap (λ v. (amount_in v ram caps).caps) e
+all_caps : (version ram caps : ℕ) → counts_caps version ≡ true → (amount_in version ram caps).caps ≡ caps
+all_caps version ram caps e = ap (λ b. cond b caps 0) e
 
 no_caps_of : (version ram caps : ℕ) → caps ≡ 0 → (amount_in version ram caps).caps ≡ 0
-no_caps_of version ram caps e = by (version == 2) caps e
+no_caps_of version ram caps e = by (counts_caps version) caps e
   where
     by : (b : Bool) (n : ℕ) → n ≡ 0 → cond b n 0 ≡ 0
     by true n e = e
@@ -297,7 +297,7 @@ module _ (i : Inside) (w : Machine) (e : machine_seen i ≡ w) (h : Holds i.fixe
 
     -- where there are none, or none is counted, it is 0
     pub no_caps_read : (told : List ℕ) (n : ℕ)
-        → (i.fixed.table.version ≡ 1) ⊎ ((account_of t.trades.trading.tree t.trades.trading.memory.ledger n).quota.caps ≡ 0)
+        → (counts_caps i.fixed.table.version ≡ false) ⊎ ((account_of t.trades.trading.tree t.trades.trading.memory.ledger n).quota.caps ≡ 0)
         → IfSome (slice_get (accounts w.scenario w.world told) n) (λ a. 0 ≡ a.quota.caps)
     no_caps_read told n (inl one) =
         let a = account_of t.trades.trading.tree t.trades.trading.memory.ledger n in
@@ -306,7 +306,7 @@ module _ (i : Inside) (w : Machine) (e : machine_seen i ≡ w) (h : Holds i.fixe
         let a = account_of t.trades.trading.tree t.trades.trading.memory.ledger n in
         caps_read told n 0 (sym (no_caps_of i.fixed.table.version a.quota.ram a.quota.caps none))
 
-    pub all_caps_read : (told : List ℕ) (n r : ℕ) → i.fixed.table.version ≡ 2
+    pub all_caps_read : (told : List ℕ) (n r : ℕ) → counts_caps i.fixed.table.version ≡ true
         → r ≡ (account_of t.trades.trading.tree t.trades.trading.memory.ledger n).quota.caps
         → IfSome (slice_get (accounts w.scenario w.world told) n) (λ a. r ≡ a.quota.caps)
     all_caps_read told n r two is =
@@ -324,10 +324,10 @@ module _ (i : Inside) (w : Machine) (e : machine_seen i ≡ w) (h : Holds i.fixe
         (if_some (slice_get own.leaves x) (λ leaf. r ≡ held Ram own x leaf)
         (λ leaf g. is ∙ sym (ram_used i.fixed.table (frame_of i.fixed.table i.state.leaves.items) t x leaf h.ready l h.of h.nodes g)))
 
-    pub caps_used_read : w.scenario.version ≡ 2 → (x r : ℕ) → r ≡ (its_account t.trades.trading x).used.caps
+    pub caps_used_read : counts_caps w.scenario.version ≡ true → (x r : ℕ) → r ≡ (its_account t.trades.trading x).used.caps
         → IfSome (slice_get w.world.leaves x) (λ leaf. r ≡ held Caps w.world x leaf)
     caps_used_read two x r is =
-        let counted = subst (λ (v : Machine). v.scenario.version ≡ 2) (sym e) two in
+        let counted = subst (λ (v : Machine). counts_caps v.scenario.version ≡ true) (sym e) two in
         subst (λ (v : Machine). IfSome (slice_get v.world.leaves x) (λ leaf. r ≡ held Caps v.world x leaf)) e
         (if_some (slice_get own.leaves x) (λ leaf. r ≡ held Caps own x leaf)
         (λ leaf g. is ∙ sym (caps_used i.fixed.table (frame_of i.fixed.table i.state.leaves.items) t x leaf h.ready l h.of h.nodes g counted)))

@@ -3,7 +3,7 @@ use Rattle.std.proofs.Common.{◌≡◌, ◌==◌, ◌<◌, ℕ, zero, suc, Bool
 use Rattle.std.proofs.Common.{refl, sym, ap, subst, ◌∙◌, arith}
 use Rattle.std.specs.Prelude.{is_some, slice_get}
 use Rattle.gq_model.specs.declared.program.Section.TheVariants.{Main}
-use Rattle.gq_model.specs.machine.Amounts.{Ram, Caps, counted_in}
+use Rattle.gq_model.specs.machine.Amounts.{Ram, Caps, counted_in, counts_caps}
 use Rattle.gq_model.specs.machine.Program.{Program, Statements, body_of, section_in}
 use Rattle.gq_model.specs.machine.Scenario.{Scenario, Component, components, system}
 use Rattle.gq_model.specs.machine.World as world
@@ -49,7 +49,7 @@ use Rattle.gq_machine.proofs.Frames.{leaf_at}
 -- ONE LEAF
 
 abbrev first_core : Core
-first_core = record { position = 0; operands = []; locals = replicate 8 0; rounds = replicate 4 0 }
+first_core = record { position = 0; operands = []; locals = replicate 8 0; rounds = replicate 4 0; inputs = replicate 8 0 }
 
 record Begins (body : Statements) : Type 0 where
   todo : (state_of body first_core 0).todo ≡ body
@@ -99,6 +99,7 @@ one_first c l st h none first =
       slots = slots j;
       peaks = none j;
       steps = 0;
+      inputs = replicate 8 0;
     })
 
 -- ALL LEAVES
@@ -153,8 +154,8 @@ stage_first : (after : Option (List ℕ)) → first_stage after ≡ stage_in (wo
 stage_first None = refl
 stage_first (Some name) = refl
 
-counted_first : (version price : ℕ) → price ≡ cond (version == 2) 1 0 → counted_in version ≡ counted_at price
-counted_first version price e = by (version == 2) ∙ sym (ap counted_at e)
+counted_first : (version price : ℕ) → price ≡ cond (counts_caps version) 1 0 → counted_in version ≡ counted_at price
+counted_first version price e = by (counts_caps version) ∙ sym (ap counted_at e)
   where
     by : (b : Bool) → cond b (Ram ∷ Caps ∷ []) (Ram ∷ []) ≡ counted_at (cond b 1 0)
     by true = refl

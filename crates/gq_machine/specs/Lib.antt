@@ -7,3 +7,4 @@ pub mod Events
 pub mod Shows
 pub mod State_bursts
 pub mod Readers
+pub mod Settings

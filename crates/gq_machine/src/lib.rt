@@ -12,7 +12,7 @@
 //!
 //! `state` is what is fixed at load and what changes; `statements`, `asking`, `requests`, `replies` and `endings` are what each kind of step makes of it, each
 //! a step of the abstract machine that keeps what holds between two steps. `steps` has one turn of a leaf, `bursts` many of them in one go, and `output` the
-//! lines that they give. `told` has what is told of leaves, sessions, requests and slots between two steps.
+//! lines that they give. `settings` gives inputs other values. `told` has what is told of leaves, sessions, requests and slots between two steps.
 #![tactic(auto)]
 
 pub mod asking;
@@ -24,6 +24,7 @@ mod others;
 mod output;
 pub mod replies;
 pub mod requests;
+pub mod settings;
 pub mod state;
 pub mod statements;
 mod steps;

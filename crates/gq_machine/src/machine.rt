@@ -1,6 +1,6 @@
 // The machine: the leaves of a scenario over their memory and sessions.
-ghost use Rattle.std.specs.Prelude.{◌≡◌, ℕ, ◌+◌, ◌*◌, ◌<◌, ◌≤◌, List, IfOk, IfSome, Ok, Err, length, slice_get};
-ghost use Rattle.gq_model.specs.machine.Amounts.{Ram, Caps};
+ghost use Rattle.std.specs.Prelude.{◌≡◌, ℕ, ◌+◌, ◌*◌, ◌<◌, ◌≤◌, List, IfOk, IfSome, Ok, Err, length, slice_get, true};
+ghost use Rattle.gq_model.specs.machine.Amounts.{Ram, Caps, counts_caps};
 ghost use Rattle.gq_model.specs.machine.Accounts.{accounts};
 ghost use Rattle.gq_model.specs.machine.Scenario.{Component, components, system};
 ghost use Rattle.gq_model.specs.machine.Sums.{held};
@@ -19,6 +19,7 @@ ghost use Rattle.gq_machine.specs.internal.Starts.{AreFirst, ArePrepared, IsFirs
 use crate::state::{Fixed, Prepared, State};
 use gq_bytecode::Code;
 use gq_leaf::Leaf;
+use gq_model::limits::INPUTS;
 use gq_model::phase::Phase;
 use gq_prepared::openings::openings;
 use gq_prepared::plan_of;
@@ -26,7 +27,7 @@ use gq_prepared::sections::sections_of;
 use gq_prepared::services::Services;
 use gq_resolve::NodeTable;
 use gq_scenario::node::NodeNo;
-use gq_scenario::scenario::{LeafNo, Version};
+use gq_scenario::scenario::LeafNo;
 use gq_slots::Slots;
 use gq_statements::laws::lawful;
 use gq_tariff::price::PAGE;
@@ -136,9 +137,10 @@ fn caps_of(table: &NodeTable) -> Option<u64>
     ensures { result ≡ caps_of table.now }
 {
     let scenario = table.scenario();
-    match scenario.version() {
-        Version::One => None,
-        Version::Two => Some(u64::from(scenario.total().caps())),
+    if scenario.version().counts_caps() {
+        Some(u64::from(scenario.total().caps()))
+    } else {
+        None
     }
 }
 
@@ -232,6 +234,14 @@ impl Machine {
         self.state.leaves[leaf.index()].phase()
     }
 
+    /// The values of the eight inputs of a leaf.
+    pub fn inputs(&self, leaf: LeafNo) -> &[u32; INPUTS]
+        requires { leaf < length (components self.now.scenario) }
+        ensures { IfSome (slice_get self.now.world.leaves leaf) (λ l. result.now ≡ l.inputs) }
+    {
+        self.state.leaves[leaf.index()].inputs()
+    }
+
     /// The steps that a leaf has taken.
     pub fn steps(&self, leaf: LeafNo) -> u64
         requires { leaf < length (components self.now.scenario) }
@@ -262,10 +272,13 @@ impl Machine {
         let trades = self.state.slots.trades();
         match trades.stage(node.index()) {
             Stage::Ended => 0,
-            Stage::Pending | Stage::Live => match self.fixed.table.scenario().version() {
-                Version::One => 0,
-                Version::Two => trades.caps(node.index()),
-            },
+            Stage::Pending | Stage::Live => {
+                if self.fixed.table.scenario().version().counts_caps() {
+                    trades.caps(node.index())
+                } else {
+                    0
+                }
+            }
         }
     }
 
@@ -286,7 +299,7 @@ impl Machine {
     /// The capabilities that a leaf holds, in version 2, where they are counted. In version 1 nothing is promised of the answer.
     pub fn caps_used(&self, leaf: LeafNo) -> u64
         requires { leaf < length (components self.now.scenario) }
-        ensures { self.now.scenario.version ≡ 2 → IfSome (slice_get self.now.world.leaves leaf) (λ l. result ≡ held Caps self.now.world leaf l) }
+        ensures { counts_caps self.now.scenario.version ≡ true → IfSome (slice_get self.now.world.leaves leaf) (λ l. result ≡ held Caps self.now.world leaf l) }
     {
         let place = leaf.index();
         lawful(&self.state.slots);

@@ -10,12 +10,12 @@ ghost use Rattle.gq_statements.specs.Serving.{AreSections, KnowsService};
 ghost use Rattle.gq_statements.specs.Statements.{done};
 ghost use Rattle.gq_machine.specs.internal.Holds.{CanServe, Goes, Holds, LeavesState};
 ghost use Rattle.gq_machine.specs.internal.Requests.{IsFirst, begun_for, takes};
+ghost use Rattle.gq_model.specs.machine.Amounts.{counts_caps};
 
 use crate::state::{Fixed, State};
 use gq_leaf::Leaf;
 use gq_model::fault::Wrong;
 use gq_model::program::Section;
-use gq_scenario::scenario::Version;
 use gq_statements::Current;
 use gq_statements::laws::lawful;
 use gq_statements::serving_requests::Provider;
@@ -36,10 +36,7 @@ fn counts_caps(fixed: &Fixed, state: &State) -> bool
     requires holds { Holds fixed.now state.now }
     ensures { result ≡ not (nat_eq state.now.slots.trades.trading.memory.ledger.price 0) }
 {
-    match fixed.table.scenario().version() {
-        Version::One => false,
-        Version::Two => true,
-    }
+    fixed.table.scenario().version().counts_caps()
 }
 
 // What a leaf knows of its program and of the service of the session of a request.

@@ -6,6 +6,7 @@ pub mod Results
 pub mod Shapes
 pub mod Component_laws
 pub mod Rules_laws
+pub mod Operated
 pub mod Section_laws
 pub mod Sums_laws
 -- code and operands: what is spelled is read back
@@ -21,5 +22,6 @@ pub mod Assembled_sections
 pub mod Assembled_blocks
 pub mod Assembled_programs
 -- worked examples
+pub mod Words
 pub mod Samples
 mod rows

@@ -2,11 +2,13 @@
 use Rattle.std.proofs.Common.{ℕ, List, [], ◌∷◌, Option, Some, None}
 use Rattle.std.specs.Prelude.{codes, replicate}
 use Rattle.gq_model.specs.machine.Amounts.{Ram, Caps, amount}
-use Rattle.gq_model.specs.machine.Program.{Own, Shared, Block, Slice, Space, Byte, Subtract, Multiply, Instruction, Say, Out, Drop, Push, Modulo, Index}
-use Rattle.gq_model.specs.machine.Program.{Combine, Make, MakePool, Load, Store, Free, Take, Give, Open, Upgrade, Call, Close, Statements, Done, Do, Loop}
+use Rattle.gq_model.specs.machine.Program.{Own, Shared, Block, Slice, Space, Byte, Subtract, Multiply, Instruction, Say, Out}
+use Rattle.gq_model.specs.machine.Program.{Make, MakePool, Load, Store, Free, Take, Give, Open, Upgrade, Call, Close, Statements, Done, Do, Loop}
 use Rattle.gq_model.specs.machine.Program.{Section, Main, Opening, Upgrading, Calling, Closing, Program}
 use Rattle.gq_model.specs.machine.Scenario.{Scenario, Interface, Interfaces, Route, Target, Any_child, Parent, As_text, LeafNode, InitNode, Nodes, End}
 use Rattle.gq_model.specs.machine.Scenario.{Leaf_node, Init_node}
+use Rattle.gq_model.proofs.Words.{drop, combine, push, modulo, index}
+use Rattle.gq_model.specs.machine.Run.{Turns, Acts}
 
 -- PROGRAMS
 
@@ -27,7 +29,8 @@ main_of is = program ((Main, all_do is) ∷ [])
 -- NODES
 
 abbrev pub leaf : List ℕ → ℕ → Program → LeafNode
-leaf name ram p = record { name = name; quantum = amount ram 0; source = As_text []; program = p; provides = None; after = None; routes = None }
+leaf name ram p =
+    record { name = name; quantum = amount ram 0; source = As_text []; program = p; provides = None; after = None; inputs = []; routes = None }
 
 abbrev pub server : List ℕ → ℕ → List ℕ → List (Section × Statements) → LeafNode
 server name ram service sections = record (leaf name ram (program sections)) { provides = Some service }
@@ -72,14 +75,14 @@ abbrev pub echo : Interface
 echo = record { arg = 1000; reply = 2000; need = amount 8192 0; object = 100; upgrades = []; buffer = 0; counted = Ram ∷ [] }
 
 abbrev pub echo_sections : List (Section × Statements)
-echo_sections = (Main, Done) ∷ (Opening, Done) ∷ (Calling 0, all_do (Push 2 ∷ Combine Multiply ∷ [])) ∷ (Closing 0, Done) ∷ []
+echo_sections = (Main, Done) ∷ (Opening, Done) ∷ (Calling 0, all_do (push 2 ∷ combine Multiply ∷ [])) ∷ (Closing 0, Done) ∷ []
 
 abbrev pub echo_server : LeafNode
 echo_server = server (codes "srv") 4096 (codes "echo") echo_sections
 
 -- a client that gives n and asks for the double of v
 abbrev pub asking : List ℕ → ℕ → ℕ → List Instruction
-asking service n v = Open (Own 0) service n ∷ Push v ∷ Call (Own 0) ∷ Out ∷ Close (Own 0) ∷ []
+asking service n v = Open (Own 0) service n ∷ push v ∷ Call (Own 0) ∷ Out ∷ Close (Own 0) ∷ []
 
 abbrev pub echo_client : List ℕ → ℕ → ℕ → ℕ → LeafNode
 echo_client name ram n v = leaf name ram (main_of (asking (codes "echo") n v))
@@ -88,8 +91,8 @@ echo_client name ram n v = leaf name ram (main_of (asking (codes "echo") n v))
 abbrev pub echo_of : ℕ → Scenario
 echo_of n = served ((codes "echo", echo) ∷ []) (leaves (echo_server ∷ echo_client (codes "cli") 16384 n 21 ∷ []))
 
-abbrev pub echo_turns : List (ℕ × ℕ)
-echo_turns = (0, 1) ∷ (1, 1) ∷ (0, 2) ∷ (1, 2) ∷ (0, 4) ∷ (1, 2) ∷ (0, 2) ∷ (1, 1) ∷ []
+abbrev pub echo_turns : Acts
+echo_turns = (0, Turns 1) ∷ (1, Turns 1) ∷ (0, Turns 2) ∷ (1, Turns 2) ∷ (0, Turns 4) ∷ (1, Turns 2) ∷ (0, Turns 2) ∷ (1, Turns 1) ∷ []
 
 -- two clients
 abbrev pub echo_twice : Scenario
@@ -131,8 +134,8 @@ log_server opening =
 
 abbrev pub log_client : LeafNode
 log_client =
-    leaf (codes "cli") 12288 (main_of (Open (Own 0) (codes "log") 8192 ∷ Push 3 ∷ Push 77 ∷ Store Byte (Own 0) ∷ Push 3 ∷ Call (Own 0) ∷ Out
-    ∷ Upgrade (Own 0) 4096 ∷ Push 3 ∷ Call (Own 0) ∷ Out ∷ Close (Own 0) ∷ []))
+    leaf (codes "cli") 12288 (main_of (Open (Own 0) (codes "log") 8192 ∷ push 3 ∷ push 77 ∷ Store Byte (Own 0) ∷ push 3 ∷ Call (Own 0) ∷ Out
+    ∷ Upgrade (Own 0) 4096 ∷ push 3 ∷ Call (Own 0) ∷ Out ∷ Close (Own 0) ∷ []))
 
 -- a server whose opening is this
 abbrev pub log_of : List Instruction → Scenario
@@ -189,9 +192,9 @@ two_caps =
 -- entries taken, given back and taken in another order
 abbrev pub pool_main : Statements
 pool_main =
-    Do (MakePool (Own 0) 16 1024) (Loop 256 (Do (Index 0) (Do (Take (Own 0)) (Do Drop Done))) (Do (Push 256) (Do (Take (Own 0)) (Do Drop
-    (Loop 256 (Do (Index 0) (Do (Give (Own 0)) (Do Drop Done)))
-    (Loop 256 (Do (Push 255) (Do (Index 0) (Do (Combine Subtract) (Do (Modulo 1024) (Do (Take (Own 0)) (Do Drop Done)))))) Done))))))
+    Do (MakePool (Own 0) 16 1024) (Loop 256 (Do (index 0) (Do (Take (Own 0)) (Do drop Done))) (Do (push 256) (Do (Take (Own 0)) (Do drop
+    (Loop 256 (Do (index 0) (Do (Give (Own 0)) (Do drop Done)))
+    (Loop 256 (Do (push 255) (Do (index 0) (Do (combine Subtract) (Do (modulo 1024) (Do (Take (Own 0)) (Do drop Done)))))) Done))))))
 
 abbrev pub pooled : Scenario
 pooled = scenario 65536 (leaves (leaf (codes "a") 20480 (program ((Main, pool_main) ∷ [])) ∷ []))

@@ -8,7 +8,7 @@ use Rattle.gq_model.specs.machine.World.{Session, Handling, Leaf, World, session
 use Rattle.gq_model.specs.machine.Sums.{bank_price, to_leaf, held, lent, received, quota, paid}
 use Rattle.gq_model.specs.machine.Doing.{Event}
 use Rattle.gq_model.specs.machine.Step.{all_empty, next}
-use Rattle.gq_model.specs.machine.Run.{run}
+use Rattle.gq_model.specs.machine.Run.{Turns, Sets, Acts, run}
 use Rattle.gq_model.specs.machine.Accounts.{LeafAccount, Account, accounts, account_lines, whole}
 use Rattle.gq_model.specs.rules.Verdict.{greatest_cost}
 use Rattle.gq_model.specs.rules.Accept.{Budget, budget, budgets, step_budgets}
@@ -135,12 +135,15 @@ pub record IsUpheld (s : Scenario) (w : World) : Type 0 where
   pub closes : ClosesWhole s w
   pub ends : EndsSessions s w
 
--- these turns came to no wrong step, the world after them and each on the way is such a one, and the text is whole: all lines, then the accounts
-pub record Upholds (s : Scenario) (turns : List (ℕ × ℕ)) : Type 0 where
+-- these turns and settings came to no wrong step, the world after them and each on the way is such a one, and the text is whole: all lines, then the accounts
+pub record Upholds (s : Scenario) (turns : Acts) : Type 0 where
   pub never_wrong : (run (system s) turns).wrong ≡ None
   pub in_world : IsUpheld s (run (system s) turns).world
   -- and so is each world on the way, after n of the steps of any of these turns
-  pub on_the_way : (before after : List (ℕ × ℕ)) (x n m : ℕ) → turns ≡ before ++ (x, n + m) ∷ after
-      → IsUpheld s (run (system s) (before ++ (x, n) ∷ [])).world
+  pub on_the_way : (before after : Acts) (x n m : ℕ) → turns ≡ before ++ (x, Turns (n + m)) ∷ after
+      → IsUpheld s (run (system s) (before ++ (x, Turns n) ∷ [])).world
+  -- and the one after any of these settings
+  pub after_settings : (before after : Acts) (x i n : ℕ) → turns ≡ before ++ (x, Sets i n) ∷ after
+      → IsUpheld s (run (system s) (before ++ (x, Sets i n) ∷ [])).world
   pub writes_all : whole s (step_budgets (budgets s)) turns ≡ (run (system s) turns).text
       ++ account_lines s.version (accounts s (run (system s) turns).world (step_budgets (budgets s)))

@@ -8,6 +8,7 @@ pub mod Prices
 pub mod Scenario
 pub mod Routes
 pub mod World
+pub mod Operate
 pub mod Sums
 pub mod Doing
 pub mod Memory

@@ -46,6 +46,7 @@ pub enum Rule {
     MissingSection,
     BudgetTooLarge,
     OverCaps,
+    NoInput,
 }
 
 impl Rule {
@@ -72,6 +73,7 @@ impl Rule {
             Rule::MissingSection => "V16 MissingSection",
             Rule::BudgetTooLarge => "V17 BudgetTooLarge",
             Rule::OverCaps => "V18 OverCaps",
+            Rule::NoInput => "V19 NoInput",
         }
     }
 }
@@ -187,6 +189,10 @@ pub enum TurnFault {
     NoSuchComponent,
     /// More than 1,000,000 turns, or a text of more than 16 MiB.
     TooMany,
+    /// An input that the leaf has not.
+    NoInput,
+    /// A number above the greatest value of an input.
+    InputTooLarge,
 }
 
 impl TurnFault {
@@ -198,6 +204,8 @@ impl TurnFault {
             TurnFault::BadLine => "U1 BadLine",
             TurnFault::NoSuchComponent => "U2 NoSuchComponent",
             TurnFault::TooMany => "U3 TooMany",
+            TurnFault::NoInput => "U4 NoInput",
+            TurnFault::InputTooLarge => "U5 InputTooLarge",
         }
     }
 }

@@ -10,8 +10,10 @@
 //! ```
 #![tactic(auto)]
 
+pub mod act;
 pub mod fault;
 pub mod letters;
 pub mod limits;
 pub mod phase;
 pub mod program;
+pub mod statements;

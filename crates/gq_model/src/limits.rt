@@ -27,6 +27,9 @@ pub const OPERANDS: usize = 16;
 /// The locals of a leaf.
 pub const LOCALS: usize = 8;
 
+/// The inputs of a leaf.
+pub const INPUTS: usize = 8;
+
 /// The slots of a leaf.
 pub const OWN_SLOTS: usize = 64;
 

@@ -200,20 +200,50 @@ impl Name {
     }
 }
 
+/// A statement on operands alone that takes no number.
+#[derive(Clone, Copy, Debug, PartialEq, Eq)]
+pub enum Bare {
+    /// Takes the top operand off.
+    Drop,
+    /// Puts the top operand on top once more.
+    Dup,
+    /// Makes one number of the two on top.
+    Combine(Operator),
+}
+
+/// A statement on operands alone that takes a number.
+#[derive(Clone, Copy, Debug, PartialEq, Eq)]
+pub enum WithNumber {
+    /// Puts the number on top.
+    Push,
+    /// Divides the top operand by the number.
+    Divide,
+    /// Puts the remainder of the top operand by the number in its place.
+    Modulo,
+    /// Puts the local of this number on top.
+    Get,
+    /// Takes the top operand off as the new value of the local of this number.
+    Set,
+    /// Puts the round of an open loop on top, which has so many loops inside.
+    Index,
+    /// Puts the value of the input of this number on top.
+    Input,
+}
+
+/// A statement on operands alone: it reads and writes the operands and the locals of its leaf, and reads the rounds of its open
+/// loops and its inputs. It touches no memory and no session, and shows no line.
+#[derive(Clone, Copy, Debug, PartialEq, Eq)]
+pub enum OperandStatement {
+    Plain(Bare),
+    Numbered(WithNumber, u32),
+}
+
 /// A statement with no statement in it.
 #[derive(Drop)]
 pub enum Instruction {
     Say(Text),
     Out,
-    Drop,
-    Dup,
-    Push(u32),
-    Divide(u32),
-    Modulo(u32),
-    Get(u8),
-    Set(u8),
-    Index(u8),
-    Combine(Operator),
+    Operands(OperandStatement),
     Make(Form, Place, u32),
     MakePool(Place, u16, u16),
     Load(Width, Place),

@@ -9,7 +9,7 @@ use Rattle.gq_tariff.specs.declared.amount.Amount.{Amount}
 use Rattle.gq_ram.specs.Entries.{no_amount}
 use Rattle.gq_ram.specs.Ledgers.{caps_where}
 use Rattle.gq_model.specs.machine.Accounts.{handed_to}
-use Rattle.gq_model.specs.machine.Amounts.{Resource, Ram, Caps, part}
+use Rattle.gq_model.specs.machine.Amounts.{Resource, Ram, Caps, part, counts_caps}
 use Rattle.gq_model.specs.machine.Routes.{numbered}
 use Rattle.gq_model.specs.machine.Scenario.{LeafNode, Nodes, End, Leaf_node, Init_node, Level, Scenario, Component, components, system}
 use Rattle.gq_model.specs.machine.World.{World, first_phase, start_leaves, start}
@@ -60,7 +60,7 @@ start_handed (b ∷ cs) (suc x) c q e = start_handed cs x c q e
 -- the amounts of a version that counts a resource, or of one that does not
 abbrev pub Counts : Resource → ℕ → Type 0
 Counts Ram version = Unit {0}
-Counts Caps version = (version == 2) ≡ true
+Counts Caps version = (counts_caps version) ≡ true
 
 pub given_part : (r : Resource) (version : ℕ) (q : Amount) → Counts r version → part r (given_in version q) ≡ part r q
 given_part Ram version q counts = refl
@@ -165,7 +165,7 @@ module _ (s : Scenario) (ps : List ℕ) (ns : List Node) (xs os : List ℕ) (p :
           let count = p.count in
           let row = get_within rows i (omega (arith, less, count)) in
           ap (λ (a : Amount). a.caps) (p.quanta i row.0 row.1)
-          ∙ ap (λ b. cond b row.0.quantum.caps 0) (is_uncounted (s.version == 2) s.total.caps none)
+          ∙ ap (λ b. cond b row.0.quantum.caps 0) (is_uncounted (counts_caps s.version) s.total.caps none)
 
   module _ (r : Resource) (counts : Counts r s.version) where
     abbrev first : World
@@ -200,9 +200,9 @@ module _ (s : Scenario) (ps : List ℕ) (ns : List Node) (xs os : List ℕ) (p :
         omega (arith, e, le, same)
 
   fits_caps : IsResolved s → (i : ℕ) → i < length ps → spent (λ n. n.caps) (tree_of ps) (map handed ns) i ≤ (handed (node_at ns i)).caps
-  fits_caps resolved i less = elim (cases_Bool (s.version == 2)) [ inl counted ↦ fits Caps counted resolved i less | inr not ↦ none not ]
+  fits_caps resolved i less = elim (cases_Bool (counts_caps s.version)) [ inl counted ↦ fits Caps counted resolved i less | inr not ↦ none not ]
     where
-      none : (s.version == 2) ≡ false → spent (λ n. n.caps) (tree_of ps) (map handed ns) i ≤ (handed (node_at ns i)).caps
+      none : (counts_caps s.version) ≡ false → spent (λ n. n.caps) (tree_of ps) (map handed ns) i ≤ (handed (node_at ns i)).caps
       none not =
           let e = none_spent (λ n. n.caps) i (tail ps) (tail (map handed ns)) (none_below ns (uncounted (ap (λ b. cond b (Some s.total.caps) None) not))) in
           omega (arith, e)
@@ -276,7 +276,7 @@ module _ (s : Scenario) (ps : List ℕ) (ns : List Node) (xs os : List ℕ) (p :
             let caps = ap (λ (a : Amount). a.caps) quantum in
             let other_caps = ap (λ (a : Amount). a.caps) other_quantum in
             let ram_less = b.ram in
-            let less = caps_less (s.version == 2) c.node.quantum.caps b.before.quantum.caps b.caps in
+            let less = caps_less (counts_caps s.version) c.node.quantum.caps b.before.quantum.caps b.caps in
             record {
               below = not_root s i own.row own.under row_there own.parent;
               before = not_root s j other.row own.under other_there other.parent;
@@ -318,7 +318,7 @@ module _ (s : Scenario) (ps : List ℕ) (ns : List Node) (xs os : List ℕ) (p :
         some = omega (arith, count, all);
         count = p.count ∙ sym count;
         preorder = λ i pos less. let u = up_of i pos less in let is = u.is in let before = u.less in omega (arith, is, before);
-        whole = p.quanta 0 root refl ∙ ap (λ n. record { ram = s.total.ram; caps = n }) (whole_caps (s.version == 2) s.total.caps);
+        whole = p.quanta 0 root refl ∙ ap (λ n. record { ram = s.total.ram; caps = n }) (whole_caps (counts_caps s.version) s.total.caps);
         root = p.inits 0 root refl refl;
         inits = λ j pos less. let u = up_of j pos less in ap (λ i. (node_at ns i).stage) u.is ∙ p.inits u.place u.up u.there u.init;
         fits = λ i less. fits Ram tt ready.resolved i less;

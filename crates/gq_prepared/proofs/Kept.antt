@@ -17,6 +17,7 @@ use Rattle.gq_trade.specs.Trades.{Trades}
 use Rattle.gq_prepared.specs.Nodes.{AreNodesOf, caps_of, given_in}
 use Rattle.gq_prepared.specs.Plans.{IsPlanOf, first_stage}
 use Rattle.gq_prepared.proofs.Spots.{spot_of}
+use Rattle.gq_model.specs.machine.Amounts.{counts_caps}
 
 price_in : (b : Bool) (caps : ℕ) → price_where (cond b (Some caps) None) ≡ cond b 1 0
 price_in true caps = refl
@@ -30,7 +31,7 @@ first_kept s ps ns xs os n w p f =
       parents = f.parents ∙ p.parents;
       leaves = f.leaves ∙ p.leaves;
       objects = f.objects ∙ p.objects;
-      price = ap (λ (l : Ledger). l.price) f.ledger ∙ price_in (s.version == 2) s.total.caps;
+      price = ap (λ (l : Ledger). l.price) f.ledger ∙ price_in (counts_caps s.version) s.total.caps;
       count = ap length f.nodes ∙ p.count;
       quanta = λ i row e. ap (λ (n : Node). n.quantum) (moved i) ∙ p.quanta i row e;
       inits = λ i row e is. ap (λ (n : Node). n.stage) (moved i) ∙ p.inits i row e is;
@@ -62,7 +63,7 @@ none_given label routes siblings above (Init_node node children rest) h =
 
 given_whole : (s : Scenario) (x : ℕ) (c : Component) → IsReady s → slice_get (components s) x ≡ Some c → given_in s.version c.node.quantum ≡ c.node.quantum
 given_whole s x c ready e =
-    ap (λ n. record { ram = c.node.quantum.ram; caps = n }) (elim (cases_Bool (s.version == 2)) [
+    ap (λ n. record { ram = c.node.quantum.ram; caps = n }) (elim (cases_Bool (counts_caps s.version)) [
       | inl counted ↦ ap (λ b. cond b c.node.quantum.caps 0) counted
       | inr not ↦
           ap (λ b. cond b c.node.quantum.caps 0) not

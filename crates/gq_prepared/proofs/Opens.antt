@@ -122,7 +122,7 @@ pub opened : IsStatedLaw → (c : Component) (code : ProgramCode) → IsCodeOfPr
 opened law c code is section ops body p number at name n found has stands long = by (any_of (text_eq name) (services c)) refl
   where
     core : Core
-    core = record { position = p; operands = []; locals = []; rounds = [] }
+    core = record { position = p; operands = []; locals = []; rounds = []; inputs = [] }
 
     code_of : IsCodeOf ops code.longs body
     code_of = code_found ops code.longs body (section_in section c.node.program.sections) has

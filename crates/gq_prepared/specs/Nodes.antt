@@ -8,6 +8,7 @@ use Rattle.gq_resolve.specs.NodeTables.{NodeRow, node_rows, number_named}
 use Rattle.gq_trade.specs.declared.node.Stage.TheVariants.{Live}
 use Rattle.gq_trade.specs.Balances.{node_at}
 use Rattle.gq_trade.specs.Trades.{Trades}
+use Rattle.gq_model.specs.machine.Amounts.{counts_caps}
 
 abbrev pub or_zero : Option ℕ → ℕ
 or_zero None = 0
@@ -23,11 +24,11 @@ objects_of s = map (λ e. e.1.object) s.interfaces
 
 -- the capabilities that there are, where they are counted
 abbrev pub caps_of : Scenario → Option ℕ
-caps_of s = if s.version == 2 then Some s.total.caps else None
+caps_of s = if counts_caps s.version then Some s.total.caps else None
 
 -- what a node is given, of what is counted
 abbrev pub given_in : ℕ → Amount → Amount
-given_in version a = record { ram = a.ram; caps = if version == 2 then a.caps else 0 }
+given_in version a = record { ram = a.ram; caps = if counts_caps version then a.caps else 0 }
 
 -- the place of the leaf that a leaf starts after, among the nodes
 abbrev pub node_after : Scenario → Component → Option ℕ
@@ -39,7 +40,7 @@ pub record AreNodesOf (s : Scenario) (w : Trades) : Type 0 where
   pub parents : w.trading.tree.parents ≡ parents_of s
   pub leaves : w.trading.leaves ≡ leaf_places 1 s.nodes
   pub objects : w.trading.objects ≡ objects_of s
-  pub price : w.trading.memory.ledger.price ≡ (if s.version == 2 then 1 else 0)
+  pub price : w.trading.memory.ledger.price ≡ (if counts_caps s.version then 1 else 0)
   pub count : length w.nodes ≡ length (node_rows s)
   pub quanta : (n : ℕ) (r : NodeRow) → slice_get (node_rows s) n ≡ Some r → (node_at w.nodes n).quantum ≡ given_in s.version r.quantum
   pub inits : (n : ℕ) (r : NodeRow) → slice_get (node_rows s) n ≡ Some r → r.leaf ≡ None → (node_at w.nodes n).stage ≡ Live

@@ -43,15 +43,14 @@ fn parents_of(alloc: Global, table: &NodeTable) -> Result<Vec<usize>, AllocError
 fn given_in(version: Version, quantum: Quantum) -> Amount
     ensures { result ≡ given_in (version_number version) quantum }
 {
-    match version {
-        Version::One => Amount {
-            ram: quantum.ram(),
-            caps: 0,
-        },
-        Version::Two => Amount {
-            ram: quantum.ram(),
-            caps: quantum.caps() as u64,
-        },
+    let caps = if version.counts_caps() {
+        quantum.caps() as u64
+    } else {
+        0
+    };
+    Amount {
+        ram: quantum.ram(),
+        caps,
     }
 }
 

@@ -1,7 +1,7 @@
 // The accounts of the definition are the accounts that are stored.
-ghost use Rattle.std.specs.Prelude.{◌≡◌, ℕ, List, Some, slice_get};
+ghost use Rattle.std.specs.Prelude.{◌≡◌, ℕ, List, Some, slice_get, true};
 ghost use Rattle.gq_model.specs.machine.Accounts.{Account, accounts, amount_in};
-ghost use Rattle.gq_model.specs.machine.Amounts.{Ram, Caps};
+ghost use Rattle.gq_model.specs.machine.Amounts.{Ram, Caps, counts_caps};
 ghost use Rattle.gq_model.specs.machine.Scenario.{Scenario, system};
 ghost use Rattle.gq_model.specs.machine.Sums.{held};
 ghost use Rattle.gq_model.specs.machine.World as world;
@@ -23,6 +23,6 @@ pub fn stored_accounts()
         → AreNodesOf s t.trades → slice_get (world_seen f t).leaves x ≡ Some leaf
         → held Ram (world_seen f t) x leaf ≡ (its_account t.trades.trading x).used.ram }
     ensures caps { (s : Scenario) (f : Frame) (t : Slots) (x : ℕ) (leaf : world.Leaf) → IsReady s → AreLawful t → IsOf (system s) f t
-        → AreNodesOf s t.trades → slice_get (world_seen f t).leaves x ≡ Some leaf → s.version ≡ 2
+        → AreNodesOf s t.trades → slice_get (world_seen f t).leaves x ≡ Some leaf → counts_caps s.version ≡ true
         → held Caps (world_seen f t) x leaf ≡ (its_account t.trades.trading x).used.caps }
 {}

@@ -4,4 +4,4 @@ mod Noted
 pub mod Rising
 pub mod Skipped
 pub mod Unbounded
-mod Entries
+pub mod Entries

@@ -9,7 +9,7 @@ use Rattle.gq_model.specs.machine.Scenario.{Interface, Interfaces}
 use Rattle.gq_program.specs.declared.interface.Counts.{Counts}
 use Rattle.gq_program.specs.declared.interface.Counts.TheVariants.{Nothing, Bytes, BytesAndCaps}
 
--- version 2 alone counts capabilities
+-- versions from 2 on count capabilities
 abbrev pub version_of : Option ℕ → ℕ
 version_of None = 1
 version_of (Some caps) = 2
@@ -18,7 +18,7 @@ abbrev pub or_none : Option ℕ → ℕ
 or_none None = 0
 or_none (Some n) = n
 
--- the interface of these numbers, whose capabilities are given in version 2 alone
+-- the interface of these numbers, whose capabilities are given from version 2 on
 abbrev pub interface_of : ℕ → ℕ → ℕ → Option ℕ → ℕ → List Amount → ℕ → Interface
 interface_of arg reply need caps object upgrades buffer =
     record {

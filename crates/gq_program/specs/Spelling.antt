@@ -3,16 +3,11 @@ use Rattle.std.specs.Prelude.{ℕ, List, [], ◌∷◌, codes, false}
 use Rattle.gq_model.specs.declared.program.Place.{Place}
 use Rattle.gq_model.specs.declared.program.Form.TheVariants.{Block, Slice, Space}
 use Rattle.gq_model.specs.declared.program.Width.TheVariants.{Byte, Word}
-use Rattle.gq_model.specs.declared.program.Operator.{Operator}
-use Rattle.gq_model.specs.declared.program.Operator.TheVariants.{Add, Subtract, Multiply, And, Equal, Less}
+use Rattle.gq_model.specs.declared.program.OperandStatement.TheVariants as operands
 use Rattle.gq_model.specs.declared.program.Instruction.{Instruction}
 use Rattle.gq_model.specs.declared.program.Instruction.TheVariants as program
-use Rattle.gq_model.specs.texts.Operands.{greatest_number, greatest_size}
+use Rattle.gq_model.specs.texts.Operands.{greatest_number, greatest_size, bare_entry, number_entry}
 use Rattle.gq_model.specs.texts.Spelling as model
-use Rattle.gq_program.specs.declared.shapes.Bare.{Bare}
-use Rattle.gq_program.specs.declared.shapes.Bare.TheVariants.{Out, Drop, Dup, Combine}
-use Rattle.gq_program.specs.declared.shapes.WithNumber.{WithNumber}
-use Rattle.gq_program.specs.declared.shapes.WithNumber.TheVariants.{Push, Divide, Modulo, Get, Set, Index}
 use Rattle.gq_program.specs.declared.shapes.WithSlot.{WithSlot}
 use Rattle.gq_program.specs.declared.shapes.WithSlot.TheVariants.{Free, Take, Give, Peek, Poke, Call, Close}
 use Rattle.gq_program.specs.declared.shapes.WithBytes.{WithBytes}
@@ -20,94 +15,7 @@ use Rattle.gq_program.specs.declared.shapes.WithBytes.TheVariants.{Load, Store}
 use Rattle.gq_program.specs.declared.shapes.WithAmount.{WithAmount}
 use Rattle.gq_program.specs.declared.shapes.WithAmount.TheVariants.{Make, Upgrade}
 use Rattle.gq_program.specs.declared.shapes.Shape.{Shape}
-use Rattle.gq_program.specs.declared.shapes.Shape.TheVariants.{Say, Plain, Number, Slot, Bytes, Amount, Pool, Open}
-
--- WITHOUT OPERANDS
-
-abbrev pub operator_word : Operator → List ℕ
-operator_word Add = codes "add"
-operator_word Subtract = codes "sub"
-operator_word Multiply = codes "mul"
-operator_word And = codes "and"
-operator_word Equal = codes "eq"
-operator_word Less = codes "lt"
-
-abbrev pub operator_opcode : Operator → ℕ
-operator_opcode Add = 0x06
-operator_opcode Subtract = 0x07
-operator_opcode Multiply = 0x08
-operator_opcode And = 0x0b
-operator_opcode Equal = 0x0c
-operator_opcode Less = 0x0d
-
-abbrev pub bare_instruction : Bare → Instruction
-bare_instruction Out = program.Out
-bare_instruction Drop = program.Drop
-bare_instruction Dup = program.Dup
-bare_instruction (Combine operator) = program.Combine operator
-
-abbrev pub bare_word : Bare → List ℕ
-bare_word Out = codes "out"
-bare_word Drop = codes "drop"
-bare_word Dup = codes "dup"
-bare_word (Combine operator) = operator_word operator
-
-abbrev pub bare_opcode : Bare → ℕ
-bare_opcode Out = 0x02
-bare_opcode Drop = 0x04
-bare_opcode Dup = 0x05
-bare_opcode (Combine operator) = operator_opcode operator
-
--- WITH A NUMBER
-
-abbrev pub number_instruction : WithNumber → ℕ → Instruction
-number_instruction Push n = program.Push n
-number_instruction Divide n = program.Divide n
-number_instruction Modulo n = program.Modulo n
-number_instruction Get n = program.Get n
-number_instruction Set n = program.Set n
-number_instruction Index n = program.Index n
-
-abbrev pub number_word : WithNumber → List ℕ
-number_word Push = codes "push"
-number_word Divide = codes "div"
-number_word Modulo = codes "mod"
-number_word Get = codes "get"
-number_word Set = codes "set"
-number_word Index = codes "index"
-
-abbrev pub number_opcode : WithNumber → ℕ
-number_opcode Push = 0x03
-number_opcode Divide = 0x09
-number_opcode Modulo = 0x0a
-number_opcode Get = 0x0e
-number_opcode Set = 0x0f
-number_opcode Index = 0x10
-
--- how many bytes of code the number takes
-abbrev pub number_width : WithNumber → ℕ
-number_width Push = 4
-number_width Divide = 4
-number_width Modulo = 4
-number_width Get = 1
-number_width Set = 1
-number_width Index = 1
-
-abbrev pub number_low : WithNumber → ℕ
-number_low Push = 0
-number_low Divide = 1
-number_low Modulo = 1
-number_low Get = 0
-number_low Set = 0
-number_low Index = 0
-
-abbrev pub number_high : WithNumber → ℕ
-number_high Push = greatest_number
-number_high Divide = greatest_number
-number_high Modulo = greatest_number
-number_high Get = 7
-number_high Set = 7
-number_high Index = 3
+use Rattle.gq_program.specs.declared.shapes.Shape.TheVariants.{Say, Out, Plain, Number, Slot, Bytes, Amount, Pool, Open}
 
 -- WITH A SLOT
 
@@ -186,8 +94,9 @@ amount_high Upgrade = greatest_number
 
 abbrev pub word_of : Shape → List ℕ
 word_of Say = codes "say"
-word_of (Plain b) = bare_word b
-word_of (Number k) = number_word k
+word_of Out = codes "out"
+word_of (Plain k) = (bare_entry k).word
+word_of (Number k) = (number_entry k).word
 word_of (Slot k) = slot_word k
 word_of (Bytes k) = bytes_word k
 word_of (Amount k) = amount_word k
@@ -196,8 +105,9 @@ word_of Open = codes "open"
 
 abbrev pub opcode_of : Shape → ℕ
 opcode_of Say = 0x01
-opcode_of (Plain b) = bare_opcode b
-opcode_of (Number k) = number_opcode k
+opcode_of Out = 0x02
+opcode_of (Plain k) = (bare_entry k).opcode
+opcode_of (Number k) = (number_entry k).opcode
 opcode_of (Slot k) = slot_opcode k
 opcode_of (Bytes k) = bytes_opcode k
 opcode_of (Amount k) = amount_opcode k
@@ -207,8 +117,10 @@ opcode_of Open = 0x30
 -- the operands that are to come, and the instruction that they make
 abbrev pub shape_of : Shape → model.Shape
 shape_of Say = model.Said (λ text. model.Made (program.Say text))
-shape_of (Plain b) = model.Made (bare_instruction b)
-shape_of (Number k) = model.number (number_width k) (number_low k) (number_high k) (number_instruction k)
+shape_of Out = model.Made program.Out
+shape_of (Plain k) = model.Made (program.Operands (operands.Plain k))
+shape_of (Number k) =
+    model.number (number_entry k).width (number_entry k).low (number_entry k).high (λ n. program.Operands (operands.Numbered k n))
 shape_of (Slot k) = model.slot (slot_instruction k)
 shape_of (Bytes k) = model.bytes (bytes_instruction k)
 shape_of (Amount k) = model.slot_and (amount_low k) (amount_high k) (amount_instruction k)

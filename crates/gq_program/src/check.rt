@@ -12,7 +12,7 @@ use gq_model::letters::{is_name, is_said};
 use gq_model::limits::{
     GREATEST_DEPTH, GREATEST_SIZE, GREATEST_STATEMENTS, LOCALS, OWN_SLOTS, SESSION_SLOTS,
 };
-use gq_model::program::{Instruction, Place, Section};
+use gq_model::program::{Instruction, OperandStatement, Place, Section};
 use gq_tariff::price::GREATEST_PLACE;
 
 /// Whether a slot is one of the 64 own ones, or of the 8 of a session.
@@ -41,16 +41,12 @@ fn in_range(instruction: &Instruction) -> bool
     ensures { result ≡ all_of in_range (operands instruction.now) }
 {
     match instruction {
-        Instruction::Out | Instruction::Drop | Instruction::Dup | Instruction::Combine(_) => true,
+        Instruction::Out | Instruction::Operands(OperandStatement::Plain(_)) => true,
         Instruction::Say(text) => is_said(text.as_bytes()),
-        Instruction::Push(number) => {
-            // Any number of 32 bits.
-            let _number = *number;
-            true
+        Instruction::Operands(OperandStatement::Numbered(statement, number)) => {
+            let entry = statement.entry();
+            entry.low <= *number && *number <= entry.high
         }
-        Instruction::Divide(number) | Instruction::Modulo(number) => *number >= 1,
-        Instruction::Get(local) | Instruction::Set(local) => usize::from(*local) < LOCALS,
-        Instruction::Index(depth) => usize::from(*depth) < GREATEST_DEPTH,
         Instruction::Make(_, place, size) => is_slot(*place)
             && 1 <= *size
             && *size <= GREATEST_SIZE,

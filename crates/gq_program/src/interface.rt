@@ -67,7 +67,7 @@ pub enum Counts {
     Nothing,
     /// Bytes alone, as in version 1.
     Bytes,
-    /// Bytes and capabilities, as in version 2.
+    /// Bytes and capabilities, as from version 2 on.
     BytesAndCaps,
 }
 
@@ -98,8 +98,8 @@ impl Model for Interface {
 }
 
 impl Interface {
-    /// An interface without object, upgrades and buffer: the greatest argument and reply of a call, and the bytes and, in version 2
-    /// alone, the capabilities that a session needs.
+    /// An interface without object, upgrades and buffer. It has the greatest argument and reply of a call, and what a session needs:
+    /// bytes and, from version 2 on, capabilities.
     pub fn new(arg: u32, reply: u32, need: u32, need_caps: Option<u32>) -> Interface
         requires { or_none need_caps ≤ 65536 }
         ensures { result ≡ interface_of arg reply need need_caps 0 [] 0 }

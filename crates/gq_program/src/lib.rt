@@ -1,11 +1,11 @@
 //! Programs as trees: statements, the table of how each is spelled, and the interfaces that programs are written for.
 //!
 //! ```rust
-//! use gq_program::{Body, Instruction, Program, Section, Statement};
+//! use gq_program::{Body, Instruction, Program, Section, Statement, WithNumber};
 //!
 //! // The program that says 7: `main`, `push 7`, `out`, `end`.
 //! let mut body = Body::new(alloc);
-//! body.push(Statement::Plain(Instruction::Push(7)))?;
+//! body.push(Statement::Plain(WithNumber::Push.instruction(7)))?;
 //! body.push(Statement::Plain(Instruction::Out))?;
 //! let mut sections = Vec::new(alloc);
 //! sections.push((Section::Main, body))?;
@@ -35,10 +35,11 @@ pub mod shapes;
 pub mod spare;
 pub mod spelling;
 
-pub use gq_model::program::{Form, Instruction, Name, Operator, Place, Section, Text, Width};
+pub use gq_model::program::{
+    Bare, Form, Instruction, Name, OperandStatement, Operator, Place, Section, Text, Width,
+    WithNumber,
+};
 pub use interface::{Counts, Interface, Interfaces, Upgrade};
 pub use program::{Body, Program, Statement};
-pub use shapes::{
-    Bare, Shape, WithAmount, WithBytes, WithNumber, WithSlot, shape_of_opcode, shape_of_word,
-};
+pub use shapes::{Shape, WithAmount, WithBytes, WithSlot, shape_of_opcode, shape_of_word};
 pub use spare::Spare;

@@ -1,35 +1,16 @@
 // How the statements but `if` and `loop` are spelled: one table, by the shape of their operands.
-ghost use Rattle.std.specs.Prelude.{◌≡◌, ◌≤◌, option_map};
+ghost use Rattle.std.specs.Prelude.{◌≡◌, option_map};
 ghost use Rattle.gq_model.specs.texts.Operands.{opcode};
 ghost use Rattle.gq_model.specs.texts.Spelling.{spellings, shape_of_word, shape_of_opcode};
-ghost use Rattle.gq_program.specs.Spelling.{operator_word, operator_opcode, bare_instruction, bare_word, bare_opcode, number_instruction};
-ghost use Rattle.gq_program.specs.Spelling.{number_word, number_opcode, number_width, number_low, number_high, slot_instruction, slot_word};
-ghost use Rattle.gq_program.specs.Spelling.{slot_opcode, bytes_instruction, bytes_word, bytes_opcode, amount_instruction, amount_word, amount_opcode};
-ghost use Rattle.gq_program.specs.Spelling.{amount_low, amount_high, shape_of, word_of, opcode_of, spellings_of};
+ghost use Rattle.gq_program.specs.Spelling.{slot_instruction, slot_word, slot_opcode, bytes_instruction, bytes_word, bytes_opcode};
+ghost use Rattle.gq_program.specs.Spelling.{amount_instruction, amount_word, amount_opcode, amount_low, amount_high};
+ghost use Rattle.gq_program.specs.Spelling.{shape_of, word_of, opcode_of, spellings_of};
 
 pub use crate::spelling::same_text;
-use gq_model::limits::{GREATEST_DEPTH, GREATEST_SIZE, LOCALS};
-use gq_model::program::{Form, Instruction, Operator, Place, Width};
-
-/// A statement without operands.
-#[derive(Clone, Copy)]
-pub enum Bare {
-    Out,
-    Drop,
-    Dup,
-    Combine(Operator),
-}
-
-/// A statement with a number.
-#[derive(Clone, Copy)]
-pub enum WithNumber {
-    Push,
-    Divide,
-    Modulo,
-    Get,
-    Set,
-    Index,
-}
+use gq_model::limits::GREATEST_SIZE;
+use gq_model::program::{
+    Bare, Form, Instruction, OperandStatement, Operator, Place, Width, WithNumber,
+};
 
 /// A statement with a slot.
 #[derive(Clone, Copy)]
@@ -62,9 +43,11 @@ pub enum WithAmount {
 pub enum Shape {
     /// A text to say.
     Say,
-    /// Nothing.
+    /// Nothing: it shows the top operand.
+    Out,
+    /// Nothing: it is on operands alone.
     Plain(Bare),
-    /// A number.
+    /// A number: it is on operands alone.
     Number(WithNumber),
     /// A slot.
     Slot(WithSlot),
@@ -79,9 +62,9 @@ pub enum Shape {
 }
 
 /// The table of the statements, in the order of their numbers in code.
-pub const SHAPES: [Shape; 33] = [
+pub const SHAPES: [Shape; 34] = [
     Shape::Say,
-    Shape::Plain(Bare::Out),
+    Shape::Out,
     Shape::Number(WithNumber::Push),
     Shape::Plain(Bare::Drop),
     Shape::Plain(Bare::Dup),
@@ -96,6 +79,7 @@ pub const SHAPES: [Shape; 33] = [
     Shape::Number(WithNumber::Get),
     Shape::Number(WithNumber::Set),
     Shape::Number(WithNumber::Index),
+    Shape::Number(WithNumber::Input),
     Shape::Amount(WithAmount::Make(Form::Space)),
     Shape::Amount(WithAmount::Make(Form::Slice)),
     Shape::Amount(WithAmount::Make(Form::Block)),
@@ -114,148 +98,6 @@ pub const SHAPES: [Shape; 33] = [
     Shape::Slot(WithSlot::Call),
     Shape::Slot(WithSlot::Close),
 ];
-
-/// The word of an operator in text.
-pub fn operator_word(operator: Operator) -> &'static [u8]
-    ensures { result.now ≡ operator_word operator }
-{
-    match operator {
-        Operator::Add => b"add",
-        Operator::Subtract => b"sub",
-        Operator::Multiply => b"mul",
-        Operator::And => b"and",
-        Operator::Equal => b"eq",
-        Operator::Less => b"lt",
-    }
-}
-
-/// The number of an operator in code.
-pub fn operator_opcode(operator: Operator) -> u8
-    ensures { result ≡ operator_opcode operator }
-{
-    match operator {
-        Operator::Add => 0x06,
-        Operator::Subtract => 0x07,
-        Operator::Multiply => 0x08,
-        Operator::And => 0x0b,
-        Operator::Equal => 0x0c,
-        Operator::Less => 0x0d,
-    }
-}
-
-impl Bare {
-    /// The statement.
-    pub fn instruction(self) -> Instruction
-        ensures { result ≡ bare_instruction self }
-    {
-        match self {
-            Bare::Out => Instruction::Out,
-            Bare::Drop => Instruction::Drop,
-            Bare::Dup => Instruction::Dup,
-            Bare::Combine(operator) => Instruction::Combine(operator),
-        }
-    }
-
-    /// Its word in text.
-    pub fn word(self) -> &'static [u8]
-        ensures { result.now ≡ bare_word self }
-    {
-        match self {
-            Bare::Out => b"out",
-            Bare::Drop => b"drop",
-            Bare::Dup => b"dup",
-            Bare::Combine(operator) => operator_word(operator),
-        }
-    }
-
-    /// Its number in code.
-    pub fn opcode(self) -> u8
-        ensures { result ≡ bare_opcode self }
-    {
-        match self {
-            Bare::Out => 0x02,
-            Bare::Drop => 0x04,
-            Bare::Dup => 0x05,
-            Bare::Combine(operator) => operator_opcode(operator),
-        }
-    }
-}
-
-impl WithNumber {
-    /// The statement with this number.
-    pub fn instruction(self, number: u32) -> Instruction
-        requires { number ≤ number_high self }
-        ensures { result ≡ number_instruction self number }
-    {
-        match self {
-            WithNumber::Push => Instruction::Push(number),
-            WithNumber::Divide => Instruction::Divide(number),
-            WithNumber::Modulo => Instruction::Modulo(number),
-            WithNumber::Get => Instruction::Get(number as u8),
-            WithNumber::Set => Instruction::Set(number as u8),
-            WithNumber::Index => Instruction::Index(number as u8),
-        }
-    }
-
-    /// Its word in text.
-    pub fn word(self) -> &'static [u8]
-        ensures { result.now ≡ number_word self }
-    {
-        match self {
-            WithNumber::Push => b"push",
-            WithNumber::Divide => b"div",
-            WithNumber::Modulo => b"mod",
-            WithNumber::Get => b"get",
-            WithNumber::Set => b"set",
-            WithNumber::Index => b"index",
-        }
-    }
-
-    /// Its number in code.
-    pub fn opcode(self) -> u8
-        ensures { result ≡ number_opcode self }
-    {
-        match self {
-            WithNumber::Push => 0x03,
-            WithNumber::Divide => 0x09,
-            WithNumber::Modulo => 0x0a,
-            WithNumber::Get => 0x0e,
-            WithNumber::Set => 0x0f,
-            WithNumber::Index => 0x10,
-        }
-    }
-
-    /// How many bytes of code the number takes.
-    pub fn width(self) -> usize
-        ensures { result ≡ number_width self }
-    {
-        match self {
-            WithNumber::Push | WithNumber::Divide | WithNumber::Modulo => 4,
-            WithNumber::Get | WithNumber::Set | WithNumber::Index => 1,
-        }
-    }
-
-    /// The least number that it takes.
-    pub fn low(self) -> u32
-        ensures { result ≡ number_low self }
-    {
-        match self {
-            WithNumber::Divide | WithNumber::Modulo => 1,
-            WithNumber::Push | WithNumber::Get | WithNumber::Set | WithNumber::Index => 0,
-        }
-    }
-
-    /// The greatest number that it takes.
-    pub fn high(self) -> u32
-        ensures { result ≡ number_high self }
-    {
-        match self {
-            WithNumber::Push | WithNumber::Divide | WithNumber::Modulo => u32::MAX,
-            WithNumber::Get | WithNumber::Set => LOCALS as u32 - 1,
-            WithNumber::Index => GREATEST_DEPTH as u32 - 1,
-        }
-    }
-}
 
 impl WithSlot {
     /// The statement with this slot.
@@ -403,16 +245,11 @@ impl Shape {
     {
         match instruction {
             Instruction::Say(_) => Shape::Say,
-            Instruction::Out => Shape::Plain(Bare::Out),
-            Instruction::Drop => Shape::Plain(Bare::Drop),
-            Instruction::Dup => Shape::Plain(Bare::Dup),
-            Instruction::Combine(operator) => Shape::Plain(Bare::Combine(*operator)),
-            Instruction::Push(_) => Shape::Number(WithNumber::Push),
-            Instruction::Divide(_) => Shape::Number(WithNumber::Divide),
-            Instruction::Modulo(_) => Shape::Number(WithNumber::Modulo),
-            Instruction::Get(_) => Shape::Number(WithNumber::Get),
-            Instruction::Set(_) => Shape::Number(WithNumber::Set),
-            Instruction::Index(_) => Shape::Number(WithNumber::Index),
+            Instruction::Out => Shape::Out,
+            Instruction::Operands(OperandStatement::Plain(statement)) => Shape::Plain(*statement),
+            Instruction::Operands(OperandStatement::Numbered(statement, _)) => {
+                Shape::Number(*statement)
+            }
             Instruction::Make(form, _, _) => Shape::Amount(WithAmount::Make(*form)),
             Instruction::MakePool(_, _, _) => Shape::Pool,
             Instruction::Free(_) => Shape::Slot(WithSlot::Free),
@@ -435,8 +272,9 @@ impl Shape {
     {
         match self {
             Shape::Say => b"say",
-            Shape::Plain(bare) => bare.word(),
-            Shape::Number(statement) => statement.word(),
+            Shape::Out => b"out",
+            Shape::Plain(statement) => statement.entry().word,
+            Shape::Number(statement) => statement.entry().word,
             Shape::Slot(statement) => statement.word(),
             Shape::Bytes(statement) => statement.word(),
             Shape::Amount(statement) => statement.word(),
@@ -451,8 +289,9 @@ impl Shape {
     {
         match self {
             Shape::Say => 0x01,
-            Shape::Plain(bare) => bare.opcode(),
-            Shape::Number(statement) => statement.opcode(),
+            Shape::Out => 0x02,
+            Shape::Plain(statement) => statement.entry().opcode,
+            Shape::Number(statement) => statement.entry().opcode,
             Shape::Slot(statement) => statement.opcode(),
             Shape::Bytes(statement) => statement.opcode(),
             Shape::Amount(statement) => statement.opcode(),
@@ -497,8 +336,8 @@ fn with_opcode(shapes: &[Shape], opcode: u8) -> Option<Shape>
 fn entry_at(opcode: u8) -> Option<Shape> {
     let before = match opcode {
         0x00..=0x1f => 0x01,
-        0x20..=0x2f => 0x10,
-        _ => 0x13,
+        0x20..=0x2f => 0x0f,
+        _ => 0x12,
     };
     SHAPES
         .get(usize::from(opcode.saturating_sub(before)))

@@ -1,11 +1,10 @@
 -- The lines of statements of a kind as a text that grows at its end.
-use Rattle.std.proofs.Common.{◌≡◌, ◌≢◌, ◌∙◌, ℕ, suc, ◌+◌, ◌<◌, ◌≤◌, Bool, true, false, cond, List, [], ◌∷◌, ◌++◌}
+use Rattle.std.proofs.Common.{◌≡◌, ◌∙◌, ℕ, suc, ◌+◌, ◌<◌, ◌≤◌, Bool, true, false, cond, List, [], ◌∷◌, ◌++◌}
 use Rattle.std.proofs.Common.{map, length, get_or, drop, ap, sym, refl, arith}
 use Rattle.std.proofs.Common.{append_assoc, append-nil}
 use Rattle.std.proofs.lemmas.List.{map-append}
 use Rattle.gq_model.specs.declared.program.Instruction.{Instruction}
 use Rattle.gq_model.specs.declared.program.Section.{Section}
-use Rattle.gq_model.specs.declared.program.Section.TheVariants.{Main, Opening, Upgrading, Calling, Closing}
 use Rattle.gq_model.specs.machine.Program.{Statements, Done, Do, size}
 use Rattle.gq_program.specs.Trees.{tree_of}
 use Rattle.gq_program.specs.declared.program.Statement.{Statement}
@@ -14,7 +13,7 @@ use Rattle.gq_program.proofs.Sizes.{here_is, size_first}
 use Rattle.gq_resolve.proofs.Pushed.{next_is, onto}
 use Rattle.std.specs.Prelude.{sum_by}
 use Rattle.std.proofs.lemmas.List.Sums.{sum_by-cons}
-use Rattle.gq_races.specs.Races.{Stated, found_in, each_stated, stated_in, in_other}
+use Rattle.gq_races.specs.Races.{Stated, found_in, each_stated, stated_in}
 use Rattle.gq_races.specs.Text.{front_of, effect_text, opened_text}
 use Rattle.gq_races.specs.internal.Lines.{effect_line, opened_line}
 use Rattle.gq_views.specs.Listing.{joined}
@@ -101,40 +100,37 @@ module _ (test : Instruction → Bool) (text : ℕ × Instruction → List ℕ) 
 
 -- SECTIONS
 
--- sections of a kind: what a statement's line is behind the front of its section, and with its leaf and section
-module _ (among : Section → Bool) (test : Instruction → Bool) (line : List ℕ → ℕ × Instruction → List ℕ) (text : Stated → List ℕ)
+-- what a statement's line is behind the front of its section, and with its leaf and section
+module _ (test : Section → Instruction → Bool) (line : List ℕ → ℕ × Instruction → List ℕ) (text : Stated → List ℕ)
     (same : (leaf : List ℕ) (section : Section) (c : ℕ × Instruction)
     → line (front_of leaf section) c ≡ text (record { leaf = leaf; section = section; place = c.0; statement = c.1 })) (leaf : List ℕ) where
   each_text : (section : Section) (found : List (ℕ × Instruction)) → map (line (front_of leaf section)) found ≡ map text (each_stated leaf section found)
   each_text section [] = refl
   each_text section (c ∷ found) = λ e. same leaf section c e ∷ each_text section found e
 
-  -- the lines of a section of the kind
-  pub section_lines : (section : Section) (body : Statements) → among section ≡ true → (front t u : List ℕ) → front ≡ front_of leaf section
-      → u ≡ t ++ joined (map (line front) (found_in test 1 body)) → u ≡ t ++ joined (map text (stated_in among test leaf ((section, body) ∷ [])))
-  section_lines section body is front t u e p =
-      let found = found_in test 1 body in
-      let stated = each_stated leaf section found in
+  -- the lines of a section
+  pub section_lines : (section : Section) (body : Statements) (front t u : List ℕ) → front ≡ front_of leaf section
+      → u ≡ t ++ joined (map (line front) (found_in (test section) 1 body)) → u ≡ t ++ joined (map text (stated_in test leaf ((section, body) ∷ [])))
+  section_lines section body front t u e p =
+      let found = found_in (test section) 1 body in
       p
       ∙ (ap (λ f. t ++ joined (map (line f) found)) e
-      ∙ (ap (λ l. t ++ joined l) (each_text section found)
-      ∙ (ap (λ l. t ++ joined (map text l)) (sym (append-nil stated))
-      ∙ ap (λ b. t ++ joined (map text (cond b stated [] ++ []))) (sym is))))
+      ∙ (ap (λ l. t ++ joined l) (each_text section found) ∙ ap (λ l. t ++ joined (map text l)) (sym (append-nil (each_stated leaf section found)))))
 
   module _ (all : List (Section × Statements)) (i : ℕ) (p : Section × Statements) (within : i < length all) (is : p ≡ get_or all i p) where
     abbrev told : List (Section × Statements) → List ℕ
-    told sections = joined (map text (stated_in among test leaf sections))
+    told sections = joined (map text (stated_in test leaf sections))
 
-    stated_here : stated_in among test leaf (drop i all) ≡ stated_in among test leaf (p ∷ []) ++ stated_in among test leaf (drop (i + 1) all)
+    stated_here : stated_in test leaf (drop i all) ≡ stated_in test leaf (p ∷ []) ++ stated_in test leaf (drop (i + 1) all)
     stated_here =
-        ap (stated_in among test leaf) (next_is all i p within is)
-        ∙ ap (λ l. l ++ stated_in among test leaf (drop (i + 1) all)) (sym (append-nil (cond (among p.0) (each_stated leaf p.0 (found_in test 1 p.1)) [])))
+        ap (stated_in test leaf) (next_is all i p within is)
+        ∙ ap (λ l. l ++ stated_in test leaf (drop (i + 1) all)) (sym (append-nil (each_stated leaf p.0 (found_in (test p.0) 1 p.1))))
 
     told_here : told (drop i all) ≡ told (p ∷ []) ++ told (drop (i + 1) all)
     told_here =
         ap (λ l. joined (map text l)) stated_here
-        ∙ (ap joined (map-append text (stated_in among test leaf (p ∷ [])) (stated_in among test leaf (drop (i + 1) all)))
-        ∙ joined_append (map text (stated_in among test leaf (p ∷ []))) (map text (stated_in among test leaf (drop (i + 1) all))))
+        ∙ (ap joined (map-append text (stated_in test leaf (p ∷ [])) (stated_in test leaf (drop (i + 1) all)))
+        ∙ joined_append (map text (stated_in test leaf (p ∷ []))) (map text (stated_in test leaf (drop (i + 1) all))))
 
     pub section_put : (old more whole : List ℕ) → more ≡ old ++ told (p ∷ []) → old ++ told (drop i all) ≡ whole → more ++ told (drop (i + 1) all) ≡ whole
     section_put old more whole put inv = onto old more (told (p ∷ [])) (told (drop (i + 1) all)) (told (drop i all)) whole put told_here inv
@@ -149,13 +145,6 @@ module _ (all : List (Section × Statements)) (i : ℕ) (p : Section × Statemen
 
   pub few_after : (n : ℕ) → sum_by (λ q. size q.1) (drop i all) ≤ n → sum_by (λ q. size q.1) (drop (i + 1) all) ≤ n
   few_after n h = omega (arith, h, counted)
-
-pub not_main : (section : Section) → section ≢ Main → in_other section ≡ true
-not_main Main ne = absurd (ne refl)
-not_main Opening ne = refl
-not_main (Upgrading l) ne = refl
-not_main (Calling l) ne = refl
-not_main (Closing l) ne = refl
 
 -- races and orders, and where sessions are opened
 pub effect_same : (leaf : List ℕ) (section : Section) (c : ℕ × Instruction)

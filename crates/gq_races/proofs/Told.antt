@@ -1,5 +1,5 @@
--- The lines of all leaves that are shared.
-use Rattle.std.proofs.Common.{◌≡◌, ◌∙◌, ℕ, suc, ◌+◌, ◌<◌, Bool, true, false, cond, List, [], ◌++◌}
+-- The lines of all leaves.
+use Rattle.std.proofs.Common.{◌≡◌, ◌∙◌, ℕ, suc, ◌+◌, ◌<◌, Bool, cond, List, [], ◌++◌}
 use Rattle.std.proofs.Common.{map, length, get_or, drop, ap, sym, add-one, refl, append_assoc, append-nil, ◌∷◌, codes}
 use Rattle.gq_model.specs.machine.Scenario.{Component, Scenario, System, components, system}
 use Rattle.std.proofs.Common.{Result, Ok, Err}
@@ -10,8 +10,8 @@ use Rattle.gq_model.specs.declared.program.Instruction.{Instruction}
 use Rattle.gq_model.specs.declared.program.Instruction.TheVariants.{Open}
 use Rattle.gq_model.specs.declared.program.Section.{Section}
 use Rattle.gq_model.specs.machine.Program.{Statements, Done, Do, If, Loop, size}
-use Rattle.gq_races.specs.Races.{Stated, is_shared, found_in, each_stated, stated_in, in_any, opens_with, opened_by_from, later_in}
-use Rattle.gq_races.specs.Text.{effect_text, has_effect, heading, leaf_lines, lines_from, opened_text, place_text, shared_text, word_of}
+use Rattle.gq_races.specs.Races.{Stated, is_shared, found_in, each_stated, stated_in, stated_of, opens_with, opened_by_from, openers}
+use Rattle.gq_races.specs.Text.{effect_text, has_effect, heading, leaf_lines, lines_from, opened_text, place_text, sharing_lines, word_of}
 use Rattle.gq_races.specs.internal.Openers.{opened_among, opens_among}
 use Rattle.gq_races.proofs.Found.{joined_append}
 use Rattle.gq_views.specs.Listing.{instruction_text, joined}
@@ -23,26 +23,16 @@ told system x leaves = joined (lines_from system x leaves)
 -- LEAVES
 
 module _ (system : System) (all : List Component) (x : ℕ) (c : Component) (within : x < length all) (is : c ≡ get_or all x c) where
-  abbrev one : Bool → List (List ℕ)
-  one shared = cond shared (leaf_lines system x c) []
-
   -- the lines of what is left are those of the leaf that stands there and those of what follows
-  here : (shared : Bool) → is_shared system x ≡ shared → told system x (drop x all) ≡ joined (one shared) ++ told system (x + 1) (drop (x + 1) all)
-  here shared e =
-      let rest = lines_from system (suc x) (drop (x + 1) all) in
+  here : told system x (drop x all) ≡ joined (leaf_lines system x c) ++ told system (x + 1) (drop (x + 1) all)
+  here =
       ap (told system x) (next_is all x c within is)
-      ∙ (ap (λ b. joined (one b ++ rest)) e
-      ∙ (joined_append (one shared) rest
-      ∙ ap (λ n. joined (one shared) ++ told system n (drop (x + 1) all)) (sym (add-one x))))
+      ∙ (joined_append (leaf_lines system x c) (lines_from system (suc x) (drop (x + 1) all))
+      ∙ ap (λ n. joined (leaf_lines system x c) ++ told system n (drop (x + 1) all)) (sym (add-one x)))
 
-  pub leaf_put : (old more whole : List ℕ) → is_shared system x ≡ true → more ≡ old ++ joined (leaf_lines system x c)
-      → old ++ told system x (drop x all) ≡ whole
+  pub leaf_put : (old more whole : List ℕ) → more ≡ old ++ joined (leaf_lines system x c) → old ++ told system x (drop x all) ≡ whole
       → more ++ told system (x + 1) (drop (x + 1) all) ≡ whole
-  leaf_put old more whole e put inv = onto old more (joined (leaf_lines system x c)) _ _ whole put (here true e) inv
-
-  pub leaf_passed : (old whole : List ℕ) → is_shared system x ≡ false → old ++ told system x (drop x all) ≡ whole
-      → old ++ told system (x + 1) (drop (x + 1) all) ≡ whole
-  leaf_passed old whole e inv = ap (λ t. old ++ t) (sym (here false e)) ∙ inv
+  leaf_put old more whole put inv = onto old more (joined (leaf_lines system x c)) _ _ whole put here inv
 
 -- where sessions are opened, among the leaves of a scenario
 opens_same : (s : Scenario) (c : Component) (x n : ℕ) (b : Statements)
@@ -58,7 +48,7 @@ opens_same s c x n (If arm other rest) =
 opens_same s c x n (Loop count body rest) = λ e. opens_same s c x (suc n) body e ++ opens_same s c x (suc n + size body) rest e
 
 stated_same : (s : Scenario) (c : Component) (x : ℕ) (leaf : List ℕ) (sections : List (Section × Statements))
-    → stated_in in_any (opens_among (components s) c x) leaf sections ≡ stated_in in_any (opens_with (system s) x c) leaf sections
+    → stated_in (λ section. opens_among (components s) c x) leaf sections ≡ stated_in (λ section. opens_with (system s) x c) leaf sections
 stated_same s c x leaf [] = refl
 stated_same s c x leaf (p ∷ rest) = λ e. each_stated leaf p.0 (opens_same s c x 1 p.1 e) ++ stated_same s c x leaf rest e
 
@@ -67,11 +57,12 @@ openers_from s x [] = refl
 openers_from s x (c ∷ cs) = λ e. stated_same s c x c.label c.node.program.sections e ++ openers_from s x cs e
 
 -- the lines of a leaf, as the code makes them
-pub lines_are : (s : Scenario) (all : List Component) → all ≡ components s → (x : ℕ) (c : Component)
-    → heading (shared_text c ∷ map opened_text (opened_among all x all)) (later_in has_effect c) ≡ leaf_lines (system s) x c
-lines_are s all same x c =
-    ap (λ cs. heading (shared_text c ∷ map opened_text (opened_among cs x cs)) (later_in has_effect c)) same
-    ∙ ap (λ l. heading (shared_text c ∷ map opened_text l) (later_in has_effect c)) (openers_from s x (components s))
+pub lines_are : (s : Scenario) (all : List Component) → all ≡ components s → (x : ℕ) (c : Component) (shared : Bool) → is_shared (system s) x ≡ shared
+    → heading (sharing_lines shared c (opened_among all x all)) (stated_of has_effect shared c) ≡ leaf_lines (system s) x c
+lines_are s all same x c shared is =
+    ap (λ cs. heading (sharing_lines shared c (opened_among cs x cs)) (stated_of has_effect shared c)) same
+    ∙ (ap (λ l. heading (sharing_lines shared c l) (stated_of has_effect shared c)) (openers_from s x (components s))
+    ∙ ap (λ b. heading (sharing_lines b c (openers (system s) x)) (stated_of has_effect b c)) (sym is))
 
 -- a text that is empty is of no statements
 pub none_found : (found : List Stated) → joined (map effect_text found) ≡ [] → found ≡ []
@@ -86,18 +77,13 @@ none_found (r ∷ found) e = absurd (not_nil (word_of r.statement ++ place_text 
 pub heading_none : (lines : List (List ℕ)) (found : List Stated) (t : List ℕ) → joined (map effect_text found) ≡ [] → t ≡ t ++ joined (heading lines found)
 heading_none lines found t e = sym (ap (λ f. t ++ joined (heading lines f)) (none_found found e) ∙ append-nil t)
 
-pub heading_put : (first : List ℕ) (openers : List Stated) (found : List Stated) (t u v w effects : List ℕ) → effects ≡ joined (map effect_text found)
-    → (effects ≡ [] → ⊥) → u ≡ t ++ joined (first ∷ []) → v ≡ u ++ joined (map opened_text openers) → w ≡ v ++ effects
-    → w ≡ t ++ joined (heading (first ∷ map opened_text openers) found)
-heading_put first openers [] t u v w effects is more a b c = absurd (more is)
-heading_put first openers (r ∷ found) t u v w effects is more a b c =
-    let os = map opened_text openers in
+pub heading_put : (lines : List (List ℕ)) (found : List Stated) (t u w effects : List ℕ) → effects ≡ joined (map effect_text found)
+    → (effects ≡ [] → ⊥) → u ≡ t ++ joined lines → w ≡ u ++ effects → w ≡ t ++ joined (heading lines found)
+heading_put lines [] t u w effects is more a b = absurd (more is)
+heading_put lines (r ∷ found) t u w effects is more a b =
     let fs = map effect_text (r ∷ found) in
-    c ∙ (ap (λ v. v ++ effects) (b ∙ ap (λ u. u ++ joined os) a)
-    ∙ (ap (λ l. ((t ++ joined (first ∷ [])) ++ joined os) ++ l) is
-    ∙ (append_assoc (t ++ joined (first ∷ [])) (joined os) (joined fs)
-    ∙ (append_assoc t (joined (first ∷ [])) (joined os ++ joined fs)
-    ∙ ap (λ l. t ++ l) (ap (λ l. joined (first ∷ []) ++ l) (sym (joined_append os fs)) ∙ sym (joined_append (first ∷ []) (os ++ fs)))))))
+    b ∙ (ap (λ u. u ++ effects) a
+    ∙ (ap (λ l. (t ++ joined lines) ++ l) is ∙ (append_assoc t (joined lines) (joined fs) ∙ ap (λ l. t ++ l) (sym (joined_append lines fs)))))
 
 -- a line was put at the end
 pub line_put : (t a f d u v w x : List ℕ) → u ≡ t ++ a → v ≡ u ++ f → w ≡ v ++ d → x ≡ w ++ 10 ∷ [] → x ≡ t ++ (a ++ ((f ++ d) ++ 10 ∷ []))
@@ -115,7 +101,7 @@ module _ (all : List Component) (x i : ℕ) (c : Component) (within : i < length
   opened_here : opened_among all x (drop i all) ≡ opened_among all x (c ∷ []) ++ opened_among all x (drop (i + 1) all)
   opened_here =
       ap (opened_among all x) (next_is all i c within is)
-      ∙ ap (λ l. l ++ opened_among all x (drop (i + 1) all)) (sym (append-nil (stated_in in_any (opens_among all c x) c.label c.node.program.sections)))
+      ∙ ap (λ l. l ++ opened_among all x (drop (i + 1) all)) (sym (append-nil (stated_in (λ section. opens_among all c x) c.label c.node.program.sections)))
 
   lines_here : lines (drop i all) ≡ lines (c ∷ []) ++ lines (drop (i + 1) all)
   lines_here =

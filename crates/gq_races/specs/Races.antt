@@ -1,7 +1,10 @@
--- Leaves whose sections may run for several threads, and the statements by which these threads can tell of one another.
+-- Leaves whose sections may run for several threads, the statements by which these threads can tell of one another, and those that read inputs.
 use Rattle.std.specs.Prelude.{◌≡◌, ℕ, zero, suc, ◌+◌, ◌==◌, if◌then◌else◌, Bool, true, false, ◌&&◌, ◌||◌, not, List, [], ◌∷◌, ◌++◌, length}
 use Rattle.gq_model.specs.declared.program.Instruction.{Instruction}
-use Rattle.gq_model.specs.declared.program.Instruction.TheVariants.{Say, Out, Store, Take, Give, Poke, Call, Make, MakePool, Free, Open, Upgrade, Close}
+use Rattle.gq_model.specs.declared.program.Instruction.TheVariants.{Say, Out, Operands, Store, Take, Give, Poke, Call, Make, MakePool, Free, Open, Upgrade}
+use Rattle.gq_model.specs.declared.program.Instruction.TheVariants.{Close}
+use Rattle.gq_model.specs.declared.program.OperandStatement.TheVariants.{Numbered}
+use Rattle.gq_model.specs.declared.program.WithNumber.TheVariants.{Input}
 use Rattle.gq_model.specs.declared.program.Place.{Place}
 use Rattle.gq_model.specs.declared.program.Place.TheVariants.{Own, Shared, Object}
 use Rattle.gq_model.specs.declared.program.Section.{Section}
@@ -76,6 +79,11 @@ changes_own (Upgrade place n) = is_own place
 changes_own (Close place) = is_own place
 changes_own _ = false
 
+-- reads an input of its leaf
+abbrev pub reads_input : Instruction → Bool
+reads_input (Operands (Numbered Input n)) = true
+reads_input _ = false
+
 -- writes a line
 abbrev pub writes_line : Instruction → Bool
 writes_line (Say text) = true
@@ -106,39 +114,45 @@ abbrev pub each_stated : List ℕ → Section → List (ℕ × Instruction) → 
 each_stated leaf section [] = []
 each_stated leaf section (c ∷ rest) = record { leaf = leaf; section = section; place = c.0; statement = c.1 } ∷ each_stated leaf section rest
 
--- those of a leaf, in sections of a kind
-abbrev pub stated_in : (Section → Bool) → (Instruction → Bool) → List ℕ → List (Section × Statements) → List Stated
-stated_in among test leaf [] = []
-stated_in among test leaf (p ∷ rest) =
-    (if among p.0 then each_stated leaf p.0 (found_in test 1 p.1) else []) ++ stated_in among test leaf rest
-
-abbrev pub in_other : Section → Bool
-in_other section = not (in_main section)
-
-abbrev pub in_any : Section → Bool
-in_any section = true
-
--- those of a leaf outside `main`
-abbrev pub later_in : (Instruction → Bool) → Component → List Stated
-later_in test c = stated_in in_other test c.label c.node.program.sections
-
--- those of shared leaves, from the x-th leaf on
-abbrev pub shared_from : (Instruction → Bool) → System → ℕ → List Component → List Stated
-shared_from test system x [] = []
-shared_from test system x (c ∷ rest) = (if is_shared system x then later_in test c else []) ++ shared_from test system (suc x) rest
+-- those of a leaf, of a kind in each section
+abbrev pub stated_in : (Section → Instruction → Bool) → List ℕ → List (Section × Statements) → List Stated
+stated_in test leaf [] = []
+stated_in test leaf (p ∷ rest) = each_stated leaf p.0 (found_in (test p.0) 1 p.1) ++ stated_in test leaf rest
 
 -- RACES AND ORDERS
 
+-- a section of a leaf that is shared, or not, may run for several threads: each of a shared leaf but `main`
+abbrev pub for_several : Bool → Section → Bool
+for_several shared section = shared && not (in_main section)
+
+-- a race: a statement that changes an own slot, where the section may run for several threads; or an `in`, in any section
+abbrev pub is_race : Bool → Instruction → Bool
+is_race several i = several && changes_own i || reads_input i
+
+-- an order: a statement that writes a line, where the section may run for several threads
+abbrev pub is_order : Bool → Instruction → Bool
+is_order several i = several && writes_line i
+
+-- those of a leaf that is shared, or not
+abbrev pub stated_of : (Bool → Instruction → Bool) → Bool → Component → List Stated
+stated_of test shared c = stated_in (λ section. test (for_several shared section)) c.label c.node.program.sections
+
+-- those of all leaves from the x-th on
+abbrev pub stated_from : (Bool → Instruction → Bool) → System → ℕ → List Component → List Stated
+stated_from test system x [] = []
+stated_from test system x (c ∷ rest) = stated_of test (is_shared system x) c ++ stated_from test system (suc x) rest
+
 abbrev pub races : Scenario → List Stated
-races s = let all = system s in shared_from changes_own all 0 all.components
+races s = let all = system s in stated_from is_race all 0 all.components
 
 abbrev pub orders : Scenario → List Stated
-orders s = let all = system s in shared_from writes_line all 0 all.components
+orders s = let all = system s in stated_from is_order all 0 all.components
 
--- no shared leaf has any
+-- no shared leaf changes an own slot outside `main`, and no leaf reads an input
 abbrev pub IsRaceFree : Scenario → Type 0
 IsRaceFree s = races s ≡ []
 
+-- no shared leaf writes a line outside `main`
 abbrev pub IsOrderFree : Scenario → Type 0
 IsOrderFree s = orders s ≡ []
 
@@ -148,7 +162,7 @@ IsOrderFree s = orders s ≡ []
 abbrev pub opened_by_from : System → ℕ → List Component → List Stated
 opened_by_from system x [] = []
 opened_by_from system x (c ∷ rest) =
-    stated_in in_any (opens_with system x c) c.label c.node.program.sections ++ opened_by_from system x rest
+    stated_in (λ section. opens_with system x c) c.label c.node.program.sections ++ opened_by_from system x rest
 
 abbrev pub openers : System → ℕ → List Stated
 openers system x = opened_by_from system x system.components

@@ -5,11 +5,11 @@ use Rattle.gq_model.specs.declared.program.Section.{Section}
 use Rattle.gq_model.specs.machine.Scenario.{Scenario, System, Component, system}
 use Rattle.gq_model.specs.texts.Fault_texts.{section_word}
 use Rattle.gq_views.specs.Listing.{instruction_text, joined}
-use Rattle.gq_races.specs.Races.{Stated, changes_own, writes_line, is_shared, later_in, openers}
+use Rattle.gq_races.specs.Races.{Stated, writes_line, is_race, is_order, is_shared, stated_of, openers}
 
 -- a statement of which a line is written: a race or an order
-abbrev pub has_effect : Instruction → Bool
-has_effect i = changes_own i || writes_line i
+abbrev pub has_effect : Bool → Instruction → Bool
+has_effect several i = is_race several i || is_order several i
 
 -- what stands between the first words and the number of a statement
 abbrev pub front_of : List ℕ → Section → List ℕ
@@ -18,8 +18,9 @@ front_of leaf section = leaf ++ codes " in " ++ section_word section ++ codes " 
 abbrev pub place_text : Stated → List ℕ
 place_text r = front_of r.leaf r.section ++ decimal r.place
 
+-- of these an order writes a line, and a race writes none
 abbrev pub word_of : Instruction → List ℕ
-word_of i = if changes_own i then codes "race " else codes "order "
+word_of i = if writes_line i then codes "order " else codes "race "
 
 abbrev pub effect_text : Stated → List ℕ
 effect_text r = word_of r.statement ++ place_text r ++ codes " " ++ instruction_text r.statement
@@ -39,14 +40,19 @@ abbrev pub heading : List (List ℕ) → List Stated → List (List ℕ)
 heading lines [] = []
 heading lines (r ∷ rest) = lines ++ map effect_text (r ∷ rest)
 
--- a shared leaf, where sessions with it are opened, and its races and orders
-abbrev pub leaf_lines : System → ℕ → Component → List (List ℕ)
-leaf_lines system x c = heading (shared_text c ∷ map opened_text (openers system x)) (later_in has_effect c)
+-- what stands before a shared leaf's races and orders: the leaf, and where sessions with it are opened
+abbrev pub sharing_lines : Bool → Component → List Stated → List (List ℕ)
+sharing_lines shared c openers = if shared then shared_text c ∷ map opened_text openers else []
 
--- of all leaves that are shared, from the x-th on
+-- a leaf's races and orders
+abbrev pub leaf_lines : System → ℕ → Component → List (List ℕ)
+leaf_lines system x c =
+    let shared = is_shared system x in heading (sharing_lines shared c (openers system x)) (stated_of has_effect shared c)
+
+-- of all leaves from the x-th on
 abbrev pub lines_from : System → ℕ → List Component → List (List ℕ)
 lines_from system x [] = []
-lines_from system x (c ∷ rest) = (if is_shared system x then leaf_lines system x c else []) ++ lines_from system (suc x) rest
+lines_from system x (c ∷ rest) = leaf_lines system x c ++ lines_from system (suc x) rest
 
 -- each on a line of its own
 abbrev pub races_text : Scenario → List ℕ

@@ -1,17 +1,17 @@
-// The statements of a section that change own slots or write lines.
+// The races and orders of a leaf: statements that change own slots, read inputs or write lines.
 ghost use Rattle.std.specs.Prelude.{◌≡◌, ◌≤◌, ◌+◌, ◌++◌, ◌∷◌, [], OnOk, IfOk, map, sum_by};
 ghost use Rattle.gq_model.specs.machine.Program.{Do, Done, size};
 ghost use Rattle.gq_model.specs.texts.Code.{greatest_statements};
 ghost use Rattle.gq_program.specs.Trees.{tree_of};
 ghost use Rattle.gq_races.specs.Races as spec;
-ghost use Rattle.gq_races.specs.Races.{found_in, in_other, is_own, stated_in};
+ghost use Rattle.gq_races.specs.Races.{for_several, found_in, is_own, stated_in};
 ghost use Rattle.gq_races.specs.Text as text;
 ghost use Rattle.gq_races.specs.Text.{effect_text, has_effect};
 ghost use Rattle.gq_races.specs.internal.Lines.{effect_line};
 ghost use Rattle.gq_views.specs.Listing.{joined, line};
 
 use crate::front::front_of;
-use gq_model::program::{Instruction, Place, Section};
+use gq_model::program::{Instruction, OperandStatement, Place, Section, WithNumber};
 use gq_program::program::{Body, Program, Statement};
 use gq_views::instructions::push_instruction;
 use itoa::Buffer;
@@ -47,24 +47,38 @@ fn changes_own(instruction: &Instruction) -> bool
     }
 }
 
-// Whether a line of a statement is written.
-fn has_effect(instruction: &Instruction) -> bool
-    ensures { result ≡ has_effect instruction.now }
+// Whether a statement reads an input.
+fn reads_input(instruction: &Instruction) -> bool
+    ensures { result ≡ spec.reads_input instruction.now }
 {
-    match instruction {
-        Instruction::Say(_) | Instruction::Out => true,
-        _ => changes_own(instruction),
-    }
+    matches!(
+        instruction,
+        Instruction::Operands(OperandStatement::Numbered(WithNumber::Input, _))
+    )
 }
 
-// What a statement is that changes an own slot, or else writes a line.
+// Whether a statement writes a line.
+fn writes_line(instruction: &Instruction) -> bool
+    ensures { result ≡ spec.writes_line instruction.now }
+{
+    matches!(instruction, Instruction::Say(_) | Instruction::Out)
+}
+
+// Whether a statement is a race or an order, in a section that may run for several threads, or for one alone.
+fn has_effect(several: bool, instruction: &Instruction) -> bool
+    ensures { result ≡ has_effect several instruction.now }
+{
+    reads_input(instruction) || several && (changes_own(instruction) || writes_line(instruction))
+}
+
+// What a race or an order is called.
 fn word_of(instruction: &Instruction) -> &'static [u8]
     ensures { result.now ≡ text.word_of instruction.now }
 {
-    if changes_own(instruction) {
-        b"race "
-    } else {
+    if writes_line(instruction) {
         b"order "
+    } else {
+        b"race "
     }
 }
 
@@ -89,79 +103,90 @@ fn push_effect(
 fn push_if_effect(
     text: &mut Vec<u8>,
     front: &[u8],
+    several: bool,
     number: usize,
     instruction: &Instruction,
 ) -> Result<(), AllocError>
-    ensures { OnOk result (text.new.items ≡ text.old.items ++ joined (map (effect_line front.now) (found_in has_effect number (Do instruction.now Done)))) }
+    ensures { OnOk result (text.new.items ≡ text.old.items
+        ++ joined (map (effect_line front.now) (found_in (has_effect several) number (Do instruction.now Done)))) }
 {
-    if has_effect(instruction) {
+    if has_effect(several, instruction) {
         push_effect(text, front, number, instruction)
     } else {
         Ok(())
     }
 }
 
-// The lines of a statement with this number, and of those in it; tells the number of the next.
+// The lines of a statement with this number, and of those in it; returns the number of the next.
 #[cycle(effects)]
 fn push_effects_in(
     text: &mut Vec<u8>,
     front: &[u8],
+    several: bool,
     number: usize,
     statement: &Statement,
 ) -> Result<usize, AllocError>
     requires { number + size (tree_of (statement.now ∷ [])) ≤ 65536 }
     ensures lines { OnOk result (text.new.items ≡ text.old.items
-        ++ joined (map (effect_line front.now) (found_in has_effect number (tree_of (statement.now ∷ []))))) }
+        ++ joined (map (effect_line front.now) (found_in (has_effect several) number (tree_of (statement.now ∷ []))))) }
     ensures next { IfOk result (λ next. next ≡ number + size (tree_of (statement.now ∷ []))) }
 {
     match statement {
         Statement::Plain(instruction) => {
-            push_if_effect(text, front, number, instruction)?;
+            push_if_effect(text, front, several, number, instruction)?;
             Ok(number + 1)
         }
         Statement::If(arm, other) => {
-            let between = push_effects(text, front, number + 1, arm)?;
-            push_effects(text, front, between, other)
+            let between = push_effects(text, front, several, number + 1, arm)?;
+            push_effects(text, front, several, between, other)
         }
-        Statement::Loop(_, body) => push_effects(text, front, number + 1, body),
+        Statement::Loop(_, body) => push_effects(text, front, several, number + 1, body),
     }
 }
 
-// The lines of the statements of a list whose first has this number; tells the number of the next.
+// The lines of the statements of a list whose first has this number; returns the number of the next.
 #[cycle(effects)]
 fn push_effects(
     text: &mut Vec<u8>,
     front: &[u8],
+    several: bool,
     first: usize,
     body: &Body,
 ) -> Result<usize, AllocError>
     requires { first + size body.now ≤ 65536 }
-    ensures lines { OnOk result (text.new.items ≡ text.old.items ++ joined (map (effect_line front.now) (found_in has_effect first body.now))) }
+    ensures lines { OnOk result (text.new.items ≡ text.old.items ++ joined (map (effect_line front.now) (found_in (has_effect several) first body.now))) }
     ensures next { IfOk result (λ next. next ≡ first + size body.now) }
 {
     let mut number = first;
     for statement in body.statements() {
-        number = push_effects_in(text, front, number, statement)?;
+        number = push_effects_in(text, front, several, number, statement)?;
     }
     Ok(number)
 }
 
-// The lines of a section, if it is not `main`.
+// Whether a section of a leaf that is shared, or not, may run for several threads.
+fn for_several(shared: bool, section: Section) -> bool
+    ensures { result ≡ for_several shared section }
+{
+    shared && !matches!(section, Section::Main)
+}
+
+// The lines of a section of a leaf that is shared, or not.
 fn push_section(
     alloc: Global,
     text: &mut Vec<u8>,
     label: &[u8],
+    shared: bool,
     section: Section,
     body: &Body,
 ) -> Result<(), AllocError>
     requires { size body.now ≤ 4096 }
-    ensures { OnOk result (text.new.items ≡ text.old.items ++ joined (map effect_text (stated_in in_other has_effect label.now ((section, body.now) ∷ [])))) }
+    ensures { OnOk result (text.new.items ≡ text.old.items
+        ++ joined (map effect_text (stated_in (λ section. has_effect (for_several shared section)) label.now ((section, body.now) ∷ [])))) }
 {
-    if let Section::Main = section {
-        return Ok(());
-    }
+    let several = for_several(shared, section);
     let front = front_of(alloc, label, section)?;
-    let pushed = push_effects(text, front.as_slice(), 1, body);
+    let pushed = push_effects(text, front.as_slice(), several, 1, body);
     drop(front);
     match pushed {
         Ok(_) => Ok(()),
@@ -169,31 +194,35 @@ fn push_section(
     }
 }
 
-// The lines of sections, outside `main`.
+// The lines of sections.
 fn push_sections(
     alloc: Global,
     text: &mut Vec<u8>,
     label: &[u8],
+    shared: bool,
     sections: &[(Section, Body)],
 ) -> Result<(), AllocError>
     requires { sum_by (λ p. size p.1) sections.now ≤ greatest_statements }
-    ensures { OnOk result (text.new.items ≡ text.old.items ++ joined (map effect_text (stated_in in_other has_effect label.now sections.now))) }
+    ensures { OnOk result (text.new.items ≡ text.old.items
+        ++ joined (map effect_text (stated_in (λ section. has_effect (for_several shared section)) label.now sections.now))) }
 {
     for (section, body) in sections {
-        push_section(alloc, text, label, *section, body)?;
+        push_section(alloc, text, label, shared, *section, body)?;
     }
     Ok(())
 }
 
-// The lines of the sections of a program, outside `main`.
+// The lines of the sections of a program, of a leaf that is shared or not.
 pub(crate) fn push_leaf_effects(
     alloc: Global,
     text: &mut Vec<u8>,
     label: &[u8],
+    shared: bool,
     program: &Program,
 ) -> Result<(), AllocError>
-    ensures { OnOk result (text.new.items ≡ text.old.items ++ joined (map effect_text (stated_in in_other has_effect label.now program.now.sections))) }
+    ensures { OnOk result (text.new.items ≡ text.old.items
+        ++ joined (map effect_text (stated_in (λ section. has_effect (for_several shared section)) label.now program.now.sections))) }
 {
     program.laws();
-    push_sections(alloc, text, label, program.sections())
+    push_sections(alloc, text, label, shared, program.sections())
 }

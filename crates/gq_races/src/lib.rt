@@ -5,14 +5,15 @@
 //! use gq_world::Counted;
 //!
 //! let mut out = Counted::new(writer);
-//! // The shared leaves that have any, with the lines of their statements.
+//! // The leaves that have any, with the lines of their statements.
 //! races(alloc, scenario, &mut out)?;
 //! ```
 //!
 //! A leaf has an owner if all sessions with it are opened in `main` of that one leaf, or in other sections of leaves that have the same owner. A leaf with
 //! which sessions are opened is shared if it has none: its sections may run for several threads. A race is a statement of a shared leaf, outside `main`, that
-//! changes an own slot, what is in it or what is behind it; an order is one that writes a line (`specs/Races`). `gq_determined` states what does not depend on
-//! the turns.
+//! changes an own slot, what is in it or what is behind it. An `in` is a race as well, in any section of any leaf: what it reads depends on when the input was
+//! set. An order is a statement of a shared leaf, outside `main`, that writes a line (`specs/Races`). `gq_determined` states what does not depend on the turns
+//! and the inputs.
 #![tactic(auto)]
 
 mod effects;

@@ -3,7 +3,7 @@ ghost use Rattle.std.specs.Prelude.{◌≡◌, ◌≤◌, ◌+◌, ◌++◌, ◌
 ghost use Rattle.gq_model.specs.machine.Program.{Do, Done, size};
 ghost use Rattle.gq_model.specs.texts.Code.{greatest_statements};
 ghost use Rattle.gq_program.specs.Trees.{tree_of};
-ghost use Rattle.gq_races.specs.Races.{found_in, in_any, stated_in};
+ghost use Rattle.gq_races.specs.Races.{found_in, stated_in};
 ghost use Rattle.gq_races.specs.Text.{opened_text};
 ghost use Rattle.gq_races.specs.internal.Lines.{opened_line};
 ghost use Rattle.gq_races.specs.internal.Openers.{opened_among, opens_among};
@@ -144,7 +144,7 @@ fn push_section(
     requires few { length components.now ≤ 64 }
     requires statements { size body.now ≤ 4096 }
     ensures { OnOk result (text.new.items ≡ text.old.items
-        ++ joined (map opened_text (stated_in in_any (opens_among components.now component.now leaf) component.now.label ((section, body.now) ∷ [])))) }
+        ++ joined (map opened_text (stated_in (λ section. opens_among components.now component.now leaf) component.now.label ((section, body.now) ∷ [])))) }
 {
     let front = front_of(alloc, component.label(), section)?;
     let pushed = push_opens(text, components, component, leaf, front.as_slice(), 1, body);
@@ -167,7 +167,7 @@ fn push_sections(
     requires few { length components.now ≤ 64 }
     requires statements { sum_by (λ p. size p.1) sections.now ≤ greatest_statements }
     ensures { OnOk result (text.new.items ≡ text.old.items
-        ++ joined (map opened_text (stated_in in_any (opens_among components.now component.now leaf) component.now.label sections.now))) }
+        ++ joined (map opened_text (stated_in (λ section. opens_among components.now component.now leaf) component.now.label sections.now))) }
 {
     for (section, body) in sections {
         push_section(alloc, text, components, component, leaf, *section, body)?;

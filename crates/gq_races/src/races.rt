@@ -4,8 +4,8 @@ ghost use Rattle.gq_model.specs.machine.Scenario as model;
 ghost use Rattle.gq_init.specs.Counts.{written_to};
 ghost use Rattle.gq_load.specs.Faults.{Refuses};
 ghost use Rattle.gq_load.specs.Load.{loaded};
-ghost use Rattle.gq_races.specs.Races.{IsOrderFree, IsRaceFree, Stated, later_in};
-ghost use Rattle.gq_races.specs.Text.{effect_text, has_effect, heading, opened_text, races_text, shared_text};
+ghost use Rattle.gq_races.specs.Races.{IsOrderFree, IsRaceFree, Stated, stated_of};
+ghost use Rattle.gq_races.specs.Text.{effect_text, has_effect, heading, races_text, shared_text, sharing_lines};
 ghost use Rattle.gq_races.specs.Written.{races_written, WroteNothing};
 ghost use Rattle.gq_races.specs.internal.Openers.{opened_among};
 ghost use Rattle.gq_races.specs.internal.Owners.{AreShared};
@@ -41,21 +41,44 @@ fn push_shared(text: &mut Vec<u8>, component: &Component<'_>) -> Result<(), Allo
     text.extend_from_slice(b"\n")
 }
 
-// The lines of the races and orders of a leaf of this program.
+// The lines of the races and orders of a leaf of this program, which is shared or not.
 fn leaf_effects(
     alloc: Global,
     component: &Component<'_>,
+    shared: bool,
     program: &Program,
 ) -> Result<Vec<u8>, AllocError>
     requires { program.now ≡ component.now.node.program }
-    ensures { IfOk result (λ effects. effects.items ≡ joined (map effect_text (later_in has_effect component.now))) }
+    ensures { IfOk result (λ effects. effects.items ≡ joined (map effect_text (stated_of has_effect shared component.now))) }
 {
     let mut effects = Vec::new(alloc);
-    push_leaf_effects(alloc, &mut effects, component.label(), program)?;
+    push_leaf_effects(alloc, &mut effects, component.label(), shared, program)?;
     Ok(effects)
 }
 
-// The lines of a shared leaf with these races and orders.
+// What stands before the races and orders of a leaf, if it is shared.
+fn push_sharing(
+    alloc: Global,
+    text: &mut Vec<u8>,
+    components: &[Component<'_>],
+    programs: &[Program],
+    component: &Component<'_>,
+    leaf: LeafNo,
+    shared: bool,
+) -> Result<(), AllocError>
+    requires few { length components.now ≤ 64 }
+    requires programs { programs.now ≡ map (λ c. c.node.program) components.now }
+    ensures { OnOk result (text.new.items ≡ text.old.items
+        ++ joined (sharing_lines shared component.now (opened_among components.now leaf components.now))) }
+{
+    if !shared {
+        return Ok(());
+    }
+    push_shared(text, component)?;
+    push_openers(alloc, text, components, programs, leaf)
+}
+
+// The lines of a leaf with these races and orders.
 fn push_with_effects(
     alloc: Global,
     text: &mut Vec<u8>,
@@ -63,22 +86,22 @@ fn push_with_effects(
     programs: &[Program],
     component: &Component<'_>,
     leaf: LeafNo,
+    shared: bool,
     effects: &[u8],
 ) -> Result<(), AllocError>
     requires few { length components.now ≤ 64 }
     requires programs { programs.now ≡ map (λ c. c.node.program) components.now }
     ensures { (found : List Stated) → effects.now ≡ joined (map effect_text found) → OnOk result (text.new.items ≡ text.old.items
-        ++ joined (heading (shared_text component.now ∷ map opened_text (opened_among components.now leaf components.now)) found)) }
+        ++ joined (heading (sharing_lines shared component.now (opened_among components.now leaf components.now)) found)) }
 {
     if effects.is_empty() {
         return Ok(());
     }
-    push_shared(text, component)?;
-    push_openers(alloc, text, components, programs, leaf)?;
+    push_sharing(alloc, text, components, programs, component, leaf, shared)?;
     text.extend_from_slice(effects)
 }
 
-// The lines of a shared leaf of this program.
+// The lines of a leaf of this program.
 fn push_component(
     alloc: Global,
     text: &mut Vec<u8>,
@@ -86,15 +109,16 @@ fn push_component(
     programs: &[Program],
     component: &Component<'_>,
     leaf: LeafNo,
+    shared: bool,
     program: &Program,
 ) -> Result<(), AllocError>
     requires few { length components.now ≤ 64 }
     requires programs { programs.now ≡ map (λ c. c.node.program) components.now }
     requires program { program.now ≡ component.now.node.program }
     ensures { OnOk result (text.new.items ≡ text.old.items ++ joined (heading
-        (shared_text component.now ∷ map opened_text (opened_among components.now leaf components.now)) (later_in has_effect component.now))) }
+        (sharing_lines shared component.now (opened_among components.now leaf components.now)) (stated_of has_effect shared component.now))) }
 {
-    let effects = leaf_effects(alloc, component, program)?;
+    let effects = leaf_effects(alloc, component, shared, program)?;
     let pushed = push_with_effects(
         alloc,
         text,
@@ -102,13 +126,14 @@ fn push_component(
         programs,
         component,
         leaf,
+        shared,
         effects.as_slice(),
     );
     drop(effects);
     pushed
 }
 
-// The lines of all leaves that are shared.
+// The lines of all leaves.
 fn push_leaves(
     alloc: Global,
     text: &mut Vec<u8>,
@@ -122,11 +147,12 @@ fn push_leaves(
     ensures { (s : model.Scenario) → components.now ≡ model.components s → OnOk result (text.new.items ≡ text.old.items ++ races_text s) }
 {
     for (place, component) in components.iter().enumerate() {
-        if shared[place] {
-            let leaf = LeafNo::new(place as u32);
-            let program = &programs[place];
-            push_component(alloc, text, components, programs, component, leaf, program)?;
-        }
+        let leaf = LeafNo::new(place as u32);
+        let program = &programs[place];
+        let is_shared = shared[place];
+        push_component(
+            alloc, text, components, programs, component, leaf, is_shared, program,
+        )?;
     }
     Ok(())
 }
@@ -190,17 +216,21 @@ fn loaded_text(alloc: Global, scenario: &[u8]) -> Result<Vec<u8>, LoadError>
     }
 }
 
-/// Writes the statements by which the outcome of an accepted scenario could depend on the turns.
+/// Writes the statements by which the outcome of an accepted scenario could depend on the turns, or on when inputs are set.
 ///
-/// For each shared leaf that has any, leaves in preorder:
+/// For each leaf that has any, leaves in preorder:
 ///
-/// - A line `shared` with the leaf and its service.
+/// - If the leaf is shared, a line `shared` with the leaf and its service.
 /// - Below it a line `opened by` for each `open` of a session with it. Leaves go in preorder, statements in the order of the sections and the text.
-/// - A line `race` for each statement outside `main` that changes an own slot, what is in it or what is behind it.
-/// - A line `order` for each statement outside `main` that writes a line. Both go in the order of the sections and the text.
+/// - A line `race` for each `in`, in any section, whether the leaf is shared or not.
+/// - If the leaf is shared, a line `race` for each statement outside `main` that changes an own slot, what is in it or what is behind it.
+/// - If the leaf is shared, a line `order` for each statement outside `main` that writes a line.
 ///
-/// If nothing was written, there is no race (`free`) and no order (`quiet`). If the scenario is refused, as `check` refuses it, or host memory is, nothing is
-/// written. After a failed write a prefix of the text was written.
+/// The lines `race` and `order` of a leaf go in the order of the sections and the text.
+///
+/// If nothing was written, there is no race (`free`), so no leaf has an `in`; and there is no order (`quiet`).
+///
+/// If the scenario is refused, as `check` refuses it, or host memory is, nothing is written. After a failed write a prefix of the text was written.
 pub fn races<W: Write>(
     alloc: Global,
     scenario: &[u8],

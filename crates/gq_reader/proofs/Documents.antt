@@ -9,6 +9,7 @@ use Rattle.toml.specs.Data.{Data, string, integer, float, boolean, datetime, arr
 use Rattle.toml.specs.View.{members_view}
 use Rattle.toml.proofs.Views.{Entry}
 use Rattle.gq_model.specs.machine.Accounts.{leaf_count}
+use Rattle.gq_model.specs.machine.Amounts.{counts_caps}
 use Rattle.gq_model.specs.machine.Lists.{all_of, between, or_first}
 use Rattle.gq_model.specs.texts.Letters.{is_name}
 use Rattle.gq_model.specs.machine.Scenario.{Scenario}
@@ -35,7 +36,7 @@ use Rattle.gq_model.proofs.Small.{or_first_none}
 
 abbrev keys_by : Bool → List KeyRule
 keys_by two =
-    required (codes "version") (is_number 1 2) ∷ required (codes "ram") is_total ∷ cond two (required (codes "caps") (is_number 1 greatest_caps) ∷ []) []
+    required (codes "version") (is_number 1 3) ∷ required (codes "ram") is_total ∷ cond two (required (codes "caps") (is_number 1 greatest_caps) ∷ []) []
     ++ optional (codes "default-route") (is_list is_table) ∷ optional (codes "interface") is_named_tables ∷ required (codes "start") (is_list is_table) ∷ []
 
 pub record IsSoundTop (two : Bool) (top : Members) : Type 0 where
@@ -121,7 +122,7 @@ names_told (member key d rest) e = let (named, here, others) = rest_named key d 
 -- THE WALK
 
 pub record IsWalked (top : Members) : Type 0 where
-  pub sound : IsSoundTop (version_of top == 2) top
+  pub sound : IsSoundTop (counts_caps (version_of top)) top
   pub interfaces : interfaces_fault (version_of top) (interfaces_at top) ≡ None
   pub routes : routes_fault (codes "default-route") top ≡ None
   pub nodes : AreNodes 4 (list_at (codes "start") top)
@@ -135,7 +136,7 @@ walked top e =
     let (tables, more) = or_first_none (table_fault (top_keys version) top) (or_first interfaces (or_first routes nodes)) e in
     let (no_interface, more') = or_first_none interfaces (or_first routes nodes) more in
     let (no_route, no_node) = or_first_none routes nodes more' in
-    let sound = top_by (version == 2) top tables in
+    let sound = top_by (counts_caps version) top tables in
     record {
       sound = sound;
       interfaces = no_interface;
@@ -160,9 +161,6 @@ deep_by (suc n) (d ∷ ds) =
     deep_onto (is_init entries) n (init_of entries) (nodes_by (node_onto n) (list_at (codes "start") entries)) (nodes_by (node_onto (suc n)) ds)
     (leaf_of entries)
     (deep_by n (list_at (codes "start") entries)) (deep_by (suc n) ds)
-
-version_two : (n : ℕ) → n ≡ 2 → (n == 2) ≡ true
-version_two n e = rw e refl
 
 -- COUNTS AND NAMES
 
@@ -240,6 +238,6 @@ module _ (top : Members) (no_fault : walk_fault top ≡ None) where
           few = many_is (described top) ∙ (λ i. interfaces i || e i);
           single = single;
           memory = sound.memory;
-          caps = λ v. sound.caps (version_two (version_of top) v);
+          caps = sound.caps;
           shallow = deep_by 4 (list_at (codes "start") top);
         }

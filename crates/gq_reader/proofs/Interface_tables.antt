@@ -1,18 +1,21 @@
 -- What is known of the tables of interfaces without faults.
-use Rattle.std.proofs.Common.{◌≡◌, ℕ, suc, ◌≤◌, ◌==◌, Bool, true, false, ◌&&◌, cond, List, [], ◌∷◌, ◌++◌, length, Option, Some, None, append_assoc, Global}
-use Rattle.std.proofs.Common.{Less, refl, ap, ◌∙◌, arith}
+use Rattle.std.proofs.Common.{◌≡◌, ℕ, suc, ◌≤◌, ◌==◌, Bool, true, false, ◌&&◌, cond, List, [], ◌∷◌, ◌++◌, length, Some, None, append_assoc, Global}
+use Rattle.std.proofs.Common.{◌⊎◌, inl, inr, Less, refl, ap, ◌∙◌, arith}
 use Rattle.std.specs.Prelude.{codes, String, string_bytes}
 use Rattle.std.proofs.lemmas.Bool.{le-leb, and_parts}
-use Rattle.std.proofs.lemmas.Bool.Decides.{nat_tests}
-use Rattle.toml.specs.Data.{Data, Items, Members, no_members, member, get_member, as_table}
+use Rattle.toml.specs.Data.{Data, Members, no_members, member, get_member, as_table}
+use Rattle.gq_model.specs.machine.Amounts.{counts_caps}
 use Rattle.gq_model.specs.machine.Lists.{all_of, between}
 use Rattle.gq_model.specs.texts.Letters.{is_name}
 use Rattle.gq_model.specs.texts.Operands.{greatest_number}
 use Rattle.gq_model.specs.machine.Scenario.{Interface, Interfaces}
 use Rattle.gq_program.specs.Interfaces as code
-use Rattle.gq_scenario.specs.Keys.{KeyRule, required, optional, passes, listed, list_length, items_of, is_list, is_number, is_quantity, is_table, table_fault}
+use Rattle.gq_scenario.specs.Keys.{KeyRule, required, optional, list_length, items_of, is_number, is_quantity, is_table, table_fault}
 use Rattle.gq_scenario.specs.Tables.{greatest_caps, items_at, is_upgrades, is_upgrade_caps, are_named_tables, interface_keys}
-use Rattle.gq_scenario.specs.Document.{number_at, quantity_at, list_of, list_at, interface_of, interfaces_of, interfaces_fault, keys_of}
+use Rattle.gq_scenario.specs.Trees.{version_number}
+use Rattle.gq_scenario.specs.declared.scenario.Version.{Version}
+use Rattle.gq_scenario.specs.declared.scenario.Version.TheVariants.{Two, Three}
+use Rattle.gq_scenario.specs.Document.{number_at, quantity_at, list_at, interface_of, interfaces_of, interfaces_fault, keys_of}
 use Rattle.std.specs.List.{AllByRecursion}
 use Rattle.std.specs.List.Sorted.{IsStrictlySortedBy}
 use Rattle.std.specs.Map.{keys_of as keys}
@@ -21,7 +24,7 @@ use Rattle.toml.specs.View.{members_view}
 use Rattle.toml.proofs.Views.{Entry}
 use Rattle.gq_reader.proofs.Faults.{members_at_table}
 use Rattle.gq_reader.proofs.Passed.{absent}
-use Rattle.gq_reader.proofs.Kept.{fits_or_none, kept, number_small, quantity_small}
+use Rattle.gq_reader.proofs.Kept.{kept, number_small, quantity_small, all_at, few_at}
 use Rattle.gq_model.proofs.Small.{or_first_none}
 
 abbrev keys_by : Bool → Members → List KeyRule
@@ -46,26 +49,6 @@ pub record IsSoundInterface (entries : Members) : Type 0 where
 
 -- LISTS
 
-all_listed : (test : Data → Bool) (o : Option Items) → passes (λ items. all_of test (listed items)) o ≡ true → all_of test (list_of o) ≡ true
-all_listed test None e = cc
-all_listed test (Some items) e = e
-
-few_listed : (o : Option Items) → between 0 3 (list_length o) ≡ true → length (list_of o) ≤ 3
-few_listed None e = omega arith
-few_listed (Some items) e = grind (arith, nat_tests)
-
-all_at : (test more : Data → Bool) (key : List ℕ) (entries : Members) (o : Option Data) → get_member key entries ≡ o
-    → fits_or_none (λ d. is_list test d && more d) o ≡ true
-    → all_of test (list_at key entries) ≡ true
-all_at test more key entries None e f = rw e refl
-all_at test more key entries (Some d) e f = rw e (all_listed test (items_of d) (and_parts (is_list test d) (more d) f).0)
-
-few_at : (key : List ℕ) (entries : Members) (o : Option Data) → get_member key entries ≡ o → fits_or_none is_upgrades o ≡ true
-    → length (list_at key entries) ≤ 3
-few_at key entries None e f = rw e (omega arith)
-few_at key entries (Some d) e f =
-    rw e (few_listed (items_of d) (and_parts (is_list (is_quantity 0 greatest_number) d) (between 0 3 (list_length (items_of d))) f).1)
-
 none_at : (key : List ℕ) (entries : Members) → get_member key entries ≡ None → number_at key entries ≡ 0
 none_at key entries e = rw e refl
 
@@ -84,7 +67,7 @@ sound_by true entries e =
       need = quantity_small 0 greatest_number (get_member (codes "need") entries) k.1.1.0.fits;
       need_caps = number_small 0 greatest_caps (get_member (codes "need-caps") entries) k.1.1.1.0.fits;
       object = quantity_small 0 65536 (get_member (codes "object") entries) k.1.1.1.1.0.fits;
-      few = few_at (codes "upgrades") entries (get_member (codes "upgrades") entries) refl k.1.1.1.1.1.0.fits;
+      few = few_at (is_quantity 0 greatest_number) 3 (codes "upgrades") entries (get_member (codes "upgrades") entries) refl k.1.1.1.1.1.0.fits;
       bytes = all_at (is_quantity 0 greatest_number) (λ d. between 0 3 (list_length (items_of d))) (codes "upgrades") entries
           (get_member (codes "upgrades") entries) refl k.1.1.1.1.1.0.fits;
       counts = all_at (is_number 0 greatest_caps) (λ d. list_length (items_of d) == list_length (items_at (codes "upgrades") entries))
@@ -99,7 +82,7 @@ sound_by false entries e =
       need = quantity_small 0 greatest_number (get_member (codes "need") entries) k.1.1.0.fits;
       need_caps = small_none (codes "need-caps") entries (absent (keys_by false entries) entries (codes "need-caps") known refl);
       object = quantity_small 0 65536 (get_member (codes "object") entries) k.1.1.1.0.fits;
-      few = few_at (codes "upgrades") entries (get_member (codes "upgrades") entries) refl k.1.1.1.1.0.fits;
+      few = few_at (is_quantity 0 greatest_number) 3 (codes "upgrades") entries (get_member (codes "upgrades") entries) refl k.1.1.1.1.0.fits;
       bytes = all_at (is_quantity 0 greatest_number) (λ d. between 0 3 (list_length (items_of d))) (codes "upgrades") entries
           (get_member (codes "upgrades") entries) refl k.1.1.1.1.0.fits;
       counts = no_list_at (is_number 0 greatest_caps) (codes "upgrade-caps") entries (absent (keys_by false entries) entries (codes "upgrade-caps") known refl);
@@ -107,7 +90,12 @@ sound_by false entries e =
     }
 
 pub sound_interface : (version : ℕ) (entries : Members) → table_fault (interface_keys version entries) entries ≡ None → IsSoundInterface entries
-sound_interface version entries e = sound_by (version == 2) entries e
+sound_interface version entries e = sound_by (counts_caps version) entries e
+
+-- interfaces have the same keys in versions 2 and 3
+pub counted_keys : (v : Version) (entries : Members) → (v ≡ Two) ⊎ (v ≡ Three) → interface_keys (version_number v) entries ≡ interface_keys 2 entries
+counted_keys v entries (inl e) = rw e refl
+counted_keys v entries (inr e) = rw e refl
 
 -- version 1 tells no capabilities
 pub none_in_one : (entries : Members) → table_fault (interface_keys 1 entries) entries ≡ None → number_at (codes "need-caps") entries ≡ 0

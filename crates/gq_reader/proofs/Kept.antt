@@ -1,15 +1,14 @@
 -- What is known of a table whose rules are kept.
-use Rattle.std.proofs.Common.{◌≡◌, ℕ, ◌≤◌, Bool, true, false, ◌||◌, ◌&&◌, not, List, [], ◌∷◌, Option, Some, None, is_some, refl, arith}
+use Rattle.std.proofs.Common.{◌≡◌, ℕ, ◌≤◌, Bool, true, false, ◌||◌, ◌&&◌, not, List, [], ◌∷◌, ◌++◌, length, Option, Some, None, is_some, refl, arith}
 use Rattle.std.proofs.lemmas.Bool.Decides.{nat_tests}
-use Rattle.toml.specs.Data.{Data, Members, get_member}
+use Rattle.toml.specs.Data.{Data, Items, Members, get_member}
 use Rattle.gq_model.specs.machine.Lists.{any_of, all_of, between, or_first}
 use Rattle.gq_model.specs.texts.Letters.{is_name}
 use Rattle.gq_model.specs.machine.Program.{text_eq}
 use Rattle.gq_scenario.specs.Keys.{KeyRule, has, passes, number_of, quantity, text_of, unhex_of, is_number, is_quantity, is_text, is_hex, is_name_text}
-use Rattle.gq_scenario.specs.Keys.{unknown_key}
-use Rattle.gq_scenario.specs.Keys.{missing_key, bad_value, is_bad, table_fault}
+use Rattle.gq_scenario.specs.Keys.{listed, list_length, items_of, is_list, unknown_key, missing_key, bad_value, is_bad, table_fault}
 use Rattle.gq_scenario.specs.Tables.{is_declared}
-use Rattle.gq_scenario.specs.Document.{or_zero, value_of}
+use Rattle.gq_scenario.specs.Document.{or_zero, value_of, list_of, list_at}
 use Rattle.gq_reader.specs.internal.Sound.{is_name_or_none}
 use Rattle.gq_reader.proofs.Passed.{none_at_false}
 use Rattle.gq_model.proofs.Small.{text_is, or_first_none}
@@ -44,6 +43,11 @@ kept rules entries e =
     let (known, more) = or_first_none (unknown_key rules entries) (or_first (missing_key rules entries) (bad_value rules entries)) e in
     let (there, bad) = or_first_none (missing_key rules entries) (bad_value rules entries) more in (known, kept_by rules entries there bad)
 
+-- some rules, and others after them
+pub kept_parts : (rules others : List KeyRule) (entries : Members) → AreKept (rules ++ others) entries → AreKept rules entries × AreKept others entries
+kept_parts [] others entries k = (tt, k)
+kept_parts (r ∷ rules) others entries k = let (more, last) = kept_parts rules others entries k.1 in ((k.0, more), last)
+
 -- VALUES
 
 pub one_there : (b : Bool) → (true && not (b || false)) ≡ false → b ≡ true
@@ -75,6 +79,29 @@ number_small low high (Some d) e = passed_below low high (number_of d) e
 pub quantity_small : (low high : ℕ) (o : Option Data) → fits_or_none (is_quantity low high) o ≡ true → or_zero (value_of quantity o) ≤ high
 quantity_small low high None e = omega arith
 quantity_small low high (Some d) e = passed_below low high (quantity d) e
+
+all_listed : (test : Data → Bool) (o : Option Items) → passes (λ items. all_of test (listed items)) o ≡ true → all_of test (list_of o) ≡ true
+all_listed test None e = cc
+all_listed test (Some items) e = e
+
+few_listed : (high : ℕ) (o : Option Items) → between 0 high (list_length o) ≡ true → length (list_of o) ≤ high
+few_listed high None e = omega arith
+few_listed high (Some items) e = grind (arith, nat_tests)
+
+-- each value of a list fits
+pub all_at : (test more : Data → Bool) (key : List ℕ) (entries : Members) (o : Option Data) → get_member key entries ≡ o
+    → fits_or_none (λ d. is_list test d && more d) o ≡ true
+    → all_of test (list_at key entries) ≡ true
+all_at test more key entries None e f = rw e refl
+all_at test more key entries (Some d) e f = rw e (all_listed test (items_of d) (and_parts (is_list test d) (more d) f).0)
+
+-- there are not too many
+pub few_at : (test : Data → Bool) (high : ℕ) (key : List ℕ) (entries : Members) (o : Option Data) → get_member key entries ≡ o
+    → fits_or_none (λ d. is_list test d && between 0 high (list_length (items_of d))) o ≡ true
+    → length (list_at key entries) ≤ high
+few_at test high key entries None e f = rw e (omega arith)
+few_at test high key entries (Some d) e f =
+    rw e (few_listed high (items_of d) (and_parts (is_list test d) (between 0 high (list_length (items_of d))) f).1)
 
 passed_name : (o : Option (List ℕ)) → passes is_name o ≡ true → is_name_or_none o ≡ true
 passed_name None e = refl

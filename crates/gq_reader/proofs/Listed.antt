@@ -18,8 +18,8 @@ pub listed_length : (vs : List Value) → length (listed (items_view vs)) ≡ le
 listed_length [] = refl
 listed_length (v ∷ vs) = ap suc (listed_length vs)
 
-pub few_upgrades : (fit : Bool) (n m : ℕ) → fit ≡ true → m ≡ n → nat_le m 3 ≡ (fit && between 0 3 n)
-few_upgrades fit n m e f = grind (arith, nat_tests)
+pub few_listed : (high : ℕ) (fit : Bool) (n m : ℕ) → fit ≡ true → m ≡ n → nat_le m high ≡ (fit && between 0 high n)
+few_listed high fit n m e f = grind (arith, nat_tests)
 
 pub as_many : (fit : Bool) (n m count : ℕ) → fit ≡ true → m ≡ n → (m == count) ≡ (fit && n == count)
 as_many fit n m count e f = rw (e, f) refl

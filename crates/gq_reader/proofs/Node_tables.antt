@@ -1,33 +1,42 @@
 -- What is known of the tables of nodes and of routes without faults.
-use Rattle.std.proofs.Common.{◌≡◌, ℕ, ◌≤◌, ◌==◌, Bool, true, false, cond, List, [], ◌∷◌, ◌++◌, None, refl, arith}
+use Rattle.std.proofs.Common.{◌≡◌, ℕ, ◌≤◌, nat_le, Bool, true, false, cond, List, [], ◌∷◌, ◌++◌, length, None, refl, arith}
 use Rattle.std.specs.Prelude.{codes}
 use Rattle.toml.specs.Data.{Members, get_member}
-use Rattle.gq_model.specs.machine.Lists.{all_of}
+use Rattle.gq_model.specs.machine.Lists.{all_of, between}
 use Rattle.gq_model.specs.texts.Letters.{is_name}
+use Rattle.gq_model.specs.texts.Operands.{greatest_number}
 use Rattle.gq_scenario.specs.Keys.{KeyRule, required, optional, either, other, has, is_number, is_quantity, is_text, is_hex, is_name_text, is_table, is_list}
-use Rattle.gq_scenario.specs.Keys.{table_fault}
-use Rattle.gq_scenario.specs.Tables.{is_declared, greatest_caps, route_keys}
-use Rattle.gq_scenario.specs.Document.{text_at, number_at, quantity_at}
+use Rattle.gq_scenario.specs.Keys.{items_of, list_length, unknown_key, table_fault}
+use Rattle.gq_scenario.specs.Tables.{is_declared, is_inputs, greatest_caps, route_keys}
+use Rattle.gq_scenario.specs.Document.{text_at, list_at, number_at, quantity_at}
 use Rattle.gq_scenario.specs.Sizes.{IsQuantum}
 use Rattle.gq_reader.specs.internal.Sound.{is_name_or_none, has_source, IsLeafTable, IsInitTable}
 use Rattle.gq_reader.proofs.Passed.{absent}
-use Rattle.gq_reader.proofs.Kept.{kept, one_there, some_there, last_there, number_small, quantity_small, name_or_none, name_there, declared_name, source_there}
+use Rattle.gq_reader.proofs.Kept.{AreKept, fits_or_none, kept, kept_parts, one_there, some_there, last_there, number_small, quantity_small, name_or_none}
+use Rattle.gq_reader.proofs.Kept.{name_there, declared_name, source_there, all_at, few_at}
 
-abbrev caps_by : Bool → List KeyRule → List KeyRule
-caps_by two rest = cond two (required (codes "caps") (is_number 0 greatest_caps) ∷ []) [] ++ rest
+-- THE KEYS, by whether the version is at least 2, and at least 3
 
-abbrev node_keys_by : Bool → List KeyRule → List KeyRule
-node_keys_by two rest =
-    (required (codes "name") is_name_text ∷ required (codes "quantum") (is_quantity 0 1099511627776)
-    ∷ caps_by two (optional (codes "route") (is_list is_table) ∷ [])) ++ rest
+abbrev caps_rest : Bool → List KeyRule
+caps_rest two = cond two (required (codes "caps") (is_number 0 greatest_caps) ∷ []) [] ++ optional (codes "route") (is_list is_table) ∷ []
 
-abbrev leaf_rest : List (List ℕ) → List KeyRule
-leaf_rest services =
-    optional (codes "provides") (is_declared services) ∷ optional (codes "after") is_name_text
-    ∷ either (codes "program") (codes "code" ∷ []) is_text ∷ other (codes "code") (codes "program" ∷ []) is_hex ∷ []
+abbrev node_keys_by : Bool → List KeyRule
+node_keys_by two = required (codes "name") is_name_text ∷ required (codes "quantum") (is_quantity 0 1099511627776) ∷ caps_rest two
 
-abbrev init_rest : List KeyRule
-init_rest = required (codes "start") (is_list is_table) ∷ optional (codes "default-route") (is_list is_table) ∷ []
+abbrev source_keys : List KeyRule
+source_keys = either (codes "program") (codes "code" ∷ []) is_text ∷ other (codes "code") (codes "program" ∷ []) is_hex ∷ []
+
+abbrev inputs_key : Bool → List KeyRule
+inputs_key three = cond three (optional (codes "inputs") is_inputs ∷ []) []
+
+abbrev own_keys : Bool → List (List ℕ) → List KeyRule
+own_keys three services = optional (codes "provides") (is_declared services) ∷ optional (codes "after") is_name_text ∷ inputs_key three
+
+abbrev leaf_keys_by : Bool → Bool → List (List ℕ) → List KeyRule
+leaf_keys_by two three services = (node_keys_by two ++ own_keys three services) ++ source_keys
+
+abbrev init_keys_by : Bool → List KeyRule
+init_keys_by two = node_keys_by two ++ required (codes "start") (is_list is_table) ∷ optional (codes "default-route") (is_list is_table) ∷ []
 
 pub record IsSoundLeaf (entries : Members) : Type 0 where
   pub name : is_name_or_none (text_at (codes "name") entries) ≡ true
@@ -35,6 +44,8 @@ pub record IsSoundLeaf (entries : Members) : Type 0 where
   pub quantum : IsQuantum (quantity_at (codes "quantum") entries) (number_at (codes "caps") entries)
   pub provides : is_name_or_none (text_at (codes "provides") entries) ≡ true
   pub after : is_name_or_none (text_at (codes "after") entries) ≡ true
+  pub few : length (list_at (codes "inputs") entries) ≤ 8
+  pub numbers : all_of (is_number 0 greatest_number) (list_at (codes "inputs") entries) ≡ true
   pub source : has_source entries ≡ true
 
 pub record IsSoundInit (entries : Members) : Type 0 where
@@ -42,71 +53,79 @@ pub record IsSoundInit (entries : Members) : Type 0 where
   pub named : text_at (codes "name") entries ≡ None → ⊥
   pub quantum : IsQuantum (quantity_at (codes "quantum") entries) (number_at (codes "caps") entries)
 
+-- CAPABILITIES
+
 pub no_caps : (entries : Members) → get_member (codes "caps") entries ≡ None → number_at (codes "caps") entries ≤ 65536
 no_caps entries e = rw e (omega arith)
 
-leaf_by : (two : Bool) (services : List (List ℕ)) (entries : Members) → all_of is_name services ≡ true
-    → table_fault (node_keys_by two (leaf_rest services)) entries ≡ None → IsSoundLeaf entries
-leaf_by true services entries names e =
-    let (known, k) = kept (node_keys_by true (leaf_rest services)) entries e in
+kept_caps : (entries : Members) → fits_or_none (is_number 0 greatest_caps) (get_member (codes "caps") entries) ≡ true → number_at (codes "caps") entries ≤ 65536
+kept_caps entries e = number_small 0 greatest_caps (get_member (codes "caps") entries) e
+
+leaf_caps : (two three : Bool) (services : List (List ℕ)) (entries : Members) → unknown_key (leaf_keys_by two three services) entries ≡ None
+    → AreKept (caps_rest two) entries → number_at (codes "caps") entries ≤ 65536
+leaf_caps true three services entries known k = kept_caps entries k.0.fits
+leaf_caps false true services entries known k = no_caps entries (absent (leaf_keys_by false true services) entries (codes "caps") known refl)
+leaf_caps false false services entries known k = no_caps entries (absent (leaf_keys_by false false services) entries (codes "caps") known refl)
+
+init_caps : (two : Bool) (entries : Members) → unknown_key (init_keys_by two) entries ≡ None → AreKept (caps_rest two) entries
+    → number_at (codes "caps") entries ≤ 65536
+init_caps true entries known k = kept_caps entries k.0.fits
+init_caps false entries known k = no_caps entries (absent (init_keys_by false) entries (codes "caps") known refl)
+
+-- INPUTS
+
+no_inputs : (entries : Members) → get_member (codes "inputs") entries ≡ None → fits_or_none is_inputs (get_member (codes "inputs") entries) ≡ true
+no_inputs entries e = rw e refl
+
+inputs_fit : (two three : Bool) (services : List (List ℕ)) (entries : Members) → unknown_key (leaf_keys_by two three services) entries ≡ None
+    → AreKept (inputs_key three) entries → fits_or_none is_inputs (get_member (codes "inputs") entries) ≡ true
+inputs_fit two true services entries known k = k.0.fits
+inputs_fit true false services entries known k = no_inputs entries (absent (leaf_keys_by true false services) entries (codes "inputs") known refl)
+inputs_fit false false services entries known k = no_inputs entries (absent (leaf_keys_by false false services) entries (codes "inputs") known refl)
+
+-- NODES
+
+leaf_by : (two three : Bool) (services : List (List ℕ)) (entries : Members) → all_of is_name services ≡ true
+    → table_fault (leaf_keys_by two three services) entries ≡ None → IsSoundLeaf entries
+leaf_by two three services entries names e =
+    let (known, all) = kept (leaf_keys_by two three services) entries e in
+    let (more, source) = kept_parts (node_keys_by two ++ own_keys three services) source_keys entries all in
+    let (node, own) = kept_parts (node_keys_by two) (own_keys three services) entries more in
+    let inputs = inputs_fit two three services entries known own.1.1 in
     record {
-      name = name_or_none (get_member (codes "name") entries) k.0.fits;
-      named = name_there (get_member (codes "name") entries) (one_there _ k.0.there) k.0.fits;
+      name = name_or_none (get_member (codes "name") entries) node.0.fits;
+      named = name_there (get_member (codes "name") entries) (one_there _ node.0.there) node.0.fits;
       quantum = record {
-        bytes = quantity_small 0 1099511627776 (get_member (codes "quantum") entries) k.1.0.fits;
-        few =
-            number_small 0 greatest_caps (get_member (codes "caps") entries) k.1.1.0.fits;
+        bytes = quantity_small 0 1099511627776 (get_member (codes "quantum") entries) node.1.0.fits;
+        few = leaf_caps two three services entries known node.1.1;
       };
-      provides = declared_name services (get_member (codes "provides") entries) names k.1.1.1.1.0.fits;
-      after = name_or_none (get_member (codes "after") entries) k.1.1.1.1.1.0.fits;
+      provides = declared_name services (get_member (codes "provides") entries) names own.0.fits;
+      after = name_or_none (get_member (codes "after") entries) own.1.0.fits;
+      few = few_at (is_number 0 greatest_number) 8 (codes "inputs") entries (get_member (codes "inputs") entries) refl inputs;
+      numbers = all_at (is_number 0 greatest_number) (λ d. between 0 8 (list_length (items_of d))) (codes "inputs") entries
+          (get_member (codes "inputs") entries) refl inputs;
       source = source_there (get_member (codes "program") entries) (get_member (codes "code") entries)
-          (some_there _ _ k.1.1.1.1.1.1.0.there) k.1.1.1.1.1.1.0.fits k.1.1.1.1.1.1.1.0.fits;
-    }
-leaf_by false services entries names e =
-    let (known, k) = kept (node_keys_by false (leaf_rest services)) entries e in
-    record {
-      name = name_or_none (get_member (codes "name") entries) k.0.fits;
-      named = name_there (get_member (codes "name") entries) (one_there _ k.0.there) k.0.fits;
-      quantum = record {
-        bytes = quantity_small 0 1099511627776 (get_member (codes "quantum") entries) k.1.0.fits;
-        few =
-            no_caps entries (absent (node_keys_by false (leaf_rest services)) entries (codes "caps") known refl);
-      };
-      provides = declared_name services (get_member (codes "provides") entries) names k.1.1.1.0.fits;
-      after = name_or_none (get_member (codes "after") entries) k.1.1.1.1.0.fits;
-      source = source_there (get_member (codes "program") entries) (get_member (codes "code") entries)
-          (some_there _ _ k.1.1.1.1.1.0.there) k.1.1.1.1.1.0.fits k.1.1.1.1.1.1.0.fits;
+          (some_there _ _ source.0.there) source.0.fits source.1.0.fits;
     }
 
-init_by : (two : Bool) (entries : Members) → table_fault (node_keys_by two init_rest) entries ≡ None → IsSoundInit entries
-init_by true entries e =
-    let (known, k) = kept (node_keys_by true init_rest) entries e in
+init_by : (two : Bool) (entries : Members) → table_fault (init_keys_by two) entries ≡ None → IsSoundInit entries
+init_by two entries e =
+    let (known, all) = kept (init_keys_by two) entries e in
+    let node = (kept_parts (node_keys_by two) _ entries all).0 in
     record {
-      name = name_or_none (get_member (codes "name") entries) k.0.fits;
-      named = name_there (get_member (codes "name") entries) (one_there _ k.0.there) k.0.fits;
+      name = name_or_none (get_member (codes "name") entries) node.0.fits;
+      named = name_there (get_member (codes "name") entries) (one_there _ node.0.there) node.0.fits;
       quantum = record {
-        bytes = quantity_small 0 1099511627776 (get_member (codes "quantum") entries) k.1.0.fits;
-        few =
-            number_small 0 greatest_caps (get_member (codes "caps") entries) k.1.1.0.fits;
-      };
-    }
-init_by false entries e =
-    let (known, k) = kept (node_keys_by false init_rest) entries e in
-    record {
-      name = name_or_none (get_member (codes "name") entries) k.0.fits;
-      named = name_there (get_member (codes "name") entries) (one_there _ k.0.there) k.0.fits;
-      quantum = record {
-        bytes = quantity_small 0 1099511627776 (get_member (codes "quantum") entries) k.1.0.fits;
-        few =
-            no_caps entries (absent (node_keys_by false init_rest) entries (codes "caps") known refl);
+        bytes = quantity_small 0 1099511627776 (get_member (codes "quantum") entries) node.1.0.fits;
+        few = init_caps two entries known node.1.1;
       };
     }
 
 pub sound_leaf : (entries : Members) → IsLeafTable entries → IsSoundLeaf entries
-sound_leaf entries t = leaf_by (t.version == 2) t.services entries t.names t.keys
+sound_leaf entries t = leaf_by (nat_le 2 t.version) (nat_le 3 t.version) t.services entries t.names t.keys
 
 pub sound_init : (entries : Members) → IsInitTable entries → IsSoundInit entries
-sound_init entries t = init_by (t.version == 2) entries t.keys
+sound_init entries t = init_by (nat_le 2 t.version) entries t.keys
 
 -- ROUTES
 

@@ -2,7 +2,7 @@
 ghost use Rattle.std.specs.Prelude.{◌≡◌, ◌≤◌, ◌+◌, ◌++◌, true, None, length, option_map, codes, IfOk};
 ghost use Rattle.toml.specs.View.{view, table_view, items_view};
 ghost use Rattle.gq_model.specs.machine.Lists.{all_of};
-ghost use Rattle.gq_model.specs.machine.Amounts.{amount};
+ghost use Rattle.gq_model.specs.machine.Amounts.{amount, counted_in};
 ghost use Rattle.gq_model.specs.texts.Operands.{greatest_number};
 ghost use Rattle.gq_program.specs.Interfaces as interfaces;
 ghost use Rattle.gq_program.specs.Interfaces.{or_none, is_rising, are_interfaces};
@@ -65,16 +65,16 @@ fn with_upgrades(interface: Interface, bytes: &[Value], counts: &[Value]) -> Int
     }
 }
 
-// The capabilities that a session needs, which version 2 alone counts.
+// The capabilities that a session needs, where they are counted.
 fn read_need_caps(version: Version, table: &Table) -> Option<u32>
     requires { table_fault (interface_keys (version_number version) (table_view table.now)) (table_view table.now) ≡ None }
     ensures count { or_none result ≡ number_at (codes "need-caps") (table_view table.now) }
     ensures few { or_none result ≤ 65536 }
-    ensures version { interfaces.version_of result ≡ version_number version }
+    ensures counted { counted_in (interfaces.version_of result) ≡ counted_in (version_number version) }
 {
     match version {
         Version::One => None,
-        Version::Two => Some(number_at(table, Key::NeedCaps) as u32),
+        Version::Two | Version::Three => Some(number_at(table, Key::NeedCaps) as u32),
     }
 }
 

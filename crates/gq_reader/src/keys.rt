@@ -14,12 +14,12 @@ use gq_scenario::key::Key;
 use gq_scenario::scenario::Version;
 use toml::Table;
 
-/// The rules of a table. No table has more than 8.
-pub type KeyRules<'a> = ArrayVec<KeyRule<'a>, 8>;
+/// The rules of a table. No table has more than 9.
+pub type KeyRules<'a> = ArrayVec<KeyRule<'a>, 9>;
 
 // These rules.
 fn listed<'a>(rules: &[KeyRule<'a>]) -> KeyRules<'a>
-    requires { length rules.now ≤ 8 }
+    requires { length rules.now ≤ 9 }
     ensures { result.items ≡ rules.now }
 {
     let mut listed = ArrayVec::new();
@@ -33,7 +33,7 @@ fn listed<'a>(rules: &[KeyRule<'a>]) -> KeyRules<'a>
 pub fn top_rules(version: Version) -> KeyRules<'static>
     ensures { map rule_of result.items ≡ top_keys (version_number version) }
 {
-    let number = required(Key::Version, ValueRule::Number(1, 2));
+    let number = required(Key::Version, ValueRule::Number(1, 3));
     let ram = required(Key::Ram, ValueRule::Total);
     let caps = required(Key::Caps, ValueRule::Number(1, GREATEST_CAPS));
     let routes = optional(Key::DefaultRoute, ValueRule::Tables);
@@ -41,7 +41,7 @@ pub fn top_rules(version: Version) -> KeyRules<'static>
     let start = required(Key::Start, ValueRule::Tables);
     match version {
         Version::One => listed(&[number, ram, routes, interfaces, start]),
-        Version::Two => listed(&[number, ram, caps, routes, interfaces, start]),
+        Version::Two | Version::Three => listed(&[number, ram, caps, routes, interfaces, start]),
     }
 }
 
@@ -60,7 +60,7 @@ pub fn interface_rules(version: Version, table: &Table) -> KeyRules<'static>
     let buffer = optional(Key::Buffer, ValueRule::Quantity(0, 1048576));
     match version {
         Version::One => listed(&[arg, reply, need, object, upgrades, buffer]),
-        Version::Two => listed(&[
+        Version::Two | Version::Three => listed(&[
             arg,
             reply,
             need,
@@ -102,7 +102,9 @@ pub fn init_rules(version: Version) -> KeyRules<'static>
     let default_routes = optional(Key::DefaultRoute, ValueRule::Tables);
     match version {
         Version::One => listed(&[name, quantum, routes, start, default_routes]),
-        Version::Two => listed(&[name, quantum, caps, routes, start, default_routes]),
+        Version::Two | Version::Three => {
+            listed(&[name, quantum, caps, routes, start, default_routes])
+        }
     }
 }
 
@@ -117,10 +119,14 @@ pub fn leaf_rules<'a>(version: Version, interfaces: Option<&'a Table>) -> KeyRul
     let routes = optional(Key::Route, ValueRule::Tables);
     let provides = optional(Key::Provides, ValueRule::Declared(interfaces));
     let after = optional(Key::After, ValueRule::NameText);
+    let inputs = optional(Key::Inputs, ValueRule::Inputs);
     let program = either(Key::Program, &[Key::Code], ValueRule::Text);
     let code = other(Key::Code, &[Key::Program], ValueRule::Hex);
     match version {
         Version::One => listed(&[name, quantum, routes, provides, after, program, code]),
         Version::Two => listed(&[name, quantum, caps, routes, provides, after, program, code]),
+        Version::Three => listed(&[
+            name, quantum, caps, routes, provides, after, inputs, program, code,
+        ]),
     }
 }

@@ -106,7 +106,7 @@ fn document_scenario(alloc: Global, top: Table) -> Result<Scenario, ScenarioErro
     }
 }
 
-/// The scenario that a text describes, a TOML document of either version. Each leaf has its program as text or as code.
+/// The scenario that a text describes, a TOML document of any version. Each leaf has its program as text or as code.
 ///
 /// Refused where memory runs out, and by the first fault of the text: one of more than 1 MiB is `TooMany`, one that is no
 /// UTF-8 or no TOML `NotToml`. Then come the faults of the tables: of the top table, of the interfaces in the order of their

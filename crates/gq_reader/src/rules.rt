@@ -6,7 +6,7 @@ ghost use Rattle.gq_model.specs.machine.Lists.{any_of, all_of};
 ghost use Rattle.gq_model.specs.machine.Program.{text_eq};
 ghost use Rattle.gq_scenario.specs.Keys.{is_table, is_number, is_quantity, is_hex, is_name_text, is_true, listed, required, optional, either, other, has};
 ghost use Rattle.gq_scenario.specs.Keys.{is_bad, unknown_key, missing_key, bad_value, table_fault};
-ghost use Rattle.gq_scenario.specs.Tables.{is_total, is_upgrades, are_named_tables, greatest_caps};
+ghost use Rattle.gq_scenario.specs.Tables.{is_total, is_upgrades, is_inputs, are_named_tables};
 ghost use Rattle.gq_model.specs.texts.Operands.{greatest_number};
 ghost use Rattle.gq_scenario.specs.Document.{keys_of};
 ghost use Rattle.gq_scenario.specs.Words.{key_text, SameFault};
@@ -15,7 +15,7 @@ ghost use Rattle.gq_reader.specs.Rules.{entries_or_none, are_counts, fits_of, ru
 use crate::hexadecimal::is_hex;
 use crate::value::{has, number_of, quantity, value_at};
 use gq_model::letters::is_name;
-use gq_model::limits::GREATEST_CAPS;
+use gq_model::limits::{GREATEST_CAPS, INPUTS};
 use gq_scenario::fault::ScenarioFault;
 use gq_scenario::key::{Key, key_of};
 use toml::{Table, Value};
@@ -42,6 +42,8 @@ pub enum ValueRule<'a> {
     Upgrades,
     // So many numbers, each up to 65536.
     Counts(usize),
+    // At most eight numbers, each up to 4294967295.
+    Inputs,
     // The name of one of these interfaces.
     Declared(Option<&'a Table>),
 }
@@ -191,12 +193,12 @@ fn are_tables(values: &[Value]) -> bool
     true
 }
 
-// Whether each of these values is a number of capabilities.
-fn are_caps(values: &[Value]) -> bool
-    ensures { result ≡ all_of (is_number 0 greatest_caps) (listed (items_view values.now)) }
+// Whether each of these values is a number up to this one.
+fn are_numbers(greatest: u64, values: &[Value]) -> bool
+    ensures { result ≡ all_of (is_number 0 greatest) (listed (items_view values.now)) }
 {
     for value in values {
-        if !is_number(0, GREATEST_CAPS, value) {
+        if !is_number(0, greatest, value) {
             return false;
         }
     }
@@ -226,7 +228,14 @@ fn are_upgrades(values: &[Value]) -> bool
 fn are_counts(count: usize, values: &[Value]) -> bool
     ensures { result ≡ are_counts count (array (items_view values.now)) }
 {
-    are_caps(values) && values.len() == count
+    are_numbers(GREATEST_CAPS, values) && values.len() == count
+}
+
+// Whether these are the greatest values of inputs.
+fn are_inputs(values: &[Value]) -> bool
+    ensures { result ≡ is_inputs (array (items_view values.now)) }
+{
+    are_numbers(GREATEST_NUMBER, values) && values.len() <= INPUTS
 }
 
 // Whether each key of a table is a name, and each value a table.
@@ -278,6 +287,10 @@ pub fn fits(rule: ValueRule, value: &Value) -> bool
         },
         ValueRule::Counts(count) => match value.as_array() {
             Some(values) => are_counts(count, values),
+            None => false,
+        },
+        ValueRule::Inputs => match value.as_array() {
+            Some(values) => are_inputs(values),
             None => false,
         },
         ValueRule::Declared(tables) => match value.as_str() {

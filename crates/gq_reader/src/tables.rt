@@ -1,27 +1,26 @@
 // What tables without faults describe.
-ghost use Rattle.std.specs.Prelude.{◌≡◌, ◌≤◌, ◌+◌, ◌++◌, true, None, Some, length, option_map, codes, IfOk};
+ghost use Rattle.std.specs.Prelude.{◌≡◌, ◌≤◌, true, None, length, option_map, codes, IfOk};
 ghost use Rattle.toml.specs.Data.{as_table, get_member};
 ghost use Rattle.toml.specs.View.{view, table_view, items_view};
 ghost use Rattle.gq_model.specs.machine.Lists.{all_of};
 ghost use Rattle.gq_model.specs.texts.Operands.{greatest_number};
 ghost use Rattle.gq_scenario.specs.Given.{source_of};
-ghost use Rattle.gq_scenario.specs.Keys.{members_of, listed, is_number, is_quantity, number_of, quantity, table_fault};
-ghost use Rattle.gq_scenario.specs.Tables.{greatest_caps, interface_keys, route_keys};
-ghost use Rattle.gq_scenario.specs.Document.{text_at, list_at, number_at, quantity_at, amount_at};
-ghost use Rattle.gq_scenario.specs.Document.{or_zero, target_in, routes_of, routes_at, upgrades_of, interface_of};
-ghost use Rattle.gq_scenario.specs.Document.{interfaces_of, source_in, leaf_of, init_of, nodes_by, node_onto, first_of, routes_fault, interfaces_fault};
+ghost use Rattle.gq_scenario.specs.Keys.{listed, is_number, number_of, table_fault};
+ghost use Rattle.gq_scenario.specs.Tables.{route_keys};
+ghost use Rattle.gq_scenario.specs.Document.{text_at, list_at, number_at, quantity_at, amount_at, or_zero, target_in, routes_of, routes_at};
+ghost use Rattle.gq_scenario.specs.Document.{source_in, numbers_of, leaf_of, init_of, nodes_by, node_onto, first_of, routes_fault};
 ghost use Rattle.gq_scenario.specs.Sizes.{IsQuantum};
 ghost use Rattle.gq_reader.specs.internal.Sound.{is_name_or_none, route_of, has_source, IsLeafTable, IsInitTable, IsNode, AreNodes};
 ghost use Rattle.gq_scenario.specs.Targets.{target_of};
-ghost use Rattle.gq_scenario.specs.Trees.{version_number, IsBefore};
+ghost use Rattle.gq_scenario.specs.Trees.{IsBefore};
 ghost use Rattle.gq_scenario.specs.Words.{key_text};
 
 use crate::hexadecimal::unhex;
-use crate::value::{has, number_at, number_of, quantity, quantity_at, text_at, values_at};
+use crate::value::{has, list_at, number_at, number_of, quantity_at, text_at, values_at};
+use arrayvec::ArrayVec;
 use gq_model::program::Name;
-use gq_program::interface::{Interface, Upgrade};
 use gq_scenario::key::Key;
-use gq_scenario::scenario::{Init, Leaf, Node, Nodes, Quantum, Route, Target, Version};
+use gq_scenario::scenario::{Init, Inputs, Leaf, Node, Nodes, Quantum, Route, Target};
 use gq_scenario::source::Source;
 use std::alloc::{AllocError, Global};
 use toml::{Table, Value};
@@ -154,6 +153,30 @@ pub(crate) fn read_quantum(key: Key, table: &Table) -> Quantum
     Quantum::new(quantity_at(table, key), number_at(table, Key::Caps) as u32)
 }
 
+// The number that a value tells.
+fn read_number(value: &Value) -> u32
+    requires { is_number 0 greatest_number (view value.now) ≡ true }
+    ensures { result ≡ or_zero (number_of (view value.now)) }
+{
+    match number_of(value) {
+        Some(number) => number as u32,
+        None => 0,
+    }
+}
+
+// The inputs whose greatest values these values tell.
+fn read_inputs(values: &[Value]) -> Inputs
+    requires few { length values.now ≤ 8 }
+    requires numbers { all_of (is_number 0 greatest_number) (listed (items_view values.now)) ≡ true }
+    ensures { result.items ≡ numbers_of (listed (items_view values.now)) }
+{
+    let mut inputs = ArrayVec::new();
+    for value in values {
+        inputs.push(read_number(value));
+    }
+    inputs
+}
+
 // The leaf of a table.
 fn read_leaf(alloc: Global, table: Table) -> Result<Leaf, AllocError>
     requires { IsLeafTable (table_view table) }
@@ -166,8 +189,9 @@ fn read_leaf(alloc: Global, table: Table) -> Result<Leaf, AllocError>
     let routes = read_routes_at(alloc, Key::Route, &table)?;
     let provides = name_at(&table, Key::Provides);
     let after = name_at(&table, Key::After);
+    let inputs = read_inputs(list_at(&table, Key::Inputs));
     let source = read_source(alloc, table)?;
-    Ok(Leaf::new(name, quantum, source, provides, after, routes))
+    Ok(Leaf::new(name, quantum, source, provides, after, inputs, routes))
 }
 
 // The init of a table, without what is below it.

@@ -21,13 +21,14 @@ use gq_scenario::key::Key;
 use gq_scenario::scenario::Version;
 use toml::{Table, Value};
 
-/// The version of a top table: 1 where it is not 2.
+/// The version of a top table: 1 where it is neither 2 nor 3.
 pub fn version_of(top: &Table) -> Version
     ensures { version_number result ≡ version_of (table_view top.now) }
 {
     match value_at(top, Key::Version) {
         Some(value) => match number_of(value) {
             Some(2) => Version::Two,
+            Some(3) => Version::Three,
             _ => Version::One,
         },
         None => Version::One,

@@ -6,7 +6,7 @@ use Rattle.gq_model.specs.machine.Program.{text_eq}
 use Rattle.gq_model.specs.machine.Lists.{any_of}
 use Rattle.std.proofs.lemmas.Bool.{and_parts}
 use Rattle.gq_model.specs.declared.program.Instruction.{Instruction}
-use Rattle.gq_model.specs.declared.program.Instruction.TheVariants.{Say, Out, Drop, Dup, Push, Divide, Modulo, Get, Set, Index, Combine, Make, MakePool, Load}
+use Rattle.gq_model.specs.declared.program.Instruction.TheVariants.{Say, Out, Operands, Make, MakePool, Load}
 use Rattle.gq_model.specs.declared.program.Instruction.TheVariants.{Store, Free, Take, Give, Peek, Poke, Open, Upgrade, Call, Close}
 use Rattle.gq_model.specs.machine.Program.{Statements, Done, Do}
 use Rattle.gq_model.specs.machine.Program as program
@@ -39,15 +39,7 @@ pushed old more first rest left e h = rw (e, h) (append_assoc old first rest)
 opens_none : (i : Instruction) → asks_nothing i ≡ true → opened_by i ≡ []
 opens_none (Say text) e = refl
 opens_none Out e = refl
-opens_none Drop e = refl
-opens_none Dup e = refl
-opens_none (Push n) e = refl
-opens_none (Divide n) e = refl
-opens_none (Modulo n) e = refl
-opens_none (Get i) e = refl
-opens_none (Set i) e = refl
-opens_none (Index d) e = refl
-opens_none (Combine f) e = refl
+opens_none (Operands o) e = refl
 opens_none (Make form place n) e = refl
 opens_none (MakePool place n m) e = refl
 opens_none (Load width place) e = refl

@@ -2,6 +2,7 @@
 use Rattle.std.proofs.Common.{true, ◌≡◌, ℕ, zero, suc, [], ◌∷◌, codes, replicate, Option, Some, None, refl}
 use Rattle.std.specs.Prelude.{slice_get}
 use Rattle.gq_model.specs.machine.Amounts.{amount}
+use Rattle.gq_model.specs.declared.act.Act.TheVariants.{Turns}
 use Rattle.gq_model.specs.declared.phase.Phase.TheVariants.{Running}
 use Rattle.gq_model.specs.declared.program.Form.TheVariants.{Space}
 use Rattle.gq_model.specs.declared.program.Section.TheVariants.{Main, Opening}
@@ -19,6 +20,7 @@ use Rattle.gq_laws.specs.Typed.{AreKinds, Meets}
 use Rattle.gq_laws.specs.Statements.{TakesLeaf}
 use Rattle.gq_laws.specs.Replies.{HasEnded, Replies, Resumes}
 use Rattle.gq_laws.proofs.gathering.Reaching.{in_reached}
+use Rattle.gq_laws.proofs.setting.Settings.{set_linked}
 use Rattle.gq_laws.proofs.linking.Linked_worlds.{kept_linked, start_linked}
 use Rattle.gq_laws.proofs.stating.Numbers.{zeros_bytes}
 use Rattle.gq_laws.proofs.stating.Frame.{zeros}
@@ -30,20 +32,24 @@ log = system good_log
 
 -- the server has made the buffer; then its section ends
 abbrev v : World
-v = (run log ((1, 1) ∷ (0, 3) ∷ [])).world
+v = (run log ((1, Turns 1) ∷ (0, Turns 3) ∷ [])).world
 
 abbrev w : World
-w = (run log ((1, 1) ∷ (0, 4) ∷ [])).world
+w = (run log ((1, Turns 1) ∷ (0, Turns 4) ∷ [])).world
 
 linked : IsLinkedWorld log v
-linked = in_reached good_log (IsLinkedWorld log) (kept_linked log) (start_linked log) v (record { turns = (1, 1) ∷ (0, 3) ∷ []; is = refl })
+linked = in_reached good_log (IsLinkedWorld log) (kept_linked log) (set_linked log) (start_linked log) v (record {
+  turns =
+      (1, Turns 1) ∷ (0, Turns 3) ∷ [];
+  is = refl;
+})
 
 abbrev the : {A : Type 0} → A → Option A → A
 the a None = a
 the a (Some b) = b
 
 abbrev none : Leaf
-none = record { phase = Running; current = None; todo = Done; loops = []; operands = []; locals = []; slots = []; peaks = []; steps = 0 }
+none = record { phase = Running; current = None; todo = Done; loops = []; operands = []; locals = []; slots = []; peaks = []; steps = 0; inputs = [] }
 
 -- the leaf at the fourth step, which is counted
 abbrev server : Leaf

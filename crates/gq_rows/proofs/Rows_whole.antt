@@ -30,6 +30,14 @@ hello_by_code : run_written (codes "version = 1\nram = \"64K\"\n[[start]]\nname 
 unfolding digits toml_on_literals is_utf8 chars whole_of
 hello_by_code = refl
 
+-- an input is set and read
+an_input : run_written
+    (codes "version = 3\nram = 65536\ncaps = 2\n[[start]]\nname = \"a\"\nquantum = \"4K\"\ncaps = 0\ninputs = [9]\nprogram = '''\nmain\nin 0\nout\nend\n'''\n")
+    (codes "a.0 = 7\na 3\na.0 = 8\n")
+    ≡ Ok (codes "[init -> a] 7\naccount init quota 65536 caps 2\naccount init -> a quota 0 used 0 caps 0 taken 0 steps 3/3 exited\n")
+unfolding digits toml_on_literals is_utf8 chars whole_of
+an_input = refl
+
 -- a loop runs
 a_loop : run_written
     (codes "version = 1\nram = \"64K\"\n[[start]]\nname = \"hello\"\nquantum = \"4K\"\nprogram = '''\nmain\nloop 2\nsay \"x\"\nend\nend\n'''\n")

@@ -11,9 +11,9 @@ const LETTERS: [(&str, usize); 7] = [
     ("S", 14),
     ("M", 8),
     ("C", 6),
-    ("V", 18),
+    ("V", 19),
     ("B", 3),
-    ("U", 3),
+    ("U", 5),
     ("X", 5),
 ];
 
@@ -83,7 +83,7 @@ fn writes_each_entry_in_the_same_form(rt: HostRuntime) -> Result<(), Fail> {
 }
 
 // The names of codes; nothing where there is no such code.
-const NAMES: [(&str, &str); 15] = [
+const NAMES: [(&str, &str); 17] = [
     ("S1", "NotToml"),
     ("s14", "CapsExceed"),
     ("m4", "Unclosed"),
@@ -95,7 +95,9 @@ const NAMES: [(&str, &str); 15] = [
     ("X5", "MissingSection"),
     ("", ""),
     ("V", ""),
-    ("V19", ""),
+    ("V19", "NoInput"),
+    ("V20", ""),
+    ("U5", "InputTooLarge"),
     ("V012", ""),
     ("V12 ", ""),
     ("ShortDonation", ""),

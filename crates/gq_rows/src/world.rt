@@ -3,6 +3,7 @@ use gq_model::phase::Phase;
 use gq_scenario::node::NodeNo;
 use gq_world::asm::asm;
 use gq_world::event::Event;
+use gq_world::settings::InputFault;
 use gq_world::world::{Stop, World};
 use gq_world::{Counted, RunFault};
 use std::alloc::Global;
@@ -11,6 +12,9 @@ use std::io::{Cursor, ErrorKind, Write};
 
 const HELLO: &[u8] =
     b"version = 1\nram = \"64K\"\n[[start]]\nname = \"hello\"\nquantum = \"4K\"\nprogram = '''\nmain\nsay \"hello\"\nend\n'''\n";
+
+const ECHO_OF_AN_INPUT: &[u8] =
+    b"version = 3\nram = \"64K\"\ncaps = 2\n[[start]]\nname = \"a\"\nquantum = \"4K\"\ncaps = 0\ninputs = [100, 7]\nprogram = '''\nmain\nin 0\nout\nend\n'''\n";
 
 // Whether `hello` says its text once, exits, and then does nothing.
 fn does_hello(alloc: Global, world: &mut World) -> bool {
@@ -24,6 +28,27 @@ fn does_hello(alloc: Global, world: &mut World) -> bool {
         && world.turn(hello, &mut out) == Ok(Event::Idle)
         && out.failures() == 0;
     turns && text.as_slice() == b"[init -> hello] hello\n".as_slice()
+}
+
+// Whether inputs are set up to their greatest values, refused above them and where there are none, and read.
+fn reads_inputs(alloc: Global, world: &mut World) -> bool {
+    let Some(a) = world.leaf(b"a") else {
+        return false;
+    };
+    let mut text = Vec::new(alloc);
+    let mut out = Counted::new(Cursor::new(&mut text));
+    let sets = world.inputs(a) == [100, 7]
+        && world.set_input(a, 2, 0) == Err(InputFault::NoInput)
+        && world.set_input(a, 0, 101) == Err(InputFault::TooLarge)
+        && world.set_input(a, 0, 42) == Ok(())
+        && world.set_input(a, 1, 7) == Ok(())
+        && world.set_input(a, 0, 101) == Err(InputFault::TooLarge);
+    let turns = world.turn(a, &mut out) == Ok(Event::Quiet)
+        && world.set_input(a, 0, 0) == Ok(())
+        && world.turn(a, &mut out) == Ok(Event::Line)
+        && world.turn(a, &mut out) == Ok(Event::Finished)
+        && world.set_input(a, 0, 1) == Ok(());
+    sets && turns && text.as_slice() == b"[init -> a] 42\n".as_slice()
 }
 
 // Whether a world is stopped once a line of it has room for four bytes alone.
@@ -139,6 +164,7 @@ fn tells_all(alloc: Global, world: &mut World) -> bool {
 enum Trial {
     Hello,
     FailedWrite,
+    Inputs,
 }
 
 impl Trial {
@@ -146,13 +172,22 @@ impl Trial {
         match self {
             Trial::Hello => tells_all(alloc, world),
             Trial::FailedWrite => stops(world),
+            Trial::Inputs => reads_inputs(alloc, world),
+        }
+    }
+
+    // The scenario in which it is tried.
+    fn scenario(self) -> &'static [u8] {
+        match self {
+            Trial::Hello | Trial::FailedWrite => HELLO,
+            Trial::Inputs => ECHO_OF_AN_INPUT,
         }
     }
 }
 
 // Whether a trial in a world of its own goes well; nothing where there is no world.
 fn tried(alloc: Global, trial: Trial) -> Option<bool> {
-    match World::load(alloc, HELLO) {
+    match World::load(alloc, trial.scenario()) {
         Ok(mut world) => {
             let is_well = trial.is_well(alloc, &mut world);
             drop(world);
@@ -170,4 +205,9 @@ fn says_hello_once_and_tells_accounts(rt: HostRuntime) {
 #[test]
 fn stops_after_a_write_that_fails(rt: HostRuntime) {
     assert_eq!(rt; tried(rt.alloc(), Trial::FailedWrite), Some(true));
+}
+
+#[test]
+fn reads_inputs_and_refuses_others(rt: HostRuntime) {
+    assert_eq!(rt; tried(rt.alloc(), Trial::Inputs), Some(true));
 }

@@ -40,9 +40,9 @@ What to do: Ask less often, or for more at a time; shorten the section that is a
         "OverCaps",
         "a leaf's `main` may hold and have lent more capabilities at one point than its `caps`",
         "\
-A leaf's `main` may hold and have lent more capabilities at one point than its `caps`. Version
-2. Each space, slice, large block and pool costs one, the heap one for each page, and a session
-the `need-caps` and `upgrade-caps` that are given.
+A leaf's `main` may hold and have lent more capabilities at one point than its `caps`. Versions
+2 and 3. Each space, slice, large block and pool costs one, the heap one for each page, and a
+session the `need-caps` and `upgrade-caps` that are given.
 
 What usually leads to it:
 - `caps` was not raised with a slot or a session more
@@ -54,20 +54,23 @@ What to do: Raise the leaf's `caps`, and with them those of the init; or free an
 ];
 
 /// The codes of U.
-pub(crate) static TURNS: [Rule; 3] = [
+pub(crate) static TURNS: [Rule; 5] = [
     entry!(
         "U1",
         "BadLine",
-        "a line of the turns is not a leaf's name, one blank and a number of one to seven digits that does not begin with 0",
+        "a line of the turns is not a leaf's name, one blank and a number of one to seven digits that does not begin with 0, nor a setting",
         "\
 A line of the turns is not a leaf's name, one blank and a number of one to seven digits that
-does not begin with 0. An empty line says nothing, nor does one that begins with `#`.
+does not begin with 0, nor a setting. A setting is a leaf's name, a dot, a digit from 0 to 7,
+one blank, `=`, one blank, and one to ten digits of a number up to 4294967295. It may stand in
+version 3 alone. An empty line says nothing, nor does one that begins with `#`.
 
 What usually leads to it:
 - two blanks, a blank at the end, or a tab
 - a number is missing, is 0, begins with 0, or has a sign
+- no blank beside the `=` of a setting, or a setting in version 1 or 2
 
-What to do: Write lines as `cli 12`.",
+What to do: Write lines as `cli 12`, and settings as `drv.0 = 500`.",
         "trade: U1 BadLine line 1"
     ),
     entry!(
@@ -97,6 +100,38 @@ What usually leads to it:
 
 What to do: Give fewer turns: `trade check` tells the budget of each leaf.",
         "trade: U3 TooMany line 2"
+    ),
+    entry!(
+        "U4",
+        "NoInput",
+        "a setting is of an input that the leaf has not",
+        "\
+A setting is of an input that the leaf has not. The key `inputs` of a leaf has the greatest
+values of its inputs, from input 0 on.
+
+What usually leads to it:
+- `inputs` has too few numbers: input 1 needs two of them
+- the input is another leaf's: a server reads its own inputs, and so they are set there
+
+What to do: Give the leaf the input, or set one that it has: `trade tree` prints the greatest
+values of each leaf's inputs.",
+        "trade: U4 NoInput line 1"
+    ),
+    entry!(
+        "U5",
+        "InputTooLarge",
+        "the value of a setting is above the greatest value of the input",
+        "\
+The value of a setting is above the greatest value of the input, which the key `inputs` of the
+leaf has. The verifier counts on no value above it.
+
+What usually leads to it:
+- a value in another unit than the program expects
+- the greatest value in the scenario was lowered
+
+What to do: Give a value up to the greatest, or raise the greatest in the scenario and check
+that it is still accepted.",
+        "trade: U5 InputTooLarge line 1"
     ),
 ];
 

@@ -32,7 +32,7 @@ What usually leads to it:
 - an operand is missing, as in `push`
 - a sign, a letter or a comma stands in it, as in `push -1`
 - it is out of range: `loop` has 1 to 65535, `div` and `mod` at least 1, `up` 1 to 3, `call` and
-  `close` 0 to 3, a local is 0 to 7
+  `close` 0 to 3, a local or an input is 0 to 7
 
 What to do: Write a number within the statement's range. To subtract, `push` both and `sub`.",
         "trade: hello: M2 BadNumber line 3"

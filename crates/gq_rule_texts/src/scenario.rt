@@ -31,7 +31,7 @@ that has neither `program` nor `code`, `service` for a route that has neither `s
 `any-service`, `child` for a route without a target.
 
 What usually leads to it:
-- the key is forgotten; `version = 2` needs `caps` in the top table and in each node, and
+- the key is forgotten; versions 2 and 3 need `caps` in the top table and in each node, and
   `need-caps` in each interface
 - the key stands under another header: each key belongs to the last header above it, so those of
   the top table come before all headers
@@ -56,7 +56,8 @@ What usually leads to it:
   of `child`, `any-child` and `parent`; the later one is told
 - a name has more than 16 letters, or others than a to z, A to Z, 0 to 9, hyphen and underscore;
   of a service's it is told as `interface`
-- `upgrade-caps` is of another length than `upgrades`, or `upgrades` has more than 3
+- `upgrade-caps` is of another length than `upgrades`, `upgrades` has more than 3, or `inputs`
+  more than 8
 - `code` is not made of pairs of hexadecimal digits
 
 What to do: Write a value that the key may have.",
@@ -73,12 +74,13 @@ The line names the key where some other table has one of that name, and has `?` 
 What usually leads to it:
 - it is misspelt: keys have small letters and hyphens, as `default-route`, and headers are
   `[interface.NAME]` and `[[start]]`
-- it belongs to another table: `provides`, `after`, `program` and `code` are a leaf's,
+- it belongs to another table: `provides`, `after`, `inputs`, `program` and `code` are a leaf's,
   `default-route` that of a node with `start`
-- it is one of version 2, `caps`, `need-caps` or `upgrade-caps`, in a scenario of version 1
+- it is one of a later version: `caps`, `need-caps` and `upgrade-caps` are of version 2, `inputs`
+  is of version 3
 - it stands below a header that it was not meant for
 
-What to do: Correct the key, move it to its table, or write `version = 2`.",
+What to do: Correct the key, move it to its table, or raise `version`.",
         "trade: S4 UnknownKey caps"
     ),
     entry!(

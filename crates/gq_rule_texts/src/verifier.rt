@@ -2,7 +2,7 @@
 use crate::table::{Rule, entry};
 
 /// The codes of V.
-pub(crate) static VERIFIER: [Rule; 18] = [
+pub(crate) static VERIFIER: [Rule; 19] = [
     entry!(
         "V1",
         "MissingOperand",
@@ -92,8 +92,8 @@ has. `load4` and `store4` need four bytes from it on. A space has whole pages, a
 just its bytes.
 
 What usually leads to it:
-- the index comes from a local without a limit, from a call's argument or from arithmetic, whose
-  greatest value is far above
+- the index comes from a local without a limit, from a call's argument, from an input or from
+  arithmetic, whose greatest value is far above
 - `upgrade` of a link that has had all upgrades
 
 What to do: Bound it: `mod n` makes it less than n, and `local i n` limits a local. Or make the
@@ -282,9 +282,9 @@ What to do: Use fewer rounds, or part the work among calls.",
         "at one point of a server's section a session costs more capabilities than what its client has given for its level",
         "\
 At one point of a server's section a session costs more capabilities than what its client has
-given for its level. Version 2. The object, each space and each slice of the session's slots
-cost one, and its links what they give; together at most `need-caps` plus the `upgrade-caps` up
-to the level.
+given for its level. Versions 2 and 3. The object, each space and each slice of the session's
+slots cost one, and its links what they give; together at most `need-caps` plus the
+`upgrade-caps` up to the level.
 
 What usually leads to it:
 - `need-caps` is 0, though each session has an object, which costs one
@@ -292,5 +292,23 @@ What usually leads to it:
 
 What to do: Raise `need-caps`, or `upgrade-caps` for a level from 1 on.",
         "trade: srv: V18 OverCaps in open at 0"
+    ),
+    entry!(
+        "V19",
+        "NoInput",
+        "`in i` stands in the program of a leaf that has no input i",
+        "\
+`in i` stands in the program of a leaf that has no input i. The key `inputs` of a leaf has the
+greatest values of its inputs, from input 0 on. A leaf without the key has no inputs, as every
+leaf of versions 1 and 2.
+
+What usually leads to it:
+- `inputs` has too few numbers: `in 1` needs two of them
+- the input is another leaf's: the sections of a server read the server's own inputs
+- the scenario is of version 1 or 2
+
+What to do: Give the leaf the input, as `inputs = [1000]` in a scenario with `version = 3`. Or
+call a server that has it, and take its value from the reply.",
+        "trade: drv: V19 NoInput in call 0 at 1"
     ),
 ];

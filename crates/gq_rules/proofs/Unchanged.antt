@@ -1,7 +1,7 @@
 -- Statements that leave all slots as they are.
 use Rattle.std.proofs.Common.{◌≡◌, ℕ, ◌+◌, Bool, true, false, ◌&&◌, List, [], ◌∷◌, length, refl, ap, sym, ◌∙◌, add_assoc}
 use Rattle.std.proofs.Common.{Option, Some, None, Result, Ok, Err}
-use Rattle.std.specs.Prelude.{nat_lt, nat_le, ◌==◌, OnOk, slice_get}
+use Rattle.std.specs.Prelude.{nat_lt, nat_le, ◌==◌, OnOk}
 use Rattle.gq_model.specs.machine.Amounts.{same_amount}
 use Rattle.gq_model.specs.declared.fault.Rule.{Rule}
 use Rattle.gq_model.specs.declared.fault.Rule.TheVariants.{LeftoverOperand, JoinDiffers}
@@ -9,12 +9,12 @@ use Rattle.gq_model.specs.declared.program.Form.TheVariants.{Block, Slice, Space
 use Rattle.gq_model.specs.declared.program.Place.{Place}
 use Rattle.gq_model.specs.declared.program.Width.{Width}
 use Rattle.gq_model.specs.declared.program.Instruction.{Instruction}
-use Rattle.gq_model.specs.declared.program.Instruction.TheVariants.{Say, Out, Drop, Dup, Push, Divide, Modulo, Get, Set, Index, Combine, Make}
+use Rattle.gq_model.specs.declared.program.Instruction.TheVariants.{Say, Out, Operands, Make}
 use Rattle.gq_model.specs.declared.program.Instruction.TheVariants.{MakePool, Load, Store, Free, Take, Give, Peek, Poke, Open, Upgrade, Call, Close}
 use Rattle.gq_model.specs.machine.Program.{bytes_of, Statements, Done, Do, If, Loop, size}
 use Rattle.gq_model.specs.machine.Scenario.{interface_in}
 use Rattle.gq_model.specs.rules.Kinds.{Kind, Empty_kind, Memory, Pool_kind, Link_kind, State, Context, inside, kind_at, same_kind, same_kinds}
-use Rattle.gq_model.specs.rules.Rules.{Judged, must, given, top, pushed, and_then, reach, pool_kind, link_kind, called, pooled, reached}
+use Rattle.gq_model.specs.rules.Rules.{Judged, Bounded, with_bounds, must, given, top, pushed, and_then, reach, pool_kind, link_kind, called, pooled, reached}
 use Rattle.gq_model.specs.rules.Rules.{judge, judged, within_need}
 use Rattle.gq_model.specs.rules.Flow.{Flowed, at, later, flow_then, chosen_from, none_left, join, flow, is_nil}
 use Rattle.gq_program.specs.Notes.{keeps_slots, is_still}
@@ -55,6 +55,10 @@ ok_keeps : (s : State) (bounds : List ℕ) → Keeps s (Ok (record s { bounds = 
 ok_keeps s bounds =
     record { holds = λ t e. same_by s t (record s { bounds = bounds }) (judged_same (record s { bounds = bounds }) t e) (record { own = refl; bank = refl }) }
 
+bounds_keep : (s : State) (b : Bounded) → Keeps s (with_bounds s b)
+bounds_keep s (Ok bounds) = ok_keeps s bounds
+bounds_keep s (Err rule) = record { holds = λ t e. cc }
+
 must_keeps : (s : State) (b : Bool) (rule : Rule) (next : Judged) → Keeps s next → Keeps s (must b rule next)
 must_keeps s true rule next h = record { holds = h.holds }
 must_keeps s false rule next h = record { holds = λ t e. cc }
@@ -84,15 +88,7 @@ called_keeps c s a bounds place =
 judge_keeps : (c : Context) (s : State) (i : Instruction) → keeps_slots i ≡ true → Keeps s (judge c s i)
 judge_keeps c s (Say text) k = ok_keeps s s.bounds
 judge_keeps c s Out k = top_keeps s s.bounds _ (λ a rest. ok_keeps s rest)
-judge_keeps c s Drop k = top_keeps s s.bounds _ (λ a rest. ok_keeps s rest)
-judge_keeps c s Dup k = top_keeps s s.bounds _ (λ a rest. pushed_keeps s a s.bounds)
-judge_keeps c s (Push n) k = pushed_keeps s n s.bounds
-judge_keeps c s (Divide n) k = top_keeps s s.bounds _ (λ a rest. pushed_keeps s _ rest)
-judge_keeps c s (Modulo n) k = top_keeps s s.bounds _ (λ a rest. pushed_keeps s _ rest)
-judge_keeps c s (Get i) k = pushed_keeps s _ s.bounds
-judge_keeps c s (Set i) k = top_keeps s s.bounds _ (λ a rest. must_keeps s _ _ _ (ok_keeps s rest))
-judge_keeps c s (Index d) k = given_keeps s (slice_get c.counts d) _ _ (λ n. pushed_keeps s _ s.bounds)
-judge_keeps c s (Combine f) k = top_keeps s s.bounds _ (λ b rest. top_keeps s rest _ (λ a below. pushed_keeps s _ below))
+judge_keeps c s (Operands o) k = bounds_keep s _
 judge_keeps c s (Load width place) k = top_keeps s s.bounds _ (λ i rest. reached_keeps c s s place i width _ (pushed_keeps s _ rest))
 judge_keeps c s (Store width place) k =
     top_keeps s s.bounds _ (λ v rest. top_keeps s rest _ (λ i below. reached_keeps c s s place i width _ (ok_keeps s below)))

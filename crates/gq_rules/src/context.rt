@@ -80,20 +80,27 @@ impl<'a> Context<'a> {
     }
 
     /// The count of the loop so many loops out, where there is one.
-    pub fn count(&self, depth: u8) -> Option<u16>
+    pub fn count(&self, depth: u32) -> Option<u16>
         ensures { result ≡ slice_get self.now.counts depth }
     {
-        self.counts.as_slice().get(usize::from(depth)).copied()
+        self.counts.as_slice().get(depth as usize).copied()
     }
 
     /// The greatest value of a local; 0 where there is none of this number.
-    pub fn local(&self, number: u8) -> u32
+    pub fn local(&self, number: u32) -> u32
         ensures { result ≡ slice_index self.now.subject.program.locals number }
     {
         let locals = self.subject.program().locals();
-        match locals.get(usize::from(number)) {
+        match locals.get(number as usize) {
             Some(limit) => *limit,
             None => 0,
         }
+    }
+
+    /// The greatest value of an input, where there is one of this number.
+    pub fn greatest_input(&self, number: u32) -> Option<u32>
+        ensures { result ≡ slice_get self.now.subject.inputs number }
+    {
+        self.subject.input(number)
     }
 }

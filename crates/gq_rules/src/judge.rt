@@ -17,18 +17,11 @@ impl<'a> Context<'a> {
     {
         match instruction {
             Instruction::Say(_) => Ok(()),
-            Instruction::Out | Instruction::Drop => {
+            Instruction::Out => {
                 state.pop()?;
                 Ok(())
             }
-            Instruction::Dup => state.duplicate(),
-            Instruction::Push(number) => state.push(*number),
-            Instruction::Divide(by) => self.divide(state, *by),
-            Instruction::Modulo(by) => self.modulo(state, *by),
-            Instruction::Get(local) => state.push(self.local(*local)),
-            Instruction::Set(local) => self.set_local(state, *local),
-            Instruction::Index(depth) => self.index(state, *depth),
-            Instruction::Combine(operator) => self.combine(state, *operator),
+            Instruction::Operands(statement) => self.operate(state, *statement),
             Instruction::Make(form, place, size) => {
                 self.fill(state, *place, Kind::memory(*form, *size))
             }
@@ -48,18 +41,13 @@ impl<'a> Context<'a> {
         }
     }
 
-    /// The same. The usual ones are judged at once.
+    /// The same. Those on operands alone, which are the usual ones, are judged at once.
     #[inline(always)]
     fn judge_usual(&self, state: &mut State, instruction: &Instruction) -> Result<(), Rule>
         ensures { after result state.new ≡ judge self.now state.old instruction.now }
     {
         match instruction {
-            Instruction::Push(number) => state.push(*number),
-            Instruction::Get(local) => state.push(self.local(*local)),
-            Instruction::Set(local) => self.set_local(state, *local),
-            Instruction::Combine(operator) => self.combine(state, *operator),
-            Instruction::Dup => state.duplicate(),
-            Instruction::Index(depth) => self.index(state, *depth),
+            Instruction::Operands(statement) => self.operate(state, *statement),
             _ => self.judge(state, instruction),
         }
     }

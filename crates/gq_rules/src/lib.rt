@@ -6,7 +6,7 @@
 //!
 //! // What a `push` makes of what is known, in `main` of the program that is judged.
 //! let context = Context::new(&subject, Section::Main);
-//! context.judged(&mut state, &Instruction::Push(7))?;
+//! context.judged(&mut state, &WithNumber::Push.instruction(7))?;
 //! assert_eq!(rt; state.pop(), Ok(7));
 //! // A section is walked through from what is known at its start; its statements are counted from 0 on.
 //! flow(&context, &mut state, &mut 0, &mut peaks, body)?;

@@ -1,5 +1,5 @@
 // What a program is judged by.
-ghost use Rattle.std.specs.Prelude.{◌≡◌, ◌≤◌, nat_le, option_copied, is_some, IfSome, IsTrue};
+ghost use Rattle.std.specs.Prelude.{◌≡◌, ◌≤◌, nat_le, option_copied, is_some, slice_get, IfSome, IsTrue};
 ghost use Rattle.gq_model.specs.machine.Program.{section_in, size};
 ghost use Rattle.gq_model.specs.machine.Lists.{all_of};
 ghost use Rattle.gq_model.specs.texts.Code.{is_section};
@@ -9,12 +9,13 @@ ghost use Rattle.gq_rules.specs.Flowing.{few_loops};
 use gq_program::{Body, Interface, Interfaces, Program, Section};
 use std::marker::Model;
 
-/// A program, the interface of the service that it provides, if it provides one, and all interfaces.
+/// A program, the interface that it provides, if any, all interfaces, and the greatest values of its inputs.
 #[derive(Drop)]
 pub struct Subject<'a> {
     program: &'a Program,
     provided: Option<&'a Interface>,
     interfaces: &'a Interfaces,
+    inputs: &'a [u32],
 }
 
 impl<'a> Model for Subject<'a> {
@@ -27,7 +28,7 @@ impl<'a> Model for Subject<'a> {
 
     ghost coded = { Prim.hlevel (codes, statements_code (Prim.hlevel codes)) };
 
-    ghost view = { λ s. record { program = s.program.now; provided = option_copied s.provided; interfaces = s.interfaces.now } };
+    ghost view = { λ s. record { program = s.program.now; provided = option_copied s.provided; interfaces = s.interfaces.now; inputs = s.inputs.now } };
 }
 
 impl<'a> Subject<'a> {
@@ -36,13 +37,15 @@ impl<'a> Subject<'a> {
         program: &'a Program,
         provided: Option<&'a Interface>,
         interfaces: &'a Interfaces,
+        inputs: &'a [u32],
     ) -> Subject<'a>
-        ensures { result ≡ record { program = program.now; provided = option_copied provided.entry; interfaces = interfaces.now } }
+        ensures { result ≡ record { program = program.now; provided = option_copied provided.entry; interfaces = interfaces.now; inputs = inputs.now } }
     {
         Subject {
             program,
             provided,
             interfaces,
+            inputs,
         }
     }
 
@@ -77,6 +80,13 @@ impl<'a> Subject<'a> {
     {
         let interfaces = self.interfaces;
         interfaces.named(service)
+    }
+
+    /// The greatest value of an input, where the program has one of this number.
+    pub fn input(&self, number: u32) -> Option<u32>
+        ensures { result ≡ slice_get self.now.inputs number }
+    {
+        self.inputs.get(number as usize).copied()
     }
 
     /// The bytes of the object of a session of the program's service; 0 where it provides none.

@@ -96,6 +96,11 @@ abbrev pub table_of : Option Data → Members
 table_of None = no_members
 table_of (Some d) = members_of d
 
+-- the numbers of these values
+abbrev pub numbers_of : List Data → List ℕ
+numbers_of [] = []
+numbers_of (d ∷ rest) = or_zero (number_of d) ∷ numbers_of rest
+
 -- a leaf's program is told as text or as code
 abbrev pub source_from : Option (List ℕ) → Option (List ℕ) → Source
 source_from (Some text) code = As_text text
@@ -117,6 +122,7 @@ leaf_of entries =
       program = program_from (source_in entries);
       provides = text_at (codes "provides") entries;
       after = text_at (codes "after") entries;
+      inputs = numbers_of (list_at (codes "inputs") entries);
       routes = routes_at (codes "route") entries;
     }
 

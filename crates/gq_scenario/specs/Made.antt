@@ -1,7 +1,7 @@
 -- A scenario of its parts, and what every scenario is.
-use Rattle.std.specs.Prelude.{◌≡◌, ◌≤◌, [], ◌∷◌, false, Option, None, option_map, Vec, codes}
+use Rattle.std.specs.Prelude.{◌≡◌, ◌≤◌, [], ◌∷◌, true, false, Option, None, option_map, Vec, codes}
 use Rattle.std.specs.declared.alloc.Global.{Global}
-use Rattle.gq_model.specs.machine.Amounts.{Amount}
+use Rattle.gq_model.specs.machine.Amounts.{Amount, counts_caps}
 use Rattle.gq_model.specs.machine.Scenario.{Interfaces, Route, Nodes, Scenario}
 use Rattle.gq_scenario.specs.Document.{has_too_many, names_of, name_twice}
 use Rattle.gq_scenario.specs.Sizes.{depth, IsMemory}
@@ -24,5 +24,5 @@ pub record IsScenario (s : Scenario) : Type 0 where
   pub few : has_too_many s ≡ false
   pub single : name_twice (codes "init" ∷ []) (names_of s.nodes) ≡ None
   pub memory : IsMemory s.total.ram
-  pub caps : s.version ≡ 2 → 1 ≤ s.total.caps
+  pub caps : counts_caps s.version ≡ true → 1 ≤ s.total.caps
   pub shallow : depth s.nodes ≤ 4

@@ -1,5 +1,5 @@
 -- The tables of a scenario's document.
-use Rattle.std.specs.Prelude.{ℕ, ◌%◌, ◌==◌, if◌then◌else◌, Bool, true, false, ◌&&◌, List, [], ◌∷◌, ◌++◌, Option, Some, None, codes}
+use Rattle.std.specs.Prelude.{ℕ, ◌%◌, ◌==◌, nat_le, if◌then◌else◌, Bool, true, false, ◌&&◌, ◌||◌, List, [], ◌∷◌, ◌++◌, Option, Some, None, codes}
 use Rattle.toml.specs.Data.{Data, table, Items, Members, no_members, member, get_member}
 use Rattle.gq_model.specs.machine.Program.{text_eq}
 use Rattle.gq_model.specs.machine.Lists.{any_of, between}
@@ -9,21 +9,21 @@ use Rattle.gq_scenario.specs.Keys.{KeyRule, required, optional, either, other, n
 use Rattle.gq_scenario.specs.Keys.{is_name_text}
 use Rattle.gq_scenario.specs.Keys.{is_true, is_table, is_list, list_length, is_hex, text_of}
 
-abbrev pub is_two : Option ℕ → Bool
-is_two None = false
-is_two (Some n) = n == 2
+abbrev pub version_by : Option ℕ → ℕ
+version_by None = 1
+version_by (Some n) = if n == 2 || n == 3 then n else 1
 
-abbrev pub two_of : Option Data → Bool
-two_of None = false
-two_of (Some d) = is_two (number_of d)
+abbrev pub version_at : Option Data → ℕ
+version_at None = 1
+version_at (Some d) = version_by (number_of d)
 
--- what is not version 2 has the tables of version 1
+-- what is not version 2 or 3 has the tables of version 1
 abbrev pub version_of : Members → ℕ
-version_of top = if two_of (get_member (codes "version") top) then 2 else 1
+version_of top = version_at (get_member (codes "version") top)
 
--- keys that version 2 alone has
-abbrev pub in_two : ℕ → KeyRule → List KeyRule
-in_two version rule = if version == 2 then rule ∷ [] else []
+-- a key that versions from this one on have
+abbrev pub since : ℕ → ℕ → KeyRule → List KeyRule
+since first version rule = if nat_le first version then rule ∷ [] else []
 
 abbrev pub greatest_caps : ℕ
 greatest_caps = 65536
@@ -43,8 +43,8 @@ is_named_tables _ = false
 
 abbrev pub top_keys : ℕ → List KeyRule
 top_keys version =
-    required (codes "version") (is_number 1 2) ∷ required (codes "ram") is_total
-    ∷ in_two version (required (codes "caps") (is_number 1 greatest_caps))
+    required (codes "version") (is_number 1 3) ∷ required (codes "ram") is_total
+    ∷ since 2 version (required (codes "caps") (is_number 1 greatest_caps))
     ++ optional (codes "default-route") (is_list is_table) ∷ optional (codes "interface") is_named_tables ∷ required (codes "start") (is_list is_table) ∷ []
 
 abbrev pub items_at : List ℕ → Members → Option Items
@@ -66,9 +66,9 @@ abbrev pub interface_keys : ℕ → Members → List KeyRule
 interface_keys version entries =
     required (codes "arg") (is_number 0 greatest_number) ∷ required (codes "reply") (is_number 0 greatest_number)
     ∷ required (codes "need") (is_quantity 0 greatest_number)
-    ∷ in_two version (required (codes "need-caps") (is_number 0 greatest_caps))
+    ∷ since 2 version (required (codes "need-caps") (is_number 0 greatest_caps))
     ++ optional (codes "object") (is_quantity 0 65536) ∷ optional (codes "upgrades") is_upgrades
-    ∷ in_two version (optional (codes "upgrade-caps") (is_upgrade_caps entries))
+    ∷ since 2 version (optional (codes "upgrade-caps") (is_upgrade_caps entries))
     ++ optional (codes "buffer") (is_quantity 0 1048576) ∷ []
 
 -- the name of a declared interface
@@ -79,16 +79,21 @@ is_declared services d = passes (λ name. any_of (text_eq name) services) (text_
 abbrev pub node_keys : ℕ → List KeyRule
 node_keys version =
     required (codes "name") is_name_text ∷ required (codes "quantum") (is_quantity 0 1099511627776)
-    ∷ in_two version (required (codes "caps") (is_number 0 greatest_caps)) ++ optional (codes "route") (is_list is_table) ∷ []
+    ∷ since 2 version (required (codes "caps") (is_number 0 greatest_caps)) ++ optional (codes "route") (is_list is_table) ∷ []
 
 abbrev pub init_keys : ℕ → List KeyRule
 init_keys version = node_keys version ++ required (codes "start") (is_list is_table) ∷ optional (codes "default-route") (is_list is_table) ∷ []
+
+-- the greatest values of at most 8 inputs
+abbrev pub is_inputs : Data → Bool
+is_inputs d = is_list (is_number 0 greatest_number) d && between 0 8 (list_length (items_of d))
 
 abbrev pub leaf_keys : ℕ → List (List ℕ) → List KeyRule
 leaf_keys version services =
     node_keys version
     ++ optional (codes "provides") (is_declared services) ∷ optional (codes "after") is_name_text
-    ∷ either (codes "program") (codes "code" ∷ []) is_text ∷ other (codes "code") (codes "program" ∷ []) is_hex ∷ []
+    ∷ since 3 version (optional (codes "inputs") is_inputs)
+    ++ either (codes "program") (codes "code" ∷ []) is_text ∷ other (codes "code") (codes "program" ∷ []) is_hex ∷ []
 
 abbrev pub route_keys : List KeyRule
 route_keys =

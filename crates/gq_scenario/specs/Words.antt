@@ -15,9 +15,8 @@ use Rattle.gq_scenario.specs.declared.fault.ScenarioError.{ScenarioError}
 use Rattle.gq_scenario.specs.declared.fault.ScenarioError.TheVariants.{Memory, Fault}
 use Rattle.gq_scenario.specs.declared.key.Key.{Key}
 use Rattle.gq_scenario.specs.declared.key.Key.TheVariants.{Version, Ram, Caps, DefaultRoute, Interface, Start, Arg, Reply, Need, NeedCaps, Object, Upgrades}
-use Rattle.gq_scenario.specs.declared.key.Key.TheVariants.{UpgradeCaps, Buffer, Name, Quantum, Route, Provides, After, Program, Code, Service, AnyService}
-use Rattle.gq_scenario.specs.declared.key.Key.TheVariants.{Child}
-use Rattle.gq_scenario.specs.declared.key.Key.TheVariants.{AnyChild, Parent}
+use Rattle.gq_scenario.specs.declared.key.Key.TheVariants.{UpgradeCaps, Buffer, Name, Quantum, Route, Provides, After, Inputs, Program, Code, Service}
+use Rattle.gq_scenario.specs.declared.key.Key.TheVariants.{AnyService, Child, AnyChild, Parent}
 
 abbrev pub key_text : Key → List ℕ
 key_text Version = codes "version"
@@ -39,6 +38,7 @@ key_text Quantum = codes "quantum"
 key_text Route = codes "route"
 key_text Provides = codes "provides"
 key_text After = codes "after"
+key_text Inputs = codes "inputs"
 key_text Program = codes "program"
 key_text Code = codes "code"
 key_text Service = codes "service"

@@ -29,6 +29,7 @@ pub enum Key {
     Route,
     Provides,
     After,
+    Inputs,
     Program,
     Code,
     Service,
@@ -39,7 +40,7 @@ pub enum Key {
 }
 
 /// All of them.
-const KEYS: [Key; 26] = [
+const KEYS: [Key; 27] = [
     Key::Version,
     Key::Ram,
     Key::Caps,
@@ -59,6 +60,7 @@ const KEYS: [Key; 26] = [
     Key::Route,
     Key::Provides,
     Key::After,
+    Key::Inputs,
     Key::Program,
     Key::Code,
     Key::Service,
@@ -93,6 +95,7 @@ impl Key {
             Key::Route => "route",
             Key::Provides => "provides",
             Key::After => "after",
+            Key::Inputs => "inputs",
             Key::Program => "program",
             Key::Code => "code",
             Key::Service => "service",

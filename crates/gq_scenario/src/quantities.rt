@@ -1,9 +1,10 @@
 // Scenarios without their quantities: what no quantity decides is the same of both.
-ghost use Rattle.std.specs.Prelude.{◌≡◌, IfOk, option_map};
+ghost use Rattle.std.specs.Prelude.{◌≡◌, ◌≤◌, length, IfOk, option_map};
 ghost use Rattle.gq_model.specs.machine.Amounts.{amount};
 ghost use Rattle.gq_scenario.specs.Unsized.{unsized, without_quanta};
 
-use crate::scenario::{Init, Leaf, Node, Nodes, Parts, Quantum, Route, Scenario, Target};
+use crate::scenario::{Init, Inputs, Leaf, Node, Nodes, Parts, Quantum, Route, Scenario, Target};
+use arrayvec::ArrayVec;
 use gq_model::program::Name;
 use std::alloc::{AllocError, Global};
 
@@ -50,6 +51,18 @@ fn copied_routes(alloc: Global, routes: Option<&[Route]>) -> Result<Option<Vec<R
     }
 }
 
+// The same inputs.
+fn copied_inputs(inputs: &[u32]) -> Inputs
+    requires { length inputs.now ≤ 8 }
+    ensures { result.items ≡ inputs.now }
+{
+    let mut copied = ArrayVec::new();
+    if copied.try_extend_from_slice(inputs).is_err() {
+        unreachable!();
+    }
+    copied
+}
+
 // A leaf that is given nothing.
 fn unsized_leaf(alloc: Global, leaf: &Leaf) -> Result<Leaf, AllocError>
     ensures { IfOk result (λ l. l ≡ record leaf.now { quantum = amount 0 0 }) }
@@ -62,6 +75,7 @@ fn unsized_leaf(alloc: Global, leaf: &Leaf) -> Result<Leaf, AllocError>
         source,
         copied_name(leaf.provides()),
         copied_name(leaf.after()),
+        copied_inputs(leaf.inputs()),
         routes,
     ))
 }

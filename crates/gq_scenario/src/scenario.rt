@@ -1,6 +1,6 @@
 // Scenarios in memory.
 ghost use Rattle.std.specs.Prelude.{◌≡◌, ◌<◌, ◌≤◌, Some, length, slice_get, option_map};
-ghost use Rattle.gq_model.specs.machine.Amounts.{amount};
+ghost use Rattle.gq_model.specs.machine.Amounts.{amount, counts_caps};
 ghost use Rattle.gq_model.specs.texts.Sources.{program_from};
 ghost use Rattle.gq_scenario.specs.Given.{source_of};
 ghost use Rattle.gq_model.specs.machine.Scenario.{components};
@@ -11,6 +11,8 @@ ghost use Rattle.gq_scenario.specs.Trees.{version_number, nodes_of};
 
 use crate::source::Source;
 use crate::tree::{count_leaves, leaf_from};
+use arrayvec::ArrayVec;
+use gq_model::limits::INPUTS;
 use gq_model::program::Name;
 use gq_program::interface::Interfaces;
 use std::marker::Model;
@@ -61,6 +63,8 @@ pub enum Version {
     One,
     /// Capabilities are counted beside RAM.
     Two,
+    /// The same as version 2, and leaves may have inputs.
+    Three,
 }
 
 impl Version {
@@ -71,6 +75,17 @@ impl Version {
         match self {
             Version::One => 1,
             Version::Two => 2,
+            Version::Three => 3,
+        }
+    }
+
+    /// Whether it counts capabilities.
+    pub fn counts_caps(self) -> bool
+        ensures { result ≡ counts_caps (version_number self) }
+    {
+        match self {
+            Version::One => false,
+            Version::Two | Version::Three => true,
         }
     }
 }
@@ -182,6 +197,9 @@ pub fn told(routes: &Option<Vec<Route>>) -> Option<&[Route]>
     }
 }
 
+/// The greatest value of each input of a leaf, from input 0 on.
+pub type Inputs = ArrayVec<u32, INPUTS>;
+
 /// A component with a program.
 #[derive(Drop)]
 pub struct Leaf {
@@ -190,11 +208,12 @@ pub struct Leaf {
     source: Source,
     provides: Option<Name>,
     after: Option<Name>,
+    inputs: Inputs,
     routes: Option<Vec<Route>>,
 }
 
 impl Model for Leaf {
-    ghost use Rattle.std.specs.Prelude.{option_map};
+    ghost use Rattle.std.specs.Prelude.{◌≤◌, length, option_map};
     ghost use Rattle.std.specs.Coded.{codes};
     ghost use Rattle.gq_model.specs.machine.Scenario.{LeafNode};
     ghost use Rattle.gq_model.specs.texts.Sources.{program_from};
@@ -212,8 +231,11 @@ impl Model for Leaf {
       program = program_from (source_of l.source);
       provides = l.provides;
       after = l.after;
+      inputs = l.inputs.items;
       routes = option_map (λ r. r.items) l.routes;
     } };
+
+    ghost invariant = { λ l. length l.inputs.items ≤ 8 };
 }
 
 impl Leaf {
@@ -224,6 +246,7 @@ impl Leaf {
         source: Source,
         provides: Option<Name>,
         after: Option<Name>,
+        inputs: Inputs,
         routes: Option<Vec<Route>>,
     ) -> Leaf
         ensures { result ≡ record {
@@ -233,6 +256,7 @@ impl Leaf {
           program = program_from (source_of source);
           provides = provides;
           after = after;
+          inputs = inputs.items;
           routes = option_map (λ r. r.items) routes;
         } }
     {
@@ -242,6 +266,7 @@ impl Leaf {
             source,
             provides,
             after,
+            inputs,
             routes,
         }
     }
@@ -280,6 +305,14 @@ impl Leaf {
         ensures { option_map (λ s. s.now) result ≡ self.now.after }
     {
         self.after.as_ref()
+    }
+
+    /// The greatest values of its inputs, from input 0 on, at most 8. In versions 1 and 2 it has none.
+    pub fn inputs(&self) -> &[u32]
+        ensures inputs { result.now ≡ self.now.inputs }
+        ensures few { length result.now ≤ 8 }
+    {
+        self.inputs.as_slice()
     }
 
     /// Its own routes; none are those of its init.

@@ -1,9 +1,9 @@
 -- With the least quantities in place of its own, a scenario is accepted, where it passes what is judged and no `open` is short.
-use Rattle.std.proofs.Common.{◌≡◌, ℕ, zero, suc, ◌+◌, ◌≤◌, ◌||◌, ◌==◌, ◌%◌, ◌*◌, ◌/◌, Bool, true, false, List, [], ◌∷◌, length, max, Option, Some, None, refl}
-use Rattle.std.proofs.Common.{ap, sym, ◌∙◌, subst, arith, nat_le, nat_lt, eqb-true}
+use Rattle.std.proofs.Common.{◌≡◌, ℕ, zero, suc, ◌+◌, ◌≤◌, ◌||◌, ◌%◌, ◌*◌, ◌/◌, Bool, true, false, List, [], ◌∷◌, length, max, Option, Some, None, refl}
+use Rattle.std.proofs.Common.{ap, sym, ◌∙◌, subst, arith, nat_le, nat_lt}
 use Rattle.std.specs.Prelude.{slice_get, is_some, if◌then◌else◌, codes}
 use Rattle.std.proofs.lemmas.Bool.Decides.{nat_tests}
-use Rattle.gq_model.specs.machine.Amounts.{Resource, Ram, Caps, Amount, amount, part}
+use Rattle.gq_model.specs.machine.Amounts.{Resource, Ram, Caps, Amount, amount, part, counts_caps}
 use Rattle.gq_model.specs.machine.Lists.{or_first}
 use Rattle.gq_model.specs.declared.program.Section.{Section}
 use Rattle.gq_model.specs.declared.program.Section.TheVariants.{Main}
@@ -153,7 +153,7 @@ not_less a b h = by (nat_lt a b) refl
     by true e = absurd (grind (arith, nat_tests, h))
 
 caps_less : (version n m : ℕ) → n ≤ m → caps_of version n ≤ caps_of version m
-caps_less version n m h = by (version == 2)
+caps_less version n m h = by (counts_caps version)
   where
     by : (b : Bool) → (if◌then◌else◌ b n 0) ≤ (if◌then◌else◌ b m 0)
     by true = h
@@ -277,13 +277,14 @@ module _ (s : Scenario) (formed : IsWellFormed s) (settled : IsSettled s) (judge
     own_ram_is : own Ram w ≡ own_by (least_caps all) Ram v
     own_ram_is = own_ram_so v w (least_caps all) (points_so Main)
 
-    own_caps_is : s.version ≡ 2 → own Caps w ≡ own_by (least_caps all) Caps v
+    own_caps_is : counts_caps s.version ≡ true → own Caps w ≡ own_by (least_caps all) Caps v
     own_caps_is two = own_caps_so v w (least_caps all) (settled_caps s.version all gs s.interfaces unquantified c two) (points_so Main)
 
     -- what the partner is judged by
     same_subject : (d : Component) → ComponentsAsOne c d → subject others d ≡ w
     same_subject d o =
-        ap (λ (n : LeafNode). record { program = n.program; provided = service_in n.provides z.interfaces; interfaces = z.interfaces }) o.node
+        ap (λ (n : LeafNode).
+        record { program = n.program; provided = service_in n.provides z.interfaces; interfaces = z.interfaces; inputs = n.inputs }) o.node
 
     has_ram : own_by (least_caps all) Ram v ≤ least_at Ram all x
     has_ram =
@@ -305,12 +306,12 @@ module _ (s : Scenario) (formed : IsWellFormed s) (settled : IsSettled s) (judge
         let q = ap (λ (n : Amount). n.ram) e in omega (arith, a, b, h, q)
     budget_fits Caps y d o e =
         let q = ap (λ (n : Amount). n.caps) e in
-        let h = by (s.version == 2) refl in omega (arith, q, h)
+        let h = by (counts_caps s.version) refl in omega (arith, q, h)
       where
-        by : (b : Bool) → (s.version == 2) ≡ b → (if◌then◌else◌ b (own Caps (subject others d)) 0) ≤ (if◌then◌else◌ b (least_at Caps all x) 0)
+        by : (b : Bool) → counts_caps s.version ≡ b → (if◌then◌else◌ b (own Caps (subject others d)) 0) ≤ (if◌then◌else◌ b (least_at Caps all x) 0)
         by true f =
             let a = ap (own Caps) (same_subject d o) in
-            let b = own_caps_is (eqb-true s.version 2 f) in
+            let b = own_caps_is f in
             let h = has_caps in omega (arith, a, b, h)
         by false f = omega arith
 
@@ -420,7 +421,7 @@ module _ (s : Scenario) (formed : IsWellFormed s) (settled : IsSettled s) (judge
       record {
         least = p.0;
         whole = p.1;
-        caps = λ two. let e = ap (λ k. caps_of k (root_least Caps (children_least Caps all 0 s.nodes))) two in
+        caps = λ two. let e = ap (λ (b : Bool). if◌then◌else◌ b (root_least Caps (children_least Caps all 0 s.nodes)) 0) two in
             let a : 1 ≤ max 1 (children_least Caps all 0 s.nodes) = grind arith in omega (arith, e, a);
       }
 

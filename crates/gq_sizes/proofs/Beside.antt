@@ -1,8 +1,8 @@
 -- The least numbers that are printed are those of the scenario with the least quantities in place of its own.
-use Rattle.std.proofs.Common.{◌≡◌, ℕ, suc, ◌+◌, ◌-◌, ◌≤◌, ◌==◌, Bool, true, false, List, [], ◌∷◌, ◌++◌, length, refl, ap, sym, ◌∙◌, arith}
+use Rattle.std.proofs.Common.{◌≡◌, ℕ, suc, ◌+◌, ◌-◌, ◌≤◌, Bool, true, false, List, [], ◌∷◌, ◌++◌, length, refl, ap, sym, ◌∙◌, arith}
 use Rattle.std.specs.Prelude.{if◌then◌else◌, codes, decimal}
 use Rattle.gq_model.specs.machine.Accounts.{leaf_count, entry}
-use Rattle.gq_model.specs.machine.Amounts.{Ram, Caps, Amount, amount}
+use Rattle.gq_model.specs.machine.Amounts.{Ram, Caps, Amount, amount, counts_caps}
 use Rattle.gq_model.specs.machine.Scenario.{Interface, Interfaces, Nodes, End, Leaf_node, Init_node, Scenario, System, below, system}
 use Rattle.gq_scenario.specs.Unsized.{unsized}
 use Rattle.gq_verify.specs.Counting.{saturated}
@@ -18,7 +18,7 @@ use Rattle.gq_sizes.proofs.Summing.{need_caps, need_ram}
 -- capabilities are printed where they are counted
 counted_entry : (version n has : ℕ) (b : Bool) → caps_entries version has (unless b (saturated (caps_of version n)))
     ≡ caps_entries version has (unless b (saturated n))
-counted_entry version n has b = by (version == 2)
+counted_entry version n has b = by (counts_caps version)
   where
     by : (t : Bool) → (if◌then◌else◌ t (entry (codes "caps") has ++ least_entry (unless b (saturated (if◌then◌else◌ t n 0)))) [])
         ≡ (if◌then◌else◌ t (entry (codes "caps") has ++ least_entry (unless b (saturated n))) [])
@@ -27,7 +27,7 @@ counted_entry version n has b = by (version == 2)
 
 counted_step : (version n m has : ℕ) (b : Bool) → caps_entries version has (unless b (saturated (caps_of version n) - saturated (caps_of version m)))
     ≡ caps_entries version has (unless b (saturated n - saturated m))
-counted_step version n m has b = by (version == 2)
+counted_step version n m has b = by (counts_caps version)
   where
     by : (t : Bool)
         → (if◌then◌else◌ t (entry (codes "caps") has

@@ -5,7 +5,7 @@ use Rattle.std.specs.Prelude.{min, ◌==◌, ◌&&◌, slice_index_or, if◌then
 use Rattle.std.proofs.lemmas.Bool.{and_parts, eqb-true}
 use Rattle.gq_model.specs.machine.Amounts.{Ram, Amount, amount}
 use Rattle.gq_model.specs.declared.program.Instruction.{Instruction}
-use Rattle.gq_model.specs.declared.program.Instruction.TheVariants.{Say, Out, Drop, Dup, Push, Divide, Modulo, Get, Set, Index, Combine, Make, MakePool, Load}
+use Rattle.gq_model.specs.declared.program.Instruction.TheVariants.{Say, Out, Operands, Make, MakePool, Load}
 use Rattle.gq_model.specs.declared.program.Instruction.TheVariants.{Store, Free, Take, Give, Peek, Poke, Open, Upgrade, Call, Close}
 use Rattle.gq_model.specs.machine.Program.{Statements, Done, Do, If, Loop, size, text_eq}
 use Rattle.gq_model.specs.machine.Scenario.{Interface, Interfaces, System, interface_in}
@@ -87,15 +87,7 @@ open_given c s t (Open place service n) k e = ((λ i known. open_pays c s t plac
 open_given c s t (Upgrade place n) k e = tt
 open_given c s t (Say text) k e = tt
 open_given c s t Out k e = tt
-open_given c s t Drop k e = tt
-open_given c s t Dup k e = tt
-open_given c s t (Push m) k e = tt
-open_given c s t (Divide m) k e = tt
-open_given c s t (Modulo m) k e = tt
-open_given c s t (Get m) k e = tt
-open_given c s t (Set m) k e = tt
-open_given c s t (Index m) k e = tt
-open_given c s t (Combine f) k e = tt
+open_given c s t (Operands m) k e = tt
 open_given c s t (Make form place m) k e = tt
 open_given c s t (MakePool place m j) k e = tt
 open_given c s t (Load width place) k e = tt
@@ -122,15 +114,7 @@ gift_given c s t (Upgrade place n) e = by (link_kind (kind_at c s place)) refl
 gift_given c s t (Open place service n) e = tt
 gift_given c s t (Say text) e = tt
 gift_given c s t Out e = tt
-gift_given c s t Drop e = tt
-gift_given c s t Dup e = tt
-gift_given c s t (Push m) e = tt
-gift_given c s t (Divide m) e = tt
-gift_given c s t (Modulo m) e = tt
-gift_given c s t (Get m) e = tt
-gift_given c s t (Set m) e = tt
-gift_given c s t (Index m) e = tt
-gift_given c s t (Combine f) e = tt
+gift_given c s t (Operands m) e = tt
 gift_given c s t (Make form place m) e = tt
 gift_given c s t (MakePool place m j) e = tt
 gift_given c s t (Load width place) e = tt

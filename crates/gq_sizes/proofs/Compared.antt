@@ -1,5 +1,5 @@
 -- Texts that were compared.
-use Rattle.std.proofs.Common.{◌≡◌, ◌∙◌, ℕ, Bool, true, List, sym}
+use Rattle.std.proofs.Common.{◌≡◌, ◌∙◌, ℕ, Bool, List, sym}
 use Rattle.std.specs.Prelude.{IsTrue}
 use Rattle.gq_model.specs.machine.Program.{text_eq}
 use Rattle.gq_model.proofs.Small.{text_is}

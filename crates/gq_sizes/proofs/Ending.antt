@@ -4,7 +4,7 @@ use Rattle.std.proofs.Common.{◌∙◌, arith}
 use Rattle.std.specs.Prelude.{if◌then◌else◌, is_some}
 use Rattle.std.proofs.lemmas.Bool.{true≢false}
 use Rattle.std.proofs.lemmas.List.Sums.{sum_by-cons}
-use Rattle.gq_model.specs.machine.Amounts.{Caps}
+use Rattle.gq_model.specs.machine.Amounts.{Caps, counts_caps}
 use Rattle.gq_model.specs.declared.program.Section.{Section}
 use Rattle.gq_model.specs.declared.program.Form.TheVariants.{Slice}
 use Rattle.gq_model.specs.machine.Lists.{any_of, greatest}
@@ -23,7 +23,7 @@ use Rattle.gq_sizes.proofs.Fitting.{found_free}
 -- along one use more, nothing more is needed
 abbrev pub IsSettled : Scenario → Type 0
 IsSettled s =
-    s.version ≡ 2 → (service : List ℕ) (i : Interface) (l : ℕ) → interface_in service s.interfaces ≡ Some i → l ≤ length i.upgrades
+    counts_caps s.version ≡ true → (service : List ℕ) (i : Interface) (l : ℕ) → interface_in service s.interfaces ≡ Some i → l ≤ length i.upgrades
     → needed (least_caps (system (unsized s))) Caps (system (unsized s)) service i l ≤ least_caps (system (unsized s)) service l
 
 -- LISTS

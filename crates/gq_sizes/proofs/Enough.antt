@@ -3,7 +3,7 @@ use Rattle.std.proofs.Common.{◌≡◌, ℕ, zero, suc, ◌-◌, ◌≤◌, max
 use Rattle.std.proofs.Common.{append_assoc}
 use Rattle.std.specs.Prelude.{nat_lt, slice_get, if◌then◌else◌, codes, decimal}
 use Rattle.std.proofs.lemmas.Bool.Decides.{nat_tests}
-use Rattle.gq_model.specs.machine.Amounts.{Ram, Caps, Amount, amount}
+use Rattle.gq_model.specs.machine.Amounts.{Ram, Caps, Amount, amount, counts_caps}
 use Rattle.gq_model.specs.machine.Accounts.{entry}
 use Rattle.gq_model.specs.declared.program.Section.{Section}
 use Rattle.gq_model.specs.machine.Program.{Statements, same_section, section_in}
@@ -175,10 +175,10 @@ module _ (version : ℕ) (all : System) (is : Interfaces) (h : IsFree version al
               each_so2 _ _ _ (section_points (subject all c) section) (λ s a b service2 i2 p2 e2 up2.
               let same : service ≡ service2 = some_same (sym p ∙ p2) in
               let one : i ≡ i2 = some_same (sym e ∙ (λ k. interface_in (same k) is) ∙ e2) in
-              subst (λ (j : Interface). (session_cost (λ _ _. 0) Ram j s ≤ ram_sum all gs service2 j l) × (version ≡ 2 → session_cost (least_caps all) Caps j s
-              ≤ least_caps all service2 l)) one
-              (subst (λ (n : List ℕ). (session_cost (λ _ _. 0) Ram i s ≤ ram_sum all gs n i l) × (version ≡ 2 → session_cost (least_caps all) Caps i s ≤
-              least_caps all n l)) same (
+              subst (λ (j : Interface). (session_cost (λ _ _. 0) Ram j s ≤ ram_sum all gs service2 j l)
+              × (counts_caps version ≡ true → session_cost (least_caps all) Caps j s ≤ least_caps all service2 l)) one
+              (subst (λ (n : List ℕ). (session_cost (λ _ _. 0) Ram i s ≤ ram_sum all gs n i l)
+              × (counts_caps version ≡ true → session_cost (least_caps all) Caps i s ≤ least_caps all n l)) same (
                 omega (arith, a, sum_needs all gs service i l),
                 λ two. let settled = h.settled two service i l e (levels section list there service i p e) in
                     omega (arith, b, settled),

@@ -1,10 +1,10 @@
 -- With the least quantities in place of its own, a program breaks no rule, where each `open` gives what is needed.
 use Rattle.std.proofs.Common.{◌≡◌, ℕ, zero, suc, ◌+◌, ◌-◌, ◌≤◌, Bool, true, false, List, [], ◌∷◌, length, map, Option, Some, None, Ok, refl, ap, sym, ◌∙◌}
 use Rattle.std.proofs.Common.{subst, arith, inl, inr}
-use Rattle.std.specs.Prelude.{nat_le, slice_index_or, if◌then◌else◌, ◌==◌}
-use Rattle.std.proofs.lemmas.Bool.{cases_lt, eqb-true}
+use Rattle.std.specs.Prelude.{nat_le, slice_index_or, if◌then◌else◌}
+use Rattle.std.proofs.lemmas.Bool.{cases_lt}
 use Rattle.std.proofs.lemmas.Bool.Decides.{nat_tests}
-use Rattle.gq_model.specs.machine.Amounts.{Resource, Ram, Caps, Amount, amount, counted_in, part}
+use Rattle.gq_model.specs.machine.Amounts.{Resource, Ram, Caps, Amount, amount, counted_in, part, counts_caps}
 use Rattle.gq_model.specs.declared.program.Section.{Section}
 use Rattle.gq_model.specs.declared.program.Section.TheVariants.{Main, Opening, Upgrading, Calling, Closing}
 use Rattle.gq_model.specs.machine.Lists.{greatest}
@@ -16,7 +16,7 @@ use Rattle.gq_model.specs.rules.Rules.{must, over, covered, within_need}
 use Rattle.gq_model.specs.rules.Use.{subject}
 use Rattle.gq_model.proofs.Small.{none_some, some_same, text_is}
 use Rattle.gq_model.specs.declared.program.Instruction.{Instruction}
-use Rattle.gq_model.specs.declared.program.Instruction.TheVariants.{Say, Out, Drop, Dup, Push, Divide, Modulo, Get, Set, Index, Combine, Make, MakePool, Load}
+use Rattle.gq_model.specs.declared.program.Instruction.TheVariants.{Say, Out, Operands, Make, MakePool, Load}
 use Rattle.gq_model.specs.declared.program.Instruction.TheVariants.{Store, Free, Take, Give, Peek, Poke, Open, Upgrade, Call, Close}
 use Rattle.gq_model.specs.rules.Flow.{context, start_of, body}
 use Rattle.gq_model.specs.rules.Verdict.{program_fault}
@@ -140,7 +140,7 @@ module _ (version : ℕ) (all : System) (gs : List Gift) where
       by (Some i) = needed_rises (caps_sum n all) Caps all service i l
 
   caps_of_less : (n m : ℕ) → n ≤ m → caps_of version n ≤ caps_of version m
-  caps_of_less n m h = when_more (version == 2) n m h
+  caps_of_less n m h = when_more (counts_caps version) n m h
 
   pub sums_rise : (service : List ℕ) (i : Interface) → Rises (sum_of service i)
   sums_rise service i = record {
@@ -185,7 +185,7 @@ within_by (Closing l) (Some j) t h = h j refl (le_test l l (omega arith))
 pub record IsFree (version : ℕ) (all : System) (is : Interfaces) : Type 0 where
   pub interfaces : all.interfaces ≡ free is
   pub counted : (service : List ℕ) (i : Interface) → interface_in service is ≡ Some i → i.counted ≡ counted_in version
-  pub settled : version ≡ 2 → (service : List ℕ) (i : Interface) (l : ℕ) → interface_in service is ≡ Some i → l ≤ length i.upgrades
+  pub settled : counts_caps version ≡ true → (service : List ℕ) (i : Interface) (l : ℕ) → interface_in service is ≡ Some i → l ≤ length i.upgrades
       → needed (least_caps all) Caps all service i l ≤ least_caps all service l
 
 module _ (version : ℕ) (all : System) (gs : List Gift) (is : Interfaces) (h : IsFree version all is) (c : Component) where
@@ -196,7 +196,7 @@ module _ (version : ℕ) (all : System) (gs : List Gift) (is : Interfaces) (h : 
   v = subject all c
 
   abbrev pub w : Subject
-  w = record { program = c.node.program; provided = service_in c.node.provides zs; interfaces = zs }
+  w = record { program = c.node.program; provided = service_in c.node.provides zs; interfaces = zs; inputs = c.node.inputs }
 
   abbrev sum : List ℕ → Interface → ℕ → Amount
   sum service i = sum_at version all gs service i
@@ -214,7 +214,7 @@ module _ (version : ℕ) (all : System) (gs : List Gift) (is : Interfaces) (h : 
   Fits section s = (service : List ℕ) (i : Interface) → c.node.provides ≡ Some service → interface_in service is ≡ Some i
       → is_up_to (level_of section) section ≡ true
       → (session_cost (λ _ _. 0) Ram i s ≤ ram_sum all gs service i (level_of section))
-      × (version ≡ 2 → session_cost (least_caps all) Caps i s ≤ least_caps all service (level_of section))
+      × (counts_caps version ≡ true → session_cost (least_caps all) Caps i s ≤ least_caps all service (level_of section))
 
   both_as_one : AllAsOne v.interfaces zs
   both_as_one = subst (λ xs. AllAsOne xs zs) (sym h.interfaces) (all_as_one version all gs is)
@@ -237,14 +237,15 @@ module _ (version : ℕ) (all : System) (gs : List Gift) (is : Interfaces) (h : 
           subst (ProvideAsOne (Some i)) (sym p.1) p.2
 
   pub subjects : SubjectsAsOne v w
-  subjects = record { program = refl; provided = provide_as_one c.node.provides; interfaces = both_as_one }
+  subjects = record { program = refl; provided = provide_as_one c.node.provides; interfaces = both_as_one; inputs = refl }
 
   -- what is given for a link is what the least capabilities say
-  pub settled_caps : version ≡ 2 → (service : List ℕ) (l : ℕ) → l ≤ levels_for v.interfaces service → caps_for zs service l ≡ least_caps all service l
+  pub settled_caps : counts_caps version ≡ true → (service : List ℕ) (l : ℕ) → l ≤ levels_for v.interfaces service
+      → caps_for zs service l ≡ least_caps all service l
   settled_caps two service l below = by (interface_in service zs) refl
     where
       counted_caps : (n : ℕ) → caps_of version n ≡ n
-      counted_caps n = ap (λ k. caps_of k n) two
+      counted_caps n = ap (λ (b : Bool). if◌then◌else◌ b n 0) two
 
       by : (o : Option Interface) → interface_in service zs ≡ o → caps_needed l o ≡ least_caps all service l
       by None e = nothing (interface_in service v.interfaces) refl
@@ -299,15 +300,7 @@ module _ (version : ℕ) (all : System) (gs : List Gift) (is : Interfaces) (h : 
       subst (λ (k : Interface). (slice_index_or k.upgrades level (amount 0 0)).ram ≤ n) (sym p.2) (upgrade_small service level n p.0 gift)
   affords section s t (Say text) o a = tt
   affords section s t Out o a = tt
-  affords section s t Drop o a = tt
-  affords section s t Dup o a = tt
-  affords section s t (Push m) o a = tt
-  affords section s t (Divide m) o a = tt
-  affords section s t (Modulo m) o a = tt
-  affords section s t (Get m) o a = tt
-  affords section s t (Set m) o a = tt
-  affords section s t (Index m) o a = tt
-  affords section s t (Combine f) o a = tt
+  affords section s t (Operands m) o a = tt
   affords section s t (Make form place m) o a = tt
   affords section s t (MakePool place m k) o a = tt
   affords section s t (Load width place) o a = tt
@@ -336,24 +329,24 @@ module _ (version : ℕ) (all : System) (gs : List Gift) (is : Interfaces) (h : 
       let rises = sums_rise version all gs service i in
       let ram : kinds.session_cost Ram j t.bank ≤ (need_of j level).ram =
       omega (arith, cost_ram v.interfaces zs (λ _ _. 0) i j s t refl o, fits.0, need_ram (sum service i) rises i level below) in
-      let caps : version ≡ 2 → kinds.session_cost Caps j t.bank ≤ (need_of j level).caps = λ two.
+      let caps : counts_caps version ≡ true → kinds.session_cost Caps j t.bank ≤ (need_of j level).caps = λ two.
       omega (
         arith,
         cost_caps v.interfaces zs (least_caps all) (settled_caps two) i j s t refl o,
         fits.1 two,
         need_caps (sum service i) rises i level below,
-        ap (λ k. caps_of k (least_caps all service level)) two,
+        ap (λ (b : Bool). if◌then◌else◌ b (least_caps all service level) 0) two,
       ) in
-      (λ k. covered (h.counted service i is_i k) j level t) ∙ covered_by (counted_in version) j level t (by (version == 2) refl ram caps)
+      (λ k. covered (h.counted service i is_i k) j level t) ∙ covered_by (counted_in version) j level t (by (counts_caps version) refl ram caps)
     where
-      by : (two : Bool) → (version == 2) ≡ two
+      by : (two : Bool) → counts_caps version ≡ two
           → (kinds.session_cost Ram (least_interface (sum service i) i) t.bank ≤ (need_of (least_interface (sum service i) i) (level_of section)).ram)
-          → (version ≡ 2 → kinds.session_cost Caps (least_interface (sum service i) i) t.bank ≤ (need_of (least_interface (sum service i) i) (level_of
-          section)).caps)
+          → (counts_caps version ≡ true
+          → kinds.session_cost Caps (least_interface (sum service i) i) t.bank ≤ (need_of (least_interface (sum service i) i) (level_of section)).caps)
           → Each (λ r. kinds.session_cost r (least_interface (sum service i) i) t.bank ≤ part r (need_of (least_interface (sum service i) i) (level_of
           section)))
           (if◌then◌else◌ two (Ram ∷ Caps ∷ []) (Ram ∷ []))
-      by true e ram caps = (ram, (caps (eqb-true version 2 e), tt))
+      by true e ram caps = (ram, (caps e, tt))
       by false e ram caps = (ram, tt)
 
   covers : (section : Section) (s t : State) → HasLevel section → StatesAsOne v.interfaces zs s t → Fits section s

@@ -7,7 +7,7 @@ use Rattle.gq_model.specs.declared.program.Form.TheVariants.{Block, Slice, Space
 use Rattle.gq_model.specs.declared.program.Place.{Place}
 use Rattle.gq_model.specs.declared.program.Place.TheVariants.{Own, Shared, Object}
 use Rattle.gq_model.specs.declared.program.Instruction.{Instruction}
-use Rattle.gq_model.specs.declared.program.Instruction.TheVariants.{Say, Out, Drop, Dup, Push, Divide, Modulo, Get, Set, Index, Combine, Make, MakePool, Load}
+use Rattle.gq_model.specs.declared.program.Instruction.TheVariants.{Say, Out, Operands, Make, MakePool, Load}
 use Rattle.gq_model.specs.declared.program.Instruction.TheVariants.{Store, Free, Take, Give, Peek, Poke, Open, Upgrade, Call, Close}
 use Rattle.gq_model.specs.declared.fault.Rule.TheVariants.{LeftoverOperand, JoinDiffers}
 use Rattle.gq_model.specs.machine.Program.{Statements, Done, Do, If, Loop, size, text_eq}
@@ -36,15 +36,7 @@ affords_inside d n t (Open place service m) a = a
 affords_inside d n t (Upgrade place m) a = λ service level given i e f. a service level given i (ap link_kind (sym (at_inside d n t place)) ∙ e) f
 affords_inside d n t (Say text) a = a
 affords_inside d n t Out a = a
-affords_inside d n t Drop a = a
-affords_inside d n t Dup a = a
-affords_inside d n t (Push m) a = a
-affords_inside d n t (Divide m) a = a
-affords_inside d n t (Modulo m) a = a
-affords_inside d n t (Get m) a = a
-affords_inside d n t (Set m) a = a
-affords_inside d n t (Index m) a = a
-affords_inside d n t (Combine f) a = a
+affords_inside d n t (Operands m) a = a
 affords_inside d n t (Make form place m) a = a
 affords_inside d n t (MakePool place m k) a = a
 affords_inside d n t (Load width place) a = a

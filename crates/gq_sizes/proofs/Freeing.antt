@@ -5,7 +5,7 @@ use Rattle.gq_model.specs.machine.Amounts.{Amount, amount}
 use Rattle.gq_model.specs.declared.program.Section.{Section}
 use Rattle.gq_model.specs.declared.program.Section.TheVariants.{Main, Opening, Upgrading, Calling, Closing}
 use Rattle.gq_model.specs.declared.program.Instruction.{Instruction}
-use Rattle.gq_model.specs.declared.program.Instruction.TheVariants.{Say, Out, Drop, Dup, Push, Divide, Modulo, Get, Set, Index, Combine, Make, MakePool, Load}
+use Rattle.gq_model.specs.declared.program.Instruction.TheVariants.{Say, Out, Operands, Make, MakePool, Load}
 use Rattle.gq_model.specs.declared.program.Instruction.TheVariants.{Store, Free, Take, Give, Peek, Poke, Open, Upgrade, Call, Close}
 use Rattle.gq_model.specs.machine.Program.{Program, Statements, Done, Do, If, Loop, body_of, section_in}
 use Rattle.gq_model.specs.machine.Scenario.{Interface, Interfaces, interface_in}
@@ -54,15 +54,7 @@ module _ (v w : Subject) (zs : Interfaces) (h : SubjectsAsOne v w) (same : w.int
       subst (λ (k : Interface). (slice_index_or k.upgrades level (amount 0 0)).ram ≤ n) (sym p.1) (omega (arith, no_ram p.0.upgrades level))
   free_affords section t (Say text) = tt
   free_affords section t Out = tt
-  free_affords section t Drop = tt
-  free_affords section t Dup = tt
-  free_affords section t (Push m) = tt
-  free_affords section t (Divide m) = tt
-  free_affords section t (Modulo m) = tt
-  free_affords section t (Get m) = tt
-  free_affords section t (Set m) = tt
-  free_affords section t (Index m) = tt
-  free_affords section t (Combine f) = tt
+  free_affords section t (Operands m) = tt
   free_affords section t (Make form place m) = tt
   free_affords section t (MakePool place m k) = tt
   free_affords section t (Load width place) = tt

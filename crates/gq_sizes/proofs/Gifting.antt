@@ -3,7 +3,7 @@ use Rattle.std.proofs.Common.{◌≡◌, ℕ, List, [], ◌++◌, Option, Some, 
 use Rattle.gq_model.specs.machine.Amounts.{Amount}
 use Rattle.gq_model.specs.declared.program.Place.{Place}
 use Rattle.gq_model.specs.declared.program.Instruction.{Instruction}
-use Rattle.gq_model.specs.declared.program.Instruction.TheVariants.{Say, Out, Drop, Dup, Push, Divide, Modulo, Get, Set, Index, Combine, Make, MakePool, Load}
+use Rattle.gq_model.specs.declared.program.Instruction.TheVariants.{Say, Out, Operands, Make, MakePool, Load}
 use Rattle.gq_model.specs.declared.program.Instruction.TheVariants.{Store, Free, Take, Give, Peek, Poke, Open, Upgrade, Call, Close}
 use Rattle.gq_model.specs.machine.Program.{Statements, Done, Do, If, Loop}
 use Rattle.gq_model.specs.rules.Kinds.{State, Context, inside, kind_at}
@@ -38,15 +38,7 @@ gift_so c d s t (Upgrade place n) h o = link_gift n c d s t place h o
 gift_so c d s t (Open place v n) h o = refl
 gift_so c d s t (Say text) h o = refl
 gift_so c d s t Out h o = refl
-gift_so c d s t Drop h o = refl
-gift_so c d s t Dup h o = refl
-gift_so c d s t (Push m) h o = refl
-gift_so c d s t (Divide m) h o = refl
-gift_so c d s t (Modulo m) h o = refl
-gift_so c d s t (Get m) h o = refl
-gift_so c d s t (Set m) h o = refl
-gift_so c d s t (Index m) h o = refl
-gift_so c d s t (Combine f) h o = refl
+gift_so c d s t (Operands m) h o = refl
 gift_so c d s t (Make form place m) h o = refl
 gift_so c d s t (MakePool place m j) h o = refl
 gift_so c d s t (Load width place) h o = refl

@@ -1,7 +1,7 @@
 -- What statements give is what visitors are shown.
 use Rattle.std.proofs.Common.{◌≡◌, ℕ, ◌+◌, List, [], ◌∷◌, ◌++◌, refl, ap, sym, ◌∙◌, append_assoc}
 use Rattle.gq_model.specs.declared.program.Instruction.{Instruction}
-use Rattle.gq_model.specs.declared.program.Instruction.TheVariants.{Say, Out, Drop, Dup, Push, Divide, Modulo, Get, Set, Index, Combine, Make, MakePool, Load}
+use Rattle.gq_model.specs.declared.program.Instruction.TheVariants.{Say, Out, Operands, Make, MakePool, Load}
 use Rattle.gq_model.specs.declared.program.Instruction.TheVariants.{Store, Free, Take, Give, Peek, Poke, Open, Upgrade, Call, Close}
 use Rattle.gq_model.specs.declared.program.Place.TheVariants.{Own, Shared, Object}
 use Rattle.gq_model.specs.machine.Program.{Statements, Done, Do, If, Loop, size}
@@ -33,15 +33,7 @@ gift_same c s (Call place) = refl
 gift_same c s (Close place) = refl
 gift_same c s (Say text) = refl
 gift_same c s Out = refl
-gift_same c s Drop = refl
-gift_same c s Dup = refl
-gift_same c s (Push n) = refl
-gift_same c s (Divide n) = refl
-gift_same c s (Modulo n) = refl
-gift_same c s (Get k) = refl
-gift_same c s (Set k) = refl
-gift_same c s (Index d) = refl
-gift_same c s (Combine f) = refl
+gift_same c s (Operands m) = refl
 gift_same c s (Make form place n) = refl
 gift_same c s (MakePool place n m) = refl
 gift_same c s (Load width place) = refl

@@ -3,7 +3,6 @@ use Rattle.std.proofs.Common.{◌≡◌, ◌∙◌, ℕ, ◌+◌, ◌<◌, ◌�
 use Rattle.std.proofs.Math.Bool.{and-true, and_assoc}
 use Rattle.gq_model.specs.machine.Lists.{all_of}
 use Rattle.gq_model.specs.machine.Scenario.{Component, Interfaces, System}
-use Rattle.gq_model.specs.rules.Kinds.{Subject}
 use Rattle.gq_model.specs.rules.Use.{subject}
 use Rattle.gq_verify.specs.Visits.{Sight, after_all}
 use Rattle.gq_verify.proofs.Left.{next_left, none_left}

@@ -1,10 +1,9 @@
 -- A scenario that is accepted has no numbers that are less than the least ones of any from which it differs in quantities alone.
-use Rattle.std.proofs.Common.{◌≡◌, ℕ, suc, ◌+◌, ◌%◌, ◌≤◌, ◌==◌, Bool, true, false, List, [], ◌∷◌, length, max, Some, None, refl, ap, sym, ◌∙◌, subst, arith}
-use Rattle.std.proofs.Common.{eqb-true}
+use Rattle.std.proofs.Common.{◌≡◌, ℕ, suc, ◌+◌, ◌%◌, ◌≤◌, Bool, true, false, List, [], ◌∷◌, length, max, Some, None, refl, ap, sym, ◌∙◌, subst, arith}
 use Rattle.std.specs.Prelude.{slice_get, if◌then◌else◌, codes}
 use Rattle.gq_tariff.specs.Prices.{up}
 use Rattle.gq_model.specs.machine.Accounts.{leaf_count}
-use Rattle.gq_model.specs.machine.Amounts.{Resource, Ram, Caps, Amount, amount, part}
+use Rattle.gq_model.specs.machine.Amounts.{Resource, Ram, Caps, Amount, amount, part, counts_caps}
 use Rattle.gq_model.specs.machine.Lists.{or_first}
 use Rattle.gq_model.specs.machine.Scenario.{Interface, Interfaces, Component, LeafNode, Nodes, End, Leaf_node, Init_node, Scenario, System, components, system}
 use Rattle.gq_model.specs.machine.Scenario.{interface_in, number_of}
@@ -42,11 +41,11 @@ self s = record { version = refl; default_routes = refl; interfaces = all_self s
 
 -- CAPABILITIES
 
-pub caps_if : (version n m : ℕ) → (version ≡ 2 → n ≤ m) → caps_of version n ≤ m
-caps_if version n m h = by (version == 2) refl
+pub caps_if : (version n m : ℕ) → (counts_caps version ≡ true → n ≤ m) → caps_of version n ≤ m
+caps_if version n m h = by (counts_caps version) refl
   where
-    by : (b : Bool) → (version == 2) ≡ b → (if◌then◌else◌ b n 0) ≤ m
-    by true e = h (eqb-true version 2 e)
+    by : (b : Bool) → counts_caps version ≡ b → (if◌then◌else◌ b n 0) ≤ m
+    by true e = h e
     by false e = omega arith
 
 -- ROOTS
@@ -103,9 +102,9 @@ module _ (t s : Scenario) (sound : IsSound t) (alike : ScenariosAsOne t s) where
         let b = hands t s sound alike r counts name quantum ns e in
         let same = children_same r all x ns ms h in omega (arith, a, b, same)
 
-  -- in version 2
-  counted : s.version ≡ 2 → t.version ≡ 2
-  counted two = alike.version ∙ two
+  -- where the version counts capabilities
+  counted : counts_caps s.version ≡ true → counts_caps t.version ≡ true
+  counted two = ap counts_caps alike.version ∙ two
 
   fits : (r : Resource) → quanta_fault r t ≡ None
   fits Ram = (or_first_none (quanta_fault Ram t) _ (is_resolved t sound.accepted)).0

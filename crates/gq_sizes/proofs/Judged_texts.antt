@@ -1,5 +1,5 @@
 -- Of a text: the scenario that is read is as the laws of least quantities ask it to be.
-use Rattle.std.proofs.Common.{◌≡◌, ℕ, ◌==◌, List, [], ◌∷◌, Option, Some, None, Ok, Err, refl, ap, ap₂, sym, ◌∙◌, subst}
+use Rattle.std.proofs.Common.{◌≡◌, ℕ, List, [], ◌∷◌, Option, Some, None, Ok, Err, refl, ap, ap₂, sym, ◌∙◌, subst}
 use Rattle.std.specs.Prelude.{Result, codes}
 use Rattle.gq_model.specs.machine.Lists.{or_first}
 use Rattle.gq_model.specs.machine.Scenario.{Component, LeafNode, Scenario, components}
@@ -50,7 +50,7 @@ described_pages top e =
     record {
       least = known.memory.least;
       whole = known.memory.whole;
-      caps = λ two. known.caps (ap (λ n. n == 2) two);
+      caps = known.caps;
     }
 
 -- what holds of each scenario that a top table without fault describes holds of each that is read

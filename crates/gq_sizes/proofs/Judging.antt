@@ -1,7 +1,7 @@
 -- Where a statement breaks no rule, it breaks none with other quantities that give what is asked for.
 use Rattle.std.proofs.Common.{◌≡◌, ℕ, zero, suc, ◌+◌, ◌<◌, ◌≤◌, ◌&&◌, nat_lt, Bool, true, false, not, List, [], ◌∷◌, length, Option, Some, None, Ok}
 use Rattle.std.proofs.Common.{Err, refl, ap, sym, ◌∙◌, subst, arith}
-use Rattle.std.specs.Prelude.{if◌then◌else◌, nat_le, slice_get, slice_set, slice_index, slice_index_or, ◌==◌, take}
+use Rattle.std.specs.Prelude.{if◌then◌else◌, nat_le, slice_get, slice_set, slice_index_or, ◌==◌, take}
 use Rattle.std.proofs.lemmas.Bool.Decides.{nat_tests}
 use Rattle.gq_model.specs.machine.Amounts.{Amount, amount, plus, total}
 use Rattle.gq_model.specs.declared.program.Form.TheVariants.{Block, Slice, Space}
@@ -11,16 +11,18 @@ use Rattle.gq_model.specs.declared.program.Place.TheVariants.{Own, Shared, Objec
 use Rattle.gq_model.specs.declared.program.Section.{Section}
 use Rattle.gq_model.specs.declared.program.Width.{Width}
 use Rattle.gq_model.specs.declared.program.Instruction.{Instruction}
-use Rattle.gq_model.specs.declared.program.Instruction.TheVariants.{Say, Out, Drop, Dup, Push, Divide, Modulo, Get, Set, Index, Combine, Make, MakePool, Load}
+use Rattle.gq_model.specs.declared.program.Instruction.TheVariants.{Say, Out, Operands, Make, MakePool, Load}
 use Rattle.gq_model.specs.declared.program.Instruction.TheVariants.{Store, Free, Take, Give, Peek, Poke, Open, Upgrade, Call, Close}
-use Rattle.gq_model.specs.machine.Program.{Program, text_eq}
+use Rattle.gq_model.specs.machine.Program.{text_eq}
 use Rattle.gq_model.specs.machine.Memory.{is_later}
 use Rattle.gq_model.specs.machine.Scenario.{Interface, Interfaces, interface_in, number_of}
 use Rattle.gq_model.specs.declared.fault.Rule.{Rule}
 use Rattle.gq_model.specs.declared.fault.Rule.TheVariants.{OutOfRange}
 use Rattle.gq_model.specs.rules.Kinds.{Kind, Empty_kind, Memory, Pool_kind, Link_kind, State, Context, in_main, kind_at, with_kind}
-use Rattle.gq_model.specs.rules.Rules.{Judged, must, given, top, pushed, is_empty_kind, is_memory_kind, is_kept, may_change, reach}
-use Rattle.gq_model.specs.rules.Rules.{shared_bytes, pool_kind, fill, freed, link_kind, linked, opened, upgraded, called, closed, pooled, reached, judge}
+use Rattle.gq_model.specs.rules.Rules.{Judged, Bounded, Limits, limits, bounds_after, with_bounds, must, given, top, pushed, is_empty_kind, is_memory_kind}
+use Rattle.gq_model.specs.rules.Rules.{is_kept, may_change, reach, shared_bytes, pool_kind, fill, freed, link_kind, linked, opened, upgraded, called, closed}
+use Rattle.gq_model.specs.rules.Rules.{pooled}
+use Rattle.gq_model.specs.rules.Rules.{reached, judge}
 use Rattle.gq_model.proofs.Small.{none_some, some_same}
 use Rattle.gq_model.proofs.Rules_laws.{ok_same, must_holds}
 use Rattle.gq_sizes.specs.Alike.{AreAsOne, AllAsOne, ProvideAsOne, ContextsAsOne, KindsAsOne, BanksAsOne, StatesAsOne, Affords, caps_for}
@@ -218,6 +220,10 @@ module _ (c d : Context) (h : ContextsAsOne c d) where
   -- with other operands
   bounds_as_one : (s t : State) (rest : List ℕ) → One s t → One (record s { bounds = rest }) (record t { bounds = rest })
   bounds_as_one s t rest o = record { own = o.own; bank = o.bank; bounds = refl }
+
+  bounds_follow : (s t : State) (b : Bounded) → One s t → Follows (with_bounds s b) (with_bounds t b)
+  bounds_follow s t (Ok bounds) o = ok_follows _ _ (bounds_as_one s t bounds o)
+  bounds_follow s t (Err rule) o = record { holds = λ u e. cc }
 
   pushed_follows : (a : ℕ) (s t : State) → One s t → Follows (pushed a s) (pushed a t)
   pushed_follows a s t o =
@@ -430,28 +436,18 @@ module _ (c d : Context) (h : ContextsAsOne c d) where
       linked_follows s t place _ _ o (λ l m i j links same known there at_d.
       must_follows _ _ _ _ _ _ (change_so place) (λ e. ok_follows _ _ (put_as_one s t place Empty_kind Empty_kind o refl)))
 
-  counts_at : (n : ℕ) (k : ℕ) → slice_get c.counts n ≡ Some k → slice_get d.counts n ≡ Some k
-  counts_at n k e = subst (λ (x : List ℕ). slice_get x n ≡ Some k) h.counts e
+  abbrev limits_of : List ℕ → List ℕ → List ℕ → Limits
+  limits_of locals counts inputs = record { locals = locals; counts = counts; inputs = inputs }
 
-  locals_at : (n : ℕ) → slice_index c.subject.program.locals n ≡ slice_index d.subject.program.locals n
-  locals_at n = ap (λ (p : Program). slice_index p.locals n) h.subject.program
+  limits_so : limits c ≡ limits d
+  limits_so = λ i. limits_of (h.subject.program i).locals (h.counts i) (h.subject.inputs i)
 
   judge_follows : (s t : State) (i : Instruction) → One s t → Affords d t i → Follows (judge c s i) (judge d t i)
   judge_follows s t (Say text) o gives = ok_follows s t o
   judge_follows s t Out o gives = top_follows s.bounds t.bounds _ _ o.bounds (λ a rest. ok_follows _ _ (bounds_as_one s t rest o))
-  judge_follows s t Drop o gives = top_follows s.bounds t.bounds _ _ o.bounds (λ a rest. ok_follows _ _ (bounds_as_one s t rest o))
-  judge_follows s t Dup o gives = top_follows s.bounds t.bounds _ _ o.bounds (λ a rest. pushed_follows a s t o)
-  judge_follows s t (Push n) o gives = pushed_follows n s t o
-  judge_follows s t (Divide n) o gives = top_follows s.bounds t.bounds _ _ o.bounds (λ a rest. pushed_follows _ _ _ (bounds_as_one s t rest o))
-  judge_follows s t (Modulo n) o gives = top_follows s.bounds t.bounds _ _ o.bounds (λ a rest. pushed_follows _ _ _ (bounds_as_one s t rest o))
-  judge_follows s t (Get i) o gives =
-      subst (λ k. Follows (pushed (slice_index c.subject.program.locals i) s) (pushed k t)) (locals_at i) (pushed_follows _ s t o)
-  judge_follows s t (Set i) o gives = top_follows s.bounds t.bounds _ _ o.bounds (λ a rest.
-      must_follows _ _ _ _ _ _ (λ e. subst (λ k. nat_le a k ≡ true) (locals_at i) e) (λ e. ok_follows _ _ (bounds_as_one s t rest o)))
-  judge_follows s t (Index n) o gives =
-      given_follows (slice_get c.counts n) (slice_get d.counts n) _ _ _ _ (λ k e. (k, counts_at n k e, pushed_follows _ s t o))
-  judge_follows s t (Combine f) o gives = top_follows s.bounds t.bounds _ _ o.bounds (λ b rest.
-      top_follows rest rest _ _ refl (λ a below. pushed_follows _ _ _ (bounds_as_one s t below o)))
+  judge_follows s t (Operands m) o gives =
+      subst (λ b. Follows (judge c s (Operands m)) (with_bounds t b))
+      (λ i. bounds_after (limits_so i) (o.bounds i) m) (bounds_follow s t _ o)
   judge_follows s t (Make form place n) o gives = fill_follows s t place (Memory form n) o refl
   judge_follows s t (MakePool place n m) o gives = fill_follows s t place (Pool_kind n m) o refl
   judge_follows s t (Load width place) o gives = top_follows s.bounds t.bounds _ _ o.bounds (λ i rest.

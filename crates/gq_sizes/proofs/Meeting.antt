@@ -3,7 +3,7 @@ use Rattle.std.proofs.Common.{◌≡◌, ℕ, suc, ◌+◌, ◌≤◌, List, [],
 use Rattle.gq_model.specs.machine.Amounts.{Amount}
 use Rattle.gq_model.specs.declared.program.Place.TheVariants.{Own, Shared, Object}
 use Rattle.gq_model.specs.declared.program.Instruction.{Instruction}
-use Rattle.gq_model.specs.declared.program.Instruction.TheVariants.{Say, Out, Drop, Dup, Push, Divide, Modulo, Get, Set, Index, Combine, Make, MakePool, Load}
+use Rattle.gq_model.specs.declared.program.Instruction.TheVariants.{Say, Out, Operands, Make, MakePool, Load}
 use Rattle.gq_model.specs.declared.program.Instruction.TheVariants.{Store, Free, Take, Give, Peek, Poke, Open, Upgrade, Call, Close}
 use Rattle.gq_model.specs.machine.Lists.{greatest}
 use Rattle.gq_model.specs.machine.Program.{Statements, Done, Do, If, Loop, size}
@@ -60,15 +60,7 @@ module _ (O : List ℕ → ℕ → Type 0) (G : Gift → Type 0) (B : State → 
   met_inside c n s (Upgrade Object m) e = e
   met_inside c n s (Say text) e = e
   met_inside c n s Out e = e
-  met_inside c n s Drop e = e
-  met_inside c n s Dup e = e
-  met_inside c n s (Push m) e = e
-  met_inside c n s (Divide m) e = e
-  met_inside c n s (Modulo m) e = e
-  met_inside c n s (Get m) e = e
-  met_inside c n s (Set m) e = e
-  met_inside c n s (Index m) e = e
-  met_inside c n s (Combine f) e = e
+  met_inside c n s (Operands m) e = e
   met_inside c n s (Make form place m) e = e
   met_inside c n s (MakePool place m k) e = e
   met_inside c n s (Load width place) e = e
@@ -95,15 +87,7 @@ module _ (O : List ℕ → ℕ → Type 0) (G : Gift → Type 0) (B : State → 
   met_by c s (Upgrade place n) k o g = λ l e. (subst (λ x. Each G (gift_on n x)) e g).0
   met_by c s (Say text) k o g = tt
   met_by c s Out k o g = tt
-  met_by c s Drop k o g = tt
-  met_by c s Dup k o g = tt
-  met_by c s (Push m) k o g = tt
-  met_by c s (Divide m) k o g = tt
-  met_by c s (Modulo m) k o g = tt
-  met_by c s (Get m) k o g = tt
-  met_by c s (Set m) k o g = tt
-  met_by c s (Index m) k o g = tt
-  met_by c s (Combine f) k o g = tt
+  met_by c s (Operands m) k o g = tt
   met_by c s (Make form place m) k o g = tt
   met_by c s (MakePool place m j) k o g = tt
   met_by c s (Load width place) k o g = tt

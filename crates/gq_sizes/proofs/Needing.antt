@@ -1,8 +1,8 @@
 -- Of a scenario that is accepted: no session needs more than its interface asks for, nor does any with other quantities.
-use Rattle.std.proofs.Common.{◌≡◌, ℕ, zero, suc, ◌+◌, ◌-◌, ◌≤◌, ◌==◌, Bool, true, false, List, [], ◌∷◌, length, Option, Some, None, refl, ap, sym, ◌∙◌, subst}
+use Rattle.std.proofs.Common.{◌≡◌, ℕ, zero, suc, ◌+◌, ◌-◌, ◌≤◌, Bool, true, false, List, [], ◌∷◌, length, Option, Some, None, refl, ap, sym, ◌∙◌, subst}
 use Rattle.std.proofs.Common.{arith}
 use Rattle.std.specs.Prelude.{slice_get, if◌then◌else◌}
-use Rattle.gq_model.specs.machine.Amounts.{Resource, Ram, Caps, part, counted_in}
+use Rattle.gq_model.specs.machine.Amounts.{Resource, Ram, Caps, part, counted_in, counts_caps}
 use Rattle.gq_model.specs.declared.program.Section.{Section}
 use Rattle.gq_model.specs.machine.Lists.{greatest}
 use Rattle.gq_model.specs.machine.Program.{Statements, section_in}
@@ -36,18 +36,18 @@ use Rattle.gq_sizes.proofs.Meeting.{greatest_each}
 
 -- WHAT IS COUNTED
 
--- bytes always are, capabilities in version 2
+-- bytes always are, capabilities where the version counts them
 abbrev pub Counts : ℕ → Resource → Type 0
 Counts version Ram = Unit {0}
-Counts version Caps = version ≡ 2
+Counts version Caps = counts_caps version ≡ true
 
 pub counts_of : (version : ℕ) (r : Resource) (P : Resource → Type 0) → Counts version r → EachOf (counted_in version) P → P r
-counts_of version Ram P h e = by (version == 2) e
+counts_of version Ram P h e = by (counts_caps version) e
   where
     by : (b : Bool) → EachOf (if◌then◌else◌ b (Ram ∷ Caps ∷ []) (Ram ∷ [])) P → P Ram
     by true e = e.0
     by false e = e.0
-counts_of version Caps P h e = (subst (λ n. EachOf (counted_in n) P) h e).1.0
+counts_of version Caps P h e = (subst (λ (b : Bool). EachOf (if◌then◌else◌ b (Ram ∷ Caps ∷ []) (Ram ∷ [])) P) h e).1.0
 
 -- NEEDS RISE
 
@@ -164,7 +164,7 @@ module _ (t s : Scenario) (sound : IsSound t) (alike : ScenariosAsOne t s) where
       leaf_needs x p.0 d p.1 p.2 r counts given within service i k known same l below provides))
 
   -- in capabilities, along chains of uses
-  pub caps_needs : t.version ≡ 2 → (n : ℕ) (service : List ℕ) (l : ℕ) → l ≤ levels_for t.interfaces service
+  pub caps_needs : counts_caps t.version ≡ true → (n : ℕ) (service : List ℕ) (l : ℕ) → l ≤ levels_for t.interfaces service
       → caps_sum n all service l ≤ caps_for t.interfaces service l
   caps_needs two zero service l below = omega arith
   caps_needs two (suc n) service l below = by (interface_in service t.interfaces) refl (interface_in service all.interfaces) refl

@@ -1,10 +1,10 @@
 -- What a leaf needs of its own, by the least quantities; and what inits hand out.
 use Rattle.std.proofs.Common.{◌≡◌, ℕ, suc, ◌+◌, ◌*◌, Bool, true, false, List, [], ◌∷◌, max, Option, Some, None, refl, ap, sym, ◌∙◌, arith}
-use Rattle.std.specs.Prelude.{sum_by, if◌then◌else◌, ◌==◌}
+use Rattle.std.specs.Prelude.{sum_by, if◌then◌else◌}
 use Rattle.std.proofs.lemmas.List.Sums.{sum_by-cons}
 use Rattle.gq_tariff.specs.Prices.{classes}
 use Rattle.gq_model.specs.machine.Accounts.{leaf_count}
-use Rattle.gq_model.specs.machine.Amounts.{Resource, Ram, Caps}
+use Rattle.gq_model.specs.machine.Amounts.{Resource, Ram, Caps, counts_caps}
 use Rattle.gq_model.specs.machine.Lists.{greatest}
 use Rattle.gq_model.specs.machine.Prices.{chunks}
 use Rattle.gq_model.specs.machine.Scenario.{Interfaces, Nodes, End, Leaf_node, Init_node, System}
@@ -89,21 +89,21 @@ module _ (version : ℕ) (all : System) where
 
   caps_first : (after : Option (List ℕ)) (n : ℕ) → first_handed after (caps_of version n) ≡ caps_of version (unless_after after n)
   caps_first None n = refl
-  caps_first (Some name) n = by (version == 2)
+  caps_first (Some name) n = by (counts_caps version)
     where
       by : (b : Bool) → ◌≡◌ {A = ℕ} 0 (if◌then◌else◌ b 0 0)
       by true = refl
       by false = refl
 
   caps_plus : (n m : ℕ) → caps_of version n + caps_of version m ≡ caps_of version (n + m)
-  caps_plus n m = by (version == 2)
+  caps_plus n m = by (counts_caps version)
     where
       by : (b : Bool) → (if◌then◌else◌ b n 0) + (if◌then◌else◌ b m 0) ≡ (if◌then◌else◌ b (n + m) 0)
       by true = refl
       by false = omega arith
 
   caps_none : 0 ≡ caps_of version 0
-  caps_none = by (version == 2)
+  caps_none = by (counts_caps version)
     where
       by : (b : Bool) → ◌≡◌ {A = ℕ} 0 (if◌then◌else◌ b 0 0)
       by true = refl

@@ -8,7 +8,7 @@ use Rattle.std.proofs.lemmas.Bool.{false≢true, or_cases}
 use Rattle.std.proofs.lemmas.List.Sums.{sum_by-cons}
 use Rattle.std.proofs.lemmas.Option.{slice_get_within}
 use Rattle.gq_model.specs.machine.Accounts.{leaf_count}
-use Rattle.gq_model.specs.machine.Amounts.{Caps, part}
+use Rattle.gq_model.specs.machine.Amounts.{Caps, part, counts_caps}
 use Rattle.gq_model.specs.declared.program.Section.{Section}
 use Rattle.gq_model.specs.declared.program.Section.TheVariants.{Main}
 use Rattle.gq_model.specs.declared.program.Form.TheVariants.{Slice}
@@ -194,7 +194,7 @@ same_count [] (f ∷ js) h = absurd h
 same_count (e ∷ is) [] h = absurd h
 same_count (e ∷ is) (f ∷ js) h = ap suc (same_count is js h.2)
 
-module _ (t s : Scenario) (sound : IsSound t) (alike : ScenariosAsOne t s) (two : t.version ≡ 2) where
+module _ (t s : Scenario) (sound : IsSound t) (alike : ScenariosAsOne t s) (two : counts_caps t.version ≡ true) where
   abbrev mine : System
   mine = system t
 
@@ -345,9 +345,9 @@ pub none_endless : (t s : Scenario) → IsSound t → ScenariosAsOne t s → Non
 none_endless t s sound alike =
     record {
       interfaces = λ two service i l known below.
-          never_endless t s sound alike (alike.version ∙ two) service l (within service i l known below);
-      root = λ two. children_end t s sound alike (alike.version ∙ two) 0 s.nodes;
-      nodes = λ two. nodes_end t s sound alike (alike.version ∙ two) 0 s.nodes;
+          never_endless t s sound alike (ap counts_caps alike.version ∙ two) service l (within service i l known below);
+      root = λ two. children_end t s sound alike (ap counts_caps alike.version ∙ two) 0 s.nodes;
+      nodes = λ two. nodes_end t s sound alike (ap counts_caps alike.version ∙ two) 0 s.nodes;
     }
   where
     within : (service : List ℕ) (i : Interface) (l : ℕ) → interface_in service s.interfaces ≡ Some i → l ≤ length i.upgrades

@@ -1,11 +1,11 @@
 -- The nodes of a scenario with the least quantities: each leaf has its own, and inits hand out no more than they have.
-use Rattle.std.proofs.Common.{◌≡◌, ℕ, zero, suc, ◌+◌, ◌≤◌, ◌==◌, Bool, true, false, List, [], ◌∷◌, ◌++◌, length, max, Option, Some, None, refl, ap, ◌∙◌, subst}
+use Rattle.std.proofs.Common.{◌≡◌, ℕ, zero, suc, ◌+◌, ◌≤◌, Bool, true, false, List, [], ◌∷◌, ◌++◌, length, max, Option, Some, None, refl, ap, ◌∙◌, subst}
 use Rattle.std.proofs.Common.{arith, nat_le}
 use Rattle.std.specs.Prelude.{slice_get, if◌then◌else◌, codes}
 use Rattle.std.proofs.lemmas.Bool.Decides.{nat_tests}
 use Rattle.gq_tariff.specs.Prices.{up}
 use Rattle.gq_model.specs.machine.Accounts.{leaf_count}
-use Rattle.gq_model.specs.machine.Amounts.{Resource, Ram, Caps, Amount, amount, part}
+use Rattle.gq_model.specs.machine.Amounts.{Resource, Ram, Caps, Amount, amount, part, counts_caps}
 use Rattle.gq_model.specs.machine.Lists.{or_first}
 use Rattle.gq_model.specs.machine.Scenario.{Route, Nodes, End, Leaf_node, Init_node, Level, Component, Scenario, System, components_of, level, below}
 use Rattle.gq_model.specs.rules.Resolve.{handed_out, exceeded, exceeds, first_exceeding, quanta_fault}
@@ -84,7 +84,7 @@ module _ (version : ℕ) (all : System) where
       (λ i. or_first (a i) (or_first (inits_fit r x children i) (inits_fit r (x + leaf_count children) rest i)))
 
   caps_less : (n m : ℕ) → n ≤ m → caps_of version n ≤ caps_of version m
-  caps_less n m h = by (version == 2)
+  caps_less n m h = by (counts_caps version)
     where
       by : (b : Bool) → (if◌then◌else◌ b n 0) ≤ (if◌then◌else◌ b m 0)
       by true = h

@@ -1,6 +1,6 @@
 -- What is found of a scenario without its quantities is what its text prints.
 use Rattle.std.proofs.Common.{◌≡◌, ℕ, zero, suc, ◌-◌, max, Bool, List, [], ◌∷◌, ◌++◌, map, Option, Some, None, Result, Ok, Err, refl, ap, sym, ◌∙◌, subst}
-use Rattle.std.specs.Prelude.{codes, IsOkAnd}
+use Rattle.std.specs.Prelude.{codes, IfErr}
 use Rattle.std.proofs.lemmas.List.{length-map}
 use Rattle.gq_model.specs.machine.Amounts.{Ram}
 use Rattle.gq_model.specs.machine.Lists.{or_first}
@@ -13,14 +13,18 @@ use Rattle.gq_model.specs.rules.Use.{subject}
 use Rattle.gq_model.specs.rules.Verdict.{program_fault}
 use Rattle.gq_model.proofs.Small.{or_first_none, some_none}
 use Rattle.gq_program.specs.Interfaces.{all_unbounded, capped, unbounded}
+use Rattle.gq_scenario.specs.Reading.{scenario_in}
 use Rattle.gq_scenario.specs.Unsized.{unsized}
-use Rattle.gq_load.specs.Load.{Fault, refused, sources_fault}
+use Rattle.gq_load.specs.Faults.{PrintsFault, Refuses}
+use Rattle.gq_load.specs.Load.{Fault, loaded_or, refused, sources_fault}
+use Rattle.gq_load.specs.declared.fault.LoadError.{LoadError}
+use Rattle.gq_load.specs.declared.fault.LoadError.TheVariants as error
 use Rattle.gq_load.specs.Unsized.{unsized_fault, unsized_refusal}
 use Rattle.gq_verify.specs.Counting.{saturated}
-use Rattle.gq_world.specs.Whole.{with_scenario}
 use Rattle.gq_sizes.specs.Size.{Gift, all_gifts, all_short, asked_above, least_caps, needed, ram_sum}
 use Rattle.gq_sizes.specs.Needing.{BreakNothing, subjects_by}
 use Rattle.gq_sizes.specs.Endless.{is_endless}
+use Rattle.gq_sizes.specs.Judged.{fault_without, judged_without, judged_without_from}
 use Rattle.gq_sizes.specs.Passing.{endless_rows, tests}
 use Rattle.gq_sizes.specs.Size_text.{size_text}
 use Rattle.gq_sizes.specs.internal.Told as told
@@ -120,6 +124,20 @@ pub endless_told : (all : System) (s free : Scenario) (ifs : Interfaces) (rows :
     → rows ≡ endless_rows all free.interfaces → rows ≡ endless_rows all ifs
 endless_told all s free ifs rows is same made =
     made ∙ (ap (λ (f : Scenario). endless_rows all f.interfaces) is ∙ (endless_rows_same all s.interfaces ∙ ap (endless_rows all) (sym same)))
+
+-- REFUSALS
+
+refuses_or : (s : Scenario) (fault : Option Fault) (e : LoadError) → PrintsFault e fault → Refuses e (loaded_or s fault)
+refuses_or s fault error.Memory h = tt
+refuses_or s None (error.Fault f) h = h
+refuses_or s (Some fault) (error.Fault f) h = h
+
+-- a text whose scenario is refused is refused so
+pub refuses_so : {A : Type 0} (text : List ℕ) (s : Scenario) (r : Result A LoadError) → scenario_in text ≡ Ok s → IfErr r (λ e. PrintsFault e (fault_without s))
+    → IfErr r (λ e. Refuses e (judged_without text))
+refuses_so text s (Ok a) is h = tt
+refuses_so text s (Err e) is h =
+    subst (λ (l : Result Scenario Fault). Refuses e l) (sym (ap judged_without_from is)) (refuses_or s (fault_without s) e h)
 
 -- THE TEXT
 

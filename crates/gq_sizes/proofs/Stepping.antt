@@ -6,7 +6,7 @@ use Rattle.gq_model.specs.declared.program.Place.{Place}
 use Rattle.gq_model.specs.declared.program.Section.{Section}
 use Rattle.gq_model.specs.declared.program.Section.TheVariants.{Main, Opening, Upgrading, Calling, Closing}
 use Rattle.gq_model.specs.declared.program.Instruction.{Instruction}
-use Rattle.gq_model.specs.declared.program.Instruction.TheVariants.{Say, Out, Drop, Dup, Push, Divide, Modulo, Get, Set, Index, Combine, Make, MakePool, Load}
+use Rattle.gq_model.specs.declared.program.Instruction.TheVariants.{Say, Out, Operands, Make, MakePool, Load}
 use Rattle.gq_model.specs.declared.program.Instruction.TheVariants.{Store, Free, Take, Give, Peek, Poke, Open, Upgrade, Call, Close}
 use Rattle.gq_model.specs.machine.Program.{Statements, Done, Do, If, Loop}
 use Rattle.gq_model.specs.machine.Scenario.{Component, System, LeafNode}
@@ -49,15 +49,7 @@ asks_so service section c d s t (Call place) h o = link_so service section c d s
 asks_so service section c d s t (Close place) h o = link_so service section c d s t place (λ l. Closing l) h o
 asks_so service section c d s t (Say text) h o = refl
 asks_so service section c d s t Out h o = refl
-asks_so service section c d s t Drop h o = refl
-asks_so service section c d s t Dup h o = refl
-asks_so service section c d s t (Push m) h o = refl
-asks_so service section c d s t (Divide m) h o = refl
-asks_so service section c d s t (Modulo m) h o = refl
-asks_so service section c d s t (Get m) h o = refl
-asks_so service section c d s t (Set m) h o = refl
-asks_so service section c d s t (Index m) h o = refl
-asks_so service section c d s t (Combine f) h o = refl
+asks_so service section c d s t (Operands m) h o = refl
 asks_so service section c d s t (Make form place m) h o = refl
 asks_so service section c d s t (MakePool place m j) h o = refl
 asks_so service section c d s t (Load width place) h o = refl

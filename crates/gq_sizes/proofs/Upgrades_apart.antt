@@ -1,10 +1,9 @@
 -- Upgrades and interfaces with the least sums that are put together.
-use Rattle.std.proofs.Common.{◌≡◌, ◌∙◌, ℕ, zero, suc, ◌+◌, ◌-◌, ◌*◌, ◌<◌, ◌≤◌, List, [], ◌∷◌, length, get_or, drop, take, ap, ap₂, sym, arith, add-one, refl}
+use Rattle.std.proofs.Common.{◌≡◌, ◌∙◌, ℕ, suc, ◌+◌, ◌-◌, ◌*◌, ◌<◌, ◌≤◌, List, [], ◌∷◌, length, get_or, drop, take, ap, sym, arith, add-one, refl}
+use Rattle.std.proofs.Common.{Bool, true, false}
+use Rattle.std.specs.Prelude.{if◌then◌else◌}
 use Rattle.std.proofs.Math.Seq.{take-length}
-use Rattle.gq_model.specs.machine.Amounts.{Amount, amount}
-use Rattle.gq_scenario.specs.Trees.{version_number}
-use Rattle.gq_scenario.specs.declared.scenario.Version.{Version}
-use Rattle.gq_scenario.specs.declared.scenario.Version.TheVariants.{One, Two}
+use Rattle.gq_model.specs.machine.Amounts.{Amount, amount, counts_caps}
 use Rattle.gq_verify.specs.Counting.{saturated}
 use Rattle.gq_sizes.specs.Least.{beyond, caps_of, least_upgrades}
 use Rattle.gq_sizes.specs.Tables.{row}
@@ -28,13 +27,17 @@ less : (a before below sum : ℕ) → before + a ≡ sum → before ≡ below �
 less a before below sum e is = omega (arith, e, is)
 
 -- an upgrade is what its sum has more than the one below
-pub added_is : (version : Version) (f g : ℕ → ℕ) (l before : ℕ) (a : Amount) → a.ram ≡ f (l + 1) - f l → (version ≡ One → a.caps ≡ 0)
-    → (version ≡ Two → before + a.caps ≡ g (l + 1)) → (version ≡ Two → before ≡ g l)
-    → a ≡ beyond (amount (f (suc l)) (caps_of (version_number version) (g (suc l)))) (amount (f l) (caps_of (version_number version) (g l)))
-added_is One f g l before a ram one two is = (λ j. amount ((ram ∙ ap (λ k. f k - f l) (add-one l)) j) (one refl j))
-added_is Two f g l before a ram one two is =
-    (λ j. amount ((ram ∙ ap (λ k. f k - f l) (add-one l)) j)
-    ((less a.caps before (g l) (g (l + 1)) (two refl) (is refl) ∙ ap (λ k. g k - g l) (add-one l)) j))
+pub added_is : (version : ℕ) (f g : ℕ → ℕ) (l before : ℕ) (a : Amount) → a.ram ≡ f (l + 1) - f l → (counts_caps version ≡ false → a.caps ≡ 0)
+    → (counts_caps version ≡ true → before + a.caps ≡ g (l + 1)) → (counts_caps version ≡ true → before ≡ g l)
+    → a ≡ beyond (amount (f (suc l)) (caps_of version (g (suc l)))) (amount (f l) (caps_of version (g l)))
+added_is version f g l before a ram none sum is = by (counts_caps version) refl
+  where
+    by : (b : Bool) → counts_caps version ≡ b
+        → a ≡ beyond (amount (f (suc l)) (if◌then◌else◌ b (g (suc l)) 0)) (amount (f l) (if◌then◌else◌ b (g l) 0))
+    by false e = (λ j. amount ((ram ∙ ap (λ k. f k - f l) (add-one l)) j) (none e j))
+    by true e =
+        (λ j. amount ((ram ∙ ap (λ k. f k - f l) (add-one l)) j)
+        ((less a.caps before (g l) (g (l + 1)) (sum e) (is e) ∙ ap (λ k. g k - g l) (add-one l)) j))
 
 -- LISTS
 

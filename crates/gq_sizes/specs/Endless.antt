@@ -1,5 +1,5 @@
 -- Where no number of capabilities is enough: sessions that hold one another without end.
-use Rattle.std.specs.Prelude.{◌≡◌, ℕ, zero, suc, ◌+◌, ◌≤◌, Bool, false, ◌&&◌, ◌||◌, List, length, Option, Some, None, is_some, slice_get}
+use Rattle.std.specs.Prelude.{◌≡◌, ℕ, zero, suc, ◌+◌, ◌≤◌, Bool, false, ◌&&◌, ◌||◌, List, length, Option, Some, None, is_some, slice_get, true}
 use Rattle.gq_model.specs.declared.program.Section.{Section}
 use Rattle.gq_model.specs.declared.program.Section.TheVariants.{Main}
 use Rattle.gq_model.specs.machine.Accounts.{leaf_count}
@@ -10,6 +10,7 @@ use Rattle.gq_model.specs.rules.Kinds.{Kind, Link_kind, State, Subject}
 use Rattle.gq_model.specs.rules.Use.{subject}
 use Rattle.gq_sizes.specs.Size.{is_named, is_up_to, rounds, section_points, starts_after}
 use Rattle.gq_scenario.specs.Unsized.{unsized}
+use Rattle.gq_model.specs.machine.Amounts.{counts_caps}
 
 -- INTERFACES
 
@@ -73,7 +74,7 @@ children_endless all x (Init_node node children rest) = children_endless all x c
 -- enough capabilities can be given for sessions of each interface, at each level that it has
 abbrev pub HaveEnds : Scenario → Type 0
 HaveEnds s =
-    s.version ≡ 2 → (service : List ℕ) (i : Interface) (l : ℕ) → interface_in service s.interfaces ≡ Some i → l ≤ length i.upgrades
+    counts_caps s.version ≡ true → (service : List ℕ) (i : Interface) (l : ℕ) → interface_in service s.interfaces ≡ Some i → l ≤ length i.upgrades
     → is_endless (system (unsized s)) service l ≡ false
 
 -- and to each of these nodes, of which the first leaf is the x-th
@@ -86,5 +87,5 @@ NodesEnd all x (Init_node node children rest) =
 -- none of the least capabilities is none: of an interface at a level that it has, of a leaf, of an init, of the root
 pub record NoneEndless (s : Scenario) : Type 0 where
   pub interfaces : HaveEnds s
-  pub root : s.version ≡ 2 → children_endless (system (unsized s)) 0 s.nodes ≡ false
-  pub nodes : s.version ≡ 2 → NodesEnd (system (unsized s)) 0 s.nodes
+  pub root : counts_caps s.version ≡ true → children_endless (system (unsized s)) 0 s.nodes ≡ false
+  pub nodes : counts_caps s.version ≡ true → NodesEnd (system (unsized s)) 0 s.nodes

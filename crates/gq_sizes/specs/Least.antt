@@ -1,7 +1,7 @@
 -- A scenario with the least quantities in place of its own, and what is said of it.
-use Rattle.std.specs.Prelude.{◌≡◌, ℕ, suc, ◌+◌, ◌-◌, ◌%◌, ◌≤◌, ◌==◌, if◌then◌else◌, List, [], ◌∷◌, length, Some}
+use Rattle.std.specs.Prelude.{◌≡◌, ℕ, suc, ◌+◌, ◌-◌, ◌%◌, ◌≤◌, if◌then◌else◌, List, [], ◌∷◌, length, Some, true}
 use Rattle.gq_model.specs.machine.Accounts.{leaf_count}
-use Rattle.gq_model.specs.machine.Amounts.{Ram, Caps, Amount, amount}
+use Rattle.gq_model.specs.machine.Amounts.{Ram, Caps, Amount, amount, counts_caps}
 use Rattle.gq_model.specs.machine.Scenario.{Interface, Interfaces, Nodes, End, Leaf_node, Init_node, Scenario, System, system, interface_in}
 use Rattle.gq_model.specs.rules.Kinds.{need_of}
 use Rattle.gq_laws.specs.Sound.{IsSound}
@@ -9,9 +9,9 @@ use Rattle.gq_sizes.specs.Size.{Gift, all_gifts, all_short, children_least, leas
 use Rattle.gq_sizes.specs.Endless.{NoneEndless}
 use Rattle.gq_scenario.specs.Unsized.{unsized}
 
--- capabilities are 0 in version 1
+-- capabilities are 0 where the version counts none
 abbrev pub caps_of : ℕ → ℕ → ℕ
-caps_of version n = if version == 2 then n else 0
+caps_of version n = if counts_caps version then n else 0
 
 -- what sessions of a service need, up to a level
 abbrev pub sum_at : ℕ → System → List Gift → List ℕ → Interface → ℕ → Amount
@@ -87,7 +87,7 @@ pub record AreEnough (least s : Scenario) : Type 0 where
 pub record HasWholePages (s : Scenario) : Type 0 where
   pub least : 4096 ≤ s.total.ram
   pub whole : s.total.ram % 4096 ≡ 0
-  pub caps : s.version ≡ 2 → 1 ≤ s.total.caps
+  pub caps : counts_caps s.version ≡ true → 1 ≤ s.total.caps
 
 -- LAWS
 

@@ -51,7 +51,7 @@ fn push_least(text: &mut Vec<u8>, least: Option<u64>) -> Result<(), AllocError>
     }
 }
 
-/// Puts capabilities and what they are at least at the end of a text, in version 2 alone.
+/// Puts capabilities and what they are at least at the end of a text, where the version counts them.
 pub(crate) fn push_caps(
     text: &mut Vec<u8>,
     version: Version,
@@ -60,11 +60,9 @@ pub(crate) fn push_caps(
 ) -> Result<(), AllocError>
     ensures { OnOk result (text.new.items ≡ text.old.items ++ caps_entries (version_number version) has least) }
 {
-    match version {
-        Version::One => Ok(()),
-        Version::Two => {
-            push_entry(text, b"caps", has)?;
-            push_least(text, least)
-        }
+    if !version.counts_caps() {
+        return Ok(());
     }
+    push_entry(text, b"caps", has)?;
+    push_least(text, least)
 }

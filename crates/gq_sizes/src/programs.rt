@@ -12,7 +12,7 @@ use std::alloc::{AllocError, Global};
 /// What the verifier says of each of these leaves, none of which breaks a rule.
 pub(crate) fn all_verified<'a>(
     alloc: Global,
-    components: &[Component<'_>],
+    components: &[Component<'a>],
     programs: &'a [Program],
     interfaces: &'a Interfaces,
 ) -> Result<Vec<Verified<'a>>, AllocError>

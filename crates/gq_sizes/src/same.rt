@@ -34,6 +34,7 @@ pub(crate) fn same_version(a: Version, b: Version) -> bool
     match (a, b) {
         (Version::One, Version::One) => true,
         (Version::Two, Version::Two) => true,
+        (Version::Three, Version::Three) => true,
         _ => false,
     }
 }
@@ -77,6 +78,13 @@ pub(crate) fn same_routes(a: Option<&[Route]>, b: Option<&[Route]>) -> bool
         (None, None) => true,
         _ => false,
     }
+}
+
+/// Whether two lists of numbers are the same.
+pub(crate) fn same_numbers(a: &[u32], b: &[u32]) -> bool
+    ensures { IsTrue result → a.now ≡ b.now }
+{
+    a == b
 }
 
 /// Whether two programs are given alike.

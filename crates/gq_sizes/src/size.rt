@@ -131,7 +131,7 @@ fn judged_text(alloc: Global, text: &[u8]) -> Result<Vec<u8>, LoadError>
 /// - An `open` gives less than a session of its interface needs. Each such statement has a line of its own.
 /// - Sessions hold one another without end, so no number of capabilities is enough. `none` stands in place of such a number.
 ///
-/// Bytes, and in version 2 capabilities. A number above 2^64 - 1 is printed as 2^64 - 1.
+/// Bytes, and capabilities where the version counts them. A number above 2^64 - 1 is printed as 2^64 - 1.
 ///
 /// A scenario that breaks a rule which quantities do not decide is refused by the first such rule, in the words of `check`; any other one has a text, accepted
 /// or not. Nothing is written after a refusal or an allocation failure. After a failed write a prefix of the text is written.

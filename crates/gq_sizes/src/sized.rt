@@ -1,11 +1,10 @@
 // Scenarios that have the least quantities of another.
-ghost use Rattle.std.specs.Prelude.{◌≡◌, ℕ, suc, ◌+◌, ◌*◌, ◌^◌, ◌<◌, ◌≤◌, Bool, List, [], ◌∷◌, length, get_or, IsTrue, IfOk, IfErr, IfSome};
+ghost use Rattle.std.specs.Prelude.{◌≡◌, ℕ, suc, ◌+◌, ◌*◌, ◌^◌, ◌<◌, ◌≤◌, Bool, true, false, List, [], ◌∷◌, length, get_or, IsTrue, IfOk, IfErr, IfSome};
 ghost use Rattle.gq_model.specs.machine.Accounts.{leaf_count};
-ghost use Rattle.gq_model.specs.machine.Amounts.{Ram, Caps, amount};
+ghost use Rattle.gq_model.specs.machine.Amounts.{Ram, Caps, amount, counts_caps};
 ghost use Rattle.gq_model.specs.machine.Scenario as model;
 ghost use Rattle.gq_load.specs.Faults.{PrintsFault};
 ghost use Rattle.gq_scenario.specs.Trees.{nodes_of, version_number};
-ghost use Rattle.gq_scenario.specs.declared.scenario.Version.TheVariants as versions;
 ghost use Rattle.gq_scenario.specs.Unsized.{unsized};
 ghost use Rattle.gq_verify.specs.Counting.{saturated};
 ghost use Rattle.gq_sizes.specs.Judged.{fault_without};
@@ -18,7 +17,9 @@ use crate::found::{Found, found_of};
 use crate::nodes::Leaves;
 use crate::places::Least;
 use crate::points::LEVELS;
-use crate::same::{same_counts, same_name, same_names, same_routes, same_source, same_version};
+use crate::same::{
+    same_counts, same_name, same_names, same_numbers, same_routes, same_source, same_version,
+};
 use gq_load::fault::LoadError;
 use gq_load::quantities::judge_unsized;
 use gq_model::program::Name;
@@ -32,10 +33,12 @@ use std::alloc::Global;
 fn are_least_caps(version: Version, caps: u32, least: Option<u64>) -> bool
     ensures { (m : ℕ) (endless : Bool) → least ≡ unless endless (saturated m) → IsTrue result → caps ≡ caps_of (version_number version) m }
 {
-    match (version, least) {
-        (Version::One, _) => caps == 0,
-        (Version::Two, Some(least)) => u64::from(caps) == least,
-        (Version::Two, None) => false,
+    if !version.counts_caps() {
+        return caps == 0;
+    }
+    match least {
+        Some(least) => u64::from(caps) == least,
+        None => false,
     }
 }
 
@@ -57,6 +60,7 @@ fn is_leaf_sized(version: Version, made: &Leaf, leaf: &Leaf, least: Least) -> bo
         && same_source(made.source(), leaf.source())
         && same_names(made.provides(), leaf.provides())
         && same_names(made.after(), leaf.after())
+        && same_numbers(made.inputs(), leaf.inputs())
         && same_routes(made.routes(), leaf.routes())
 }
 
@@ -131,13 +135,13 @@ fn node_sized(
 /// Whether so many capabilities and those before are the least sum, where they are counted; else whether there are none.
 fn is_caps_sum(version: Version, before: u64, caps: u32, least: u64) -> bool
     requires { before ≤ 2 ^ 32 }
-    ensures one { version ≡ versions.One → IsTrue result → caps ≡ 0 }
-    ensures two { version ≡ versions.Two → IsTrue result → before + caps ≡ least }
+    ensures uncounted { counts_caps (version_number version) ≡ false → IsTrue result → caps ≡ 0 }
+    ensures counted { counts_caps (version_number version) ≡ true → IsTrue result → before + caps ≡ least }
 {
-    match version {
-        Version::One => caps == 0,
-        Version::Two => before + u64::from(caps) == least,
+    if !version.counts_caps() {
+        return caps == 0;
     }
+    before + u64::from(caps) == least
 }
 
 /// The number of a level.
@@ -162,10 +166,10 @@ fn is_upgrade_sized(
 ) -> bool
     requires low { level < 3 }
     requires small { before ≤ (level + 1) * 65536 }
-    ensures added { (f g : ℕ → ℕ) → ram.now ≡ row f → caps.now ≡ row (λ l. saturated (g l)) → (version ≡ versions.Two → before ≡ g level)
+    ensures added { (f g : ℕ → ℕ) → ram.now ≡ row f → caps.now ≡ row (λ l. saturated (g l)) → (counts_caps (version_number version) ≡ true → before ≡ g level)
         → IsTrue result → made.now ≡ beyond (amount (f (suc level)) (caps_of (version_number version) (g (suc level))))
         (amount (f level) (caps_of (version_number version) (g level))) }
-    ensures sum { (g : ℕ → ℕ) → caps.now ≡ row (λ l. saturated (g l)) → version ≡ versions.Two → IsTrue result
+    ensures sum { (g : ℕ → ℕ) → caps.now ≡ row (λ l. saturated (g l)) → counts_caps (version_number version) ≡ true → IsTrue result
         → before + made.now.caps ≡ g (level + 1) }
 {
     let added = at(ram, level + 1).saturating_sub(at(ram, level));
@@ -188,8 +192,9 @@ fn upgrades_sized(
     requires levels { level + length upgrades.now ≤ 3 }
     requires small { before ≤ (level + 1) * 65536 }
     ensures { (all : model.System) (given : List Gift) (service : List ℕ) (i : model.Interface) → ram.now ≡ row (ram_sum all given service i)
-        → caps.now ≡ row (λ l. saturated (least_caps all service l)) → (version ≡ versions.Two → before ≡ least_caps all service level)
-        → IsTrue result → made.now ≡ least_upgrades (sum_at (version_number version) all given service i) level upgrades.now }
+        → caps.now ≡ row (λ l. saturated (least_caps all service l))
+        → (counts_caps (version_number version) ≡ true → before ≡ least_caps all service level) → IsTrue result
+        → made.now ≡ least_upgrades (sum_at (version_number version) all given service i) level upgrades.now }
 {
     match (made, upgrades) {
         ([], []) => true,

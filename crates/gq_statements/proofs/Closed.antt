@@ -84,6 +84,7 @@ some_frame = record {
     slots = [];
     peaks = [];
     steps = 0;
+    inputs = [];
   };
 }
 

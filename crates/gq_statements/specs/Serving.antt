@@ -127,7 +127,7 @@ IsAloneWithoutLinks s x = ((i k : ℕ) → i < 64 → content_at s (InLeaf x i) 
 
 -- the leaf has exited, and its slots are as before
 abbrev pub leaving : world.Leaf → world.Leaf
-leaving leaf = record leaf { phase = Exited; todo = Done; loops = []; operands = []; locals = replicate 8 0 }
+leaving leaf = record leaf { phase = Exited; todo = Done; loops = []; operands = []; locals = replicate 8 0; inputs = replicate 8 0 }
 
 -- The leaf of the step has exited, but for its slots, and who starts after it does: that is the world of these slots.
 abbrev pub IsReleased : Doing → Frame → Slots → Type 0

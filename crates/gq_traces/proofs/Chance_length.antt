@@ -11,7 +11,7 @@ use Rattle.gq_model.specs.machine.World.{World, start}
 use Rattle.gq_model.specs.texts.Turns.{greatest_turns, turned}
 use Rattle.gq_laws.specs.Names.{NamesDiffer}
 use Rattle.gq_views.specs.Listing.{joined}
-use Rattle.gq_traces.specs.Schedule.{Taken, able, choice, choices, chosen, drawn, greatest_choices, no_turns, schedule_lines, schedule_text, some_can}
+use Rattle.gq_traces.specs.Schedule.{Taken, able, as_acts, choice, choices, chosen, drawn, greatest_choices, no_turns, schedule_lines, schedule_text, some_can}
 use Rattle.gq_traces.specs.Schedule.{told_turns, turn_line, where_some, while_can}
 use Rattle.gq_traces.proofs.Schedule_laws.{AreNames, all_chosen, told_back}
 use Rattle.gq_traces.proofs.Scheduled.{while_few}
@@ -87,7 +87,7 @@ unfolding chosen
 chosen_short seed s = choices_short (system s) greatest_choices greatest_turns (start (system s)) (pcg32_of_seed (pcg32_seed 16 seed))
 
 pub chosen_told : (seed : ℕ) (s : Scenario) → NamesDiffer s → AreNames s
-    → turned (components s) (schedule_text (Some seed) s) ≡ Ok (chosen seed s).turns
+    → turned s (schedule_text (Some seed) s) ≡ Ok (as_acts (chosen seed s).turns)
 unfolding greatest_choices
 chosen_told seed s differ names =
     let t = chosen seed s in

@@ -3,14 +3,17 @@ use Rattle.std.proofs.Common.{◌≡◌, ◌∙◌, ◌<◌, ◌+◌, ℕ, zero,
 use Rattle.std.proofs.Common.{arith}
 use Rattle.std.specs.Prelude.{Vec, get_or, slice_get, slice_set}
 use Rattle.std.specs.declared.alloc.Global.{Global}
+use Rattle.gq_model.specs.declared.act.Act.{Act}
+use Rattle.gq_model.specs.declared.act.Act.TheVariants.{Turns, Sets}
 use Rattle.gq_model.specs.machine.Doing.{Event}
+use Rattle.gq_model.specs.machine.Run.{Acts, set_input}
 use Rattle.gq_model.specs.machine.Scenario.{Scenario, System, components, system}
 use Rattle.gq_model.specs.machine.Step.{next}
 use Rattle.gq_model.specs.machine.World as model
 use Rattle.gq_model.proofs.Small.{none_some, some_same}
 use Rattle.gq_world.specs.Worlds.{AreBelow, World}
 use Rattle.gq_traces.specs.Places.{Ahead, start_aheads}
-use Rattle.gq_traces.specs.Trace.{Due, Traced, after_all, after_due, after_step, after_turn, after_turns, due, due_in}
+use Rattle.gq_traces.specs.Trace.{Due, Traced, after_act, after_all, after_due, after_step, after_turn, after_turns, due, due_in}
 use Rattle.gq_traces.specs.internal.Flat.{AllStand, AreAheads, ArePrograms, programs_of}
 use Rattle.gq_traces.specs.internal.Follows.{Follows, IsAt, IsFollowed}
 use Rattle.gq_traces.specs.internal.Telling.{GoesOn, IsDue, TellsDue, due_of}
@@ -88,6 +91,14 @@ one_taken s x old new f g event c scenario stopped same h told stepped goes =
     λ t is. steps_to s x f g old new event t c same (told t.aheads is.aheads) stepped goes is in
     record { scenario = scenario; stopped = stopped; followed = stand_then (after_turn (system s) x) old new f g scenario same h at; at = at }
 
+-- another value of an input
+pub one_set : (s : Scenario) (x i n : ℕ) (old new : World) (f : Followed) → new.scenario ≡ old.scenario → new.stopped ≡ old.stopped
+    → new.world ≡ set_input (system s) old.world x i n → IsFollowed f old → Follows (after_act (system s) x (Sets i n)) old new f f
+one_set s x i n old new f scenario stopped set h =
+    let at : (t : Traced) → IsAt f old t → IsAt f new (after_act (system s) x (Sets i n) t) =
+    λ t is. record { world = ap (λ (w : model.World). set_input (system s) w x i n) is.world ∙ sym set; aheads = is.aheads } in
+    record { scenario = scenario; stopped = stopped; followed = stand_then (after_act (system s) x (Sets i n)) old new f f scenario refl h at; at = at }
+
 -- MORE TURNS
 
 pub follows_none : (go : Traced → Traced) (w : World) (f : Followed) → ((t : Traced) → t ≡ go t) → IsFollowed f w → Follows go w w f f
@@ -109,20 +120,20 @@ turns_more system x n t = let one : suc n ≡ n + 1 = omega arith in by n t ∙ 
     by zero t = refl
     by (suc n) t = by n (after_turn system x t)
 
-pub all_more : (system : System) (turns : List (ℕ × ℕ)) (i : ℕ) (p : ℕ × ℕ) → slice_get turns i ≡ Some p → (t : Traced)
-    → after_turns system p.0 p.1 (after_all system (take i turns) t) ≡ after_all system (take (i + 1) turns) t
+pub all_more : (system : System) (turns : Acts) (i : ℕ) (p : ℕ × Act) → slice_get turns i ≡ Some p → (t : Traced)
+    → after_act system p.0 p.1 (after_all system (take i turns) t) ≡ after_all system (take (i + 1) turns) t
 all_more system turns i p there t =
     let one : suc i ≡ i + 1 = omega arith in by turns i there t ∙ ap (λ m. after_all system (take m turns) t) one
   where
-    by : (turns : List (ℕ × ℕ)) (i : ℕ) → slice_get turns i ≡ Some p → (t : Traced)
-        → after_turns system p.0 p.1 (after_all system (take i turns) t) ≡ after_all system (take (suc i) turns) t
+    by : (turns : Acts) (i : ℕ) → slice_get turns i ≡ Some p → (t : Traced)
+        → after_act system p.0 p.1 (after_all system (take i turns) t) ≡ after_all system (take (suc i) turns) t
     by [] i e t = absurd (none_some e)
-    by (q ∷ turns) zero e t = ap (λ (r : ℕ × ℕ). after_turns system r.0 r.1 t) (sym (some_same e))
-    by (q ∷ turns) (suc i) e t = by turns i e (after_turns system q.0 q.1 t)
+    by (q ∷ turns) zero e t = ap (λ (r : ℕ × Act). after_act system r.0 r.1 t) (sym (some_same e))
+    by (q ∷ turns) (suc i) e t = by turns i e (after_act system q.0 q.1 t)
 
-pub below_at : (n : ℕ) (turns : List (ℕ × ℕ)) (i : ℕ) (p : ℕ × ℕ) → AreBelow n turns → slice_get turns i ≡ Some p → p.0 < n
+pub below_at : (n : ℕ) (turns : Acts) (i : ℕ) (p : ℕ × Act) → AreBelow n turns → slice_get turns i ≡ Some p → p.0 < n
 below_at n [] i p h e = absurd (none_some e)
-below_at n (q ∷ turns) zero p h e = subst (λ (r : ℕ × ℕ). r.0 < n) (some_same e) h.0
+below_at n (q ∷ turns) zero p h e = subst (λ (r : ℕ × Act). r.0 < n) (some_same e) h.0
 below_at n (q ∷ turns) (suc i) p h e = below_at n turns i p h.1 e
 
 -- AT THE START
@@ -162,7 +173,7 @@ goes_as m w x ps programs ss stands new is same stood h =
     subst (λ (n : Machine). GoesOn programs stands new n.scenario n.world x) is
     (subst (λ l. GoesOn programs l new m.scenario m.world x) stood (subst (λ l. GoesOn l ss new m.scenario m.world x) same h))
 
-pub item_there : (turns : List (ℕ × ℕ)) (i : ℕ) (t : ℕ × ℕ) → i < length turns → t ≡ get_or turns i t → slice_get turns i ≡ Some t
+pub item_there : (turns : Acts) (i : ℕ) (t : ℕ × Act) → i < length turns → t ≡ get_or turns i t → slice_get turns i ≡ Some t
 item_there [] i t less e = absurd (omega (arith, less))
 item_there (q ∷ turns) zero t less e = ap Some (sym e)
 item_there (q ∷ turns) (suc i) t less e = item_there turns i t (omega (arith, less)) e

@@ -9,7 +9,7 @@ use Rattle.gq_model.specs.declared.phase.Phase.{Phase}
 use Rattle.gq_model.specs.declared.phase.Phase.TheVariants.{Pending, Running, Blocked, Serving, Handling, Exited}
 use Rattle.gq_model.specs.machine.Accounts.{Account, account_at, amount_in, accounts, handed_to, init_account, init_quota, leaf_account, leaf_count}
 use Rattle.gq_model.specs.machine.Accounts.{node_accounts, spent}
-use Rattle.gq_model.specs.machine.Amounts.{Amount, Resource, Ram, Caps, part}
+use Rattle.gq_model.specs.machine.Amounts.{Amount, Resource, Ram, Caps, part, counts_caps}
 use Rattle.gq_model.specs.machine.Scenario.{Component, Nodes, End, Leaf_node, Init_node, Scenario, below, components, system}
 use Rattle.gq_model.specs.machine.World.{Leaf, World}
 use Rattle.gq_model.specs.Promises.{EachOf}
@@ -244,10 +244,10 @@ module _ (s : Scenario) (w : World) (stands : Stands s w) where
       let same : 0 + n ≡ n = omega arith in
       let at = ap (λ k. hands r w k rows) same in omega (arith, adds, none_given, at)
 
-  each_by : (b : Bool) → (s.version == 2) ≡ b → (told : List ℕ) (n : ℕ) (node : NodeRow) (a : Account) → slice_get rows n ≡ Some node
+  each_by : (b : Bool) → (counts_caps s.version) ≡ b → (told : List ℕ) (n : ℕ) (node : NodeRow) (a : Account) → slice_get rows n ≡ Some node
       → slice_get (accounts s w told) n ≡ Some a → node.leaf ≡ None → EachOf (cond b (Ram ∷ Caps ∷ []) (Ram ∷ [])) (InitAdds s w n node a)
   each_by true v told n node a e f none = (adds_by Ram tt told n node a e f none, (adds_by Caps v told n node a e f none, tt))
   each_by false v told n node a e f none = (adds_by Ram tt told n node a e f none, tt)
 
   pub inits_add_up : InitsAdd s w
-  inits_add_up told n node a e f none = each_by (s.version == 2) refl told n node a e f none
+  inits_add_up told n node a e f none = each_by (counts_caps s.version) refl told n node a e f none

@@ -1,9 +1,9 @@
 -- The account of a leaf, by the place of its node.
 use Rattle.std.proofs.Common.{◌≡◌, ◌∙◌, ◌<◌, ◌+◌, ◌==◌, ◌⊎◌, ℕ, zero, suc, inl, inr, cond, List, [], ◌∷◌, ◌++◌, length, codes, Option, Some}
 use Rattle.std.proofs.Common.{IfSome, refl, ap, sym, subst, arith}
-use Rattle.std.specs.Prelude.{slice_get, slice_index}
+use Rattle.std.specs.Prelude.{slice_get, slice_index, true}
 use Rattle.gq_model.specs.machine.Accounts.{Account, accounts, leaf_account, leaf_count}
-use Rattle.gq_model.specs.machine.Amounts.{Ram, Caps}
+use Rattle.gq_model.specs.machine.Amounts.{Ram, Caps, counts_caps}
 use Rattle.gq_model.specs.machine.Scenario.{Component, Nodes, End, Leaf_node, Init_node, Scenario, below, components, system}
 use Rattle.gq_model.specs.machine.Sums.{quota}
 use Rattle.gq_model.specs.machine.World.{Leaf, World}
@@ -125,8 +125,8 @@ module _ (s : Scenario) (w : World) (count : length w.leaves ≡ length (compone
       from_some (slice_get (accounts s w []) p) (λ (a : Account). q ≡ a.quota.ram) o.account o.there h ∙ (ap (λ (a : Account). a.quota.ram) o.is
       ∙ sym (λ i. quota_of Ram w x (o.has i) (o.stands i)))
 
-  pub caps_is : (q : ℕ) → s.version ≡ 2 → IfSome (slice_get (accounts s w []) p) (λ a. q ≡ a.quota.caps) → q ≡ quota_in (system s) Caps x w
+  pub caps_is : (q : ℕ) → counts_caps s.version ≡ true → IfSome (slice_get (accounts s w []) p) (λ a. q ≡ a.quota.caps) → q ≡ quota_in (system s) Caps x w
   caps_is q two h =
       let o = of_leaf in
       from_some (slice_get (accounts s w []) p) (λ (a : Account). q ≡ a.quota.caps) o.account o.there h ∙ (ap (λ (a : Account). a.quota.caps) o.is
-      ∙ (ap (λ v. cond (v == 2) (quota Caps w x o.component o.leaf) 0) two ∙ sym (λ i. quota_of Caps w x (o.has i) (o.stands i))))
+      ∙ (ap (λ b. cond b (quota Caps w x o.component o.leaf) 0) two ∙ sym (λ i. quota_of Caps w x (o.has i) (o.stands i))))

@@ -3,13 +3,17 @@ use Rattle.std.proofs.Common.{◌≡◌, ◌∙◌, ℕ, zero, suc, List, [], �
 use Rattle.std.specs.Prelude.{slice_get, slice_set}
 use Rattle.std.proofs.lemmas.Option.{slice_get-map}
 use Rattle.gq_model.proofs.Small.{some_same}
+use Rattle.gq_model.specs.declared.act.Act.{Act}
+use Rattle.gq_model.specs.declared.act.Act.TheVariants.{Turns, Sets}
+use Rattle.gq_model.specs.machine.Run.{Acts}
+use Rattle.gq_laws.proofs.setting.Settings.{of_setting}
 use Rattle.gq_model.specs.machine.Doing.{Stepped}
 use Rattle.gq_model.specs.machine.Scenario.{Component, System}
 use Rattle.gq_model.specs.machine.Step.{next, step_of}
-use Rattle.gq_model.specs.machine.World.{start_leaf, start_leaves}
-use Rattle.gq_traces.specs.Left.{GoesWith, left_to, without_numbers}
+use Rattle.gq_model.specs.machine.World.{Leaf, start_leaf, start_leaves}
+use Rattle.gq_traces.specs.Left.{GoesWith, left_in, left_to, without_numbers}
 use Rattle.gq_traces.specs.Places.{start_aheads}
-use Rattle.gq_traces.specs.Trace.{Due, Traced, after_all, after_due, after_step, after_turn, after_turns, due, start_traced}
+use Rattle.gq_traces.specs.Trace.{Due, Traced, after_act, after_all, after_due, after_setting, after_step, after_turn, after_turns, due, start_traced}
 use Rattle.gq_traces.proofs.Left_steps.{map_set, step_left}
 use Rattle.gq_traces.proofs.Told_run.{IsDue, is_due}
 
@@ -47,9 +51,24 @@ module _ (system : System) where
   turns_go x zero t h = h
   turns_go x (suc n) t h = turns_go x n (after_turn system x t) (turn_goes x t h)
 
-  all_go : (turns : List (ℕ × ℕ)) (t : Traced) → GoesWith t → GoesWith (after_all system turns t)
-  all_go [] t h = h
-  all_go (p ∷ turns) t h = all_go turns (after_turns system p.0 p.1 t) (turns_go p.0 p.1 t h)
+  -- an input is nothing that is left to do
+  set_goes : (x i n : ℕ) (t : Traced) → GoesWith t → GoesWith (after_setting system x i n t)
+  set_goes x i n t h =
+      h ∙ sym (of_setting system (λ w. left_in w ≡ left_in t.world) t.world x i n (λ leaf inputs there. same t.world.leaves x leaf inputs there) refl)
+    where
+      same : (leaves : List Leaf) (x : ℕ) (leaf : Leaf) (inputs : List ℕ) → slice_get leaves x ≡ Some leaf
+          → map left_to (slice_set leaves x (record leaf { inputs = inputs })) ≡ map left_to leaves
+      same [] x leaf inputs e = refl
+      same (l ∷ rest) zero leaf inputs e = ap (λ (m : Leaf). left_to m ∷ map left_to rest) (sym (some_same e))
+      same (l ∷ rest) (suc x) leaf inputs e = ap (λ t. left_to l ∷ t) (same rest x leaf inputs e)
 
-pub goes_with : (system : System) (turns : List (ℕ × ℕ)) → GoesWith (after_all system turns (start_traced system))
+  act_goes : (x : ℕ) (a : Act) (t : Traced) → GoesWith t → GoesWith (after_act system x a t)
+  act_goes x (Turns n) t h = turns_go x n t h
+  act_goes x (Sets i n) t h = set_goes x i n t h
+
+  all_go : (acts : Acts) (t : Traced) → GoesWith t → GoesWith (after_all system acts t)
+  all_go [] t h = h
+  all_go (p ∷ acts) t h = all_go acts (after_act system p.0 p.1 t) (act_goes p.0 p.1 t h)
+
+pub goes_with : (system : System) (turns : Acts) → GoesWith (after_all system turns (start_traced system))
 goes_with system turns = all_go system turns (start_traced system) (starts system.components)

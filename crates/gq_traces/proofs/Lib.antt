@@ -74,3 +74,6 @@ mod Peaks_kept
 mod Leaf_accounts
 mod Peaks_told
 mod Peaks_shown
+mod Same_use
+mod Setting_told
+mod Still_set

@@ -4,8 +4,8 @@ use Rattle.std.proofs.Common.{subst, add-one, append-nil, arith}
 use Rattle.std.specs.Prelude.{Result, codes, slice_get, slice_index}
 use Rattle.gq_model.proofs.Small.{none_some, some_same}
 use Rattle.gq_model.specs.machine.Accounts.{Account, LeafAccount, account_at, account_line, accounts, amount_in, leaf_account, leaf_count, node_accounts}
-use Rattle.gq_model.specs.machine.Amounts.{Resource, Ram, Caps}
-use Rattle.gq_model.specs.machine.Run.{run}
+use Rattle.gq_model.specs.machine.Amounts.{Resource, Ram, Caps, counts_caps}
+use Rattle.gq_model.specs.machine.Run.{Acts, run}
 use Rattle.gq_model.specs.machine.Scenario.{Component, Nodes, End, Leaf_node, Init_node, Scenario, below, components, system}
 use Rattle.gq_model.specs.machine.Sums.{held, quota}
 use Rattle.gq_model.specs.machine.World.{Leaf, World}
@@ -128,7 +128,7 @@ module _ (s : Scenario) (w : World) where
 -- SUMS
 
 -- of each resource that is counted
-counted_each : (version : ℕ) (P Q : Resource → Type 0) → ((r : Resource) → IsCounted version r → P r → Q r) → (b : Bool) → (version == 2) ≡ b
+counted_each : (version : ℕ) (P Q : Resource → Type 0) → ((r : Resource) → IsCounted version r → P r → Q r) → (b : Bool) → (counts_caps version) ≡ b
     → EachOf (cond b (Ram ∷ Caps ∷ []) (Ram ∷ [])) P → EachOf (cond b (Ram ∷ Caps ∷ []) (Ram ∷ [])) Q
 counted_each version P Q f true e h = (f Ram tt h.0, (f Caps e h.1.0, tt))
 counted_each version P Q f false e h = (f Ram tt h.0, tt)
@@ -156,7 +156,7 @@ module _ (s : Scenario) (t : Traced) (leaves : LeavesAdd s t.world) where
         quota_is = h.quota_is ∙ ap (λ n. n + sum_of Lent r (leaf_items (system s) t.world x c leaf leaf.phase))
             (sym (part_in s.version r counted (λ q. quota q t.world x c leaf)));
       })
-      (s.version == 2) refl (leaves x c leaf named stands live)
+      (counts_caps s.version) refl (leaves x c leaf named stands live)
 
   -- a leaf, by its account
   pub leaf_shown_adds : (n x : ℕ) (a : Account) (node : NodeRow)
@@ -203,12 +203,12 @@ same_text : (a b : List ℕ) → ◌≡◌ {A = Written} (Ok a) (Ok b) → a ≡
 same_text a b e = cc
 
 pub shows_sums : (first : Option ℕ) (scenario turns text : List ℕ)
-    → ((s : Scenario) → loaded scenario ≡ Ok s → (taken : List (ℕ × ℕ)) → (after s taken).world ≡ (run (system s) taken).world)
-    → ((s : Scenario) → loaded scenario ≡ Ok s → (taken : List (ℕ × ℕ)) → Each (λ n. AddsUp (system s).counted n n.account.leaf) (all_shown s (after s taken)))
+    → ((s : Scenario) → loaded scenario ≡ Ok s → (taken : Acts) → (after s taken).world ≡ (run (system s) taken).world)
+    → ((s : Scenario) → loaded scenario ≡ Ok s → (taken : Acts) → Each (λ n. AddsUp (system s).counted n n.account.leaf) (all_shown s (after s taken)))
     → state_written first scenario turns ≡ Ok text → ShowsSums first scenario turns text
 shows_sums first scenario turns text world adds e = from (loaded scenario) refl e
   where
-    read : (s : Scenario) → loaded scenario ≡ Ok s → (r : Turned) → turned (components s) turns ≡ r
+    read : (s : Scenario) → loaded scenario ≡ Ok s → (r : Turned) → turned s turns ≡ r
         → with_turns r (λ t. state_text s (some_turns first t)) ≡ Ok text
         → ShowsSums first scenario turns text
     read s loads (Err fault) reads f = not_written _ text f
@@ -229,4 +229,4 @@ shows_sums first scenario turns text world adds e = from (loaded scenario) refl 
 
     from : (r : Result Scenario Fault) → loaded scenario ≡ r → with_scenario r (λ s. state_from first s turns) ≡ Ok text → ShowsSums first scenario turns text
     from (Err fault) loads f = not_written _ text f
-    from (Ok s) loads f = read s loads (turned (components s) turns) refl f
+    from (Ok s) loads f = read s loads (turned s turns) refl f

@@ -1,16 +1,20 @@
 -- Peaks that go on through the turns of a run.
 use Rattle.std.proofs.Common.{◌≡◌, ◌∙◌, ◌<◌, ◌≤◌, ◌+◌, ℕ, zero, suc, inl, inr, List, [], ◌∷◌, ◌++◌, length, get_or, Option, Some, None, Ok}
 use Rattle.std.proofs.Common.{refl, ap, sym, subst, arith}
-use Rattle.std.specs.Prelude.{slice_get, slice_set}
+use Rattle.std.specs.Prelude.{slice_get, slice_set, true}
 use Rattle.std.proofs.lemmas.Bool.Decides.{eqb_tells}
 use Rattle.std.proofs.lemmas.Option.{slice_get_within}
 use Rattle.gq_bytecode.specs.Alones.{State}
 use Rattle.gq_bytecode.specs.Nexts.{GoesAlone, leaf_with}
 use Rattle.gq_laws.proofs.linking.Worlds.{set_else, set_here}
 use Rattle.gq_model.proofs.Small.{none_some, some_same}
-use Rattle.gq_model.specs.machine.Amounts.{Resource, Ram, Caps}
+use Rattle.gq_model.specs.declared.act.Act.{Act}
+use Rattle.gq_model.specs.declared.act.Act.TheVariants.{Turns, Sets}
+use Rattle.gq_model.specs.declared.fault.Wrong.{Wrong}
+use Rattle.gq_model.specs.machine.Amounts.{Resource, Ram, Caps, counts_caps}
 use Rattle.gq_model.specs.machine.Doing.{Event, Quiet}
-use Rattle.gq_model.specs.machine.Run.{Ran}
+use Rattle.gq_model.specs.machine.Run.{Ran, Acts, act_on, run_on, set_from, set_input, turn_from, turns_of}
+use Rattle.gq_model.specs.texts.Turns.{turns_given}
 use Rattle.gq_model.specs.machine.Scenario.{Scenario, System, system}
 use Rattle.gq_model.specs.machine.Step.{next}
 use Rattle.gq_model.specs.machine.World as model
@@ -20,12 +24,13 @@ use Rattle.gq_traces.specs.Peaks.{first_greatest, held_by, peak_at, peak_in, quo
 use Rattle.gq_traces.specs.declared.noted.Use.{Use}
 use Rattle.gq_traces.specs.declared.peaks.LeafPeaks.{LeafPeaks}
 use Rattle.gq_traces.specs.declared.peaks.Peak.{Peak}
-use Rattle.gq_traces.specs.internal.Peaking.{AllNow, AllPeaks, ArePeaksNow, AreRaised, Comes, HasAll, HasTurns, IsIn, IsRaised, Peaked, higher}
-use Rattle.gq_traces.specs.internal.Peaking.{peak_now}
+use Rattle.gq_traces.specs.internal.Peaking.{AllNow, AllPeaks, ArePeaksNow, AreRaised, Comes, HasAct, HasAll, HasTurns, IsIn, IsRaised, Peaked, SameUse}
+use Rattle.gq_traces.specs.internal.Peaking.{higher, peak_now}
 use Rattle.gq_traces.specs.internal.Noted.{IsUse}
 use Rattle.gq_traces.proofs.First_greatest.{no_higher, over_more, stays}
-use Rattle.gq_traces.specs.internal.Telling.{turns_in}
-use Rattle.gq_traces.proofs.Runs_on.{first_part, goes_to, item_parts, last_part}
+use Rattle.gq_traces.specs.First_turns.{turns_in}
+use Rattle.gq_traces.proofs.Runs_on.{first_part, goes_to, item_parts, last_part, run_more, turns_sum}
+use Rattle.gq_traces.proofs.Same_use.{same_both, set_same}
 use Rattle.gq_traces.proofs.Standing.{there_is}
 
 -- STEPS OF A LEAF ALONE
@@ -49,35 +54,36 @@ alone_used r y w x leaf s there = elim (eqb_tells y x) [
 ]
 
 -- a run that takes such steps
-record Stays (runs : ℕ → Ran) (n m : ℕ) (v : model.World) : Type 0 where
-  at : IsIn runs m v
+record Stays (system : System) (runs : ℕ → Ran) (n m : ℕ) (now : Ran) (v : model.World) : Type 0 where
+  at : IsIn system runs m now v
   first : (r : Resource) (y : ℕ) → first_greatest (λ k. used_in r y (runs k).world) m ≡ first_greatest (λ k. used_in r y (runs k).world) n
 
-alone_stays : (system : System) (x : ℕ) (runs : ℕ → Ran) (m n : ℕ) (w v : model.World) → HasTurns system x runs n m → IsIn runs n w
-    → GoesAlone system x m w v → Stays runs n (n + m) v
-alone_stays system x runs zero n w v has at goes =
+alone_stays : (system : System) (x : ℕ) (runs : ℕ → Ran) (m n : ℕ) (now : Ran) (w v : model.World) → HasTurns system x runs n now m
+    → IsIn system runs n now w → GoesAlone system x m w v → Stays system runs n (n + m) (turns_of system x m now) v
+alone_stays system x runs zero n now w v has at goes =
     let none : n ≡ n + 0 = omega arith in
-    subst (λ k. Stays runs n k v) none (subst (Stays runs n n) goes (record { at = at; first = λ r y. refl }))
-alone_stays system x runs (suc m) n w v has at goes =
+    subst (λ k. Stays system runs n k now v) none (subst (Stays system runs n n now) goes (record { at = at; first = λ r y. refl }))
+alone_stays system x runs (suc m) n now w v has at goes =
     let mid = stepped w x goes.0 goes.1 in
-    let then = goes_to system runs x n w mid Quiet has.0 at goes.4 in
-    let rest = alone_stays system x runs m (suc n) mid v has.1 then goes.5 in
+    let next = turn_from system x now now.wrong in
+    let then = goes_to system runs x n now w mid Quiet has.0 at goes.4 in
+    let rest = alone_stays system x runs m (suc n) next mid v has.1 then goes.5 in
     let end : suc n + m ≡ n + suc m = omega arith in
-    subst (λ k. Stays runs n k v) end (record {
+    subst (λ k. Stays system runs n k (turns_of system x m next) v) end (record {
       at = rest.at;
       first = λ r y. rest.first r y ∙ stays (λ k. used_in r y (runs k).world) n
-          (ap (used_in r y) then.world ∙ (alone_used r y w x goes.0 goes.1 goes.2 ∙ ap (used_in r y) (sym at.world)));
+          (then.same.used r y ∙ (alone_used r y w x goes.0 goes.1 goes.2 ∙ sym (at.same.used r y)));
     })
 
 pub alone_peaked : (w v : World) (x n m : ℕ) (peaks : List LeafPeaks) → v.scenario ≡ w.scenario → GoesAlone (system w.scenario) x m w.world v.world
-    → Peaked (λ runs. HasTurns (system w.scenario) x runs n m) n (n + m) w v peaks peaks
+    → Peaked (λ runs now. HasTurns (system w.scenario) x runs n now m) (turns_of (system w.scenario) x m) n (n + m) w v peaks peaks
 alone_peaked w v x n m peaks same goes = record {
   scenario = same;
   long = refl;
-  comes = λ runs has at. (
+  comes = λ runs now has at. (
       let s = w.scenario in
       let all = system s in
-      let st = alone_stays all x runs m n w.world v.world has at goes in
+      let st = alone_stays all x runs m n now w.world v.world has at goes in
       let on : (r : Resource) (y : ℕ) → peak_in all (λ k. (runs k).world) r y n ≡ peak_in all (λ k. (runs k).world) r y (n + m) =
       λ r y. ap (peak_at (λ k. used_in r y (runs k).world) (λ k. quota_in all r y (runs k).world)) (sym (st.first r y)) in
       record {
@@ -89,26 +95,26 @@ alone_peaked w v x n m peaks same goes = record {
 -- ANY STEP
 
 -- what a leaf has in the world of a run after so many turns
-now_at : (all : System) (runs : ℕ → Ran) (n y : ℕ) (v : model.World) (r : Resource) → (runs n).world ≡ v
+now_at : (all : System) (runs : ℕ → Ran) (n y : ℕ) (v : model.World) (r : Resource) → SameUse all (runs n).world v
     → peak_now all v r y n ≡ peak_at (λ k. used_in r y (runs k).world) (λ k. quota_in all r y (runs k).world) n
-now_at all runs n y v r e = ap (λ (u : model.World). peak_now all u r y n) (sym e)
+now_at all runs n y v r same = λ i. record { used = sym (same.used r y) i; quota = sym (same.quota r y) i; turn = n }
 
-raised_on : (all : System) (runs : ℕ → Ran) (n y : ℕ) (v : model.World) (r : Resource) (old new : Peak) → (runs (suc n)).world ≡ v
+raised_on : (all : System) (runs : ℕ → Ran) (n y : ℕ) (v : model.World) (r : Resource) (old new : Peak) → SameUse all (runs (suc n)).world v
     → old ≡ peak_in all (λ k. (runs k).world) r y n → new ≡ higher old (peak_now all v r y (suc n)) → new ≡ peak_in all (λ k. (runs k).world) r y (suc n)
-raised_on all runs n y v r old new e was is =
-    is ∙ ((λ i. higher (was i) (now_at all runs (suc n) y v r e i))
+raised_on all runs n y v r old new same was is =
+    is ∙ ((λ i. higher (was i) (now_at all runs (suc n) y v r same i))
     ∙ over_more (λ k. used_in r y (runs k).world) (λ k. quota_in all r y (runs k).world) n)
 
 pub step_peaked : (w v : World) (x n turn : ℕ) (olds news : List LeafPeaks) (event : Event) → v.scenario ≡ w.scenario
     → next (system w.scenario) w.world x ≡ Ok (v.world, event) → turn ≡ suc n → AreRaised v.scenario v.world turn olds news
-    → Peaked (λ runs. HasTurns (system w.scenario) x runs n 1) n (suc n) w v olds news
+    → Peaked (λ runs now. HasTurns (system w.scenario) x runs n now 1) (turns_of (system w.scenario) x 1) n (suc n) w v olds news
 step_peaked w v x n turn olds news event same goes is raised = record {
   scenario = same;
   long = raised.long;
-  comes = λ runs has at. (
+  comes = λ runs now has at. (
       let s = w.scenario in
       let all = system s in
-      let then = goes_to all runs x n w.world v.world event has.0 at goes in
+      let then = goes_to all runs x n now w.world v.world event has.0 at goes in
       record {
         at = then;
         peaks = λ h y q there. (
@@ -119,37 +125,66 @@ step_peaked w v x n turn olds news event same goes is raised = record {
             let now = subst (λ m. IsRaised s v.world y m old.0 q) is (subst (λ (t : Scenario). IsRaised t v.world y turn old.0 q) same (raised.raised y old.0 q
             old.1 there)) in
             record {
-              ram = raised_on all runs n y v.world Ram old.0.ram q.ram then.world was.ram now.ram;
-              caps = λ two. raised_on all runs n y v.world Caps old.0.caps q.caps then.world (was.caps two) (now.caps two);
+              ram = raised_on all runs n y v.world Ram old.0.ram q.ram then.same was.ram now.ram;
+              caps = λ two. raised_on all runs n y v.world Caps old.0.caps q.caps then.same (was.caps two) (now.caps two);
             });
       });
 }
 
+-- A SETTING
+
+pub set_peaked : (w v : World) (x i k n : ℕ) (peaks : List LeafPeaks) → v.scenario ≡ w.scenario → v.world ≡ set_input (system w.scenario) w.world x i k
+    → Peaked (λ runs now. HasAct (system w.scenario) x runs n now (Sets i k)) (act_on (system w.scenario) x (Sets i k)) n (n + 0) w v peaks peaks
+set_peaked w v x i k n peaks same is =
+    let all = system w.scenario in
+    let none : n ≡ n + 0 = omega arith in
+    subst (λ m. Peaked (λ runs now. HasAct all x runs n now (Sets i k)) (act_on all x (Sets i k)) n m w v peaks peaks) none (record {
+      scenario = same;
+      long = refl;
+      comes = λ runs now has at. record {
+        at = subst (λ (o : Option (ℕ × Wrong)). IsIn all runs n (set_from all x i k now o) v.world) (sym at.right) (record {
+          world = ap (λ (u : model.World). set_input all u x i k) at.world ∙ sym is;
+          right = at.right;
+          same = subst (SameUse all (runs n).world) (sym is) (same_both all (runs n).world w.world (set_input all w.world x i k) at.same
+              (set_same all w.world x i k));
+        });
+        peaks = λ h. h;
+      };
+    })
+
 -- SOME TURNS AND THEN OTHERS
 
-pub peaked_none : (has : (ℕ → Ran) → Type 0) (n : ℕ) (w : World) (peaks : List LeafPeaks) → Peaked has n n w w peaks peaks
-peaked_none has n w peaks = record { scenario = refl; long = refl; comes = λ runs h at. record { at = at; peaks = λ all. all } }
+pub peaked_none : (has : (ℕ → Ran) → Ran → Type 0) (go : Ran → Ran) (n : ℕ) (w : World) (peaks : List LeafPeaks) → ((now : Ran) → go now ≡ now)
+    → Peaked has go n n w w peaks peaks
+peaked_none has go n w peaks stands = record {
+  scenario = refl;
+  long = refl;
+  comes = λ runs now h at. record { at = subst (λ r. IsIn (system w.scenario) runs n r w.world) (sym (stands now)) at; peaks = λ all. all };
+}
 
-pub peaked_both : (first second both : (ℕ → Ran) → Type 0) (n m k : ℕ) (u v w : World) (ps qs rs : List LeafPeaks)
-    → ((runs : ℕ → Ran) → both runs → first runs × second runs) → Peaked first n m u v ps qs → Peaked second m k v w qs rs → Peaked both n k u w ps rs
-peaked_both first second both n m k u v w ps qs rs parts p q = record {
+pub peaked_both : (first second both : (ℕ → Ran) → Ran → Type 0) (f g go : Ran → Ran) (n m k : ℕ) (u v w : World) (ps qs rs : List LeafPeaks)
+    → ((runs : ℕ → Ran) (now : Ran) → both runs now → first runs now × second runs (f now)) → ((now : Ran) → g (f now) ≡ go now)
+    → Peaked first f n m u v ps qs → Peaked second g m k v w qs rs → Peaked both go n k u w ps rs
+peaked_both first second both f g go n m k u v w ps qs rs parts same p q = record {
   scenario = q.scenario ∙ p.scenario;
   long = q.long ∙ p.long;
-  comes = λ runs has at. (
-      let h = parts runs has in
-      let a = p.comes runs h.0 at in
-      let b = subst (λ (t : Scenario). Comes t runs m k w.world qs rs) p.scenario (q.comes runs h.1 a.at) in
-      record { at = b.at; peaks = λ all. b.peaks (a.peaks all) });
+  comes = λ runs now has at. (
+      let h = parts runs now has in
+      let a = p.comes runs now h.0 at in
+      let b = subst (λ (t : Scenario). Comes t runs m k (g (f now)) w.world qs rs) p.scenario (q.comes runs (f now) h.1
+      (subst (λ (t : Scenario). IsIn (system t) runs m (f now) v.world) (sym p.scenario) a.at)) in
+      record { at = subst (λ r. IsIn (system u.scenario) runs k r w.world) (same now) b.at; peaks = λ all. b.peaks (a.peaks all) });
 }
 
 -- AT THE START
 
-pub peaks_first : (s : Scenario) (runs : ℕ → Ran) (w : model.World) (peaks : List LeafPeaks) → IsIn runs 0 w → AllNow s w 0 peaks → AllPeaks s runs 0 peaks
-peaks_first s runs w peaks at now y p there =
-    let h = now y p there in
+pub peaks_first : (s : Scenario) (runs : ℕ → Ran) (now : Ran) (w : model.World) (peaks : List LeafPeaks) → IsIn (system s) runs 0 now w → AllNow s w 0 peaks
+    → AllPeaks s runs 0 peaks
+peaks_first s runs now w peaks at all y p there =
+    let h = all y p there in
     record {
-      ram = h.ram ∙ now_at (system s) runs 0 y w Ram at.world;
-      caps = λ two. h.caps two ∙ now_at (system s) runs 0 y w Caps at.world;
+      ram = h.ram ∙ now_at (system s) runs 0 y w Ram at.same;
+      caps = λ two. h.caps two ∙ now_at (system s) runs 0 y w Caps at.same;
     }
 
 -- WHAT IS READ OF A LEAF
@@ -157,7 +192,7 @@ peaks_first s runs w peaks at now y p there =
 pub used_is : (s : Scenario) (w : model.World) (x : ℕ) (u : Use) → IsUse s w x u → u.used.ram ≡ used_in Ram x w
 used_is s w x u h = h.ram ∙ sym (ap (held_by Ram w x) h.there)
 
-pub taken_is : (s : Scenario) (w : model.World) (x : ℕ) (u : Use) → IsUse s w x u → s.version ≡ 2 → u.used.caps ≡ used_in Caps x w
+pub taken_is : (s : Scenario) (w : model.World) (x : ℕ) (u : Use) → IsUse s w x u → counts_caps s.version ≡ true → u.used.caps ≡ used_in Caps x w
 taken_is s w x u h two = h.caps two ∙ sym (ap (held_by Caps w x) h.there)
 
 -- what the leaf has in a world, by what is read of it
@@ -215,51 +250,50 @@ raised_more s w turn n k olds news d new at less here all others x p q below was
     got (c ∷ xs) zero less = refl
     got (c ∷ xs) (suc n) less = got xs n (omega (arith, less))
 
+-- turns of a leaf and more of them
+pub turns_then : (u v w : World) (x n a b c : ℕ) (ps qs rs : List LeafPeaks) → c ≡ a + b
+    → Peaked (λ runs now. HasTurns (system u.scenario) x runs n now a) (turns_of (system u.scenario) x a) n (n + a) u v ps qs
+    → Peaked (λ runs now. HasTurns (system v.scenario) x runs (n + a) now b) (turns_of (system v.scenario) x b) (n + a) (n + a + b) v w qs rs
+    → Peaked (λ runs now. HasTurns (system u.scenario) x runs n now c) (turns_of (system u.scenario) x c) n (n + c) u w ps rs
+turns_then u v w x n a b c ps qs rs is p q =
+    let s = system u.scenario in
+    let sum : n + c ≡ n + a + b = omega (arith, is) in
+    let second = subst (λ (t : Scenario). Peaked (λ runs now. HasTurns (system t) x runs (n + a) now b) (turns_of (system t) x b) (n + a) (n + a + b) v w qs rs)
+    p.scenario q in
+    subst (λ t. Peaked (λ runs now. HasTurns s x runs n now c) (turns_of s x c) n t u w ps rs) (sym sum)
+    (peaked_both (λ runs now. HasTurns s x runs n now a) (λ runs now. HasTurns s x runs (n + a) now b) (λ runs now. HasTurns s x runs n now c)
+    (turns_of s x a) (turns_of s x b) (turns_of s x c) n (n + a) (n + a + b) u v w ps qs rs
+    (λ runs now has. (first_part s x runs a b n c now is has, last_part s x runs a b n c now is has))
+    (λ now. turns_sum s x (λ k. now) a b now ∙ ap (λ m. turns_of s x m now) (sym is)) p second)
+
 -- turns that a leaf takes alone, and one more
 pub alone_then : (u v w : World) (x n m k : ℕ) (olds news : List LeafPeaks) (event : Event) → k ≡ m + 1 → v.scenario ≡ u.scenario → w.scenario ≡ v.scenario
     → GoesAlone (system u.scenario) x m u.world v.world → next (system v.scenario) v.world x ≡ Ok (w.world, event)
-    → AreRaised w.scenario w.world (n + k) olds news → Peaked (λ runs. HasTurns (system u.scenario) x runs n k) n (n + k) u w olds news
+    → AreRaised w.scenario w.world (n + k) olds news
+    → Peaked (λ runs now. HasTurns (system u.scenario) x runs n now k) (turns_of (system u.scenario) x k) n (n + k) u w olds news
 alone_then u v w x n m k olds news event is first second alone step raised =
     let sum : n + k ≡ suc (n + m) = omega (arith, is) in
-    let whole : k ≡ m + 1 = is in
-    subst (λ t. Peaked (λ runs. HasTurns (system u.scenario) x runs n k) n t u w olds news) (sym sum)
-    (peaked_both (λ runs. HasTurns (system u.scenario) x runs n m) (λ runs. HasTurns (system v.scenario) x runs (n + m) 1)
-    (λ runs. HasTurns (system u.scenario) x runs n k) n (n + m) (suc (n + m)) u v w olds olds news
-    (λ runs has. (
-      first_part (system u.scenario) x runs m 1 n k whole has,
-      subst (λ (t : Scenario). HasTurns (system t) x runs (n + m) 1) (sym first) (last_part (system u.scenario) x runs m 1 n k whole has),
-    ))
-    (alone_peaked u v x n m olds first alone)
+    turns_then u v w x n m 1 k olds olds news is (alone_peaked u v x n m olds first alone)
+    (let one : suc (n + m) ≡ n + m + 1 = omega arith in
+    subst (λ t. Peaked (λ runs now. HasTurns (system v.scenario) x runs (n + m) now 1) (turns_of (system v.scenario) x 1) (n + m) t v w olds news) one
     (step_peaked v w x (n + m) (n + k) olds news event second step sum raised))
 
--- turns of a leaf and more of them
-pub turns_then : (u v w : World) (x n a b c : ℕ) (ps qs rs : List LeafPeaks) → c ≡ a + b
-    → Peaked (λ runs. HasTurns (system u.scenario) x runs n a) n (n + a) u v ps qs
-    → Peaked (λ runs. HasTurns (system v.scenario) x runs (n + a) b) (n + a) (n + a + b) v w qs rs
-    → Peaked (λ runs. HasTurns (system u.scenario) x runs n c) n (n + c) u w ps rs
-turns_then u v w x n a b c ps qs rs is p q =
-    let sum : n + c ≡ n + a + b = omega (arith, is) in
-    subst (λ t. Peaked (λ runs. HasTurns (system u.scenario) x runs n c) n t u w ps rs) (sym sum)
-    (peaked_both (λ runs. HasTurns (system u.scenario) x runs n a) (λ runs. HasTurns (system v.scenario) x runs (n + a) b)
-    (λ runs. HasTurns (system u.scenario) x runs n c) n (n + a) (n + a + b) u v w ps qs rs
-    (λ runs has. (
-      first_part (system u.scenario) x runs a b n c is has,
-      subst (λ (t : Scenario). HasTurns (system t) x runs (n + a) b) (sym p.scenario) (last_part (system u.scenario) x runs a b n c is has),
-    ))
-    p q)
-
--- the turns of a list up to an item, and those of the item
-pub items_then : (u v w : World) (turns more : List (ℕ × ℕ)) (i : ℕ × ℕ) (n x c : ℕ) (ps qs rs : List LeafPeaks) → turns ++ i ∷ [] ≡ more
-    → n ≡ turns_in turns → x ≡ i.0 → c ≡ i.1 → Peaked (λ runs. HasAll (system u.scenario) turns runs 0) 0 n u v ps qs
-    → Peaked (λ runs. HasTurns (system v.scenario) x runs n c) n (n + c) v w qs rs
-    → Peaked (λ runs. HasAll (system u.scenario) more runs 0) 0 (n + c) u w ps rs
-items_then u v w turns more i n x c ps qs rs is at leaf count p q =
-    peaked_both (λ runs. HasAll (system u.scenario) turns runs 0) (λ runs. HasTurns (system v.scenario) x runs n c)
-    (λ runs. HasAll (system u.scenario) more runs 0) 0 n (n + c) u v w ps qs rs
-    (λ runs has. (
-    let h = item_parts (system u.scenario) runs turns more i n is at has in (
+-- a list up to an item, and the item
+pub items_then : (u v w : World) (acts more : Acts) (i : ℕ × Act) (n x : ℕ) (a : Act) (ps qs rs : List LeafPeaks) → acts ++ i ∷ [] ≡ more
+    → n ≡ turns_in acts → x ≡ i.0 → a ≡ i.1
+    → Peaked (λ runs now. HasAll (system u.scenario) acts runs 0 now) (run_on (system u.scenario) acts) 0 n u v ps qs
+    → Peaked (λ runs now. HasAct (system v.scenario) x runs n now a) (act_on (system v.scenario) x a) n (n + turns_given a) v w qs rs
+    → Peaked (λ runs now. HasAll (system u.scenario) more runs 0 now) (run_on (system u.scenario) more) 0 (n + turns_given a) u w ps rs
+items_then u v w acts more i n x a ps qs rs is at leaf same p q =
+    let s = system u.scenario in
+    let second = subst (λ (t : Scenario). Peaked (λ runs now. HasAct (system t) x runs n now a) (act_on (system t) x a) n (n + turns_given a) v w qs rs)
+    p.scenario q in
+    peaked_both (λ runs now. HasAll s acts runs 0 now) (λ runs now. HasAct s x runs n now a) (λ runs now. HasAll s more runs 0 now)
+    (run_on s acts) (act_on s x a) (run_on s more) 0 n (n + turns_given a) u v w ps qs rs
+    (λ runs now has. (
+    let h = item_parts s runs acts more i n now is at has in (
       h.0,
-      subst (λ (t : Scenario). HasTurns (system t) x runs n c) (sym p.scenario)
-          (subst (λ y. HasTurns (system u.scenario) y runs n c) (sym leaf) (subst (HasTurns (system u.scenario) i.0 runs n) (sym count) h.1)),
+      subst (λ y. HasAct s y runs n (run_on s acts now) a) (sym leaf) (subst (HasAct s i.0 runs n (run_on s acts now)) (sym same) h.1),
     )))
-    p q
+    (λ now. (λ k. act_on s (leaf k) (same k) (run_on s acts now)) ∙ run_more s acts more i now is)
+    p second

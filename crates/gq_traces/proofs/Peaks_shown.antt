@@ -1,31 +1,33 @@
 -- No world of a run has a greater use than its peaks, and some world has each of them.
 use Rattle.std.proofs.Common.{◌≡◌, ◌∙◌, ◌<◌, ◌≤◌, ◌⊎◌, ℕ, suc, inl, inr, List, [], ◌∷◌, length, Result, Ok, Err, refl, ap, sym, arith}
 use Rattle.gq_model.specs.machine.Amounts.{Resource, Ram, Caps}
-use Rattle.gq_model.specs.machine.Run.{run}
+use Rattle.gq_model.specs.machine.Run.{Acts, run}
 use Rattle.gq_model.specs.machine.Scenario.{Component, Scenario, components, system}
 use Rattle.gq_model.specs.texts.Turns.{Turned, turned}
 use Rattle.gq_load.specs.Load.{Fault, loaded}
 use Rattle.gq_world.specs.Whole.{Written, with_scenario}
-use Rattle.gq_traces.specs.First_turns.{each_turn}
+use Rattle.gq_traces.specs.First_turns.{turns_in}
 use Rattle.gq_traces.specs.Greatest.{AreGreatest, IsGreatest, ShowsPeaks, used_after}
 use Rattle.gq_traces.specs.Peaks.{peak_in, peaks_from, peaks_of, peaks_text, used_in, world_after}
+use Rattle.gq_traces.specs.internal.Peaking.{SameUse}
 use Rattle.gq_traces.specs.Written as written
 use Rattle.gq_traces.specs.Written.{peaks_written, with_turns}
 use Rattle.gq_traces.proofs.First_greatest.{is_first}
-use Rattle.gq_traces.proofs.Runs_on.{all_first, count_is}
+use Rattle.gq_traces.proofs.Runs_on.{all_first}
 
 le_or_lt : (n m : ℕ) → (n ≤ m) ⊎ (m < n)
 le_or_lt n m = grind arith
 
-module _ (s : Scenario) (turns : List (ℕ × ℕ)) where
+module _ (s : Scenario) (turns : Acts) where
   abbrev count : ℕ
-  count = length (each_turn turns)
+  count = turns_in turns
 
-  -- after more turns than there are the world is the last
-  after_all : (n m : ℕ) → count ≤ n → count ≤ m → world_after (system s) turns n ≡ world_after (system s) turns m
+  -- after more turns than there are leaves use what they use at the end
+  after_all : (n m : ℕ) → count ≤ n → count ≤ m → SameUse (system s) (world_after (system s) turns n) (world_after (system s) turns m)
   after_all n m over past =
-      let is = count_is turns in
-      ap (λ l. (run (system s) l).world) (all_first n turns (omega (arith, over, is)) ∙ sym (all_first m turns (omega (arith, past, is))))
+      let first = all_first (system s) n turns over in
+      let second = all_first (system s) m turns past in
+      record { used = λ r y. first.used r y ∙ sym (second.used r y); quota = λ r y. first.quota r y ∙ sym (second.quota r y) }
 
   greatest_is : (r : Resource) (x : ℕ) → IsGreatest s turns r x (peak_in (system s) (world_after (system s) turns) r x count)
   greatest_is r x =
@@ -34,7 +36,7 @@ module _ (s : Scenario) (turns : List (ℕ × ℕ)) where
       record {
         greatest = λ n. (elim (le_or_lt n count) [
           | inl few ↦ h.greatest n few
-          | inr over ↦ (let same = ap (used_in r x) (after_all n count (omega (arith, over)) (omega arith)) in
+          | inr over ↦ (let same = (after_all n count (omega (arith, over)) (omega arith)).used r x in
               let last = h.greatest count (omega arith) in omega (arith, same, last))
         ]);
         within = h.within;
@@ -58,7 +60,7 @@ same_text a b e = cc
 pub shows_peaks : (scenario turns text : List ℕ) → peaks_written scenario turns ≡ Ok text → ShowsPeaks scenario turns text
 shows_peaks scenario turns text e = from (loaded scenario) refl e
   where
-    read : (s : Scenario) → loaded scenario ≡ Ok s → (r : Turned) → turned (components s) turns ≡ r → with_turns r (peaks_text s) ≡ Ok text
+    read : (s : Scenario) → loaded scenario ≡ Ok s → (r : Turned) → turned s turns ≡ r → with_turns r (peaks_text s) ≡ Ok text
         → ShowsPeaks scenario turns text
     read s loads (Err fault) reads f = not_written _ text f
     read s loads (Ok all) reads f = record {
@@ -73,4 +75,4 @@ shows_peaks scenario turns text e = from (loaded scenario) refl e
 
     from : (r : Result Scenario Fault) → loaded scenario ≡ r → with_scenario r (λ s. written.peaks_from s turns) ≡ Ok text → ShowsPeaks scenario turns text
     from (Err fault) loads f = not_written _ text f
-    from (Ok s) loads f = read s loads (turned (components s) turns) refl f
+    from (Ok s) loads f = read s loads (turned s turns) refl f

@@ -1,21 +1,21 @@
 -- The lines of peaks.
 use Rattle.std.proofs.Common.{◌≡◌, ◌∙◌, ◌<◌, ◌≤◌, ◌+◌, ◌==◌, ℕ, zero, suc, inl, inr, Bool, cond, List, [], ◌∷◌, ◌++◌, length, drop, codes, decimal}
 use Rattle.std.proofs.Common.{Option, Some, append_assoc, get_or, refl, ap, sym, subst, arith}
-use Rattle.std.specs.Prelude.{slice_get}
-use Rattle.std.proofs.lemmas.Bool.Decides.{eqb_tells}
+use Rattle.std.specs.Prelude.{slice_get, true}
+use Rattle.std.proofs.lemmas.Bool.{cases_Bool}
 use Rattle.gq_init.specs.declared.counted.Counted.{Counted}
 use Rattle.gq_model.proofs.Small.{some_same}
 use Rattle.gq_model.specs.machine.Accounts.{entry}
-use Rattle.gq_model.specs.machine.Run.{Ran, label_at, run}
+use Rattle.gq_model.specs.machine.Run.{Ran, Acts, label_at, run}
 use Rattle.gq_model.specs.machine.Scenario.{Component, Scenario, components, system}
-use Rattle.gq_traces.specs.First_turns.{first_turns}
+use Rattle.gq_traces.specs.First_turns.{first_turns, turns_in}
 use Rattle.gq_traces.specs.Peaks.{peak_line, peak_lines, peaks_at, peaks_from, peaks_text, world_after}
 use Rattle.gq_traces.specs.declared.peaks.LeafPeaks.{LeafPeaks}
 use Rattle.gq_traces.specs.declared.peaks.Peak.{Peak}
 use Rattle.gq_traces.specs.internal.Peaking.{AllPeaks, ArePeaks}
-use Rattle.gq_traces.specs.internal.Telling.{Goes, turns_in}
-use Rattle.gq_traces.proofs.Runs_on.{count_is}
+use Rattle.gq_traces.specs.internal.Telling.{Goes}
 use Rattle.gq_traces.proofs.So_far.{So_far, next_one, none_left, told_end, told_first, told_next}
+use Rattle.gq_model.specs.machine.Amounts.{counts_caps}
 
 -- WHAT IS SHOWN OF THEM
 
@@ -26,12 +26,12 @@ line_with shown label ram caps =
     ++ cond shown (entry (codes "caps") caps.quota ++ entry (codes "taken") caps.used ++ entry (codes "turn") caps.turn) [] ++ 10 ∷ []
 
 -- it shows of them nothing where they are not counted
-line_same : (version : ℕ) (label : List ℕ) (p q : LeafPeaks) → p.ram ≡ q.ram → (version ≡ 2 → p.caps ≡ q.caps)
+line_same : (version : ℕ) (label : List ℕ) (p q : LeafPeaks) → p.ram ≡ q.ram → (counts_caps version ≡ true → p.caps ≡ q.caps)
     → peak_line version label p ≡ peak_line version label q
-line_same version label p q ram caps = elim (eqb_tells version 2) [
-  | inl t ↦ λ i. line_with (version == 2) label (ram i) (caps t.1 i)
-  | inr t ↦ (λ i. line_with (version == 2) label (ram i) p.caps)
-      ∙ (ap (λ b. line_with b label q.ram p.caps) t.0 ∙ sym (ap (λ b. line_with b label q.ram q.caps) t.0))
+line_same version label p q ram caps = elim (cases_Bool (counts_caps version)) [
+  | inl t ↦ λ i. line_with (counts_caps version) label (ram i) (caps t i)
+  | inr t ↦ (λ i. line_with (counts_caps version) label (ram i) p.caps)
+      ∙ (ap (λ b. line_with b label q.ram p.caps) t ∙ sym (ap (λ b. line_with b label q.ram q.caps) t))
 ]
 
 module _ (s : Scenario) (runs : ℕ → Ran) (n : ℕ) where
@@ -48,13 +48,12 @@ module _ (s : Scenario) (runs : ℕ → Ran) (n : ℕ) where
       λ i. line_same s.version c.label p (peaks_at (system s) (λ k. (runs k).world) n x) here.ram here.caps i ++ rest i
 
 -- the lines of the peaks over all turns are the text
-pub all_shown : (s : Scenario) (turns : List (ℕ × ℕ)) (peaks : List LeafPeaks) → length peaks ≡ length (components s)
+pub all_shown : (s : Scenario) (turns : Acts) (peaks : List LeafPeaks) → length peaks ≡ length (components s)
     → AllPeaks s (λ n. run (system s) (first_turns n turns)) (turns_in turns) peaks → peak_lines s.version (components s) peaks ≡ peaks_text s turns
 all_shown s turns peaks long h =
     lines_same s (λ n. run (system s) (first_turns n turns)) (turns_in turns) (components s) peaks 0 long
     (λ i p there. (let first : i ≡ 0 + i = omega arith in
     subst (λ y. ArePeaks s (λ n. run (system s) (first_turns n turns)) (turns_in turns) y p) first (h i p there)))
-    ∙ ap (λ n. peak_lines s.version (components s) (peaks_from (system s) (world_after (system s) turns) n 0 (components s))) (sym (count_is turns))
 
 -- PARTS OF A LINE
 

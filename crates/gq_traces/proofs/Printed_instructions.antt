@@ -2,19 +2,17 @@
 use Rattle.std.proofs.Common.{◌≡◌, ℕ, true, List, [], ◌∷◌, ◌++◌, refl}
 use Rattle.std.specs.Prelude.{codes, decimal, length, nat_le}
 use Rattle.std.proofs.lemmas.Bool.{and_parts}
-use Rattle.gq_model.specs.declared.program.Form.TheVariants.{Block, Slice, Space}
 use Rattle.gq_model.specs.declared.program.Instruction.{Instruction}
-use Rattle.gq_model.specs.declared.program.Instruction.TheVariants as i
-use Rattle.gq_model.specs.declared.program.Operator.TheVariants.{Add, Subtract, Multiply, And, Equal, Less}
 use Rattle.gq_model.specs.declared.program.Place.{Place}
 use Rattle.gq_model.specs.declared.program.Place.TheVariants.{Own, Shared, Object}
-use Rattle.gq_model.specs.declared.program.Width.TheVariants.{Byte, Word}
 use Rattle.gq_model.specs.machine.Lists.{all_of, between}
 use Rattle.gq_model.specs.texts.Letters.{is_name, is_name_byte, is_said, is_said_byte}
 use Rattle.gq_model.specs.texts.Operands.{Operand, Number, Slot, Bytes, Text, Service, in_range, opcode, operands}
-use Rattle.gq_model.specs.texts.Spelling.{spellings}
-use Rattle.gq_views.specs.Listing.{instruction_text, operand_text, operands_text, place_text, word_of}
-use Rattle.gq_views.proofs.Listed_lines.{name_solid, said_printed, solid_printed}
+use Rattle.gq_model.specs.texts.Spelling.{spellings, word_of_opcode}
+use Rattle.gq_views.specs.Listing.{instruction_text, operand_text, operands_text, place_text}
+use Rattle.gq_model.proofs.Instruction_laws.{each_spelled}
+use Rattle.gq_views.proofs.Table_words.{word_passes}
+use Rattle.gq_views.proofs.Listed_lines.{is_printed, name_solid, said_printed, solid_printed}
 use Rattle.gq_traces.proofs.Printed_numbers.{IsPrinted, both, number_printed}
 
 pub name_printed : (name : List ℕ) → is_name name ≡ true → IsPrinted name
@@ -42,40 +40,8 @@ operands_printed (o ∷ rest) h =
     both (codes " ") (operand_text o ++ operands_text rest) refl
     (both (operand_text o) (operands_text rest) (operand_printed o t.0) (operands_printed rest t.1))
 
-word_printed : (x : Instruction) → IsPrinted (word_of (opcode x) spellings)
-word_printed (i.Say text) = refl
-word_printed i.Out = refl
-word_printed (i.Push n) = refl
-word_printed i.Drop = refl
-word_printed i.Dup = refl
-word_printed (i.Combine Add) = refl
-word_printed (i.Combine Subtract) = refl
-word_printed (i.Combine Multiply) = refl
-word_printed (i.Combine And) = refl
-word_printed (i.Combine Equal) = refl
-word_printed (i.Combine Less) = refl
-word_printed (i.Divide n) = refl
-word_printed (i.Modulo n) = refl
-word_printed (i.Get n) = refl
-word_printed (i.Set n) = refl
-word_printed (i.Index n) = refl
-word_printed (i.Make Block p n) = refl
-word_printed (i.Make Slice p n) = refl
-word_printed (i.Make Space p n) = refl
-word_printed (i.MakePool p n m) = refl
-word_printed (i.Load Byte p) = refl
-word_printed (i.Load Word p) = refl
-word_printed (i.Store Byte p) = refl
-word_printed (i.Store Word p) = refl
-word_printed (i.Free p) = refl
-word_printed (i.Take p) = refl
-word_printed (i.Give p) = refl
-word_printed (i.Peek p) = refl
-word_printed (i.Poke p) = refl
-word_printed (i.Open p v n) = refl
-word_printed (i.Upgrade p n) = refl
-word_printed (i.Call p) = refl
-word_printed (i.Close p) = refl
+word_printed : (x : Instruction) → IsPrinted (word_of_opcode (opcode x) spellings)
+word_printed x = word_passes (all_of is_printed) spellings (opcode x) (each_spelled x).0 (each_spelled x).1 refl
 
 pub instruction_printed : (x : Instruction) → all_of in_range (operands x) ≡ true → IsPrinted (instruction_text x)
-instruction_printed x h = both (word_of (opcode x) spellings) (operands_text (operands x)) (word_printed x) (operands_printed (operands x) h)
+instruction_printed x h = both (word_of_opcode (opcode x) spellings) (operands_text (operands x)) (word_printed x) (operands_printed (operands x) h)

@@ -4,6 +4,7 @@ use Rattle.std.specs.Prelude.{codes}
 use Rattle.std.specs.Fmt.{digits}
 use Rattle.gq_model.specs.machine.Amounts.{Ram, Caps, amount}
 use Rattle.gq_model.specs.machine.Program.{Program}
+use Rattle.gq_model.specs.declared.act.Act.TheVariants.{Turns}
 use Rattle.gq_model.specs.machine.Scenario.{LeafNode, Nodes, Scenario, Any_child, As_text, End, Leaf_node}
 use Rattle.gq_model.specs.texts.Text.{assembled}
 use Rattle.gq_model.specs.declared.fault.TextFault.{TextFault}
@@ -21,6 +22,7 @@ leaf name ram caps text = record {
   program = or_empty (assembled text);
   provides = None;
   after = None;
+  inputs = [];
   routes = None;
 }
 
@@ -41,12 +43,12 @@ two_kinds =
     (leaf (codes "a") 8192 2 (codes "main\n" ++ codes "  slice o0 5000\n" ++ codes "  free o0\n" ++ codes "  slice o0 1\n" ++ codes "  slice o1 1\n" ++ codes
     "  free o1\n" ++ codes "  free o0\n" ++ codes "end\n")) End)
 
-two_peaks : peaks_text two_kinds ((0, 7) ∷ []) ≡ codes "peak init -> a used 8192 quota 8192 turn 1 caps 2 taken 2 turn 4\n"
+two_peaks : peaks_text two_kinds ((0, Turns 7) ∷ []) ≡ codes "peak init -> a used 8192 quota 8192 turn 1 caps 2 taken 2 turn 4\n"
 unfolding digits
 two_peaks = refl
 
 -- over fewer turns
-one_peak : peaks_text two_kinds ((0, 3) ∷ []) ≡ codes "peak init -> a used 8192 quota 8192 turn 1 caps 2 taken 1 turn 1\n"
+one_peak : peaks_text two_kinds ((0, Turns 3) ∷ []) ≡ codes "peak init -> a used 8192 quota 8192 turn 1 caps 2 taken 1 turn 1\n"
 unfolding digits
 one_peak = refl
 
@@ -67,7 +69,7 @@ echo =
     codes "  call o0\n" ++ codes "  out\n" ++ codes "  close o0\n" ++ codes "end\n"))
     End))
 
-echo_peaks : peaks_text echo ((0, 2) ∷ (1, 1) ∷ (1, 2) ∷ (0, 3) ∷ (1, 2) ∷ []) ≡ codes
+echo_peaks : peaks_text echo ((0, Turns 2) ∷ (1, Turns 1) ∷ (1, Turns 2) ∷ (0, Turns 3) ∷ (1, Turns 2) ∷ []) ≡ codes
     "peak init -> srv used 4096 quota 8192 turn 6 caps 2 taken 1 turn 6\n" ++ codes "peak init -> cli used 8192 quota 16384 turn 3 caps 3 taken 1 turn 3\n"
 unfolding digits
 echo_peaks = refl

@@ -4,6 +4,7 @@ use Rattle.std.specs.Prelude.{codes, map}
 use Rattle.std.specs.Fmt.{digits}
 use Rattle.gq_model.specs.machine.Amounts.{Ram, Caps, amount}
 use Rattle.gq_model.specs.machine.Program.{Program}
+use Rattle.gq_model.specs.declared.act.Act.TheVariants.{Turns}
 use Rattle.gq_model.specs.machine.Scenario.{Scenario, Any_child, As_text, End, Leaf_node}
 use Rattle.gq_model.specs.texts.Text.{assembled}
 use Rattle.gq_model.specs.declared.fault.TextFault.{TextFault}
@@ -45,6 +46,7 @@ echo = record {
         program = echo_srv;
         provides = Some (codes "echo");
         after = None;
+        inputs = [];
         routes = None;
       }) (Leaf_node (record {
         name = codes "cli";
@@ -53,19 +55,21 @@ echo = record {
         program = echo_cli;
         provides = None;
         after = None;
+        inputs = [];
         routes =
             None;
       }) End));
 }
 
-pub echo_state : state_text echo ((0, 1) ∷ (1, 1) ∷ (0, 2) ∷ (1, 2) ∷ (0, 4) ∷ (1, 2) ∷ (0, 2) ∷ (1, 1) ∷ []) ≡ codes "account init quota 65536\n" ++ codes
+pub echo_state : state_text echo ((0, Turns 1) ∷ (1, Turns 1) ∷ (0, Turns 2) ∷ (1, Turns 2) ∷ (0, Turns 4) ∷ (1, Turns 2) ∷ (0, Turns 2) ∷ (1, Turns 1) ∷ [])
+    ≡ codes "account init quota 65536\n" ++ codes
     "  quantum 65536\n" ++ codes "  hands 0 to init -> srv\n" ++ codes "account init -> srv quota 0 used 0 steps 9/9 serving\n" ++ codes "  quantum 0\n" ++
     codes "account init -> cli quota 0 used 0 steps 6/6 exited\n"
 unfolding digits
 echo_state = refl
 
 -- what is left to do once the client has asked for a session: nothing of the server's `main`, and what follows the `open`
-pub echo_left : map (λ a. a.todo) (left_in (after echo ((1, 1) ∷ [])).world)
+pub echo_left : map (λ a. a.todo) (left_in (after echo ((1, Turns 1) ∷ [])).world)
     ≡ Ends ∷ Does 0 (codes "push 21") (Does 0 (codes "call o0") (Does 0 (codes "out") (Does 0 (codes "close o0") Ends))) ∷ []
 unfolding digits
 echo_left = refl
@@ -95,8 +99,8 @@ counted = record {
         source = As_text [];
         program = counted_srv;
         provides = Some (codes "echo");
-        after =
-            None;
+        after = None;
+        inputs = [];
         routes = None;
       }) (Leaf_node (record {
         name = codes "cli";
@@ -105,11 +109,13 @@ counted = record {
         program = counted_cli;
         provides = None;
         after = None;
+        inputs = [];
         routes = None;
       }) End));
 }
 
-pub counted_state : state_text counted ((0, 1) ∷ (1, 1) ∷ (0, 2) ∷ (1, 2) ∷ (0, 4) ∷ (1, 2) ∷ (0, 2) ∷ (1, 1) ∷ []) ≡ codes
+pub counted_state : state_text counted ((0, Turns 1) ∷ (1, Turns 1) ∷ (0, Turns 2) ∷ (1, Turns 2) ∷ (0, Turns 4) ∷ (1, Turns 2) ∷ (0, Turns 2) ∷
+    (1, Turns 1) ∷ []) ≡ codes
     "account init quota 61440 caps 10\n" ++ codes "  quantum 65536 caps 10\n" ++ codes "  hands 4096 caps 0 to init -> srv\n" ++ codes
     "account init -> srv quota 4096 used 0 caps 0 taken 0 steps 9/9 serving\n" ++ codes "  quantum 4096 caps 0\n" ++ codes
     "account init -> cli quota 0 used 0 caps 0 taken 0 steps 6/6 exited\n"

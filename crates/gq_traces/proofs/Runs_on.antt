@@ -1,16 +1,19 @@
 -- A run over a list, turn by turn.
-use Rattle.std.proofs.Common.{◌≡◌, ◌∙◌, ◌≤◌, ◌+◌, ◌-◌, ℕ, zero, suc, List, [], ◌∷◌, ◌++◌, length, length-append, None, Ok, refl, ap, sym, subst, arith}
-use Rattle.std.specs.Prelude.{min, replicate}
+use Rattle.std.proofs.Common.{◌≡◌, ◌∙◌, ◌≤◌, ◌+◌, ◌-◌, ℕ, zero, suc, List, [], ◌∷◌, ◌++◌, Option, Some, None, Ok, refl, ap, sym, subst, arith}
+use Rattle.std.specs.Prelude.{min}
 use Rattle.std.proofs.lemmas.Bool.Decides.{nat_tests}
-use Rattle.std.proofs.lemmas.List.{length-replicate}
+use Rattle.gq_model.specs.declared.act.Act.{Act}
+use Rattle.gq_model.specs.declared.act.Act.TheVariants.{Turns, Sets}
+use Rattle.gq_model.specs.declared.fault.Wrong.{Wrong}
 use Rattle.gq_model.specs.machine.Doing.{Event, Stepped}
-use Rattle.gq_model.specs.machine.Run.{Ran, after_step, run, run_on, turn_from, turns_of}
+use Rattle.gq_model.specs.machine.Run.{Ran, Acts, act_on, after_step, run, run_on, set_from, turn_from, turns_of}
 use Rattle.gq_model.specs.machine.Scenario.{System}
 use Rattle.gq_model.specs.machine.Step.{next}
 use Rattle.gq_model.specs.machine.World.{World, start}
-use Rattle.gq_traces.specs.First_turns.{each_turn, first_turns}
-use Rattle.gq_traces.specs.internal.Peaking.{HasAll, HasTurns, IsIn}
-use Rattle.gq_traces.specs.internal.Telling.{turns_in}
+use Rattle.gq_model.specs.texts.Turns.{turns_given}
+use Rattle.gq_traces.specs.First_turns.{first_of, first_turns, turns_in}
+use Rattle.gq_traces.specs.internal.Peaking.{HasAct, HasAll, HasTurns, IsIn, SameUse}
+use Rattle.gq_traces.proofs.Same_use.{set_same, same_both, same_self}
 
 -- THE FIRST TURNS
 
@@ -20,116 +23,175 @@ min_first m n few = grind (arith, nat_tests, few)
 min_second : (m n : ℕ) → n ≤ m → min m n ≡ n
 min_second m n few = grind (arith, nat_tests, few)
 
-pub count_is : (turns : List (ℕ × ℕ)) → length (each_turn turns) ≡ turns_in turns
-count_is [] = refl
-count_is (p ∷ turns) =
-    let rest = count_is turns in
-    let here = length-replicate p.1 p.0 in
-    let both = length-append (replicate p.1 p.0) (each_turn turns) in
-    omega (arith, rest, here, both)
-
--- those of a list that has no more
-pub all_first : (n : ℕ) (turns : List (ℕ × ℕ)) → turns_in turns ≤ n → first_turns n turns ≡ turns
-all_first n [] few = refl
-all_first n (p ∷ turns) few =
-    λ i. (p.0, min_second n p.1 (omega (arith, few)) i) ∷ all_first (n - p.1) turns (omega (arith, few)) i
-
 module _ (system : System) where
-  none_on : (turns : List (ℕ × ℕ)) (ran : Ran) → run_on system (first_turns 0 turns) ran ≡ ran
+  -- none of them
+  none_of : (x : ℕ) (a : Act) (ran : Ran) → act_on system x (first_of 0 a) ran ≡ ran
+  none_of x (Turns m) ran = let none = min_first 0 m (omega arith) in ap (λ n. turns_of system x n ran) none
+  none_of x (Sets i v) ran = refl
+
+  none_on : (acts : Acts) (ran : Ran) → run_on system (first_turns 0 acts) ran ≡ ran
   none_on [] ran = refl
-  none_on (p ∷ turns) ran =
-      let none : min 0 p.1 ≡ 0 = min_first 0 p.1 (omega arith) in
-      let over : 0 - p.1 ≡ 0 = omega arith in
-      (λ i. run_on system (first_turns (over i) turns) (turns_of system p.0 (none i) ran)) ∙ none_on turns ran
+  none_on (p ∷ acts) ran =
+      let over : 0 - turns_given p.1 ≡ 0 = omega arith in
+      (λ i. run_on system (first_turns (over i) acts) (none_of p.0 p.1 ran i)) ∙ none_on acts ran
 
-  -- within the first item of a list, and past it
-  first_few : (m : ℕ) (p : ℕ × ℕ) (turns : List (ℕ × ℕ)) (ran : Ran) → m ≤ p.1 → run_on system (first_turns m (p ∷ turns)) ran ≡ turns_of system p.0 m ran
-  first_few m p turns ran few =
-      let over : m - p.1 ≡ 0 = omega (arith, few) in
-      (λ i. run_on system (first_turns (over i) turns) (turns_of system p.0 (min_first m p.1 few i) ran)) ∙ none_on turns (turns_of system p.0 m ran)
+  -- within the turns of a first item, and past it
+  first_few : (m x c : ℕ) (acts : Acts) (ran : Ran) → m ≤ c → run_on system (first_turns m ((x, Turns c) ∷ acts)) ran ≡ turns_of system x m ran
+  first_few m x c acts ran few =
+      let over : m - c ≡ 0 = omega (arith, few) in
+      (λ i. run_on system (first_turns (over i) acts) (turns_of system x (min_first m c few i) ran)) ∙ none_on acts (turns_of system x m ran)
 
-  past : (m : ℕ) (p : ℕ × ℕ) (turns : List (ℕ × ℕ)) (ran : Ran)
-      → run_on system (first_turns (p.1 + m) (p ∷ turns)) ran ≡ run_on system (first_turns m turns) (turns_of system p.0 p.1 ran)
-  past m p turns ran =
-      let left : p.1 + m - p.1 ≡ m = omega arith in
-      let all = min_second (p.1 + m) p.1 (omega arith) in
-      λ i. run_on system (first_turns (left i) turns) (turns_of system p.0 (all i) ran)
+  whole_of : (m x : ℕ) (a : Act) (ran : Ran) → act_on system x (first_of (turns_given a + suc m) a) ran ≡ act_on system x a ran
+  whole_of m x (Turns c) ran = let all = min_second (c + suc m) c (omega arith) in ap (λ n. turns_of system x n ran) all
+  whole_of m x (Sets i v) ran =
+      let more : 0 + suc m ≡ suc m = omega arith in ap (λ k. act_on system x (first_of k (Sets i v)) ran) more
+
+  past : (m : ℕ) (p : ℕ × Act) (acts : Acts) (ran : Ran)
+      → run_on system (first_turns (turns_given p.1 + suc m) (p ∷ acts)) ran ≡ run_on system (first_turns (suc m) acts) (act_on system p.0 p.1 ran)
+  past m p acts ran =
+      let left : turns_given p.1 + suc m - turns_given p.1 ≡ suc m = omega arith in
+      λ i. run_on system (first_turns (left i) acts) (whole_of m p.0 p.1 ran i)
 
   module _ (runs : ℕ → Ran) where
-    has_turns : (x c n : ℕ) (ran : Ran) → ((m : ℕ) → m ≤ c → runs (n + m) ≡ turns_of system x m ran) → HasTurns system x runs n c
-    has_turns x zero n ran h = tt
-    has_turns x (suc c) n ran h =
-        let one : n + 1 ≡ suc n = omega arith in
-        let none : n + 0 ≡ n = omega arith in
-        let here = ap runs (sym none) ∙ h 0 (omega arith) in
-        let next = ap runs (sym one) ∙ h 1 (omega arith) in (
-          next ∙ ap (λ (r : Ran). turn_from system x r r.wrong) (sym here),
-          has_turns x c (suc n) (turn_from system x ran ran.wrong)
-              (λ m few. (let at : suc n + m ≡ n + suc m = omega arith in ap runs at ∙ h (suc m) (omega (arith, few)))),
+    has_turns : (x c n : ℕ) (now : Ran) → ((m : ℕ) → suc m ≤ c → runs (n + suc m) ≡ turns_of system x (suc m) now) → HasTurns system x runs n now c
+    has_turns x zero n now h = tt
+    has_turns x (suc c) n now h =
+        let one : suc n ≡ n + 1 = omega arith in (
+          ap runs one ∙ h 0 (omega arith),
+          has_turns x c (suc n) (turn_from system x now now.wrong)
+              (λ m few. (let at : suc n + suc m ≡ n + suc (suc m) = omega arith in ap runs at ∙ h (suc m) (omega (arith, few)))),
         )
 
-    has_list : (turns : List (ℕ × ℕ)) (n : ℕ) (ran : Ran) → ((m : ℕ) → runs (n + m) ≡ run_on system (first_turns m turns) ran) → HasAll system turns runs n
-    has_list [] n ran h = tt
-    has_list (p ∷ turns) n ran h = (
-      has_turns p.0 p.1 n ran (λ m few. h m ∙ first_few m p turns ran few),
-      has_list turns (n + p.1) (turns_of system p.0 p.1 ran)
-          (λ m. (let at : n + p.1 + m ≡ n + (p.1 + m) = omega arith in ap runs at ∙ (h (p.1 + m) ∙ past m p turns ran))),
+    has_act : (x : ℕ) (a : Act) (acts : Acts) (n : ℕ) (now : Ran)
+        → ((m : ℕ) → runs (n + suc m) ≡ run_on system (first_turns (suc m) ((x, a) ∷ acts)) now) → HasAct system x runs n now a
+    has_act x (Turns c) acts n now h = has_turns x c n now (λ m few. h m ∙ first_few (suc m) x c acts now few)
+    has_act x (Sets i v) acts n now h = tt
+
+    has_list : (acts : Acts) (n : ℕ) (now : Ran) → ((m : ℕ) → runs (n + suc m) ≡ run_on system (first_turns (suc m) acts) now) → HasAll system acts runs n now
+    has_list [] n now h = tt
+    has_list (p ∷ acts) n now h = (
+      has_act p.0 p.1 acts n now h,
+      has_list acts (n + turns_given p.1) (act_on system p.0 p.1 now)
+          (λ m. (let at : n + turns_given p.1 + suc m ≡ n + suc (turns_given p.1 + m) = omega arith in
+          let more : suc (turns_given p.1 + m) ≡ turns_given p.1 + suc m = omega arith in
+          ap runs at ∙ (h (turns_given p.1 + m) ∙ (ap (λ k. run_on system (first_turns k (p ∷ acts)) now) more ∙ past m p acts now)))),
     )
 
-  -- a run has the turns of its list
-  pub has_all : (turns : List (ℕ × ℕ)) → HasAll system turns (λ n. run system (first_turns n turns)) 0
-  has_all turns =
-      has_list (λ n. run system (first_turns n turns)) turns 0 (record { world = start system; text = []; wrong = None })
-      (λ m. (let none : 0 + m ≡ m = omega arith in ap (λ n. run system (first_turns n turns)) none))
+  abbrev pub at_first : Ran
+  at_first = record { world = start system; text = []; wrong = None }
 
-  -- and is at the start before them
-  pub at_start : (turns : List (ℕ × ℕ)) (w : World) → w ≡ start system → IsIn (λ n. run system (first_turns n turns)) 0 w
-  at_start turns w e =
-      let none = none_on turns (record { world = start system; text = []; wrong = None }) in
-      record { world = ap (λ (r : Ran). r.world) none ∙ sym e; right = ap (λ (r : Ran). r.wrong) none }
+  -- a run has all of its list
+  pub has_all : (acts : Acts) → HasAll system acts (λ n. run system (first_turns n acts)) 0 at_first
+  has_all acts =
+      has_list (λ n. run system (first_turns n acts)) acts 0 at_first
+      (λ m. (let none : 0 + suc m ≡ suc m = omega arith in ap (λ n. run system (first_turns n acts)) none))
+
+  -- and is at the start before it
+  pub at_start : (acts : Acts) (w : World) → w ≡ start system → IsIn system (λ n. run system (first_turns n acts)) 0 at_first w
+  at_start acts w e =
+      let none = ap (λ (r : Ran). r.world) (none_on acts at_first) ∙ sym e in
+      record { world = sym e; right = refl; same = subst (SameUse system (run system (first_turns 0 acts)).world) none (same_self system _) }
 
   -- ONE TURN MORE
 
-  pub goes_to : (runs : ℕ → Ran) (x n : ℕ) (w v : World) (event : Event) → runs (suc n) ≡ turn_from system x (runs n) (runs n).wrong → IsIn runs n w
-      → next system w x ≡ Ok (v, event) → IsIn runs (suc n) v
-  goes_to runs x n w v event has at goes =
-      let stepped = has ∙ ap (turn_from system x (runs n)) at.right ∙ ap (λ (u : World). after_step system x (runs n) (next system u x)) at.world
-      ∙ ap (λ (o : Stepped). after_step system x (runs n) o) goes in
-      record { world = ap (λ (r : Ran). r.world) stepped; right = ap (λ (r : Ran). r.wrong) stepped }
+  pub goes_to : (runs : ℕ → Ran) (x n : ℕ) (now : Ran) (w v : World) (event : Event) → runs (suc n) ≡ turn_from system x now now.wrong
+      → IsIn system runs n now w → next system w x ≡ Ok (v, event) → IsIn system runs (suc n) (turn_from system x now now.wrong) v
+  goes_to runs x n now w v event has at goes =
+      let stepped = ap (turn_from system x now) at.right ∙ ap (λ (u : World). after_step system x now (next system u x)) at.world
+      ∙ ap (λ (o : Stepped). after_step system x now o) goes in
+      let there = ap (λ (r : Ran). r.world) stepped in
+      record {
+        world = there;
+        right = ap (λ (r : Ran). r.wrong) stepped;
+        same = subst (SameUse system (runs (suc n)).world) (ap (λ (r : Ran). r.world) has ∙ there) (same_self system _);
+      }
+
+  -- ALL OF A LIST
+
+  -- settings alone change nothing that leaves use
+  settings_same : (acts : Acts) (ran : Ran) → turns_in acts ≡ 0 → SameUse system ran.world (run_on system acts ran).world
+  settings_same [] ran e = same_self system ran.world
+  settings_same ((x, Turns zero) ∷ acts) ran e = settings_same acts ran (omega (arith, e))
+  settings_same ((x, Turns (suc c)) ∷ acts) ran e = absurd (omega (arith, e))
+  settings_same ((x, Sets i v) ∷ acts) ran e =
+      same_both system ran.world (set_from system x i v ran ran.wrong).world (run_on system acts (set_from system x i v ran ran.wrong)).world
+      (by ran.wrong) (settings_same acts (set_from system x i v ran ran.wrong) (omega (arith, e)))
+    where
+      by : (o : Option (ℕ × Wrong)) → SameUse system ran.world (set_from system x i v ran o).world
+      by None = set_same system ran.world x i v
+      by (Some p) = same_self system ran.world
+
+  -- the first turns of a list that has no more leave what all of it leaves
+  last_same : (n : ℕ) (acts : Acts) (ran : Ran) → turns_in acts ≤ n
+      → SameUse system (run_on system (first_turns n acts) ran).world (run_on system acts ran).world
+  last_same zero acts ran few =
+      subst (λ (r : Ran). SameUse system r.world (run_on system acts ran).world) (sym (none_on acts ran)) (settings_same acts ran (omega (arith, few)))
+  last_same (suc n) [] ran few = same_self system ran.world
+  last_same (suc n) ((x, Turns c) ∷ acts) ran few =
+      let all = min_second (suc n) c (omega (arith, few)) in
+      subst (λ m. SameUse system (run_on system (first_turns (suc n - c) acts) (turns_of system x m ran)).world
+      (run_on system acts (turns_of system x c ran)).world) (sym all)
+      (last_same (suc n - c) acts (turns_of system x c ran) (omega (arith, few)))
+  last_same (suc n) ((x, Sets i v) ∷ acts) ran few =
+      let all : suc n ≡ suc n - 0 = omega arith in
+      let set = set_from system x i v ran ran.wrong in
+      subst (λ m. SameUse system (run_on system (first_turns m acts) set).world (run_on system acts set).world) all
+      (last_same (suc n) acts set (omega (arith, few)))
+
+  pub all_first : (n : ℕ) (acts : Acts) → turns_in acts ≤ n → SameUse system (run system (first_turns n acts)).world (run system acts).world
+  all_first n acts few = last_same n acts at_first few
 
 -- TURNS IN PARTS
 
 module _ (system : System) (x : ℕ) (runs : ℕ → Ran) where
-  pub first_part : (a b n c : ℕ) → c ≡ a + b → HasTurns system x runs n c → HasTurns system x runs n a
-  first_part zero b n c e h = tt
-  first_part (suc a) b n zero e h = absurd (omega (arith, e))
-  first_part (suc a) b n (suc c) e h = (h.0, first_part a b (suc n) c (omega (arith, e)) h.1)
+  pub first_part : (a b n c : ℕ) (now : Ran) → c ≡ a + b → HasTurns system x runs n now c → HasTurns system x runs n now a
+  first_part zero b n c now e h = tt
+  first_part (suc a) b n zero now e h = absurd (omega (arith, e))
+  first_part (suc a) b n (suc c) now e h = (h.0, first_part a b (suc n) c (turn_from system x now now.wrong) (omega (arith, e)) h.1)
 
-  pub last_part : (a b n c : ℕ) → c ≡ a + b → HasTurns system x runs n c → HasTurns system x runs (n + a) b
-  last_part zero b n c e h =
+  pub last_part : (a b n c : ℕ) (now : Ran) → c ≡ a + b → HasTurns system x runs n now c → HasTurns system x runs (n + a) (turns_of system x a now) b
+  last_part zero b n c now e h =
       let all : c ≡ b = omega (arith, e) in
       let here : n ≡ n + 0 = omega arith in
-      subst (λ m. HasTurns system x runs m b) here (subst (HasTurns system x runs n) all h)
-  last_part (suc a) b n zero e h = absurd (omega (arith, e))
-  last_part (suc a) b n (suc c) e h =
+      subst (λ m. HasTurns system x runs m now b) here (subst (HasTurns system x runs n now) all h)
+  last_part (suc a) b n zero now e h = absurd (omega (arith, e))
+  last_part (suc a) b n (suc c) now e h =
       let here : suc n + a ≡ n + suc a = omega arith in
-      subst (λ m. HasTurns system x runs m b) here (last_part a b (suc n) c (omega (arith, e)) h.1)
+      let then = turn_from system x now now.wrong in
+      subst (λ m. HasTurns system x runs m (turns_of system x a then) b) here (last_part a b (suc n) c then (omega (arith, e)) h.1)
 
--- the turns of a list up to an item, and those of the item
+  pub turns_sum : (a b : ℕ) (now : Ran) → turns_of system x b (turns_of system x a now) ≡ turns_of system x (a + b) now
+  turns_sum zero b now = let none : b ≡ 0 + b = omega arith in ap (λ n. turns_of system x n now) none
+  turns_sum (suc a) b now =
+      let more : suc (a + b) ≡ suc a + b = omega arith in
+      turns_sum a b (turn_from system x now now.wrong) ∙ ap (λ n. turns_of system x n now) more
+
+-- a list up to an item, and the item
 module _ (system : System) (runs : ℕ → Ran) where
-  first_all : (turns : List (ℕ × ℕ)) (p : ℕ × ℕ) (n : ℕ) → HasAll system (turns ++ p ∷ []) runs n → HasAll system turns runs n
-  first_all [] p n h = tt
-  first_all (q ∷ turns) p n h = (h.0, first_all turns p (n + q.1) h.1)
+  first_all : (acts : Acts) (p : ℕ × Act) (n : ℕ) (now : Ran) → HasAll system (acts ++ p ∷ []) runs n now → HasAll system acts runs n now
+  first_all [] p n now h = tt
+  first_all (q ∷ acts) p n now h = (h.0, first_all acts p (n + turns_given q.1) (act_on system q.0 q.1 now) h.1)
 
-  last_item : (turns : List (ℕ × ℕ)) (p : ℕ × ℕ) (n : ℕ) → HasAll system (turns ++ p ∷ []) runs n → HasTurns system p.0 runs (n + turns_in turns) p.1
-  last_item [] p n h = let none : n ≡ n + 0 = omega arith in subst (λ m. HasTurns system p.0 runs m p.1) none h.0
-  last_item (q ∷ turns) p n h =
-      let at : n + q.1 + turns_in turns ≡ n + (q.1 + turns_in turns) = omega arith in
-      subst (λ m. HasTurns system p.0 runs m p.1) at (last_item turns p (n + q.1) h.1)
+  last_item : (acts : Acts) (p : ℕ × Act) (n : ℕ) (now : Ran) → HasAll system (acts ++ p ∷ []) runs n now
+      → HasAct system p.0 runs (n + turns_in acts) (run_on system acts now) p.1
+  last_item [] p n now h = let none : n ≡ n + 0 = omega arith in subst (λ m. HasAct system p.0 runs m now p.1) none h.0
+  last_item (q ∷ acts) p n now h =
+      let then = act_on system q.0 q.1 now in
+      let at : n + turns_given q.1 + turns_in acts ≡ n + (turns_given q.1 + turns_in acts) = omega arith in
+      subst (λ m. HasAct system p.0 runs m (run_on system acts then) p.1) at (last_item acts p (n + turns_given q.1) then h.1)
 
-  pub item_parts : (turns more : List (ℕ × ℕ)) (p : ℕ × ℕ) (n : ℕ) → turns ++ p ∷ [] ≡ more → n ≡ turns_in turns → HasAll system more runs 0
-      → HasAll system turns runs 0 × HasTurns system p.0 runs n p.1
-  item_parts turns more p n e at h =
-      let all = subst (λ l. HasAll system l runs 0) (sym e) h in
-      let first : 0 + turns_in turns ≡ n = omega (arith, at) in
-      (first_all turns p 0 all, subst (λ m. HasTurns system p.0 runs m p.1) first (last_item turns p 0 all))
+  pub item_parts : (acts more : Acts) (p : ℕ × Act) (n : ℕ) (now : Ran) → acts ++ p ∷ [] ≡ more → n ≡ turns_in acts → HasAll system more runs 0 now
+      → HasAll system acts runs 0 now × HasAct system p.0 runs n (run_on system acts now) p.1
+  item_parts acts more p n now e at h =
+      let all = subst (λ l. HasAll system l runs 0 now) (sym e) h in
+      let first : 0 + turns_in acts ≡ n = omega (arith, at) in
+      (first_all acts p 0 now all, subst (λ m. HasAct system p.0 runs m (run_on system acts now) p.1) first (last_item acts p 0 now all))
+
+-- and the run over them
+pub run_more : (system : System) (acts more : Acts) (p : ℕ × Act) (now : Ran) → acts ++ p ∷ [] ≡ more
+    → act_on system p.0 p.1 (run_on system acts now) ≡ run_on system more now
+run_more system acts more p now e = by acts now ∙ ap (λ l. run_on system l now) e
+  where
+    by : (acts : Acts) (now : Ran) → act_on system p.0 p.1 (run_on system acts now) ≡ run_on system (acts ++ p ∷ []) now
+    by [] now = refl
+    by (q ∷ acts) now = by acts (act_on system q.0 q.1 now)

@@ -13,7 +13,7 @@ use Rattle.gq_laws.specs.Names.{NamesDiffer}
 use Rattle.gq_laws.specs.Progress.{AllRest}
 use Rattle.gq_laws.specs.Reached.{IsReached}
 use Rattle.gq_laws.specs.Turns.{can_run, runs_as}
-use Rattle.gq_traces.specs.Schedule.{chosen, greatest_choices, name_at, schedule_text, scheduled, scheduled_by, some_can}
+use Rattle.gq_traces.specs.Schedule.{as_acts, chosen, greatest_choices, name_at, schedule_text, scheduled, scheduled_by, some_can}
 use Rattle.rand_core.specs.Pcg32Seed.{pcg32_seed}
 use Rattle.rand_pcg.specs.Pcg.{pcg32_of_seed}
 use Rattle.gq_traces.proofs.Chances.{choices_taken}
@@ -66,12 +66,12 @@ taken_by (Some seed) s differ names = all_chosen seed s differ names
 
 -- the text is read as the turns
 pub told_back : (seed : Option ℕ) (s : Scenario) → NamesDiffer s → AreNames s → length (schedule_text seed s) ≤ 2 ^ 24
-    → turned (components s) (schedule_text seed s) ≡ Ok (scheduled_by seed s).turns
+    → turned s (schedule_text seed s) ≡ Ok (as_acts (scheduled_by seed s).turns)
 told_back seed s differ names short =
     let all = taken_by seed s differ names in
     let left = all.counted in
     let t = scheduled_by seed s in
-    read_back (components s) t.turns (some_can (system s) t.world 0 (components s)) (greatest_turns - t.left) (omega arith) all.turns (omega (arith, left))
+    read_back s t.turns (some_can (system s) t.world 0 (components s)) (greatest_turns - t.left) (omega arith) all.turns (omega (arith, left))
     short
 
 -- a run over the turns ends in the world that is scheduled
@@ -79,7 +79,7 @@ pub is_reached : (seed : Option ℕ) (s : Scenario) → NamesDiffer s → AreNam
 is_reached seed s differ names =
     let all = taken_by seed s differ names in
     record {
-      turns = (scheduled_by seed s).turns;
+      turns = as_acts (scheduled_by seed s).turns;
       is = (all.runs (record { world = start (system s); text = []; wrong = None })
           (record { world = refl; right = refl })).world;
     }

@@ -3,14 +3,15 @@ use Rattle.std.proofs.Common.{◌≡◌, ◌∙◌, ℕ, zero, suc, ◌+◌, ◌
 use Rattle.std.proofs.Common.{refl, ap, sym, subst, arith}
 use Rattle.std.specs.Prelude.{if◌then◌else◌, slice_get}
 use Rattle.std.proofs.lemmas.List.Sums.{sum_by-append}
+use Rattle.gq_model.specs.declared.act.Act.TheVariants.{Turns}
 use Rattle.gq_model.specs.machine.Scenario.{Component, System}
 use Rattle.gq_model.specs.machine.World.{World}
 use Rattle.gq_model.specs.machine.Doing.{Event, Stepped}
 use Rattle.gq_model.specs.declared.fault.Wrong.{Wrong}
 use Rattle.gq_model.specs.machine.Step.{next}
-use Rattle.gq_model.specs.machine.Run.{Ran, after_step, run_on, turn_from, turns_of}
+use Rattle.gq_model.specs.machine.Run.{Ran, Acts, act_on, after_step, run_on, turn_from, turns_of}
 use Rattle.gq_laws.specs.Turns.{can_run}
-use Rattle.gq_traces.specs.Schedule.{Taken, and_further, one_and, round, rounds, told_turns, while_can}
+use Rattle.gq_traces.specs.Schedule.{Taken, and_further, as_acts, one_and, round, rounds, told_turns, while_can}
 use Rattle.gq_traces.proofs.Turned_back.{AreTurns, IsCalled, all_turns}
 
 and_few : (r : Stepped) (w : World) (n : ℕ) (go : World → ℕ × World) → ((u : World) → (go u).0 ≤ n) → (one_and w r go).0 ≤ suc n
@@ -58,9 +59,13 @@ while_runs (suc n) system w x ran h =
     by true comes = comes
     by false comes = h
 
-pub run_on_both : (system : System) (xs ys : List (ℕ × ℕ)) (ran : Ran) → run_on system (xs ++ ys) ran ≡ run_on system ys (run_on system xs ran)
+pub run_on_both : (system : System) (xs ys : Acts) (ran : Ran) → run_on system (xs ++ ys) ran ≡ run_on system ys (run_on system xs ran)
 run_on_both system [] ys ran = refl
-run_on_both system (t ∷ xs) ys ran = run_on_both system xs ys (turns_of system t.0 t.1 ran)
+run_on_both system (t ∷ xs) ys ran = run_on_both system xs ys (act_on system t.0 t.1 ran)
+
+acts_both : (xs ys : List (ℕ × ℕ)) → as_acts (xs ++ ys) ≡ as_acts xs ++ as_acts ys
+acts_both [] ys = refl
+acts_both (t ∷ xs) ys = ap (λ l. (t.0, Turns t.1) ∷ l) (acts_both xs ys)
 
 both_turns : (components : List Component) (xs ys : List (ℕ × ℕ)) → AreTurns components xs → AreTurns components ys → AreTurns components (xs ++ ys)
 both_turns components [] ys h g = g
@@ -70,7 +75,7 @@ both_turns components (t ∷ xs) ys h g = (h.0, h.1, both_turns components xs ys
 pub record IsTaken (system : System) (n : ℕ) (w : World) (t : Taken) : Type 0 where
   pub turns : AreTurns system.components t.turns
   pub counted : all_turns t.turns + t.left ≡ n
-  pub runs : (ran : Ran) → IsAt ran w → IsAt (run_on system t.turns ran) t.world
+  pub runs : (ran : Ran) → IsAt ran w → IsAt (run_on system (as_acts t.turns) ran) t.world
 
 pub both_taken : (system : System) (n : ℕ) (w : World) (a b : Taken) → IsTaken system n w a → IsTaken system a.left a.world b
     → IsTaken system n w (record b { turns = a.turns ++ b.turns })
@@ -78,7 +83,9 @@ both_taken system n w a b h g =
     record {
       turns = both_turns system.components a.turns b.turns h.turns g.turns;
       counted = omega (arith, sum_by-append (λ (t : ℕ × ℕ). t.1) a.turns b.turns, h.counted, g.counted);
-      runs = λ ran at. subst (λ (r : Ran). IsAt r b.world) (sym (run_on_both system a.turns b.turns ran)) (g.runs (run_on system a.turns ran) (h.runs ran at));
+      runs = λ ran at. subst (λ (r : Ran). IsAt r b.world) (sym (ap (λ l. run_on system l ran) (acts_both a.turns b.turns)
+          ∙ run_on_both system (as_acts a.turns) (as_acts b.turns) ran))
+          (g.runs (run_on system (as_acts a.turns) ran) (h.runs ran at));
     }
 
 pub one_taken : (system : System) (n : ℕ) (w new : World) (x k : ℕ) → IsCalled system.components x → k ≤ n

@@ -52,11 +52,11 @@ pub record LeavesAll (w : World) (x : ℕ) (new : World) : Type 0 where
   pub count : length new.sessions ≡ length w.sessions
   pub sessions : (k : ℕ) → KeepsFor x (session_at w k) (session_at new k)
 
-keeps_self : (x : ℕ) (o : Option Session) → KeepsFor x o o
+pub keeps_self : (x : ℕ) (o : Option Session) → KeepsFor x o o
 keeps_self x None = refl
 keeps_self x (Some s) = (s, refl, refl, λ ne r. refl)
 
-leaves_self : (w : World) (x : ℕ) → LeavesAll w x w
+pub leaves_self : (w : World) (x : ℕ) → LeavesAll w x w
 leaves_self w x =
     record { leaves = λ y ne. refl; stances = λ y. refl; requests = refl; count = refl; sessions = λ k. keeps_self x (session_at w k) }
 

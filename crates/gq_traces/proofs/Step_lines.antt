@@ -6,7 +6,7 @@ use Rattle.gq_model.specs.declared.phase.Phase.{Phase}
 use Rattle.gq_model.specs.declared.phase.Phase.TheVariants.{Pending, Running, Blocked, Serving, Handling, Exited}
 use Rattle.gq_model.specs.machine.Accounts.{Account, LeafAccount, account_line, account_lines, accounts, entry, leaf_entries}
 use Rattle.gq_model.specs.machine.Accounts.{phase_word, told, used_entry}
-use Rattle.gq_model.specs.machine.Amounts.{Amount}
+use Rattle.gq_model.specs.machine.Amounts.{Amount, counts_caps}
 use Rattle.gq_model.specs.machine.Doing.{Event, Idle, Quiet, Finished, Line}
 use Rattle.gq_model.specs.machine.Run.{line_of, label_at}
 use Rattle.gq_model.specs.machine.Scenario.{Component, Scenario, System, system}
@@ -27,7 +27,7 @@ use Rattle.gq_traces.proofs.Printed_places.{section_printed}
 -- TEXTS
 
 told_printed : (version : ℕ) (text : List ℕ) → IsPrinted text → IsPrinted (told version text)
-told_printed version text h = by (version == 2)
+told_printed version text h = by (counts_caps version)
   where
     by : (b : Bool) → IsPrinted (if b then text else [])
     by true = h
@@ -166,6 +166,7 @@ pub record Tells (front : List ℕ) (says heads : Bool) : Type 0 where
   pub some : begins front [] ≡ false
   pub accounts : (rest : List ℕ) → begins front (codes "account " ++ rest) ≡ false
   pub sessions : (rest : List ℕ) → begins front (codes "session " ++ rest) ≡ false
+  pub inputs : (rest : List ℕ) → begins front (codes "input " ++ rest) ≡ false
   pub ends : (rest : List ℕ) → begins front (codes "end after " ++ rest) ≡ false
   pub lines : (rest : List ℕ) → begins front (codes "[" ++ rest) ≡ says
   pub turns : (rest : List ℕ) → begins front (codes "turn " ++ rest) ≡ heads
@@ -176,6 +177,7 @@ of_lines = record {
   some = refl;
   accounts = λ rest. refl;
   sessions = λ rest. refl;
+  inputs = λ rest. refl;
   ends = λ rest. refl;
   lines = λ rest. refl;
   turns = λ rest. refl;
@@ -187,6 +189,7 @@ of_turns = record {
   some = refl;
   accounts = λ rest. refl;
   sessions = λ rest. refl;
+  inputs = λ rest. refl;
   ends = λ rest. refl;
   lines = λ rest. refl;
   turns = λ rest. refl;

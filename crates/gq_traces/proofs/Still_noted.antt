@@ -21,7 +21,7 @@ use Rattle.gq_machine.specs.Machines.{Machine}
 use Rattle.gq_world.specs.Lines.{accounts_by, all_accounts}
 use Rattle.gq_world.specs.Worlds.{World}
 use Rattle.gq_traces.specs.Trace.{Standing, ToldSession, account_change, account_changes, changes, same_phase, standing_of, told_session}
-use Rattle.gq_model.specs.machine.Amounts.{same_amount}
+use Rattle.gq_model.specs.machine.Amounts.{same_amount, counts_caps}
 use Rattle.gq_traces.specs.declared.noted.Notes.{Notes}
 use Rattle.gq_traces.specs.declared.noted.Use.{Use}
 use Rattle.gq_traces.specs.internal.Noted.{AreNoted, IsRenewed, IsTold, IsUse, standing_in}
@@ -77,7 +77,7 @@ stays_so old new x a b g h e same f =
     let q = and_parts _ _ f in
     record {
       used = sym h.ram ∙ (sym (eqb-true a.used.ram b.used.ram q.0) ∙ g.ram);
-      caps = λ two. sym (h.caps (ap (λ (s : Scenario). s.version) same ∙ two)) ∙ (sym (eqb-true a.used.caps b.used.caps q.1) ∙ g.caps two);
+      caps = λ two. sym (h.caps (ap (λ (s : Scenario). counts_caps s.version) same ∙ two)) ∙ (sym (eqb-true a.used.caps b.used.caps q.1) ∙ g.caps two);
     }
 
 module _ (old new : World) (x : ℕ) (event : Event) (stands : ∥ Stands old.scenario old.world ∥₁) (same : new.scenario ≡ old.scenario)

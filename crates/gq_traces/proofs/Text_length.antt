@@ -16,14 +16,16 @@ use Rattle.gq_model.specs.declared.phase.Phase.{Phase}
 use Rattle.gq_model.specs.declared.phase.Phase.TheVariants.{Pending, Running, Blocked, Serving, Handling, Exited}
 use Rattle.gq_model.specs.machine.Scenario.{Component, Scenario, System, components, system}
 use Rattle.gq_model.specs.machine.World.{Current, Leaf, World, start}
+use Rattle.gq_model.specs.declared.act.Act.TheVariants.{Turns, Sets}
+use Rattle.gq_model.specs.declared.fault.Wrong.{Wrong}
 use Rattle.gq_model.specs.machine.Doing.{Event, Stepped}
 use Rattle.gq_model.specs.machine.Step.{next}
-use Rattle.gq_model.specs.machine.Run.{Ran, run}
+use Rattle.gq_model.specs.machine.Run.{Ran, Acts, run, set_from, set_input}
 use Rattle.gq_model.proofs.Small.{none_some, some_same}
 use Rattle.gq_laws.specs.Links.{IsLinkedWorld, Stance, stance}
 use Rattle.gq_laws.specs.Reached.{IsReached}
 use Rattle.gq_laws.specs.Turns.{can_run, runs, runs_as}
-use Rattle.gq_traces.specs.Schedule.{Taken, and_further, cut_lines, one_and, round, rounds, schedule_lines, schedule_text, scheduled, some_can}
+use Rattle.gq_traces.specs.Schedule.{Taken, and_further, as_acts, cut_lines, one_and, round, rounds, schedule_lines, schedule_text, scheduled, some_can}
 use Rattle.gq_traces.specs.Schedule.{told_turns, turn_line, while_can}
 use Rattle.gq_traces.proofs.Turned_back.{AreTurns, IsCalled, all_turns}
 use Rattle.gq_traces.proofs.Schedule_laws.{AreNames, all_taken, told_back}
@@ -56,16 +58,29 @@ still_can system w v x can going = by (slice_get system.components x) can (slice
         ∙ ap (option_map (λ (l : Leaf). stance l.phase l.current)) e) ∙ going.there) in
         goes_runs v x leaf.phase (ap (λ (t : Stance). goes t.phase) same ∙ going.goes)
 
--- turns after which a run is in this world, with no step that was wrong
+-- turns and settings after which a run is in this world, with no step that was wrong
 abbrev pub Reaches : Scenario → World → Type 0
-Reaches s w = (turns : List (ℕ × ℕ)) × IsAt (run (system s) turns) w
+Reaches s w = (turns : Acts) × IsAt (run (system s) turns) w
 
 pub reaches_next : (s : Scenario) (w : World) (x : ℕ) (p : World × Event) → Reaches s w → next (system s) w x ≡ Ok p → Reaches s p.0
 reaches_next s w x p h e = (
-  h.0 ++ (x, 1) ∷ [],
-  subst (λ (r : Ran). IsAt r p.0) (sym (run_on_both (system s) h.0 ((x, 1) ∷ []) (record { world = start (system s); text = []; wrong = None })))
+  h.0 ++ (x, Turns 1) ∷ [],
+  subst (λ (r : Ran). IsAt r p.0) (sym (run_on_both (system s) h.0 ((x, Turns 1) ∷ []) (record { world = start (system s); text = []; wrong = None })))
       (step_runs (system s) w x (run (system s) h.0) p h.1 e),
 )
+
+pub reaches_set : (s : Scenario) (w : World) (x i n : ℕ) → Reaches s w → Reaches s (set_input (system s) w x i n)
+reaches_set s w x i n h = (
+  h.0 ++ (x, Sets i n) ∷ [],
+  subst (λ (r : Ran). IsAt r (set_input (system s) w x i n))
+      (sym (run_on_both (system s) h.0 ((x, Sets i n) ∷ []) (record { world = start (system s); text = []; wrong = None })))
+      (is_set (run (system s) h.0) h.1),
+)
+  where
+    is_set : (ran : Ran) → IsAt ran w → IsAt (set_from (system s) x i n ran ran.wrong) (set_input (system s) w x i n)
+    is_set ran at =
+        subst (λ (o : Option (ℕ × Wrong)). IsAt (set_from (system s) x i n ran o) (set_input (system s) w x i n)) (sym at.right)
+        (record { world = ap (λ (v : World). set_input (system s) v x i n) at.world; right = at.right })
 
 -- turns of the x-th leaf, at most n
 record Line (s : Scenario) (n x : ℕ) (w : World) (p : ℕ × World) : Type 0 where
@@ -271,5 +286,5 @@ text_short s linked right whole differ names few =
 pub turns_told : (s : Scenario) → ((w : World) → IsReached s w → IsLinkedWorld (system s) w)
     → ((w : World) (x : ℕ) → IsReached s w → (p : World × Event) × (next (system s) w x ≡ Ok p))
     → ((w : World) → IsReached s w → length w.leaves ≡ length (components s)) → NamesDiffer s → AreNames s → length (components s) ≤ 64
-    → turned (components s) (schedule_text None s) ≡ Ok (scheduled s).turns
+    → turned s (schedule_text None s) ≡ Ok (as_acts (scheduled s).turns)
 turns_told s linked right whole differ names few = told_back None s differ names (text_short s linked right whole differ names few)

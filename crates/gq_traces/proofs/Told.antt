@@ -1,12 +1,12 @@
 -- What the command writes, from bytes to bytes.
 use Rattle.std.proofs.Common.{◌≡◌, ℕ, List, Option, Ok, ap, refl}
 use Rattle.std.specs.Io.KnownBytes.{Appends}
-use Rattle.gq_model.specs.machine.Scenario.{Scenario, components}
+use Rattle.gq_model.specs.machine.Scenario.{Scenario}
 use Rattle.gq_model.specs.texts.Turns.{turned}
 use Rattle.gq_load.specs.Load.{loaded}
 use Rattle.gq_world.specs.Whole.{with_scenario}
 use Rattle.gq_traces.specs.Rests.{EndsIn, RestsUnless, WritesToRest}
-use Rattle.gq_traces.specs.Schedule.{is_cut, schedule_text, scheduled_by}
+use Rattle.gq_traces.specs.Schedule.{as_acts, is_cut, schedule_text, scheduled_by}
 use Rattle.gq_traces.specs.Written.{turns_written}
 
 -- the text of a scenario that was loaded
@@ -14,7 +14,7 @@ pub given : (seed : Option ℕ) (scenario : List ℕ) (s : Scenario) → loaded 
 given seed scenario s loads = ap (λ l. with_scenario l (λ r. Ok (schedule_text seed r))) loads
 
 pub to_rest : (seed : Option ℕ) (scenario : List ℕ) (s : Scenario) → loaded scenario ≡ Ok s
-    → turned (components s) (schedule_text seed s) ≡ Ok (scheduled_by seed s).turns → EndsIn s (scheduled_by seed s).turns (scheduled_by seed s).world
+    → turned s (schedule_text seed s) ≡ Ok (as_acts (scheduled_by seed s).turns) → EndsIn s (as_acts (scheduled_by seed s).turns) (scheduled_by seed s).world
     → RestsUnless (is_cut seed s) (scheduled_by seed s).world → (before after : Option (List ℕ)) → Appends before after (schedule_text seed s)
     → WritesToRest seed scenario before after
 to_rest seed scenario s loads reads ends rests before after written =

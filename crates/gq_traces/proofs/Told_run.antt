@@ -2,16 +2,20 @@
 use Rattle.std.proofs.Common.{◌≡◌, ◌∙◌, ℕ, zero, suc, ◌+◌, ◌<◌, Bool, true, false, List, [], ◌∷◌, ◌++◌, length, Option, Some, None, Ok, refl, ap, sym}
 use Rattle.std.proofs.Common.{subst, arith, append_assoc, append-nil, length-set, true≢false, ap₂}
 use Rattle.std.proofs.lemmas.List.{length-map}
-use Rattle.std.specs.Prelude.{codes, decimal, is_some, map, slice_get, slice_index, slice_set, sum_by}
+use Rattle.std.specs.Prelude.{◌==◌, ◌||◌, not, if◌then◌else◌, codes, decimal, is_some, map, slice_get, slice_index, slice_set, sum_by}
 use Rattle.std.proofs.lemmas.List.Sums.{sum_by-cons}
 use Rattle.std.proofs.lemmas.Option.{slice_get_within}
 use Rattle.gq_model.proofs.Small.{none_some, some_same}
+use Rattle.gq_model.specs.declared.act.Act.{Act}
+use Rattle.gq_model.specs.declared.act.Act.TheVariants.{Turns, Sets}
+use Rattle.gq_model.specs.declared.fault.Wrong.{Wrong}
 use Rattle.gq_model.specs.declared.phase.Phase.{Phase}
 use Rattle.gq_model.specs.declared.phase.Phase.TheVariants.{Pending, Running, Blocked, Serving, Handling, Exited}
 use Rattle.gq_model.specs.machine.Accounts.{account_lines, accounts, text_of}
 use Rattle.gq_model.specs.machine.Doing.{Event, Idle, Stepped}
 use Rattle.gq_model.specs.machine.Program.{Do, Statements}
-use Rattle.gq_model.specs.machine.Run.{Ran, after_step as ran_on, label_at as ran_label, line_of, run, run_on, turn_from, turns_of}
+use Rattle.gq_model.specs.machine.Run.{Ran, Acts, act_on, after_step as ran_on, label_at as ran_label, line_of, run, run_on, set_from, set_input, turn_from}
+use Rattle.gq_model.specs.machine.Run.{turns_of}
 use Rattle.gq_model.specs.machine.Scenario.{Component, Scenario, System, system}
 use Rattle.gq_model.specs.machine.Step.{next, oldest, step_of}
 use Rattle.gq_model.specs.machine.World.{Leaf, Request, Session, World, session_at, start, start_leaves}
@@ -25,19 +29,21 @@ use Rattle.gq_laws.specs.Typing.{IsTyped}
 use Rattle.gq_laws.specs.internal.Left.{AllAre, AreLeft}
 use Rattle.gq_laws.proofs.remaining.Programs.{program_good}
 use Rattle.gq_laws.proofs.remaining.Worlds.{kept_left, start_left}
+use Rattle.gq_laws.proofs.setting.Settings.{set_left}
+use Rattle.gq_laws.proofs.setting.Steps.{set_steps}
 use Rattle.gq_traces.specs.Lines_of.{TellsRun, TellsSteps, last_accounts}
 use Rattle.gq_traces.specs.Places.{Ahead, Place, first_request, place_in, request_place, start_aheads, stepped}
-use Rattle.gq_traces.specs.Trace.{Due, Traced, after_all, after_due, after_step, after_turn, after_turns, all_text, changes, due, due_by, due_in, due_text}
-use Rattle.gq_traces.specs.Trace.{end_text}
+use Rattle.gq_traces.specs.Trace.{Due, Traced, act_text, after_act, after_all, after_due, after_setting, after_step, after_turn, after_turns, all_text, changes}
+use Rattle.gq_traces.specs.Trace.{due, due_by, due_in, due_text, end_text, input_line, leaf_label, setting_text, value_at}
 use Rattle.gq_traces.specs.Trace.{head_line, idle_turn, start_traced, step_text, told_in, told_session, told_step, trace_text, turn_text, turns_text}
-use Rattle.gq_traces.proofs.Lines_told.{Gives, given, gives_as, gives_both, gives_none, gives_nothing}
+use Rattle.gq_traces.proofs.Lines_told.{Gives, IsLine, given, gives_as, gives_both, gives_none, gives_nothing}
 use Rattle.gq_traces.proofs.Node_names.{AllNamed, accounts_labelled, has_texts}
 use Rattle.gq_traces.proofs.Printed_events.{IsNextInRange, IsShown, event_printed}
 use Rattle.gq_traces.proofs.Printed_numbers.{IsPrinted, both, number_printed}
 use Rattle.gq_traces.proofs.Printed_places.{AreAhead, AreSections, IsInRange, IsPlace, place_printed, set_texts, start_texts, stepped_texts}
 use Rattle.gq_traces.proofs.Scheduled.{IsAt}
 use Rattle.gq_traces.proofs.Step_lines.{HasTexts, IsNamed, Tells, all_give, changes_give, head_gives, lines_shown, of_lines, of_turns, told_gives}
-use Rattle.gq_traces.proofs.Text_length.{Reaches, reaches_next}
+use Rattle.gq_traces.proofs.Text_length.{Reaches, reaches_next, reaches_set}
 
 -- WHAT IS DUE
 
@@ -331,15 +337,80 @@ module _ (s : Scenario) (sound : IsSound s) (named : AllNamed s) (upheld : (w : 
       then_on t u (after_turns (system s) x n u) ran rem (turns_of (system s) x n rem) (turn_text all s b x t) (turns_text all s b x n u) one
       (turns_go x n u rem one.both)
 
-  all_go : (turns : List (ℕ × ℕ)) (t : Traced) (ran : Ran) → Both t ran
-      → Goes t (after_all (system s) turns t) ran (run_on (system s) turns ran) (all_text all s b turns t)
+  -- SETTINGS
+
+  input_printed : (x : ℕ) → IsPrinted (leaf_label (system s) x)
+  input_printed x = by (slice_get (system s).components x) refl
+    where
+      by : (o : Option Component) → slice_get (system s).components x ≡ o → IsPrinted (ran_label o)
+      by None e = refl
+      by (Some c) e = (has_texts s named.nodes).labels x c e
+
+  input_is : (x i n : ℕ) → IsLine (input_line (leaf_label (system s) x) i n)
+  input_is x i n =
+      let label = leaf_label (system s) x in
+      let front = codes "input " ++ label ++ codes "." in
+      let place = front ++ decimal i ++ codes " = " in
+      record {
+        line = place ++ decimal n;
+        printed = both place (decimal n)
+            (both (front ++ decimal i) (codes " = ")
+            (both front (decimal i) (both (codes "input " ++ label) (codes ".") (both (codes "input ") label refl (input_printed x)) refl)
+            (number_printed i)) refl)
+            (number_printed n);
+        is = refl;
+      }
+
+  input_gives : (front : List ℕ) (says heads : Bool) (tells : Tells front says heads) (x i n : ℕ)
+      → Gives front (input_line (leaf_label (system s) x) i n) [] 0
+  input_gives front says heads tells x i n = gives_none front tells.plain (input_line (leaf_label (system s) x) i n) (input_is x i n) (tells.inputs _)
+
+  setting_gives : (front : List ℕ) (says heads : Bool) (tells : Tells front says heads) (x i n : ℕ) (t : Traced)
+      → Gives front (setting_text all (system s) x i n t) [] 0
+  setting_gives front says heads tells x i n t =
+      by (all || not (value_at (set_input (system s) t.world x i n) x i == value_at t.world x i))
+    where
+      by : (c : Bool) → Gives front (if c then input_line (leaf_label (system s) x) i n else []) [] 0
+      by true = input_gives front says heads tells x i n
+      by false = gives_nothing front
+
+  setting_goes : (x i n : ℕ) (t : Traced) (ran : Ran) → Both t ran
+      → Goes t (after_setting (system s) x i n t) ran (set_from (system s) x i n ran ran.wrong) (setting_text all (system s) x i n t)
+  setting_goes x i n t ran h =
+      subst (λ (o : Option (ℕ × Wrong)). Goes t (after_setting (system s) x i n t) ran (set_from (system s) x i n ran o) (setting_text all (system s) x i n t))
+      (sym h.at.right)
+      (record {
+        both = record {
+          at = record { world = ap (λ (w : World). set_input (system s) w x i n) h.at.world; right = h.at.right };
+          reached = reaches_set s t.world x i n h.reached;
+          left = set_left (λ c. IsInRange) (system s) t.world x i n h.left;
+          aheads = h.aheads;
+          long = h.long;
+        };
+        said = [];
+        lines = 0;
+        says = setting_gives (codes "[") true false of_lines x i n t;
+        added = sym (append-nil ran.text);
+        heads = [];
+        steps = 0;
+        turns = λ f. setting_gives (codes "turn ") false true of_turns x i n t;
+        counted = (let same = ap total (set_steps (system s) t.world x i n) in omega (arith, same));
+      })
+
+  act_goes : (x : ℕ) (a : Act) (t : Traced) (ran : Ran) → Both t ran
+      → Goes t (after_act (system s) x a t) ran (act_on (system s) x a ran) (act_text all s b x a t)
+  act_goes x (Turns n) t ran h = turns_go x n t ran h
+  act_goes x (Sets i n) t ran h = setting_goes x i n t ran h
+
+  all_go : (acts : Acts) (t : Traced) (ran : Ran) → Both t ran
+      → Goes t (after_all (system s) acts t) ran (run_on (system s) acts ran) (all_text all s b acts t)
   all_go [] t ran h = stays t t ran ran refl refl h
-  all_go (p ∷ turns) t ran h =
-      let one = turns_go p.0 p.1 t ran h in
-      let u = after_turns (system s) p.0 p.1 t in
-      let rem = turns_of (system s) p.0 p.1 ran in
-      then_on t u (after_all (system s) turns u) ran rem (run_on (system s) turns rem) (turns_text all s b p.0 p.1 t) (all_text all s b turns u) one
-      (all_go turns u rem one.both)
+  all_go (p ∷ acts) t ran h =
+      let one = act_goes p.0 p.1 t ran h in
+      let u = after_act (system s) p.0 p.1 t in
+      let rem = act_on (system s) p.0 p.1 ran in
+      then_on t u (after_all (system s) acts u) ran rem (run_on (system s) acts rem) (act_text all s b p.0 p.1 t) (all_text all s b acts u) one
+      (all_go acts u rem one.both)
 
   -- WHOLE TRACES
 
@@ -374,7 +445,7 @@ module _ (s : Scenario) (sound : IsSound s) (named : AllNamed s) (upheld : (w : 
       (tells.ends (decimal t.turns ++ codes " turns\n")))
       (all_give front says heads tells s.version (accounts s t.world b) (accounts_labelled s t.world b named.nodes)))
 
-  module _ (turns : List (ℕ × ℕ)) where
+  module _ (turns : Acts) where
     abbrev trace : List ℕ
     trace = all_text all s b turns (start_traced (system s))
 

@@ -6,7 +6,8 @@ use Rattle.gq_init.specs.Counts.{Writes, written_to}
 use Rattle.gq_init.specs.declared.counted.Counted.{Counted}
 use Rattle.gq_init.proofs.Known.{appends_both, appends_nothing}
 use Rattle.gq_model.specs.machine.Accounts.{account_lines, accounts}
-use Rattle.gq_model.specs.machine.Scenario.{Scenario, components, system}
+use Rattle.gq_model.specs.machine.Run.{Acts}
+use Rattle.gq_model.specs.machine.Scenario.{Scenario, system}
 use Rattle.gq_model.specs.texts.Turns.{Turned, turned}
 use Rattle.gq_model.specs.rules.Accept.{Budget, budgets, step_budgets}
 use Rattle.gq_machine.specs.Machines.{Machine}
@@ -22,10 +23,11 @@ use Rattle.gq_world.specs.declared.fault.RunFault.{RunFault}
 use Rattle.gq_world.specs.declared.fault.RunFault.TheVariants as fault
 use Rattle.gq_world.proofs.Commands.{cut_short, nothing_written, since}
 use Rattle.gq_world.proofs.Fronts.{front_after}
+use Rattle.gq_traces.specs.First_turns.{turns_in}
 use Rattle.gq_traces.specs.Trace.{Traced, after_all, all_text, start_traced, trace_text}
 use Rattle.gq_traces.specs.Written.{trace_from, trace_written, with_turns}
 use Rattle.gq_traces.specs.declared.trace.Tracing.{Tracing}
-use Rattle.gq_traces.specs.internal.Telling.{Goes, IsOn, IsTurnsFault, TellsTurns, budgets_of, turns_in}
+use Rattle.gq_traces.specs.internal.Telling.{Goes, IsOn, IsTurnsFault, TellsTurns, budgets_of}
 use Rattle.gq_traces.proofs.Going.{goes_both}
 
 -- the line of the end
@@ -36,7 +38,7 @@ end_line n = codes "end after " ++ decimal n ++ codes " turns\n"
 abbrev pub lines_by : Machine → List ℕ → List ℕ
 lines_by m b = account_lines m.scenario.version (accounts_by m.scenario m.world b)
 
-module _ (all : Bool) (s : Scenario) (turns : List (ℕ × ℕ)) where
+module _ (all : Bool) (s : Scenario) (turns : Acts) where
   abbrev pub first : Traced
   first = start_traced (system s)
 
@@ -114,7 +116,7 @@ module _ (all : Bool) (s : Scenario) (turns : List (ℕ × ℕ)) where
 
 -- turns that are not read
 pub turns_refused : {W A : Type 0} (contents : W → Option (List ℕ)) (all : Bool) (s : Scenario) (text : List ℕ) (f : RunFault) (out : Counted W)
-    → IsTurnsFault f (turned (components s) text) → WritesAs {A = A} contents (trace_from all s text) out out (Err f)
+    → IsTurnsFault f (turned s text) → WritesAs {A = A} contents (trace_from all s text) out out (Err f)
 turns_refused contents all s text (fault.Load f) out h = absurd h
 turns_refused contents all s text (fault.NoComponent name) out h = absurd h
 turns_refused contents all s text (fault.Turns f line) out h =
@@ -123,10 +125,10 @@ turns_refused contents all s text fault.Memory out h = nothing_written contents 
 turns_refused contents all s text fault.Write out h = absurd h
 
 -- turns that are read
-pub turns_given : (all : Bool) (s : Scenario) (text : List ℕ) (turns taken : List (ℕ × ℕ)) → turned (components s) text ≡ Ok turns → taken ≡ turns
+pub acts_given : (all : Bool) (s : Scenario) (text : List ℕ) (turns taken : Acts) → turned s text ≡ Ok turns → taken ≡ turns
     → Ok (trace_text all s taken) ≡ trace_from all s text
-turns_given all s text turns taken reads is =
-    ap (λ (l : List (ℕ × ℕ)). Ok (trace_text all s l)) is ∙ sym (ap (λ (t : Turned). with_turns t (trace_text all s)) reads)
+acts_given all s text turns taken reads is =
+    ap (λ (l : Acts). Ok (trace_text all s l)) is ∙ sym (ap (λ (t : Turned). with_turns t (trace_text all s)) reads)
 
 -- a scenario that is loaded
 pub scenario_given : (all : Bool) (scenario turns : List ℕ) (s : Scenario) → loaded scenario ≡ Ok s → trace_written all scenario turns ≡ trace_from all s turns

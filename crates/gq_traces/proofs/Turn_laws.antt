@@ -11,7 +11,7 @@ use Rattle.gq_laws.specs.Shapes.{IsWholeWorld}
 use Rattle.gq_laws.specs.Sound.{IsSound}
 use Rattle.gq_laws.specs.Turns.{can_run}
 use Rattle.gq_traces.specs.Rests.{EndsIn, RestsUnless}
-use Rattle.gq_traces.specs.Schedule.{is_cut, schedule_text, scheduled_by}
+use Rattle.gq_traces.specs.Schedule.{as_acts, is_cut, schedule_text, scheduled_by}
 use Rattle.gq_traces.proofs.Named.{HasNames}
 use Rattle.gq_traces.proofs.Schedule_laws.{at_rest, is_reached, taken_by}
 use Rattle.gq_traces.proofs.Chance_length.{chosen_told}
@@ -19,12 +19,12 @@ use Rattle.gq_traces.proofs.Text_length.{turns_told}
 
 module _ (s : Scenario) (sound : IsSound s) (names : HasNames s) where
   pub told : ((w : World) → IsReached s w → IsLinkedWorld (system s) w) → ((w : World) → IsReached s w → IsWholeWorld (system s) w)
-      → ((w : World) → IsReached s w → IsUpheld s w) → (seed : Option ℕ) → turned (components s) (schedule_text seed s) ≡ Ok (scheduled_by seed s).turns
+      → ((w : World) → IsReached s w → IsUpheld s w) → (seed : Option ℕ) → turned s (schedule_text seed s) ≡ Ok (as_acts (scheduled_by seed s).turns)
   told linked whole upheld None =
       turns_told s linked (λ w x reached. (upheld w reached).goes_on x) (λ w reached. (whole w reached).count) sound.formed.differ names.names names.few
   told linked whole upheld (Some seed) = chosen_told seed s sound.formed.differ names.names
 
-  pub ends_in : (seed : Option ℕ) → EndsIn s (scheduled_by seed s).turns (scheduled_by seed s).world
+  pub ends_in : (seed : Option ℕ) → EndsIn s (as_acts (scheduled_by seed s).turns) (scheduled_by seed s).world
   ends_in seed =
       let ran = (taken_by seed s sound.formed.differ names.names).runs (record { world = start (system s); text = []; wrong = None })
       (record { world = refl; right = refl }) in

@@ -2,10 +2,14 @@
 use Rattle.std.proofs.Common.{◌≡◌, ◌∙◌, ◌+◌, ℕ, Bool, true, List, [], ◌∷◌, ◌++◌, refl, sym, subst, arith, Option}
 use Rattle.gq_init.specs.declared.counted.Counted.{Counted}
 use Rattle.gq_world.specs.Worlds.{World}
+use Rattle.gq_model.specs.declared.act.Act.{Act}
+use Rattle.gq_model.specs.machine.Run.{Acts}
+use Rattle.gq_model.specs.texts.Turns.{turns_given}
+use Rattle.gq_traces.specs.First_turns.{turns_in}
 use Rattle.gq_model.specs.machine.Scenario.{Scenario, system}
-use Rattle.gq_traces.specs.Trace.{Traced, after_all, after_turn, after_turns, all_text, turn_text, turns_text}
+use Rattle.gq_traces.specs.Trace.{Traced, act_text, after_act, after_all, after_turn, after_turns, all_text, turn_text, turns_text}
 use Rattle.gq_traces.specs.declared.trace.Tracing.{Tracing}
-use Rattle.gq_traces.specs.internal.Telling.{CanTrace, IsOn, IsSilent, TellsTurns, budgets_of, turns_in}
+use Rattle.gq_traces.specs.internal.Telling.{CanTrace, IsOn, IsSilent, TellsTurns, budgets_of}
 use Rattle.gq_traces.proofs.Going.{goes_both, goes_nothing, goes_text}
 use Rattle.gq_traces.proofs.Turns_told.{after_all_more, all_more, turns_in_more}
 
@@ -67,15 +71,14 @@ module _ {W : Type 0} (contents : W → Option (List ℕ)) where
         on = λ t on. h.on turns t on;
       })
 
-  -- and so many
-  pub turns_as : (all : Bool) (s r : Scenario) (i j : ℕ × ℕ) (turns count : ℕ) (u v : World) (p q : Tracing) (a b : Counted W) (was now : Bool) → r ≡ s → j ≡ i
-      → turns ≡ count → TellsTurns contents (turns_text all r (budgets_of r) j.0 j.1) (after_turns (system r) j.0 j.1) turns j.1 u v p q a b was now
-      → TellsTurns contents (turns_text all s (budgets_of s) i.0 i.1) (after_turns (system s) i.0 i.1) count i.1 u v p q a b was now
-  turns_as all s r i j turns count u v p q a b was now same is at h =
-      subst (λ (z : Scenario). TellsTurns contents (turns_text all z (budgets_of z) i.0 i.1) (after_turns (system z) i.0 i.1) count i.1 u v p q a b was now)
-      same
-      (subst (λ (z : ℕ × ℕ). TellsTurns contents (turns_text all r (budgets_of r) z.0 z.1) (after_turns (system r) z.0 z.1) count z.1 u v p q a b was now) is
-      (subst (λ n. TellsTurns contents (turns_text all r (budgets_of r) j.0 j.1) (after_turns (system r) j.0 j.1) n j.1 u v p q a b was now) at h))
+  -- and what a leaf is given
+  pub act_as : (all : Bool) (s r : Scenario) (i j : ℕ × Act) (turns count : ℕ) (u v : World) (p q : Tracing) (a b : Counted W) (was now : Bool) → r ≡ s → j ≡ i
+      → turns ≡ count → TellsTurns contents (act_text all r (budgets_of r) j.0 j.1) (after_act (system r) j.0 j.1) turns (turns_given j.1) u v p q a b was now
+      → TellsTurns contents (act_text all s (budgets_of s) i.0 i.1) (after_act (system s) i.0 i.1) count (turns_given i.1) u v p q a b was now
+  act_as all s r i j turns count u v p q a b was now same is at h =
+      let T : Scenario → ℕ × Act → ℕ → Type 0 =
+      λ z k n. TellsTurns contents (act_text all z (budgets_of z) k.0 k.1) (after_act (system z) k.0 k.1) n (turns_given k.1) u v p q a b was now in
+      subst (λ (z : Scenario). T z i count) same (subst (λ (k : ℕ × Act). T r k count) is (subst (λ n. T r j n) at h))
 
   -- so many, where the end of the loop is their number
   pub turns_end : (all : Bool) (s : Scenario) (x n m turns : ℕ) (u v : World) (p q : Tracing) (a b : Counted W) (was now : Bool) → n ≡ m
@@ -85,14 +88,14 @@ module _ {W : Type 0} (contents : W → Option (List ℕ)) where
       subst (λ z. TellsTurns contents (turns_text all s (budgets_of s) x z) (after_turns (system s) x z) turns z u v p q a b was now) e h
 
   -- the items so far, and one more
-  pub all_then : (all : Bool) (s : Scenario) (sofar more : List (ℕ × ℕ)) (i : ℕ × ℕ) → sofar ++ i ∷ [] ≡ more → (u v w : World) (p q r : Tracing) (a b c :
+  pub all_then : (all : Bool) (s : Scenario) (sofar more : Acts) (i : ℕ × Act) → sofar ++ i ∷ [] ≡ more → (u v w : World) (p q r : Tracing) (a b c :
       Counted W)
       (was now : Bool) → TellsTurns contents (all_text all s (budgets_of s) sofar) (after_all (system s) sofar) 0 (turns_in sofar) u v p q a b true was
-      → TellsTurns contents (turns_text all s (budgets_of s) i.0 i.1) (after_turns (system s) i.0 i.1) (turns_in sofar) i.1 v w q r b c was now
+      → TellsTurns contents (act_text all s (budgets_of s) i.0 i.1) (after_act (system s) i.0 i.1) (turns_in sofar) (turns_given i.1) v w q r b c was now
       → TellsTurns contents (all_text all s (budgets_of s) more) (after_all (system s) more) 0 (turns_in more) u w p r a c true now
   all_then all s sofar more i is u v w p q r a b c was now g h =
-      subst (λ (l : List (ℕ × ℕ)). TellsTurns contents (all_text all s (budgets_of s) l) (after_all (system s) l) 0 (turns_in l) u w p r a c true now) is
-      (turns_both (all_text all s (budgets_of s) sofar) (turns_text all s (budgets_of s) i.0 i.1) (all_text all s (budgets_of s) (sofar ++ i ∷ []))
-      (after_all (system s) sofar) (after_turns (system s) i.0 i.1) (after_all (system s) (sofar ++ i ∷ [])) 0 (turns_in sofar) i.1
+      subst (λ (l : Acts). TellsTurns contents (all_text all s (budgets_of s) l) (after_all (system s) l) 0 (turns_in l) u w p r a c true now) is
+      (turns_both (all_text all s (budgets_of s) sofar) (act_text all s (budgets_of s) i.0 i.1) (all_text all s (budgets_of s) (sofar ++ i ∷ []))
+      (after_all (system s) sofar) (after_act (system s) i.0 i.1) (after_all (system s) (sofar ++ i ∷ [])) 0 (turns_in sofar) (turns_given i.1)
       (turns_in (sofar ++ i ∷ [])) (turns_in sofar) u v w p q r a b c true was now (omega arith) (turns_in_more sofar i)
       (λ t. all_more all s (budgets_of s) sofar i t) (λ t. after_all_more (system s) sofar i t) g h)

@@ -3,7 +3,11 @@ use Rattle.std.proofs.Common.{◌≡◌, ◌∙◌, ◌+◌, ℕ, zero, suc, Boo
 use Rattle.std.proofs.Common.{append_assoc, append-nil, drop}
 use Rattle.std.proofs.lemmas.List.{take_at}
 use Rattle.std.specs.Prelude.{Ok, slice_get, slice_set}
+use Rattle.gq_model.specs.declared.act.Act.{Act}
 use Rattle.gq_model.specs.machine.Doing.{Event}
+use Rattle.gq_model.specs.machine.Run.{Acts}
+use Rattle.gq_model.specs.texts.Turns.{turns_given}
+use Rattle.gq_traces.specs.First_turns.{turns_in}
 use Rattle.gq_model.specs.machine.Scenario.{Component, Scenario, System, components, system}
 use Rattle.gq_model.specs.machine.Step.{next}
 use Rattle.gq_model.specs.machine.World as model
@@ -12,14 +16,14 @@ use Rattle.gq_machine.specs.Machines.{Machine}
 use Rattle.gq_model.specs.machine.Run.{label_at}
 use Rattle.gq_world.specs.Worlds.{World}
 use Rattle.gq_traces.specs.Places.{Ahead, Place}
-use Rattle.gq_traces.specs.Trace.{Due, Traced, after_all, after_due, after_step, after_turn, after_turns, all_text, changes, due, due_by, due_in, due_text}
-use Rattle.gq_traces.specs.Trace.{head_line}
+use Rattle.gq_traces.specs.Trace.{Due, Traced, act_text, after_act, after_all, after_due, after_step, after_turn, after_turns, all_text, changes, due}
+use Rattle.gq_traces.specs.Trace.{due_by, due_in, due_text, head_line}
 use Rattle.gq_traces.specs.Trace.{step_text, told_step, turn_text, turns_text}
 use Rattle.gq_traces.specs.declared.numbered.Numbered.{Numbered as Entries}
 use Rattle.gq_traces.specs.declared.tracker.Ahead as places
 use Rattle.gq_traces.specs.declared.tracker.Due as stated
 use Rattle.gq_traces.specs.internal.Flat.{AllStand, AreAheads}
-use Rattle.gq_traces.specs.internal.Telling.{GoesOn, IsDue, IsOn, TellsDue, due_of, place_of, turns_in}
+use Rattle.gq_traces.specs.internal.Telling.{GoesOn, IsDue, IsOn, TellsDue, due_of, place_of}
 use Rattle.gq_traces.proofs.Leaves_standing.{all_stand, stand_list, stand_long}
 
 -- A TURN THAT IS NO STEP
@@ -138,21 +142,21 @@ after_sum s x zero m t =
 after_sum s x (suc n) m t =
     let one : suc (n + m) ≡ suc n + m = omega arith in after_sum s x n m (after_turn s x t) ∙ ap (λ k. after_turns s x k t) one
 
-pub all_more : (all : Bool) (s : Scenario) (b : List ℕ) (turns : List (ℕ × ℕ)) (p : ℕ × ℕ) (t : Traced)
-    → all_text all s b turns t ++ turns_text all s b p.0 p.1 (after_all (system s) turns t) ≡ all_text all s b (turns ++ p ∷ []) t
-all_more all s b [] p t = sym (append-nil (turns_text all s b p.0 p.1 t))
-all_more all s b (q ∷ turns) p t =
-    append_assoc (turns_text all s b q.0 q.1 t) (all_text all s b turns (after_turns (system s) q.0 q.1 t)) _
-    ∙ ap (λ l. turns_text all s b q.0 q.1 t ++ l) (all_more all s b turns p (after_turns (system s) q.0 q.1 t))
+pub all_more : (all : Bool) (s : Scenario) (b : List ℕ) (acts : Acts) (p : ℕ × Act) (t : Traced)
+    → all_text all s b acts t ++ act_text all s b p.0 p.1 (after_all (system s) acts t) ≡ all_text all s b (acts ++ p ∷ []) t
+all_more all s b [] p t = sym (append-nil (act_text all s b p.0 p.1 t))
+all_more all s b (q ∷ acts) p t =
+    append_assoc (act_text all s b q.0 q.1 t) (all_text all s b acts (after_act (system s) q.0 q.1 t)) _
+    ∙ ap (λ l. act_text all s b q.0 q.1 t ++ l) (all_more all s b acts p (after_act (system s) q.0 q.1 t))
 
-pub after_all_more : (s : System) (turns : List (ℕ × ℕ)) (p : ℕ × ℕ) (t : Traced)
-    → after_turns s p.0 p.1 (after_all s turns t) ≡ after_all s (turns ++ p ∷ []) t
+pub after_all_more : (s : System) (acts : Acts) (p : ℕ × Act) (t : Traced)
+    → after_act s p.0 p.1 (after_all s acts t) ≡ after_all s (acts ++ p ∷ []) t
 after_all_more s [] p t = refl
-after_all_more s (q ∷ turns) p t = after_all_more s turns p (after_turns s q.0 q.1 t)
+after_all_more s (q ∷ acts) p t = after_all_more s acts p (after_act s q.0 q.1 t)
 
-pub turns_in_more : (turns : List (ℕ × ℕ)) (p : ℕ × ℕ) → turns_in (turns ++ p ∷ []) ≡ turns_in turns + p.1
+pub turns_in_more : (acts : Acts) (p : ℕ × Act) → turns_in (acts ++ p ∷ []) ≡ turns_in acts + turns_given p.1
 turns_in_more [] p = omega arith
-turns_in_more (q ∷ turns) p = let h = turns_in_more turns p in omega (arith, h)
+turns_in_more (q ∷ acts) p = let h = turns_in_more acts p in omega (arith, h)
 
 -- WHERE THE LEAVES STAND
 

@@ -2,12 +2,13 @@
 use Rattle.std.proofs.Common.{◌≡◌, ◌≢◌, ◌∙◌, ◌<◌, ◌≤◌, ℕ, zero, suc, ◌+◌, ◌-◌, ◌==◌, ◌&&◌, inl, inr, true, cond, List, [], ◌∷◌, ◌++◌, map, Option, Some}
 use Rattle.std.proofs.Common.{None, refl, ap, sym, subst, arith}
 use Rattle.std.specs.Prelude.{codes, slice_get, slice_index, sum_by}
+use Rattle.std.proofs.lemmas.Bool.{cases_Bool}
 use Rattle.std.proofs.lemmas.Bool.Decides.{eqb_tells}
 use Rattle.std.proofs.lemmas.List.{map-append}
 use Rattle.std.proofs.lemmas.List.Sums.{sum_by-cons}
 use Rattle.gq_model.specs.machine.Accounts.{Account, account_at, account_line, accounts, amount_in, handed_to, init_account, init_quota, leaf_count}
 use Rattle.gq_model.specs.machine.Accounts.{node_accounts}
-use Rattle.gq_model.specs.machine.Amounts.{Resource, Ram, Caps, Amount, part, same_amount}
+use Rattle.gq_model.specs.machine.Amounts.{Resource, Ram, Caps, Amount, part, same_amount, counts_caps}
 use Rattle.gq_model.specs.declared.phase.Phase.{Phase}
 use Rattle.gq_model.specs.declared.phase.Phase.TheVariants.{Pending, Running, Blocked, Serving, Handling, Exited}
 use Rattle.gq_model.specs.declared.program.Section.{Section}
@@ -40,7 +41,7 @@ pub record SamePhase (old new : World) (x : ℕ) : Type 0 where
 -- with what it held of each resource that is counted
 pub record StaysSo (version : ℕ) (old new : World) (x : ℕ) (p : SamePhase old new x) : Type 0 where
   pub used : held Ram new x p.is ≡ held Ram old x p.was
-  pub caps : version ≡ 2 → held Caps new x p.is ≡ held Caps old x p.was
+  pub caps : counts_caps version ≡ true → held Caps new x p.is ≡ held Caps old x p.was
 
 -- SUMS
 
@@ -83,12 +84,12 @@ module _ (x : ℕ) where
 
 -- LEAVES
 
-amounts_same : (version ram ram_old caps caps_old : ℕ) → ram ≡ ram_old → (version ≡ 2 → caps ≡ caps_old)
+amounts_same : (version ram ram_old caps caps_old : ℕ) → ram ≡ ram_old → (counts_caps version ≡ true → caps ≡ caps_old)
     → amount_in version ram caps ≡ amount_in version ram_old caps_old
-amounts_same version ram ram_old caps caps_old e f = elim (eqb_tells version 2) [
-  | inl t ↦ λ i. amount_in version (e i) (f t.1 i)
+amounts_same version ram ram_old caps caps_old e f = elim (cases_Bool (counts_caps version)) [
+  | inl t ↦ λ i. amount_in version (e i) (f t i)
   | inr t ↦ ap (λ n. amount_in version n caps) e
-      ∙ (ap (λ b. record { ram = ram_old; caps = cond b caps 0 }) t.0 ∙ sym (ap (λ b. record { ram = ram_old; caps = cond b caps_old 0 }) t.0))
+      ∙ (ap (λ b. record { ram = ram_old; caps = cond b caps 0 }) t ∙ sym (ap (λ b. record { ram = ram_old; caps = cond b caps_old 0 }) t))
 ]
 
 phase_of : Option Stance → Phase → Phase
@@ -125,7 +126,7 @@ module _ (version : ℕ) (w : World) (x : ℕ) (new : World) (h : LeavesAll w x 
   stands quota used phase = record { quota = quota; leaf = Some (record { used = used; phase = phase }) }
 
   one_same : (y : ℕ) (c : Component) (old leaf : Leaf) (budget : ℕ) → leaf.phase ≡ old.phase → held Ram new y leaf ≡ held Ram w y old
-      → (version ≡ 2 → held Caps new y leaf ≡ held Caps w y old)
+      → (counts_caps version ≡ true → held Caps new y leaf ≡ held Caps w y old)
       → map standing_of (account_at version new y (Some c) (Some leaf) budget) ≡ map standing_of (account_at version w y (Some c) (Some old) budget)
   one_same y c old leaf budget phase ram caps =
       let quotas = amounts_same version (quota Ram new y c leaf) (quota Ram w y c old) (quota Caps new y c leaf) (quota Caps w y c old)

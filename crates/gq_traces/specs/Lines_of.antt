@@ -1,7 +1,7 @@
 -- Lines of a text that begin with some bytes, and what those of a trace are.
 use Rattle.std.specs.Prelude.{◌≡◌, ◌==◌, ◌&&◌, if◌then◌else◌, ℕ, Bool, true, false, List, [], ◌∷◌, ◌++◌, codes, length}
 use Rattle.gq_model.specs.machine.Accounts.{account_lines, accounts, whole}
-use Rattle.gq_model.specs.machine.Run.{run}
+use Rattle.gq_model.specs.machine.Run.{Acts, run}
 use Rattle.gq_model.specs.machine.Scenario.{Scenario, system}
 use Rattle.gq_model.specs.rules.Accept.{budgets, step_budgets}
 use Rattle.gq_model.specs.texts.Letters.{fed_lines}
@@ -24,16 +24,16 @@ abbrev pub lines_of : List ℕ → List ℕ → List (List ℕ)
 lines_of front text = beginning front (fed_lines text)
 
 -- the account lines at the end of a run
-abbrev pub last_accounts : Scenario → List (ℕ × ℕ) → List ℕ
+abbrev pub last_accounts : Scenario → Acts → List ℕ
 last_accounts s turns =
     let b = step_budgets (budgets s) in account_lines s.version (accounts s (run (system s) turns).world b)
 
 -- a text ends in these account lines, and with them its lines that begin with `[` are the text of the run
-pub record TellsRun (s : Scenario) (turns : List (ℕ × ℕ)) (text : List ℕ) : Type 0 where
+pub record TellsRun (s : Scenario) (turns : Acts) (text : List ℕ) : Type 0 where
   pub front : List ℕ
   pub ends : text ≡ front ++ last_accounts s turns
   pub says : joined (lines_of (codes "[") text) ++ last_accounts s turns ≡ whole s (step_budgets (budgets s)) turns
 
 -- as many lines begin with `turn` as leaves have taken steps in a run
-abbrev pub TellsSteps : Scenario → List (ℕ × ℕ) → List ℕ → Type 0
+abbrev pub TellsSteps : Scenario → Acts → List ℕ → Type 0
 TellsSteps s turns text = length (lines_of (codes "turn ") text) ≡ taken (run (system s) turns).world

@@ -2,7 +2,7 @@
 use Rattle.std.specs.Prelude.{◌≡◌, ℕ, suc, ◌+◌, if◌then◌else◌, Bool, true, false, List, [], ◌∷◌, ◌++◌, Option, Some, None, Ok, slice_get}
 use Rattle.gq_model.specs.machine.Accounts.{Account, LeafAccount, account_line, accounts}
 use Rattle.gq_model.specs.machine.Amounts.{Resource, part}
-use Rattle.gq_model.specs.machine.Run.{run}
+use Rattle.gq_model.specs.machine.Run.{Acts, run}
 use Rattle.gq_model.specs.machine.Scenario.{Component, Scenario, System, components, system}
 use Rattle.gq_model.specs.machine.World.{Leaf}
 use Rattle.gq_model.specs.rules.Accept.{budgets, step_budgets}
@@ -87,18 +87,18 @@ AddsUp resources n (Some a) = is_live a.phase ≡ true → EachOf resources (Lea
 
 -- TEXTS
 
--- a run on the way, after these turns
-abbrev pub after : Scenario → List (ℕ × ℕ) → Traced
+-- a run on the way, after these turns and settings
+abbrev pub after : Scenario → Acts → Traced
 after s turns = after_all (system s) turns (start_traced (system s))
 
--- from bytes to bytes: the scenario is loaded and the turns are read; the text is that of all nodes in the world that a run over these turns comes to, or over
--- the first so many, and what is shown of each node adds up to its account, of each resource that is counted
+-- from bytes to bytes: the scenario is loaded and the turns and settings are read; the text is that of all nodes in the world that a run over these comes to,
+-- or over the first so many turns, and what is shown of each node adds up to its account, of each resource that is counted
 pub record ShowsSums (first : Option ℕ) (scenario turns text : List ℕ) : Type 0 where
   pub accepted : Scenario
   pub loads : loaded scenario ≡ Ok accepted
-  pub all : List (ℕ × ℕ)
-  pub reads : turned (components accepted) turns ≡ Ok all
-  pub taken : List (ℕ × ℕ)
+  pub all : Acts
+  pub reads : turned accepted turns ≡ Ok all
+  pub taken : Acts
   pub first_of_all : AreFirst first all taken
   pub shows : text ≡ shown_text accepted.version (all_shown accepted (after accepted taken))
   pub world : (after accepted taken).world ≡ (run (system accepted) taken).world

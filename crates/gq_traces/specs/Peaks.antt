@@ -1,12 +1,12 @@
 -- The greatest use of each account over a run.
-use Rattle.std.specs.Prelude.{ℕ, zero, suc, nat_lt, if◌then◌else◌, List, [], ◌∷◌, ◌++◌, Option, Some, None, slice_get, codes, length}
+use Rattle.std.specs.Prelude.{ℕ, zero, suc, nat_lt, if◌then◌else◌, List, [], ◌∷◌, ◌++◌, Option, Some, None, slice_get, codes}
 use Rattle.gq_model.specs.machine.Accounts.{entry, told}
 use Rattle.gq_model.specs.machine.Amounts.{Resource, Ram, Caps}
-use Rattle.gq_model.specs.machine.Run.{run}
+use Rattle.gq_model.specs.machine.Run.{Acts, run}
 use Rattle.gq_model.specs.machine.Scenario.{Component, Scenario, System, components, system}
 use Rattle.gq_model.specs.machine.Sums.{held, quota}
 use Rattle.gq_model.specs.machine.World.{Leaf, World}
-use Rattle.gq_traces.specs.First_turns.{each_turn, first_turns}
+use Rattle.gq_traces.specs.First_turns.{first_turns, turns_in}
 use Rattle.gq_traces.specs.declared.peaks.LeafPeaks.{LeafPeaks}
 use Rattle.gq_traces.specs.declared.peaks.Peak.{Peak}
 
@@ -55,7 +55,7 @@ peak_in system worlds r x n = peak_over (λ k. used_in r x (worlds k)) (λ k. qu
 -- RUNS
 
 -- the world after the first n turns of a run
-abbrev pub world_after : System → List (ℕ × ℕ) → ℕ → World
+abbrev pub world_after : System → Acts → ℕ → World
 world_after system turns n = (run system (first_turns n turns)).world
 
 abbrev pub peaks_at : System → (ℕ → World) → ℕ → ℕ → LeafPeaks
@@ -67,12 +67,12 @@ peaks_from system worlds n x [] = []
 peaks_from system worlds n x (c ∷ rest) = peaks_at system worlds n x ∷ peaks_from system worlds n (suc x) rest
 
 -- those of all leaves, over all turns
-abbrev pub peaks_of : Scenario → List (ℕ × ℕ) → List LeafPeaks
-peaks_of s turns = peaks_from (system s) (world_after (system s) turns) (length (each_turn turns)) 0 (components s)
+abbrev pub peaks_of : Scenario → Acts → List LeafPeaks
+peaks_of s turns = peaks_from (system s) (world_after (system s) turns) (turns_in turns) 0 (components s)
 
 -- LINES
 
--- capabilities are shown in version 2 alone
+-- capabilities are shown where the version counts them
 abbrev pub peak_line : ℕ → List ℕ → LeafPeaks → List ℕ
 peak_line version label p =
     codes "peak " ++ label ++ entry (codes "used") p.ram.used ++ entry (codes "quota") p.ram.quota ++ entry (codes "turn") p.ram.turn
@@ -83,5 +83,5 @@ peak_lines version [] peaks = []
 peak_lines version (c ∷ rest) [] = []
 peak_lines version (c ∷ rest) (p ∷ peaks) = peak_line version c.label p ++ peak_lines version rest peaks
 
-abbrev pub peaks_text : Scenario → List (ℕ × ℕ) → List ℕ
+abbrev pub peaks_text : Scenario → Acts → List ℕ
 peaks_text s turns = peak_lines s.version (components s) (peaks_of s turns)

@@ -4,6 +4,8 @@ use Rattle.std.specs.Prelude.{Ok, Err, map, slice_get, get_or, decimal, codes}
 use Rattle.rand_core.specs.Pcg32Seed.{pcg32_seed}
 use Rattle.rand_pcg.specs.Lcg.{Lcg}
 use Rattle.rand_pcg.specs.Pcg.{pcg32, pcg32_of_seed}
+use Rattle.gq_model.specs.declared.act.Act.TheVariants.{Turns}
+use Rattle.gq_model.specs.machine.Run.{Acts}
 use Rattle.gq_model.specs.machine.Scenario.{System, Component, Scenario, components, system}
 use Rattle.gq_model.specs.machine.World.{World, start}
 use Rattle.gq_model.specs.machine.Doing.{Stepped}
@@ -17,6 +19,11 @@ pub record Taken : Type 0 where
   pub turns : List (ℕ × ℕ)
   pub left : ℕ
   pub world : World
+
+-- what leaves are given by these turns
+abbrev pub as_acts : List (ℕ × ℕ) → Acts
+as_acts [] = []
+as_acts (t ∷ turns) = (t.0, Turns t.1) ∷ as_acts turns
 
 -- a turn, which is not wrong, and those after it
 abbrev pub one_and : World → Stepped → (World → ℕ × World) → ℕ × World

@@ -1,6 +1,6 @@
 -- Each account after the last turn of a run, and what it is made of.
 use Rattle.std.specs.Prelude.{ℕ, zero, suc, ◌*◌, ◌==◌, ◌&&◌, if◌then◌else◌, Bool, true, false, List, [], ◌∷◌, ◌++◌, length, Option, Some, None, slice_get}
-use Rattle.std.specs.Prelude.{decimal, codes}
+use Rattle.std.specs.Prelude.{decimal, codes, take}
 use Rattle.gq_tariff.specs.Prices.{classes}
 use Rattle.gq_model.specs.declared.phase.Phase.{Phase}
 use Rattle.gq_model.specs.declared.phase.Phase.TheVariants.{Pending, Running, Blocked, Serving, Handling, Exited}
@@ -12,6 +12,7 @@ use Rattle.gq_model.specs.machine.Accounts.{Account, account_line, accounts}
 use Rattle.gq_model.specs.machine.Amounts.{Resource, Ram, Caps, Amount, amount}
 use Rattle.gq_model.specs.machine.Prices.{chunks}
 use Rattle.gq_model.specs.machine.Routes.{numbered}
+use Rattle.gq_model.specs.machine.Run.{Acts}
 use Rattle.gq_model.specs.machine.Scenario.{Component, Scenario, System, components, system}
 use Rattle.gq_model.specs.machine.Sums.{slot_price}
 use Rattle.gq_model.specs.machine.World.{Slot, Empty, Bytes, Pool, Link, Waiting, Leaf, Session, World, session_at}
@@ -20,6 +21,7 @@ use Rattle.gq_model.specs.texts.Fault_texts.{section_word}
 use Rattle.gq_machine.specs.Readers.{request_of}
 use Rattle.gq_resolve.specs.NodeTables.{NodeRow, node_rows, number_named}
 use Rattle.gq_views.specs.Listing.{line, place_text}
+use Rattle.gq_views.specs.Tree.{amounts}
 use Rattle.gq_traces.specs.Trace.{Due, Traced, after_all, amount_text, due, leaf_label, request_in, requested_text, start_traced}
 
 -- ITEMS
@@ -134,10 +136,18 @@ sessions_items system w x (s ∷ rest) = received_items system w x s ++ sessions
 
 -- LEAVES
 
+-- the values of a leaf's inputs, in a line of their own behind another
+abbrev pub inputs_behind : List ℕ → List ℕ
+inputs_behind [] = []
+inputs_behind (n ∷ rest) = 10 ∷ codes "  inputs" ++ amounts (n ∷ rest)
+
+abbrev pub inputs_of : Component → Leaf → List ℕ
+inputs_of c leaf = take (length c.node.inputs) leaf.inputs
+
 -- what the account of the x-th leaf is made of while it lives
 abbrev pub live_items : System → World → ℕ → Component → Leaf → List Item
 live_items system w x c leaf =
-    item 1 Given c.node.quantum [] ∷ []
+    item 1 Given c.node.quantum (inputs_behind (inputs_of c leaf)) ∷ []
     ++ slots_items system w Own 0 leaf.slots ++ places_items classes leaf.peaks ++ sessions_items system w x w.sessions
 
 -- nothing before and after that
@@ -235,5 +245,5 @@ nodes_text s t n (a ∷ accounts) (node ∷ nodes) =
 abbrev pub text_in : Scenario → Traced → List ℕ
 text_in s t = nodes_text s t 0 (accounts s t.world (step_budgets (budgets s))) (node_rows s)
 
-abbrev pub state_text : Scenario → List (ℕ × ℕ) → List ℕ
+abbrev pub state_text : Scenario → Acts → List ℕ
 state_text s turns = text_in s (after_all (system s) turns (start_traced (system s)))

@@ -1,13 +1,15 @@
--- What each turn of a run did.
-use Rattle.std.specs.Prelude.{ℕ, zero, suc, ◌==◌, ◌&&◌, if◌then◌else◌, Bool, true, false, List, [], ◌∷◌, ◌++◌, Option, Some, None, Ok, Err}
-use Rattle.std.specs.Prelude.{slice_get, slice_set, decimal, codes, max, map, length}
+-- What each turn of a run did, and what was set.
+use Rattle.std.specs.Prelude.{ℕ, zero, suc, ◌==◌, ◌&&◌, ◌||◌, not, if◌then◌else◌, Bool, true, false, List, [], ◌∷◌, ◌++◌, Option, Some, None, Ok, Err}
+use Rattle.std.specs.Prelude.{slice_get, slice_index, slice_set, decimal, codes, max, map, length}
+use Rattle.gq_model.specs.declared.act.Act.{Act}
+use Rattle.gq_model.specs.declared.act.Act.TheVariants.{Turns, Sets}
 use Rattle.gq_model.specs.declared.phase.Phase.{Phase}
 use Rattle.gq_model.specs.declared.phase.Phase.TheVariants.{Pending, Running, Blocked, Serving, Handling, Exited}
 use Rattle.gq_model.specs.machine.Accounts.{Account, LeafAccount, account_line, account_lines, accounts, entry, told}
 use Rattle.gq_model.specs.machine.Amounts.{Amount, same_amount}
 use Rattle.gq_model.specs.machine.Doing.{Event, Stepped}
 use Rattle.gq_model.specs.machine.Program.{same_section, text_eq}
-use Rattle.gq_model.specs.machine.Run.{line_of, label_at}
+use Rattle.gq_model.specs.machine.Run.{Acts, line_of, label_at, set_input}
 use Rattle.gq_model.specs.machine.Scenario.{Component, Scenario, System, system}
 use Rattle.gq_model.specs.machine.Step.{next}
 use Rattle.gq_model.specs.machine.World.{Current, Leaf, Request, Session, World, session_at, start}
@@ -110,7 +112,7 @@ requested_text (AtHand section) = codes ", " ++ section_word section ++ codes " 
 abbrev pub leaf_label : System → ℕ → List ℕ
 leaf_label system x = label_at (slice_get system.components x)
 
--- a word and an amount; capabilities are told in version 2 alone
+-- a word and an amount; capabilities are told where the version counts them
 abbrev pub amount_text : ℕ → List ℕ → Amount → List ℕ
 amount_text version word a = word ++ codes " " ++ decimal a.ram ++ told version (entry (codes "caps") a.caps)
 
@@ -189,7 +191,7 @@ abbrev pub after_due : System → ℕ → Traced → Option Due → Traced
 after_due system x t None = idle_turn t
 after_due system x t (Some d) = after_step x t d (next system t.world x)
 
--- after a turn of the x-th leaf, after n turns of it, and after the turns of a list
+-- after a turn of the x-th leaf, and after n turns of it
 abbrev pub after_turn : System → ℕ → Traced → Traced
 after_turn system x t = after_due system x t (due system x t)
 
@@ -197,9 +199,18 @@ abbrev pub after_turns : System → ℕ → ℕ → Traced → Traced
 after_turns system x zero t = t
 after_turns system x (suc n) t = after_turns system x n (after_turn system x t)
 
-abbrev pub after_all : System → List (ℕ × ℕ) → Traced → Traced
+-- after the i-th input of the x-th leaf is set, which is no turn
+abbrev pub after_setting : System → ℕ → ℕ → ℕ → Traced → Traced
+after_setting system x i n t = record t { world = set_input system t.world x i n }
+
+-- after what a leaf is given, and after all of a list
+abbrev pub after_act : System → ℕ → Act → Traced → Traced
+after_act system x (Turns n) t = after_turns system x n t
+after_act system x (Sets i n) t = after_setting system x i n t
+
+abbrev pub after_all : System → Acts → Traced → Traced
 after_all system [] t = t
-after_all system (p ∷ turns) t = after_all system turns (after_turns system p.0 p.1 t)
+after_all system (a ∷ acts) t = after_all system acts (after_act system a.0 a.1 t)
 
 -- WHAT IS TOLD
 
@@ -229,7 +240,7 @@ abbrev pub due_text : Bool → Scenario → List ℕ → ℕ → Traced → Opti
 due_text all s budgets x t None = []
 due_text all s budgets x t (Some d) = step_text all s budgets t d (next (system s) t.world x)
 
--- of a turn of the x-th leaf, of n turns of it, and of the turns of a list
+-- of a turn of the x-th leaf, and of n turns of it
 abbrev pub turn_text : Bool → Scenario → List ℕ → ℕ → Traced → List ℕ
 turn_text all s budgets x t = due_text all s budgets x t (due (system s) x t)
 
@@ -237,15 +248,36 @@ abbrev pub turns_text : Bool → Scenario → List ℕ → ℕ → ℕ → Trace
 turns_text all s budgets x zero t = []
 turns_text all s budgets x (suc n) t = turn_text all s budgets x t ++ turns_text all s budgets x n (after_turn (system s) x t)
 
-abbrev pub all_text : Bool → Scenario → List ℕ → List (ℕ × ℕ) → Traced → List ℕ
+-- the value of the i-th input of the x-th leaf
+abbrev pub value_in : ℕ → Option Leaf → ℕ
+value_in i None = 0
+value_in i (Some leaf) = slice_index leaf.inputs i
+
+abbrev pub value_at : World → ℕ → ℕ → ℕ
+value_at w x i = value_in i (slice_get w.leaves x)
+
+abbrev pub input_line : List ℕ → ℕ → ℕ → List ℕ
+input_line label i n = codes "input " ++ label ++ codes "." ++ decimal i ++ codes " = " ++ decimal n ++ 10 ∷ []
+
+-- a setting is told if it changes the value, or where all are told
+abbrev pub setting_text : Bool → System → ℕ → ℕ → ℕ → Traced → List ℕ
+setting_text all system x i n t =
+    if all || not (value_at (set_input system t.world x i n) x i == value_at t.world x i) then input_line (leaf_label system x) i n else []
+
+-- of what the x-th leaf is given, and of all of a list
+abbrev pub act_text : Bool → Scenario → List ℕ → ℕ → Act → Traced → List ℕ
+act_text all s budgets x (Turns n) t = turns_text all s budgets x n t
+act_text all s budgets x (Sets i n) t = setting_text all (system s) x i n t
+
+abbrev pub all_text : Bool → Scenario → List ℕ → Acts → Traced → List ℕ
 all_text all s budgets [] t = []
-all_text all s budgets (p ∷ turns) t =
-    turns_text all s budgets p.0 p.1 t ++ all_text all s budgets turns (after_turns (system s) p.0 p.1 t)
+all_text all s budgets (a ∷ acts) t =
+    act_text all s budgets a.0 a.1 t ++ all_text all s budgets acts (after_act (system s) a.0 a.1 t)
 
 abbrev pub end_text : Scenario → List ℕ → Traced → List ℕ
 end_text s budgets t = codes "end after " ++ decimal t.turns ++ codes " turns\n" ++ account_lines s.version (accounts s t.world budgets)
 
-abbrev pub trace_text : Bool → Scenario → List (ℕ × ℕ) → List ℕ
+abbrev pub trace_text : Bool → Scenario → Acts → List ℕ
 trace_text all s turns =
     let b = step_budgets (budgets s) in
     let first = start_traced (system s) in

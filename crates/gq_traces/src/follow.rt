@@ -1,10 +1,10 @@
-// Turns that are taken untold, with where each leaf stands on the way.
+// Turns and settings that are taken untold, with where each leaf stands on the way.
 ghost use Rattle.std.specs.Prelude.{◌≡◌, ◌<◌, ◌≤◌, false, length, IfOk};
 ghost use Rattle.gq_model.specs.machine.Scenario.{components, system};
 ghost use Rattle.gq_model.specs.machine.World.{start};
 ghost use Rattle.gq_world.specs.Worlds.{AreBelow};
-ghost use Rattle.gq_traces.specs.First_turns.{first_turns, some_turns};
-ghost use Rattle.gq_traces.specs.Trace.{after_all, after_turn, after_turns, start_traced};
+ghost use Rattle.gq_traces.specs.First_turns.{first_of, first_turns, some_turns};
+ghost use Rattle.gq_traces.specs.Trace.{after_act, after_all, after_turn, after_turns, start_traced};
 ghost use Rattle.gq_traces.specs.internal.Follows.{Follows, IsAt, IsFollowed};
 
 use crate::alone::steps_alone;
@@ -12,7 +12,8 @@ use crate::noted::counted;
 use crate::numbered::{Numbered, all_numbered};
 use crate::tracker::{Ahead, first_aheads, go_on, next_due};
 use arrayvec::ArrayVec;
-use gq_init::TurnItem;
+use gq_init::{TurnItem, turns_given};
+use gq_model::act::Act;
 use gq_scenario::scenario::LeafNo;
 use gq_world::world::World;
 use std::alloc::{AllocError, Global};
@@ -93,7 +94,31 @@ fn take_turns(world: &mut World, followed: &mut Followed, leaf: LeafNo, count: u
     }
 }
 
-// The first so many turns of a list. They take no host memory.
+// What a leaf is given: turns, or another value of an input. It takes no host memory.
+fn take_act(world: &mut World, followed: &mut Followed, leaf: LeafNo, act: Act)
+    requires leaf { leaf < length (components world.old.scenario) }
+    requires followed { IsFollowed followed.old world.old }
+    ensures { Follows (after_act (system world.old.scenario) leaf act) world.old world.new followed.old followed.new }
+{
+    match act {
+        Act::Turns(count) => take_turns(world, followed, leaf, count),
+        Act::Sets(input, number) => {
+            let _set = world.set_input(leaf, usize::from(input), number);
+        }
+    }
+}
+
+// What is given of this while so many turns are left: no more turns than that, and a setting if there is one left.
+fn first_of(act: Act, left: u32) -> Act
+    ensures { result ≡ first_of left act }
+{
+    match act {
+        Act::Turns(count) => Act::Turns(left.min(count)),
+        Act::Sets(_, _) => { if left == 0 { Act::Turns(0) } else { act } }
+    }
+}
+
+// The first so many turns of a list, and the settings before the last of them. They take no host memory.
 fn take_most(world: &mut World, followed: &mut Followed, turns: &[TurnItem], most: u32)
     requires leaves { AreBelow (length (components world.old.scenario)) turns.now }
     requires followed { IsFollowed followed.old world.old }
@@ -101,13 +126,13 @@ fn take_most(world: &mut World, followed: &mut Followed, turns: &[TurnItem], mos
 {
     let mut left = most;
     for item in turns {
-        let count = left.min(item.count());
-        take_turns(world, followed, item.leaf(), count);
-        left -= count;
+        let act = first_of(item.act(), left);
+        take_act(world, followed, item.leaf(), act);
+        left -= turns_given(act);
     }
 }
 
-/// The turns of a list: the first so many, or without a number all. They take no host memory.
+/// The turns of a list: the first so many with the settings before the last of them, or without a number all. They take no host memory.
 pub(crate) fn take_first(
     world: &mut World,
     followed: &mut Followed,
@@ -124,13 +149,13 @@ pub(crate) fn take_first(
     }
 }
 
-/// All turns of a list. They take no host memory.
+/// All turns and settings of a list. They take no host memory.
 pub(crate) fn take_all(world: &mut World, followed: &mut Followed, turns: &[TurnItem])
     requires leaves { AreBelow (length (components world.old.scenario)) turns.now }
     requires followed { IsFollowed followed.old world.old }
     ensures { Follows (after_all (system world.old.scenario) turns.now) world.old world.new followed.old followed.new }
 {
     for item in turns {
-        take_turns(world, followed, item.leaf(), item.count());
+        take_act(world, followed, item.leaf(), item.act());
     }
 }

@@ -80,15 +80,9 @@ fn size_of_all(body: &Body) -> usize
     count
 }
 
-// Whether a leaf takes the step of an instruction alone.
+// Whether a leaf takes the step of an instruction alone: those on operands alone.
 fn is_alone(instruction: &Instruction) -> bool {
-    match instruction {
-        Instruction::Drop | Instruction::Dup | Instruction::Push(_) | Instruction::Combine(_) =>
-            true,
-        Instruction::Divide(_) | Instruction::Modulo(_) => true,
-        Instruction::Get(_) | Instruction::Set(_) | Instruction::Index(_) => true,
-        _ => false,
-    }
+    matches!(instruction, Instruction::Operands(_))
 }
 
 // The text of a statement.

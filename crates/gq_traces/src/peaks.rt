@@ -1,7 +1,9 @@
 // The greatest use of each account over a run.
 ghost use Rattle.std.specs.Prelude.{◌≡◌, ◌+◌, ◌++◌, ◌<◌, ◌≤◌, codes, length, true, IfOk, Ok};
 ghost use Rattle.gq_model.specs.machine.Accounts.{entry, told};
-ghost use Rattle.gq_model.specs.machine.Amounts.{Ram, Caps};
+ghost use Rattle.gq_model.specs.machine.Amounts.{Ram, Caps, counts_caps};
+ghost use Rattle.gq_model.specs.machine.Run.{act_on, run_on, turns_of};
+ghost use Rattle.gq_model.specs.texts.Turns.{turns_given};
 ghost use Rattle.gq_model.specs.machine.Scenario.{components, system};
 ghost use Rattle.gq_model.specs.machine.World.{start};
 ghost use Rattle.gq_init.specs.Counts.{Writes};
@@ -10,8 +12,9 @@ ghost use Rattle.gq_world.specs.Outcomes.{WritesAs};
 ghost use Rattle.gq_world.specs.Worlds.{AreBelow};
 ghost use Rattle.gq_traces.specs.Peaks.{peak_line, peak_lines, peaks_text, quota_in};
 ghost use Rattle.gq_traces.specs.Written.{peaks_from, peaks_written};
-ghost use Rattle.gq_traces.specs.internal.Peaking.{AllNow, ArePeaksNow, AreRaised, HasAll, HasTurns, IsRaised, Peaked, higher};
-ghost use Rattle.gq_traces.specs.internal.Telling.{Goes, turns_in};
+ghost use Rattle.gq_traces.specs.internal.Peaking.{AllNow, ArePeaksNow, AreRaised, HasAct, HasAll, HasTurns, IsRaised, Peaked, higher};
+ghost use Rattle.gq_traces.specs.internal.Telling.{Goes};
+ghost use Rattle.gq_traces.specs.First_turns.{turns_in};
 
 use crate::noted::{counted, use_of};
 use crate::sessions::label_of;
@@ -22,6 +25,7 @@ use arrayvec::ArrayVec;
 use gq_init::TurnItem;
 use gq_init::counted::{Counted, WriteFault};
 use gq_machine::machine::Machine;
+use gq_model::act::Act;
 use gq_scenario::scenario::{LeafNo, Version};
 use gq_tariff::Amount;
 use gq_world::RunFault;
@@ -56,7 +60,7 @@ fn quota_of(machine: &Machine, leaf: LeafNo) -> Amount
     requires leaf { leaf < length (components machine.now.scenario) }
     requires leaves { length machine.now.world.leaves ≡ length (components machine.now.scenario) }
     ensures ram { result.ram ≡ quota_in (system machine.now.scenario) Ram leaf machine.now.world }
-    ensures caps { machine.now.scenario.version ≡ 2 → result.caps ≡ quota_in (system machine.now.scenario) Caps leaf machine.now.world }
+    ensures caps { counts_caps machine.now.scenario.version ≡ true → result.caps ≡ quota_in (system machine.now.scenario) Caps leaf machine.now.world }
 {
     let node = machine.table().node(leaf);
     Amount {
@@ -151,8 +155,8 @@ fn take_some(world: &mut World, peaks: &mut [LeafPeaks], leaf: LeafNo, turns: u3
     requires long { length peaks.old ≡ length (components world.old.scenario) }
     ensures some { 0 < result }
     ensures few { result ≤ most }
-    ensures peaked { Peaked (λ runs. HasTurns (system world.old.scenario) leaf runs turns result) turns (turns + result) world.old world.new
-        peaks.old peaks.new }
+    ensures peaked { Peaked (λ runs now. HasTurns (system world.old.scenario) leaf runs turns now result) (turns_of (system world.old.scenario) leaf result)
+        turns (turns + result) world.old world.new peaks.old peaks.new }
 {
     let left = world.turns_alone(leaf, most);
     if left == 0 {
@@ -170,7 +174,8 @@ fn take_turns(world: &mut World, peaks: &mut [LeafPeaks], leaf: LeafNo, turns: u
     requires leaf { leaf < length (components world.old.scenario) }
     requires few { turns + count ≤ 1000000 }
     requires long { length peaks.old ≡ length (components world.old.scenario) }
-    ensures { Peaked (λ runs. HasTurns (system world.old.scenario) leaf runs turns count) turns (turns + count) world.old world.new peaks.old peaks.new }
+    ensures { Peaked (λ runs now. HasTurns (system world.old.scenario) leaf runs turns now count) (turns_of (system world.old.scenario) leaf count)
+        turns (turns + count) world.old world.new peaks.old peaks.new }
 {
     let mut done = 0;
     while done < count {
@@ -178,16 +183,33 @@ fn take_turns(world: &mut World, peaks: &mut [LeafPeaks], leaf: LeafNo, turns: u
     }
 }
 
-// All turns of a list, from the start. They take no host memory.
+// What a leaf is given behind so many turns: turns, or another value of an input. It takes no host memory.
+fn take_act(world: &mut World, peaks: &mut [LeafPeaks], leaf: LeafNo, turns: u32, act: Act)
+    requires leaf { leaf < length (components world.old.scenario) }
+    requires few { turns + turns_given act ≤ 1000000 }
+    requires long { length peaks.old ≡ length (components world.old.scenario) }
+    ensures { Peaked (λ runs now. HasAct (system world.old.scenario) leaf runs turns now act) (act_on (system world.old.scenario) leaf act)
+        turns (turns + turns_given act) world.old world.new peaks.old peaks.new }
+{
+    match act {
+        Act::Turns(count) => take_turns(world, peaks, leaf, turns, count),
+        Act::Sets(input, number) => {
+            let _set = world.set_input(leaf, usize::from(input), number);
+        }
+    }
+}
+
+// All turns and settings of a list, from the start. They take no host memory.
 fn take_all(world: &mut World, peaks: &mut [LeafPeaks], turns: &[TurnItem])
     requires leaves { AreBelow (length (components world.old.scenario)) turns.now }
     requires few { turns_in turns.now ≤ 1000000 }
     requires long { length peaks.old ≡ length (components world.old.scenario) }
-    ensures { Peaked (λ runs. HasAll (system world.old.scenario) turns.now runs 0) 0 (turns_in turns.now) world.old world.new peaks.old peaks.new }
+    ensures { Peaked (λ runs now. HasAll (system world.old.scenario) turns.now runs 0 now) (run_on (system world.old.scenario) turns.now) 0
+        (turns_in turns.now) world.old world.new peaks.old peaks.new }
 {
     let mut taken = 0;
     for item in turns {
-        take_turns(world, peaks, item.leaf(), taken, item.count());
+        take_act(world, peaks, item.leaf(), taken, item.act());
         taken += item.count();
     }
 }
@@ -212,7 +234,7 @@ fn extend_caps(line: &mut Line, version: Version, peak: Peak)
         (entry (codes "caps") peak.quota ++ entry (codes "taken") peak.used ++ entry (codes "turn") peak.turn) }
     ensures long { length line.new.items ≤ length line.old.items + 79 }
 {
-    if let Version::Two = version {
+    if version.counts_caps() {
         extend_entry(line, b" caps", peak.quota);
         extend_entry(line, b" taken", peak.used);
         extend_entry(line, b" turn", u64::from(peak.turn));
@@ -249,7 +271,7 @@ fn write_lines<W: Write>(world: &World, peaks: &[LeafPeaks], out: &mut Counted<W
     going
 }
 
-// Takes the turns of a list from the start of a world, and writes the greatest uses over them. It takes no host memory.
+// Takes the turns and settings of a list from the start of a world, and writes the greatest uses over them. It takes no host memory.
 fn write_peaks<W: Write>(
     world: &mut World,
     peaks: &mut [LeafPeaks],
@@ -271,7 +293,7 @@ fn write_peaks<W: Write>(
     }
 }
 
-// Takes the turns of a list from the start of a world, and writes the greatest uses over them.
+// Takes the turns and settings of a list from the start of a world, and writes the greatest uses over them.
 fn peaks_after<W: Write>(
     alloc: Global,
     world: &mut World,
@@ -293,7 +315,7 @@ fn peaks_after<W: Write>(
     }
 }
 
-// Reads turns, takes them from the start of a world, and writes the greatest uses over them.
+// Reads turns and settings, takes them from the start of a world, and writes the greatest uses over them.
 fn peaks_of_world<W: Write>(
     alloc: Global,
     world: &mut World,

@@ -1,5 +1,5 @@
 // Each account after the last turn of a run, and what it is made of.
-ghost use Rattle.std.specs.Prelude.{◌≡◌, ◌<◌, ◌≤◌, ◌+◌, ◌++◌, ◌∷◌, [], List, true, length, slice_get, IfSome, Some, Ok};
+ghost use Rattle.std.specs.Prelude.{◌≡◌, ◌<◌, ◌≤◌, ◌+◌, ◌*◌, ◌++◌, ◌∷◌, [], List, true, length, slice_get, IfSome, Some, Ok};
 ghost use Rattle.gq_model.specs.machine.Accounts.{Account, account_line};
 ghost use Rattle.gq_model.specs.machine.Scenario.{Component, components, system};
 ghost use Rattle.gq_model.specs.machine.World as model;
@@ -11,8 +11,9 @@ ghost use Rattle.gq_world.specs.Outcomes.{WritesAs};
 ghost use Rattle.gq_world.specs.Worlds.{AreBelow};
 ghost use Rattle.gq_traces.specs.First_turns.{some_turns};
 ghost use Rattle.gq_traces.specs.Places.{Ahead};
-ghost use Rattle.gq_traces.specs.State.{Given, after_text, before, child_items, handed_items, has_quantum, init_items, is_at, is_live, item, items_text};
-ghost use Rattle.gq_traces.specs.State.{leaf_items, leaf_text};
+ghost use Rattle.gq_traces.specs.State.{Given, after_text, before, child_items, handed_items, has_quantum, init_items, inputs_behind, inputs_of, is_at};
+ghost use Rattle.gq_traces.specs.State.{is_live, item, items_text, leaf_items, leaf_text};
+ghost use Rattle.gq_views.specs.Tree.{amounts};
 ghost use Rattle.gq_traces.specs.State.{live_items, next_text, node_text, start_text, state_text, text_in};
 ghost use Rattle.gq_traces.specs.Trace.{Traced, start_traced};
 ghost use Rattle.gq_traces.specs.Written.{state_from, state_written};
@@ -26,7 +27,7 @@ use crate::items::{Bank, write_amount, write_places, write_sessions, write_slots
 use crate::steps::write_statement;
 use crate::telling::write_on;
 use crate::tracker::{Due, next_due};
-use crate::words::{Line, extend, extend_place};
+use crate::words::{Line, extend, extend_entry, extend_place};
 use arrayvec::ArrayVec;
 use gq_init::account_line::account_line;
 use gq_init::counted::{Counted, WriteFault};
@@ -194,6 +195,54 @@ fn write_start<W: Write>(
     }
 }
 
+// Puts these numbers at the end of a line, each behind a blank.
+fn extend_amounts(line: &mut Line, numbers: &[u32])
+    requires { length line.old.items + length numbers.now * 21 ≤ 400 }
+    ensures bytes { line.new.items ≡ line.old.items ++ amounts numbers.now }
+    ensures long { length line.new.items ≤ length line.old.items + length numbers.now * 21 }
+{
+    for number in numbers {
+        extend_entry(line, b"", u64::from(*number));
+    }
+}
+
+// The values of inputs, in a line of their own behind another.
+fn inputs_line(values: &[u32]) -> Line
+    requires { length values.now ≤ 8 }
+    ensures line { result.items ≡ inputs_behind values.now }
+    ensures long { length result.items ≤ 300 }
+{
+    let mut line = ArrayVec::new();
+    if !values.is_empty() {
+        extend(&mut line, b"\n  inputs");
+        extend_amounts(&mut line, values);
+    }
+    line
+}
+
+// Tells what a leaf that lives is given, and the values of its inputs.
+fn write_given<W: Write>(machine: &Machine, leaf: LeafNo, going: bool, out: &mut Counted<W>) -> bool
+    requires leaf { leaf < length (components machine.now.scenario) }
+    requires stands { IsStanding machine.now }
+    ensures { (c : Component) → (l : model.Leaf) → slice_get (components machine.now.scenario) leaf ≡ Some c
+        → slice_get machine.now.world.leaves leaf ≡ Some l → Tells_items W.contents out.old out.new going result machine.now
+        (item 1 Given c.node.quantum (inputs_behind (inputs_of c l)) ∷ []) }
+{
+    let table = machine.table();
+    let count = table.scenario().leaf(leaf).inputs().len();
+    let line = inputs_line(&machine.inputs(leaf)[..count]);
+    let quantum = quantum_of(table, table.node(leaf));
+    write_amount(
+        table,
+        b"  ",
+        b"quantum",
+        quantum,
+        line.as_slice(),
+        going,
+        out,
+    )
+}
+
 // Tells what the account of a leaf that lives is made of.
 fn write_live<W: Write>(machine: &Machine, leaf: LeafNo, going: bool, out: &mut Counted<W>) -> bool
     requires leaf { leaf < length (components machine.now.scenario) }
@@ -202,8 +251,7 @@ fn write_live<W: Write>(machine: &Machine, leaf: LeafNo, going: bool, out: &mut 
         → slice_get machine.now.world.leaves leaf ≡ Some l → Tells_items W.contents out.old out.new going result machine.now
         (live_items (system machine.now.scenario) machine.now.world leaf c l) }
 {
-    let table = machine.table();
-    let going = write_quantum(table, table.node(leaf), going, out);
+    let going = write_given(machine, leaf, going, out);
     let going = write_slots(machine, Bank::OfLeaf(leaf.index()), going, out);
     let going = write_places(machine, leaf, going, out);
     write_sessions(machine, leaf, going, out)
@@ -365,7 +413,7 @@ fn write_nodes<W: Write>(world: &World, followed: &Followed, out: &mut Counted<W
     going
 }
 
-// Takes turns of a list from the start of a world, and tells all nodes then. It takes no host memory.
+// Takes turns and settings of a list from the start of a world, and tells all nodes then. It takes no host memory.
 fn write_state<W: Write>(
     world: &mut World,
     followed: &mut Followed,
@@ -386,7 +434,7 @@ fn write_state<W: Write>(
     }
 }
 
-// Reads turns, takes them from the start of a world, and tells all nodes then.
+// Reads turns and settings, takes them from the start of a world, and tells all nodes then.
 fn state_of_world<W: Write>(
     alloc: Global,
     world: &mut World,
@@ -405,7 +453,7 @@ fn state_of_world<W: Write>(
     state_after(alloc, world, turns.as_slice(), first, out)
 }
 
-// Takes turns of a list from the start of a world, and tells all nodes then.
+// Takes turns and settings of a list from the start of a world, and tells all nodes then.
 fn state_after<W: Write>(
     alloc: Global,
     world: &mut World,
@@ -427,12 +475,12 @@ fn state_after<W: Write>(
     }
 }
 
-/// Writes each account after the last turn of a run, and what it is made of. Where a number of turns is given, it is after the first so many turns of the list;
-/// a list with fewer is taken whole.
+/// Writes each account after the last turn of a run, and what it is made of. Where a number of turns is given, it is after the first so many turns of the list,
+/// with the settings before the last of them. A list with fewer is taken whole.
 ///
 /// - Of an init: what it was given, and what it hands to its live children.
-/// - Of a leaf that lives: what it was given, what each of its slots holds or lends, and the cells of its heap. Then the sessions to it with what they hold,
-///   and the place of its next step, if it can take one.
+/// - Of a leaf that lives: what it was given, the values of its inputs, what each of its slots holds or lends, and the cells of its heap. Then the sessions to
+///   it with what they hold, and the place of its next step, if it can take one.
 /// - Of a pending leaf: after which leaf it starts.
 ///
 /// If the scenario or the turns are refused, or the host refuses memory, nothing is written; turns need none. All turns of the text are read, those that are

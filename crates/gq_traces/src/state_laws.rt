@@ -10,8 +10,8 @@ use gq_load::loaded::loaded_laws;
 
 /// What holds of whatever `state` writes, for any text of a scenario and any text of turns. It does nothing.
 ///
-/// The text is that of an accepted scenario, in the world that a run over these turns comes to, or over the first so many of them. For each resource that is
-/// counted, the lines add up.
+/// The text is that of an accepted scenario, in the world that a run over these turns and settings comes to, or over the first so many turns. For each
+/// resource that is counted, the lines add up.
 ///
 /// - Of a leaf that lives, what it holds adds up to what its account has used. What it is given and receives adds up to its quota and what it lends.
 /// - Of an init, its quota and what it hands to its children add up to what it is given.

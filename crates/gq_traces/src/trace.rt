@@ -1,19 +1,23 @@
-// What each turn of a run did, told.
+// What each turn of a run did and what was set, told.
 ghost use Rattle.std.specs.Prelude.{◌≡◌, ◌+◌, ◌<◌, ◌≤◌, ◌++◌, true, false, codes, decimal, length, Ok, IfOk, IfErr};
 ghost use Rattle.gq_model.specs.machine.Scenario.{components, system};
 ghost use Rattle.gq_model.specs.machine.World.{start};
 ghost use Rattle.gq_world.specs.Outcomes.{WritesAs};
 ghost use Rattle.gq_world.specs.Worlds as worlds;
 ghost use Rattle.gq_world.specs.Worlds.{AreBelow};
-ghost use Rattle.gq_traces.specs.Trace.{after_all, after_turn, after_turns, all_text, start_traced, trace_text, turn_text, turns_text};
+ghost use Rattle.gq_traces.specs.Trace.{act_text, after_act, after_all, after_turn, after_turns, all_text, start_traced, trace_text, turn_text};
+ghost use Rattle.gq_traces.specs.Trace.{turns_text};
 ghost use Rattle.gq_traces.specs.Written.{tells_all, trace_from, trace_written};
 ghost use Rattle.gq_traces.specs.internal.Noted.{IsUse};
-ghost use Rattle.gq_traces.specs.internal.Telling.{CanTrace, Goes, IsOn, IsOwnTaken, IsSilent, IsTurnsFault, TellsTurns, budgets_of, takes_own, turns_in};
+ghost use Rattle.gq_traces.specs.internal.Telling.{CanTrace, Goes, IsOn, IsOwnTaken, IsSilent, IsTurnsFault, TellsTurns, budgets_of, takes_own};
+ghost use Rattle.gq_traces.specs.First_turns.{turns_in};
+ghost use Rattle.gq_model.specs.texts.Turns.{turns_given};
 ghost use Rattle.gq_model.specs.texts.Turns.{turned};
 
 use crate::alone::steps_alone;
 use crate::noted::{Notes, Use, counted, use_of};
 use crate::numbered::{Numbered, all_numbered};
+use crate::settings::tell_setting;
 use crate::steps::{Head, Taken, is_silent, tell_step, tell_taken};
 use crate::telling::{Progress, Telling, write_on};
 use crate::tracker::{Ahead, due_in, first_aheads, go_on, next_due, pass_by, section_of};
@@ -22,6 +26,7 @@ use arrayvec::ArrayVec;
 use gq_init::TurnItem;
 use gq_init::counted::Counted;
 use gq_init::turns::{TurnsError, read_items};
+use gq_model::act::Act;
 use gq_model::phase::Phase;
 use gq_model::program::Section;
 use gq_scenario::scenario::LeafNo;
@@ -33,7 +38,7 @@ use std::io::Write;
 
 // A trace on the way: the programs, where all leaves stand in them, and what is noted of the world.
 #[derive(Drop)]
-struct Tracing {
+pub(crate) struct Tracing {
     programs: Vec<Numbered>,
     aheads: Vec<Ahead>,
     notes: Notes,
@@ -314,21 +319,20 @@ fn tell_turns<W: Write>(
     tracing: &mut Tracing,
     telling: Telling,
     turns: u32,
-    item: &TurnItem,
+    leaf: LeafNo,
+    count: u32,
     going: bool,
     out: &mut Counted<W>,
 ) -> bool
-    requires leaf { item.now.0 < length (components world.old.scenario) }
-    requires few { turns + item.now.1 ≤ 1000000 }
+    requires leaf { leaf < length (components world.old.scenario) }
+    requires few { turns + count ≤ 1000000 }
     requires can { CanTrace world.old tracing.old }
-    ensures { TellsTurns W.contents (turns_text (tells_all telling) world.old.scenario (budgets_of world.old.scenario) item.now.0 item.now.1)
-        (after_turns (system world.old.scenario) item.now.0 item.now.1) turns item.now.1 world.old world.new tracing.old tracing.new out.old out.new going
-        result }
+    ensures { TellsTurns W.contents (turns_text (tells_all telling) world.old.scenario (budgets_of world.old.scenario) leaf count)
+        (after_turns (system world.old.scenario) leaf count) turns count world.old world.new tracing.old tracing.new out.old out.new going result }
 {
     counted(world);
     let mut going = going;
-    let mut before = use_of(world.machine(), item.leaf());
-    let count = item.count();
+    let mut before = use_of(world.machine(), leaf);
     let mut done = 0;
     while done < count {
         let (goes, more) = tell_some(
@@ -336,7 +340,7 @@ fn tell_turns<W: Write>(
             tracing,
             telling,
             turns + done,
-            item.leaf(),
+            leaf,
             count - done,
             &mut before,
             going,
@@ -348,7 +352,33 @@ fn tell_turns<W: Write>(
     going
 }
 
-// All turns of a list, and how many they were. They take no host memory.
+// What a leaf is given, before which there were so many turns of all: turns, or another value of an input. It takes no host memory.
+fn tell_act<W: Write>(
+    world: &mut World,
+    tracing: &mut Tracing,
+    telling: Telling,
+    turns: u32,
+    item: &TurnItem,
+    going: bool,
+    out: &mut Counted<W>,
+) -> bool
+    requires leaf { item.now.0 < length (components world.old.scenario) }
+    requires few { turns + turns_given item.now.1 ≤ 1000000 }
+    requires can { CanTrace world.old tracing.old }
+    ensures { TellsTurns W.contents (act_text (tells_all telling) world.old.scenario (budgets_of world.old.scenario) item.now.0 item.now.1)
+        (after_act (system world.old.scenario) item.now.0 item.now.1) turns (turns_given item.now.1) world.old world.new tracing.old tracing.new
+        out.old out.new going result }
+{
+    let leaf = item.leaf();
+    match item.act() {
+        Act::Turns(count) => tell_turns(world, tracing, telling, turns, leaf, count, going, out),
+        Act::Sets(input, number) => tell_setting(
+            world, tracing, telling, leaf, input, number, going, out,
+        ),
+    }
+}
+
+// All turns and settings of a list, and how many turns there were. They take no host memory.
 fn tell_all<W: Write>(
     world: &mut World,
     tracing: &mut Tracing,
@@ -366,7 +396,7 @@ fn tell_all<W: Write>(
     let mut going = true;
     let mut taken = 0;
     for item in turns {
-        going = tell_turns(world, tracing, telling, taken, item, going, out);
+        going = tell_act(world, tracing, telling, taken, item, going, out);
         taken += item.count();
     }
     (going, taken)
@@ -382,14 +412,14 @@ fn write_end<W: Write>(turns: u32, going: bool, out: &mut Counted<W>) -> bool
     write_on(out, going, line.as_slice())
 }
 
-/// The turns of a text, of the leaves of a world.
+/// The turns and settings of a text, of the leaves of a world.
 pub(crate) fn turns_of(
     alloc: Global,
     world: &World,
     turns: &[u8],
 ) -> Result<Vec<TurnItem>, RunFault<'static>>
-    ensures read { IfOk result (λ t. turned (components world.now.scenario) turns.now ≡ Ok t.items) }
-    ensures refused { IfErr result (λ f. IsTurnsFault f (turned (components world.now.scenario) turns.now)) }
+    ensures read { IfOk result (λ t. turned world.now.scenario turns.now ≡ Ok t.items) }
+    ensures refused { IfErr result (λ f. IsTurnsFault f (turned world.now.scenario turns.now)) }
 {
     match read_items(alloc, turns, world.table()) {
         Ok(turns) => Ok(turns),
@@ -398,7 +428,7 @@ pub(crate) fn turns_of(
     }
 }
 
-// Takes all turns of a list from the start of a world, and writes what they did and then the accounts of all nodes.
+// Takes all turns and settings of a list from the start of a world, and writes what they did and then the accounts of all nodes.
 fn write_trace<W: Write>(
     world: &mut World,
     tracing: &mut Tracing,
@@ -424,7 +454,7 @@ fn write_trace<W: Write>(
     }
 }
 
-// Reads turns, takes all of them from the start of a world, and writes what they did.
+// Reads turns and settings, takes all of them from the start of a world, and writes what they did.
 fn trace_world<W: Write>(
     alloc: Global,
     world: &mut World,
@@ -446,6 +476,7 @@ fn trace_world<W: Write>(
 /// - A step has a line with the number of its turn, its leaf and its place in the text of the program.
 /// - Below it stand the line that it writes, the account of each node that it changes in anything but its steps, and each session that it changes.
 /// - A step of which there is nothing of this is printed if all are asked for.
+/// - A setting of an input has a line if it changes the value, or if all are asked for. It is no turn.
 ///
 /// If the scenario or the turns are refused, or the host refuses memory, nothing is written; turns need none. After a failed write a prefix of the text was
 /// written.

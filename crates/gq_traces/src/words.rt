@@ -48,14 +48,14 @@ pub(crate) fn extend_entry(line: &mut Line, word: &[u8], number: u64)
     extend_number(line, number);
 }
 
-/// Puts a word and an amount at the end of a line: bytes, and in version 2 capabilities.
+/// Puts a word and an amount at the end of a line: bytes, and capabilities where the version counts them.
 pub(crate) fn extend_amount(line: &mut Line, version: Version, word: &[u8], amount: Amount)
     requires { length line.old.items + length word.now + 47 ≤ GREATEST_LINE }
     ensures bytes { line.new.items ≡ line.old.items ++ amount_text (version_number version) word.now amount }
     ensures long { length line.new.items ≤ length line.old.items + length word.now + 47 }
 {
     extend_entry(line, word, amount.ram);
-    if let Version::Two = version {
+    if version.counts_caps() {
         extend_entry(line, b" caps", amount.caps);
     }
 }

@@ -1,12 +1,16 @@
 -- How many steps leaves have taken.
 use Rattle.std.proofs.Common.{◌≡◌, ℕ, zero, suc, ◌+◌, ◌<◌, ◌≤◌, ◌^◌, Bool, true, false, List, [], ◌∷◌, length, map, Option, Some, None, Ok, IfSome}
 use Rattle.std.proofs.Common.{OnOk, Result, refl, ap, sym, ◌∙◌, subst, arith}
+use Rattle.std.proofs.lemmas.List.{length-set}
 use Rattle.std.specs.Prelude.{slice_get, slice_index, slice_set}
 use Rattle.gq_model.specs.machine.Doing.{Event, Stepped}
 use Rattle.gq_model.specs.machine.Scenario.{System, Component}
+use Rattle.gq_model.specs.machine.Run.{set_input}
 use Rattle.gq_model.specs.machine.Step.{next}
 use Rattle.gq_model.specs.machine.World.{Leaf, World, start, start_leaves}
 use Rattle.gq_laws.specs.Turns.{CountsSteps, KeepsLeaves, StandsStill, can_run, steps_of}
+use Rattle.gq_laws.proofs.setting.Settings.{of_setting}
+use Rattle.gq_laws.proofs.setting.Steps.{set_steps}
 use Rattle.gq_laws.proofs.turning.Steps.{index_there}
 use Rattle.gq_machine.specs.Machines.{IsCountable}
 use Rattle.gq_unverified.specs.internal.Taking.{HasRoom, IsNear}
@@ -44,6 +48,20 @@ near_same old new n e =
 pub near_both : (a b c : World) (n m k : ℕ) → n + m ≤ k → IsNear a b n → IsNear b c m → IsNear a c k
 near_both a b c n m k most g h =
     record { leaves = h.leaves ∙ g.leaves; steps = λ y. let p = g.steps y in let q = h.steps y in omega (arith, p, q, most) }
+
+-- a setting takes no step
+set_leaves : (system : System) (w : World) (x i n : ℕ) → length (set_input system w x i n).leaves ≡ length w.leaves
+set_leaves system w x i n =
+    of_setting system (λ v. length v.leaves ≡ length w.leaves) w x i n
+    (λ leaf inputs there. length-set w.leaves x (record leaf { inputs = inputs })) refl
+
+pub near_set : (system : System) (old new : World) (x i n : ℕ) → new ≡ set_input system old x i n → IsNear old new 0
+near_set system old new x i n e =
+    subst (λ (w : World). IsNear old w 0) (sym e)
+    (record {
+      leaves = set_leaves system old x i n;
+      steps = λ y. let h = ap (λ (l : List ℕ). slice_index l y) (set_steps system old x i n) in omega (arith, h);
+    })
 
 -- there is room for what is left
 pub room_left : (a b : World) (n m k : ℕ) → m + k ≤ n → HasRoom a n → IsNear a b m → HasRoom b k

@@ -3,9 +3,11 @@ use Rattle.std.proofs.Common.{◌≡◌, ℕ, zero, suc, ◌+◌, ◌-◌, ◌<�
 use Rattle.std.proofs.Common.{append_assoc, append-nil}
 use Rattle.std.proofs.lemmas.List.{take-append-drop}
 use Rattle.std.specs.Io.KnownBytes.{Appends}
+use Rattle.gq_model.specs.declared.act.Act.{Act}
+use Rattle.gq_model.specs.declared.act.Act.TheVariants.{Turns, Sets}
 use Rattle.gq_model.specs.declared.fault.Wrong.{Wrong}
 use Rattle.gq_model.specs.machine.Doing as doing
-use Rattle.gq_model.specs.machine.Run.{Ran, after_step, turn_from, turns_of, run_on}
+use Rattle.gq_model.specs.machine.Run.{Ran, Acts, after_step, turn_from, turns_of, set_input, set_from, act_on, run_on}
 use Rattle.gq_model.specs.machine.Scenario.{Scenario, System, system}
 use Rattle.gq_model.specs.machine.Step.{next}
 use Rattle.gq_model.specs.machine.World.{World}
@@ -54,6 +56,16 @@ came_wrong s x old new wrong before e same =
           ∙ (λ i. record { world = sym same i; text = sym (append-nil front) i; wrong = Some (x, wrong) });
     }
 
+-- a setting writes nothing, and leaves the world that it makes
+pub came_set : (system : System) (x i n : ℕ) (old new : World) (before : Option (List ℕ)) → new ≡ set_input system old x i n
+    → HasCome (act_on system x (Sets i n)) old new None before before
+came_set system x i n old new before same =
+    record {
+      text = [];
+      written = appends_nothing before;
+      ran = λ front. (λ k. record { world = sym same k; text = sym (append-nil front) k; wrong = None });
+    }
+
 -- AFTER A WRONG STEP
 
 pub turns_stuck : (system : System) (x n : ℕ) (ran : Ran) (p : ℕ × Wrong) → ran.wrong ≡ Some p → turns_of system x n ran ≡ ran
@@ -62,9 +74,13 @@ turns_stuck system x (suc n) ran p e =
     let same : turn_from system x ran ran.wrong ≡ ran = ap (turn_from system x ran) e in
     ap (turns_of system x n) same ∙ turns_stuck system x n ran p e
 
-pub runs_stuck : (system : System) (turns : List (ℕ × ℕ)) (ran : Ran) (p : ℕ × Wrong) → ran.wrong ≡ Some p → run_on system turns ran ≡ ran
+pub act_stuck : (system : System) (x : ℕ) (a : Act) (ran : Ran) (p : ℕ × Wrong) → ran.wrong ≡ Some p → act_on system x a ran ≡ ran
+act_stuck system x (Turns n) ran p e = turns_stuck system x n ran p e
+act_stuck system x (Sets i n) ran p e = ap (set_from system x i n ran) e
+
+pub runs_stuck : (system : System) (turns : Acts) (ran : Ran) (p : ℕ × Wrong) → ran.wrong ≡ Some p → run_on system turns ran ≡ ran
 runs_stuck system [] ran p e = refl
-runs_stuck system (t ∷ turns) ran p e = ap (run_on system turns) (turns_stuck system t.0 t.1 ran p e) ∙ runs_stuck system turns ran p e
+runs_stuck system (t ∷ turns) ran p e = ap (run_on system turns) (act_stuck system t.0 t.1 ran p e) ∙ runs_stuck system turns ran p e
 
 -- TURNS AND WHAT FOLLOWS THEM
 
@@ -123,7 +139,7 @@ pub ends : (system : System) (x left : ℕ) → left ≡ 0 → (all : Ran → Ra
 ends system x left e all old new before after h =
     record { text = h.text; written = h.written; ran = λ front. sym (h.same front) ∙ ap (λ n. turns_of system x n (going new (front ++ h.text))) e }
 
-pub ends_all : (system : System) (left : List (ℕ × ℕ)) → left ≡ [] → (all : Ran → Ran) (old new : World) (before after : Option (List ℕ))
+pub ends_all : (system : System) (left : Acts) → left ≡ [] → (all : Ran → Ran) (old new : World) (before after : Option (List ℕ))
     → HasLeft (run_on system left) all old new before after → HasCome all old new None before after
 ends_all system left e all old new before after h =
     record { text = h.text; written = h.written; ran = λ front. sym (h.same front) ∙ ap (λ l. run_on system l (going new (front ++ h.text))) e }

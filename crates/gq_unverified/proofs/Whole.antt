@@ -4,8 +4,8 @@ use Rattle.std.specs.Io.KnownBytes.{Appends}
 use Rattle.gq_model.specs.declared.fault.TurnFault.{TurnFault}
 use Rattle.gq_model.specs.declared.fault.Wrong.{Wrong}
 use Rattle.gq_model.specs.machine.Accounts.{account_lines, text_of}
-use Rattle.gq_model.specs.machine.Run.{Ran, run, run_on}
-use Rattle.gq_model.specs.machine.Scenario.{Scenario, components, system}
+use Rattle.gq_model.specs.machine.Run.{Ran, Acts, run, run_on}
+use Rattle.gq_model.specs.machine.Scenario.{Scenario, system}
 use Rattle.gq_model.specs.machine.World.{World, start}
 use Rattle.gq_model.specs.texts.Turns.{turned}
 use Rattle.gq_load.specs.Load.{Fault}
@@ -25,7 +25,7 @@ use Rattle.gq_unverified.specs.Ends.{IsTestFault}
 use Rattle.gq_unverified.specs.Tested.{tested_text, first_wrong, named, tested_from, tested_turns, run_tested}
 use Rattle.gq_unverified.specs.internal.Taking.{HasCome, IsCut}
 
-module _ (s : Scenario) (turns : List (ℕ × ℕ)) (old : World) (starts : old ≡ start (system s)) (before between after : Option (List ℕ)) where
+module _ (s : Scenario) (turns : Acts) (old : World) (starts : old ≡ start (system s)) (before between after : Option (List ℕ)) where
   abbrev taken : Ran → Ran
   taken = run_on (system s) turns
 
@@ -72,11 +72,11 @@ module _ (s : Scenario) (turns : List (ℕ × ℕ)) (old : World) (starts : old 
 -- TEXTS
 
 -- what the definition gives
-pub tested_is : (scenario text : List ℕ) (s : Scenario) (turns : List (ℕ × ℕ)) → unverified scenario ≡ Ok s → turned (components s) text ≡ Ok turns
+pub tested_is : (scenario text : List ℕ) (s : Scenario) (turns : Acts) → unverified scenario ≡ Ok s → turned s text ≡ Ok turns
     → run_tested scenario text ≡ Ok (tested_text s turns, named s (first_wrong s turns))
 tested_is scenario text s turns load e = ap (λ l. tested_from l text) load ∙ ap (tested_turns s) e
 
-pub refused_is : (scenario text : List ℕ) (s : Scenario) (fault : TurnFault × ℕ) → unverified scenario ≡ Ok s → turned (components s) text ≡ Err fault
+pub refused_is : (scenario text : List ℕ) (s : Scenario) (fault : TurnFault × ℕ) → unverified scenario ≡ Ok s → turned s text ≡ Err fault
     → run_tested scenario text ≡ Err (refused_with (turn_fault_text fault.0 fault.1))
 refused_is scenario text s fault load e = ap (λ l. tested_from l text) load ∙ ap (tested_turns s) e
 

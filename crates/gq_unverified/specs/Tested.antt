@@ -3,19 +3,19 @@ use Rattle.std.specs.Prelude.{ℕ, List, [], ◌++◌, Option, Some, None, Resul
 use Rattle.gq_model.specs.machine.Scenario.{Scenario, Component, system, components}
 use Rattle.gq_model.specs.declared.fault.Wrong.{Wrong}
 use Rattle.gq_model.specs.declared.fault.Wrong.TheVariants.{MissingOperand, WrongKind, UnmappedByte, ExceededQuota, MissingSection}
-use Rattle.gq_model.specs.machine.Run.{run}
+use Rattle.gq_model.specs.machine.Run.{Acts, run}
 use Rattle.gq_model.specs.machine.Accounts.{text_of}
 use Rattle.gq_model.specs.texts.Turns.{Turned, turned}
 use Rattle.gq_load.specs.Load.{Fault, fault_text}
 use Rattle.gq_load.specs.Unverified.{unverified}
 use Rattle.gq_world.specs.Whole.{refused_with, turn_fault_text}
 
--- the lines of these turns up to a wrong step, and, where none is wrong, the accounts; no account tells a step budget
-unfoldable pub tested_text : Scenario → List (ℕ × ℕ) → List ℕ
+-- the lines of these turns and settings up to a wrong step, and, where none is wrong, the accounts; no account tells a step budget
+unfoldable pub tested_text : Scenario → Acts → List ℕ
 tested_text s turns = let ran = run (system s) turns in text_of s [] ran ran.wrong
 
 -- the first wrong step of these turns, and the leaf that came to it
-unfoldable pub first_wrong : Scenario → List (ℕ × ℕ) → Option (ℕ × Wrong)
+unfoldable pub first_wrong : Scenario → Acts → Option (ℕ × Wrong)
 first_wrong s turns = (run (system s) turns).wrong
 
 -- the name of a leaf that is there
@@ -37,7 +37,7 @@ tested_turns s (Ok turns) = Ok (tested_text s turns, named s (first_wrong s turn
 tested_turns s (Err fault) = Err (refused_with (turn_fault_text fault.0 fault.1))
 
 abbrev pub tested_from : Result Scenario Fault → List ℕ → Tested
-tested_from (Ok s) turns = tested_turns s (turned (components s) turns)
+tested_from (Ok s) turns = tested_turns s (turned s turns)
 tested_from (Err fault) turns = Err (refused_with (fault_text fault))
 
 abbrev pub run_tested : List ℕ → List ℕ → Tested

@@ -19,6 +19,7 @@ use gq_init::turns::{TurnsError, read_turns};
 use gq_load::read::unverified_laws;
 use gq_load::unverified::read_unverified;
 use gq_machine::machine::Machine;
+use gq_model::act::Act;
 use gq_model::fault::Wrong;
 use gq_scenario::scenario::LeafNo;
 use gq_world::account_lines::write_accounts;
@@ -26,11 +27,11 @@ use gq_world::fault::RunFault;
 use std::alloc::Global;
 use std::io::Write;
 
-// All turns of a list from the start of a scenario, and, where no step is wrong, the lines of the accounts, up to the first line that is not
+// All turns and settings of a list from the start of a scenario, and, where no step is wrong, the lines of the accounts, up to the first line that is not
 // written whole. They take no host memory.
 fn run_machine<W: Write>(
     machine: &mut Machine,
-    turns: &[(LeafNo, u32)],
+    turns: &[(LeafNo, Act)],
     out: &mut Counted<W>,
 ) -> Result<Option<(LeafNo, Wrong)>, WriteFault>
     requires start { machine.old.world ≡ start (system machine.old.scenario) }
@@ -54,7 +55,7 @@ fn run_machine<W: Write>(
 // The same, with the wrong step by its leaf's name.
 fn run_named<W: Write>(
     machine: &mut Machine,
-    turns: &[(LeafNo, u32)],
+    turns: &[(LeafNo, Act)],
     out: &mut Counted<W>,
 ) -> Result<Option<WrongStep>, RunFault<'static>>
     requires start { machine.old.world ≡ start (system machine.old.scenario) }
@@ -69,11 +70,11 @@ fn run_named<W: Write>(
     }
 }
 
-// A run with tests of a scenario that was read, over turns that were.
+// A run with tests of a scenario that was read, over turns and settings that were.
 fn run_table<W: Write>(
     alloc: Global,
     table: NodeTable,
-    turns: &[(LeafNo, u32)],
+    turns: &[(LeafNo, Act)],
     out: &mut Counted<W>,
 ) -> Result<Option<WrongStep>, RunFault<'static>>
     requires ready { IsReady table }
@@ -87,14 +88,14 @@ fn run_table<W: Write>(
     }
 }
 
-// The turns that a text says, or the fault that a run tells.
+// The turns and settings that a text says, or the fault that a run tells.
 fn listed(
     alloc: Global,
     text: &[u8],
     table: &NodeTable,
-) -> Result<Vec<(LeafNo, u32)>, RunFault<'static>>
-    ensures turned { IfOk result (λ turns. turned (components table.now) text.now ≡ Ok turns.items) }
-    ensures refused { IfErr result (λ fault. IsTestFault fault (tested_turns table.now (turned (components table.now) text.now))) }
+) -> Result<Vec<(LeafNo, Act)>, RunFault<'static>>
+    ensures turned { IfOk result (λ turns. turned table.now text.now ≡ Ok turns.items) }
+    ensures refused { IfErr result (λ fault. IsTestFault fault (tested_turns table.now (turned table.now text.now))) }
     ensures before { IfErr result (λ fault. IsBefore fault) }
 {
     match read_turns(alloc, text, table) {
@@ -104,10 +105,10 @@ fn listed(
     }
 }
 
-/// Runs a scenario, a text in TOML, by the turns of a second text, with tests: the scenario has to be read and resolved, but its programs are not judged, so
-/// a step may be wrong. Takes the turns up to the first wrong step, writes the lines that they give and, where no step is wrong, the accounts of all nodes,
-/// with 0 for each step budget. Answers the wrong step, if there is one. Nothing is written where the scenario or the turns are refused, or where host memory
-/// is, which only loading and reading the turns take.
+/// Runs a scenario, a text in TOML, by the turns and settings of a second text, with tests: the scenario has to be read and resolved, but its programs are not
+/// judged, so a step may be wrong. Takes the turns up to the first wrong step, writes the lines that they give and, where no step is wrong, the accounts of
+/// all nodes, with 0 for each step budget. Answers the wrong step, if there is one. Nothing is written where the scenario or the turns are refused, or where
+/// host memory is, which only loading and reading the turns take.
 pub fn run_unverified<W: Write>(
     alloc: Global,
     scenario: &[u8],

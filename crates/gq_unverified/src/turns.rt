@@ -1,7 +1,8 @@
-// Turns with tests, one after the other, up to a wrong step.
+// Turns with tests and settings, one after the other, up to a wrong step.
 ghost use Rattle.std.specs.Prelude.{◌≡◌, ◌<◌, length, IfOk, IfSome, OnErr};
-ghost use Rattle.gq_model.specs.machine.Run.{turns_of, run_on};
+ghost use Rattle.gq_model.specs.machine.Run.{act_on, turns_of, run_on};
 ghost use Rattle.gq_model.specs.machine.Scenario.{components, system};
+ghost use Rattle.gq_model.specs.texts.Turns.{turns_given};
 ghost use Rattle.gq_init.specs.Counts.{written_to};
 ghost use Rattle.gq_world.specs.internal.Going.{AreBelow};
 ghost use Rattle.gq_unverified.specs.internal.Taking.{CountsFailures, HasCome, HasRoom, IsCut, IsNear, turns_in};
@@ -11,6 +12,7 @@ use gq_init::counted::{Counted, WriteFault};
 use gq_laws::turns::turn_laws;
 use gq_machine::event::Event;
 use gq_machine::machine::Machine;
+use gq_model::act::Act;
 use gq_model::fault::Wrong;
 use gq_scenario::scenario::LeafNo;
 use gq_world::leaf_lines::write_line;
@@ -76,10 +78,37 @@ fn take_turns<W: Write>(
     Ok(None)
 }
 
-// All turns of a list, up to the first that is wrong or whose line is not written whole. They take no host memory.
+// Gives a leaf turns, up to the first that is wrong or whose line is not written whole, or another value of an input. It takes no host memory.
+fn take_act<W: Write>(
+    machine: &mut Machine,
+    leaf: LeafNo,
+    act: Act,
+    out: &mut Counted<W>,
+) -> Result<Option<(LeafNo, Wrong)>, WriteFault>
+    requires leaf { leaf < length (components machine.old.scenario) }
+    requires room { HasRoom machine.old.world (turns_given act) }
+    ensures scenario { machine.new.scenario ≡ machine.old.scenario }
+    ensures near { IsNear machine.old.world machine.new.world (turns_given act) }
+    ensures come { IfOk result (λ wrong. HasCome (act_on (system machine.old.scenario) leaf act) machine.old.world machine.new.world wrong
+        (written_to W.contents out.old) (written_to W.contents out.new)) }
+    ensures there { IfOk result (λ wrong. IfSome wrong (λ p. p.0 < length (components machine.old.scenario))) }
+    ensures cut { OnErr result (IsCut (act_on (system machine.old.scenario) leaf act) machine.old.world (written_to W.contents out.old)
+        (written_to W.contents out.new)) }
+    ensures failures { CountsFailures out.old out.new result }
+{
+    match act {
+        Act::Turns(count) => take_turns(machine, leaf, count, out),
+        Act::Sets(input, number) => {
+            let _set = machine.set_input(leaf, usize::from(input), number);
+            Ok(None)
+        }
+    }
+}
+
+// All turns and settings of a list, up to the first turn that is wrong or whose line is not written whole. They take no host memory.
 pub(crate) fn take_all<W: Write>(
     machine: &mut Machine,
-    turns: &[(LeafNo, u32)],
+    turns: &[(LeafNo, Act)],
     out: &mut Counted<W>,
 ) -> Result<Option<(LeafNo, Wrong)>, WriteFault>
     requires leaves { AreBelow (length (components machine.old.scenario)) turns.now }
@@ -93,8 +122,8 @@ pub(crate) fn take_all<W: Write>(
         (written_to W.contents out.new)) }
     ensures failures { CountsFailures out.old out.new result }
 {
-    for (leaf, count) in turns {
-        match take_turns(machine, *leaf, *count, out) {
+    for (leaf, act) in turns {
+        match take_act(machine, *leaf, *act, out) {
             Ok(None) => (),
             Ok(Some(wrong)) => return Ok(Some(wrong)),
             Err(fault) => return Err(fault),

@@ -4,7 +4,7 @@ use Rattle.std.proofs.lemmas.Bool.{and_parts}
 use Rattle.gq_model.specs.machine.Program.{Statements, Done, Do, If, Loop}
 use Rattle.gq_model.specs.declared.program.Section.{Section}
 use Rattle.gq_model.specs.declared.program.Instruction.{Instruction}
-use Rattle.gq_model.specs.declared.program.Instruction.TheVariants.{Say, Out, Drop, Dup, Push, Divide, Modulo, Get, Set, Index, Combine, Make, MakePool, Load}
+use Rattle.gq_model.specs.declared.program.Instruction.TheVariants.{Say, Out, Operands, Make, MakePool, Load}
 use Rattle.gq_model.specs.declared.program.Instruction.TheVariants.{Store, Free, Take, Give, Peek, Poke, Open, Upgrade, Call, Close}
 use Rattle.gq_model.specs.rules.Kinds.{State, Context, inside}
 use Rattle.gq_model.specs.rules.Rules.{judged}
@@ -18,15 +18,7 @@ use Rattle.gq_program.specs.Notes.{asks_nothing, is_quiet}
 asks_none : (v : List ℕ) (r : Section) (c : Context) (s : State) (i : Instruction) → asks_nothing i ≡ true → asks v r c s i ≡ 0
 asks_none v r c s (Say text) e = refl
 asks_none v r c s Out e = refl
-asks_none v r c s Drop e = refl
-asks_none v r c s Dup e = refl
-asks_none v r c s (Push n) e = refl
-asks_none v r c s (Divide n) e = refl
-asks_none v r c s (Modulo n) e = refl
-asks_none v r c s (Get i) e = refl
-asks_none v r c s (Set i) e = refl
-asks_none v r c s (Index d) e = refl
-asks_none v r c s (Combine f) e = refl
+asks_none v r c s (Operands o) e = refl
 asks_none v r c s (Make form place n) e = refl
 asks_none v r c s (MakePool place n m) e = refl
 asks_none v r c s (Load width place) e = refl

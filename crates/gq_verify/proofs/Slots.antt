@@ -6,7 +6,7 @@ use Rattle.gq_model.specs.declared.fault.Rule.{Rule}
 use Rattle.gq_model.specs.declared.fault.Rule.TheVariants.{WrongKind, SlotInUse, OutOfRange, SessionBankChanged, OwnBankChanged, HeapInSession, ShortDonation}
 use Rattle.gq_model.specs.declared.fault.Rule.TheVariants.{UnknownService}
 use Rattle.gq_model.specs.declared.program.Instruction.{Instruction}
-use Rattle.gq_model.specs.declared.program.Instruction.TheVariants.{Say, Out, Drop, Dup, Push, Divide, Modulo, Get, Set, Index, Combine, Make, MakePool, Load}
+use Rattle.gq_model.specs.declared.program.Instruction.TheVariants.{Say, Out, Operands, Make, MakePool, Load}
 use Rattle.gq_model.specs.declared.program.Instruction.TheVariants.{Store, Free, Take, Give, Peek, Poke, Open, Upgrade, Call, Close}
 use Rattle.gq_model.specs.declared.program.Place.{Place}
 use Rattle.gq_model.specs.declared.program.Place.TheVariants.{Own, Shared, Object}
@@ -150,15 +150,7 @@ judge_with c b s (Upgrade place n) e = upgraded_with c b s place n
 judge_with c b s (Close place) e = closed_with c b s place
 judge_with c b s (Say text) e = cc
 judge_with c b s Out e = cc
-judge_with c b s Drop e = cc
-judge_with c b s Dup e = cc
-judge_with c b s (Push n) e = cc
-judge_with c b s (Divide n) e = cc
-judge_with c b s (Modulo n) e = cc
-judge_with c b s (Get i) e = cc
-judge_with c b s (Set i) e = cc
-judge_with c b s (Index d) e = cc
-judge_with c b s (Combine f) e = cc
+judge_with c b s (Operands o) e = cc
 judge_with c b s (Load width place) e = cc
 judge_with c b s (Store width place) e = cc
 judge_with c b s (Take place) e = cc
@@ -222,15 +214,7 @@ asks_alike v r c s t i e = ap (λ (x : State). asks v r c x i) (alike_is s t e) 
   asks_with (Close Object) = refl
   asks_with (Say text) = refl
   asks_with Out = refl
-  asks_with Drop = refl
-  asks_with Dup = refl
-  asks_with (Push n) = refl
-  asks_with (Divide n) = refl
-  asks_with (Modulo n) = refl
-  asks_with (Get k) = refl
-  asks_with (Set k) = refl
-  asks_with (Index d) = refl
-  asks_with (Combine f) = refl
+  asks_with (Operands o) = refl
   asks_with (Make form place n) = refl
   asks_with (MakePool place n m) = refl
   asks_with (Load width place) = refl

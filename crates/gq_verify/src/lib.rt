@@ -3,8 +3,9 @@
 //! ```rust
 //! use gq_verify::verify;
 //!
-//! // A program from `gq_asm` or `gq_code` whose `main` has the statement `space o0 8192`, and the interfaces of its scenario. It provides no service.
-//! let verified = verify(&program, None, &interfaces)?;
+//! // A program from `gq_asm` or `gq_code` whose `main` has the statement `space o0 8192`, and the interfaces of its scenario. It provides no service,
+//! // and has no inputs.
+//! let verified = verify(&program, None, &interfaces, &[])?;
 //! assert_eq!(rt; verified.own(), 8192);
 //! assert_eq!(rt; verified.cost(Section::Main), Some(2));
 //! ```

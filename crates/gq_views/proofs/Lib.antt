@@ -1,5 +1,6 @@
 pub mod Listed_numbers
 pub mod Listed_lines
+pub mod Table_words
 mod Listed_operands
 mod Listed_instructions
 mod Listed_reads
@@ -14,5 +15,4 @@ mod Told_sections
 mod Told_services
 mod Told_nodes
 mod Told_boxes
-mod Keywords
 mod Numbered_rows

@@ -4,27 +4,25 @@ use Rattle.std.proofs.Common.{refl, ap, sym, arith, append-nil}
 use Rattle.std.specs.Prelude.{◌&&◌, not, nat_lt, if◌then◌else◌, codes}
 use Rattle.std.proofs.lemmas.Bool.{and_parts, lt-ltb, ltb-true}
 use Rattle.gq_model.specs.declared.fault.TextFault.TheVariants as fault
-use Rattle.gq_model.specs.declared.program.Form.TheVariants.{Block, Slice, Space}
 use Rattle.gq_model.specs.declared.program.Instruction.{Instruction}
-use Rattle.gq_model.specs.declared.program.Instruction.TheVariants as i
-use Rattle.gq_model.specs.declared.program.Operator.TheVariants.{Add, Subtract, Multiply, And, Equal, Less}
-use Rattle.gq_model.specs.declared.program.Width.TheVariants.{Byte, Word}
 use Rattle.gq_model.specs.machine.Lists.{all_of}
 use Rattle.gq_model.specs.machine.Program.{text_eq}
 use Rattle.gq_model.specs.texts.Letters.{past_word, unindented, words}
 use Rattle.gq_model.specs.texts.Operands.{Operand, opcode}
 use Rattle.gq_model.specs.texts.Code.{greatest_statements}
-use Rattle.gq_model.specs.texts.Spelling.{Shape, found, instruction_in, shape_of_word, spellings}
+use Rattle.gq_model.specs.texts.Spelling.{Shape, found, instruction_in, shape_of_word, spellings, word_of_opcode}
 use Rattle.gq_model.specs.texts.Text
-use Rattle.gq_model.specs.texts.Text.{OpenBlock, Reading, Read, add_to, counted, ended, in_place, is_comment, line_read, nested, other_arm, put, statement}
-use Rattle.gq_views.specs.Listing.{indent, operand_text, operands_text, word_of}
+use Rattle.gq_model.specs.texts.Text.{OpenBlock, Reading, Read, counted, ended, in_place, is_comment, line_read, nested, other_arm, put, statement}
+use Rattle.gq_model.proofs.Instruction_laws.{each_spelled}
+use Rattle.gq_views.specs.Listing.{indent, operand_text, operands_text}
+use Rattle.gq_views.proofs.Table_words.{word_passes}
 use Rattle.gq_views.proofs.Listed_lines.{after_alone, after_word, is_solid, word_alone, word_first, words_indent}
 use Rattle.gq_views.proofs.Listed_operands.{IsWord}
 
 -- WORDS OF STATEMENTS
 
 abbrev pub keyword : Instruction → List ℕ
-keyword x = word_of (opcode x) spellings
+keyword x = word_of_opcode (opcode x) spellings
 
 -- a word that begins no block and ends none
 abbrev pub is_plain : List ℕ → Bool
@@ -33,39 +31,7 @@ is_plain w =
     && (not (is_comment w) && (nat_lt 0 (length w) && all_of is_solid w)))))
 
 pub plain : (x : Instruction) → is_plain (keyword x) ≡ true
-plain (i.Say text) = refl
-plain i.Out = refl
-plain (i.Push n) = refl
-plain i.Drop = refl
-plain i.Dup = refl
-plain (i.Combine Add) = refl
-plain (i.Combine Subtract) = refl
-plain (i.Combine Multiply) = refl
-plain (i.Combine And) = refl
-plain (i.Combine Equal) = refl
-plain (i.Combine Less) = refl
-plain (i.Divide n) = refl
-plain (i.Modulo n) = refl
-plain (i.Get n) = refl
-plain (i.Set n) = refl
-plain (i.Index n) = refl
-plain (i.Make Block p n) = refl
-plain (i.Make Slice p n) = refl
-plain (i.Make Space p n) = refl
-plain (i.MakePool p n m) = refl
-plain (i.Load Byte p) = refl
-plain (i.Load Word p) = refl
-plain (i.Store Byte p) = refl
-plain (i.Store Word p) = refl
-plain (i.Free p) = refl
-plain (i.Take p) = refl
-plain (i.Give p) = refl
-plain (i.Peek p) = refl
-plain (i.Poke p) = refl
-plain (i.Open p v n) = refl
-plain (i.Upgrade p n) = refl
-plain (i.Call p) = refl
-plain (i.Close p) = refl
+plain x = word_passes is_plain spellings (opcode x) (each_spelled x).0 (each_spelled x).1 refl
 
 pub record IsPlain (w : List ℕ) : Type 0 where
   pub no_end : text_eq w (codes "end") ≡ false

@@ -1,5 +1,5 @@
 -- Each instruction is read back from its operands.
-use Rattle.std.proofs.Common.{◌≡◌, ◌∙◌, ℕ, suc, ◌<◌, ◌≤◌, ◌^◌, Bool, true, false, List, [], ◌∷◌, ◌++◌, length, map, Option, Some, None, Ok}
+use Rattle.std.proofs.Common.{◌≡◌, ◌∙◌, ℕ, zero, suc, ◌<◌, ◌≤◌, ◌^◌, Bool, true, false, List, [], ◌∷◌, ◌++◌, length, map, Option, Some, None, Ok}
 use Rattle.std.proofs.Common.{refl, ap, arith, append-nil}
 use Rattle.std.specs.Prelude.{◌&&◌, nat_le, ◌==◌, if◌then◌else◌, decimal}
 use Rattle.std.proofs.lemmas.Bool.{and_parts, leb-true}
@@ -8,17 +8,19 @@ use Rattle.gq_model.specs.declared.fault.TextFault.TheVariants as fault
 use Rattle.gq_model.specs.declared.program.Form.TheVariants.{Block, Slice, Space}
 use Rattle.gq_model.specs.declared.program.Instruction.{Instruction}
 use Rattle.gq_model.specs.declared.program.Instruction.TheVariants as i
-use Rattle.gq_model.specs.declared.program.Operator.TheVariants.{Add, Subtract, Multiply, And, Equal, Less}
+use Rattle.gq_model.specs.declared.program.OperandStatement.TheVariants.{Plain, Numbered}
 use Rattle.gq_model.specs.declared.program.Place.{Place}
 use Rattle.gq_model.specs.declared.program.Place.TheVariants.{Own, Shared, Object}
 use Rattle.gq_model.specs.declared.program.Width.TheVariants.{Byte, Word}
 use Rattle.gq_model.specs.machine.Lists.{all_of, between}
 use Rattle.gq_model.specs.machine.Program.{Do, Done}
 use Rattle.gq_model.specs.texts.Letters.{is_blank, is_name, is_said, is_said_byte, words}
-use Rattle.gq_model.specs.texts.Operands.{in_range, is_slot, is_slot_or_object, operands, greatest_number, greatest_size}
+use Rattle.gq_model.specs.texts.Operands.{number_entry, in_range, is_slot, is_slot_or_object, operands, greatest_number, greatest_size}
 use Rattle.gq_model.specs.texts.Code.{greatest_statements}
 use Rattle.gq_model.specs.texts.Spelling.{Shape, Made, Number, Service, Said, before, found, instruction_in, quoted, said_in, sayable, shape_of_word, spellings}
 use Rattle.gq_model.specs.texts.Text.{OpenBlock, Reading, add_to, line_read, put}
+use Rattle.gq_model.proofs.Operand_laws.{IsWidth}
+use Rattle.gq_model.proofs.Instruction_laws.{each_bare, each_numbered}
 use Rattle.gq_views.specs.Listing.{indented, instruction_text, operand_text, operands_text}
 use Rattle.gq_views.proofs.Listed_numbers.{all_append, number_of_32}
 use Rattle.gq_views.proofs.Listed_lines.{is_printed, said_printed}
@@ -39,6 +41,12 @@ below low high n few h = let t = and_parts (nat_le low n) (nat_le n high) h in o
 number_back : (low high n : ℕ) → high < 2 ^ 32 → between low high n ≡ true → n < 2 ^ 32
 number_back low high n few h = let t = and_parts (nat_le low n) (nat_le n high) h in omega (arith, leb-true n high t.1, few)
 
+high_small : (w high : ℕ) → IsWidth w high → high < 2 ^ 32
+high_small (suc zero) high h = omega (arith, h)
+high_small (suc (suc zero)) high h = omega (arith, h)
+high_small (suc (suc (suc (suc zero)))) high h = omega (arith, h)
+high_small _ high h = absurd h
+
 slot_any : (p : Place) → is_slot p ≡ true → is_slot_or_object p ≡ true
 slot_any (Own n) h = h
 slot_any (Shared n) h = h
@@ -49,84 +57,22 @@ pub reads_back : (x : Instruction) → all_of in_range (operands x) ≡ true →
 reads_back (i.Say text) h other = absurd (other text refl)
 reads_back i.Out h other =
     record { words = tt; shape = _; is = refl; reads = λ after. refl }
-reads_back (i.Push n) h other =
-    let t0 = and_parts (between 0 greatest_number n) (true) h in
-    let r0 = t0.0 in
+reads_back (i.Operands (Plain s)) h other = record {
+  words = tt;
+  shape = _;
+  is = ap (λ (w : List ℕ). shape_of_word w spellings) (each_bare s).word_is ∙ (each_bare s).by_word;
+  reads = λ after. refl;
+}
+reads_back (i.Operands (Numbered s n)) h other =
+    let e = number_entry s in
+    let few = high_small e.width e.high (each_numbered s).1 in
+    let r0 = (and_parts (between e.low e.high n) true h).0 in
     record {
-      words = (number_word n (below 0 greatest_number n (omega arith) r0), tt);
+      words = (number_word n (below e.low e.high n (omega (arith, few)) r0), tt);
       shape = _;
-      is = refl;
-      reads = λ after. reads_number after []
-          (i.Push n) 4 0 greatest_number n (λ n. Made (i.Push n)) (number_of_32 0 greatest_number n (number_back 0 greatest_number n (omega arith) r0) r0)
-          (refl);
-    }
-reads_back i.Drop h other =
-    record { words = tt; shape = _; is = refl; reads = λ after. refl }
-reads_back i.Dup h other =
-    record { words = tt; shape = _; is = refl; reads = λ after. refl }
-reads_back (i.Combine Add) h other =
-    record { words = tt; shape = _; is = refl; reads = λ after. refl }
-reads_back (i.Combine Subtract) h other =
-    record { words = tt; shape = _; is = refl; reads = λ after. refl }
-reads_back (i.Combine Multiply) h other =
-    record { words = tt; shape = _; is = refl; reads = λ after. refl }
-reads_back (i.Combine And) h other =
-    record { words = tt; shape = _; is = refl; reads = λ after. refl }
-reads_back (i.Combine Equal) h other =
-    record { words = tt; shape = _; is = refl; reads = λ after. refl }
-reads_back (i.Combine Less) h other =
-    record { words = tt; shape = _; is = refl; reads = λ after. refl }
-reads_back (i.Divide n) h other =
-    let t0 = and_parts (between 1 greatest_number n) (true) h in
-    let r0 = t0.0 in
-    record {
-      words = (number_word n (below 1 greatest_number n (omega arith) r0), tt);
-      shape = _;
-      is = refl;
-      reads = λ after. reads_number after []
-          (i.Divide n) 4 1 greatest_number n (λ n. Made (i.Divide n)) (number_of_32 1 greatest_number n (number_back 1 greatest_number n (omega arith) r0) r0)
-          (refl);
-    }
-reads_back (i.Modulo n) h other =
-    let t0 = and_parts (between 1 greatest_number n) (true) h in
-    let r0 = t0.0 in
-    record {
-      words = (number_word n (below 1 greatest_number n (omega arith) r0), tt);
-      shape = _;
-      is = refl;
-      reads = λ after. reads_number after []
-          (i.Modulo n) 4 1 greatest_number n (λ n. Made (i.Modulo n)) (number_of_32 1 greatest_number n (number_back 1 greatest_number n (omega arith) r0) r0)
-          (refl);
-    }
-reads_back (i.Get n) h other =
-    let t0 = and_parts (between 0 7 n) (true) h in
-    let r0 = t0.0 in
-    record {
-      words = (number_word n (below 0 7 n (omega arith) r0), tt);
-      shape = _;
-      is = refl;
-      reads = λ after. reads_number after [] (i.Get n) 1 0 7 n
-          (λ n. Made (i.Get n)) (number_of_32 0 7 n (number_back 0 7 n (omega arith) r0) r0) (refl);
-    }
-reads_back (i.Set n) h other =
-    let t0 = and_parts (between 0 7 n) (true) h in
-    let r0 = t0.0 in
-    record {
-      words = (number_word n (below 0 7 n (omega arith) r0), tt);
-      shape = _;
-      is = refl;
-      reads = λ after. reads_number after [] (i.Set n) 1 0 7 n
-          (λ n. Made (i.Set n)) (number_of_32 0 7 n (number_back 0 7 n (omega arith) r0) r0) (refl);
-    }
-reads_back (i.Index n) h other =
-    let t0 = and_parts (between 0 3 n) (true) h in
-    let r0 = t0.0 in
-    record {
-      words = (number_word n (below 0 3 n (omega arith) r0), tt);
-      shape = _;
-      is = refl;
-      reads = λ after. reads_number after [] (i.Index n) 1 0 3 n
-          (λ n. Made (i.Index n)) (number_of_32 0 3 n (number_back 0 3 n (omega arith) r0) r0) (refl);
+      is = ap (λ (w : List ℕ). shape_of_word w spellings) (each_numbered s).0.word_is ∙ (each_numbered s).0.by_word;
+      reads = λ after. reads_number after [] (i.Operands (Numbered s n)) e.width e.low e.high n (λ n. Made (i.Operands (Numbered s n)))
+          (number_of_32 e.low e.high n (number_back e.low e.high n few r0) r0) refl;
     }
 reads_back (i.Make Block p n) h other =
     let t0 = and_parts (is_slot p) ((between 1 greatest_size n) && (true)) h in
@@ -398,20 +344,7 @@ spelled_back (i.Say text) h = record {
   printed = said_text_printed text (and_parts (is_said text) true h).0;
 }
 spelled_back i.Out h = spelled_from i.Out (reads_back i.Out h (λ text e. cc e))
-spelled_back (i.Push n) h = spelled_from (i.Push n) (reads_back (i.Push n) h (λ text e. cc e))
-spelled_back i.Drop h = spelled_from i.Drop (reads_back i.Drop h (λ text e. cc e))
-spelled_back i.Dup h = spelled_from i.Dup (reads_back i.Dup h (λ text e. cc e))
-spelled_back (i.Combine Add) h = spelled_from (i.Combine Add) (reads_back (i.Combine Add) h (λ text e. cc e))
-spelled_back (i.Combine Subtract) h = spelled_from (i.Combine Subtract) (reads_back (i.Combine Subtract) h (λ text e. cc e))
-spelled_back (i.Combine Multiply) h = spelled_from (i.Combine Multiply) (reads_back (i.Combine Multiply) h (λ text e. cc e))
-spelled_back (i.Combine And) h = spelled_from (i.Combine And) (reads_back (i.Combine And) h (λ text e. cc e))
-spelled_back (i.Combine Equal) h = spelled_from (i.Combine Equal) (reads_back (i.Combine Equal) h (λ text e. cc e))
-spelled_back (i.Combine Less) h = spelled_from (i.Combine Less) (reads_back (i.Combine Less) h (λ text e. cc e))
-spelled_back (i.Divide n) h = spelled_from (i.Divide n) (reads_back (i.Divide n) h (λ text e. cc e))
-spelled_back (i.Modulo n) h = spelled_from (i.Modulo n) (reads_back (i.Modulo n) h (λ text e. cc e))
-spelled_back (i.Get n) h = spelled_from (i.Get n) (reads_back (i.Get n) h (λ text e. cc e))
-spelled_back (i.Set n) h = spelled_from (i.Set n) (reads_back (i.Set n) h (λ text e. cc e))
-spelled_back (i.Index n) h = spelled_from (i.Index n) (reads_back (i.Index n) h (λ text e. cc e))
+spelled_back (i.Operands s) h = spelled_from (i.Operands s) (reads_back (i.Operands s) h (λ text e. cc e))
 spelled_back (i.Make Block p n) h = spelled_from (i.Make Block p n) (reads_back (i.Make Block p n) h (λ text e. cc e))
 spelled_back (i.Make Slice p n) h = spelled_from (i.Make Slice p n) (reads_back (i.Make Slice p n) h (λ text e. cc e))
 spelled_back (i.Make Space p n) h = spelled_from (i.Make Space p n) (reads_back (i.Make Space p n) h (λ text e. cc e))

@@ -39,6 +39,17 @@ arrow_put from to name t u₁ u₂ u₃ u₄ u₅ u₆ u₇ u₈ p₁ p₂ p₃ 
         → u₆ ≡ u₅ ++ s → u₇ ≡ u₆ ++ (q ++ c) → u₈ ≡ u₇ ++ f → u₈ ≡ t ++ ((i ++ (n ++ a ++ m ++ b ++ (q ++ s ++ q) ++ c)) ++ f)
     pieces t i n a m b q s c f u₁ u₂ u₃ u₄ u₅ u₆ u₇ u₈ p₁ p₂ p₃ p₄ p₅ p₆ p₇ p₈ = rw (p₈, p₇, p₆, p₅, p₄, p₃, p₂, p₁) (simp append_assoc)
 
+-- the pieces of the box of a leaf
+pub box_of_leaf : (depth n : ℕ) (label t u₁ u₂ u₃ u₄ u₅ u₆ : List ℕ) → u₁ ≡ t ++ indent depth → u₂ ≡ u₁ ++ node_name n → u₃ ≡ u₂ ++ codes " [label = \""
+    → u₄ ≡ u₃ ++ label → u₅ ≡ u₄ ++ codes "\"];" → u₆ ≡ u₅ ++ 10 ∷ []
+    → u₆ ≡ t ++ line depth (node_name n ++ codes " [label = " ++ in_quotes label ++ codes "];")
+box_of_leaf depth n label t u₁ u₂ u₃ u₄ u₅ u₆ p₁ p₂ p₃ p₄ p₅ p₆ =
+    pieces t (indent depth) (node_name n) (codes " [label = ") (codes "\"") label (codes "];") (10 ∷ []) u₁ u₂ u₃ u₄ u₅ u₆ p₁ p₂ p₃ p₄ p₅ p₆
+  where
+    pieces : (t i n b q s c f u₁ u₂ u₃ u₄ u₅ u₆ : List ℕ) → u₁ ≡ t ++ i → u₂ ≡ u₁ ++ n → u₃ ≡ u₂ ++ (b ++ q) → u₄ ≡ u₃ ++ s → u₅ ≡ u₄ ++ (q ++ c)
+        → u₆ ≡ u₅ ++ f → u₆ ≡ t ++ ((i ++ (n ++ b ++ (q ++ s ++ q) ++ c)) ++ f)
+    pieces t i n b q s c f u₁ u₂ u₃ u₄ u₅ u₆ p₁ p₂ p₃ p₄ p₅ p₆ = rw (p₆, p₅, p₄, p₃, p₂, p₁) (simp append_assoc)
+
 -- no point where there is a child
 pub no_point : (d k : ℕ) (items : List Node) → 0 < length items → (t : List ℕ) → t ≡ t ++ point_line d k (nodes_of items)
 no_point d k [] h t = absurd (omega (arith, h))

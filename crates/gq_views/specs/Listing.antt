@@ -6,15 +6,10 @@ use Rattle.gq_model.specs.declared.program.Place.TheVariants.{Own, Shared, Objec
 use Rattle.gq_model.specs.declared.program.Section.{Section}
 use Rattle.gq_model.specs.machine.Program.{Statements, Done, Do, If, Loop, Program}
 use Rattle.gq_model.specs.texts.Operands.{Operand, Number, Slot, Bytes, Text, Service, greatest_number, opcode, operands}
-use Rattle.gq_model.specs.texts.Spelling.{Spelling, spellings}
+use Rattle.gq_model.specs.texts.Spelling.{spellings, word_of_opcode}
 use Rattle.gq_model.specs.texts.Fault_texts.{section_word}
 
 -- STATEMENTS
-
--- the word of the statement with that number
-abbrev pub word_of : ℕ → List Spelling → List ℕ
-word_of code [] = []
-word_of code (p ∷ rest) = if code == p.opcode then p.word else word_of code rest
 
 abbrev pub place_text : Place → List ℕ
 place_text (Own i) = codes "o" ++ decimal i
@@ -34,7 +29,7 @@ operands_text [] = []
 operands_text (o ∷ rest) = codes " " ++ operand_text o ++ operands_text rest
 
 abbrev pub instruction_text : Instruction → List ℕ
-instruction_text i = word_of (opcode i) spellings ++ operands_text (operands i)
+instruction_text i = word_of_opcode (opcode i) spellings ++ operands_text (operands i)
 
 abbrev pub loop_text : ℕ → List ℕ
 loop_text n = codes "loop " ++ decimal n

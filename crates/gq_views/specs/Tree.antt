@@ -27,6 +27,16 @@ abbrev pub named_entry : List ℕ → Option (List ℕ) → List ℕ
 named_entry word None = []
 named_entry word (Some name) = codes " " ++ word ++ codes " " ++ name
 
+-- these numbers, each behind a blank
+abbrev pub amounts : List ℕ → List ℕ
+amounts [] = []
+amounts (n ∷ rest) = (codes " " ++ decimal n) ++ amounts rest
+
+-- the greatest values of inputs, where there are any
+abbrev pub inputs_entry : List ℕ → List ℕ
+inputs_entry [] = []
+inputs_entry (n ∷ rest) = codes " inputs" ++ amounts (n ∷ rest)
+
 abbrev pub budget_entries : ℕ → Option Budget → List ℕ
 budget_entries version None = []
 budget_entries version (Some b) = entry (codes "own") b.own.ram ++ told version (entry (codes "caps") b.own.caps) ++ entry (codes "steps") b.steps
@@ -34,7 +44,8 @@ budget_entries version (Some b) = entry (codes "own") b.own.ram ++ told version 
 abbrev pub leaf_text : ℕ → LeafNode → Option Budget → List ℕ
 leaf_text version node b =
     node.name ++ entry (codes "quantum") node.quantum.ram ++ told version (entry (codes "caps") node.quantum.caps)
-    ++ named_entry (codes "provides") node.provides ++ named_entry (codes "after") node.after ++ budget_entries version b
+    ++ named_entry (codes "provides") node.provides ++ named_entry (codes "after") node.after ++ inputs_entry node.inputs
+    ++ budget_entries version b
 
 -- SERVICES
 
@@ -88,6 +99,10 @@ abbrev pub provides_part : Option (List ℕ) → List ℕ
 provides_part None = []
 provides_part (Some service) = next_part (codes "provides " ++ service)
 
+abbrev pub inputs_part : List ℕ → List ℕ
+inputs_part [] = []
+inputs_part (n ∷ rest) = next_part (codes "inputs" ++ amounts (n ∷ rest))
+
 abbrev pub budget_part : ℕ → Option Budget → List ℕ
 budget_part version None = []
 budget_part version (Some b) =
@@ -96,7 +111,7 @@ budget_part version (Some b) =
 abbrev pub leaf_label : ℕ → LeafNode → Option Budget → List ℕ
 leaf_label version node b =
     node.name ++ next_part (codes "quantum " ++ decimal node.quantum.ram ++ told version (entry (codes "caps") node.quantum.caps))
-    ++ provides_part node.provides ++ budget_part version b
+    ++ provides_part node.provides ++ inputs_part node.inputs ++ budget_part version b
 
 abbrev pub in_quotes : List ℕ → List ℕ
 in_quotes text = codes "\"" ++ text ++ codes "\""

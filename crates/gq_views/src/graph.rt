@@ -11,14 +11,16 @@ ghost use Rattle.gq_scenario.specs.Trees.{version_number};
 ghost use Rattle.gq_views.specs.internal.Opened.{arrows_of, opened_at};
 ghost use Rattle.gq_views.specs.Listing.{line};
 ghost use Rattle.gq_views.specs.Tree.{after_arrow, all_afters, all_services, arrow, arrow_from, arrow_to, budget_part, cluster, graph_text, in_quotes};
-ghost use Rattle.gq_views.specs.Tree.{init_label, leaf_label, next_part, node_boxes, node_name, point_line, provides_part};
+ghost use Rattle.gq_views.specs.Tree.{init_label, inputs_part, leaf_label, next_part, node_boxes, node_name, point_line, provides_part};
 ghost use Rattle.gq_views.specs.Written.{graph_written};
 ghost use Rattle.gq_world.specs.Outcomes.{WritesAs};
 
 use crate::drawn::{Drawn, Opened};
 use crate::left::left_of;
 use crate::tree::push_caps;
-use crate::words::{end_line, push_amount, push_entry, push_indent, push_line, push_number};
+use crate::words::{
+    end_line, push_amount, push_amounts, push_entry, push_indent, push_line, push_number,
+};
 use gq_init::counted::Counted;
 use gq_load::accepted::Accepted;
 use gq_load::budget::Budget;
@@ -66,10 +68,10 @@ fn push_init_label(
     let left = left_of(quantum, children);
     text.extend_from_slice(name)?;
     push_left_part(text, b"quantum", quantum.ram(), left.ram)?;
-    match version {
-        Version::One => Ok(()),
-        Version::Two => push_left_part(text, b"caps", u64::from(quantum.caps()), left.caps),
+    if !version.counts_caps() {
+        return Ok(());
     }
+    push_left_part(text, b"caps", u64::from(quantum.caps()), left.caps)
 }
 
 // What a leaf provides, in a label.
@@ -83,6 +85,17 @@ fn push_provides(text: &mut Vec<u8>, service: Option<&Name>) -> Result<(), Alloc
         }
         None => Ok(()),
     }
+}
+
+// The greatest values of a leaf's inputs, in a label, where it has inputs.
+fn push_inputs_part(text: &mut Vec<u8>, inputs: &[u32]) -> Result<(), AllocError>
+    ensures { OnOk result (text.new.items ≡ text.old.items ++ inputs_part inputs.now) }
+{
+    if inputs.is_empty() {
+        return Ok(());
+    }
+    text.extend_from_slice(b"\\ninputs")?;
+    push_amounts(text, inputs)
 }
 
 // What a leaf uses at most, in a label.
@@ -117,6 +130,7 @@ fn push_leaf_label(
     push_part(text, b"quantum", quantum.ram())?;
     push_caps(text, version, u64::from(quantum.caps()))?;
     push_provides(text, leaf.provides())?;
+    push_inputs_part(text, leaf.inputs())?;
     push_budget_part(text, version, budget)
 }
 

@@ -1,17 +1,17 @@
 // A statement without statements in it, as text.
 ghost use Rattle.std.specs.Prelude.{◌≡◌, ◌++◌, OnOk, codes};
 ghost use Rattle.gq_model.specs.texts.Operands.{opcode, operands};
-ghost use Rattle.gq_model.specs.texts.Spelling.{spellings};
-ghost use Rattle.gq_views.specs.Listing.{instruction_text, operands_text, place_text, word_of};
+ghost use Rattle.gq_model.specs.texts.Spelling.{spellings, word_of_opcode};
+ghost use Rattle.gq_views.specs.Listing.{instruction_text, operands_text, place_text};
 
 use crate::words::{push_amount, push_number};
-use gq_model::program::{Instruction, Place};
+use gq_model::program::{Instruction, OperandStatement, Place};
 use gq_program::Shape;
 use std::alloc::AllocError;
 
 // The word of a statement.
 fn word_of(instruction: &Instruction) -> &'static [u8]
-    ensures { result.now ≡ word_of (opcode instruction.now) spellings }
+    ensures { result.now ≡ word_of_opcode (opcode instruction.now) spellings }
 {
     Shape::of(instruction).word()
 }
@@ -63,14 +63,9 @@ fn push_operands(text: &mut Vec<u8>, instruction: &Instruction) -> Result<(), Al
     ensures { OnOk result (text.new.items ≡ text.old.items ++ operands_text (operands instruction.now)) }
 {
     match instruction {
-        Instruction::Out | Instruction::Drop | Instruction::Dup | Instruction::Combine(_) => Ok(()),
+        Instruction::Out | Instruction::Operands(OperandStatement::Plain(_)) => Ok(()),
         Instruction::Say(said) => push_said(text, said.as_bytes()),
-        Instruction::Push(n) | Instruction::Divide(n) | Instruction::Modulo(n) => {
-            push_amount(text, u64::from(*n))
-        }
-        Instruction::Get(i) | Instruction::Set(i) | Instruction::Index(i) => {
-            push_amount(text, u64::from(*i))
-        }
+        Instruction::Operands(OperandStatement::Numbered(_, n)) => push_amount(text, u64::from(*n)),
         Instruction::Make(_, place, n) | Instruction::Upgrade(place, n) => {
             push_slot(text, *place)?;
             push_amount(text, u64::from(*n))

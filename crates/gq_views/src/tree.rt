@@ -9,13 +9,14 @@ ghost use Rattle.gq_scenario.specs.Sizes.{node_count};
 ghost use Rattle.gq_scenario.specs.Trees.{version_number};
 ghost use Rattle.gq_views.specs.internal.Opened.{opens_of};
 ghost use Rattle.gq_views.specs.Listing.{line};
-ghost use Rattle.gq_views.specs.Tree.{budget_entries, init_text, leaf_opens, leaf_text, left_entries, named_entry, nodes_text, server_label, tree_text};
+ghost use Rattle.gq_views.specs.Tree.{budget_entries, init_text, inputs_entry, leaf_opens, leaf_text, left_entries, named_entry, nodes_text, server_label};
+ghost use Rattle.gq_views.specs.Tree.{tree_text};
 ghost use Rattle.gq_views.specs.Written.{tree_written};
 ghost use Rattle.gq_world.specs.Outcomes.{WritesAs};
 
 use crate::drawn::{Drawn, Opened};
 use crate::left::left_of;
-use crate::words::{end_line, push_entry, push_indent};
+use crate::words::{end_line, push_amounts, push_entry, push_indent};
 use gq_init::counted::Counted;
 use gq_load::accepted::Accepted;
 use gq_load::budget::Budget;
@@ -27,14 +28,14 @@ use gq_world::text::put_text;
 use std::alloc::{AllocError, Global};
 use std::io::Write;
 
-// Puts capabilities at the end of a text, in version 2 alone.
+// Puts capabilities at the end of a text, where the version counts them.
 pub(crate) fn push_caps(text: &mut Vec<u8>, version: Version, caps: u64) -> Result<(), AllocError>
     ensures { OnOk result (text.new.items ≡ text.old.items ++ told (version_number version) (entry (codes "caps") caps)) }
 {
-    match version {
-        Version::One => Ok(()),
-        Version::Two => push_entry(text, b"caps", caps),
+    if !version.counts_caps() {
+        return Ok(());
     }
+    push_entry(text, b"caps", caps)
 }
 
 // Puts a word and a name at the end of a text, where there is one.
@@ -50,6 +51,17 @@ fn push_named(text: &mut Vec<u8>, word: &[u8], name: Option<&Name>) -> Result<()
         }
         None => Ok(()),
     }
+}
+
+// Puts the greatest values of a leaf's inputs at the end of a text, where it has inputs.
+fn push_inputs(text: &mut Vec<u8>, inputs: &[u32]) -> Result<(), AllocError>
+    ensures { OnOk result (text.new.items ≡ text.old.items ++ inputs_entry inputs.now) }
+{
+    if inputs.is_empty() {
+        return Ok(());
+    }
+    text.extend_from_slice(b" inputs")?;
+    push_amounts(text, inputs)
 }
 
 // Puts what a leaf uses at most at the end of a text.
@@ -92,6 +104,7 @@ fn push_leaf_text(
     push_quantum(text, version, leaf.quantum())?;
     push_named(text, b"provides", leaf.provides())?;
     push_named(text, b"after", leaf.after())?;
+    push_inputs(text, leaf.inputs())?;
     push_budget(text, version, budget)
 }
 
@@ -116,10 +129,10 @@ fn push_init_text(
     let left = left_of(quantum, children);
     text.extend_from_slice(name)?;
     push_left(text, b"quantum", quantum.ram(), left.ram)?;
-    match version {
-        Version::One => Ok(()),
-        Version::Two => push_left(text, b"caps", u64::from(quantum.caps()), left.caps),
+    if !version.counts_caps() {
+        return Ok(());
     }
+    push_left(text, b"caps", u64::from(quantum.caps()), left.caps)
 }
 
 // The line of an init.

@@ -2,6 +2,7 @@
 ghost use Rattle.std.specs.Prelude.{◌≡◌, ◌++◌, ◌∷◌, [], OnOk, codes, decimal};
 ghost use Rattle.gq_model.specs.machine.Accounts.{entry};
 ghost use Rattle.gq_views.specs.Listing.{indent, line};
+ghost use Rattle.gq_views.specs.Tree.{amounts};
 
 use itoa::Buffer;
 use std::alloc::AllocError;
@@ -19,6 +20,16 @@ pub fn push_amount(text: &mut Vec<u8>, number: u64) -> Result<(), AllocError>
 {
     text.extend_from_slice(b" ")?;
     push_number(text, number)
+}
+
+// Puts these numbers at the end of a text, each behind a blank.
+pub fn push_amounts(text: &mut Vec<u8>, numbers: &[u32]) -> Result<(), AllocError>
+    ensures { OnOk result (text.new.items ≡ text.old.items ++ amounts numbers.now) }
+{
+    for number in numbers {
+        push_amount(text, u64::from(*number))?;
+    }
+    Ok(())
 }
 
 // Puts a word and a number at the end of a text, each behind a blank.

@@ -133,7 +133,7 @@ own_part r words v quantum =
     words ++ decimal (own r v) ++ codes " of " ++ decimal quantum ++ 10 ∷ []
     ++ sum_lines r (highest (λ s. kinds_cost r s.own) points) ++ class_lines r points classes
 
--- in version 2 of capabilities, too
+-- of capabilities too, where they are counted
 abbrev pub own_parts : ℕ → Subject → Amount → List ℕ
 own_parts version v quantum = own_part Ram (codes "own ") v quantum.ram ++ told version (own_part Caps (codes "own caps ") v quantum.caps)
 

@@ -86,7 +86,7 @@ fn highest_at(verified: &Verified<'_>, level: u8) -> HighestSession
     highest
 }
 
-/// Puts the part of a level of a session at the end of a text, in version 2 of capabilities, too.
+/// Puts the part of a level of a session at the end of a text, and that of capabilities where they are counted.
 fn push_need(
     text: &mut Vec<u8>,
     version: Version,
@@ -104,13 +104,11 @@ fn push_need(
     let given = need_of(interface, level);
     push_level(text, b"need of ", service, level)?;
     push_session(text, Resource::Ram, interface, given.ram, &highest.ram)?;
-    match version {
-        Version::One => Ok(()),
-        Version::Two => {
-            push_level(text, b"need caps of ", service, level)?;
-            push_session(text, Resource::Caps, interface, given.caps, &highest.caps)
-        }
+    if !version.counts_caps() {
+        return Ok(());
     }
+    push_level(text, b"need caps of ", service, level)?;
+    push_session(text, Resource::Caps, interface, given.caps, &highest.caps)
 }
 
 /// Puts the parts of all levels of a session at the end of a text.

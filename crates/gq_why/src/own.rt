@@ -89,7 +89,7 @@ fn push_classes(
     Ok(())
 }
 
-/// Puts the part of a leaf's own account at the end of a text, in version 2 of capabilities, too.
+/// Puts the part of a leaf's own account at the end of a text, and that of capabilities where they are counted.
 pub(crate) fn push_owns(
     text: &mut Vec<u8>,
     version: Version,
@@ -103,13 +103,11 @@ pub(crate) fn push_owns(
     push_of(text, verified.own(), quantum.ram())?;
     push_highest(text, Resource::Ram, &highest.ram)?;
     push_classes(text, Resource::Ram, &Class::ALL, &highest.places)?;
-    match version {
-        Version::One => Ok(()),
-        Version::Two => {
-            text.extend_from_slice(b"own caps ")?;
-            push_of(text, verified.own_caps(), u64::from(quantum.caps()))?;
-            push_highest(text, Resource::Caps, &highest.caps)?;
-            push_classes(text, Resource::Caps, &Class::ALL, &highest.places)
-        }
+    if !version.counts_caps() {
+        return Ok(());
     }
+    text.extend_from_slice(b"own caps ")?;
+    push_of(text, verified.own_caps(), u64::from(quantum.caps()))?;
+    push_highest(text, Resource::Caps, &highest.caps)?;
+    push_classes(text, Resource::Caps, &Class::ALL, &highest.places)
 }

@@ -102,7 +102,7 @@ fn named_text<'a>(
     Ok(leaf_text(alloc, scenario, leaf)?)
 }
 
-/// Writes what the numbers of a leaf are made of, in bytes, in version 2 capabilities, and steps.
+/// Writes what the numbers of a leaf are made of, in bytes, capabilities where they are counted, and steps.
 ///
 /// - What it uses of its own account, what a session of each level needs, and its steps.
 /// - Of each the point at which it is greatest, what is held there, and who asks how often.

@@ -6,7 +6,7 @@ use Rattle.std.proofs.Math.Logic.{∥∥₁_elim}
 use Rattle.std.specs.Coded.{le_prop}
 use Rattle.std.proofs.lemmas.List.Sums.{sum_by-cons, sum_by-append}
 use Rattle.gq_model.specs.machine.Accounts.{Account, LeafAccount, account_at, accounts, init_account, leaf_account, leaf_count, node_accounts}
-use Rattle.gq_model.specs.machine.Amounts.{Caps, Ram, Resource, part}
+use Rattle.gq_model.specs.machine.Amounts.{Caps, Ram, Resource, part, counts_caps}
 use Rattle.gq_model.specs.machine.Scenario.{Component, End, Init_node, Leaf_node, Nodes, Scenario, below, components, system}
 use Rattle.gq_model.specs.machine.Sums.{held}
 use Rattle.gq_model.specs.machine.World.{Leaf, World}
@@ -134,4 +134,4 @@ pub within_total : Promises → ((s : Scenario) (w : World) → IsUpheld s w →
     → held_by_all Ram w ≤ s.total.ram
 within_total promises keeps s w stands =
     ∥∥₁_elim stands le_prop (λ h.
-    let up = promises s w h in held_within s w h.whole.count (keeps s w up) (first_counted (s.version == 2) (SumsToTotal s w) up.quotas_sum))
+    let up = promises s w h in held_within s w h.whole.count (keeps s w up) (first_counted (counts_caps s.version) (SumsToTotal s w) up.quotas_sum))

@@ -5,15 +5,19 @@ use Rattle.std.proofs.lemmas.List.{take-append-drop}
 use Rattle.std.proofs.Math.Seq.{drop-cons}
 use Rattle.std.specs.Prelude.{slice_get, false}
 use Rattle.std.specs.Io.KnownBytes.{Appends}
+use Rattle.gq_model.specs.declared.act.Act.{Act}
+use Rattle.gq_model.specs.declared.act.Act.TheVariants.{Turns, Sets}
 use Rattle.gq_model.specs.machine.Scenario.{Scenario, System, system}
 use Rattle.gq_model.specs.declared.fault.Wrong.{Wrong}
 use Rattle.gq_model.specs.machine.Doing.{Stepped}
 use Rattle.gq_model.specs.machine.Step.{next}
-use Rattle.gq_model.specs.machine.Run.{Ran, label_at, line_of, after_step, turn_from, turns_of, run_on}
+use Rattle.gq_model.specs.machine.Run.{Ran, Acts, label_at, line_of, after_step, turn_from, turns_of, set_input, set_from, act_on, run_on}
 use Rattle.gq_machine.proofs.Several.{turns_then}
 use Rattle.gq_world.specs.Worlds.{World}
 use Rattle.gq_init.specs.Writes.{IsFront}
-use Rattle.gq_world.specs.internal.Going.{going, AreBelow, HasRun, HasLeft, IsCut}
+use Rattle.gq_init.specs.declared.counted.Counted.{Counted}
+use Rattle.gq_init.specs.Counts.{written_to}
+use Rattle.gq_world.specs.internal.Going.{going, AreBelow, HasRun, HasLeft, IsCut, RunsThrough}
 use Rattle.gq_init.proofs.Known.{appends_nothing, appends_both}
 
 -- TEXTS GROW
@@ -130,27 +134,36 @@ ends s x count left e all old new before after h =
 
 -- ALL TURNS
 
-pub runs_grow : (system : System) (turns : List (ℕ × ℕ)) (ran : Ran) → (more : List ℕ) × ((run_on system turns ran).text ≡ ran.text ++ more)
+-- a setting shows nothing
+set_text : (system : System) (x i n : ℕ) (ran : Ran) (o : Option (ℕ × Wrong)) → (set_from system x i n ran o).text ≡ ran.text
+set_text system x i n ran None = refl
+set_text system x i n ran (Some p) = refl
+
+act_grows : (system : System) (x : ℕ) (a : Act) (ran : Ran) → (more : List ℕ) × ((act_on system x a ran).text ≡ ran.text ++ more)
+act_grows system x (Turns n) ran = turns_grow system x n ran
+act_grows system x (Sets i n) ran = ([], set_text system x i n ran ran.wrong ∙ sym (append-nil ran.text))
+
+pub runs_grow : (system : System) (turns : Acts) (ran : Ran) → (more : List ℕ) × ((run_on system turns ran).text ≡ ran.text ++ more)
 runs_grow system [] ran = ([], sym (append-nil ran.text))
 runs_grow system (t ∷ turns) ran =
-    let a = turns_grow system t.0 t.1 ran in
-    let b = runs_grow system turns (turns_of system t.0 t.1 ran) in
+    let a = act_grows system t.0 t.1 ran in
+    let b = runs_grow system turns (act_on system t.0 t.1 ran) in
     (a.0 ++ b.0, b.1 ∙ (ap (λ l. l ++ b.0) a.1 ∙ append_assoc ran.text a.0 b.0))
 
 pub joined : (front text cut more after : List ℕ) → (((front ++ text) ++ cut) ++ more) ++ after ≡ front ++ (text ++ cut) ++ (more ++ after)
 joined front text cut more after = append_assoc ((front ++ text) ++ cut) more after ∙ ap (λ l. l ++ (more ++ after)) (append_assoc front text cut)
 
-pub below_at : (n : ℕ) (turns : List (ℕ × ℕ)) (i : ℕ) (t : ℕ × ℕ) → drop i turns ≡ t ∷ drop (i + 1) turns → AreBelow n (drop i turns) → (t.0 < n)
+pub below_at : (n : ℕ) (turns : Acts) (i : ℕ) (t : ℕ × Act) → drop i turns ≡ t ∷ drop (i + 1) turns → AreBelow n (drop i turns) → (t.0 < n)
     × AreBelow n (drop (i + 1) turns)
 below_at n turns i t e b = subst (AreBelow n) e b
 
-module _ (s : Scenario) (turns : List (ℕ × ℕ)) (i : ℕ) (t : ℕ × ℕ) (here : drop i turns ≡ t ∷ drop (i + 1) turns) (old now new : World)
+module _ (s : Scenario) (turns : Acts) (i : ℕ) (t : ℕ × Act) (here : drop i turns ≡ t ∷ drop (i + 1) turns) (old now new : World)
     (same : now.scenario ≡ s) (before between after : Option (List ℕ)) where
   abbrev rest : Ran → Ran
   rest = run_on (system s) (drop (i + 1) turns)
 
   abbrev one : Scenario → Ran → Ran
-  one r = turns_of (system r) t.0 t.1
+  one r = act_on (system r) t.0 t.1
 
   pub goes_on_all : HasLeft (run_on (system s) (drop i turns)) (run_on (system s) turns) old now before between
       → HasRun (one now.scenario) now new between after → HasLeft rest (run_on (system s) turns) old new before after
@@ -184,6 +197,26 @@ module _ (s : Scenario) (turns : List (ℕ × ℕ)) (i : ℕ) (t : ℕ × ℕ) (
       }
 
 -- the turn that stands there comes next
-pub here_is : (turns : List (ℕ × ℕ)) (i : ℕ) (t : ℕ × ℕ) → i < length turns → t ≡ get_or turns i t → drop i turns ≡ t ∷ drop (i + 1) turns
+pub here_is : (turns : Acts) (i : ℕ) (t : ℕ × Act) → i < length turns → t ≡ get_or turns i t → drop i turns ≡ t ∷ drop (i + 1) turns
 here_is turns i t less e =
     drop-cons turns i t less ∙ (ap (λ h. h ∷ drop (suc i) turns) (sym e) ∙ ap (λ n. t ∷ drop n turns) (sym (add-one i)))
+
+-- A SETTING
+
+-- a setting writes nothing, and leaves the world that it makes
+pub set_runs : {W E : Type 0} (contents : W → Option (List ℕ)) (old new : World) (out : Counted W) (x i n : ℕ) → new.scenario ≡ old.scenario
+    → new.world ≡ set_input (system old.scenario) old.world x i n → new.stopped ≡ false
+    → RunsThrough {W = W} {A = Unit {0}} {E = E} contents (act_on (system old.scenario) x (Sets i n)) old new out out (Ok tt)
+set_runs contents old new out x i n same is running =
+    record {
+      scenario = same;
+      ran = record {
+        text = [];
+        written = appends_nothing (written_to contents out);
+        ran = λ front. (λ k. record { world = sym is k; text = sym (append-nil front) k; wrong = None });
+        running = running;
+      };
+      counted = refl;
+      cut = tt;
+      raised = tt;
+    }

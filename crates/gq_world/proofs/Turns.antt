@@ -11,7 +11,7 @@ use Rattle.gq_model.specs.machine.Doing as doing
 use Rattle.gq_model.specs.machine.Doing.{Stepped}
 use Rattle.gq_model.specs.machine.Step.{next}
 use Rattle.gq_model.specs.declared.fault.Wrong.{Wrong}
-use Rattle.gq_model.specs.machine.Run.{Ran, after_step, label_at, line_of, turn_from, turns_of}
+use Rattle.gq_model.specs.machine.Run.{Ran, after_step, label_at, line_of, set_input, turn_from, turns_of}
 use Rattle.gq_model.specs.Promises.{IsUpheld}
 use Rattle.gq_laws.specs.Stands.{Stands}
 use Rattle.gq_bytecode.specs.Nexts.{GoesAlone, leaf_with}
@@ -220,3 +220,24 @@ shown-event_of events.Idle text = refl
 shown-event_of events.Quiet text = refl
 shown-event_of events.Finished text = refl
 shown-event_of events.Line text = refl
+
+-- A SETTING
+
+-- each setting keeps what stands
+abbrev pub KeepsSet : Type 0
+KeepsSet = (s : Scenario) (w : model.World) (x i n : ℕ) → Stands s w → Stands s (set_input (system s) w x i n)
+
+-- what stands stands after the setting, and the budgets stay
+pub kept_by_setting : KeepsSet → (s t : Scenario) (w v : model.World) (all : List Budget) (x i n : ℕ) → t ≡ s → v ≡ set_input (system s) w x i n
+    → IsBudgeted s w all → IsBudgeted t v all
+kept_by_setting keeps s t w v all x i n same is h =
+    record {
+      stands = subst (λ (r : Scenario). ∥ Stands r v ∥₁) (sym same)
+          (subst (λ (u : model.World). ∥ Stands s u ∥₁) (sym is) (∥∥₁_elim h.stands (hlevel) (λ k. ∣ keeps s w x i n k ∣₁)));
+      budgets_are = h.budgets_are ∙ ap budgets (sym same);
+    }
+
+-- the setting, as of the world that contracts see
+pub set_seen : (s : Scenario) (w v : model.World) (old : World) (x i n : ℕ) → s ≡ old.scenario → w ≡ old.world → v ≡ set_input (system s) w x i n
+    → v ≡ set_input (system old.scenario) old.world x i n
+set_seen s w v old x i n a b is = is ∙ (λ k. set_input (system (a k)) (b k) x i n)

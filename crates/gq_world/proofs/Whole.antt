@@ -5,7 +5,7 @@ use Rattle.gq_model.specs.machine.Scenario.{Scenario, components, system}
 use Rattle.gq_model.specs.machine.World as model
 use Rattle.gq_model.specs.machine.World.{start}
 use Rattle.gq_model.specs.declared.fault.Wrong.{Wrong}
-use Rattle.gq_model.specs.machine.Run.{Ran, run, run_on}
+use Rattle.gq_model.specs.machine.Run.{Ran, Acts, run, run_on}
 use Rattle.gq_model.specs.rules.Accept.{budgets, step_budgets}
 use Rattle.gq_model.specs.machine.Accounts.{accounts, account_lines, text_of}
 use Rattle.gq_init.specs.Writes.{IsFront}
@@ -34,7 +34,7 @@ pub rest_of : (s : Scenario) (steps : List ℕ) (ran : Ran) (wrong : Option (ℕ
 rest_of s steps ran None = (account_lines s.version (accounts s ran.world steps), refl)
 rest_of s steps ran (Some p) = ([], sym (append-nil ran.text))
 
-module _ (s : Scenario) (turns : List (ℕ × ℕ)) (old : World) (starts : old.world ≡ start (system s)) (before between after : Option (List ℕ)) where
+module _ (s : Scenario) (turns : Acts) (old : World) (starts : old.world ≡ start (system s)) (before between after : Option (List ℕ)) where
   abbrev taken : Ran → Ran
   taken = run_on (system s) turns
 
@@ -73,9 +73,9 @@ module _ (s : Scenario) (turns : List (ℕ × ℕ)) (old : World) (starts : old.
 -- TEXTS THAT ARE LOADED AND READ
 
 -- turns that were read are of leaves that are there
-pub below_of : (s t : Scenario) (text : List ℕ) (turns : List (ℕ × ℕ)) → t ≡ s → turned (components t) text ≡ Ok turns → AreBelow (length (components s)) turns
+pub below_of : (s t : Scenario) (text : List ℕ) (turns : Acts) → t ≡ s → turned t text ≡ Ok turns → AreBelow (length (components s)) turns
 below_of s t text turns same e = subst (λ r. AreBelow (length (components r)) turns) same
-    (subst (AreBelowIn (length (components t))) e (turned_below (components t) text))
+    (subst (AreBelowIn (length (components t))) e (turned_below t text))
 
 load_by : (fault : LoadFault) (l : Result Scenario Fault) (go : Scenario → Written) → Refuses (error.Fault fault) l
     → with_scenario l go ≡ Err (refused_with (load_fault_text fault))
@@ -84,7 +84,7 @@ load_by fault (Err f) go h = ap (λ t. Err (refused_with t)) (sym h)
 
 -- why nothing is loaded is why nothing is written
 pub load_is : (fault : RunFault) (scenario text : List ℕ) → GivesOf fault scenario → IsFaultOf fault (run_written scenario text)
-load_is (Load fault) scenario text h = load_by fault (loaded scenario) (λ s. written_turns s (turned (components s) text)) h
+load_is (Load fault) scenario text h = load_by fault (loaded scenario) (λ s. written_turns s (turned s text)) h
 load_is (NoComponent name) scenario text h = absurd h
 load_is (Turns fault line) scenario text h = absurd h
 load_is Memory scenario text h = tt
@@ -96,7 +96,7 @@ ok_same : (a b : List ℕ) → ◌≡◌ {A = Written} (Ok a) (Ok b) → a ≡ b
 ok_same a b e = cc
 
 -- turns that were read, and what they write
-taken_of : (s : Scenario) (r : Turned) (text : List ℕ) → written_turns s r ≡ Ok text → (taken : List (ℕ × ℕ)) × (r ≡ Ok taken) × (whole_of s taken ≡ text)
+taken_of : (s : Scenario) (r : Turned) (text : List ℕ) → written_turns s r ≡ Ok text → (taken : Acts) × (r ≡ Ok taken) × (whole_of s taken ≡ text)
 taken_of s (Ok taken) text e = (taken, refl, ok_same (whole_of s taken) text e)
 taken_of s (Err fault) text e = cc e
 
@@ -105,7 +105,7 @@ pub promised : (scenario text : List ℕ) (s : Scenario) (before after : Option 
     → IsWhole (turns_written s text) before after → WritesPromised scenario text before after
 unfolding whole_of
 promised scenario text s before after load accepted upholds w =
-    let t = taken_of s (turned (components s) text) w.text w.given in
+    let t = taken_of s (turned s text) w.text w.given in
     record {
       text = w.text;
       promised = record {

@@ -9,6 +9,7 @@ use Rattle.gq_model.specs.texts.Turns.{turned}
 use Rattle.gq_laws.specs.Stands.{Stands}
 use Rattle.gq_load.specs.Load.{loaded}
 use Rattle.gq_world.specs.Worlds as worlds
+use Rattle.gq_model.specs.machine.Run.{Acts}
 
 -- the same of a world of the code, where only that it holds is said
 abbrev pub Upheld : worlds.World → Type 0
@@ -18,18 +19,18 @@ Upheld w = ∥ IsUpheld w.scenario w.world ∥₁
 abbrev pub Standing : worlds.World → Type 0
 Standing w = ∥ Stands w.scenario w.world ∥₁
 
--- whatever the turns, a run of it upholds what is promised
+-- whatever the turns and settings, a run of it upholds what is promised
 abbrev pub Upholding : Scenario → Type 0
-Upholding s = (turns : List (ℕ × ℕ)) → Upholds s turns
+Upholding s = (turns : Acts) → Upholds s turns
 
 -- from bytes to bytes: the scenario is loaded and accepted, the turns are read, the text is the whole text of their run, and the runs of the scenario over all
--- lists of turns uphold what is promised, hence also each world on the way
+-- lists of turns and settings uphold what is promised, hence also each world on the way
 pub record IsPromised (scenario turns text : List ℕ) : Type 0 where
   pub accepted : Scenario
   pub loads : loaded scenario ≡ Ok accepted
   pub is_accepted : IsAccepted accepted
-  pub taken : List (ℕ × ℕ)
-  pub reads : turned (components accepted) turns ≡ Ok taken
+  pub taken : Acts
+  pub reads : turned accepted turns ≡ Ok taken
   pub writes : text ≡ whole accepted (step_budgets (budgets accepted)) taken
   pub upholds : Upholding accepted
 

@@ -11,6 +11,7 @@ use Rattle.gq_model.specs.texts.Turns.{Turned, turned}
 use Rattle.gq_scenario.specs.Reading.{ReadFault, read_text, scenario_in}
 use Rattle.gq_load.specs.Named.{leaf_named}
 use Rattle.gq_load.specs.Load.{Fault, source_fault, fault_text, loaded}
+use Rattle.gq_model.specs.machine.Run.{Acts}
 
 -- what is written, or the line that says why nothing is
 abbrev pub Written : Type 0
@@ -30,7 +31,7 @@ abbrev pub turn_fault_text : TurnFault → ℕ → List ℕ
 turn_fault_text fault line = turn_fault_word fault ++ codes " line " ++ decimal line
 
 -- the text of a run by these turns, with the step budgets of the scenario
-unfoldable pub whole_of : Scenario → List (ℕ × ℕ) → List ℕ
+unfoldable pub whole_of : Scenario → Acts → List ℕ
 whole_of s turns = whole s (step_budgets (budgets s)) turns
 
 abbrev pub written_turns : Scenario → Turned → Written
@@ -39,7 +40,7 @@ written_turns s (Err fault) = Err (refused_with (turn_fault_text fault.0 fault.1
 
 -- a run by the turns of a second text: the lines and the accounts, or the first fault
 abbrev pub run_written : List ℕ → List ℕ → Written
-run_written scenario turns = with_scenario (loaded scenario) (λ s. written_turns s (turned (components s) turns))
+run_written scenario turns = with_scenario (loaded scenario) (λ s. written_turns s (turned s turns))
 
 -- BUDGETS
 

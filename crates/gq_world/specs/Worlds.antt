@@ -5,7 +5,7 @@ use Rattle.gq_model.specs.machine.Scenario.{Scenario, components, system}
 use Rattle.gq_model.specs.machine.World as model
 use Rattle.gq_model.specs.machine.Doing as doing
 use Rattle.gq_model.specs.machine.Step.{next}
-use Rattle.gq_model.specs.machine.Run.{label_at, line_of}
+use Rattle.gq_model.specs.machine.Run.{Acts, label_at, line_of}
 use Rattle.gq_machine.specs.declared.event.Event.{Event}
 use Rattle.gq_machine.specs.declared.event.Event.TheVariants as events
 use Rattle.gq_init.specs.Writes.{IsFront}
@@ -41,8 +41,8 @@ pub record StopsWriting (old new : World) (leaf : ℕ) (before after : Option (L
   pub stopped : new.stopped ≡ true
   pub written : IsFront before after (line_told old.scenario leaf step)
 
--- each turn is of a leaf below this number
-abbrev pub AreBelow : ℕ → List (ℕ × ℕ) → Type 0
+-- each turn and setting is of a leaf below this number
+abbrev pub AreBelow : ℕ → Acts → Type 0
 AreBelow n [] = Unit {0}
 AreBelow n (t ∷ turns) = (t.0 < n) × AreBelow n turns
 

@@ -26,4 +26,4 @@ pub mod world;
 pub use fault::RunFault;
 pub use gq_init::counted::Counted;
 pub use gq_init::{account, counted};
-pub use gq_machine::event;
+pub use gq_machine::{event, settings};

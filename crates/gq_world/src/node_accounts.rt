@@ -6,6 +6,7 @@ ghost use Rattle.gq_resolve.specs.NodeTables.{node_rows};
 ghost use Rattle.gq_scenario.specs.Trees.{version_number};
 ghost use Rattle.gq_init.specs.Told.{told_of};
 ghost use Rattle.gq_world.specs.Lines.{accounts_by, TellsOf};
+ghost use Rattle.gq_model.specs.machine.Amounts.{counts_caps};
 
 use gq_init::account::{Account, LeafAccount};
 use gq_load::budget::Budget;
@@ -16,12 +17,9 @@ use gq_tariff::Amount;
 
 // So many capabilities, where they are counted.
 fn counted(version: Version, caps: u64) -> u64
-    ensures { result ≡ (if version_number version == 2 then caps else 0) }
+    ensures { result ≡ (if counts_caps (version_number version) then caps else 0) }
 {
-    match version {
-        Version::One => 0,
-        Version::Two => caps,
-    }
+    if version.counts_caps() { caps } else { 0 }
 }
 
 // The steps that are budgeted to a leaf: 0 where it has no budget.

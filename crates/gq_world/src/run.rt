@@ -1,7 +1,7 @@
-// Turns, one after the other.
+// Turns and settings, one after the other.
 ghost use Rattle.std.specs.Prelude.{◌≡◌, ◌<◌, false, length, OnOk};
 ghost use Rattle.gq_model.specs.machine.Scenario.{components, system};
-ghost use Rattle.gq_model.specs.machine.Run.{turns_of, run_on};
+ghost use Rattle.gq_model.specs.machine.Run.{act_on, turns_of, run_on};
 ghost use Rattle.gq_model.specs.machine.World.{start};
 ghost use Rattle.gq_init.specs.Counts.{Writes, written_to};
 ghost use Rattle.gq_world.specs.internal.Going.{AreBelow, RunsThrough, turns_written};
@@ -15,6 +15,7 @@ use gq_init::TurnItem;
 use gq_init::counted::{Counted, WriteFault};
 use gq_init::lines::Lines;
 use gq_init::turns::{TurnsError, read_items};
+use gq_model::act::Act;
 use gq_scenario::scenario::LeafNo;
 use std::alloc::Global;
 use std::io::Write;
@@ -38,7 +39,28 @@ pub(crate) fn take_turns<W: Write>(
     Ok(())
 }
 
-// All turns of a list, up to the first whose line is not written whole. They take no host memory.
+// Gives a leaf turns, up to the first whose line is not written whole, or another value of an input. It takes no host memory.
+fn take_act<W: Write>(
+    world: &mut World,
+    leaf: LeafNo,
+    act: Act,
+    lines: &mut Lines,
+    out: &mut Counted<W>,
+) -> Result<(), WriteFault>
+    requires leaf { leaf < length (components world.old.scenario) }
+    requires running { world.old.stopped ≡ false }
+    ensures { RunsThrough W.contents (act_on (system world.old.scenario) leaf act) world.old world.new out.old out.new result }
+{
+    match act {
+        Act::Turns(count) => take_turns(world, leaf, count, lines, out),
+        Act::Sets(input, number) => {
+            let _set = world.set_input(leaf, usize::from(input), number);
+            Ok(())
+        }
+    }
+}
+
+// All turns and settings of a list, up to the first turn whose line is not written whole. They take no host memory.
 pub(crate) fn take_all<W: Write>(
     world: &mut World,
     turns: &[TurnItem],
@@ -50,13 +72,13 @@ pub(crate) fn take_all<W: Write>(
     ensures { RunsThrough W.contents (run_on (system world.old.scenario) turns.now) world.old world.new out.old out.new result }
 {
     for item in turns {
-        take_turns(world, item.leaf(), item.count(), lines, out)?;
+        take_act(world, item.leaf(), item.act(), lines, out)?;
     }
     Ok(())
 }
 
-/// Takes all turns of a list from the start of a world, and writes the lines that they give and then the accounts of all nodes: what `run` does once it has
-/// read both texts. After a failed write a prefix of that was written. It takes no host memory.
+/// Takes all turns and settings of a list from the start of a world, and writes the lines that they give and then the accounts of all nodes: what `run` does
+/// once it has read both texts. After a failed write a prefix of that was written. It takes no host memory.
 pub fn run_world<W: Write>(
     world: &mut World,
     turns: &[TurnItem],
@@ -94,8 +116,8 @@ fn run_turns<W: Write>(
     }
 }
 
-/// Runs a scenario, a text in TOML, by the turns of a second text. It loads the scenario, takes all turns, and writes the lines that they give and then the
-/// accounts of all nodes.
+/// Runs a scenario, a text in TOML, by the turns and settings of a second text. It loads the scenario, takes all of them, and writes the lines that they give
+/// and then the accounts of all nodes.
 ///
 /// If the scenario or the turns are refused, or the host refuses memory, nothing is written. Only loading and reading the turns take host memory.
 pub fn run<W: Write>(
@@ -107,7 +129,7 @@ pub fn run<W: Write>(
     ensures writes { WritesAs W.contents (run_written scenario.now turns.now) out.old out.new result }
 
     // What was written is the text of a run that never came to a wrong step and kept every budget, and whose quotas sum to the total, as every run of the
-    // scenario over any turns.
+    // scenario over any turns and settings.
     ensures promised { OnOk result (WritesPromised scenario.now turns.now (written_to W.contents out.old) (written_to W.contents out.new)) }
 {
     let mut world = World::load(alloc, scenario)?;

@@ -1,11 +1,11 @@
 // A world: an accepted scenario that runs.
-ghost use Rattle.std.specs.Prelude.{ℕ, ◌≡◌, ◌↔◌, ◌<◌, ◌≤◌, ◌+◌, ◌-◌, ◌*◌, true, false, length, slice_get, Some, Ok, Err, IfOk, IfErr, IfSome};
+ghost use Rattle.std.specs.Prelude.{ℕ, ◌≡◌, ◌↔◌, ◌<◌, ◌≤◌, ◌+◌, ◌-◌, ◌*◌, true, false, length, slice_get, Some, None, Ok, Err, IfOk, IfErr, IfSome};
 ghost use Rattle.std.specs.Prelude.{IsOk, OnOk, OnErr};
 ghost use Rattle.gq_model.specs.machine.Amounts.{Ram};
 ghost use Rattle.gq_model.specs.machine.Routes.{numbered};
 ghost use Rattle.gq_model.specs.machine.Scenario.{components, system};
 ghost use Rattle.gq_model.specs.machine.Doing.{Line};
-ghost use Rattle.gq_model.specs.machine.Run.{turns_of};
+ghost use Rattle.gq_model.specs.machine.Run.{set_input, turns_of};
 ghost use Rattle.gq_model.specs.machine.Step.{next};
 ghost use Rattle.gq_model.specs.rules.Accept as accept;
 ghost use Rattle.gq_resolve.specs.NodeTables.{IsNodeOf, node_rows};
@@ -17,6 +17,8 @@ ghost use Rattle.gq_init.specs.Told.{told_of};
 ghost use Rattle.gq_world.specs.Lines.{all_accounts, accounts_text};
 ghost use Rattle.gq_bytecode.specs.Nexts.{GoesAlone, NoneAlone};
 ghost use Rattle.gq_machine.specs.Events.{event_of};
+ghost use Rattle.gq_machine.specs.Settings.{input_fault};
+ghost use Rattle.gq_model.specs.texts.Turns.{inputs_at};
 ghost use Rattle.gq_world.specs.Worlds.{HasTaken, IsTurn, StopsWriting, line_told};
 ghost use Rattle.gq_world.specs.internal.Going.{HasRun, IsCut};
 ghost use Rattle.gq_init.specs.Writes.{IsRaised};
@@ -33,6 +35,7 @@ use gq_laws::accepted::accepted_laws;
 use gq_load::budget::Budget;
 use gq_machine::event::Event;
 use gq_machine::machine::Machine;
+use gq_machine::settings::InputFault;
 use gq_scenario::node::NodeNo;
 use gq_scenario::scenario::LeafNo;
 use std::io::Write;
@@ -172,7 +175,7 @@ impl World {
         self.table().leaf_named(name)
     }
 
-    /// What holds in every world, whatever turns it took. It does nothing.
+    /// What holds in every world, whatever turns it took and inputs it was given. It does nothing.
     pub fn laws(&self)
         // Any leaf can take its turn, all is paid for, each leaf has kept its budget of steps and of each resource, the quotas
         // sum to the total, and a session that ends gives back its donation.
@@ -215,6 +218,34 @@ impl World {
             },
             event => Ok(event),
         }
+    }
+
+    /// Gives an input of a leaf another value, from here on. It is no turn, and takes no host memory. A leaf that has exited keeps its inputs, which are 0.
+    ///
+    /// Refused, and then nothing is changed:
+    ///
+    /// - `NoInput` if the leaf has no input of this number;
+    /// - `TooLarge` if the number is above the greatest value of the input.
+    pub fn set_input(&mut self, leaf: LeafNo, input: usize, number: u32) -> Result<(), InputFault>
+        requires leaf { leaf < length (components self.old.scenario) }
+        ensures scenario { self.new.scenario ≡ self.old.scenario }
+        ensures set { self.new.world ≡ set_input (system self.old.scenario) self.old.world leaf input number }
+        ensures allowed { IsOk result → input_fault self.old.scenario leaf input number ≡ None }
+        ensures refused { IfErr result (λ f. input_fault self.old.scenario leaf input number ≡ Some f) }
+        ensures unchanged { OnErr result (self.new ≡ self.old) }
+        ensures stopped { self.new.stopped ≡ self.old.stopped }
+    {
+        accepted_laws();
+        self.machine.set_input(leaf, input, number)
+    }
+
+    /// The greatest values of a leaf's inputs, from input 0 on: none if it has no inputs.
+    pub fn inputs(&self, leaf: LeafNo) -> &[u32]
+        requires { leaf < length (components self.now.scenario) }
+        ensures inputs { result.now ≡ inputs_at (slice_get (components self.now.scenario) leaf) }
+        ensures few { length result.now ≤ 8 }
+    {
+        self.table().scenario().leaf(leaf).inputs()
     }
 
     /// The steps that a leaf has taken.

@@ -2,7 +2,8 @@
 use Rattle.std.specs.Prelude.{◌≡◌, ℕ, List, ◌++◌, ◌+◌, length, Option, Result, Ok, Err, Vec, string_bytes}
 use Rattle.std.specs.Io.KnownBytes.{Consumes}
 use Rattle.std.specs.declared.alloc.Global.{Global}
-use Rattle.gq_model.specs.machine.Scenario.{Component, Scenario, components}
+use Rattle.gq_model.specs.declared.act.Act.{Act}
+use Rattle.gq_model.specs.machine.Scenario.{Scenario}
 use Rattle.gq_model.specs.texts.Turns.{turned}
 use Rattle.gq_init.specs.TurnReading.{Reading, answer}
 use Rattle.gq_world.specs.Outcomes.{IsCutShort, IsWhole}
@@ -12,20 +13,20 @@ use Rattle.gq_cli.specs.Executed.{ReadsText}
 use Rattle.gq_cli.specs.declared.execute.Fault.{Fault}
 use Rattle.gq_cli.specs.declared.execute.Fault.TheVariants.{Refused, Memory, Read, Write}
 
--- the turns of a scenario were read to the end of a reader, or are refused by this line
-abbrev pub ReadsTurns : Scenario → (old new : Option (List ℕ)) → Result (Vec (ℕ × ℕ) Global) Fault → Type 0
-ReadsTurns s old new (Ok items) = ReadsText old new (λ text. turned (components s) text ≡ Ok items.items)
+-- the turns and settings of a scenario were read to the end of a reader, or are refused by this line
+abbrev pub ReadsTurns : Scenario → (old new : Option (List ℕ)) → Result (Vec (ℕ × Act) Global) Fault → Type 0
+ReadsTurns s old new (Ok items) = ReadsText old new (λ text. turned s text ≡ Ok items.items)
 ReadsTurns s old new (Err (Refused line)) = ReadsText old new (λ text. turns_written s text ≡ Err (string_bytes line))
 ReadsTurns s old new (Err Memory) = Unit {0}
 ReadsTurns s old new (Err Read) = Unit {0}
 ReadsTurns s old new (Err Write) = Unit {0}
 
 -- a text came from a reader, and what is told once the rest comes is what was told of both
-pub record HasCome (components : List Component) (old new : Option (List ℕ)) (before after : Reading) : Type 0 where
+pub record HasCome (s : Scenario) (old new : Option (List ℕ)) (before after : Reading) : Type 0 where
   pub text : List ℕ
   pub taken : Consumes old new text
   pub size : after.size ≡ before.size + length text
-  pub same : (rest : List ℕ) → answer components after rest ≡ answer components before (text ++ rest)
+  pub same : (rest : List ℕ) → answer s after rest ≡ answer s before (text ++ rest)
 
 -- how a run by the turns of this text ends
 abbrev pub EndsAs : Scenario → List ℕ → {A : Type 0} → Result A Fault → (before after : Option (List ℕ)) → Type 0

@@ -21,6 +21,7 @@ use Rattle.gq_laws.proofs.turning.Steps.{stands_still}
 use Rattle.gq_races.specs.Races.{IsRaceFree}
 use Rattle.gq_determined.specs.Determined.{LeavesSame}
 use Rattle.gq_determined.specs.internal.Threads.{Tracked, tracked_after, shown_by, past_of, slots_of, SameAtRest}
+use Rattle.gq_determined.specs.internal.Unset.{turns_alone}
 use Rattle.gq_determined.proofs.standing.Orderly.{IsTracked}
 use Rattle.gq_determined.proofs.running.At_rest.{rest_same, rests_idle}
 use Rattle.gq_determined.proofs.running.Runs.{all_tracked}
@@ -29,6 +30,7 @@ use Rattle.gq_determined.proofs.accounting.Merged.{AreAlike, account_same}
 use Rattle.gq_determined.proofs.accounting.Peaks_same.{peaks_ended}
 use Rattle.gq_determined.proofs.accounting.Nodes.{accounts_same}
 use Rattle.gq_determined.proofs.accounting.Steps.{counted, steps_total, sum_same}
+use Rattle.gq_determined.proofs.unread.Left_out.{leave_same}
 
 -- at rest a leaf serves if it provides a service, and else has exited
 phase_at_rest : (w v : World) (y z : ℕ) (provides : Option (List ℕ)) (p q : Phase) → rests w y p ≡ true → rests v z q ≡ true → Suits provides p
@@ -59,8 +61,8 @@ exited_at_rest w y Running a suits = absurd (true≢false (sym a))
 exited_at_rest w y Blocked a suits = absurd (true≢false (sym a))
 exited_at_rest w y Handling a suits = absurd (true≢false (sym a))
 
-module _ (s : Scenario) (sound : IsSound s) (none : IsRaceFree s) (turns others : List (ℕ × ℕ)) (rest : AllRest (run (system s) turns).world)
-    (rest_other : AllRest (run (system s) others).world) where
+module _ (s : Scenario) (sound : IsSound s) (none : IsRaceFree s) (turns others : List (ℕ × ℕ))
+    (rest : AllRest (run (system s) (turns_alone turns)).world) (rest_other : AllRest (run (system s) (turns_alone others)).world) where
   abbrev u : System
   u = uncounted (system s)
 
@@ -90,10 +92,10 @@ module _ (s : Scenario) (sound : IsSound s) (none : IsRaceFree s) (turns others 
       let c = placed s sound (past_of turns) y l at in
       let there = ap (λ (w : World). slice_get w.leaves y) ended.world ∙ at in
       let there_h = ap (λ (w : World). slice_get w.leaves y) ended.other ∙ at_h in
-      let one = reached_lasts s sound (run (system s) turns).world (record { turns = turns; is = refl }) in
-      let other = reached_lasts s sound (run (system s) others).world (record { turns = others; is = refl }) in
-      phase_at_rest (run (system s) turns).world (run (system s) others).world y y c.0.node.provides l.phase m.phase (rest y l there) (rest_other y m there_h)
-      (one.ready.suits y c.0 l c.1 there) (other.ready.suits y c.0 m c.1 there_h)
+      let one = reached_lasts s sound (run (system s) (turns_alone turns)).world (record { turns = turns_alone turns; is = refl }) in
+      let other = reached_lasts s sound (run (system s) (turns_alone others)).world (record { turns = turns_alone others; is = refl }) in
+      phase_at_rest (run (system s) (turns_alone turns)).world (run (system s) (turns_alone others)).world y y c.0.node.provides l.phase m.phase
+      (rest y l there) (rest_other y m there_h) (one.ready.suits y c.0 l c.1 there) (other.ready.suits y c.0 m c.1 there_h)
 
   -- and the same peaks: none, where it has exited
   peaks : (y : ℕ) (l m : Leaf) → slice_get g.world.leaves y ≡ Some l → slice_get h.world.leaves y ≡ Some m → m.peaks ≡ l.peaks
@@ -102,13 +104,13 @@ module _ (s : Scenario) (sound : IsSound s) (none : IsRaceFree s) (turns others 
       c : (c : Component) × (slice_get u.components y ≡ Some c)
       c = placed s sound (past_of turns) y l at
 
-      gone : (all : List (ℕ × ℕ)) (k : Leaf) → (run (system s) all).world ≡ (tracked_after u (past_of all)).world
-          → slice_get (tracked_after u (past_of all)).world.leaves y ≡ Some k → AllRest (run (system s) all).world → c.0.node.provides ≡ None
+      gone : (all : List (ℕ × ℕ)) (k : Leaf) → (run (system s) (turns_alone all)).world ≡ (tracked_after u (past_of all)).world
+          → slice_get (tracked_after u (past_of all)).world.leaves y ≡ Some k → AllRest (run (system s) (turns_alone all)).world → c.0.node.provides ≡ None
           → k.peaks ≡ replicate 8 0
       gone all k world there resting nothing =
           let now = ap (λ (w : World). slice_get w.leaves y) world ∙ there in
-          let reached = reached_lasts s sound (run (system s) all).world (record { turns = all; is = refl }) in
-          let phase = exited_at_rest (run (system s) all).world y k.phase (resting y k now)
+          let reached = reached_lasts s sound (run (system s) (turns_alone all)).world (record { turns = turns_alone all; is = refl }) in
+          let phase = exited_at_rest (run (system s) (turns_alone all)).world y k.phase (resting y k now)
           (subst (λ p. Suits p k.phase) nothing (reached.ready.suits y c.0 k c.1 now)) in
           (subst (HoldsNone k) phase ((all_stand s sound (past_of all)).held.leaves y c.0 k c.1 there).none).1
 
@@ -148,11 +150,11 @@ module _ (s : Scenario) (sound : IsSound s) (none : IsRaceFree s) (turns others 
       (λ version y budget. account_same u g h tracks tracks_other ended.same ended.back alike version budget y (slice_get (system s).components y)) handed_same
 
   pub accounts_rest : (budgets : List ℕ)
-      → accounts s (run (system s) turns).world budgets ≡ accounts s (run (system s) others).world budgets
+      → accounts s (run (system s) (turns_alone turns)).world budgets ≡ accounts s (run (system s) (turns_alone others)).world budgets
   accounts_rest budgets =
       ap (λ w. accounts s w budgets) ended.world
       ∙ (sym (accounts_left budgets) ∙ ap (λ w. accounts s w budgets) (sym ended.other))
 
--- what a run to rest leaves does not depend on its turns
+-- what a run to rest leaves does not depend on its turns and settings
 pub leaves_same : (s : Scenario) → IsSound s → IsRaceFree s → LeavesSame s
-leaves_same s sound none turns others rest rest_other = accounts_rest s sound none turns others rest rest_other
+leaves_same s sound none = leave_same s sound none (accounts_rest s sound none)

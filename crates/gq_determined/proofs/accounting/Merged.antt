@@ -29,6 +29,7 @@ bare leaf =
       slots = leaf.slots;
       peaks = leaf.peaks;
       steps = leaf.steps;
+      inputs = [];
     }
 
 abbrev bare_world : World → World
@@ -128,6 +129,7 @@ module _ (system : System) (g h : Tracked) (t : IsTracked system g) (th : IsTrac
               slots = slots i;
               peaks = peaks i;
               steps = steps i;
+              inputs = [];
             })
 
     bare_same : IsSame all merged (bare_world g.world) (bare_world h.world)

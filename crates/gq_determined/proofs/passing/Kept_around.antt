@@ -26,7 +26,7 @@ use Rattle.gq_laws.specs.Statements.{TakesLeaf}
 use Rattle.gq_laws.proofs.turning.Outcomes.{closed}
 use Rattle.gq_laws.specs.internal.Renamed.{renamed_slot, renamed_spot, renamed_current, renamed_session, renamed_request}
 use Rattle.gq_laws.proofs.Both.{Both, one_fails, both_give, same_need, both_when, both_pop}
-use Rattle.gq_determined.proofs.passing.Kept_by_steps.{other_leaf, other_doing, KeepsOwn, IsKept, IsAllowed, both_instruct, stands}
+use Rattle.gq_determined.proofs.passing.Kept_by_steps.{Aside, other_leaf, other_doing, KeepsOwn, IsKept, IsAllowed, both_instruct, stands}
 
 -- a request is taken up, and its session is this from then on
 abbrev taken_up : Doing → Request → List Request → Session → Stepped
@@ -82,9 +82,9 @@ accepted_taken system (Ask_call value) s = record {
   object = λ k e. e;
 }
 
-module _ (f : ℕ → ℕ) (n : ℕ) (most : List ℕ) (d : Doing) (v : World) (K End : World → World → Type 0) (Mine : ℕ → Type 0) (Ours : Spot → Type 0) where
+module _ (f : ℕ → ℕ) (aside : Aside) (d : Doing) (v : World) (K End : World → World → Type 0) (Mine : ℕ → Type 0) (Ours : Spot → Type 0) where
   abbrev e : Doing
-  e = other_doing f n most d v
+  e = other_doing f aside d v
 
   -- the requests that a leaf takes up in both worlds
   pub record AreTaken (p q : Request × List Request) : Type 0 where
@@ -105,13 +105,13 @@ module _ (f : ℕ → ℕ) (n : ℕ) (most : List ℕ) (d : Doing) (v : World) (
 
   -- so it is where sections begin and end, too
   pub record IsKeptAround : Type 0 where
-    pub within : IsKept f n most d v K Mine Ours
+    pub within : IsKept f aside d v K Mine Ours
     pub over : (w z : World) → K w z → End w z
     pub matches : d.leaf.phase ≡ Serving → Match (oldest d.world d.x d.world.requests) (oldest v d.x v.requests)
     pub take : (p q : Request × List Request) (leaf : Leaf) (s : Session) (t : AreTaken p q) → leaf.slots ≡ d.leaf.slots → leaf.phase ≡ Handling
         → ((section : Section) × (leaf.current ≡ Some (record { session = p.0.session; section = section }))) → IsTaken t.session s
         → End (with_session (record (standing d leaf) { requests = p.1 }) p.0.session s)
-        (with_session (record (standing e (other_leaf f n most d v leaf)) { requests = q.1 }) (f p.0.session) (renamed_session f s))
+        (with_session (record (standing e (other_leaf f aside d v leaf)) { requests = q.1 }) (f p.0.session) (renamed_session f s))
     pub answer : (g : Current) (s : Session) (go : List ℕ → List ℕ) → d.leaf.current ≡ Some g → session_at d.world g.session ≡ Some s
         → End (unblocked (with_slot (standing d (serving d.leaf)) s.spot (Link g.session)) s.client go)
         (unblocked (with_slot (standing e (serving e.leaf)) (renamed_spot f s.spot) (Link (f g.session))) s.client go)
@@ -122,13 +122,13 @@ module _ (f : ℕ → ℕ) (n : ℕ) (most : List ℕ) (d : Doing) (v : World) (
   -- what comes first is allowed
   abbrev pub FirstAllowed : Statements → Type 0
   FirstAllowed Done = Unit {0}
-  FirstAllowed (Do i rest) = IsAllowed f n most d v K Mine Ours i
+  FirstAllowed (Do i rest) = IsAllowed f aside d v K Mine Ours i
   FirstAllowed (If arm other rest) = Unit {0}
   FirstAllowed (Loop count body rest) = Unit {0}
 
   module _ (t : TakesLeaf d) (linked : AreLinked d.system (links d.world)) (h : IsKeptAround) where
-    stand : (leaf : Leaf) → leaf.slots ≡ d.leaf.slots → leaf.current ≡ d.leaf.current → End (standing d leaf) (standing e (other_leaf f n most d v leaf))
-    stand leaf slots current = h.over _ _ (stands f n most d v K Mine Ours t linked h.within leaf (record { slots = slots; current = current }))
+    stand : (leaf : Leaf) → leaf.slots ≡ d.leaf.slots → leaf.current ≡ d.leaf.current → End (standing d leaf) (standing e (other_leaf f aside d v leaf))
+    stand leaf slots current = h.over _ _ (stands f aside d v K Mine Ours t linked h.within leaf (record { slots = slots; current = current }))
 
     -- SLOTS
 
@@ -173,7 +173,7 @@ module _ (f : ℕ → ℕ) (n : ℕ) (most : List ℕ) (d : Doing) (v : World) (
         let body = section_in section d.component.node.program.sections in
         let leaf = beginning d.leaf (record { session = p.0.session; section = section }) (first_operands p.0.ask) (body_of body) in
         let new = with_session (record (standing d leaf) { requests = p.1 }) p.0.session s in
-        let new_v = with_session (record (standing e (other_leaf f n most d v leaf)) { requests = q.1 }) (f p.0.session) (renamed_session f s) in
+        let new_v = with_session (record (standing e (other_leaf f aside d v leaf)) { requests = q.1 }) (f p.0.session) (renamed_session f s) in
         both_when End (paid d.system new) (paid d.system new_v) ExceededQuota ExceededQuota (need body MissingSection (λ b. Ok (new, Quiet)))
         (need body MissingSection (λ b. Ok (new_v, Quiet))) (λ i. h.within.pays new_v)
         (same_need End body MissingSection (λ b. Ok (new, Quiet)) (λ b. Ok (new_v, Quiet))
@@ -264,10 +264,10 @@ module _ (f : ℕ → ℕ) (n : ℕ) (most : List ℕ) (d : Doing) (v : World) (
       abbrev begun : Doing
       begun = record d { leaf = record d.leaf { todo = rest } }
 
-      own_so : (leaf : Leaf) → KeepsOwn f n most begun v leaf → KeepsOwn f n most d v leaf
+      own_so : (leaf : Leaf) → KeepsOwn f aside begun v leaf → KeepsOwn f aside d v leaf
       own_so leaf own = record { slots = own.slots; current = own.current }
 
-      kept_so : IsKept f n most begun v K Mine Ours
+      kept_so : IsKept f aside begun v K Mine Ours
       kept_so =
           let k = h.within in
           record {
@@ -287,8 +287,8 @@ module _ (f : ℕ → ℕ) (n : ℕ) (most : List ℕ) (d : Doing) (v : World) (
             ask = k.ask;
           }
 
-      both_begun : (i : Instruction) → IsAllowed f n most d v K Mine Ours i → Both End (instruct begun i) (instruct (other_doing f n most begun v) i)
-      both_begun i may = both_over K End h.over _ _ (both_instruct f n most begun v K Mine Ours
+      both_begun : (i : Instruction) → IsAllowed f aside d v K Mine Ours i → Both End (instruct begun i) (instruct (other_doing f aside begun v) i)
+      both_begun i may = both_over K End h.over _ _ (both_instruct f aside begun v K Mine Ours
           (record { old = t.old; there = t.there; slots = t.slots; phase = t.phase; current = t.current }) linked kept_so i may)
 
     both_perform : (d.leaf.phase ≡ Serving → ⊥) → (todo : Statements) → FirstAllowed todo → Both End (perform d todo) (perform e todo)

@@ -2,19 +2,19 @@
 -- No leaf is looked at whether it is paid for: so it is in a system in which nothing is counted.
 use Rattle.std.proofs.Common.{◌≡◌, ◌⊎◌, inl, inr, ℕ, ◌==◌, ◌&&◌, not, Bool, true, false, cond, List, ◌∷◌, [], Option, Some, None, Ok, refl, ap, sym, ◌∙◌}
 use Rattle.std.proofs.Common.{subst}
-use Rattle.std.specs.Prelude.{◌+◌, ◌/◌, ◌%◌, ◌++◌, nat_le, nat_lt, length, take, drop, replicate, slice_range, decimal, option_map, slice_get, slice_index}
+use Rattle.std.specs.Prelude.{◌+◌, ◌++◌, nat_le, nat_lt, length, take, drop, replicate, slice_range, decimal, option_map, slice_get}
 use Rattle.std.specs.Prelude.{slice_set}
 use Rattle.gq_model.specs.machine.Amounts.{Amount, amount, plus}
 use Rattle.gq_model.specs.declared.program.Width.{Width}
 use Rattle.gq_model.specs.declared.program.Place.{Place}
 use Rattle.gq_model.specs.declared.program.Place.TheVariants.{Own, Shared, Object}
 use Rattle.gq_model.specs.declared.program.Instruction.{Instruction}
-use Rattle.gq_model.specs.declared.program.Instruction.TheVariants.{Say, Out, Drop, Dup, Push, Divide, Modulo, Get, Set, Index, Combine, Make, MakePool, Load}
+use Rattle.gq_model.specs.declared.program.Instruction.TheVariants.{Say, Out, Operands, Make, MakePool, Load}
 use Rattle.gq_model.specs.declared.program.Instruction.TheVariants.{Store, Free, Take, Give, Peek, Poke, Open, Upgrade, Call, Close}
 use Rattle.gq_model.specs.declared.phase.Phase.TheVariants.{Blocked}
 use Rattle.gq_model.specs.declared.fault.Wrong.{Wrong}
 use Rattle.gq_model.specs.declared.fault.Wrong.TheVariants.{MissingOperand, WrongKind, UnmappedByte, ExceededQuota}
-use Rattle.gq_model.specs.machine.Program.{combined, bytes_of, little, spelled}
+use Rattle.gq_model.specs.machine.Program.{bytes_of, little, spelled}
 use Rattle.gq_model.specs.machine.Scenario.{System, open_caps, upgrade_caps, interface_in}
 use Rattle.gq_model.specs.machine.World.{Slot, Empty, Bytes, Pool, Link, Waiting, Spot, In_leaf, In_session, In_object, Session, Ask, Ask_open, Ask_upgrade}
 use Rattle.gq_model.specs.machine.World.{Ask_close, Ask_call, Request, Current, Leaf, World, session_at, slot_at, with_leaf, with_session, with_slot, spot_of}
@@ -25,7 +25,8 @@ use Rattle.gq_model.specs.machine.Memory.{is_kept, shares_buffer, buffer_of}
 use Rattle.gq_model.specs.machine.Memory.{load, store, if_absent, entry_byte, entry_with, take_entry, give_entry, peek, poke}
 use Rattle.gq_model.specs.machine.Requests.{new_session, add_session, free_place, asked, link_in, link_at, open_session, upgrade, call, close}
 use Rattle.gq_model.specs.machine.Routes.{server_of}
-use Rattle.gq_model.specs.machine.Step.{round_of, instruct}
+use Rattle.gq_model.specs.machine.Operate.{operate}
+use Rattle.gq_model.specs.machine.Step.{bench, operated, instruct}
 use Rattle.gq_laws.specs.Statements.{TakesLeaf}
 use Rattle.gq_laws.specs.Links.{naming, AreLinked, links}
 use Rattle.gq_laws.proofs.linking.Accepted.{stand_slots}
@@ -78,10 +79,17 @@ asked_world d w spot k ask =
 abbrev pub IsNamed : Doing → Spot → Type 0
 IsNamed d q = (place : Place) × (spot_of d.x d.leaf.current place ≡ Some q)
 
-module _ (f : ℕ → ℕ) (n : ℕ) (most : List ℕ) (d : Doing) (v : World) where
-  -- the leaf in the other world, with other numbers of sessions, steps and peaks
+-- what the leaf's steps, peaks and inputs are in the other world, by what they are in this one
+pub record Aside : Type 0 where
+  pub steps : ℕ → ℕ
+  pub peaks : List ℕ → List ℕ
+  pub inputs : List ℕ → List ℕ
+
+module _ (f : ℕ → ℕ) (aside : Aside) (d : Doing) (v : World) where
+  -- the leaf in the other world, with other numbers of sessions, steps, peaks and inputs
   abbrev pub other_leaf : Leaf → Leaf
-  other_leaf leaf = record (renamed_leaf f leaf) { steps = n; peaks = most }
+  other_leaf leaf =
+      record (renamed_leaf f leaf) { steps = aside.steps leaf.steps; peaks = aside.peaks leaf.peaks; inputs = aside.inputs leaf.inputs }
 
   -- the same step in the other world
   abbrev pub other_doing : Doing
@@ -144,7 +152,9 @@ module _ (f : ℕ → ℕ) (n : ℕ) (most : List ℕ) (d : Doing) (v : World) w
     MayChange (Shared i) = Unit {0}
     MayChange Object = Unit {0}
 
+    -- and a statement on operands alone leaves the same in both worlds
     abbrev pub IsAllowed : Instruction → Type 0
+    IsAllowed (Operands s) = operate (bench d) s ≡ operate (bench other_doing) s
     IsAllowed (Make form place n) = MayChange place
     IsAllowed (MakePool place n m) = MayChange place
     IsAllowed (Store width place) = MayChange place
@@ -434,10 +444,6 @@ module _ (f : ℕ → ℕ) (n : ℕ) (most : List ℕ) (d : Doing) (v : World) w
       pushed : (a : ℕ) (operands : List ℕ) → Both K (push a operands (on_stack d)) (push a operands (on_stack e))
       pushed a operands = both_push K a operands (on_stack d) (on_stack e) stacked
 
-      popped : (g : ℕ → List ℕ → List ℕ)
-          → Both K (pop d.leaf.operands (λ a rest. on_stack d (g a rest))) (pop d.leaf.operands (λ a rest. on_stack e (g a rest)))
-      popped g = both_pop K d.leaf.operands (λ a rest. on_stack d (g a rest)) (λ a rest. on_stack e (g a rest)) (λ a rest. stacked (g a rest))
-
       both_load : (width : Width) (place : Place) → Both K (load d width place) (load e width place)
       both_load width place = both_pop K d.leaf.operands (λ i rest. bytes_at d d.world place (loading width i (λ a. on_stack d (a ∷ rest))))
           (λ i rest. bytes_at e v place (loading width i (λ a. on_stack e (a ∷ rest)))) (λ i rest.
@@ -507,8 +513,10 @@ module _ (f : ℕ → ℕ) (n : ℕ) (most : List ℕ) (d : Doing) (v : World) w
       both_instruct (Call place) may = both_call place may
       both_instruct (Close place) may = both_close place may
       both_instruct (Say text) may = both_give K _ _ _ (stands d.leaf (keeps d.leaf refl refl))
-      both_instruct (Set i) may = both_pop K _ _ _ (λ a rest.
-          let leaf = record d.leaf { operands = rest; locals = slice_set d.leaf.locals i a } in both_give K _ _ _ (stands leaf (keeps leaf refl refl)))
+      both_instruct (Operands s) may =
+          subst (λ o. Both K (need (operate (bench d) s) MissingOperand (operated d)) (need o MissingOperand (operated e))) may
+          (same_need K (operate (bench d) s) MissingOperand (operated d) (operated e) (λ o.
+          let leaf = record d.leaf { operands = o.operands; locals = o.locals } in both_give K _ _ Quiet (stands leaf (keeps leaf refl refl))))
       both_instruct (Make form place n) may = both_make place may _ refl refl
       both_instruct (MakePool place n m) may = both_make place may _ refl refl
       both_instruct (Free place) may = both_free place may
@@ -518,18 +526,5 @@ module _ (f : ℕ → ℕ) (n : ℕ) (most : List ℕ) (d : Doing) (v : World) w
       both_instruct (Give place) may = both_give_entry place may
       both_instruct (Peek place) may = both_peek place
       both_instruct (Poke place) may = both_poke place may
-      both_instruct (Index n) may = same_need K (round_of d.leaf.loops n) MissingOperand (λ r. push r d.leaf.operands (on_stack d))
-          (λ r. push r d.leaf.operands (on_stack e)) (λ r. pushed r d.leaf.operands)
       both_instruct Out may = both_pop K d.leaf.operands _ _ (λ a rest.
           both_give K _ _ (Line (decimal a)) (stands (with_operands d rest) (keeps (with_operands d rest) refl refl)))
-      both_instruct Drop may = popped (λ a rest. rest)
-      both_instruct Dup may = both_pop K d.leaf.operands (λ a rest. push a (a ∷ rest) (on_stack d)) (λ a rest. push a (a ∷ rest) (on_stack e))
-          (λ a rest. pushed a (a ∷ rest))
-      both_instruct (Push n) may = pushed n d.leaf.operands
-      both_instruct (Divide n) may = popped (λ a rest. a / n ∷ rest)
-      both_instruct (Modulo n) may = popped (λ a rest. a % n ∷ rest)
-      both_instruct (Get i) may = pushed (slice_index d.leaf.locals i) d.leaf.operands
-      both_instruct (Combine g) may = both_pop K d.leaf.operands (λ b below. pop below (λ a rest. on_stack d (combined g a b ∷ rest)))
-          (λ b below. pop below (λ a rest. on_stack e (combined g a b ∷ rest)))
-          (λ b below. both_pop K below (λ a rest. on_stack d (combined g a b ∷ rest)) (λ a rest. on_stack e (combined g a b ∷ rest))
-          (λ a rest. stacked (combined g a b ∷ rest)))

@@ -118,7 +118,7 @@ module _ (f : ℕ → ℕ) where
   phase_seen Handling leaf e = e
   phase_seen Exited leaf e = e
 
-  blocked_seen : (leaf : Leaf) → leaf.phase ≡ Blocked → seen leaf ≡ record leaf { phase = Blocked; slots = []; peaks = []; steps = 0 }
+  blocked_seen : (leaf : Leaf) → leaf.phase ≡ Blocked → seen leaf ≡ record leaf { phase = Blocked; slots = []; peaks = []; steps = 0; inputs = [] }
   blocked_seen leaf e = ap (λ p. seen_by p leaf) e
 
   -- a leaf that was blocked goes on, seen with other operands
@@ -129,25 +129,27 @@ module _ (f : ℕ → ℕ) where
   resumed_same None = refl
   resumed_same (Some current) = refl
 
-  going_seen : (go : List ℕ → List ℕ) (l : Leaf) → seen (going go l) ≡ going go (record l { slots = []; peaks = []; steps = 0 })
+  going_seen : (go : List ℕ → List ℕ) (l : Leaf) → seen (going go l) ≡ going go (record l { slots = []; peaks = []; steps = 0; inputs = [] })
   going_seen go l = by l.current
     where
       by : (current : Option Current) → seen_by (resumed current) (record l { phase = resumed current; operands = go l.operands })
-          ≡ record l { phase = resumed current; operands = go l.operands; slots = []; peaks = []; steps = 0 }
+          ≡ record l { phase = resumed current; operands = go l.operands; slots = []; peaks = []; steps = 0; inputs = [] }
       by None = refl
       by (Some current) = refl
 
   goes_on : (go : List ℕ → List ℕ) (a b : Leaf) → a.phase ≡ Blocked → seen b ≡ renamed_leaf f (seen a)
       → seen (going go b) ≡ renamed_leaf f (seen (going go a))
   goes_on go a b blocked e =
-      let shown : seen b ≡ renamed_leaf f (record a { phase = Blocked; slots = []; peaks = []; steps = 0 })
+      let shown : seen b ≡ renamed_leaf f (record a { phase = Blocked; slots = []; peaks = []; steps = 0; inputs = [] })
       = e ∙ ap (renamed_leaf f) (blocked_seen a blocked) in
       let blocked_b : b.phase ≡ Blocked = phase_seen b.phase b (ap (λ (l : Leaf). l.phase) shown) in
-      let both : record b { phase = Blocked; slots = []; peaks = []; steps = 0 } ≡ renamed_leaf f
-      (record a { phase = Blocked; slots = []; peaks = []; steps = 0 })
+      let both : record b { phase = Blocked; slots = []; peaks = []; steps = 0; inputs = [] } ≡ renamed_leaf f
+      (record a { phase = Blocked; slots = []; peaks = []; steps = 0; inputs = [] })
       = sym (blocked_seen b blocked_b) ∙ shown in
       going_seen go b ∙ (ap (going go) both
-      ∙ ((λ i. record (renamed_leaf f (record a { phase = resumed_same a.current i; slots = []; peaks = []; steps = 0 })) { operands = go a.operands })
+      ∙ ((λ i. record (renamed_leaf f (record a { phase = resumed_same a.current i; slots = []; peaks = []; steps = 0; inputs = [] })) {
+        operands = go a.operands;
+      })
       ∙ ap (renamed_leaf f) (sym (going_seen go a))))
 
   pub at_going : (y : ℕ) (w v : World) (x : ℕ) (go : List ℕ → List ℕ) (leaf : Leaf) → slice_get w.leaves x ≡ Some leaf → leaf.phase ≡ Blocked

@@ -24,7 +24,7 @@ use Rattle.gq_laws.specs.internal.Renamed.{renamed_slot, renamed_spot, renamed_l
 use Rattle.gq_laws.proofs.Both.{Both, one_fails, both_give, both_when}
 use Rattle.gq_laws.proofs.Same.{place_here, added_else}
 use Rattle.gq_determined.specs.internal.Threads.{is_active, among, slots_of, seen, seen_by, IsAtSame, IsSameRegion}
-use Rattle.gq_determined.proofs.passing.Kept_by_steps.{other_leaf, other_doing, KeepsOwn, IsNamed, Near, IsKept}
+use Rattle.gq_determined.proofs.passing.Kept_by_steps.{Aside, other_leaf, other_doing, KeepsOwn, IsNamed, Near, IsKept}
 use Rattle.gq_determined.proofs.regions.Regions.{region_leaf, region_session, region_added, region_request, region_there, region_own_slot, region_slot}
 use Rattle.gq_determined.proofs.regions.Regions.{region_object}
 use Rattle.gq_determined.proofs.regions.Regions.{region_put_own, region_put, region_put_object}
@@ -68,10 +68,10 @@ slot_stays w (In_object k) slot j s e = by (session_at w k) refl
     ]
 
 -- what is seen of a leaf does not tell its steps and peaks
-pub seen_other : (f : ℕ → ℕ) (n : ℕ) (most : List ℕ) (d : Doing) (v : World) (leaf : Leaf) → seen (other_leaf f n most d v leaf) ≡ renamed_leaf f (seen leaf)
-seen_other f n most d v leaf = by leaf.phase
+pub seen_other : (f : ℕ → ℕ) (aside : Aside) (d : Doing) (v : World) (leaf : Leaf) → seen (other_leaf f aside d v leaf) ≡ renamed_leaf f (seen leaf)
+seen_other f aside d v leaf = by leaf.phase
   where
-    by : (p : Phase) → seen_by p (other_leaf f n most d v leaf) ≡ renamed_leaf f (seen_by p leaf)
+    by : (p : Phase) → seen_by p (other_leaf f aside d v leaf) ≡ renamed_leaf f (seen_by p leaf)
     by Pending = refl
     by Running = refl
     by Blocked = refl
@@ -105,9 +105,9 @@ module _ {A : Type 0} (g h : Leaf → A) where
   none_both None (Some b) e n = absurd (none_some (sym e))
   none_both (Some a) (Some b) e n = absurd (none_some (sym n))
 
-module _ (f : ℕ → ℕ) (n : ℕ) (most : List ℕ) (d : Doing) (v : World) (i : ℕ) (own root other : ℕ → ℕ) (c : ℕ → Bool) where
+module _ (f : ℕ → ℕ) (aside : Aside) (d : Doing) (v : World) (i : ℕ) (own root other : ℕ → ℕ) (c : ℕ → Bool) where
   abbrev e : Doing
-  e = other_doing f n most d v
+  e = other_doing f aside d v
 
   -- what a step for the thread may change
   abbrev pub Ours : Spot → Type 0
@@ -177,9 +177,9 @@ module _ (f : ℕ → ℕ) (n : ℕ) (most : List ℕ) (d : Doing) (v : World) (
       }) k.rest;
     }
 
-    keeps_leaf : (w z : World) (leaf : Leaf) → K w z → KeepsOwn f n most d v leaf → K (with_leaf w d.x leaf) (with_leaf z d.x (other_leaf f n most d v leaf))
+    keeps_leaf : (w z : World) (leaf : Leaf) → K w z → KeepsOwn f aside d v leaf → K (with_leaf w d.x leaf) (with_leaf z d.x (other_leaf f aside d v leaf))
     keeps_leaf w z leaf k keeps = record {
-      related = puts_leaf w z leaf (other_leaf f n most d v leaf) keeps.slots refl (seen_other f n most d v leaf) (λ b. keeps.current)
+      related = puts_leaf w z leaf (other_leaf f aside d v leaf) keeps.slots refl (seen_other f aside d v leaf) (λ b. keeps.current)
           (λ busy act. keeps.current) k.related;
       stay = k.stay;
     }
@@ -188,7 +188,7 @@ module _ (f : ℕ → ℕ) (n : ℕ) (most : List ℕ) (d : Doing) (v : World) (
 
     -- a spot that the step may look at
     abbrev IsNear : Spot → Type 0
-    IsNear = Near f n most d v K Mine Ours
+    IsNear = Near f aside d v K Mine Ours
 
     -- any slot of the region
     abbrev pub InRegion : World → Spot → Type 0
@@ -394,7 +394,7 @@ module _ (f : ℕ → ℕ) (n : ℕ) (most : List ℕ) (d : Doing) (v : World) (
         by (In_session j a) client near below b = (subst Region (sym below) near.0, λ ours. below ∙ ours)
         by (In_object j) client near below b = absurd b
 
-    pub kept : IsKept f n most d v K Mine Ours
+    pub kept : IsKept f aside d v K Mine Ours
     kept = record {
       first = record { related = h.related; stay = λ k s there. (s, there) };
       pays = h.pays;

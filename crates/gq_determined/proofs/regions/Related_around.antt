@@ -19,7 +19,7 @@ use Rattle.gq_laws.proofs.turning.Outcomes.{closed}
 use Rattle.gq_laws.proofs.Stepping.{outlined}
 use Rattle.gq_laws.specs.internal.Renamed.{renamed_slot, renamed_spot, renamed_leaf, renamed_session, renamed_request}
 use Rattle.gq_determined.specs.internal.Threads.{is_active, among, slots_of, seen, IsAtSame}
-use Rattle.gq_determined.proofs.passing.Kept_by_steps.{other_leaf, other_doing}
+use Rattle.gq_determined.proofs.passing.Kept_by_steps.{Aside, other_leaf, other_doing}
 use Rattle.gq_determined.proofs.passing.Kept_around.{IsTaken, AreTaken, Match, IsKeptAround}
 use Rattle.gq_determined.proofs.regions.Regions.{region_leaf, region_released, region_session, region_requests, region_there}
 use Rattle.gq_determined.proofs.regions.At_same.{at_leaf, at_going, at_seen, released_seen}
@@ -113,13 +113,13 @@ stance_there : (o : Option Leaf) (current : Option Current) → stance_in o ≡ 
 stance_there None current e = absurd (none_some e)
 stance_there (Some leaf) current e = (leaf, refl, same_phase e)
 
-module _ (f : ℕ → ℕ) (n : ℕ) (most : List ℕ) (d : Doing) (v : World) (i : ℕ) (own root other : ℕ → ℕ) (c : ℕ → Bool)
-    (h : IsBefore f n most d v i own root other c) where
+module _ (f : ℕ → ℕ) (aside : Aside) (d : Doing) (v : World) (i : ℕ) (own root other : ℕ → ℕ) (c : ℕ → Bool)
+    (h : IsBefore f aside d v i own root other c) where
   abbrev e : Doing
-  e = other_doing f n most d v
+  e = other_doing f aside d v
 
   abbrev R : World → World → Type 0
-  R = IsRelated f n most d v i own root other c
+  R = IsRelated f aside d v i own root other c
 
   -- A CLIENT THAT GOES ON
 
@@ -144,7 +144,7 @@ module _ (f : ℕ → ℕ) (n : ℕ) (most : List ℕ) (d : Doing) (v : World) (
             ∙ ((k.regions x r).slots y same ∙ ap (option_map (λ l. map (renamed_slot f) (slots_of l))) e))) (k.regions x r);
         at = λ x is. subst (λ o. IsAtSame f x (active_again w y go o) (active_again z y go (Some b))) e
             (subst (λ o. IsAtSame f x (unblocked w y go) (active_again z y go o)) g (at_all x is));
-        rest = else_leaf d i own root c (Ours f n most d v i own root other c) w y (record a { phase = resumed a.current; operands = go a.operands }) (record {
+        rest = else_leaf d i own root c (Ours f aside d v i own root other c) w y (record a { phase = resumed a.current; operands = go a.operands }) (record {
           ours = ours;
           current = λ ne o at. ap current_of (some_same (sym e ∙ at));
           slots = λ ne o at. ap slots_of (some_same (sym e ∙ at));
@@ -185,10 +185,10 @@ module _ (f : ℕ → ℕ) (n : ℕ) (most : List ℕ) (d : Doing) (v : World) (
 
     -- its spot is of the thread's region
     spot_region : (w : World) → ((k : ℕ) (t : Session) → session_at d.world k ≡ Some t → (u : Session) × (session_at w k ≡ Some u))
-        → InRegion f n most d v i own root other c h w s.spot
+        → InRegion f aside d v i own root other c h w s.spot
     spot_region w stay = by s.spot (h.below g.session s there) (h.linked.belongs g.session (outline s) outlined_there)
       where
-        by : (q : Spot) → IsBelow own root g.session q → Belongs (links d.world) q s.client → InRegion f n most d v i own root other c h w q
+        by : (q : Spot) → IsBelow own root g.session q → Belongs (links d.world) q s.client → InRegion f aside d v i own root other c h w q
         by (In_leaf y a) below b = (sym below ∙ h.current g at, ap c b ∙ h.client g s at there)
         by (In_session j a) below b =
             let t = outlined (session_at d.world j) b.0 b.1 in (sym below ∙ h.current g at, stay j t.0 t.1)
@@ -201,7 +201,7 @@ module _ (f : ℕ → ℕ) (n : ℕ) (most : List ℕ) (d : Doing) (v : World) (
     served_v = standing e (serving e.leaf)
 
     served_related : R served served_v
-    served_related = puts_leaf f n most d v i own root other c h d.world v (serving d.leaf) (serving e.leaf) refl refl refl (λ b. absurd (serving_active b))
+    served_related = puts_leaf f aside d v i own root other c h d.world v (serving d.leaf) (serving e.leaf) refl refl refl (λ b. absurd (serving_active b))
         (λ busy act. absurd (true≢false (sym act))) h.related
       where
         serving_active : Serving ≡ Blocked → ⊥
@@ -215,7 +215,7 @@ module _ (f : ℕ → ℕ) (n : ℕ) (most : List ℕ) (d : Doing) (v : World) (
       put_v = with_slot served_v (renamed_spot f s.spot) (renamed_slot f slot)
 
       put_related : R put put_v
-      put_related = puts f n most d v i own root other c h served served_v s.spot slot (spot_region served (λ k t e. (t, e))) (inl none) served_related
+      put_related = puts f aside d v i own root other c h served served_v s.spot slot (spot_region served (λ k t e. (t, e))) (inl none) served_related
 
       put_stance : stance_in (slice_get put.leaves s.client) ≡ Some (stance Blocked client_waits.0)
       put_stance = slot_stances served s.spot slot s.client
@@ -244,7 +244,7 @@ module _ (f : ℕ → ℕ) (n : ℕ) (most : List ℕ) (d : Doing) (v : World) (
         refl (record {
           regions = λ y r. region_session f own root other y w z g.session t.0 None m.1 t.1 m.0 (k.regions y r);
           at = k.at;
-          rest = else_session d i own root c (Ours f n most d v i own root other c) w g.session None (record {
+          rest = else_session d i own root c (Ours f aside d v i own root other c) w g.session None (record {
             ours = h.current g at;
             was = t.0;
             there = t.1;
@@ -261,13 +261,13 @@ module _ (f : ℕ → ℕ) (n : ℕ) (most : List ℕ) (d : Doing) (v : World) (
   -- A REQUEST THAT IS TAKEN
 
   abbrev M : ℕ → Type 0
-  M = Mine f n most d v i own root other c
+  M = Mine f aside d v i own root other c
 
   abbrev O : Spot → Type 0
-  O = Ours f n most d v i own root other c
+  O = Ours f aside d v i own root other c
 
   abbrev K : World → World → Type 0
-  K = IsRelatedWithin f n most d v i own root other c
+  K = IsRelatedWithin f aside d v i own root other c
 
   -- the request is the one of the thread
   pub record IsOne (p : Request × List Request) : Type 0 where
@@ -275,15 +275,15 @@ module _ (f : ℕ → ℕ) (n : ℕ) (most : List ℕ) (d : Doing) (v : World) (
     pub one : Request
     pub alone : among root i d.world.requests ≡ one ∷ []
 
-  takes : (p q : Request × List Request) (leaf : Leaf) (s : Session) (t : AreTaken f n most d v K R M O p q) → IsOne p → leaf.slots ≡ d.leaf.slots
+  takes : (p q : Request × List Request) (leaf : Leaf) (s : Session) (t : AreTaken f aside d v K R M O p q) → IsOne p → leaf.slots ≡ d.leaf.slots
       → leaf.phase ≡ Handling → ((section : Section) × (leaf.current ≡ Some (record { session = p.0.session; section = section }))) → IsTaken t.session s
       → R (with_session (record (standing d leaf) { requests = p.1 }) p.0.session s)
-      (with_session (record (standing e (other_leaf f n most d v leaf)) { requests = q.1 }) (f p.0.session) (renamed_session f s))
+      (with_session (record (standing e (other_leaf f aside d v leaf)) { requests = q.1 }) (f p.0.session) (renamed_session f s))
   takes p q leaf s t o slots phase current taken =
-      let stood = puts_leaf f n most d v i own root other c h d.world v leaf (other_leaf f n most d v leaf) slots refl seen_same
+      let stood = puts_leaf f aside d v i own root other c h d.world v leaf (other_leaf f aside d v leaf) slots refl seen_same
       (λ b. absurd (handling_active (sym phase ∙ b))) (λ busy act. absurd (busy t.serves)) h.related in
-      let asked : R (record (standing d leaf) { requests = p.1 }) (record (standing e (other_leaf f n most d v leaf)) { requests = q.1 }) = record {
-        regions = λ y r. region_requests f own root other y (standing d leaf) (standing e (other_leaf f n most d v leaf)) p.1 q.1 (left y r)
+      let asked : R (record (standing d leaf) { requests = p.1 }) (record (standing e (other_leaf f aside d v leaf)) { requests = q.1 }) = record {
+        regions = λ y r. region_requests f own root other y (standing d leaf) (standing e (other_leaf f aside d v leaf)) p.1 q.1 (left y r)
             (stood.regions y r);
         at = stood.at;
         rest = else_requests d i own root c O (standing d leaf) p.1
@@ -291,7 +291,7 @@ module _ (f : ℕ → ℕ) (n : ℕ) (most : List ℕ) (d : Doing) (v : World) (
       } in
       record {
         regions = λ y r. region_session f own root other y (record (standing d leaf) { requests = p.1 })
-            (record (standing e (other_leaf f n most d v leaf)) { requests = q.1 }) p.0.session t.session (Some s) m.1 t.there m.0 (asked.regions y r);
+            (record (standing e (other_leaf f aside d v leaf)) { requests = q.1 }) p.0.session t.session (Some s) m.1 t.there m.0 (asked.regions y r);
         at = asked.at;
         rest = else_session d i own root c O (record (standing d leaf) { requests = p.1 }) p.0.session (Some s) (record {
           ours = o.ours;
@@ -308,8 +308,8 @@ module _ (f : ℕ → ℕ) (n : ℕ) (most : List ℕ) (d : Doing) (v : World) (
       handling_active : Handling ≡ Blocked → ⊥
       handling_active e = cc
 
-      seen_same : seen (other_leaf f n most d v leaf) ≡ renamed_leaf f (seen leaf)
-      seen_same = seen_other f n most d v leaf
+      seen_same : seen (other_leaf f aside d v leaf) ≡ renamed_leaf f (seen leaf)
+      seen_same = seen_other f aside d v leaf
 
       m : (session_at v (f p.0.session) ≡ Some (renamed_session f t.session)) × (other (f p.0.session) ≡ root p.0.session)
       m = region_there f own root other i d.world v p.0.session t.session o.ours t.there (h.related.regions i (inl refl))
@@ -317,7 +317,7 @@ module _ (f : ℕ → ℕ) (n : ℕ) (most : List ℕ) (d : Doing) (v : World) (
       other_is : other q.0.session ≡ i
       other_is = ap (λ (r : Request). other r.session) t.same ∙ (m.1 ∙ o.ours)
 
-      left : (y : ℕ) → Region f n most d v i own root other c y → among other y q.1 ≡ map (renamed_request f) (among root y p.1)
+      left : (y : ℕ) → Region f aside d v i own root other c y → among other y q.1 ≡ map (renamed_request f) (among root y p.1)
       left y r = elim (eqb_tells y i) [
         | inl g ↦
             none_left v d.x other y q (renamed_request f o.one) t.other (other_is ∙ sym g.1)
@@ -361,10 +361,10 @@ module _ (f : ℕ → ℕ) (n : ℕ) (most : List ℕ) (d : Doing) (v : World) (
 
   -- TOGETHER
 
-  pub kept_around : (d.leaf.phase ≡ Serving → Match f n most d v K R M O (oldest d.world d.x d.world.requests) (oldest v d.x v.requests))
-      → (d.leaf.phase ≡ Serving → (p : Request × List Request) → oldest d.world d.x d.world.requests ≡ Some p → IsOne p) → IsKeptAround f n most d v K R M O
+  pub kept_around : (d.leaf.phase ≡ Serving → Match f aside d v K R M O (oldest d.world d.x d.world.requests) (oldest v d.x v.requests))
+      → (d.leaf.phase ≡ Serving → (p : Request × List Request) → oldest d.world d.x d.world.requests ≡ Some p → IsOne p) → IsKeptAround f aside d v K R M O
   kept_around matches ones = record {
-    within = kept f n most d v i own root other c h;
+    within = kept f aside d v i own root other c h;
     over = λ w z k. k.related;
     matches = matches;
     take = λ p q leaf s t slots phase current taken. takes p q leaf s t (ones t.serves p t.first) slots phase current taken;

@@ -124,10 +124,10 @@ module _ (system : System) (g : Tracked) (t : IsTracked system g) where
       seen_name leaf e = by leaf.phase
         where
           by : (p : Phase) → renamed_leaf f (seen_by p leaf) ≡ renamed_leaf new (seen_by p leaf)
-          by Pending = λ q. record leaf { phase = Running; current = e q; slots = []; peaks = []; steps = 0 }
-          by Running = λ q. record leaf { phase = Running; current = e q; slots = []; peaks = []; steps = 0 }
-          by Blocked = λ q. record leaf { phase = Blocked; current = e q; slots = []; peaks = []; steps = 0 }
-          by Handling = λ q. record leaf { phase = Handling; current = e q; slots = []; peaks = []; steps = 0 }
+          by Pending = λ q. record leaf { phase = Running; current = e q; slots = []; peaks = []; steps = 0; inputs = [] }
+          by Running = λ q. record leaf { phase = Running; current = e q; slots = []; peaks = []; steps = 0; inputs = [] }
+          by Blocked = λ q. record leaf { phase = Blocked; current = e q; slots = []; peaks = []; steps = 0; inputs = [] }
+          by Handling = λ q. record leaf { phase = Handling; current = e q; slots = []; peaks = []; steps = 0; inputs = [] }
           by Serving = refl
           by Exited = refl
 

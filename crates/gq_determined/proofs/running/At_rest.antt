@@ -1,22 +1,23 @@
 -- Runs to rest of sound scenarios without races.
-use Rattle.std.proofs.Common.{◌≡◌, ℕ, ◌==◌, ◌&&◌, true, false, List, [], ◌∷◌, Option, Some, None, is_some, refl, ap, sym, ◌∙◌, subst}
-use Rattle.std.specs.Prelude.{slice_get}
+use Rattle.std.proofs.Common.{◌≡◌, ℕ, zero, suc, ◌==◌, ◌&&◌, true, false, List, [], ◌∷◌, ◌++◌, Option, Some, None, is_some, refl, ap, sym, ◌∙◌, subst}
+use Rattle.std.specs.Prelude.{replicate, slice_get}
 use Rattle.std.proofs.lemmas.Bool.{true≢false}
 use Rattle.gq_model.specs.declared.phase.Phase.{Phase}
 use Rattle.gq_model.specs.declared.phase.Phase.TheVariants.{Pending, Running, Blocked, Serving, Handling, Exited}
 use Rattle.gq_model.specs.machine.Scenario.{Scenario, System, Component, system}
-use Rattle.gq_model.specs.machine.World.{Request, Current, Leaf, World}
+use Rattle.gq_model.specs.machine.World.{Request, Current, Leaf, World, start}
 use Rattle.gq_model.specs.machine.Step.{oldest, next}
 use Rattle.gq_model.specs.machine.Run.{run}
 use Rattle.gq_model.proofs.Small.{some_none}
 use Rattle.gq_laws.specs.Sound.{IsSound}
 use Rattle.gq_laws.specs.Turns.{runs, runs_as, StandsStill}
-use Rattle.gq_laws.specs.Progress.{rests, AllRest, world_after, after_turns, each_turn}
+use Rattle.gq_laws.specs.Progress.{rests, AllRest, world_after, after_turns, Move, Turn_of, after_moves, each_move}
 use Rattle.gq_laws.specs.internal.Uncounted.{uncounted}
 use Rattle.gq_laws.proofs.progress.Running.{runs_through}
 use Rattle.gq_races.specs.Races.{IsRaceFree}
 use Rattle.gq_determined.specs.internal.Threads.{Tracked, who, who_by, who_of, asker, thread_by, works_for, is_active, HasEnded, tracked_after}
 use Rattle.gq_determined.specs.internal.Threads.{stepped_to, ready, turn_for, turned, past_of, SameAtRest}
+use Rattle.gq_determined.specs.internal.Unset.{each_turn, turns_alone}
 use Rattle.gq_determined.proofs.running.Runs.{same_owners}
 use Rattle.gq_determined.proofs.running.Sound_runs.{all_pay, goes_by, all_stand, good, ends_same}
 
@@ -77,10 +78,22 @@ module _ (s : Scenario) (sound : IsSound s) (idle : (w : World) (x : ℕ) → St
   turns_world [] a = refl
   turns_world (x ∷ turns) a = ap (λ w. after_turns (system s) w turns) (next_world a x) ∙ turns_world turns (x ∷ a)
 
-  pub run_world : (turns : List (ℕ × ℕ)) → (run (system s) turns).world ≡ (at (past_of turns)).world
-  run_world turns = runs_through s sound turns ∙ turns_world (each_turn turns) []
+  -- turns one by one, as moves
+  turn_moves : (x n : ℕ) (moves : List Move) (more : List ℕ) → ((w : World) → after_moves (system s) w moves ≡ after_turns (system s) w more) → (w : World)
+      → after_moves (system s) w (replicate n (Turn_of x) ++ moves) ≡ after_turns (system s) w (replicate n x ++ more)
+  turn_moves x zero moves more same w = same w
+  turn_moves x (suc n) moves more same w = turn_moves x n moves more same (world_after w (next (system s) w x))
 
-  pub rest_same : IsRaceFree s → (turns others : List (ℕ × ℕ)) → AllRest (run (system s) turns).world → AllRest (run (system s) others).world
+  all_moves : (turns : List (ℕ × ℕ)) (w : World) → after_moves (system s) w (each_move (turns_alone turns)) ≡ after_turns (system s) w (each_turn turns)
+  all_moves [] w = refl
+  all_moves (t ∷ turns) w = turn_moves t.0 t.1 (each_move (turns_alone turns)) (each_turn turns) (all_moves turns) w
+
+  pub run_world : (turns : List (ℕ × ℕ)) → (run (system s) (turns_alone turns)).world ≡ (at (past_of turns)).world
+  run_world turns =
+      runs_through s sound (turns_alone turns) ∙ (all_moves turns (start (system s)) ∙ turns_world (each_turn turns) [])
+
+  pub rest_same : IsRaceFree s → (turns others : List (ℕ × ℕ)) → AllRest (run (system s) (turns_alone turns)).world
+      → AllRest (run (system s) (turns_alone others)).world
       → SameAtRest s turns others
   rest_same none turns others rest rest_other =
       let end = λ (i : ℕ). rests_idle (at (past_of turns)) i (subst AllRest (run_world turns) rest) in

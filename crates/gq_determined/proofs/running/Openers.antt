@@ -1,8 +1,9 @@
--- Scenarios without races: what outside `main` of a shared leaf stands first changes no own slot, and what opens sessions does so as its program is judged.
+-- Scenarios without races: what outside `main` of a shared leaf stands first changes no own slot, what stands first anywhere reads no input, and what opens
+-- sessions does so as its program is judged.
 use Rattle.std.proofs.Common.{◌≡◌, inl, inr, ℕ, zero, suc, ◌+◌, Bool, true, false, cond, ◌&&◌, not, List, [], ◌∷◌, ◌++◌}
 use Rattle.std.proofs.Common.{Some, refl, ap, sym, ◌∙◌, subst, arith}
 use Rattle.std.specs.Prelude.{slice_get}
-use Rattle.std.proofs.lemmas.Bool.{true≢false, or_left, or_right, or_cases}
+use Rattle.std.proofs.lemmas.Bool.{true≢false, or_left, or_parts, or_right, or_cases}
 use Rattle.gq_model.specs.declared.program.Instruction.{Instruction}
 use Rattle.gq_model.specs.declared.program.Instruction.TheVariants.{Open}
 use Rattle.gq_model.specs.declared.program.Section.{Section}
@@ -18,8 +19,8 @@ use Rattle.gq_laws.specs.Sound.{IsSound}
 use Rattle.gq_laws.specs.internal.Left.{AllAre, IsGood}
 use Rattle.gq_laws.specs.internal.Uncounted.{uncounted}
 use Rattle.gq_laws.proofs.verified.Sound_systems.{good_of}
-use Rattle.gq_races.specs.Races.{opens, opens_first, opens_later, is_shared, changes_own, found_in, each_stated, stated_in, in_other, later_in, shared_from}
-use Rattle.gq_races.specs.Races.{IsRaceFree}
+use Rattle.gq_races.specs.Races.{opens, opens_first, opens_later, is_shared, changes_own, reads_input, found_in, each_stated, stated_in, stated_of}
+use Rattle.gq_races.specs.Races.{stated_from, for_several, is_race, IsRaceFree}
 use Rattle.gq_determined.specs.internal.Threads.{is_unshared}
 use Rattle.gq_determined.proofs.running.Outside.{AreSections}
 use Rattle.gq_determined.proofs.running.Uncounted_uses.{shared_same}
@@ -41,15 +42,16 @@ KeepsAway test u x later i = later ≡ true → is_unshared u x ≡ false → te
 
 -- what each statement is, by its leaf and by whether it stands outside `main`
 abbrev pub IsFree : System → ℕ → Component → Bool → Instruction → Type 0
-IsFree u x c later i = KeepsAway changes_own u x later i × OpensThere u c later i
+IsFree u x c later i = KeepsAway changes_own u x later i × OpensThere u c later i × (reads_input i ≡ false)
 
-all_both : (P Q : Instruction → Type 0) (s : Statements) → AllAre P s → AllAre Q s → AllAre (λ i. P i × Q i) s
-all_both P Q Done h k = tt
-all_both P Q (Do i rest) h k = ((h.0, k.0), all_both P Q rest h.1 k.1)
-all_both P Q (If arm other rest) h k = (all_both P Q arm h.0 k.0, all_both P Q other h.1 k.1, all_both P Q rest h.2 k.2)
-all_both P Q (Loop n body rest) h k = (h.0, all_both P Q body h.1 k.1, all_both P Q rest h.2 k.2)
+all_three : (P Q R : Instruction → Type 0) (s : Statements) → AllAre P s → AllAre Q s → AllAre R s → AllAre (λ i. P i × Q i × R i) s
+all_three P Q R Done h k l = tt
+all_three P Q R (Do i rest) h k l = ((h.0, k.0, l.0), all_three P Q R rest h.1 k.1 l.1)
+all_three P Q R (If arm other rest) h k l =
+    (all_three P Q R arm h.0 k.0 l.0, all_three P Q R other h.1 k.1 l.1, all_three P Q R rest h.2 k.2 l.2)
+all_three P Q R (Loop n body rest) h k l = (h.0, all_three P Q R body h.1 k.1 l.1, all_three P Q R rest h.2 k.2 l.2)
 
-all_other : (P Q : Instruction → Type 0) → ((i : Instruction) → P i → Q i) → (s : Statements) → AllAre P s → AllAre Q s
+pub all_other : (P Q : Instruction → Type 0) → ((i : Instruction) → P i → Q i) → (s : Statements) → AllAre P s → AllAre Q s
 all_other P Q f Done h = tt
 all_other P Q f (Do i rest) h = (f i h.0, all_other P Q f rest h.1)
 all_other P Q f (If arm other rest) h = (all_other P Q f arm h.0, all_other P Q f other h.1, all_other P Q f rest h.2)
@@ -99,20 +101,19 @@ no_place : (leaf : List ℕ) (section : Section) (changes : List (ℕ × Instruc
 no_place leaf section [] e = refl
 no_place leaf section (c ∷ changes) e = absurd cc
 
--- no leaf that is shared has such a statement outside `main`
-shared_none : (test : Instruction → Bool) (u : System) (x y : ℕ) (cs : List Component) (c : Component) → shared_from test u x cs ≡ []
-    → slice_get cs y ≡ Some c → is_shared u (x + y) ≡ true
-    → later_in test c ≡ []
-shared_none test u x y [] c e at shared = absurd (none_some at)
-shared_none test u x zero (d ∷ cs) c e at shared =
-    let same : is_shared u x ≡ true = ap (is_shared u) plus_zero ∙ shared in
-    subst (λ (c : Component). later_in test c ≡ []) (some_same at)
-    (sym (ap (λ b. cond b (later_in test d) []) same) ∙ none_left _ _ e)
+-- no leaf has such a statement
+leaf_none : (kind : Bool → Instruction → Bool) (u : System) (x y : ℕ) (cs : List Component) (c : Component) → stated_from kind u x cs ≡ []
+    → slice_get cs y ≡ Some c → stated_of kind (is_shared u (x + y)) c ≡ []
+leaf_none kind u x y [] c e at = absurd (none_some at)
+leaf_none kind u x zero (d ∷ cs) c e at =
+    subst (λ (c : Component). stated_of kind (is_shared u (x + zero)) c ≡ []) (some_same at)
+    (subst (λ n. stated_of kind (is_shared u n) d ≡ []) plus_zero (none_left _ _ e))
   where
     plus_zero : x ≡ x + zero
     plus_zero = omega arith
-shared_none test u x (suc y) (d ∷ cs) c e at shared =
-    shared_none test u (suc x) y cs c (none_right (cond (is_shared u x) (later_in test d) []) _ e) at (ap (is_shared u) more ∙ shared)
+leaf_none kind u x (suc y) (d ∷ cs) c e at =
+    subst (λ n. stated_of kind (is_shared u n) c ≡ []) more
+    (leaf_none kind u (suc x) y cs c (none_right (stated_of kind (is_shared u x) d) _ e) at)
   where
     more : suc x + y ≡ x + suc y
     more = omega arith
@@ -157,26 +158,13 @@ module _ (u : System) (x : ℕ) (c : Component) (G : Instruction → Type 0) whe
       by true is = among (λ p. in_main p.0 && opens u server c p.1) (ap (λ b. b && opens u server c p.1) is ∙ e)
       by false is = among (λ p. not (in_main p.0) && opens u server c p.1) (ap (λ b. not b && opens u server c p.1) is ∙ e)
 
-  section_keeps : (test : Instruction → Bool) (p : Section × Statements)
-      → (is_shared u x ≡ true → cond (not (in_main p.0)) (each_stated c.label p.0 (found_in test 1 p.1)) [] ≡ []) → AllAre G p.1
-      → AllAre (KeepsAway test u x (not (in_main p.0))) p.1
-  section_keeps test p none g = by (in_main p.0) (is_shared u x) refl refl none
-    where
-      by : (b shared : Bool) → in_main p.0 ≡ b → is_shared u x ≡ shared
-          → (shared ≡ true → cond (not b) (each_stated c.label p.0 (found_in test 1 p.1)) [] ≡ []) → AllAre (KeepsAway test u x (not b)) p.1
-      by true shared is e none = all_other G (KeepsAway test u x false) (λ i q later. absurd (true≢false (sym later))) p.1 g
-      by false false is e none = all_other G (KeepsAway test u x true) (λ i q later one. absurd (true≢false (sym (ap not e) ∙ one))) p.1 g
-      by false true is e none =
-          all_other (λ i. test i ≡ false) (KeepsAway test u x true) (λ i q later one. q) p.1
-          (all_none test G 1 p.1 (no_place c.label p.0 (found_in test 1 p.1) (none refl)) g)
-
-  sections_away : (test : Instruction → Bool) (sections : List (Section × Statements))
-      → (is_shared u x ≡ true → stated_in in_other test c.label sections ≡ []) → Each (λ p. AllAre G p.1) sections
-      → Each (λ p. AllAre (KeepsAway test u x (not (in_main p.0))) p.1) sections
-  sections_away test [] none g = tt
-  sections_away test (p ∷ rest) none g = (
-    section_keeps test p (λ shared. none_left _ _ (none shared)) g.0,
-    sections_away test rest (λ shared. none_right (cond (not (in_main p.0)) (each_stated c.label p.0 (found_in test 1 p.1)) []) _ (none shared)) g.1,
+  -- sections that have no such statement
+  sections_none : (test : Section → Instruction → Bool) (sections : List (Section × Statements)) → stated_in test c.label sections ≡ []
+      → Each (λ p. AllAre G p.1) sections → Each (λ p. AllAre (λ i. test p.0 i ≡ false) p.1) sections
+  sections_none test [] none g = tt
+  sections_none test (p ∷ rest) none g = (
+    all_none (test p.0) G 1 p.1 (no_place c.label p.0 (found_in (test p.0) 1 p.1) (none_left _ _ none)) g.0,
+    sections_none test rest (none_right (each_stated c.label p.0 (found_in (test p.0) 1 p.1)) _ none) g.1,
   )
 
   sections_there : (sections : List (Section × Statements)) → Each (λ p. AllAre G p.1) sections
@@ -188,34 +176,62 @@ module _ (u : System) (x : ℕ) (c : Component) (G : Instruction → Type 0) whe
     sections_there rest g.1 (λ test e. among test (or_right (test p) (any_of test rest) e)),
   )
 
-each_both : (P Q : Section × Statements → Type 0) (sections : List (Section × Statements)) → Each P sections → Each Q sections
-    → Each (λ p. P p × Q p) sections
-each_both P Q [] h k = tt
-each_both P Q (p ∷ rest) h k = ((h.0, k.0), each_both P Q rest h.1 k.1)
+each_three : (P Q R : Section × Statements → Type 0) (sections : List (Section × Statements)) → Each P sections → Each Q sections → Each R sections
+    → Each (λ p. P p × Q p × R p) sections
+each_three P Q R [] h k l = tt
+each_three P Q R (p ∷ rest) h k l = ((h.0, k.0, l.0), each_three P Q R rest h.1 k.1 l.1)
 
 each_other : (P Q : Section × Statements → Type 0) → ((p : Section × Statements) → P p → Q p) → (sections : List (Section × Statements)) → Each P sections
     → Each Q sections
 each_other P Q f [] h = tt
 each_other P Q f (p ∷ rest) h = (f p h.0, each_other P Q f rest h.1)
 
--- of a scenario whose shared leaves have no such statement outside `main`
-pub away_sections : (test : Instruction → Bool) (s : Scenario) → IsSound s → shared_from test (system s) 0 (system s).components ≡ []
-    → AreSections (λ x c later i. KeepsAway test (uncounted (system s)) x later i) (uncounted (system s))
-away_sections test s sound none x c at =
-    sections_away (uncounted (system s)) x c (IsGood (system s) c) test c.node.program.sections
-    (λ shared. shared_none test (system s) 0 x (system s).components c none at (from_zero shared)) (good_of s sound x c at)
+-- where no leaf has a statement of this kind, none does in its sections
+none_sections : (kind : Bool → Instruction → Bool) (s : Scenario) → IsSound s → stated_from kind (system s) 0 (system s).components ≡ []
+    → (x : ℕ) (c : Component) → slice_get (system s).components x ≡ Some c
+    → Each (λ p. AllAre (λ i. kind (for_several (is_shared (uncounted (system s)) x) p.0) i ≡ false) p.1) c.node.program.sections
+none_sections kind s sound none x c at =
+    subst (λ shared. Each (λ p. AllAre (λ i. kind (for_several shared p.0) i ≡ false) p.1) c.node.program.sections) shared
+    (sections_none (uncounted (system s)) x c (IsGood (system s) c) (λ section. kind (for_several (is_shared (system s) (0 + x)) section))
+    c.node.program.sections (leaf_none kind (system s) 0 x (system s).components c none at) (good_of s sound x c at))
   where
     none_more : 0 + x ≡ x
     none_more = omega arith
 
-    from_zero : is_shared (uncounted (system s)) x ≡ true → is_shared (system s) (0 + x) ≡ true
-    from_zero shared = ap (is_shared (system s)) none_more ∙ (sym (shared_same (system s) x) ∙ shared)
+    shared : is_shared (system s) (0 + x) ≡ is_shared (uncounted (system s)) x
+    shared = ap (is_shared (system s)) none_more ∙ sym (shared_same (system s) x)
+
+-- of a scenario whose shared leaves have no such statement outside `main`
+pub away_sections : (kind : Bool → Instruction → Bool) (test : Instruction → Bool) → ((i : Instruction) → kind true i ≡ false → test i ≡ false)
+    → (s : Scenario) → IsSound s → stated_from kind (system s) 0 (system s).components ≡ []
+    → AreSections (λ x c later i. KeepsAway test (uncounted (system s)) x later i) (uncounted (system s))
+away_sections kind test less s sound none x c at =
+    let u = uncounted (system s) in
+    each_other _ (λ p. AllAre (KeepsAway test u x (not (in_main p.0))) p.1)
+    (λ p h. all_other (λ i. kind (for_several (is_shared u x) p.0) i ≡ false) (KeepsAway test u x (not (in_main p.0))) (λ i q later single.
+    less i (ap (λ b. kind b i) (sym (several (is_shared u x) (not (in_main p.0)) later single)) ∙ q)) p.1 h)
+    c.node.program.sections (none_sections kind s sound none x c at)
+  where
+    several : (shared later : Bool) → later ≡ true → not shared ≡ false → (shared && later) ≡ true
+    several true later is single = is
+    several false later is single = absurd (true≢false single)
+
+-- nor reads an input anywhere
+pub unread_sections : (s : Scenario) → IsSound s → IsRaceFree s → AreSections (λ x c later i. reads_input i ≡ false) (uncounted (system s))
+unread_sections s sound none x c at =
+    each_other _ (λ p. AllAre (λ i. reads_input i ≡ false) p.1)
+    (λ p h. let several = for_several (is_shared (uncounted (system s)) x) p.0 in
+    all_other (λ i. is_race several i ≡ false) (λ i. reads_input i ≡ false) (λ i q. (or_parts (several && changes_own i) (reads_input i) q).1) p.1 h)
+    c.node.program.sections (none_sections is_race s sound none x c at)
 
 pub free_sections : (s : Scenario) → IsSound s → IsRaceFree s → AreSections (IsFree (uncounted (system s))) (uncounted (system s))
 free_sections s sound none x c at =
     let u = uncounted (system s) in
+    let sections = c.node.program.sections in
     each_other _ (λ p. AllAre (IsFree u x c (not (in_main p.0))) p.1)
-    (λ p h. all_both (KeepsAway changes_own u x (not (in_main p.0))) (OpensThere u c (not (in_main p.0))) p.1 h.0 h.1) c.node.program.sections
-    (each_both (λ p. AllAre (KeepsAway changes_own u x (not (in_main p.0))) p.1) (λ p. AllAre (OpensThere u c (not (in_main p.0))) p.1)
-    c.node.program.sections (away_sections changes_own s sound none x c at)
-    (sections_there u x c (IsGood (system s) c) c.node.program.sections (good_of s sound x c at) (λ test e. e)))
+    (λ p h. all_three (KeepsAway changes_own u x (not (in_main p.0))) (OpensThere u c (not (in_main p.0))) (λ i. reads_input i ≡ false) p.1 h.0 h.1 h.2)
+    sections
+    (each_three (λ p. AllAre (KeepsAway changes_own u x (not (in_main p.0))) p.1) (λ p. AllAre (OpensThere u c (not (in_main p.0))) p.1)
+    (λ p. AllAre (λ i. reads_input i ≡ false) p.1) sections
+    (away_sections is_race changes_own (λ i e. (or_parts (changes_own i) (reads_input i) e).0) s sound none x c at)
+    (sections_there u x c (IsGood (system s) c) sections (good_of s sound x c at) (λ test e. e)) (unread_sections s sound none x c at))

@@ -74,7 +74,7 @@ module _ (u : System) (g : Tracked) (t : IsTracked u g) (stateless : IsStateless
     own_is a e true single =
         busy_below u g t x leaf.phase current (ap stance_in there ∙ ap (λ o. Some (stance leaf.phase o)) is) single ∙ root_is
     own_is a e false shared = absurd (true≢false (ap (λ p. changes_own (Open p service n)) (sym e)
-        ∙ stateless x leaf current (Open place service n) rest there is shared begins))
+        ∙ stateless.keeps x leaf current (Open place service n) rest there is shared begins))
 
     spot_is : (p : Place) → place ≡ p → spot_of x (Some current) p ≡ Some q → root_at g.own g.root q ≡ g.own for.z
     spot_is (Own a) e named = subst (λ q. root_at g.own g.root q ≡ g.own for.z) (some_same named) (own_is a e (is_unshared u x) refl)

@@ -81,12 +81,18 @@ module _ (s : Scenario) (sound : IsSound s) where
     left : (a : List ℕ) → Lefts (IsFree u) u (after a).world
     left = all_left (IsFree u) (free_sections s sound none)
 
-    stateless : (a : List ℕ) → IsStateless u (after a).world
-    stateless a x leaf q i rest there current shared is =
+    -- what comes first
+    first : (a : List ℕ) (x : ℕ) (leaf : Leaf) (i : Instruction) (rest : Statements) → (there : slice_get (after a).world.leaves x ≡ Some leaf)
+        → leaf.todo ≡ Do i rest → IsFree u x (placed a x leaf there).0 (is_some leaf.current) i
+    first a x leaf i rest there is =
         let c = placed a x leaf there in
-        let of_leaf = (left a).at x leaf there c.0 c.1 in
-        let first = subst (AllAre (IsFree u x c.0 (is_some leaf.current))) is of_leaf.0 in
-        first.0.0 (ap is_some current) shared
+        (subst (AllAre (IsFree u x c.0 (is_some leaf.current))) is ((left a).at x leaf there c.0 c.1).0).0
+
+    stateless : (a : List ℕ) → IsStateless u (after a).world
+    stateless a = record {
+      keeps = λ x leaf q i rest there current shared is. (first a x leaf i rest there is).0 (ap is_some current) shared;
+      unread = λ x leaf i rest there is. (first a x leaf i rest there is).2;
+    }
 
     -- what comes first opens sessions as the program is judged to
     opens : (a : List ℕ) (x : ℕ) (c : Component) (leaf : Leaf) → slice_get u.components x ≡ Some c → slice_get (after a).world.leaves x ≡ Some leaf

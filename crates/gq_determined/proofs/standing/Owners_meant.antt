@@ -3,7 +3,6 @@ use Rattle.std.proofs.Common.{◌≡◌, ◌∙◌, ℕ, zero, suc, ◌+◌, ◌
 use Rattle.std.specs.Prelude.{slice_get}
 use Rattle.std.proofs.lemmas.Bool.{true≢false, eq-eqb}
 use Rattle.gq_model.specs.machine.Scenario.{System, Component}
-use Rattle.gq_model.proofs.Small.{none_some, some_same}
 use Rattle.gq_laws.proofs.verified.Use_chains.{Chain, chain_short}
 use Rattle.gq_model.specs.rules.Resolve.{cycle_fault}
 use Rattle.gq_races.specs.Races.{all_for, implies, is_owner, opens_first, opens_later, owns}

@@ -1,4 +1,4 @@
--- Threads of worlds in which no shared leaf changes its own slots outside `main`.
+-- Threads of worlds in which no shared leaf changes its own slots outside `main`, and no leaf reads an input.
 use Rattle.std.proofs.Common.{◌≡◌, ◌≢◌, ◌⊎◌, ℕ, suc, ◌==◌, ◌&&◌, inl, inr, Bool, true, false, List, Option, Some, None, Ok}
 use Rattle.std.proofs.Common.{refl, ap, sym, ◌∙◌}
 use Rattle.std.specs.Prelude.{option_map, slice_get}
@@ -7,25 +7,30 @@ use Rattle.std.proofs.lemmas.Bool.Decides.{eqb_tells}
 use Rattle.gq_model.specs.declared.phase.Phase.TheVariants.{Running, Blocked, Serving, Handling}
 use Rattle.gq_model.specs.declared.program.Place.{Place}
 use Rattle.gq_model.specs.declared.program.Place.TheVariants.{Own, Shared, Object}
+use Rattle.gq_model.specs.declared.program.Bare.TheVariants.{Drop, Dup, Combine}
 use Rattle.gq_model.specs.declared.program.Instruction.{Instruction}
-use Rattle.gq_model.specs.declared.program.Instruction.TheVariants.{Say, Out, Drop, Dup, Push, Divide, Modulo, Get, Set, Index, Combine, Make, MakePool, Load}
+use Rattle.gq_model.specs.declared.program.Instruction.TheVariants.{Say, Out, Operands, Make, MakePool, Load}
 use Rattle.gq_model.specs.declared.program.Instruction.TheVariants.{Store, Free, Take, Give, Peek, Poke, Open, Upgrade, Call, Close}
+use Rattle.gq_model.specs.declared.program.OperandStatement.{OperandStatement}
+use Rattle.gq_model.specs.declared.program.OperandStatement.TheVariants.{Plain, Numbered}
+use Rattle.gq_model.specs.declared.program.WithNumber.TheVariants.{Push, Divide, Modulo, Get, Set, Index, Input}
+use Rattle.gq_model.specs.machine.Operate.{Bench, operate}
 use Rattle.gq_model.specs.machine.Program.{Statements, Done, Do, If, Loop}
 use Rattle.gq_model.specs.machine.Scenario.{System, Component}
 use Rattle.gq_model.specs.machine.World.{Spot, Current, Leaf, World}
 use Rattle.gq_model.specs.machine.Sums.{paid}
 use Rattle.gq_model.specs.machine.Doing.{Doing, Event}
 use Rattle.gq_model.specs.machine.Requests.{free_place}
-use Rattle.gq_model.specs.machine.Step.{accept, accept_oldest, step_in, step_of, next}
+use Rattle.gq_model.specs.machine.Step.{bench, accept, accept_oldest, step_in, step_of, next}
 use Rattle.gq_model.proofs.Small.{none_some, some_same}
 use Rattle.gq_laws.specs.Links.{stance, stance_in, IsLinkedWorld}
 use Rattle.gq_laws.proofs.linking.Linked_worlds.{kept_linked}
 use Rattle.gq_laws.proofs.turning.Endings.{Ends}
 use Rattle.gq_laws.proofs.turning.Instructs.{accept_by}
 use Rattle.gq_laws.proofs.turning.Outcomes.{begun}
-use Rattle.gq_races.specs.Races.{is_own, changes_own}
+use Rattle.gq_races.specs.Races.{is_own, changes_own, reads_input}
 use Rattle.gq_determined.specs.internal.Threads.{is_unshared, Tracked, thread_by, anew, who, works, works_for, is_active, IsSameThread}
-use Rattle.gq_determined.proofs.passing.Kept_by_steps.{MayChange, IsAllowed}
+use Rattle.gq_determined.proofs.passing.Kept_by_steps.{Aside, MayChange, IsAllowed}
 use Rattle.gq_determined.proofs.passing.Kept_around.{FirstAllowed}
 use Rattle.gq_determined.proofs.standing.Orderly.{IsTracked, busy_below}
 use Rattle.gq_determined.proofs.regions.Regions.{put_at}
@@ -35,77 +40,78 @@ use Rattle.gq_determined.proofs.stepping.Own_steps.{anew_else, not_free, Goes, g
 use Rattle.gq_determined.proofs.stepping.Own_steps as own
 use Rattle.gq_determined.proofs.stepping.Frames.{IsDone}
 
--- outside `main` of a shared leaf what comes first changes no own slot
-abbrev pub IsStateless : System → World → Type 0
-IsStateless u w = (x : ℕ) (leaf : Leaf) (q : Current) (i : Instruction) (rest : Statements) → slice_get w.leaves x ≡ Some leaf → leaf.current ≡ Some q
-    → is_unshared u x ≡ false → leaf.todo ≡ Do i rest → changes_own i ≡ false
+-- outside `main` of a shared leaf what comes first changes no own slot, and nowhere does it read an input
+pub record IsStateless (u : System) (w : World) : Type 0 where
+  pub keeps : (x : ℕ) (leaf : Leaf) (q : Current) (i : Instruction) (rest : Statements) → slice_get w.leaves x ≡ Some leaf → leaf.current ≡ Some q
+      → is_unshared u x ≡ false → leaf.todo ≡ Do i rest → changes_own i ≡ false
+  pub unread : (x : ℕ) (leaf : Leaf) (i : Instruction) (rest : Statements) → slice_get w.leaves x ≡ Some leaf → leaf.todo ≡ Do i rest
+      → reads_input i ≡ false
+
+-- a statement on operands alone that reads no input leaves the same with other inputs
+pub unread_same : (b : Bench) (inputs : List ℕ) (s : OperandStatement) → reads_input (Operands s) ≡ false
+    → operate b s ≡ operate (record b { inputs = inputs }) s
+unread_same b inputs (Plain Drop) e = refl
+unread_same b inputs (Plain Dup) e = refl
+unread_same b inputs (Plain (Combine f)) e = refl
+unread_same b inputs (Numbered Push n) e = refl
+unread_same b inputs (Numbered Divide n) e = refl
+unread_same b inputs (Numbered Modulo n) e = refl
+unread_same b inputs (Numbered Get n) e = refl
+unread_same b inputs (Numbered Set n) e = refl
+unread_same b inputs (Numbered Index n) e = refl
+unread_same b inputs (Numbered Input n) e = absurd (true≢false e)
 
 -- WHAT IS ALLOWED
 
-module _ (f : ℕ → ℕ) (n : ℕ) (most : List ℕ) (d : Doing) (v : World) (K : World → World → Type 0) (M : ℕ → Type 0) (O : Spot → Type 0) where
+module _ (f : ℕ → ℕ) (aside : Aside) (d : Doing) (v : World) (K : World → World → Type 0) (M : ℕ → Type 0) (O : Spot → Type 0) where
   abbrev May : Place → Type 0
-  May = MayChange f n most d v K M O
+  May = MayChange f aside d v K M O
 
   module _ (may : (place : Place) → May place) where
-    all_allowed : (i : Instruction) → IsAllowed f n most d v K M O i
-    all_allowed (Make form place m) = may place
-    all_allowed (MakePool place m k) = may place
-    all_allowed (Store width place) = may place
-    all_allowed (Free place) = may place
-    all_allowed (Take place) = may place
-    all_allowed (Give place) = may place
-    all_allowed (Poke place) = may place
-    all_allowed (Open place service m) = may place
-    all_allowed (Upgrade place m) = may place
-    all_allowed (Call place) = may place
-    all_allowed (Close place) = may place
-    all_allowed (Say text) = tt
-    all_allowed Out = tt
-    all_allowed Drop = tt
-    all_allowed Dup = tt
-    all_allowed (Push m) = tt
-    all_allowed (Divide m) = tt
-    all_allowed (Modulo m) = tt
-    all_allowed (Get m) = tt
-    all_allowed (Set m) = tt
-    all_allowed (Index m) = tt
-    all_allowed (Combine g) = tt
-    all_allowed (Load width place) = tt
-    all_allowed (Peek place) = tt
+    pub all_allowed : (i : Instruction) → reads_input i ≡ false → IsAllowed f aside d v K M O i
+    all_allowed (Make form place m) e = may place
+    all_allowed (MakePool place m k) e = may place
+    all_allowed (Store width place) e = may place
+    all_allowed (Free place) e = may place
+    all_allowed (Take place) e = may place
+    all_allowed (Give place) e = may place
+    all_allowed (Poke place) e = may place
+    all_allowed (Open place service m) e = may place
+    all_allowed (Upgrade place m) e = may place
+    all_allowed (Call place) e = may place
+    all_allowed (Close place) e = may place
+    all_allowed (Say text) e = tt
+    all_allowed Out e = tt
+    all_allowed (Operands s) e = unread_same (bench d) (aside.inputs d.leaf.inputs) s e
+    all_allowed (Load width place) e = tt
+    all_allowed (Peek place) e = tt
 
   not_own : (place : Place) → is_own place ≡ false → May place
   not_own (Own i) e = absurd (true≢false e)
   not_own (Shared i) e = tt
   not_own Object e = tt
 
-  none_allowed : (i : Instruction) → changes_own i ≡ false → IsAllowed f n most d v K M O i
-  none_allowed (Make form place m) e = not_own place e
-  none_allowed (MakePool place m k) e = not_own place e
-  none_allowed (Store width place) e = not_own place e
-  none_allowed (Free place) e = not_own place e
-  none_allowed (Take place) e = not_own place e
-  none_allowed (Give place) e = not_own place e
-  none_allowed (Poke place) e = not_own place e
-  none_allowed (Open place service m) e = not_own place e
-  none_allowed (Upgrade place m) e = not_own place e
-  none_allowed (Call place) e = not_own place e
-  none_allowed (Close place) e = not_own place e
-  none_allowed (Say text) e = tt
-  none_allowed Out e = tt
-  none_allowed Drop e = tt
-  none_allowed Dup e = tt
-  none_allowed (Push m) e = tt
-  none_allowed (Divide m) e = tt
-  none_allowed (Modulo m) e = tt
-  none_allowed (Get m) e = tt
-  none_allowed (Set m) e = tt
-  none_allowed (Index m) e = tt
-  none_allowed (Combine g) e = tt
-  none_allowed (Load width place) e = tt
-  none_allowed (Peek place) e = tt
+  none_allowed : (i : Instruction) → changes_own i ≡ false → reads_input i ≡ false → IsAllowed f aside d v K M O i
+  none_allowed (Make form place m) e r = not_own place e
+  none_allowed (MakePool place m k) e r = not_own place e
+  none_allowed (Store width place) e r = not_own place e
+  none_allowed (Free place) e r = not_own place e
+  none_allowed (Take place) e r = not_own place e
+  none_allowed (Give place) e r = not_own place e
+  none_allowed (Poke place) e r = not_own place e
+  none_allowed (Open place service m) e r = not_own place e
+  none_allowed (Upgrade place m) e r = not_own place e
+  none_allowed (Call place) e r = not_own place e
+  none_allowed (Close place) e r = not_own place e
+  none_allowed (Say text) e r = tt
+  none_allowed Out e r = tt
+  none_allowed (Operands s) e r = unread_same (bench d) (aside.inputs d.leaf.inputs) s r
+  none_allowed (Load width place) e r = tt
+  none_allowed (Peek place) e r = tt
 
-  first_allowed : (R : World → World → Type 0) (todo : Statements) → ((i : Instruction) (rest : Statements) → todo ≡ Do i rest → IsAllowed f n most d v K M O i)
-      → FirstAllowed f n most d v K R M O todo
+  pub first_allowed : (R : World → World → Type 0) (todo : Statements)
+      → ((i : Instruction) (rest : Statements) → todo ≡ Do i rest → IsAllowed f aside d v K M O i)
+      → FirstAllowed f aside d v K R M O todo
   first_allowed R Done h = tt
   first_allowed R (Do i rest) h = h i rest refl
   first_allowed R (If arm other rest) h = tt
@@ -129,6 +135,9 @@ module _ (u : System) (pays : (z : World) → paid u z ≡ true) (g h : Tracked)
     abbrev f : ℕ → ℕ
     f = own.f u pays g h t th i x s sx component a b there there_h
 
+    abbrev aside : Aside
+    aside = own.aside u pays g h t th i x s sx component a b there there_h
+
     abbrev d : Doing
     d = own.d u pays g h t th i x s sx component a b there there_h
 
@@ -145,28 +154,31 @@ module _ (u : System) (pays : (z : World) → paid u z ≡ true) (g h : Tracked)
     O = own.O u pays g h t th i x s sx component a b there there_h
 
     pub allowed : (a.current ≡ None → x ≡ i) → ((q : Current) → a.current ≡ Some q → g.root q.session ≡ i)
-        → FirstAllowed f (suc b.steps) b.peaks d h.world K R M O a.todo
-    allowed main section = first_allowed f (suc b.steps) b.peaks d h.world K M O R a.todo (λ instr rest is. by a.current refl instr rest is)
+        → FirstAllowed f aside d h.world K R M O a.todo
+    allowed main section = first_allowed f aside d h.world K M O R a.todo (λ instr rest is. by a.current refl instr rest is)
       where
-        may : g.own x ≡ i → (is_unshared u x ≡ false → a.current ≡ None) → (place : Place) → MayChange f (suc b.steps) b.peaks d h.world K M O place
+        may : g.own x ≡ i → (is_unshared u x ≡ false → a.current ≡ None) → (place : Place) → MayChange f aside d h.world K M O place
         may own shared (Own k) = (own, refl, shared, main)
         may own shared (Shared k) = tt
         may own shared Object = tt
 
         by : (current : Option Current) → a.current ≡ current → (instr : Instruction) (rest : Statements) → a.todo ≡ Do instr rest
-            → IsAllowed f (suc b.steps) b.peaks d h.world K M O instr
+            → IsAllowed f aside d h.world K M O instr
         by None e instr rest begins =
-            all_allowed f (suc b.steps) b.peaks d h.world K M O (may (ap g.own (main e) ∙ lives_who u g t i x is) (λ shared. e)) instr
+            all_allowed f aside d h.world K M O (may (ap g.own (main e) ∙ lives_who u g t i x is) (λ shared. e)) instr
+            (stateless.unread x a instr rest there begins)
         by (Some q) e instr rest begins = of (is_unshared u x) refl
           where
             true_false : true ≡ false → ⊥
             true_false = true≢false
 
-            of : (single : Bool) → is_unshared u x ≡ single → IsAllowed f (suc b.steps) b.peaks d h.world K M O instr
+            of : (single : Bool) → is_unshared u x ≡ single → IsAllowed f aside d h.world K M O instr
             of true single =
                 let own = busy_below u g t x a.phase q (ap stance_in there ∙ ap (λ o. Some (stance a.phase o)) e) single ∙ section q e in
-                all_allowed f (suc b.steps) b.peaks d h.world K M O (may own (λ shared. absurd (true_false (sym single ∙ shared)))) instr
-            of false shared = none_allowed f (suc b.steps) b.peaks d h.world K M O instr (stateless x a q instr rest there e shared begins)
+                all_allowed f aside d h.world K M O (may own (λ shared. absurd (true_false (sym single ∙ shared)))) instr
+                (stateless.unread x a instr rest there begins)
+            of false shared = none_allowed f aside d h.world K M O instr (stateless.keeps x a q instr rest there e shared begins)
+                (stateless.unread x a instr rest there begins)
 
   pub main_of : (w : IsWorking g i x) → w.at.leaf.current ≡ None → x ≡ i
   main_of w none = sym (ap (thread_by g.root x) none) ∙ w.at.thread

@@ -5,37 +5,37 @@ use Rattle.gq_model.specs.machine.World.{Slot, Empty, Bytes, Pool, Link, Waiting
 use Rattle.gq_laws.specs.internal.Renamed.{renamed_slot, renamed_spot, renamed_current, renamed_leaf, renamed_session, renamed_request}
 use Rattle.gq_determined.specs.internal.Threads.{Tracked, slots_of, seen, among, IsAtSame, IsSameRegion, IsSameThread}
 
-abbrev same : ℕ → ℕ
+abbrev pub same : ℕ → ℕ
 same k = k
 
-slot_itself : (slot : Slot) → renamed_slot same slot ≡ slot
+pub slot_itself : (slot : Slot) → renamed_slot same slot ≡ slot
 slot_itself Empty = refl
 slot_itself (Bytes form n bytes) = refl
 slot_itself (Pool n entries) = refl
 slot_itself (Link k) = refl
 slot_itself (Waiting k) = refl
 
-slots_itself : (slots : List Slot) → map (renamed_slot same) slots ≡ slots
+pub slots_itself : (slots : List Slot) → map (renamed_slot same) slots ≡ slots
 slots_itself [] = refl
 slots_itself (slot ∷ slots) = λ e. slot_itself slot e ∷ slots_itself slots e
 
-spot_itself : (q : Spot) → renamed_spot same q ≡ q
+pub spot_itself : (q : Spot) → renamed_spot same q ≡ q
 spot_itself (In_leaf x i) = refl
 spot_itself (In_session k i) = refl
 spot_itself (In_object k) = refl
 
-current_itself : (current : Option Current) → option_map (renamed_current same) current ≡ current
+pub current_itself : (current : Option Current) → option_map (renamed_current same) current ≡ current
 current_itself None = refl
 current_itself (Some h) = refl
 
-session_itself : (s : Session) → renamed_session same s ≡ s
+pub session_itself : (s : Session) → renamed_session same s ≡ s
 session_itself s = λ e. record s { spot = spot_itself s.spot e; object = slot_itself s.object e; slots = slots_itself s.slots e }
 
 requests_itself : (rs : List Request) → map (renamed_request same) rs ≡ rs
 requests_itself [] = refl
 requests_itself (r ∷ rs) = ap (λ l. r ∷ l) (requests_itself rs)
 
-leaf_itself : (leaf : Leaf) → renamed_leaf same leaf ≡ leaf
+pub leaf_itself : (leaf : Leaf) → renamed_leaf same leaf ≡ leaf
 leaf_itself leaf = λ e. record leaf { current = current_itself leaf.current e; slots = slots_itself leaf.slots e }
 
 at_itself : (y : ℕ) (w : World) → IsAtSame same y w w

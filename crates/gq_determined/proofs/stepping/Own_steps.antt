@@ -20,7 +20,7 @@ use Rattle.gq_laws.proofs.Stepping.{free_none, outlined}
 use Rattle.gq_laws.specs.internal.Renamed.{renamed_slot, renamed_leaf}
 use Rattle.gq_determined.specs.internal.Threads.{Tracked, thread_by, anew, works, works_for, is_active, among, slots_of, seen, seen_by, IsAtSame, IsSameRegion}
 use Rattle.gq_determined.specs.internal.Threads.{IsSameThread}
-use Rattle.gq_determined.proofs.passing.Kept_by_steps.{other_doing}
+use Rattle.gq_determined.proofs.passing.Kept_by_steps.{Aside, other_doing}
 use Rattle.gq_determined.proofs.passing.Kept_around.{AreTaken, Match, FirstAllowed, both_step}
 use Rattle.gq_determined.proofs.regions.Elsewhere.{else_first}
 use Rattle.gq_determined.proofs.regions.Related.{IsBelow, Ours, Mine, IsRelated, IsRelatedWithin, IsBefore}
@@ -56,18 +56,18 @@ each_asked w P f (r ∷ rs) each =
 
 -- what a leaf that takes a step is seen at
 abbrev plain : Leaf → Leaf
-plain l = record l { slots = []; peaks = []; steps = 0 }
+plain l = record l { slots = []; peaks = []; steps = 0; inputs = [] }
 
 seen_plain : (l : Leaf) → (l.phase ≡ Running) ⊎ (l.phase ≡ Handling) → seen l ≡ plain l
 seen_plain l (inl e) = ap (λ p. seen_by p l) e ∙ (λ j. record (plain l) { phase = sym e j })
 seen_plain l (inr e) = ap (λ p. seen_by p l) e ∙ (λ j. record (plain l) { phase = sym e j })
 
--- a leaf that takes up a request keeps its slots, peaks and steps alone
+-- a leaf that takes up a request keeps its slots, peaks, steps and inputs alone
 accept_leaf : (d : Doing) (l : Leaf) (o : Option (Request × List Request)) → l.slots ≡ d.leaf.slots → l.peaks ≡ d.leaf.peaks → l.steps ≡ d.leaf.steps
-    → accept_oldest (record d { leaf = l }) o ≡ accept_oldest d o
-accept_leaf d l None slots peaks steps = refl
-accept_leaf d l (Some p) slots peaks steps =
-    λ j. accept (record d { leaf = record d.leaf { slots = slots j; peaks = peaks j; steps = steps j } }) p.0 p.1
+    → l.inputs ≡ d.leaf.inputs → accept_oldest (record d { leaf = l }) o ≡ accept_oldest d o
+accept_leaf d l None slots peaks steps inputs = refl
+accept_leaf d l (Some p) slots peaks steps inputs =
+    λ j. accept (record d { leaf = record d.leaf { slots = slots j; peaks = peaks j; steps = steps j; inputs = inputs j } }) p.0 p.1
 
 module _ (u : System) (pays : (z : World) → paid u z ≡ true) (g h : Tracked) (t : IsTracked u g) (th : IsTracked u h) (i x : ℕ)
     (s : IsSameThread i g h) (sx : g.own x ≢ i → IsSameThread (g.own x) g h) (component : Component) (a b : Leaf)
@@ -249,12 +249,12 @@ module _ (u : System) (pays : (z : World) → paid u z ≡ true) (g h : Tracked)
     takes : TakesLeaf d
     takes = record { old = a; there = there; slots = refl; phase = refl; current = refl }
 
-    before : (n : ℕ) (most : List ℕ) → IsBefore f n most d h.world i g.own root other c
-    before n most = record {
+    before : (aside : Aside) → IsBefore f aside d h.world i g.own root other c
+    before aside = record {
       takes = takes;
       linked = t.linked;
       pays = pays;
-      related = record { regions = regions; at = at_c; rest = else_first d i g.own root c (Ours f n most d h.world i g.own root other c) takes };
+      related = record { regions = regions; at = at_c; rest = else_first d i g.own root c (Ours f aside d h.world i g.own root other c) takes };
       here = ap (λ b. works g i x || b) (equal_self x) ∙ or_right (works g i x);
       active = o.active;
       current = current_root;
@@ -325,26 +325,27 @@ module _ (u : System) (pays : (z : World) → paid u z ≡ true) (g h : Tracked)
             ∙ ap (option_map (λ l. renamed_leaf f (seen l))) (sym there));
       }
 
-  abbrev pub n : ℕ
-  n = suc b.steps
+  -- steps, peaks and inputs are those of the leaf in the other world
+  abbrev pub aside : Aside
+  aside = record { steps = λ n. suc b.steps; peaks = λ most. b.peaks; inputs = λ given. b.inputs }
 
   abbrev pub e : Doing
-  e = other_doing f n b.peaks d h.world
+  e = other_doing f aside d h.world
 
   abbrev pub R : World → World → Type 0
-  R = IsRelated f n b.peaks d h.world i g.own root other c
+  R = IsRelated f aside d h.world i g.own root other c
 
   abbrev pub K : World → World → Type 0
-  K = IsRelatedWithin f n b.peaks d h.world i g.own root other c
+  K = IsRelatedWithin f aside d h.world i g.own root other c
 
   abbrev pub M : ℕ → Type 0
-  M = Mine f n b.peaks d h.world i g.own root other c
+  M = Mine f aside d h.world i g.own root other c
 
   abbrev pub O : Spot → Type 0
-  O = Ours f n b.peaks d h.world i g.own root other c
+  O = Ours f aside d h.world i g.own root other c
 
   abbrev pub d_h : Doing
-  d_h = record { system = u; world = h.world; x = x; component = component; leaf = record b { steps = n } }
+  d_h = record { system = u; world = h.world; x = x; component = component; leaf = record b { steps = suc b.steps } }
 
   slots_same : b.slots ≡ map (renamed_slot f) a.slots
   slots_same = some_same (ap (option_map slots_of) (sym there_h) ∙ ((regions (g.own x) (inr refl)).slots x refl
@@ -359,15 +360,16 @@ module _ (u : System) (pays : (z : World) → paid u z ≡ true) (g h : Tracked)
       shown = sym (seen_plain b q) ∙ (some_same (ap (option_map seen) (sym there_h) ∙ (at ∙ ap (option_map (λ l. renamed_leaf f (seen l))) there))
           ∙ ap (renamed_leaf f) (seen_plain a p))
 
-      leaf : record b { steps = n } ≡ e.leaf
-      leaf = λ j. record (shown j) { slots = slots_same j; peaks = b.peaks; steps = n }
+      leaf : record b { steps = suc b.steps } ≡ e.leaf
+      leaf = λ j. record (shown j) { slots = slots_same j; peaks = b.peaks; steps = suc b.steps; inputs = b.inputs }
 
       phase : b.phase ≡ a.phase
       phase = ap (λ (l : Leaf). l.phase) shown
 
   serving_same : a.phase ≡ Serving → b.phase ≡ Serving → step_in d_h b.phase ≡ step_in e a.phase
   serving_same p q =
-      ap (step_in d_h) q ∙ (accept_leaf e (record b { steps = n }) (oldest h.world x h.world.requests) slots_same refl refl ∙ ap (step_in e) (sym p))
+      ap (step_in d_h) q
+      ∙ (accept_leaf e (record b { steps = suc b.steps }) (oldest h.world x h.world.requests) slots_same refl refl refl ∙ ap (step_in e) (sym p))
 
   next_here : slice_get u.components x ≡ Some component → next u g.world x ≡ step_in d a.phase
   next_here placed = λ j. step_of u g.world x (placed j) (there j)
@@ -381,15 +383,15 @@ module _ (u : System) (pays : (z : World) → paid u z ≡ true) (g h : Tracked)
     pub goes : next u h.world x ≡ Ok (other_new, event)
     pub related : R new other_new
 
-  run : (o : IsFor) → slice_get u.components x ≡ Some component → ((a.phase ≡ Serving → ⊥) → FirstAllowed f n b.peaks d h.world K R M O a.todo)
+  run : (o : IsFor) → slice_get u.components x ≡ Some component → ((a.phase ≡ Serving → ⊥) → FirstAllowed f aside d h.world K R M O a.todo)
       → step_in d_h b.phase ≡ step_in e a.phase
-      → (a.phase ≡ Serving → Match f n b.peaks d h.world K R M O (oldest g.world x g.world.requests) (oldest h.world x h.world.requests))
+      → (a.phase ≡ Serving → Match f aside d h.world K R M O (oldest g.world x g.world.requests) (oldest h.world x h.world.requests))
       → (a.phase ≡ Serving → (p : Request × List Request) → oldest g.world x g.world.requests ≡ Some p
-      → IsOne f n b.peaks d h.world i g.own root other c (before o n b.peaks) p)
+      → IsOne f aside d h.world i g.own root other c (before o aside) p)
       → (new : World) (event : Event) → next u g.world x ≡ Ok (new, event) → Goes new event
   run o placed allowed same matches ones new event stepped =
-      let both = both_step f n b.peaks d h.world K R M O (takes o) t.linked
-      (kept_around f n b.peaks d h.world i g.own root other c (before o n b.peaks) matches ones)
+      let both = both_step f aside d h.world K R M O (takes o) t.linked
+      (kept_around f aside d h.world i g.own root other c (before o aside) matches ones)
       a.phase refl allowed in
       let r = both.holds new event (sym (next_here placed) ∙ stepped) in
       record { other_new = r.0; goes = next_there placed ∙ (same ∙ r.1); related = r.2 }
@@ -405,7 +407,7 @@ module _ (u : System) (pays : (z : World) → paid u z ≡ true) (g h : Tracked)
   not_serving (inr p) e = serving_handling (sym p ∙ e)
 
   pub goes_working : IsWorking g i x → IsWorking h i x → slice_get u.components x ≡ Some component
-      → ((a.phase ≡ Serving → ⊥) → FirstAllowed f n b.peaks d h.world K R M O a.todo)
+      → ((a.phase ≡ Serving → ⊥) → FirstAllowed f aside d h.world K R M O a.todo)
       → (new : World) (event : Event) → next u g.world x ≡ Ok (new, event) → Goes new event
   goes_working w v placed allowed =
       let o = for_working w in
@@ -414,13 +416,13 @@ module _ (u : System) (pays : (z : World) → paid u z ≡ true) (g h : Tracked)
       run o placed allowed (working_same o.at p q) (λ e. absurd (not_serving p e)) (λ e. absurd (not_serving p e))
 
   pub goes_serving : ServesSame u g h t th i s x → slice_get u.components x ≡ Some component
-      → ((a.phase ≡ Serving → ⊥) → FirstAllowed f n b.peaks d h.world K R M O a.todo)
+      → ((a.phase ≡ Serving → ⊥) → FirstAllowed f aside d h.world K R M O a.todo)
       → (new : World) (event : Event) → next u g.world x ≡ Ok (new, event) → Goes new event
   goes_serving w placed allowed =
       run (for_serving w) placed allowed
       (serving_same phase (ap (λ (l : Leaf). l.phase) (sym (some_same (sym w.other.there ∙ there_h))) ∙ w.other.serves))
-      (λ e. subst (λ o. Match f n b.peaks d h.world K R M O o (oldest h.world x h.world.requests)) (sym w.first.found)
-      (subst (λ o. Match f n b.peaks d h.world K R M O (Some w.first.taken) o) (sym w.other.found) taken))
+      (λ e. subst (λ o. Match f aside d h.world K R M O o (oldest h.world x h.world.requests)) (sym w.first.found)
+      (subst (λ o. Match f aside d h.world K R M O (Some w.first.taken) o) (sym w.other.found) taken))
       (λ e p found.
       let is : w.first.taken ≡ p = some_same (sym w.first.found ∙ found) in
       record {
@@ -441,7 +443,7 @@ module _ (u : System) (pays : (z : World) → paid u z ≡ true) (g h : Tracked)
       root_is : root k ≡ i
       root_is = anew_else g.root k0 i k (not_free g.world k m.0 m.1) ∙ w.first.root
 
-      taken : AreTaken f n b.peaks d h.world K R M O w.first.taken w.other.taken
+      taken : AreTaken f aside d h.world K R M O w.first.taken w.other.taken
       taken = record {
         serves = phase;
         first = w.first.found;

@@ -21,9 +21,10 @@ use Rattle.gq_laws.specs.internal.Left.{AllAre}
 use Rattle.gq_laws.specs.internal.Uncounted.{uncounted}
 use Rattle.gq_laws.proofs.holding.Uncounted.{step_same}
 use Rattle.gq_laws.proofs.turning.Steps.{stands_still}
-use Rattle.gq_races.specs.Races.{writes_line, IsRaceFree, IsOrderFree}
+use Rattle.gq_races.specs.Races.{is_order, writes_line, IsRaceFree, IsOrderFree}
 use Rattle.gq_determined.specs.Determined.{lines_of, IsFront, IsLeaf, WritesSame}
 use Rattle.gq_determined.specs.internal.Threads.{is_unshared, Tracked, who, thread_by, past_of}
+use Rattle.gq_determined.specs.internal.Unset.{turns_alone}
 use Rattle.gq_determined.proofs.standing.Orderly.{IsTracked, busy_below}
 use Rattle.gq_determined.proofs.standing.Places.{IsWorking, IsServing, who_is}
 use Rattle.gq_determined.proofs.running.Openers.{KeepsAway, away_sections}
@@ -31,6 +32,7 @@ use Rattle.gq_determined.proofs.running.Runs.{all_tracked, ready_at, before, tur
 use Rattle.gq_determined.proofs.running.Leaf_fronts.{IsFrontOf, leaf_fronts}
 use Rattle.gq_determined.proofs.running.Sound_runs.{all_pay, all_left, placed, good}
 use Rattle.gq_determined.proofs.running.At_rest.{at, no_thread, rest_same}
+use Rattle.gq_determined.proofs.unread.Left_out.{write_same}
 use Rattle.gq_determined.proofs.writing.Lines.{lines_told}
 use Rattle.gq_determined.proofs.writing.Silent.{IsNextSilent, silent_line, event_silent}
 
@@ -67,8 +69,8 @@ module _ (s : Scenario) (sound : IsSound s) (none : IsRaceFree s) (quiet : IsOrd
         → is_some current ≡ true → is_unshared u y ≡ false → IsNextSilent leaf.todo
     first_silent leaf there current at some shared =
         let c = placed s sound a y leaf there in
-        by c.0 leaf.todo ((all_left s sound (λ x c later i. KeepsAway writes_line u x later i) (away_sections writes_line s sound quiet) a).at y leaf there
-        c.0 c.1).0
+        let sections = away_sections is_order writes_line (λ i e. e) s sound quiet in
+        by c.0 leaf.todo ((all_left s sound (λ x c later i. KeepsAway writes_line u x later i) sections a).at y leaf there c.0 c.1).0
       where
         by : (c : Component) (todo : Statements) → AllAre (KeepsAway writes_line u y (is_some leaf.current)) todo → IsNextSilent todo
         by c Done h = tt
@@ -157,7 +159,7 @@ module _ (s : Scenario) (sound : IsSound s) (none : IsRaceFree s) (quiet : IsOrd
             ∙ (ap (λ b. texts label (cond (b && own) ((now a).wrote x ++ p.1 ∷ []) ((now a).wrote x))) (sym flip)
             ∙ of i e (y == x) own refl (sym flip) refl))
 
-    pub lines_wrote : (turns : List (ℕ × ℕ)) → lines_of s x turns ≡ told (past_of turns)
+    pub lines_wrote : (turns : List (ℕ × ℕ)) → lines_of s x (turns_alone turns) ≡ told (past_of turns)
     lines_wrote = lines_told s sound (stands_still (system s)) x told refl goes
 
   front_of : (label : List ℕ) (one other : List Event) → IsFrontOf one other → IsFront (texts label one) (texts label other)
@@ -167,10 +169,10 @@ module _ (s : Scenario) (sound : IsSound s) (none : IsRaceFree s) (quiet : IsOrd
   moved a b c d e g f = (f.0, g ∙ (f.1 ∙ ap (λ l. l ++ f.0) (sym e)))
 
   pub all_write_same : WritesSame s (IsLeaf s)
-  all_write_same = record { lines = lines; fronts = fronts }
+  all_write_same = write_same s sound none (IsLeaf s) lines fronts
     where
-      lines : (turns others : List (ℕ × ℕ)) → AllRest (run (system s) turns).world → AllRest (run (system s) others).world → (x : ℕ) → IsLeaf s x
-          → lines_of s x turns ≡ lines_of s x others
+      lines : (turns others : List (ℕ × ℕ)) → AllRest (run (system s) (turns_alone turns)).world → AllRest (run (system s) (turns_alone others)).world
+          → (x : ℕ) → IsLeaf s x → lines_of s x (turns_alone turns) ≡ lines_of s x (turns_alone others)
       lines turns others rest rest_other x p =
           let g = now (past_of turns) in
           let r = rest_same s sound (stands_still (system s)) none turns others rest rest_other in
@@ -179,7 +181,8 @@ module _ (s : Scenario) (sound : IsSound s) (none : IsRaceFree s) (quiet : IsOrd
           ∙ (ap (texts (label_at (slice_get (system s).components x))) ((r.same (g.own x) whole).wrote x refl) ∙ sym (lines_wrote x others))
 
       fronts : (turns others : List (ℕ × ℕ)) (x : ℕ) → IsLeaf s x
-          → IsFront (lines_of s x turns) (lines_of s x others) ⊎ IsFront (lines_of s x others) (lines_of s x turns)
+          → IsFront (lines_of s x (turns_alone turns)) (lines_of s x (turns_alone others))
+          ⊎ IsFront (lines_of s x (turns_alone others)) (lines_of s x (turns_alone turns))
       fronts turns others x p =
           let label = label_at (slice_get (system s).components x) in
           let g = now (past_of turns) in

@@ -20,13 +20,14 @@ use Rattle.gq_laws.proofs.progress.Lasting.{server_some}
 use Rattle.gq_laws.proofs.Stepping.{outlined}
 use Rattle.gq_laws.specs.Sound.{IsSound}
 use Rattle.gq_laws.specs.internal.Uncounted.{uncounted}
-use Rattle.gq_laws.specs.Progress.{each_turn, world_after}
+use Rattle.gq_laws.specs.Progress.{world_after}
 use Rattle.gq_laws.specs.Turns.{StandsStill}
 use Rattle.gq_laws.specs.Alone.{lines_from}
 use Rattle.gq_laws.proofs.holding.Uncounted.{step_same}
 use Rattle.gq_determined.specs.Determined.{lines_of}
 use Rattle.gq_determined.specs.internal.Machines.{is_for}
 use Rattle.gq_determined.specs.internal.Threads.{Tracked, who, who_of, who_by, asker, thread_by, tracked_after, shown_by, shows, events_of, turned, past_of}
+use Rattle.gq_determined.specs.internal.Unset.{each_turn, turns_alone}
 use Rattle.gq_determined.proofs.running.Sound_runs.{goes_by, all_stand}
 use Rattle.gq_determined.proofs.running.At_rest.{at, next_world, no_thread}
 
@@ -111,20 +112,20 @@ module _ (s : Scenario) (sound : IsSound s) (idle : (w : World) (x : ℕ) → St
   turned_more (z ∷ xs) ys a = turned_more xs ys (z ∷ a)
 
   lines_ran : (turns : List (ℕ × ℕ)) (a text : List ℕ)
-      → told (turned (each_turn turns) a) ≡ told a ++ lines_from (system s) (λ y. y == x) turns (ran_at a text)
+      → told (turned (each_turn turns) a) ≡ told a ++ lines_from (system s) (λ y. y == x) (turns_alone turns) (ran_at a text)
   lines_ran [] a text = sym (append-nil (told a))
   lines_ran (t ∷ turns) a text =
       let one = turns_ran t.0 t.1 a [] in
       let next_a = turned (replicate t.1 t.0) a in
       ap told (turned_more (replicate t.1 t.0) (each_turn turns) a)
       ∙ (lines_ran turns next_a one.0
-      ∙ (ap (λ l. l ++ lines_from (system s) (λ y. y == x) turns (ran_at next_a one.0)) one.2
-      ∙ (append_assoc (told a) (cond (t.0 == x) one.0 []) (lines_from (system s) (λ y. y == x) turns (ran_at next_a one.0))
-      ∙ ap (λ (ran : Ran). told a ++ (cond (t.0 == x) ran.text [] ++ lines_from (system s) (λ y. y == x) turns ran)) (sym one.1))))
+      ∙ (ap (λ l. l ++ lines_from (system s) (λ y. y == x) (turns_alone turns) (ran_at next_a one.0)) one.2
+      ∙ (append_assoc (told a) (cond (t.0 == x) one.0 []) (lines_from (system s) (λ y. y == x) (turns_alone turns) (ran_at next_a one.0))
+      ∙ ap (λ (ran : Ran). told a ++ (cond (t.0 == x) ran.text [] ++ lines_from (system s) (λ y. y == x) (turns_alone turns) ran)) (sym one.1))))
 
   -- the lines of the leaf in a run
-  pub lines_told : (turns : List (ℕ × ℕ)) → lines_of s x turns ≡ told (past_of turns)
-  lines_told turns = sym (lines_ran turns [] [] ∙ ap (λ l. l ++ lines_of s x turns) begins)
+  pub lines_told : (turns : List (ℕ × ℕ)) → lines_of s x (turns_alone turns) ≡ told (past_of turns)
+  lines_told turns = sym (lines_ran turns [] [] ∙ ap (λ l. l ++ lines_of s x (turns_alone turns)) begins)
 
 -- A LEAF WHOSE STEPS ARE ALL FOR ITS OWN THREAD
 
@@ -189,7 +190,7 @@ module _ (s : Scenario) (sound : IsSound s) (idle : (w : World) (x : ℕ) → St
           none false = refl
 
   -- the lines of the leaf in a run
-  pub lines_are : (turns : List (ℕ × ℕ)) → lines_of s x turns ≡ said x label (shown (past_of turns))
+  pub lines_are : (turns : List (ℕ × ℕ)) → lines_of s x (turns_alone turns) ≡ said x label (shown (past_of turns))
   lines_are = lines_told s sound idle x (λ a. said x label (shown a)) refl turn_shows
 
 -- A LEAF THAT PROVIDES NOTHING

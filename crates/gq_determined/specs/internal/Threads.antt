@@ -8,7 +8,6 @@ use Rattle.gq_model.specs.declared.phase.Phase.TheVariants.{Pending, Running, Bl
 use Rattle.gq_model.specs.machine.Program.{Done}
 use Rattle.gq_model.specs.machine.Scenario.{Scenario, System, Component, system}
 use Rattle.gq_model.specs.machine.Run.{run}
-use Rattle.gq_laws.specs.Progress.{each_turn}
 use Rattle.gq_laws.specs.internal.Uncounted.{uncounted}
 use Rattle.gq_model.specs.machine.World.{Slot, Session, Request, Current, Leaf, World, joined, start}
 use Rattle.gq_model.specs.machine.Doing.{Event, Stepped}
@@ -17,6 +16,7 @@ use Rattle.gq_model.specs.machine.Step.{oldest, next}
 use Rattle.gq_laws.specs.internal.Renamed.{renamed_slot, renamed_leaf, renamed_request, Correspond}
 use Rattle.gq_races.specs.Races.{opens_first, opens_later, is_shared}
 use Rattle.gq_determined.specs.internal.Machines.{after, shown}
+use Rattle.gq_determined.specs.internal.Unset.{each_turn, turns_alone}
 
 -- LEAVES THAT ARE NOT SHARED
 
@@ -145,15 +145,16 @@ works_for root i y (Some leaf) = is_active leaf.phase && (thread_by root y leaf.
 abbrev pub works : Tracked → ℕ → ℕ → Bool
 works g i y = works_for g.root i y (slice_get g.world.leaves y)
 
--- what a leaf is at: nothing where it serves; whether it has been started does not matter
+-- what a leaf is at: nothing where it serves; whether it has been started does not matter, nor do its inputs
 abbrev pub seen_by : Phase → Leaf → Leaf
-seen_by Pending leaf = record leaf { phase = Running; slots = []; peaks = []; steps = 0 }
-seen_by Running leaf = record leaf { phase = Running; slots = []; peaks = []; steps = 0 }
-seen_by Blocked leaf = record leaf { phase = Blocked; slots = []; peaks = []; steps = 0 }
-seen_by Handling leaf = record leaf { phase = Handling; slots = []; peaks = []; steps = 0 }
+seen_by Pending leaf = record leaf { phase = Running; slots = []; peaks = []; steps = 0; inputs = [] }
+seen_by Running leaf = record leaf { phase = Running; slots = []; peaks = []; steps = 0; inputs = [] }
+seen_by Blocked leaf = record leaf { phase = Blocked; slots = []; peaks = []; steps = 0; inputs = [] }
+seen_by Handling leaf = record leaf { phase = Handling; slots = []; peaks = []; steps = 0; inputs = [] }
 seen_by Serving leaf =
-    record { phase = Serving; current = None; todo = Done; loops = []; operands = []; locals = []; slots = []; peaks = []; steps = 0 }
-seen_by Exited leaf = record { phase = Exited; current = None; todo = Done; loops = []; operands = []; locals = []; slots = []; peaks = []; steps = 0 }
+    record { phase = Serving; current = None; todo = Done; loops = []; operands = []; locals = []; slots = []; peaks = []; steps = 0; inputs = [] }
+seen_by Exited leaf =
+    record { phase = Exited; current = None; todo = Done; loops = []; operands = []; locals = []; slots = []; peaks = []; steps = 0; inputs = [] }
 
 abbrev pub seen : Leaf → Leaf
 seen leaf = seen_by leaf.phase leaf
@@ -234,8 +235,8 @@ past_of turns = turned (each_turn turns) []
 
 -- where all work is at rest in both runs, each thread has the same, if it has its own leaf, and has shown the same; and the runs end in these worlds
 pub record SameAtRest (s : Scenario) (turns others : List (ℕ × ℕ)) : Type 0 where
-  pub world : (run (system s) turns).world ≡ (tracked_after (uncounted (system s)) (past_of turns)).world
-  pub other : (run (system s) others).world ≡ (tracked_after (uncounted (system s)) (past_of others)).world
+  pub world : (run (system s) (turns_alone turns)).world ≡ (tracked_after (uncounted (system s)) (past_of turns)).world
+  pub other : (run (system s) (turns_alone others)).world ≡ (tracked_after (uncounted (system s)) (past_of others)).world
   -- the same threads have their own leaves, and each of these has the same
   pub same : (i : ℕ) → (tracked_after (uncounted (system s)) (past_of turns)).own i ≡ i
       → IsSameThread i (tracked_after (uncounted (system s)) (past_of turns)) (tracked_after (uncounted (system s)) (past_of others))

@@ -3,11 +3,12 @@ use Rattle.std.specs.Prelude.{◌≡◌, ℕ, ◌+◌, ◌==◌, List, [], ◌�
 use Rattle.gq_model.specs.texts.Letters.{is_digit, is_name, lines, pieces}
 use Rattle.gq_model.specs.machine.Lists.{all_of}
 use Rattle.gq_model.specs.machine.Routes.{numbered}
-use Rattle.gq_model.specs.machine.Scenario.{Component}
+use Rattle.gq_model.specs.declared.act.Act.{Act}
+use Rattle.gq_model.specs.machine.Scenario.{Scenario, Component}
 use Rattle.gq_model.specs.declared.fault.TurnFault.{TurnFault}
-use Rattle.gq_model.specs.texts.Turns.{says_nothing, turn_count, turn_in}
+use Rattle.gq_model.specs.texts.Turns.{says_nothing, turn_count}
 use Rattle.gq_scenario.specs.Lines.{lines_left}
-use Rattle.gq_init.specs.TurnLines.{line_turn}
+use Rattle.gq_init.specs.TurnLines.{given_in, line_turn}
 
 -- four bytes of the text
 abbrev pub four_at : List ℕ → ℕ → List ℕ
@@ -28,11 +29,11 @@ pub record IsCountAhead (text : List ℕ) (n : ℕ) (rest : List ℕ) : Type 0 w
   pub spells : turn_count digits ≡ Some n
 
 -- the first line of the text is a turn, and after its line feed comes the rest
-pub record IsTurnAhead (cs : List Component) (text : List ℕ) (turn : ℕ × ℕ) (rest : List ℕ) : Type 0 where
+pub record IsTurnAhead (s : Scenario) (text : List ℕ) (turn : ℕ × Act) (rest : List ℕ) : Type 0 where
   pub line : List ℕ
   pub is : lines text ≡ line ∷ lines rest
   pub says : says_nothing line ≡ false
-  pub turn_is : turn_in cs (pieces (λ c. c == 32) line) ≡ Ok turn
+  pub turn_is : given_in s (pieces (λ c. c == 32) line) ≡ Ok turn
   pub shorter : length rest < length text
 
 -- the first line of the text says nothing, and after its line feed comes the rest
@@ -42,7 +43,7 @@ pub record IsCommentAhead (text : List ℕ) (rest : Option (List ℕ)) : Type 0 
   pub says : says_nothing line ≡ true
 
 -- this is what the first line of the text says after n turns, and after its line feed comes the rest
-pub record IsLineAhead (cs : List Component) (n : ℕ) (text : List ℕ) (said : Result (Option (ℕ × ℕ)) TurnFault) (rest : Option (List ℕ)) : Type 0 where
+pub record IsLineAhead (s : Scenario) (n : ℕ) (text : List ℕ) (said : Result (Option (ℕ × Act)) TurnFault) (rest : Option (List ℕ)) : Type 0 where
   pub line : List ℕ
   pub is : lines text ≡ line ∷ lines_left rest
-  pub said_is : said ≡ line_turn cs n line
+  pub said_is : said ≡ line_turn s n line

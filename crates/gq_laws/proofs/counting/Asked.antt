@@ -149,7 +149,7 @@ module _ (promised : ℕ → Option Kind) (left : Requests) (d : Doing) (sure : 
   left_then y service q = left y service q - further y service q
 
   g : Grants promised (within c d.leaf.loops) (with_rest d rest)
-  g = grants promised (Within d.system left) (with_rest d rest) sure h t (section_of d.leaf.current) (counts_of d.leaf.loops) taken active at
+  g = grants promised (Within d.system left) (with_rest d rest) sure h t (section_of d.leaf.current) (counts_of d.leaf.loops) taken active at a.inputs
 
   meets : Meets promised (within c d.leaf.loops) a.state d.world (record d.leaf { todo = rest })
   meets = record {

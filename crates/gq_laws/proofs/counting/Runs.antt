@@ -12,6 +12,7 @@ use Rattle.gq_model.specs.machine.Step.{step_of, next}
 use Rattle.gq_model.specs.rules.Kinds.{in_main}
 use Rattle.gq_model.specs.rules.Use.{subject, is_there, from_sections, from_leaves, asked_of, provided_by, times, step_budget}
 use Rattle.gq_laws.specs.Links.{IsLinkedWorld}
+use Rattle.gq_laws.specs.Shapes.{IsWholeWorld}
 use Rattle.gq_laws.specs.Sound.{IsSound}
 use Rattle.gq_laws.specs.internal.Left.{AreLeft, IsGood}
 use Rattle.gq_laws.specs.Statements.{TakesLeaf}
@@ -77,10 +78,11 @@ same_world e = ap (λ (p : World × Event). p.0) (same_ok e)
     same_ok e = cc
 
 -- one turn
-next_counted : (system : System) → IsSure system → ProvidesNamed system → (w : World) → IsLinkedWorld system w → AreLeft (IsGood system) system w
+next_counted : (system : System) → IsSure system → ProvidesNamed system → (w : World) → IsWholeWorld system w → IsLinkedWorld system w
+    → AreLeft (IsGood system) system w
     → IsCounted system w
     → (x : ℕ) (new : World) (event : Event) → IsLinkedWorld system new → next system w x ≡ Ok (new, event) → IsCounted system new
-next_counted system sure named w h left k x new event linked stepped = turn (can_run system w x) refl
+next_counted system sure named w whole h left k x new event linked stepped = turn (can_run system w x) refl
   where
     idle : next system w x ≡ Ok (w, Idle) → IsCounted system new
     idle e = subst (IsCounted system) (same_world (sym e ∙ stepped)) k
@@ -93,7 +95,7 @@ next_counted system sure named w h left k x new event linked stepped = turn (can
         let d : Doing = record { system = system; world = w; x = x; component = c; leaf = record leaf { steps = suc leaf.steps } } in
         let taken : TakesLeaf d = record { old = leaf; there = f; slots = refl; phase = refl; current = refl } in
         let extra = Within system k.left in
-        let o = outcome k.promised extra d sure taken h k.typed e (left x c leaf e f).todo
+        let o = outcome k.promised extra d sure taken h k.typed e (left x c leaf e f).todo (whole.inputs x c leaf e f)
         (counted k.promised extra system w x c leaf (suc leaf.steps) leaf.phase (k.typed.leaves x c leaf e f)) in
         outcome_counted d sure named taken h e refl k new linked (one_more system w x leaf f new event can stepped) (o.ends new event g)
 
@@ -114,10 +116,10 @@ module _ (s : Scenario) (sound : IsSound s) where
   named : ProvidesNamed (system s)
   named x y c d service there routed at = provides_name d.node.provides service (server_provides s sound.formed.differ x y c d service there routed at)
 
-  pub counted_on : (w : World) → IsLinkedWorld (system s) w → AreLeft (IsGood (system s)) (system s) w → IsCounted (system s) w
+  pub counted_on : (w : World) → IsWholeWorld (system s) w → IsLinkedWorld (system s) w → AreLeft (IsGood (system s)) (system s) w → IsCounted (system s) w
       → (x : ℕ) (new : World) (event : Event) → next (system s) w x ≡ Ok (new, event) → IsCounted (system s) new
-  counted_on w linked left count x new event e =
-      next_counted (system s) sure named w linked left count x new event (kept_linked (system s) w x new event linked e) e
+  counted_on w whole linked left count x new event e =
+      next_counted (system s) sure named w whole linked left count x new event (kept_linked (system s) w x new event linked e) e
 
   pub counted_first : IsCounted (system s) (start (system s))
   counted_first = start_counted (system s) sure

@@ -3,7 +3,7 @@ use Rattle.std.proofs.Common.{◌≡◌, ◌≤◌, ◌==◌, ◌&&◌, ◌+◌,
 use Rattle.std.proofs.Common.{arith}
 use Rattle.std.specs.Prelude.{slice_get, slice_index, codes}
 use Rattle.std.proofs.lemmas.Bool.{leb-true, and_parts}
-use Rattle.gq_model.specs.machine.Amounts.{Resource, Ram, Caps, part, counted_in}
+use Rattle.gq_model.specs.machine.Amounts.{Resource, Ram, Caps, part, counts_caps, counted_in}
 use Rattle.gq_model.specs.machine.Scenario.{Scenario, Component, Nodes, End, Leaf_node, Init_node, components, system, below}
 use Rattle.gq_model.specs.machine.World.{Leaf, World}
 use Rattle.gq_model.specs.machine.Sums.{held, lent, received, handed, quota, is_paid, are_paid}
@@ -42,7 +42,7 @@ module _ (s : Scenario) (w : World) (h : IsUpheld s w) where
   leaf_keeps x c leaf placed there =
       let k = h.keeps_budgets x c placed in
       let pays = paid_one (counted_in s.version) w 0 (components s) w.leaves h.is_paid x c leaf placed there x (omega arith) in
-      let both = both_within x c leaf (s.version == 2) pays in
+      let both = both_within x c leaf (counts_caps s.version) pays in
       let told = steps_at (budgets s) x (budget_of s x c) k.told in
       let same : k.leaf.steps ≡ leaf.steps = ap (λ (l : Leaf). l.steps) (some_same (sym k.there ∙ there)) in
       let few = k.steps in

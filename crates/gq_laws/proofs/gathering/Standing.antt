@@ -16,6 +16,7 @@ use Rattle.gq_laws.specs.Stands.{Stands}
 use Rattle.gq_laws.specs.Links.{IsLinkedWorld}
 use Rattle.gq_laws.specs.internal.Uncounted.{uncounted}
 use Rattle.gq_laws.specs.internal.Left.{IsGood}
+use Rattle.gq_laws.specs.internal.Holding.{IsBounded}
 use Rattle.gq_laws.specs.internal.Counting.{IsCounted}
 use Rattle.gq_model.proofs.Small.{get_within}
 use Rattle.gq_laws.proofs.turning.Whole_worlds.{kept_whole, start_whole}
@@ -30,9 +31,11 @@ use Rattle.gq_laws.proofs.verified.Use_chains.{resolved_acyclic}
 use Rattle.gq_laws.proofs.verified.Times_bound.{counts_bounded}
 use Rattle.gq_laws.proofs.holding.Uncounted.{step_same}
 use Rattle.gq_laws.proofs.holding.Paid.{IsAmong, of_each, each_by, within_own}
+use Rattle.gq_laws.proofs.setting.Settings.{set_whole, set_linked, set_left, set_fit, set_typed, set_held, set_counted}
 use Rattle.gq_laws.proofs.holding.Runs.{Stands as HoldsAll, stands_on, stands_first as holds_first, interfaces, stands_paid, goes_on}
 use Rattle.gq_laws.proofs.counting.Runs.{steps_within, counted_on, counted_first}
 use Rattle.std.proofs.lemmas.Option.{slice_get_within}
+use Rattle.gq_model.specs.machine.Run.{set_input}
 
 resolved : (s : Scenario) → IsSound s → IsResolved s
 resolved s sound = record { differ = sound.formed.differ; fits = is_resolved s sound.accepted }
@@ -57,7 +60,15 @@ linked_same system w h =
 
 -- what is held, with all that its steps take for granted
 holds : (s : Scenario) (w : World) (h : Stands s w) → HoldsAll s h.sound w
-holds s w h = record { linked = linked_same (system s) w h.linked; left = h.left; promised = h.promised; typed = h.typed; held = h.held }
+holds s w h =
+    record {
+      whole = record { count = h.whole.count; leaves = h.whole.leaves; inputs = h.whole.inputs; sessions = h.whole.sessions };
+      linked = linked_same (system s) w h.linked;
+      left = h.left;
+      promised = h.promised;
+      typed = h.typed;
+      held = h.held;
+    }
 
 pub stands_first : (s : Scenario) → IsSound s → Stands s (start (system s))
 stands_first s sound =
@@ -85,8 +96,22 @@ stands_next s w x new event h e =
       promised = then.promised;
       typed = then.typed;
       held = then.held;
-      counted = counted_on s h.sound w h.linked h.left h.counted x new event e;
+      counted = counted_on s h.sound w h.whole h.linked h.left h.counted x new event e;
       fits = λ r. kept_fits r s (resolved s h.sound) w x new event h.linked (h.fits r) e;
+    }
+
+pub stands_set : (s : Scenario) (w : World) (x i n : ℕ) → Stands s w → Stands s (set_input (system s) w x i n)
+stands_set s w x i n h =
+    record {
+      sound = h.sound;
+      whole = set_whole (system s) w x i n h.whole;
+      linked = set_linked (system s) w x i n h.linked;
+      left = set_left (IsGood (system s)) (system s) w x i n h.left;
+      promised = h.promised;
+      typed = set_typed h.promised (IsBounded (uncounted (system s))) (system s) (uncounted (system s)) w x i n h.typed;
+      held = set_held (system s) (uncounted (system s)) w x i n h.held;
+      counted = set_counted (system s) w x i n h.counted;
+      fits = λ r. set_fit r s w x i n (h.fits r);
     }
 
 -- WHAT IS PROMISED

@@ -272,7 +272,7 @@ module _ (promised : ℕ → Option Kind) (d : Doing) (sure : IsSure d.system) (
       let meets : Meets promised c a.state d.world e.leaf =
       record { own = a.meets.own; current = a.meets.current; bank = a.meets.bank; operands = a.meets.operands; locals = a.meets.locals; loops = a.meets.loops }
       in
-      let grant = grants promised (IsBounded d.system) e sure h t (section_of d.leaf.current) (counts_of d.leaf.loops) taken active at in
+      let grant = grants promised (IsBounded d.system) e sure h t (section_of d.leaf.current) (counts_of d.leaf.loops) taken active at a.inputs in
       let asked = (asks_asked promised c e i new taken h active at w event is b).0 in
       let phase = ap (λ (l : Leaf). l.phase) (some_same (sym asked.there ∙ b.there)) ∙ b.phase in
       asked_by promised (promised_anew promised b.k b.kind) e sure taken h at held c a.state new

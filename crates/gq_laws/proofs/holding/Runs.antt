@@ -19,6 +19,7 @@ use Rattle.gq_model.specs.rules.Budgets.{own}
 use Rattle.gq_model.specs.rules.Use.{subject}
 use Rattle.gq_model.specs.Promises.{budget_of}
 use Rattle.gq_laws.specs.Links.{IsLinkedWorld}
+use Rattle.gq_laws.specs.Shapes.{IsWholeWorld}
 use Rattle.gq_laws.specs.Sound.{IsSound}
 use Rattle.gq_laws.specs.internal.Left.{AllAre, AreLeft, IsGood}
 use Rattle.gq_laws.specs.Statements.{TakesLeaf}
@@ -36,6 +37,7 @@ use Rattle.gq_laws.proofs.verified.Own_costs.{own_pays, own_is}
 use Rattle.gq_laws.proofs.holding.Uncounted.{step_paid, never_short}
 use Rattle.gq_laws.proofs.typing.Start.{nothing, start_typed}
 use Rattle.gq_laws.proofs.typing.Steps.{outcome}
+use Rattle.gq_laws.proofs.turning.Whole_worlds.{start_whole, kept_whole}
 use Rattle.gq_laws.proofs.typing.Runs.{counted}
 use Rattle.gq_laws.proofs.typing.Bounded.{bounded_start}
 use Rattle.gq_laws.proofs.holding.Outcomes.{typed_then, held_after}
@@ -112,6 +114,7 @@ module _ (s : Scenario) (sound : IsSound s) where
 
   -- a world in which all that a step takes for granted holds
   pub record Stands (w : World) : Type 0 where
+    pub whole : IsWholeWorld u w
     pub linked : IsLinkedWorld u w
     pub left : AreLeft (IsGood real) u w
     pub promised : ℕ → Option Kind
@@ -136,9 +139,10 @@ module _ (s : Scenario) (sound : IsSound s) where
           let taken : TakesLeaf d = record { old = leaf; there = g; slots = refl; phase = refl; current = refl } in
           let good = all_good_same real c leaf.todo (h.left x c leaf f g).todo in
           let stands = counted h.promised (IsBounded u) u w x c leaf (suc leaf.steps) leaf.phase (h.typed.leaves x c leaf f g) in
-          let o = (outcome h.promised (IsBounded u) d sure taken h.linked h.typed f good stands).ends new event k in
+          let o = (outcome h.promised (IsBounded u) d sure taken h.linked h.typed f good (h.whole.inputs x c leaf f g) stands).ends new event k in
           let n = typed_then h.promised d sure taken refl h.linked h.typed f h.held new linked_new o in
           record {
+            whole = kept_whole u w x new event h.whole e;
             linked = linked_new;
             left = left_new;
             promised = n.0;
@@ -161,7 +165,8 @@ module _ (s : Scenario) (sound : IsSound s) where
           let taken : TakesLeaf d = record { old = leaf; there = g; slots = refl; phase = refl; current = refl } in
           let good = all_good_same real c leaf.todo (h.left x c leaf f g).todo in
           let stands = counted h.promised (IsBounded u) u w x c leaf (suc leaf.steps) leaf.phase (h.typed.leaves x c leaf f g) in
-          never_short real w x wrong e ((outcome h.promised (IsBounded u) d sure taken h.linked h.typed f good stands).short wrong k)
+          never_short real w x wrong e ((outcome h.promised (IsBounded u) d sure taken h.linked h.typed f good
+          (h.whole.inputs x c leaf f g) stands).short wrong k)
 
   -- all is paid for
   pub interfaces : (w : World) → Stands w → HaveInterfaces u real.counted w
@@ -199,6 +204,7 @@ module _ (s : Scenario) (sound : IsSound s) where
   pub stands_first : Stands (start real)
   stands_first =
       record {
+        whole = start_whole u;
         linked = start_linked u;
         left = start_left (IsGood real) u (good_of s sound);
         promised = nothing;

@@ -5,7 +5,7 @@ use Rattle.std.specs.Prelude.{slice_get}
 use Rattle.std.proofs.lemmas.Bool.Decides.{eqb_tells}
 use Rattle.gq_model.specs.machine.Program.{Statements, Done, Do, If, Loop}
 use Rattle.gq_model.specs.declared.program.Instruction.{Instruction}
-use Rattle.gq_model.specs.declared.program.Instruction.TheVariants.{Say, Out, Drop, Dup, Push, Divide, Modulo, Get, Set, Index, Combine, Make, MakePool, Load}
+use Rattle.gq_model.specs.declared.program.Instruction.TheVariants.{Say, Out, Operands, Make, MakePool, Load}
 use Rattle.gq_model.specs.declared.program.Instruction.TheVariants.{Store, Free, Take, Give, Peek, Poke, Open, Upgrade, Call, Close}
 use Rattle.gq_model.specs.declared.phase.Phase.{Phase}
 use Rattle.gq_model.specs.declared.phase.Phase.TheVariants.{Pending, Running, Blocked, Serving, Handling, Exited}
@@ -232,15 +232,7 @@ module _ (d : Doing) (t : TakesLeaf d) (active : d.leaf.phase ≢ Blocked) (h : 
   instruct_ends component (Close place) = close_ends d t active h place
   instruct_ends component (Say text) = ends_same d.system L _ h (quiet_ends d t h (Say text) tt)
   instruct_ends component Out = ends_same d.system L _ h (quiet_ends d t h Out tt)
-  instruct_ends component Drop = ends_same d.system L _ h (quiet_ends d t h Drop tt)
-  instruct_ends component Dup = ends_same d.system L _ h (quiet_ends d t h Dup tt)
-  instruct_ends component (Push n) = ends_same d.system L _ h (quiet_ends d t h (Push n) tt)
-  instruct_ends component (Divide n) = ends_same d.system L _ h (quiet_ends d t h (Divide n) tt)
-  instruct_ends component (Modulo n) = ends_same d.system L _ h (quiet_ends d t h (Modulo n) tt)
-  instruct_ends component (Get i) = ends_same d.system L _ h (quiet_ends d t h (Get i) tt)
-  instruct_ends component (Set i) = ends_same d.system L _ h (quiet_ends d t h (Set i) tt)
-  instruct_ends component (Index n) = ends_same d.system L _ h (quiet_ends d t h (Index n) tt)
-  instruct_ends component (Combine f) = ends_same d.system L _ h (quiet_ends d t h (Combine f) tt)
+  instruct_ends component (Operands o) = ends_same d.system L _ h (quiet_ends d t h (Operands o) tt)
   instruct_ends component (Make form place n) = ends_same d.system L _ h (quiet_ends d t h (Make form place n) tt)
   instruct_ends component (MakePool place n m) = ends_same d.system L _ h (quiet_ends d t h (MakePool place n m) tt)
   instruct_ends component (Load width place) = ends_same d.system L _ h (quiet_ends d t h (Load width place) tt)

@@ -4,13 +4,12 @@ use Rattle.std.specs.Prelude.{slice_get}
 use Rattle.gq_model.specs.declared.program.Place.{Place}
 use Rattle.gq_model.specs.declared.program.Place.TheVariants.{Own, Shared, Object}
 use Rattle.gq_model.specs.declared.program.Instruction.{Instruction}
-use Rattle.gq_model.specs.declared.program.Instruction.TheVariants.{Say, Make, MakePool, Free, Open, Upgrade, Call, Close}
+use Rattle.gq_model.specs.declared.program.Instruction.TheVariants.{Say, Operands, Make, MakePool, Free, Open, Upgrade, Call, Close}
 use Rattle.gq_model.specs.declared.fault.Wrong.{Wrong}
 use Rattle.gq_model.specs.declared.fault.Wrong.TheVariants.{WrongKind, ExceededQuota}
 use Rattle.gq_model.specs.machine.Scenario.{System}
 use Rattle.gq_model.specs.machine.World.{Slot, Empty, Bytes, Pool, Link, Waiting, Spot, In_leaf, In_session, In_object, Session, Current, Leaf, World}
-use Rattle.gq_model.specs.machine.World.{session_at}
-use Rattle.gq_model.specs.machine.World.{session_object, with_leaf, slot_at, with_slot, spot_of}
+use Rattle.gq_model.specs.machine.World.{session_at, session_object, with_leaf, slot_at, with_slot, spot_of}
 use Rattle.gq_model.specs.machine.Doing.{Doing, Quiet, Stepped, when, standing, settled, fill}
 use Rattle.gq_model.specs.machine.Sums.{paid}
 use Rattle.gq_model.specs.machine.Memory.{bytes_in, pool_in, is_memory, is_kept, free, make}
@@ -18,8 +17,7 @@ use Rattle.gq_model.specs.machine.Step.{instruct}
 use Rattle.gq_laws.specs.Links.{naming, naming_in, shape, IsBytes, outline, AreLinked, stance, outline_in, stance_in, Links, links}
 use Rattle.gq_model.proofs.Small.{some_same, none_some}
 use Rattle.gq_laws.proofs.linking.Worlds.{same_spot, leaf_stance, leaf_stances, leaf_keeps_slots, object_there, slot_here, slot_else, slot_outlines}
-use Rattle.gq_laws.proofs.linking.Worlds.{slot_stances}
-use Rattle.gq_laws.proofs.linking.Worlds.{slot_requests}
+use Rattle.gq_laws.proofs.linking.Worlds.{slot_stances, slot_requests}
 use Rattle.gq_laws.proofs.turning.Endings.{Ends, gives, fails, need_ends, need_found, when_ends, pop_ends, push_ends, absent_ends}
 use Rattle.std.proofs.lemmas.Bool.Decides.{eqb_tells}
 use Rattle.gq_laws.specs.Statements.{TakesLeaf}
@@ -206,6 +204,7 @@ module _ (d : Doing) (t : TakesLeaf d) where
 
     pub quiet_ends : (i : Instruction) → IsQuiet i → Ends (Same L) (instruct d i)
     quiet_ends (Say text) quiet = gives _ _ (stands d.leaf refl refl refl)
+    quiet_ends (Operands s) quiet = need_ends (Same L) _ _ _ (λ o. gives _ _ (stands _ refl refl refl))
     quiet_ends (Free place) quiet = free_ends place
     quiet_ends (Make form place n) quiet = make_ends place _ refl
     quiet_ends (MakePool place n m) quiet = make_ends place _ refl

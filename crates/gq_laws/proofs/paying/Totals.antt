@@ -6,7 +6,7 @@ use Rattle.std.proofs.lemmas.Bool.{leb-true, true≢false}
 use Rattle.std.proofs.lemmas.Bool.Decides.{eqb_tells}
 use Rattle.std.proofs.lemmas.Option.{slice_get_within}
 use Rattle.std.proofs.lemmas.List.Sums.{sum_by-cons}
-use Rattle.gq_model.specs.machine.Amounts.{Resource, Ram, Caps, Amount, part, counted_in}
+use Rattle.gq_model.specs.machine.Amounts.{Resource, Ram, Caps, Amount, part, counts_caps, counted_in}
 use Rattle.gq_model.specs.machine.Scenario.{Nodes, End, Leaf_node, Init_node, below, Component, components, Scenario, system}
 use Rattle.gq_model.specs.machine.World.{Session, Leaf, World}
 use Rattle.gq_model.specs.machine.Sums.{donated, to_leaf, from_leaf, held, lent, received, handed, quota, is_paid, are_paid, paid}
@@ -114,7 +114,7 @@ sum_append f (c ∷ cs) ds = let h = sum_append f cs ds in omega (arith, h, sum_
 -- a resource that is counted in this version
 abbrev pub IsCounted : ℕ → Resource → Type 0
 IsCounted version Ram = Unit {0}
-IsCounted version Caps = (version == 2) ≡ true
+IsCounted version Caps = counts_caps version ≡ true
 
 part_in : (version : ℕ) (r : Resource) → IsCounted version r → (f : Resource → ℕ) → part r (amount_in version (f Ram) (f Caps)) ≡ f r
 part_in version Ram h f = refl
@@ -197,7 +197,7 @@ module _ (s : Scenario) (w : World) (is_whole : IsWholeWorld (system s) w) (h : 
   exists x c e = let less = slice_get_within (components s) x c e in let count = is_whole.count in get_within w.leaves x (omega (arith, less, count))
 
   -- each resource of the version is paid
-  pays_by : (b : Bool) → (s.version == 2) ≡ b → (r : Resource) → IsCounted s.version r → (x : ℕ) (c : Component) (leaf : Leaf)
+  pays_by : (b : Bool) → counts_caps s.version ≡ b → (r : Resource) → IsCounted s.version r → (x : ℕ) (c : Component) (leaf : Leaf)
       → are_paid w x c leaf (cond b (Ram ∷ Caps ∷ []) (Ram ∷ [])) ≡ true → is_paid w x c leaf r ≡ true
   pays_by true e Ram k x c leaf p = (and_parts (is_paid w x c leaf Ram) (are_paid w x c leaf (Caps ∷ [])) p).0
   pays_by true e Caps k x c leaf p = (and_parts (is_paid w x c leaf Caps) (are_paid w x c leaf [])
@@ -208,12 +208,13 @@ module _ (s : Scenario) (w : World) (is_whole : IsWholeWorld (system s) w) (h : 
   sum_of_each : (r : Resource) → IsCounted s.version r → SumsToTotal s w r
   sum_of_each r k told =
       total r s k w told exists
-      (λ x c leaf e f. pays_by (s.version == 2) refl r k x c leaf (paid_one (counted_in s.version) w 0 (components s) w.leaves h x c leaf e f x (omega arith)))
+      (λ x c leaf e f. pays_by (counts_caps s.version) refl r k x c leaf (paid_one (counted_in s.version) w 0 (components s) w.leaves h x c leaf e f x
+      (omega arith)))
       is_whole (fits r)
 
-  each_by : (b : Bool) → (s.version == 2) ≡ b → EachOf (cond b (Ram ∷ Caps ∷ []) (Ram ∷ [])) (SumsToTotal s w)
+  each_by : (b : Bool) → counts_caps s.version ≡ b → EachOf (cond b (Ram ∷ Caps ∷ []) (Ram ∷ [])) (SumsToTotal s w)
   each_by true e = (sum_of_each Ram tt, (sum_of_each Caps e, tt))
   each_by false e = (sum_of_each Ram tt, tt)
 
   pub sums_to_total : EachOf (system s).counted (SumsToTotal s w)
-  sums_to_total = each_by (s.version == 2) refl
+  sums_to_total = each_by (counts_caps s.version) refl

@@ -1,4 +1,4 @@
--- All work ends: at most as many turns are steps as the budgets of steps sum to, and after as many rounds every leaf is at rest.
+-- All work ends: at most as many moves are steps as the budgets of steps sum to, and after as many rounds every leaf is at rest.
 use Rattle.std.proofs.Common.{◌≡◌, ℕ, zero, suc, ◌+◌, ◌<◌, ◌≤◌, ◌==◌, ◌⊎◌, inl, inr, Bool, true, false, not, cond, List, [], ◌∷◌, map, length, Option, Some}
 use Rattle.std.proofs.Common.{None}
 use Rattle.std.proofs.Common.{Ok, refl, ap, sym, ◌∙◌, subst, arith}
@@ -19,10 +19,13 @@ use Rattle.gq_model.proofs.Small.{some_same, none_some, get_within}
 use Rattle.gq_laws.proofs.turning.Steps.{index_there, counts_steps, stands_still}
 use Rattle.gq_laws.proofs.paying.Prices.{sum_set}
 use Rattle.gq_laws.proofs.gathering.Standing.{stands_upheld}
-use Rattle.gq_laws.specs.Progress.{rests, AllRest, world_after, after_turns, steps_in, taken as taken_by, budgeted, WorkEnds, IsRound, after_rounds}
+use Rattle.gq_laws.specs.Progress.{rests, AllRest, world_after, Move, Turn_of, Setting_of, after_move, after_moves, steps_by, steps_in, taken as taken_by}
+use Rattle.gq_laws.specs.Progress.{budgeted, WorkEnds, is_turn_of, IsRound, after_rounds}
 use Rattle.gq_laws.specs.Progress.{RoundsSuffice}
-use Rattle.gq_laws.proofs.progress.Lasting.{Lasts, lasts_next}
+use Rattle.gq_laws.proofs.progress.Lasting.{Lasts, lasts_next, lasts_set}
 use Rattle.gq_laws.proofs.progress.Going.{rest_or_run}
+use Rattle.gq_laws.proofs.setting.Steps.{set_steps, set_rests, set_runs}
+use Rattle.gq_model.specs.machine.Run.{set_input}
 use Rattle.std.proofs.lemmas.Option.{slice_get_within}
 use Rattle.gq_laws.proofs.counting.Runs.{steps_at}
 
@@ -108,35 +111,42 @@ module _ (s : Scenario) where
       let p = (stands_upheld s w h.stands).goes_on x in
       subst (λ r. Lasts s (world_after w r)) (sym p.1) (lasts_next s h.stands.sound w x p.0.0 p.0.1 h p.1)
 
-  -- TURNS
+  -- MOVES
+
+  -- a move adds the step that it is
+  adds_steps : (w : World) → Lasts s w → (m : Move) → taken_by (after_move real w m) ≡ taken_by w + steps_by real w m
+  adds_steps w h (Turn_of x) = by (turned w h x)
+    where
+      by : Turned w x (world_after w (next real w x)) → taken_by (world_after w (next real w x)) ≡ taken_by w + cond (can_run real w x) 1 0
+      by (Step can adds) =
+          let one : ◌≡◌ {A = ℕ} (cond (can_run real w x) 1 0) 1 = ap (λ b. cond b 1 0) can in omega (arith, adds, one)
+      by (Still can same) =
+          let none : ◌≡◌ {A = ℕ} (cond (can_run real w x) 1 0) 0 = ap (λ b. cond b 1 0) can in
+          let taken : taken_by (world_after w (next real w x)) ≡ taken_by w = ap taken_by same in omega (arith, taken, none)
+  adds_steps w h (Setting_of x i n) = let same = ap total (set_steps real w x i n) in omega (arith, same)
+
+  lasts_move : (w : World) → Lasts s w → (m : Move) → Lasts s (after_move real w m)
+  lasts_move w h (Turn_of x) = lasts_after w h x
+  lasts_move w h (Setting_of x i n) = lasts_set s h.stands.sound w x i n h
 
   pub work_ends : (w : World) → Lasts s w → WorkEnds s w
   work_ends w h [] = let most = within_budgets w h in omega (arith, most)
-  work_ends w h (x ∷ turns) = by (turned w h x) (work_ends (world_after w (next real w x)) (lasts_after w h x) turns)
-    where
-      by : Turned w x (world_after w (next real w x))
-          → taken_by (world_after w (next real w x)) + steps_in real (world_after w (next real w x)) turns ≤ budgeted s
-          → taken_by w + (cond (can_run real w x) 1 0 + steps_in real (world_after w (next real w x)) turns) ≤ budgeted s
-      by (Step can adds) most =
-          let one : ◌≡◌ {A = ℕ} (cond (can_run real w x) 1 0) 1 = ap (λ b. cond b 1 0) can in omega (arith, adds, most, one)
-      by (Still can same) most =
-          let none : ◌≡◌ {A = ℕ} (cond (can_run real w x) 1 0) 0 = ap (λ b. cond b 1 0) can in
-          let taken : taken_by (world_after w (next real w x)) ≡ taken_by w = ap taken_by same in omega (arith, taken, most, none)
+  work_ends w h (m ∷ moves) =
+      let adds = adds_steps w h m in
+      let most = work_ends (after_move real w m) (lasts_move w h m) moves in
+      omega (arith, adds, most)
 
-  lasts_turns : (w : World) → Lasts s w → (turns : List ℕ) → Lasts s (after_turns real w turns)
-  lasts_turns w h [] = h
-  lasts_turns w h (x ∷ turns) = lasts_turns (world_after w (next real w x)) (lasts_after w h x) turns
+  lasts_moves : (w : World) → Lasts s w → (moves : List Move) → Lasts s (after_moves real w moves)
+  lasts_moves w h [] = h
+  lasts_moves w h (m ∷ moves) = lasts_moves (after_move real w m) (lasts_move w h m) moves
 
-  -- no turn takes back a step
-  no_less : (w : World) → Lasts s w → (turns : List ℕ) → taken_by w ≤ taken_by (after_turns real w turns)
+  -- no move takes back a step
+  no_less : (w : World) → Lasts s w → (moves : List Move) → taken_by w ≤ taken_by (after_moves real w moves)
   no_less w h [] = omega arith
-  no_less w h (x ∷ turns) = by (turned w h x) (no_less (world_after w (next real w x)) (lasts_after w h x) turns)
-    where
-      by : Turned w x (world_after w (next real w x))
-          → taken_by (world_after w (next real w x)) ≤ taken_by (after_turns real (world_after w (next real w x)) turns)
-          → taken_by w ≤ taken_by (after_turns real (world_after w (next real w x)) turns)
-      by (Step can adds) le = omega (arith, adds, le)
-      by (Still can same) le = let taken : taken_by (world_after w (next real w x)) ≡ taken_by w = ap taken_by same in omega (arith, taken, le)
+  no_less w h (m ∷ moves) =
+      let adds = adds_steps w h m in
+      let le = no_less (after_move real w m) (lasts_move w h m) moves in
+      omega (arith, adds, le)
 
   -- ROUNDS
 
@@ -161,34 +171,43 @@ module _ (s : Scenario) where
       by (Some c) None e = refl
       by None o e = refl
 
-  rest_stays : (w : World) → AllRest w → (turns : List ℕ) → after_turns real w turns ≡ w
-  rest_stays w rest [] = refl
-  rest_stays w rest (x ∷ turns) =
-      ap (λ v. after_turns real v turns) (ap (world_after w) (stands_still real w x (rests_still w rest x))) ∙ rest_stays w rest turns
+  -- and then a move leaves every leaf at rest
+  rest_moves : (w : World) → AllRest w → (m : Move) → AllRest (after_move real w m)
+  rest_moves w rest (Turn_of x) = subst AllRest (sym (ap (world_after w) (stands_still real w x (rests_still w rest x)))) rest
+  rest_moves w rest (Setting_of x i n) = set_rests real w x i n rest
 
-  rest_stays_on : (w : World) → AllRest w → (rounds : List (List ℕ)) → after_rounds real w rounds ≡ w
-  rest_stays_on w rest [] = refl
-  rest_stays_on w rest (round ∷ rounds) = ap (λ v. after_rounds real v rounds) (rest_stays w rest round) ∙ rest_stays_on w rest rounds
+  rest_stays : (w : World) → AllRest w → (moves : List Move) → AllRest (after_moves real w moves)
+  rest_stays w rest [] = rest
+  rest_stays w rest (m ∷ moves) = rest_stays (after_move real w m) (rest_moves w rest m) moves
+
+  rest_stays_on : (w : World) → AllRest w → (rounds : List (List Move)) → AllRest (after_rounds real w rounds)
+  rest_stays_on w rest [] = rest
+  rest_stays_on w rest (round ∷ rounds) = rest_stays_on (after_moves real w round) (rest_stays w rest round) rounds
 
   -- where a leaf that can run has a turn, a step is taken
-  one_step : (w : World) → Lasts s w → (x : ℕ) → can_run real w x ≡ true → (turns : List ℕ) → any_of (λ y. y == x) turns ≡ true
-      → suc (taken_by w) ≤ taken_by (after_turns real w turns)
+  one_step : (w : World) → Lasts s w → (x : ℕ) → can_run real w x ≡ true → (moves : List Move) → any_of (is_turn_of x) moves ≡ true
+      → suc (taken_by w) ≤ taken_by (after_moves real w moves)
   one_step w h x can [] e = absurd (false≢true e)
-  one_step w h x can (y ∷ turns) e = by (turned w h y) (no_less (world_after w (next real w y)) (lasts_after w h y) turns) (one_step w h x can turns)
+  one_step w h x can (Setting_of y i n ∷ moves) e =
+      let further = one_step (set_input real w y i n) (lasts_move w h (Setting_of y i n)) x (set_runs real w y i n x ∙ can) moves e in
+      let same = ap total (set_steps real w y i n) in
+      omega (arith, same, further)
+  one_step w h x can (Turn_of y ∷ moves) e =
+      by (turned w h y) (no_less (world_after w (next real w y)) (lasts_after w h y) moves) (one_step w h x can moves)
     where
       by : Turned w y (world_after w (next real w y))
-          → taken_by (world_after w (next real w y)) ≤ taken_by (after_turns real (world_after w (next real w y)) turns)
-          → (any_of (λ y. y == x) turns ≡ true → suc (taken_by w) ≤ taken_by (after_turns real w turns))
-          → suc (taken_by w) ≤ taken_by (after_turns real (world_after w (next real w y)) turns)
+          → taken_by (world_after w (next real w y)) ≤ taken_by (after_moves real (world_after w (next real w y)) moves)
+          → (any_of (is_turn_of x) moves ≡ true → suc (taken_by w) ≤ taken_by (after_moves real w moves))
+          → suc (taken_by w) ≤ taken_by (after_moves real (world_after w (next real w y)) moves)
       by (Step ran adds) le further = omega (arith, adds, le)
       by (Still stays same) le further =
-          subst (λ v. suc (taken_by w) ≤ taken_by (after_turns real v turns)) (sym same) (elim (or_cases (y == x) (any_of (λ y. y == x) turns) e) [
+          subst (λ v. suc (taken_by w) ≤ taken_by (after_moves real v moves)) (sym same) (elim (or_cases (y == x) (any_of (is_turn_of x) moves) e) [
             | inl f ↦ absurd (true≢false (sym can ∙ (ap (can_run real w) (sym (eqb-true y x f)) ∙ stays)))
             | inr f ↦ further f
           ])
 
   -- a round takes a step, unless every leaf is at rest
-  round_counts : (w : World) → Lasts s w → (turns : List ℕ) → IsRound real turns → AllRest w ⊎ (suc (taken_by w) ≤ taken_by (after_turns real w turns))
+  round_counts : (w : World) → Lasts s w → (turns : List Move) → IsRound real turns → AllRest w ⊎ (suc (taken_by w) ≤ taken_by (after_moves real w turns))
   round_counts w h turns round = elim (rest_or_run s w h) [
     | inl rest ↦ inl rest
     | inr run ↦ inr (one_step w h run.0 run.1 turns (round run.0 (below run.0 run.1)))
@@ -200,24 +219,24 @@ module _ (s : Scenario) where
           let under = slice_get_within w.leaves x leaf.0 leaf.1 in
           let count = h.stands.whole.count in omega (arith, under, count)
 
-  rounds_count : (w : World) → Lasts s w → (rounds : List (List ℕ)) → Each (IsRound real) rounds
+  rounds_count : (w : World) → Lasts s w → (rounds : List (List Move)) → Each (IsRound real) rounds
       → AllRest (after_rounds real w rounds) ⊎ (taken_by w + length rounds ≤ taken_by (after_rounds real w rounds))
   rounds_count w h [] all = inr (omega arith)
   rounds_count w h (round ∷ rounds) all =
-      by (round_counts w h round all.0) (rounds_count (after_turns real w round) (lasts_turns w h round) rounds all.1)
+      by (round_counts w h round all.0) (rounds_count (after_moves real w round) (lasts_moves w h round) rounds all.1)
     where
-      by : AllRest w ⊎ (suc (taken_by w) ≤ taken_by (after_turns real w round))
-          → AllRest (after_rounds real (after_turns real w round) rounds)
-          ⊎ (taken_by (after_turns real w round) + length rounds ≤ taken_by (after_rounds real (after_turns real w round) rounds))
-          → AllRest (after_rounds real (after_turns real w round) rounds)
-          ⊎ (taken_by w + length (round ∷ rounds) ≤ taken_by (after_rounds real (after_turns real w round) rounds))
-      by (inl rest) further = inl (subst AllRest (sym (rest_stays_on w rest (round ∷ rounds))) rest)
+      by : AllRest w ⊎ (suc (taken_by w) ≤ taken_by (after_moves real w round))
+          → AllRest (after_rounds real (after_moves real w round) rounds)
+          ⊎ (taken_by (after_moves real w round) + length rounds ≤ taken_by (after_rounds real (after_moves real w round) rounds))
+          → AllRest (after_rounds real (after_moves real w round) rounds)
+          ⊎ (taken_by w + length (round ∷ rounds) ≤ taken_by (after_rounds real (after_moves real w round) rounds))
+      by (inl rest) further = inl (rest_stays_on w rest (round ∷ rounds))
       by (inr more) (inl rest) = inl rest
       by (inr more) (inr le) = inr (omega (arith, more, le))
 
-  lasts_rounds : (w : World) → Lasts s w → (rounds : List (List ℕ)) → Lasts s (after_rounds real w rounds)
+  lasts_rounds : (w : World) → Lasts s w → (rounds : List (List Move)) → Lasts s (after_rounds real w rounds)
   lasts_rounds w h [] = h
-  lasts_rounds w h (round ∷ rounds) = lasts_rounds (after_turns real w round) (lasts_turns w h round) rounds
+  lasts_rounds w h (round ∷ rounds) = lasts_rounds (after_moves real w round) (lasts_moves w h round) rounds
 
   pub rounds_suffice : (w : World) → Lasts s w → RoundsSuffice s w
   rounds_suffice w h rounds all enough =

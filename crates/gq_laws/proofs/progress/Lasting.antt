@@ -18,11 +18,13 @@ use Rattle.gq_laws.proofs.paying.Servers.{server_provides}
 use Rattle.gq_laws.proofs.remaining.Worlds.{start_left, kept_left}
 use Rattle.gq_laws.proofs.verified.Sound_systems.{is_resolved, good_of}
 use Rattle.gq_laws.proofs.gathering.Reaching.{in_reached}
-use Rattle.gq_laws.proofs.gathering.Standing.{stands_first, stands_next}
+use Rattle.gq_laws.proofs.gathering.Standing.{stands_first, stands_next, stands_set}
+use Rattle.gq_laws.proofs.setting.Settings.{set_left, set_opened, set_ready}
 use Rattle.gq_laws.proofs.progress.Opened.{OpensOwn, opens_programs, AllOpened, kept_opened, start_opened}
 use Rattle.gq_laws.specs.Phases.{AreReady}
 use Rattle.gq_laws.proofs.progress.Phases.{CurrentProvides, kept_ready, start_ready}
 use Rattle.gq_model.proofs.Small.{or_first_none}
+use Rattle.gq_model.specs.machine.Run.{set_input}
 
 pub record Lasts (s : Scenario) (w : World) : Type 0 where
   pub stands : Stands s w
@@ -81,5 +83,14 @@ module _ (s : Scenario) (sound : IsSound s) where
         ready = kept_ready (system s) w x new event h.ready (current_provides s w h.stands) e;
       }
 
+  pub lasts_set : (w : World) (x i n : ℕ) → Lasts s w → Lasts s (set_input (system s) w x i n)
+  lasts_set w x i n h =
+      record {
+        stands = stands_set s w x i n h.stands;
+        own = set_left OpensOwn (system s) w x i n h.own;
+        opened = set_opened (system s) w x i n h.opened;
+        ready = set_ready (system s) w x i n h.ready;
+      }
+
   pub reached_lasts : (w : World) → IsReached s w → Lasts s w
-  reached_lasts = in_reached s (Lasts s) lasts_next lasts_first
+  reached_lasts = in_reached s (Lasts s) lasts_next lasts_set lasts_first

@@ -13,7 +13,7 @@ use Rattle.gq_model.specs.rules.Accept.{Not_resolved, refusal}
 use Rattle.gq_model.specs.rules.Resolve.{Bad_after}
 use Rattle.gq_model.proofs.Samples.{all_do, server, leaves, served, one, hello, echo, echo_of, asking, row_of_leaves}
 use Rattle.gq_laws.specs.Turns.{can_run}
-use Rattle.gq_laws.specs.Progress.{GoesOn, after_turns, steps_in, taken, budgeted, after_rounds}
+use Rattle.gq_laws.specs.Progress.{GoesOn, after_turns, steps_in, taken, budgeted, after_rounds, Turn_of}
 
 abbrev phases_of : List Leaf → List Phase
 phases_of [] = []
@@ -72,24 +72,24 @@ hello_budget : budgeted hello ≡ 2
 hello_budget = refl
 
 -- as many turns are steps as are budgeted, and no more
-hello_steps : steps_in (system hello) (start (system hello)) (replicate 5 0) ≡ 2
+hello_steps : steps_in (system hello) (start (system hello)) (replicate 5 (Turn_of 0)) ≡ 2
 hello_steps = refl
 
 -- one round less does not suffice
-hello_one_round : seen hello (after_rounds (system hello) (start (system hello)) ((0 ∷ []) ∷ [])) ≡ (Running ∷ [], true ∷ [])
+hello_one_round : seen hello (after_rounds (system hello) (start (system hello)) ((Turn_of 0 ∷ []) ∷ [])) ≡ (Running ∷ [], true ∷ [])
 hello_one_round = refl
 
-hello_two_rounds : seen hello (after_rounds (system hello) (start (system hello)) ((0 ∷ []) ∷ (0 ∷ []) ∷ [])) ≡ (Exited ∷ [], false ∷ [])
+hello_two_rounds : seen hello (after_rounds (system hello) (start (system hello)) ((Turn_of 0 ∷ []) ∷ (Turn_of 0 ∷ []) ∷ [])) ≡ (Exited ∷ [], false ∷ [])
 hello_two_rounds = refl
 
 echo_budget : budgeted (echo_of 8192) ≡ 15
 echo_budget = refl
 
 -- a server and its client: after all rounds one serves with no request, the other has exited
-echo_rounds : seen (echo_of 8192) (after_rounds (system (echo_of 8192)) (start (system (echo_of 8192))) (replicate 15 (1 ∷ 0 ∷ [])))
+echo_rounds : seen (echo_of 8192) (after_rounds (system (echo_of 8192)) (start (system (echo_of 8192))) (replicate 15 (Turn_of 1 ∷ Turn_of 0 ∷ [])))
     ≡ (Serving ∷ Exited ∷ [], false ∷ false ∷ [])
 echo_rounds = refl
 
 -- and all that was budgeted was taken
-echo_steps : taken (after_rounds (system (echo_of 8192)) (start (system (echo_of 8192))) (replicate 15 (1 ∷ 0 ∷ []))) ≡ 15
+echo_steps : taken (after_rounds (system (echo_of 8192)) (start (system (echo_of 8192))) (replicate 15 (Turn_of 1 ∷ Turn_of 0 ∷ []))) ≡ 15
 echo_steps = refl

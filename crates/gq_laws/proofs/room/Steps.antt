@@ -5,7 +5,7 @@ use Rattle.std.specs.Prelude.{slice_get}
 use Rattle.std.proofs.lemmas.Bool.{ltb-true}
 use Rattle.gq_model.specs.declared.program.Place.{Place}
 use Rattle.gq_model.specs.declared.program.Instruction.{Instruction}
-use Rattle.gq_model.specs.declared.program.Instruction.TheVariants.{Say, Out, Drop, Dup, Push, Divide, Modulo, Get, Set, Index, Combine, Make}
+use Rattle.gq_model.specs.declared.program.Instruction.TheVariants.{Say, Out, Operands, Make}
 use Rattle.gq_model.specs.declared.program.Instruction.TheVariants.{MakePool, Load, Store, Free, Take, Give, Peek, Poke, Open, Upgrade, Call, Close}
 use Rattle.gq_model.specs.declared.fault.Wrong.TheVariants.{MissingOperand, WrongKind}
 use Rattle.gq_model.specs.declared.phase.Phase.TheVariants.{Blocked}
@@ -16,7 +16,8 @@ use Rattle.gq_model.specs.machine.World.{Slot, Waiting, Spot, Session, Ask, Ask_
 use Rattle.gq_model.specs.machine.World.{session_at, spot_of, with_slot, with_session}
 use Rattle.gq_model.specs.machine.Doing.{Doing, Stepped, pop, push, standing, settled, with_operands}
 use Rattle.gq_model.specs.machine.Requests.{open_session, upgrade, call, close, asked, add_session, new_session, free_place}
-use Rattle.gq_model.specs.machine.Step.{instruct}
+use Rattle.gq_model.specs.machine.Step.{bench, instruct}
+use Rattle.gq_model.proofs.Operated.{operands_left}
 use Rattle.gq_model.proofs.Small.{some_same, none_some}
 use Rattle.gq_laws.specs.Links.{IsLinkedWorld}
 use Rattle.gq_laws.specs.Statements.{TakesLeaf}
@@ -64,7 +65,8 @@ module _ (d : Doing) (P : World → Type 0) (few : length d.leaf.operands ≤ 16
 
   quiet_by : (i : Instruction) → IsQuiet i → Ends P (instruct d i)
   quiet_by (Say text) quiet = gives _ _ as_it_is
-  quiet_by (Set n) quiet = pop_few P _ _ few (λ a rest less. gives _ _ (stands _ (no_more rest less) refl))
+  quiet_by (Operands s) quiet = need_found P _ _ _
+      (λ o at. gives _ _ (stands _ ((operands_left (bench d) s few).holds o at) refl))
   quiet_by (Open place service n) quiet = absurd quiet
   quiet_by (Upgrade place n) quiet = absurd quiet
   quiet_by (Call place) quiet = absurd quiet
@@ -197,15 +199,7 @@ module _ (d : Doing) (t : TakesLeaf d) (active : d.leaf.phase ≢ Blocked) (h : 
   instruct_ends (Close place) = close_ends place
   instruct_ends (Say text) = calm_ends _ (quiet_goes d few start (Say text) tt)
   instruct_ends Out = calm_ends _ (quiet_goes d few start Out tt)
-  instruct_ends Drop = calm_ends _ (quiet_goes d few start Drop tt)
-  instruct_ends Dup = calm_ends _ (quiet_goes d few start Dup tt)
-  instruct_ends (Push n) = calm_ends _ (quiet_goes d few start (Push n) tt)
-  instruct_ends (Divide n) = calm_ends _ (quiet_goes d few start (Divide n) tt)
-  instruct_ends (Modulo n) = calm_ends _ (quiet_goes d few start (Modulo n) tt)
-  instruct_ends (Get i) = calm_ends _ (quiet_goes d few start (Get i) tt)
-  instruct_ends (Set i) = calm_ends _ (quiet_goes d few start (Set i) tt)
-  instruct_ends (Index n) = calm_ends _ (quiet_goes d few start (Index n) tt)
-  instruct_ends (Combine f) = calm_ends _ (quiet_goes d few start (Combine f) tt)
+  instruct_ends (Operands o) = calm_ends _ (quiet_goes d few start (Operands o) tt)
   instruct_ends (Make form place n) = calm_ends _ (quiet_goes d few start (Make form place n) tt)
   instruct_ends (MakePool place n m) = calm_ends _ (quiet_goes d few start (MakePool place n m) tt)
   instruct_ends (Load width place) = calm_ends _ (quiet_goes d few start (Load width place) tt)

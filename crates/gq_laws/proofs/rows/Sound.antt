@@ -2,6 +2,7 @@
 use Rattle.std.proofs.Common.{◌≡◌, ◌≤◌, ◌+◌, ℕ, zero, suc, cond, Bool, true, false, List, [], ◌∷◌, length, map, codes, Some, None, refl, ap, sym, ◌∙◌, subst}
 use Rattle.std.proofs.Common.{arith}
 use Rattle.std.specs.Prelude.{slice_get, slice_index}
+use Rattle.gq_model.specs.declared.act.Act.TheVariants.{Turns}
 use Rattle.gq_model.specs.machine.Amounts.{Ram}
 use Rattle.gq_model.specs.declared.program.Place.TheVariants.{Own}
 use Rattle.gq_model.specs.declared.program.Form.TheVariants.{Space}
@@ -83,11 +84,11 @@ abbrev held_and_steps : World → List (ℕ × ℕ)
 held_and_steps w = map (λ (l : Leaf). (held Ram w 0 l + lent Ram w 0, l.steps)) w.leaves
 
 bytes_met : (refusal whole_quantum ≡ None) × (budget_of_first whole_quantum ≡ (8192, 2) ∷ [])
-    × (held_and_steps (run (system whole_quantum) ((0, 1) ∷ [])).world ≡ (8192, 1) ∷ [])
+    × (held_and_steps (run (system whole_quantum) ((0, Turns 1) ∷ [])).world ≡ (8192, 1) ∷ [])
 bytes_met = (refl, refl, refl)
 
 -- its two steps are all that its budget has
-steps_met : held_and_steps (run (system whole_quantum) ((0, 9) ∷ [])).world ≡ (0, 2) ∷ []
+steps_met : held_and_steps (run (system whole_quantum) ((0, Turns 9) ∷ [])).world ≡ (0, 2) ∷ []
 steps_met = refl
 
 -- server and client take just the steps of their budgets

@@ -1,6 +1,7 @@
 -- What is taken for granted holds in a world of a worked run: a client is about to store into the buffer behind its link.
 use Rattle.std.proofs.Common.{true, ap, ◌≡◌, ◌≢◌, ℕ, zero, suc, List, [], ◌∷◌, codes, replicate, Option, Some, None, refl, sym, subst, arith}
 use Rattle.std.specs.Prelude.{slice_get}
+use Rattle.gq_model.specs.declared.act.Act.TheVariants.{Turns}
 use Rattle.gq_model.specs.machine.Amounts.{Amount, amount}
 use Rattle.gq_model.specs.declared.phase.Phase.TheVariants.{Running, Blocked}
 use Rattle.gq_model.specs.declared.program.Form.{Form}
@@ -17,8 +18,10 @@ use Rattle.gq_model.specs.rules.Kinds.{Kind, Link_kind, Empty_kind, State, Conte
 use Rattle.gq_model.specs.rules.Flow.{context, flow, state_or}
 use Rattle.gq_model.proofs.Samples.{good_log, log_client}
 use Rattle.gq_laws.specs.Statements.{IsSafe, TakesLeaf, Grants, LeadsOn}
+use Rattle.gq_laws.specs.Shapes.{AreInputs}
 use Rattle.gq_laws.specs.Typed.{AreKinds, IsLinkKind, HasBuffer, PromisesLinks, SharesBuffers, Meets}
 use Rattle.gq_model.proofs.Small.{some_same, none_some}
+use Rattle.gq_laws.proofs.setting.Settings.{set_linked}
 use Rattle.gq_laws.proofs.gathering.Reaching.{in_reached}
 use Rattle.gq_laws.proofs.linking.Linked_worlds.{kept_linked, start_linked}
 use Rattle.gq_laws.specs.Links.{IsLinkedWorld}
@@ -32,17 +35,21 @@ log = system good_log
 
 -- the client has opened its session and pushed two operands
 abbrev w : World
-w = (run log ((1, 1) ∷ (0, 4) ∷ (1, 2) ∷ [])).world
+w = (run log ((1, Turns 1) ∷ (0, Turns 4) ∷ (1, Turns 2) ∷ [])).world
 
 linked : IsLinkedWorld log w
-linked = in_reached good_log (IsLinkedWorld log) (kept_linked log) (start_linked log) w (record { turns = (1, 1) ∷ (0, 4) ∷ (1, 2) ∷ []; is = refl })
+linked = in_reached good_log (IsLinkedWorld log) (kept_linked log) (set_linked log) (start_linked log) w (record {
+  turns =
+      (1, Turns 1) ∷ (0, Turns 4) ∷ (1, Turns 2) ∷ [];
+  is = refl;
+})
 
 abbrev the : {A : Type 0} → A → Option A → A
 the a None = a
 the a (Some b) = b
 
 abbrev client : Leaf
-client = the (record { phase = Running; current = None; todo = Done; loops = []; operands = []; locals = []; slots = []; peaks = []; steps = 0 })
+client = the (record { phase = Running; current = None; todo = Done; loops = []; operands = []; locals = []; slots = []; peaks = []; steps = 0; inputs = [] })
     (slice_get w.leaves 1)
 
 abbrev d : Doing
@@ -136,10 +143,21 @@ shares q k service level given e is more =
     same e = cc
 
 grants : Grants promised c d
-grants = record { interfaces = refl; provided = λ current s e. absurd (none_some e); links = links; buffers = shares; awake = is_awake d takes linked running }
+grants = record {
+  interfaces = refl;
+  provided = λ current s e. absurd (none_some e);
+  links = links;
+  buffers = shares;
+  awake =
+      is_awake d takes linked running;
+  inputs = none;
+}
   where
     running : Running ≢ Blocked
     running e = cc
+
+    none : AreInputs [] d.leaf.inputs
+    none i n e = absurd (none_some e)
 
 -- so the client's step, which stores a byte, is not wrong but for want of quota, and leads on
 goes : IsSafe (LeadsOn promised c state end d) (perform d client.todo)

@@ -87,7 +87,8 @@ module _ (promised : ℕ → Option Kind) (c : Context) (d : Doing) (t : TakesLe
       let v = then_ok (at 1 (judged k state i)) (λ s. later 1 (flow k s rest)) goes.0 goes.1 in
       let flows = later_ok 1 (flow k v.0 rest) goes.0 v.2 in
       let taken : TakesLeaf e = record { old = t.old; there = t.there; slots = t.slots; phase = t.phase; current = t.current } in
-      let granted : Grants promised k e = record { interfaces = g.interfaces; provided = g.provided; links = g.links; buffers = g.buffers; awake = g.awake } in
+      let granted : Grants promised k e =
+      record { interfaces = g.interfaces; provided = g.provided; links = g.links; buffers = g.buffers; awake = g.awake; inputs = g.inputs } in
       let m : Meets promised k state d.world e.leaf = record {
         own = h.own;
         current = h.current;

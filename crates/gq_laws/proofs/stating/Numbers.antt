@@ -13,7 +13,7 @@ use Rattle.gq_model.specs.declared.program.Width.TheVariants.{Byte, Word}
 use Rattle.gq_model.specs.rules.Rules.{bound_of, loaded_bound}
 use Rattle.gq_laws.specs.Kept.{Under}
 use Rattle.gq_model.specs.machine.World.{Round}
-use Rattle.gq_model.specs.machine.Step.{round_of}
+use Rattle.gq_model.specs.machine.Operate.{round_of}
 use Rattle.gq_model.specs.machine.Memory.{entry_byte, entry_with}
 use Rattle.gq_laws.specs.Shapes.{Each}
 use Rattle.gq_laws.specs.Typed.{AreBytes, IsEntry, AreCounts}

@@ -7,7 +7,7 @@ use Rattle.gq_model.specs.declared.fault.Rule.{Rule}
 use Rattle.gq_model.specs.machine.World.{World}
 use Rattle.gq_model.specs.machine.Doing.{Event, Stepped, need, when, pop, push}
 use Rattle.gq_model.specs.rules.Kinds.{State, Context}
-use Rattle.gq_model.specs.rules.Rules.{Judged, given, top, popped, pushed, and_then, within_need, judge, judged}
+use Rattle.gq_model.specs.rules.Rules.{Judged, Bounded, given, top, popped, pushed, with_bounds, and_then, within_need, judge, judged}
 use Rattle.gq_model.specs.declared.program.Instruction.{Instruction}
 use Rattle.gq_laws.specs.Statements.{IsSafe}
 use Rattle.gq_model.proofs.Rules_laws.{ok_same, must_holds, within_same}
@@ -73,6 +73,12 @@ popped_there s go t e = top_there s.bounds _ t e
 
 pub pushed_there : (a : ℕ) (s t : State) → pushed a s ≡ Ok t → (nat_lt (length s.bounds) 16 ≡ true) × (t ≡ record s { bounds = a ∷ s.bounds })
 pushed_there a s t e = let h = must_holds (nat_lt (length s.bounds) 16) _ _ t e in (h.0, sym (ok_same h.1))
+
+-- a statement on operands alone changes the bounds of the operands alone
+pub bounds_there : (s : State) (b : Bounded) (t : State) → with_bounds s b ≡ Ok t
+    → (bounds : List ℕ) × (b ≡ Ok bounds) × (record s { bounds = bounds } ≡ t)
+bounds_there s (Ok bounds) t e = (bounds, refl, ok_same e)
+bounds_there s (Err rule) t e = absurd (err_ok e)
 
 -- what a session costs changes nothing of the state
 pub judged_alone : (c : Context) (s : State) (i : Instruction) (t : State) → judged c s i ≡ Ok t → judge c s i ≡ Ok t

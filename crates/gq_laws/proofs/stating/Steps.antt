@@ -1,34 +1,36 @@
 -- Each statement on operands, locals and memory does what the rules tell, and only want of quota stops it.
-use Rattle.std.proofs.Common.{◌≡◌, ℕ, ◌+◌, ◌-◌, ◌/◌, ◌%◌, ◌≤◌, ◌&&◌, min, nat_lt, Bool, true, false, List, ◌∷◌, length, decimal, replicate, Option, Some, None}
+use Rattle.std.proofs.Common.{◌≡◌, ℕ, ◌+◌, ◌≤◌, ◌&&◌, nat_lt, Bool, true, false, List, ◌∷◌, length, decimal, replicate, Option, Some, None}
 use Rattle.std.proofs.Common.{Ok, refl, ap, sym, ◌∙◌, subst, arith}
-use Rattle.std.specs.Prelude.{nat_le, slice_get, slice_index, slice_set, slice_range}
+use Rattle.std.specs.Prelude.{nat_le, slice_get, slice_set, slice_range}
 use Rattle.std.proofs.lemmas.Bool.{leb-true, le-leb, ltb-true, lt-ltb}
 use Rattle.std.proofs.lemmas.List.{length-set}
-use Rattle.gq_model.specs.machine.Lists.{all_of, between}
-use Rattle.gq_model.specs.machine.Program.{little, bytes_of, combined}
+use Rattle.gq_model.specs.machine.Lists.{all_of}
+use Rattle.gq_model.specs.machine.Program.{little, bytes_of}
 use Rattle.gq_model.specs.declared.program.Place.{Place}
 use Rattle.gq_model.specs.declared.program.Width.{Width}
-use Rattle.gq_model.specs.declared.program.Operator.{Operator}
+use Rattle.gq_model.specs.declared.program.OperandStatement.{OperandStatement}
 use Rattle.gq_model.specs.declared.program.Instruction.{Instruction}
-use Rattle.gq_model.specs.declared.program.Instruction.TheVariants.{Say, Out, Drop, Dup, Push, Divide, Modulo, Get, Set, Index, Combine, Make, MakePool, Load}
+use Rattle.gq_model.specs.declared.program.Instruction.TheVariants.{Say, Out, Operands, Make, MakePool, Load}
 use Rattle.gq_model.specs.declared.program.Instruction.TheVariants.{Store, Free, Take, Give, Peek, Poke, Open, Upgrade, Call, Close}
-use Rattle.gq_model.specs.declared.fault.Rule.TheVariants.{MissingOperand, WrongKind, OutOfRange, ValueTooLarge}
-use Rattle.gq_model.specs.declared.fault.Wrong.TheVariants.{UnmappedByte}
-use Rattle.gq_model.specs.texts.Operands.{greatest_number, operands, in_range, is_slot}
+use Rattle.gq_model.specs.declared.fault.Rule.TheVariants.{WrongKind, OutOfRange}
+use Rattle.gq_model.specs.declared.fault.Wrong.TheVariants.{MissingOperand, UnmappedByte}
+use Rattle.gq_model.specs.texts.Operands.{operands, own_number, in_range, is_slot}
 use Rattle.gq_model.specs.machine.World.{Bytes, Pool, Spot, Leaf, World, slot_at, with_slot}
 use Rattle.gq_model.specs.machine.Doing.{Doing, Event, Stepped, Quiet, Line, need, when, pop, push, standing, with_operands, on_stack, settled}
 use Rattle.gq_model.specs.machine.Memory.{entry_byte, entry_with, if_absent, pool_at}
-use Rattle.gq_model.specs.machine.Step.{instruct, round_of}
+use Rattle.gq_model.specs.machine.Operate.{operate}
+use Rattle.gq_model.specs.machine.Step.{bench, operated, instruct}
 use Rattle.gq_model.specs.rules.Kinds.{Kind, Memory, Pool_kind, State, Context, kind_at}
-use Rattle.gq_model.specs.rules.Rules.{Judged, must, popped, pushed, pooled, reached, reach, pool_kind, bound_of, loaded_bound, judge}
+use Rattle.gq_model.specs.rules.Rules.{Judged, must, popped, pushed, pooled, reached, reach, pool_kind, loaded_bound, limits, bounds_after, judge}
 use Rattle.gq_laws.specs.Kept.{Under}
 use Rattle.gq_laws.specs.Typed.{AreBytes, IsEntry, Meets}
 use Rattle.gq_laws.specs.Statements.{IsSafe, IsOfOwn, TakesLeaf, Grants, StandsAt, GoesAsRuled}
-use Rattle.gq_laws.proofs.stating.Rules.{safe_gives, safe_need, safe_when, safe_pop, safe_push, given_there, popped_there, pushed_there}
+use Rattle.gq_laws.proofs.stating.Rules.{safe_gives, safe_need, safe_when, safe_pop, safe_push, given_there, popped_there, pushed_there, bounds_there}
 use Rattle.gq_laws.proofs.stating.Rules.{judged_alone}
-use Rattle.gq_laws.proofs.stating.Numbers.{divided, remains, combines, each_set, each_get, under_length, under_top, under_index, under_set}
+use Rattle.gq_laws.proofs.stating.Numbers.{each_set, each_get, under_length, under_top}
+use Rattle.gq_laws.proofs.stating.Operated.{operated_within}
 use Rattle.gq_model.proofs.Small.{get_within}
-use Rattle.gq_laws.proofs.stating.Numbers.{round_within, loads, stored, stored_count, stored_bytes, entry_below, entry_changed, fresh_entry}
+use Rattle.gq_laws.proofs.stating.Numbers.{loads, stored, stored_count, stored_bytes, entry_below, entry_changed, fresh_entry}
 use Rattle.gq_laws.proofs.stating.Slots.{stands_with, safe_settled, put_alike}
 use Rattle.gq_laws.proofs.stating.Memory.{Reaches, HasPool, safe_bytes, safe_pool, reaches, pool_found, slots_kept, makes, fresh_bytes, fresh_pool, frees}
 use Rattle.gq_laws.proofs.stating.Memory.{reaches_there, pool_there}
@@ -37,9 +39,6 @@ use Rattle.gq_model.proofs.Rules_laws.{ok_same, must_holds}
 and_left : (a b : Bool) → (a && b) ≡ true → a ≡ true
 and_left true b e = refl
 and_left false b e = e
-
-divides : (n high : ℕ) → (between 1 high n && true) ≡ true → 1 ≤ n
-divides n high e = leb-true 1 n (and_left (nat_le 1 n) (nat_le n high) (and_left (between 1 high n) true e))
 
 module _ (promised : ℕ → Option Kind) (c : Context) (d : Doing) (t : TakesLeaf d) (g : Grants promised c d) (state : State)
     (h : Meets promised c state d.world d.leaf) where
@@ -97,54 +96,14 @@ module _ (promised : ℕ → Option Kind) (c : Context) (d : Doing) (t : TakesLe
       pops state (λ a t. Ok t) d.leaf.operands _ new h.operands e (λ a b below rest le u e.
       gives_at _ (Line (decimal a)) rest new (stands below d.leaf.locals rest u h.locals) (ok_same e))
 
-  drop_goes : (new : State) → judge c state Drop ≡ Ok new → Ends_at new (instruct d Drop)
-  drop_goes new e = pops state (λ a t. Ok t) d.leaf.operands _ new h.operands e (λ a b below rest le u e. ends below rest new u (ok_same e))
-
-  -- the rules look at the bound and leave it
-  dup_goes : (new : State) → judge c state Dup ≡ Ok new → Ends_at new (instruct d Dup)
+  operands_go : (s : OperandStatement) → all_of in_range (own_number s) ≡ true → (new : State) → judge c state (Operands s) ≡ Ok new
+      → Ends_at new (instruct d (Operands s))
   unfolding Ends_at
-  dup_goes new e =
-      let p = popped_there state (λ a t. pushed a state) new e in
-      let a = under_top d.leaf.operands p.0 p.1 (subst (Under d.leaf.operands) p.2 h.operands) in
-      safe_pop d.leaf.operands _ a.0 a.1 a.2 (pushes a.0 p.0 (a.0 ∷ a.1) state.bounds new a.3 (subst (λ ops. Under ops state.bounds) a.2 h.operands) p.3)
-
-  divide_goes : (n : ℕ) → 1 ≤ n → (new : State) → judge c state (Divide n) ≡ Ok new → Ends_at new (instruct d (Divide n))
-  divide_goes n one new e =
-      pops state (λ a t. pushed (a / n) t) d.leaf.operands _ new h.operands e
-      (λ a b below rest le u e. adds (a / n) (b / n) below rest new (divided a b n le one) u e)
-
-  modulo_goes : (n : ℕ) → 1 ≤ n → (new : State) → judge c state (Modulo n) ≡ Ok new → Ends_at new (instruct d (Modulo n))
-  modulo_goes n one new e =
-      pops state (λ a t. pushed (min a (n - 1)) t) d.leaf.operands _ new h.operands e
-      (λ a b below rest le u e. adds (a % n) (min b (n - 1)) below rest new (remains a b n le one) u e)
-
-  get_goes : (i : ℕ) (new : State) → judge c state (Get i) ≡ Ok new → Ends_at new (instruct d (Get i))
-  get_goes i new e =
-      pushes (slice_index d.leaf.locals i) (slice_index c.subject.program.locals i) d.leaf.operands state.bounds new
-      (under_index d.leaf.locals c.subject.program.locals i h.locals) h.operands e
-
-  set_goes : (i : ℕ) (new : State) → judge c state (Set i) ≡ Ok new → Ends_at new (instruct d (Set i))
-  set_goes i new e =
-      pops state (λ a t. must (nat_le a (slice_index c.subject.program.locals i)) ValueTooLarge (Ok t)) d.leaf.operands _ new h.operands e
-      (λ a b below rest le u e.
-      let m = must_holds (nat_le b (slice_index c.subject.program.locals i)) ValueTooLarge _ new e in
-      let less = leb-true b (slice_index c.subject.program.locals i) m.0 in
-      gives_at _ Quiet rest new (stands below (slice_set d.leaf.locals i a) rest u
-      (under_set d.leaf.locals c.subject.program.locals i a h.locals (omega (arith, less, le)))) (ok_same m.1))
-
-  index_goes : (i : ℕ) (new : State) → judge c state (Index i) ≡ Ok new → Ends_at new (instruct d (Index i))
-  unfolding Ends_at
-  index_goes i new e =
-      let n = given_there (slice_get c.counts i) MissingOperand (λ n. pushed (n - 1) state) new e in
-      let f = round_within d.leaf.loops c.counts i n.0 h.loops n.1 in
-      let less = f.2 in
-      safe_need (round_of d.leaf.loops i) _ _ f.0 f.1 (pushes f.0 (n.0 - 1) d.leaf.operands state.bounds new (omega (arith, less)) h.operands n.2)
-
-  combine_goes : (f : Operator) (new : State) → judge c state (Combine f) ≡ Ok new → Ends_at new (instruct d (Combine f))
-  combine_goes f new e =
-      pops state (λ b t. popped t (λ a u. pushed (bound_of f a b) u)) d.leaf.operands _ new h.operands e (λ y top below rest y_le u e.
-      pops (record state { bounds = rest }) (λ a u. pushed (bound_of f a top) u) below _ new u e (λ x next under left x_le u e.
-      adds (combined f x y) (bound_of f next top) under left new (combines f x y next top x_le y_le) u e))
+  operands_go s ranged new e =
+      let b = bounds_there state (bounds_after (limits c) state.bounds s) new e in
+      let o = operated_within (limits c) (bench d) state.bounds h.operands h.locals h.loops g.inputs s ranged b.0 b.1 in
+      safe_need (operate (bench d) s) MissingOperand (operated d) o.0 o.1
+      (gives_at _ Quiet b.0 new (stands o.0.operands o.0.locals b.0 o.2 o.3) b.2)
 
   -- BYTES
 
@@ -307,15 +266,7 @@ module _ (promised : ℕ → Option Kind) (c : Context) (d : Doing) (t : TakesLe
   unfolding Ends_at
   goes new (Say text) own ranged e = gives_at _ (Line text) state.bounds new (stands d.leaf.operands d.leaf.locals state.bounds h.operands h.locals) (ok_same e)
   goes new Out own ranged e = out_goes new e
-  goes new Drop own ranged e = drop_goes new e
-  goes new Dup own ranged e = dup_goes new e
-  goes new (Push n) own ranged e = pushes n n d.leaf.operands state.bounds new (omega arith) h.operands e
-  goes new (Divide n) own ranged e = divide_goes n (divides n greatest_number ranged) new e
-  goes new (Modulo n) own ranged e = modulo_goes n (divides n greatest_number ranged) new e
-  goes new (Get i) own ranged e = get_goes i new e
-  goes new (Set i) own ranged e = set_goes i new e
-  goes new (Index i) own ranged e = index_goes i new e
-  goes new (Combine f) own ranged e = combine_goes f new e
+  goes new (Operands s) own ranged e = operands_go s ranged new e
   goes new (Make form place n) own ranged e = makes promised c d t g state h place _ (Memory form n) new (and_left (is_slot place) _ ranged)
       (fresh_bytes promised c d t g state h form n) e
   goes new (MakePool place n m) own ranged e = makes promised c d t g state h place _ (Pool_kind n m) new (and_left (is_slot place) _ ranged)

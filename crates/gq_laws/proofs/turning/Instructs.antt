@@ -1,9 +1,9 @@
 -- What holds of the world after an instruction, a reply and an accepted request, where it is known of each change that these make.
-use Rattle.std.proofs.Common.{◌≡◌, ℕ, List, length, length-set, Option, Some, None, refl}
+use Rattle.std.proofs.Common.{◌≡◌, ℕ, List, length, Option, Some, None, refl}
 use Rattle.std.specs.Prelude.{slice_get, slice_set}
 use Rattle.gq_model.specs.declared.program.Place.{Place}
 use Rattle.gq_model.specs.declared.program.Instruction.{Instruction}
-use Rattle.gq_model.specs.declared.program.Instruction.TheVariants.{Say, Set, Open, Upgrade, Call}
+use Rattle.gq_model.specs.declared.program.Instruction.TheVariants.{Say, Operands, Open, Upgrade, Call}
 use Rattle.gq_model.specs.declared.program.Section.{Section}
 use Rattle.gq_model.specs.declared.program.Section.TheVariants.{Main, Opening, Upgrading, Calling, Closing}
 use Rattle.gq_model.specs.declared.phase.Phase.TheVariants.{Blocked}
@@ -14,10 +14,11 @@ use Rattle.gq_model.specs.machine.World.{slot_at, spot_of, with_leaf, with_slot}
 use Rattle.gq_model.specs.machine.Sums.{paid}
 use Rattle.gq_model.specs.machine.Doing.{Doing, Quiet, standing, with_operands, settled}
 use Rattle.gq_model.specs.machine.Requests.{asked, open_session, upgrade, call}
-use Rattle.gq_model.specs.machine.Step.{instruct, all_empty, serving, unblocked, replied, reply_close, reply, accept, main_ended, section_ended}
+use Rattle.gq_model.specs.machine.Step.{bench, instruct, all_empty, serving, unblocked, replied, reply_close, reply, accept, main_ended, section_ended}
 use Rattle.gq_laws.proofs.turning.Endings.{Ends, gives, fails, need_ends, need_found, when_ends, pop_ends, push_ends, link_in_ends, absent_ends, fill_ends}
 use Rattle.gq_laws.proofs.turning.Endings.{bytes_in_ends, pool_in_ends}
 use Rattle.gq_laws.proofs.turning.Outcomes.{closed, section_taken, taken}
+use Rattle.gq_model.proofs.Operated.{locals_left}
 use Rattle.gq_model.specs.machine.World.{In_leaf, In_session, In_object, Leaf, put_leaf_slot, put_session_slot, put_object}
 
 -- SLOTS
@@ -77,7 +78,8 @@ module _ (d : Doing) (Q P : World → Type 0) (here : Q d.world) (writes : (w : 
   pub instruct_by : (i : Instruction) → ((place : Place) (service : List ℕ) (n : ℕ) → i ≡ Open place service n → Ends P (open_session d place service n))
       → ((place : Place) (n : ℕ) → i ≡ Upgrade place n → Ends P (upgrade d place n)) → Ends P (instruct d i)
   instruct_by (Say text) opens upgrades = gives _ _ unchanged
-  instruct_by (Set n) opens upgrades = pop_ends P _ _ (λ a rest. gives _ _ (goes_on d.world rest _ (length-set d.leaf.locals n a) here))
+  instruct_by (Operands s) opens upgrades = need_found P _ _ _
+      (λ o at. gives _ _ (goes_on d.world o.operands o.locals ((locals_left (bench d) s).holds o at) here))
   instruct_by (Open place service n) opens upgrades = opens place service n refl
   instruct_by (Upgrade place n) opens upgrades = upgrades place n refl
   instruct_by (Call place) opens upgrades = call_ends place

@@ -17,6 +17,7 @@ use Rattle.gq_model.specs.rules.Kinds.{Kind, Memory, Pool_kind, Link_kind, no_ki
 use Rattle.gq_model.specs.rules.Flow.{bank_at}
 use Rattle.gq_model.specs.rules.Use.{subject}
 use Rattle.gq_laws.specs.Kept.{section_asked}
+use Rattle.gq_laws.specs.Shapes.{AreInputs}
 use Rattle.gq_laws.specs.Links.{Naming, Leads, Waits, named, naming_in, stance_in, stance, outline, outline_in, pending_of, links, IsLinkedWorld}
 use Rattle.gq_laws.specs.Typed.{IsKind, AreKinds, IsLinkKind, PromisesLinks, HasBuffer, SharesBuffers}
 use Rattle.gq_laws.specs.Statements.{TakesLeaf, Grants}
@@ -170,8 +171,9 @@ stood d takes = ap stance_in takes.there ∙ (ap (λ p. Some (stance p takes.old
 pub grants : (promised : ℕ → Option Kind) (extra : Extra) (d : Doing) → IsSure d.system → IsLinkedWorld d.system d.world
     → IsTypedBy promised extra d.system d.world
     → (section : Section) (counts : List ℕ) → TakesLeaf d → d.leaf.phase ≢ Blocked → slice_get d.system.components d.x ≡ Some d.component
+    → AreInputs d.component.node.inputs d.leaf.inputs
     → Grants promised (record { subject = subject d.system d.component; section = section; counts = counts }) d
-grants promised extra d sure h t section counts takes awake at =
+grants promised extra d sure h t section counts takes awake at low =
     record {
       interfaces = refl;
       provided = λ current s is there. (provided_current promised extra d.system sure d.world h t d.x d.component d.leaf.phase d.leaf.current at
@@ -179,4 +181,5 @@ grants promised extra d sure h t section counts takes awake at =
       links = promises_links promised d.system d.world h t.tells;
       buffers = shares_buffers promised extra d.system sure d.world h t;
       awake = is_awake d takes h awake;
+      inputs = low;
     }

@@ -14,6 +14,7 @@ use Rattle.gq_model.specs.rules.Flow.{flow, context, body, start_of}
 use Rattle.gq_model.specs.rules.Use.{subject}
 use Rattle.gq_laws.specs.Reached.{IsReached}
 use Rattle.gq_laws.specs.Links.{IsLinkedWorld}
+use Rattle.gq_laws.specs.Shapes.{IsWholeWorld}
 use Rattle.gq_laws.specs.Sound.{IsSound}
 use Rattle.gq_laws.specs.internal.Left.{AreLeft, IsGood}
 use Rattle.gq_laws.specs.Statements.{IsSafe, TakesLeaf}
@@ -21,13 +22,16 @@ use Rattle.gq_laws.specs.Typing.{Extra, no_extra, section_of, IsInSection, Stand
 use Rattle.gq_laws.proofs.gathering.Reaching.{in_reached}
 use Rattle.gq_laws.proofs.linking.Linked_worlds.{kept_linked, start_linked}
 use Rattle.gq_laws.proofs.remaining.Worlds.{start_left, kept_left}
+use Rattle.gq_laws.proofs.turning.Whole_worlds.{start_whole, kept_whole}
 use Rattle.gq_laws.proofs.verified.Programs.{main_there}
 use Rattle.gq_laws.proofs.stating.Rules.{safe_gives}
 use Rattle.gq_laws.proofs.verified.Sure.{IsSure}
 use Rattle.gq_laws.proofs.verified.Sound_systems.{sure_of, good_of}
 use Rattle.gq_laws.proofs.typing.Start.{nothing, start_typed}
+use Rattle.gq_laws.proofs.setting.Settings.{set_whole, set_linked, set_left, set_typed}
 use Rattle.gq_laws.proofs.typing.Steps.{outcome, outcome_typed}
 use Rattle.gq_model.proofs.Rules_laws.{section_flows}
+use Rattle.gq_model.specs.machine.Run.{set_input}
 
 -- a leaf whose step is counted stands where it stood
 in_section_counted : (promised : ℕ → Option Kind) (extra : Extra) (system : System) (w : World) (x : ℕ) (c : Component) (leaf : Leaf) (n : ℕ) (phase : Phase)
@@ -63,9 +67,9 @@ counted promised extra system w x c leaf n Handling s = in_section_counted promi
 counted promised extra system w x c leaf n Exited s = s
 
 -- one turn
-pub next_typed : (system : System) → IsSure system → (w : World) → IsLinkedWorld system w → AreLeft (IsGood system) system w → IsTyped system w → (x : ℕ)
-    → IsSafe (IsTyped system) (next system w x)
-next_typed system sure w h left t x = by (slice_get system.components x) refl (slice_get w.leaves x) refl
+pub next_typed : (system : System) → IsSure system → (w : World) → IsWholeWorld system w → IsLinkedWorld system w → AreLeft (IsGood system) system w
+    → IsTyped system w → (x : ℕ) → IsSafe (IsTyped system) (next system w x)
+next_typed system sure w whole h left t x = by (slice_get system.components x) refl (slice_get w.leaves x) refl
   where
     by : (o : Option Component) → slice_get system.components x ≡ o → (p : Option Leaf) → slice_get w.leaves x ≡ p
         → IsSafe (IsTyped system) (step_of system w x o p)
@@ -74,7 +78,7 @@ next_typed system sure w h left t x = by (slice_get system.components x) refl (s
     by (Some c) e (Some leaf) f =
         let d : Doing = record { system = system; world = w; x = x; component = c; leaf = record leaf { steps = suc leaf.steps } } in
         let taken : TakesLeaf d = record { old = leaf; there = f; slots = refl; phase = refl; current = refl } in
-        let o = outcome t.0 no_extra d sure taken h t.1 e (left x c leaf e f).todo
+        let o = outcome t.0 no_extra d sure taken h t.1 e (left x c leaf e f).todo (whole.inputs x c leaf e f)
         (counted t.0 no_extra system w x c leaf (suc leaf.steps) leaf.phase (t.1.leaves x c leaf e f)) in
         record { ends = λ new event g. outcome_typed t.0 no_extra d sure taken h t.1 e new (o.ends new event g); short = o.short }
 
@@ -96,6 +100,7 @@ module _ (s : Scenario) (sound : IsSound s) where
 
   -- a world that is typed, with all that its steps take for granted
   record Stands (w : World) : Type 0 where
+    whole : IsWholeWorld (system s) w
     linked : IsLinkedWorld (system s) w
     left : AreLeft (IsGood (system s)) (system s) w
     typed : IsTyped (system s) w
@@ -103,21 +108,32 @@ module _ (s : Scenario) (sound : IsSound s) where
   stands_on : (w : World) (x : ℕ) (new : World) (event : Event) → Stands w → next (system s) w x ≡ Ok (new, event) → Stands new
   stands_on w x new event h e =
       record {
+        whole = kept_whole (system s) w x new event h.whole e;
         linked = kept_linked (system s) w x new event h.linked e;
         left = kept_left (IsGood (system s)) (system s) (good_of s sound) w x new event h.left e;
-        typed = (next_typed (system s) sure w h.linked h.left h.typed x).ends new event e;
+        typed = (next_typed (system s) sure w h.whole h.linked h.left h.typed x).ends new event e;
+      }
+
+  stands_set : (w : World) (x i n : ℕ) → Stands w → Stands (set_input (system s) w x i n)
+  stands_set w x i n h =
+      record {
+        whole = set_whole (system s) w x i n h.whole;
+        linked = set_linked (system s) w x i n h.linked;
+        left = set_left (IsGood (system s)) (system s) w x i n h.left;
+        typed = (h.typed.0, set_typed h.typed.0 no_extra (system s) (system s) w x i n h.typed.1);
       }
 
   stands_first : Stands (start (system s))
   stands_first =
       record {
+        whole = start_whole (system s);
         linked = start_linked (system s);
         left = start_left (IsGood (system s)) (system s) (good_of s sound);
         typed = (nothing, start_typed no_extra (system s) sure main_flows main_listed (λ x c there. tt));
       }
 
   reached_stands : (w : World) → IsReached s w → Stands w
-  reached_stands = in_reached s Stands stands_on stands_first
+  reached_stands = in_reached s Stands stands_on stands_set stands_first
 
   -- each world is typed
   pub reached_typed : (w : World) → IsReached s w → IsTyped (system s) w

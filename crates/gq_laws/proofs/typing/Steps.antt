@@ -16,6 +16,7 @@ use Rattle.gq_model.specs.rules.Kinds.{Kind, State, Context, Subject}
 use Rattle.gq_model.specs.rules.Flow.{Flowed, flow, context, body, start_of, bank_at, section_end}
 use Rattle.gq_model.specs.rules.Use.{subject}
 use Rattle.gq_laws.specs.Kept.{counts_of, within, After, Continues, level_then}
+use Rattle.gq_laws.specs.Shapes.{AreInputs}
 use Rattle.gq_laws.specs.Links.{IsAt, Fits, stance, IsLinkedWorld}
 use Rattle.gq_laws.specs.Typed.{IsCurrent, Meets}
 use Rattle.gq_laws.specs.internal.Left.{AllAre, IsGood}
@@ -88,6 +89,7 @@ leaves_bank v (Closing l) end last level is at whole ends = tt
 pub record Acts (promised : ℕ → Option Kind) (before : Extra) (d : Doing) : Type 0 where
   pub active : IsActive d.leaf.phase
   pub good : AllAre (IsGood d.system d.component) d.leaf.todo
+  pub inputs : AreInputs d.component.node.inputs d.leaf.inputs
   pub state : State
   pub end : State
   pub meets : Meets promised (within (context (subject d.system d.component) (section_of d.leaf.current)) d.leaf.loops) state d.world d.leaf
@@ -154,8 +156,8 @@ module _ (promised : ℕ → Option Kind) (before : Extra) (d : Doing) (sure : I
   module _ (a : Acts promised before d) where
     inside_safe : IsInside d.leaf.todo d.leaf.loops → Safe (perform d d.leaf.todo)
     inside_safe inside =
-        let leads = leads_on promised c d takes (grants promised before d sure h t (section_of d.leaf.current) [] takes (not_blocked a.active) at) a.state a.end
-        inside a.meets a.goes_on in
+        let leads = leads_on promised c d takes (grants promised before d sure h t (section_of d.leaf.current) [] takes (not_blocked a.active) at a.inputs)
+        a.state a.end inside a.meets a.goes_on in
         record {
           ends = λ w event e. Goes_on a inside (keeps_to_itself d w event inside e) (leads.ends w event e) event e;
           short = leads.short;
@@ -172,7 +174,7 @@ module _ (promised : ℕ → Option Kind) (before : Extra) (d : Doing) (sure : I
         subst (λ todo. Safe (perform d todo)) (sym done) (subst (λ l. Safe (body_ended d l)) (sym out) (record {
           ends = λ w event e. Has_ended a done out f.1 m ends event e;
           short = λ wrong e. ends_ruled promised c d takes
-              (grants promised before d sure h t (section_of d.leaf.current) [] takes (not_blocked a.active) at) refl
+              (grants promised before d sure h t (section_of d.leaf.current) [] takes (not_blocked a.active) at a.inputs) refl
               a.end f.1 wrong m ends e;
         }))
 
@@ -193,7 +195,7 @@ module _ (promised : ℕ → Option Kind) (before : Extra) (d : Doing) (sure : I
     ask_safe i rest is served =
         let s = do_ok c a.state a.end i rest d.leaf.loops (subst (λ todo. Continues c a.state todo d.leaf.loops a.end) is a.goes_on) in
         let g = grants promised before (with_rest d rest) sure h t (section_of d.leaf.current) (counts_of d.leaf.loops) (taken rest)
-        (not_blocked a.active) at in
+        (not_blocked a.active) at a.inputs in
         let r = asks_ruled promised (within c d.leaf.loops) (with_rest d rest) (taken rest) h
         (tells_links promised d.system d.world h t.tells) g a.state s.0 i served (meets_rest rest) s.1 in
         subst (λ todo. Safe (perform d todo)) (sym is) (record {
@@ -222,13 +224,14 @@ module _ (promised : ℕ → Option Kind) (before : Extra) (d : Doing) (sure : I
             e (λ old there. tt)).short;
       }
 
-  acting : AllAre (IsGood d.system d.component) d.leaf.todo → IsActive d.leaf.phase → (phase : Phase)
+  acting : AllAre (IsGood d.system d.component) d.leaf.todo → AreInputs d.component.node.inputs d.leaf.inputs → IsActive d.leaf.phase → (phase : Phase)
       → (s : IsInSection promised before d.system d.world d.x d.component d.leaf phase (section_of d.leaf.current)) → s.next ≡ s.state
       → Safe (perform d d.leaf.todo)
-  acting good active phase s from =
+  acting good inputs active phase s from =
       performs (record {
         active = active;
         good = good;
+        inputs = inputs;
         state = s.state;
         end = s.end;
         meets = s.meets;
@@ -238,16 +241,17 @@ module _ (promised : ℕ → Option Kind) (before : Extra) (d : Doing) (sure : I
         also = subst (λ st. before d.x (section_of d.leaf.current) st d.leaf.todo d.leaf.loops) from s.also;
       })
 
-  pub outcome : AllAre (IsGood d.system d.component) d.leaf.todo → StandsBy promised before d.system d.world d.x d.component d.leaf d.leaf.phase
+  pub outcome : AllAre (IsGood d.system d.component) d.leaf.todo → AreInputs d.component.node.inputs d.leaf.inputs
+      → StandsBy promised before d.system d.world d.x d.component d.leaf d.leaf.phase
       → Safe (step_in d d.leaf.phase)
-  outcome good stands = by d.leaf.phase refl stands
+  outcome good inputs stands = by d.leaf.phase refl stands
     where
       by : (phase : Phase) → d.leaf.phase ≡ phase → StandsBy promised before d.system d.world d.x d.component d.leaf phase → Safe (step_in d phase)
       by Pending e s = idle
-      by Running e s = acting good (inl e) Running s s.from
+      by Running e s = acting good inputs (inl e) Running s s.from
       by Blocked e s = idle
       by Serving e s = accepts e
-      by Handling e s = acting good (inr e) Handling s s.from
+      by Handling e s = acting good inputs (inr e) Handling s s.from
       by Exited e s = idle
 
   -- THE WORLD AFTER IT
@@ -264,7 +268,8 @@ module _ (promised : ℕ → Option Kind) (before : Extra) (d : Doing) (sure : I
     asked_typed a i rest served new judges goes_on event is b also =
         after_typed promised before after (with_rest d rest) carries i a.state new a.end (taken a rest) h (not_blocked a.active) at t
         (tells_links promised d.system d.world h t.tells)
-        (grants promised before (with_rest d rest) sure h t (section_of d.leaf.current) (counts_of d.leaf.loops) (taken a rest) (not_blocked a.active) at)
+        (grants promised before (with_rest d rest) sure h t (section_of d.leaf.current) (counts_of d.leaf.loops) (taken a rest) (not_blocked a.active) at
+        a.inputs)
         served
         (meets_rest a rest) judges goes_on a.whole a.listed also w event is b
 

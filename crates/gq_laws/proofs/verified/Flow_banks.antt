@@ -8,18 +8,19 @@ use Rattle.gq_model.specs.declared.program.Place.{Place}
 use Rattle.gq_model.specs.declared.program.Place.TheVariants.{Own, Shared, Object}
 use Rattle.gq_model.specs.declared.program.Width.{Width}
 use Rattle.gq_model.specs.declared.program.Instruction.{Instruction}
-use Rattle.gq_model.specs.declared.program.Instruction.TheVariants.{Say, Out, Drop, Dup, Push, Divide, Modulo, Get, Set, Index, Combine, Make, MakePool, Load}
+use Rattle.gq_model.specs.declared.program.Instruction.TheVariants.{Say, Out, Operands, Make, MakePool, Load}
 use Rattle.gq_model.specs.declared.program.Instruction.TheVariants.{Store, Free, Take, Give, Peek, Poke, Open, Upgrade, Call, Close}
 use Rattle.gq_model.specs.machine.Program.{bytes_of, Statements, Done, Do, If, Loop}
 use Rattle.gq_model.specs.machine.Scenario.{Interface, interface_in, number_of}
 use Rattle.gq_model.specs.declared.fault.Rule.{Rule}
 use Rattle.gq_model.specs.rules.Kinds.{Kind, Empty_kind, Memory, Pool_kind, Link_kind, State, Context, in_main, kind_at, with_kind}
-use Rattle.gq_model.specs.rules.Rules.{Judged, must, given, top, pushed, is_empty_kind, is_memory_kind, is_later, is_kept, may_change, reach, pool_kind, fill}
-use Rattle.gq_model.specs.rules.Rules.{freed, link_kind, linked, opened, upgraded, called, closed, pooled, reached, judge, judged}
+use Rattle.gq_model.specs.rules.Rules.{Judged, Bounded, must, given, top, pushed, is_empty_kind, is_memory_kind, is_later, is_kept, may_change, reach}
+use Rattle.gq_model.specs.rules.Rules.{pool_kind, fill, freed, link_kind, linked, opened, upgraded, called, closed, pooled, reached, with_bounds, judge}
+use Rattle.gq_model.specs.rules.Rules.{judged}
 use Rattle.gq_model.specs.rules.Flow.{at, later, chosen_from, flow, state_or}
 use Rattle.gq_model.proofs.Small.{none_some, some_same}
 use Rattle.gq_laws.proofs.linking.Worlds.{set_else}
-use Rattle.gq_laws.proofs.stating.Rules.{given_there, top_there, pushed_there, judged_alone}
+use Rattle.gq_laws.proofs.stating.Rules.{given_there, top_there, bounds_there, pushed_there, judged_alone}
 use Rattle.std.proofs.lemmas.Bool.{true≢false, false≢true, not-true}
 use Rattle.gq_model.proofs.Rules_laws.{then_ok, at_ok, later_ok, loop_ok, ok_same, must_holds, if_parts}
 
@@ -55,6 +56,9 @@ module _ (c : Context) (P : List Kind → List Kind → Type 0) (change : (s : S
 
   ok_keeps : (s : State) (bounds : List ℕ) → Keeps s (Ok (record s { bounds = bounds }))
   ok_keeps s bounds = record { holds = λ t e h. subst (λ (u : State). P u.own u.bank) (ok_same e) h }
+
+  bounds_keep : (s : State) (b : Bounded) → Keeps s (with_bounds s b)
+  bounds_keep s b = record { holds = λ t e h. subst (λ (u : State). P u.own u.bank) (bounds_there s b t e).2 h }
 
   must_keeps : (s : State) (b : Bool) (rule : Rule) (next : Judged) → (b ≡ true → Keeps s next) → Keeps s (must b rule next)
   must_keeps s b rule next go = record { holds = λ t e h. (let m = must_holds b rule next t e in (go m.0).holds t m.1 h) }
@@ -132,15 +136,7 @@ module _ (c : Context) (P : List Kind → List Kind → Type 0) (change : (s : S
   judge_keeps : (s : State) (i : Instruction) → Keeps s (judge c s i)
   judge_keeps s (Say text) = ok_keeps s s.bounds
   judge_keeps s Out = top_keeps s s.bounds _ (λ a rest. ok_keeps s rest)
-  judge_keeps s Drop = top_keeps s s.bounds _ (λ a rest. ok_keeps s rest)
-  judge_keeps s Dup = top_keeps s s.bounds _ (λ a rest. pushed_keeps s a s.bounds)
-  judge_keeps s (Push n) = pushed_keeps s n s.bounds
-  judge_keeps s (Divide n) = top_keeps s s.bounds _ (λ a rest. pushed_keeps s _ rest)
-  judge_keeps s (Modulo n) = top_keeps s s.bounds _ (λ a rest. pushed_keeps s _ rest)
-  judge_keeps s (Get i) = pushed_keeps s _ s.bounds
-  judge_keeps s (Set i) = top_keeps s s.bounds _ (λ a rest. must_keeps s _ _ _ (λ within. ok_keeps s rest))
-  judge_keeps s (Index d) = given_keeps s (slice_get c.counts d) _ _ (λ n there. pushed_keeps s _ s.bounds)
-  judge_keeps s (Combine f) = top_keeps s s.bounds _ (λ b rest. top_keeps s rest _ (λ a below. pushed_keeps s _ below))
+  judge_keeps s (Operands o) = bounds_keep s _
   judge_keeps s (Make form place n) = fill_keeps s place (Memory form n)
   judge_keeps s (MakePool place n m) = fill_keeps s place (Pool_kind n m)
   judge_keeps s (Load width place) = top_keeps s s.bounds _ (λ i rest. reached_keeps s place i width _ (pushed_keeps s _ rest))

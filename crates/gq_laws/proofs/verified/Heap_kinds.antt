@@ -1,12 +1,12 @@
 -- By the rules no kind for which the heap has places comes into a session's bank.
 use Rattle.std.proofs.Common.{◌≡◌, ℕ, zero, suc, ◌+◌, ◌&&◌, nat_lt, Bool, true, false, not, List, length, Option, Ok, Err, refl, ap, sym, subst}
-use Rattle.std.specs.Prelude.{nat_le, slice_get, slice_index_or}
+use Rattle.std.specs.Prelude.{nat_le, slice_index_or}
 use Rattle.gq_model.specs.machine.Amounts.{Amount, amount, plus}
 use Rattle.gq_model.specs.declared.program.Place.{Place}
 use Rattle.gq_model.specs.declared.program.Place.TheVariants.{Own, Shared, Object}
 use Rattle.gq_model.specs.declared.program.Width.{Width}
 use Rattle.gq_model.specs.declared.program.Instruction.{Instruction}
-use Rattle.gq_model.specs.declared.program.Instruction.TheVariants.{Say, Out, Drop, Dup, Push, Divide, Modulo, Get, Set, Index, Combine, Make, MakePool, Load}
+use Rattle.gq_model.specs.declared.program.Instruction.TheVariants.{Say, Out, Operands, Make, MakePool, Load}
 use Rattle.gq_model.specs.declared.program.Instruction.TheVariants.{Store, Free, Take, Give, Peek, Poke, Open, Upgrade, Call, Close}
 use Rattle.gq_model.specs.declared.program.Section.{Section}
 use Rattle.gq_model.specs.declared.program.Section.TheVariants.{Main, Opening, Upgrading, Calling, Closing}
@@ -14,10 +14,11 @@ use Rattle.gq_model.specs.declared.fault.Rule.{Rule}
 use Rattle.gq_model.specs.machine.Program.{bytes_of, Statements, Done, Do, If, Loop}
 use Rattle.gq_model.specs.machine.Scenario.{Interface, interface_in}
 use Rattle.gq_model.specs.rules.Kinds.{Kind, Empty_kind, Memory, Pool_kind, Link_kind, State, Subject, Context, kind_at, with_kind, no_kinds}
-use Rattle.gq_model.specs.rules.Rules.{Judged, must, given, top, pushed, is_empty_kind, is_memory_kind, is_kept, may_change, is_heap_kind, is_shared, reach}
-use Rattle.gq_model.specs.rules.Rules.{pool_kind, fill, freed, link_kind, linked, opened, upgraded, called, closed, pooled, reached, judge, judged}
+use Rattle.gq_model.specs.rules.Rules.{Judged, Bounded, must, given, top, pushed, is_empty_kind, is_memory_kind, is_kept, may_change, is_heap_kind, is_shared}
+use Rattle.gq_model.specs.rules.Rules.{reach, pool_kind, fill, freed, link_kind, linked, opened, upgraded, called, closed, pooled, reached, with_bounds}
+use Rattle.gq_model.specs.rules.Rules.{judge, judged}
 use Rattle.gq_model.specs.rules.Flow.{Flowed, at, later, chosen_from, flow, state_or, context, body, bank_at, bank_before, start_of}
-use Rattle.gq_laws.proofs.stating.Rules.{given_there, top_there, pushed_there, judged_alone}
+use Rattle.gq_laws.proofs.stating.Rules.{given_there, top_there, bounds_there, pushed_there, judged_alone}
 use Rattle.gq_laws.proofs.stating.Numbers.{each_set}
 use Rattle.gq_laws.proofs.verified.Kind_costs.{NoHeap}
 use Rattle.gq_model.proofs.Rules_laws.{then_ok, at_ok, later_ok, loop_ok, ok_same, must_holds, if_parts}
@@ -39,6 +40,9 @@ record StaysLight (s : State) (j : Judged) : Type 0 where
 
 ok_light : (s : State) (bounds : List ℕ) → StaysLight s (Ok (record s { bounds = bounds }))
 ok_light s bounds = record { holds = λ t e h. subst (λ (u : State). NoHeap u.bank) (ok_same e) h }
+
+bounds_light : (s : State) (b : Bounded) → StaysLight s (with_bounds s b)
+bounds_light s b = record { holds = λ t e h. subst (λ (u : State). NoHeap u.bank) (bounds_there s b t e).2 h }
 
 must_light : (s : State) (b : Bool) (rule : Rule) (next : Judged) → (b ≡ true → StaysLight s next) → StaysLight s (must b rule next)
 must_light s b rule next go = record { holds = λ t e h. (let m = must_holds b rule next t e in (go m.0).holds t m.1 h) }
@@ -109,15 +113,7 @@ module _ (c : Context) where
   judge_light : (s : State) (i : Instruction) → StaysLight s (judge c s i)
   judge_light s (Say text) = ok_light s s.bounds
   judge_light s Out = top_light s s.bounds _ (λ a rest. ok_light s rest)
-  judge_light s Drop = top_light s s.bounds _ (λ a rest. ok_light s rest)
-  judge_light s Dup = top_light s s.bounds _ (λ a rest. pushed_light s a s.bounds)
-  judge_light s (Push n) = pushed_light s n s.bounds
-  judge_light s (Divide n) = top_light s s.bounds _ (λ a rest. pushed_light s _ rest)
-  judge_light s (Modulo n) = top_light s s.bounds _ (λ a rest. pushed_light s _ rest)
-  judge_light s (Get i) = pushed_light s _ s.bounds
-  judge_light s (Set i) = top_light s s.bounds _ (λ a rest. must_light s _ _ _ (λ within. ok_light s rest))
-  judge_light s (Index d) = given_light s (slice_get c.counts d) _ _ (λ n. pushed_light s _ s.bounds)
-  judge_light s (Combine f) = top_light s s.bounds _ (λ b rest. top_light s rest _ (λ a below. pushed_light s _ below))
+  judge_light s (Operands o) = bounds_light s _
   judge_light s (Make form place n) = fill_light s place (Memory form n)
   judge_light s (MakePool place n m) = fill_light s place (Pool_kind n m)
   judge_light s (Load width place) = top_light s s.bounds _ (λ i rest. reached_light s place i width _ (pushed_light s _ rest))

@@ -9,18 +9,19 @@ use Rattle.gq_model.specs.declared.program.Place.{Place}
 use Rattle.gq_model.specs.declared.program.Place.TheVariants.{Own, Shared, Object}
 use Rattle.gq_model.specs.declared.program.Width.{Width}
 use Rattle.gq_model.specs.declared.program.Instruction.{Instruction}
-use Rattle.gq_model.specs.declared.program.Instruction.TheVariants.{Say, Out, Drop, Dup, Push, Divide, Modulo, Get, Set, Index, Combine, Make, MakePool, Load}
+use Rattle.gq_model.specs.declared.program.Instruction.TheVariants.{Say, Out, Operands, Make, MakePool, Load}
 use Rattle.gq_model.specs.declared.program.Instruction.TheVariants.{Store, Free, Take, Give, Peek, Poke, Open, Upgrade, Call, Close}
 use Rattle.gq_model.specs.machine.Program.{bytes_of, Statements, Done, Do, If, Loop, text_eq}
 use Rattle.gq_model.specs.machine.Scenario.{Interface, interface_in, number_of}
 use Rattle.gq_model.specs.declared.fault.Rule.{Rule}
 use Rattle.gq_model.specs.rules.Kinds.{Kind, Empty_kind, Memory, Pool_kind, Link_kind, State, Context, in_main, kind_at, with_kind}
-use Rattle.gq_model.specs.rules.Rules.{Judged, must, given, top, pushed, is_empty_kind, is_memory_kind, is_heap_kind, is_shared, is_kept, may_change, reach}
-use Rattle.gq_model.specs.rules.Rules.{pool_kind, fill, freed, link_kind, linked, opened, upgraded, called, closed, pooled, reached, judge, judged}
+use Rattle.gq_model.specs.rules.Rules.{Judged, Bounded, must, given, top, pushed, is_empty_kind, is_memory_kind, is_heap_kind, is_shared, is_kept, may_change}
+use Rattle.gq_model.specs.rules.Rules.{reach, pool_kind, fill, freed, link_kind, linked, opened, upgraded, called, closed, pooled, reached, with_bounds}
+use Rattle.gq_model.specs.rules.Rules.{judge, judged}
 use Rattle.gq_model.specs.rules.Flow.{Flowed, at, later, chosen_from, flow, state_or}
 use Rattle.gq_model.specs.rules.Use.{opened_by, services_of}
 use Rattle.gq_model.proofs.Small.{none_some, some_same}
-use Rattle.gq_laws.proofs.stating.Rules.{given_there, top_there, pushed_there, judged_alone}
+use Rattle.gq_laws.proofs.stating.Rules.{given_there, top_there, bounds_there, pushed_there, judged_alone}
 use Rattle.gq_laws.proofs.verified.Flow_banks.{shown}
 use Rattle.std.proofs.lemmas.Bool.{or_parts, or_from}
 use Rattle.gq_model.proofs.Rules_laws.{then_ok, at_ok, later_ok, loop_ok, ok_same, must_holds, if_parts}
@@ -83,6 +84,9 @@ module _ (service : List ℕ) where
 
     ok_keeps : (s : State) (bounds : List ℕ) → Keeps s (Ok (record s { bounds = bounds }))
     ok_keeps s bounds = record { holds = λ t e h. subst (Linkless service) (ok_same e) h }
+
+    bounds_keep : (s : State) (b : Bounded) → Keeps s (with_bounds s b)
+    bounds_keep s b = record { holds = λ t e h. subst (Linkless service) (bounds_there s b t e).2 h }
 
     must_keeps : (s : State) (b : Bool) (rule : Rule) (next : Judged) → (b ≡ true → Keeps s next) → Keeps s (must b rule next)
     must_keeps s b rule next go = record { holds = λ t e h. (let m = must_holds b rule next t e in (go m.0).holds t m.1 h) }
@@ -149,15 +153,7 @@ module _ (service : List ℕ) where
     judge_keeps : (s : State) (i : Instruction) → any_of (text_eq service) (opened_by i) ≡ false → Keeps s (judge c s i)
     judge_keeps s (Say text) none = ok_keeps s s.bounds
     judge_keeps s Out none = top_keeps s s.bounds _ (λ a rest. ok_keeps s rest)
-    judge_keeps s Drop none = top_keeps s s.bounds _ (λ a rest. ok_keeps s rest)
-    judge_keeps s Dup none = top_keeps s s.bounds _ (λ a rest. pushed_keeps s a s.bounds)
-    judge_keeps s (Push n) none = pushed_keeps s n s.bounds
-    judge_keeps s (Divide n) none = top_keeps s s.bounds _ (λ a rest. pushed_keeps s _ rest)
-    judge_keeps s (Modulo n) none = top_keeps s s.bounds _ (λ a rest. pushed_keeps s _ rest)
-    judge_keeps s (Get i) none = pushed_keeps s _ s.bounds
-    judge_keeps s (Set i) none = top_keeps s s.bounds _ (λ a rest. must_keeps s _ _ _ (λ ok. ok_keeps s rest))
-    judge_keeps s (Index d) none = given_keeps s (slice_get c.counts d) _ _ (λ n there. pushed_keeps s _ s.bounds)
-    judge_keeps s (Combine f) none = top_keeps s s.bounds _ (λ b rest. top_keeps s rest _ (λ a below. pushed_keeps s _ below))
+    judge_keeps s (Operands o) none = bounds_keep s _
     judge_keeps s (Make form place n) none = fill_keeps s place (Memory form n) refl
     judge_keeps s (MakePool place n m) none = fill_keeps s place (Pool_kind n m) refl
     judge_keeps s (Load width place) none = top_keeps s s.bounds _ (λ i rest. reached_keeps s place i width _ (pushed_keeps s _ rest))

@@ -5,7 +5,7 @@ use Rattle.gq_model.specs.machine.Lists.{any_of}
 use Rattle.gq_model.specs.declared.program.Section.{Section}
 use Rattle.gq_model.specs.declared.program.Section.TheVariants.{Main, Opening, Upgrading, Calling, Closing}
 use Rattle.gq_model.specs.declared.program.Instruction.{Instruction}
-use Rattle.gq_model.specs.declared.program.Instruction.TheVariants.{Say, Out, Drop, Dup, Push, Divide, Modulo, Get, Set, Index, Combine, Make, MakePool, Load}
+use Rattle.gq_model.specs.declared.program.Instruction.TheVariants.{Say, Out, Operands, Make, MakePool, Load}
 use Rattle.gq_model.specs.declared.program.Instruction.TheVariants.{Store, Free, Take, Give, Peek, Poke, Open, Upgrade, Call, Close}
 use Rattle.gq_model.specs.machine.Program.{Statements, Done, Do, If, Loop, same_section, section_in, body_of, text_eq}
 use Rattle.gq_model.specs.rules.Kinds.{Kind, Empty_kind, Memory, Pool_kind, Link_kind, State, Subject, Context, inside, no_kinds, own_empty, kind_at}
@@ -40,15 +40,7 @@ module _ (service : List ℕ) (section : Section) where
   asks_none c s (Close place) none h = other_link service section (kind_at c s place) (λ l. Closing l) (λ kind e. no_link service c s place kind h e)
   asks_none c s (Say text) none h = refl
   asks_none c s Out none h = refl
-  asks_none c s Drop none h = refl
-  asks_none c s Dup none h = refl
-  asks_none c s (Push n) none h = refl
-  asks_none c s (Divide n) none h = refl
-  asks_none c s (Modulo n) none h = refl
-  asks_none c s (Get i) none h = refl
-  asks_none c s (Set i) none h = refl
-  asks_none c s (Index d) none h = refl
-  asks_none c s (Combine f) none h = refl
+  asks_none c s (Operands o) none h = refl
   asks_none c s (Make form place n) none h = refl
   asks_none c s (MakePool place n m) none h = refl
   asks_none c s (Load width place) none h = refl

@@ -5,7 +5,7 @@ use Rattle.std.proofs.Common.{◌∙◌, subst, arith}
 use Rattle.std.specs.Prelude.{slice_get}
 use Rattle.std.proofs.Math.Nat.{le-max_left, le-max_right}
 use Rattle.std.proofs.lemmas.Bool.{leb-true}
-use Rattle.gq_model.specs.machine.Amounts.{Resource, Ram, Caps, amount, part}
+use Rattle.gq_model.specs.machine.Amounts.{Resource, Ram, Caps, amount, part, counts_caps}
 use Rattle.gq_model.specs.machine.Lists.{or_first, greatest}
 use Rattle.gq_model.specs.declared.program.Section.{Section}
 use Rattle.gq_model.specs.declared.program.Section.TheVariants.{Main}
@@ -169,7 +169,7 @@ module _ (s : Scenario) (x : ℕ) (c : Component) (there : slice_get (components
 
 -- of each resource that is counted it is what the verifier finds
 pub own_is : (s : Scenario) (x : ℕ) (c : Component) → EachOf (system s).counted (λ r. part r (budget_of s x c).own ≡ own r (subject (system s) c))
-own_is s x c = by (s.version == 2)
+own_is s x c = by (counts_caps s.version)
   where
     by : (b : Bool) → EachOf (cond b (Ram ∷ Caps ∷ []) (Ram ∷ []))
         (λ r. part r (amount (own Ram (subject (system s) c)) (cond b (own Caps (subject (system s) c)) 0)) ≡ own r (subject (system s) c))

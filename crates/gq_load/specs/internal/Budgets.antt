@@ -1,7 +1,7 @@
 -- Budgets as far as numbers of 64 bits keep them.
 use Rattle.std.specs.Prelude.{ℕ, suc, ◌==◌, if◌then◌else◌, List, [], ◌∷◌, Option}
 use Rattle.gq_model.specs.machine.Lists.{or_first}
-use Rattle.gq_model.specs.machine.Amounts.{Amount, Ram, Caps, amount}
+use Rattle.gq_model.specs.machine.Amounts.{Amount, Ram, Caps, amount, counts_caps}
 use Rattle.gq_model.specs.rules.Kinds.{Subject}
 use Rattle.gq_model.specs.machine.Scenario.{System, Component}
 use Rattle.gq_model.specs.rules.Budgets.{own}
@@ -12,11 +12,11 @@ use Rattle.gq_load.specs.internal.Judged.{judged_by}
 
 -- the budget of a program with so many steps; capabilities are 0 in version 1
 abbrev pub budget_with : ℕ → Subject → ℕ → Budget
-budget_with version v steps = record { own = amount (own Ram v) (if version == 2 then own Caps v else 0); steps = steps }
+budget_with version v steps = record { own = amount (own Ram v) (if counts_caps version then own Caps v else 0); steps = steps }
 
 -- the same of one that uses so much of its own account
 abbrev pub budget_from : ℕ → Amount → ℕ → Budget
-budget_from version own steps = record { own = amount own.ram (if version == 2 then own.caps else 0); steps = steps }
+budget_from version own steps = record { own = amount own.ram (if counts_caps version then own.caps else 0); steps = steps }
 
 -- the budgets of programs that use so much, each with so many steps
 abbrev pub budgets_with : ℕ → List Amount → List ℕ → List Budget

@@ -3,13 +3,14 @@ use Rattle.std.proofs.Common.{◌≡◌, List, [], ◌∷◌, Some, None, refl}
 use Rattle.std.specs.Prelude.{codes}
 use Rattle.std.specs.Fmt.{digits}
 use Rattle.gq_model.specs.machine.Amounts.{amount}
-use Rattle.gq_model.specs.machine.Program.{Own, Shared, Block, Space, Multiply, Out, Drop, Push, Get, Set, Combine, Make, Open, Call, Close, Statements, Done}
+use Rattle.gq_model.specs.machine.Program.{Own, Shared, Block, Space, Multiply, Out, Make, Open, Call, Close, Statements, Done}
 use Rattle.gq_model.specs.machine.Program.{Do, If, Loop, Section, Main, Opening, Calling, Closing, Program}
 use Rattle.gq_model.specs.machine.Scenario.{Scenario, Child, Parent, LeafNode}
 use Rattle.gq_model.specs.rules.Accept.{refusal}
 use Rattle.gq_model.specs.texts.Fault_texts.{said_of}
 use Rattle.gq_model.proofs.Samples.{program, leaf, leaves, server, any_to, scenario, served, one, main_of, echo, echo_sections, echo_server, echo_client}
 use Rattle.gq_model.proofs.Samples.{asking, echo_of, log_of, row_of_leaves, echo_with_caps, two_blocks, two_caps}
+use Rattle.gq_model.proofs.Words.{drop, combine, push, get, set}
 
 -- PROGRAMS
 
@@ -25,21 +26,21 @@ abbrev one_main : Statements → Scenario
 one_main body = scenario 65536 (leaves (leaf (codes "a") 4096 (program ((Main, body) ∷ [])) ∷ []))
 
 -- a join bears the number of its `if`
-join_differs : said_of (refusal (one_main (Do (Push 1) (If (Do (Make Space (Own 0) 4096) Done) Done Done)))) ≡ codes "a: V8 JoinDiffers in main at 2"
+join_differs : said_of (refusal (one_main (Do (push 1) (If (Do (Make Space (Own 0) 4096) Done) Done Done)))) ≡ codes "a: V8 JoinDiffers in main at 2"
 unfolding digits
 join_differs = refl
 
 -- a fault in the second arm comes before that of the join
-second_arm : said_of (refusal (one_main (Do (Push 1) (If (Do (Make Space (Own 0) 4096) Done) (Do Out Done) Done)))) ≡ codes "a: V1 MissingOperand in main at 4"
+second_arm : said_of (refusal (one_main (Do (push 1) (If (Do (Make Space (Own 0) 4096) Done) (Do Out Done) Done)))) ≡ codes "a: V1 MissingOperand in main at 4"
 unfolding digits
 second_arm = refl
 
 -- a fault after a loop counts what is in it
-after_a_loop : said_of (refusal (one_main (Loop 2 (Do (Push 1) (Do Drop Done)) (Do Out Done)))) ≡ codes "a: V1 MissingOperand in main at 4"
+after_a_loop : said_of (refusal (one_main (Loop 2 (Do (push 1) (Do drop Done)) (Do Out Done)))) ≡ codes "a: V1 MissingOperand in main at 4"
 unfolding digits
 after_a_loop = refl
 
-leftover_at_the_end : said_of (refusal (one_main (Do (Push 1) Done))) ≡ codes "a: V3 LeftoverOperand in main at 2"
+leftover_at_the_end : said_of (refusal (one_main (Do (push 1) Done))) ≡ codes "a: V3 LeftoverOperand in main at 2"
 unfolding digits
 leftover_at_the_end = refl
 
@@ -56,17 +57,17 @@ abbrev good_client : Program
 good_client = main_of (asking (codes "echo") 8192 21)
 
 heap_in_session : said_of (refusal (echo_by ((Main, Done) ∷ (Opening, Done)
-    ∷ (Calling 0, Do (Make Block (Shared 1) 32) (Do (Push 2) (Do (Combine Multiply) Done))) ∷ (Closing 0, Done) ∷ []) good_client))
+    ∷ (Calling 0, Do (Make Block (Shared 1) 32) (Do (push 2) (Do (combine Multiply) Done))) ∷ (Closing 0, Done) ∷ []) good_client))
     ≡ codes "srv: V11 HeapInSession in call 0 at 1"
 unfolding digits
 heap_in_session = refl
 
-link_left_open : said_of (refusal (echo_by echo_sections (main_of (Open (Own 0) (codes "echo") 8192 ∷ Push 21 ∷ Call (Own 0) ∷ Out ∷ []))))
+link_left_open : said_of (refusal (echo_by echo_sections (main_of (Open (Own 0) (codes "echo") 8192 ∷ push 21 ∷ Call (Own 0) ∷ Out ∷ []))))
     ≡ codes "cli: V14 LinkLeftOpen in main at 5"
 unfolding digits
 link_left_open = refl
 
-missing_section : said_of (refusal (echo_by ((Main, Done) ∷ (Opening, Done) ∷ (Calling 0, Do (Push 2) (Do (Combine Multiply) Done)) ∷ []) good_client))
+missing_section : said_of (refusal (echo_by ((Main, Done) ∷ (Opening, Done) ∷ (Calling 0, Do (push 2) (Do (combine Multiply) Done)) ∷ []) good_client))
     ≡ codes "srv: V16 MissingSection in close 0 at 0"
 unfolding digits
 missing_section = refl
@@ -83,12 +84,12 @@ looping =
       nodes = leaves (record (server (codes "srv") 4096 (codes "echo") []) {
         program = record {
           locals = 1000 ∷ [];
-          sections = (Main, Done) ∷ (Opening, Done) ∷ (Calling 0, Do (Set 0) (Loop 65535 Done (Do (Get 0) Done))) ∷ (Closing 0, Done) ∷ [];
+          sections = (Main, Done) ∷ (Opening, Done) ∷ (Calling 0, Do (set 0) (Loop 65535 Done (Do (get 0) Done))) ∷ (Closing 0, Done) ∷ [];
         };
       } ∷ leaf (codes "cli") 16384 (program ((
         Main,
         Do (Open (Own 0) (codes "echo") 8192)
-            (Loop 65535 (Loop 65535 (Do (Push 1) (Do (Call (Own 0)) (Do Drop Done))) Done) (Do (Close (Own 0)) Done)),
+            (Loop 65535 (Loop 65535 (Do (push 1) (Do (Call (Own 0)) (Do drop Done))) Done) (Do (Close (Own 0)) Done)),
       ) ∷ [])) ∷ []);
     }
 
@@ -118,7 +119,7 @@ no_route = refl
 
 own_cycle : said_of (refusal (echo_nodes (record echo_server {
   quantum = amount 16384 0;
-  program = program ((Main, Do (Open (Own 0) (codes "echo") 8192) Done) ∷ (Opening, Done) ∷ (Calling 0, Do (Push 2) (Do (Combine Multiply) Done))
+  program = program ((Main, Do (Open (Own 0) (codes "echo") 8192) Done) ∷ (Opening, Done) ∷ (Calling 0, Do (push 2) (Do (combine Multiply) Done))
       ∷ (Closing 0, Done) ∷ []);
 } ∷ cli ∷ []))) ≡ codes "S10 Cycle srv"
 unfolding digits

@@ -1,27 +1,33 @@
 -- Each rule of the verifier, broken once, with its place, by computation.
-use Rattle.std.proofs.Common.{◌≡◌, ℕ, List, [], ◌∷◌, Option, Some, None, refl}
+use Rattle.std.proofs.Common.{◌≡◌, ◌++◌, ℕ, List, [], ◌∷◌, Option, Some, None, refl}
 use Rattle.std.specs.Prelude.{codes, replicate}
 use Rattle.std.specs.Fmt.{digits}
 use Rattle.gq_model.specs.machine.Amounts.{amount}
-use Rattle.gq_model.specs.machine.Program.{Own, Shared, Slice, Space, Byte, Word, Multiply, Out, Drop, Dup, Push, Set, Index, Combine, Make, MakePool, Load}
+use Rattle.gq_model.specs.machine.Program.{Own, Shared, Slice, Space, Byte, Word, Multiply, Out, Make, MakePool, Load}
 use Rattle.gq_model.specs.machine.Program.{Free, Take, Open, Upgrade, Call, Statements, Done, Do, If, Loop, Section, Main, Opening, Upgrading, Calling, Closing}
 use Rattle.gq_model.specs.machine.Scenario.{Interface}
 use Rattle.gq_model.specs.rules.Verdict.{program_fault, Fault}
 use Rattle.gq_model.specs.texts.Fault_texts.{program_text}
 use Rattle.gq_model.proofs.Samples.{all_do, program, echo, log_interface}
+use Rattle.gq_model.proofs.Words.{drop, dup, combine, push, set, index, input}
 
 abbrev fault_text : Option Fault → List ℕ
 fault_text None = []
 fault_text (Some fault) = program_text fault
 
--- a leaf that provides nothing, under an echo and a log
-abbrev client : Statements → List ℕ
-client body =
+-- a leaf with these inputs that provides nothing, under an echo and a log
+abbrev reads : List ℕ → Statements → List ℕ
+reads inputs body =
     fault_text (program_fault (record {
       program = program ((Main, body) ∷ []);
       provided = None;
       interfaces = (codes "echo", echo) ∷ (codes "log", log_interface) ∷ [];
+      inputs = inputs;
     }))
+
+-- one without inputs
+abbrev client : Statements → List ℕ
+client body = reads [] body
 
 -- a server of this interface
 abbrev serves : Interface → List (Section × Statements) → List ℕ
@@ -30,6 +36,7 @@ serves i sections =
       program = record { sections = sections; locals = 10 ∷ replicate 7 4294967295 };
       provided = Some i;
       interfaces = (codes "echo", echo) ∷ [];
+      inputs = [];
     }))
 
 -- an echo with these sections
@@ -58,29 +65,29 @@ missing_operand : client (all_do (Out ∷ [])) ≡ codes "V1 MissingOperand in m
 unfolding digits
 missing_operand = refl
 
-index_outside : client (Loop 2 (Do (Index 1) Done) Done) ≡ codes "V1 MissingOperand in main at 2"
+index_outside : client (Loop 2 (Do (index 1) Done) Done) ≡ codes "V1 MissingOperand in main at 2"
 unfolding digits
 index_outside = refl
 
-stack_too_deep : client (all_do (replicate 17 (Push 1))) ≡ codes "V2 StackTooDeep in main at 17"
+stack_too_deep : client (all_do (replicate 17 (push 1))) ≡ codes "V2 StackTooDeep in main at 17"
 unfolding digits
 stack_too_deep = refl
 
-leftover_at_an_if : client (Do (Push 1) (Do (Push 1) (If Done Done Done))) ≡ codes "V3 LeftoverOperand in main at 3"
+leftover_at_an_if : client (Do (push 1) (Do (push 1) (If Done Done Done))) ≡ codes "V3 LeftoverOperand in main at 3"
 unfolding digits
 leftover_at_an_if = refl
 
 -- at the number of the loop
-leftover_in_a_body : client (Loop 2 (Do (Push 1) Done) Done) ≡ codes "V3 LeftoverOperand in main at 1"
+leftover_in_a_body : client (Loop 2 (Do (push 1) Done) Done) ≡ codes "V3 LeftoverOperand in main at 1"
 unfolding digits
 leftover_in_a_body = refl
 
 -- what is inside both arms comes first
-leftover_in_an_arm : client (Do (Push 1) (If (Do (Push 1) Done) (Do Out Done) Done)) ≡ codes "V1 MissingOperand in main at 4"
+leftover_in_an_arm : client (Do (push 1) (If (Do (push 1) Done) (Do Out Done) Done)) ≡ codes "V1 MissingOperand in main at 4"
 unfolding digits
 leftover_in_an_arm = refl
 
-leftover_at_the_end : client (all_do (Push 1 ∷ [])) ≡ codes "V3 LeftoverOperand in main at 2"
+leftover_at_the_end : client (all_do (push 1 ∷ [])) ≡ codes "V3 LeftoverOperand in main at 2"
 unfolding digits
 leftover_at_the_end = refl
 
@@ -97,15 +104,15 @@ unfolding digits
 slot_in_use = refl
 
 -- a space of 1 has a whole page
-byte_out_of_range : client (all_do (Make Space (Own 0) 1 ∷ Push 4096 ∷ Load Byte (Own 0) ∷ [])) ≡ codes "V6 OutOfRange in main at 3"
+byte_out_of_range : client (all_do (Make Space (Own 0) 1 ∷ push 4096 ∷ Load Byte (Own 0) ∷ [])) ≡ codes "V6 OutOfRange in main at 3"
 unfolding digits
 byte_out_of_range = refl
 
-word_out_of_range : client (all_do (Make Slice (Own 0) 8 ∷ Push 5 ∷ Load Word (Own 0) ∷ [])) ≡ codes "V6 OutOfRange in main at 3"
+word_out_of_range : client (all_do (Make Slice (Own 0) 8 ∷ push 5 ∷ Load Word (Own 0) ∷ [])) ≡ codes "V6 OutOfRange in main at 3"
 unfolding digits
 word_out_of_range = refl
 
-entry_out_of_range : client (all_do (MakePool (Own 0) 16 4 ∷ Push 4 ∷ Take (Own 0) ∷ [])) ≡ codes "V6 OutOfRange in main at 3"
+entry_out_of_range : client (all_do (MakePool (Own 0) 16 4 ∷ push 4 ∷ Take (Own 0) ∷ [])) ≡ codes "V6 OutOfRange in main at 3"
 unfolding digits
 entry_out_of_range = refl
 
@@ -113,12 +120,12 @@ upgrade_out_of_range : client (all_do (Open (Own 0) (codes "echo") 8192 ∷ Upgr
 unfolding digits
 upgrade_out_of_range = refl
 
-argument_too_large : client (all_do (Open (Own 0) (codes "echo") 8192 ∷ Push 1001 ∷ Call (Own 0) ∷ [])) ≡ codes "V7 ValueTooLarge in main at 3"
+argument_too_large : client (all_do (Open (Own 0) (codes "echo") 8192 ∷ push 1001 ∷ Call (Own 0) ∷ [])) ≡ codes "V7 ValueTooLarge in main at 3"
 unfolding digits
 argument_too_large = refl
 
 -- kinds differ by their sizes
-join_differs : client (Do (Push 1) (If (Do (Make Space (Own 0) 4096) Done) (Do (Make Space (Own 0) 4095) Done) Done)) ≡ codes "V8 JoinDiffers in main at 2"
+join_differs : client (Do (push 1) (If (Do (Make Space (Own 0) 4096) Done) (Do (Make Space (Own 0) 4095) Done) Done)) ≡ codes "V8 JoinDiffers in main at 2"
 unfolding digits
 join_differs = refl
 
@@ -148,16 +155,16 @@ good_log_server : logs buffered good_up good_call good_close ≡ codes ""
 unfolding digits
 good_log_server = refl
 
-reply_missing : echoes Done (all_do (Drop ∷ [])) ≡ codes "V1 MissingOperand in call 0 at 2"
+reply_missing : echoes Done (all_do (drop ∷ [])) ≡ codes "V1 MissingOperand in call 0 at 2"
 unfolding digits
 reply_missing = refl
 
-reply_too_large : echoes Done (all_do (Push 3 ∷ Combine Multiply ∷ [])) ≡ codes "V7 ValueTooLarge in call 0 at 3"
+reply_too_large : echoes Done (all_do (push 3 ∷ combine Multiply ∷ [])) ≡ codes "V7 ValueTooLarge in call 0 at 3"
 unfolding digits
 reply_too_large = refl
 
 -- the argument is up to 1000, the local up to 10
-limit_too_small : echoes Done (all_do (Dup ∷ Set 0 ∷ [])) ≡ codes "V7 ValueTooLarge in call 0 at 2"
+limit_too_small : echoes Done (all_do (dup ∷ set 0 ∷ [])) ≡ codes "V7 ValueTooLarge in call 0 at 2"
 unfolding digits
 limit_too_small = refl
 
@@ -209,3 +216,25 @@ one_too_many : serves echo ((Main, Done) ∷ (Opening, Done) ∷ (Upgrading 1, D
     ≡ codes "V16 MissingSection in up 1 at 0"
 unfolding digits
 one_too_many = refl
+
+no_input : client (all_do (input 0 ∷ [])) ≡ codes "V19 NoInput in main at 1"
+unfolding digits
+no_input = refl
+
+second_input : reads (5 ∷ []) (all_do (input 0 ∷ Out ∷ input 1 ∷ [])) ≡ codes "V19 NoInput in main at 3"
+unfolding digits
+second_input = refl
+
+-- that there is no room for one more operand comes first
+deep_input : client (all_do (replicate 16 (push 1) ++ input 0 ∷ [])) ≡ codes "V2 StackTooDeep in main at 17"
+unfolding digits
+deep_input = refl
+
+-- what is read is at most the greatest value
+input_out_of_range : reads (4 ∷ []) (all_do (MakePool (Own 0) 16 4 ∷ input 0 ∷ Take (Own 0) ∷ [])) ≡ codes "V6 OutOfRange in main at 3"
+unfolding digits
+input_out_of_range = refl
+
+input_in_range : reads (3 ∷ []) (all_do (MakePool (Own 0) 16 4 ∷ input 0 ∷ Take (Own 0) ∷ drop ∷ Free (Own 0) ∷ [])) ≡ []
+unfolding digits
+input_in_range = refl

@@ -1,14 +1,15 @@
 -- Program text and code, by computation.
 use Rattle.std.proofs.Common.{◌≡◌, ℕ, List, [], ◌∷◌, ◌++◌, refl}
 use Rattle.std.specs.Prelude.{codes, true, false, Result, Ok, Err, replicate, take, zero, suc}
-use Rattle.gq_model.specs.machine.Program.{Own, Shared, Object, Block, Slice, Space, Byte, Word, Add, Subtract, Multiply, And, Equal, Less, Say, Out, Drop, Dup}
-use Rattle.gq_model.specs.machine.Program.{Push, Divide, Modulo, Get, Set, Index, Combine, Make, MakePool, Load, Store, Free, Take, Give, Peek, Poke, Open}
+use Rattle.gq_model.specs.machine.Program.{Own, Shared, Object, Block, Slice, Space, Byte, Word, Add, Subtract, Multiply, And, Equal, Less, Say, Out}
+use Rattle.gq_model.specs.machine.Program.{Make, MakePool, Load, Store, Free, Take, Give, Peek, Poke, Open}
 use Rattle.gq_model.specs.machine.Program.{Upgrade, Call, Close, Done, Do, If, Loop, ◌then◌, Main, Calling, Program}
 use Rattle.gq_model.specs.texts.Code.{code_of, hex_of, is_program}
 use Rattle.gq_model.specs.texts.Decode.{Decoded, Truncated, TrailingBytes, BadNesting, decoded}
 use Rattle.gq_model.specs.texts.Spelling.{TextFault, UnknownWord, BadNumber, BadSlot, Unclosed, StrayEnd, BadText, SectionTwice, TooLong}
 use Rattle.gq_model.specs.texts.Text.{assembled}
 use Rattle.gq_model.proofs.Samples.{all_do, hello_leaf, echo_server, program, main_of, log_server, pool_main}
+use Rattle.gq_model.proofs.Words.{drop, dup, combine, push, divide, modulo, get, set, index}
 
 abbrev Assembled : Type 0
 Assembled = Result Program (TextFault × ℕ)
@@ -23,13 +24,13 @@ empty_code : code_of (program []) ≡ 0 ∷ 0 ∷ 0 ∷ []
 empty_code = refl
 
 -- an `if` with one arm
-if_code : hex_of (code_of (program ((Main, Do (Push 1) (If (Do Out Done) Done Done)) ∷ []))) ≡ codes "0001000f000000030100000040010000000000000002"
+if_code : hex_of (code_of (program ((Main, Do (push 1) (If (Do Out Done) Done Done)) ∷ []))) ≡ codes "0001000f000000030100000040010000000000000002"
 if_code = refl
 
 -- a limit, a loop and a session slot
 limit_code : hex_of (code_of (record {
   sections = (Main, Done)
-      ∷ (Calling 1, Loop 258 (Do (Load Byte Object) (Do Drop Done)) (Do (MakePool (Shared 3) 16 1024) Done)) ∷ [];
+      ∷ (Calling 1, Loop 258 (Do (Load Byte Object) (Do drop Done)) (Do (MakePool (Shared 3) 16 1024) Done)) ∷ [];
   locals = 1000 ∷ replicate 7 4294967295;
 }))
     ≡ codes "01e803000041000000000010000000410201030000002548042343100000" ++ codes "04"
@@ -40,7 +41,7 @@ in_range : (is_program hello_leaf.program ≡ true) × (is_program echo_server.p
 in_range = (refl, refl, refl, refl)
 
 -- a division by 0, an object to be freed and a fifth block are out of range
-out_of_range : (is_program (main_of (Divide 0 ∷ [])) ≡ false) × (is_program (main_of (Free Object ∷ [])) ≡ false)
+out_of_range : (is_program (main_of (divide 0 ∷ [])) ≡ false) × (is_program (main_of (Free Object ∷ [])) ≡ false)
     × (is_program (program ((Main, Loop 1 (Loop 1 (Loop 1 (Loop 1 (Loop 1 Done Done) Done) Done) Done) Done) ∷ [])) ≡ false)
 out_of_range = (refl, refl, refl)
 
@@ -94,7 +95,7 @@ log_text : assembled
 log_text = refl
 
 blocks_text : assembled (codes "main\npush 1\nif\nloop 3\nindex 0\ndrop\nend\nelse\nout\nend\nout\nend\n")
-    ≡ Ok (program ((Main, Do (Push 1) (If (Loop 3 (Do (Index 0) (Do Drop Done)) Done) (Do Out Done) (Do Out Done))) ∷ []))
+    ≡ Ok (program ((Main, Do (push 1) (If (Loop 3 (Do (index 0) (Do drop Done)) Done) (Do Out Done) (Do Out Done))) ∷ []))
 blocks_text = refl
 
 limit_text : assembled (codes "local 0 1000\nmain\nload obj\nend\n")
@@ -197,8 +198,8 @@ every_statement = record {
   sections = (
     Calling 3,
     all_do
-        (Say (codes "a b") ∷ Out ∷ Push 4294967295 ∷ Drop ∷ Dup ∷ Combine Add ∷ Combine Subtract ∷ Combine Multiply ∷ Divide 7 ∷ Modulo 258 ∷ Combine And
-        ∷ Combine Equal ∷ Combine Less ∷ Get 7 ∷ Set 3 ∷ Index 2 ∷ Make Space (Own 63) 67108864 ∷ Make Slice (Shared 7) 1 ∷ Make Block (Own 0) 2049
+        (Say (codes "a b") ∷ Out ∷ push 4294967295 ∷ drop ∷ dup ∷ combine Add ∷ combine Subtract ∷ combine Multiply ∷ divide 7 ∷ modulo 258 ∷ combine And
+        ∷ combine Equal ∷ combine Less ∷ get 7 ∷ set 3 ∷ index 2 ∷ Make Space (Own 63) 67108864 ∷ Make Slice (Shared 7) 1 ∷ Make Block (Own 0) 2049
         ∷ MakePool (Own 1) 2048 1024 ∷ Free (Own 1) ∷ Load Byte Object ∷ Store Byte (Shared 0) ∷ Load Word (Own 2) ∷ Store Word Object ∷ Take (Own 1)
         ∷ Give (Own 1)
         ∷ Peek (Own 1) ∷ Poke (Own 1) ∷ Open (Own 3) (codes "a-B_9") 0 ∷ Upgrade (Own 3) 70000 ∷ Call (Own 3) ∷ Close (Own 3) ∷ []) then Loop 65535

@@ -1,11 +1,11 @@
 -- The accounts of all nodes, their lines, and the text of a run.
 use Rattle.std.specs.Prelude.{ℕ, suc, ◌+◌, ◌-◌, ◌==◌, if◌then◌else◌, List, [], ◌∷◌, ◌++◌, Option, Some, None, slice_get, slice_index, decimal, codes}
-use Rattle.gq_model.specs.machine.Amounts.{Resource, Ram, Caps, Amount, amount, part}
+use Rattle.gq_model.specs.machine.Amounts.{Resource, Ram, Caps, Amount, amount, part, counts_caps}
 use Rattle.gq_model.specs.machine.Scenario.{Scenario, Component, Nodes, End, Leaf_node, Init_node, System, system, below}
 use Rattle.gq_model.specs.machine.World.{Phase, Pending, Running, Blocked, Serving, Handling, Exited, Leaf, World}
 use Rattle.gq_model.specs.machine.Sums.{handed, held, quota}
 use Rattle.gq_model.specs.machine.Doing.{Wrong}
-use Rattle.gq_model.specs.machine.Run.{Ran, run}
+use Rattle.gq_model.specs.machine.Run.{Ran, Acts, run}
 
 abbrev pub phase_word : Phase → List ℕ
 phase_word Pending = codes "pending"
@@ -51,7 +51,7 @@ pub record Account : Type 0 where
 
 -- capabilities are 0 in version 1
 abbrev pub amount_in : ℕ → ℕ → ℕ → Amount
-amount_in version ram caps = amount ram (if version == 2 then caps else 0)
+amount_in version ram caps = amount ram (if counts_caps version then caps else 0)
 
 abbrev pub init_account : ℕ → World → ℕ → List ℕ → Amount → Nodes → Account
 init_account version w x label quantum children =
@@ -99,9 +99,9 @@ accounts s w budgets =
 abbrev pub entry : List ℕ → ℕ → List ℕ
 entry word n = codes " " ++ word ++ codes " " ++ decimal n
 
--- capabilities are told in version 2 alone
+-- capabilities are printed where they are counted
 abbrev pub told : ℕ → List ℕ → List ℕ
-told version text = if version == 2 then text else []
+told version text = if counts_caps version then text else []
 
 abbrev pub leaf_entries : Option LeafAccount → List ℕ
 leaf_entries None = []
@@ -128,5 +128,5 @@ abbrev pub text_of : Scenario → List ℕ → Ran → Option (ℕ × Wrong) →
 text_of s budgets ran None = ran.text ++ account_lines s.version (accounts s ran.world budgets)
 text_of s budgets ran (Some p) = ran.text
 
-abbrev pub whole : Scenario → List ℕ → List (ℕ × ℕ) → List ℕ
-whole s budgets turns = let ran = run (system s) turns in text_of s budgets ran ran.wrong
+abbrev pub whole : Scenario → List ℕ → Acts → List ℕ
+whole s budgets acts = let ran = run (system s) acts in text_of s budgets ran ran.wrong

@@ -1,5 +1,5 @@
 -- The two kinds of quota.
-use Rattle.std.specs.Prelude.{ℕ, ◌+◌, ◌==◌, if◌then◌else◌, Bool, ◌&&◌, List, [], ◌∷◌}
+use Rattle.std.specs.Prelude.{ℕ, ◌+◌, nat_le, ◌==◌, if◌then◌else◌, Bool, ◌&&◌, List, [], ◌∷◌}
 -- quota of RAM is in bytes, quota of capabilities in their number
 pub use Rattle.gq_tariff.specs.declared.amount.Resource.{Resource}
 pub use Rattle.gq_tariff.specs.declared.amount.Resource.TheVariants.{Ram, Caps}
@@ -25,6 +25,10 @@ total (a ∷ rest) = plus a (total rest)
 abbrev pub same_amount : Amount → Amount → Bool
 same_amount a b = a.ram == b.ram && a.caps == b.caps
 
+-- versions from 2 on count capabilities
+abbrev pub counts_caps : ℕ → Bool
+counts_caps version = nat_le 2 version
+
 -- version 1 counts RAM alone, and refuses nothing for want of capabilities
 abbrev pub counted_in : ℕ → List Resource
-counted_in version = if version == 2 then Ram ∷ Caps ∷ [] else Ram ∷ []
+counted_in version = if counts_caps version then Ram ∷ Caps ∷ [] else Ram ∷ []

@@ -30,7 +30,7 @@ pub record Route : Type 0 where
 pub data Source : Type 0 where
   As_text As_code : (bytes : List ℕ) → Source
 
--- a component with a program: perhaps it provides a service, perhaps it starts after another leaf
+-- a component with a program and the greatest values of its inputs: perhaps it provides a service, perhaps it starts after another leaf
 pub record LeafNode : Type 0 where
   pub name : List ℕ
   pub quantum : Amount
@@ -38,6 +38,7 @@ pub record LeafNode : Type 0 where
   pub program : Program
   pub provides : Option (List ℕ)
   pub after : Option (List ℕ)
+  pub inputs : List ℕ
   pub routes : Option (List Route)
 
 pub record InitNode : Type 0 where

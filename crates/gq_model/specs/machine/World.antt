@@ -62,6 +62,7 @@ pub record Leaf : Type 0 where
   pub slots : List Slot
   pub peaks : List ℕ
   pub steps : ℕ
+  pub inputs : List ℕ
 
 -- a session's number is its place; a place without a session is free
 pub record World : Type 0 where
@@ -87,6 +88,7 @@ start_leaf c =
       slots = replicate 64 Empty;
       peaks = replicate 8 0;
       steps = 0;
+      inputs = replicate 8 0;
     }
 
 abbrev pub start_leaves : List Component → List Leaf

@@ -1,6 +1,6 @@
 -- Which scenarios are accepted, and the budgets of their leaves.
 use Rattle.std.specs.Prelude.{◌≡◌, ℕ, suc, nat_le, ◌==◌, if◌then◌else◌, List, [], ◌∷◌, ◌++◌, Option, Some, None, codes}
-use Rattle.gq_model.specs.machine.Amounts.{Resource, Ram, Caps, Amount, amount, part}
+use Rattle.gq_model.specs.machine.Amounts.{Resource, Ram, Caps, Amount, amount, part, counts_caps}
 use Rattle.gq_model.specs.machine.Scenario.{Scenario, System, Component, system}
 use Rattle.gq_model.specs.machine.Accounts.{entry, told}
 use Rattle.gq_model.specs.machine.Lists.{or_first}
@@ -24,7 +24,7 @@ pub record Budget : Type 0 where
 -- capabilities are 0 in version 1
 abbrev pub budget : ℕ → System → ℕ → Component → Budget
 budget version system x c =
-    let v = subject system c in record { own = amount (own Ram v) (if version == 2 then own Caps v else 0); steps = step_budget system x c }
+    let v = subject system c in record { own = amount (own Ram v) (if counts_caps version then own Caps v else 0); steps = step_budget system x c }
 
 -- the budgets of the leaves from the x-th on
 abbrev pub budgets_from : ℕ → System → ℕ → List Component → List Budget

@@ -21,11 +21,12 @@ pub record State : Type 0 where
   pub bank : List Kind
   pub bounds : List ℕ
 
--- what a program is judged by: the interface that it provides, and all interfaces
+-- what a program is judged by: the interface that it provides, all interfaces, and the greatest values of its inputs
 pub record Subject : Type 0 where
   pub program : Program
   pub provided : Option Interface
   pub interfaces : Interfaces
+  pub inputs : List ℕ
 
 -- where a statement stands: its section, and the counts of the loops around it, the innermost first
 pub record Context : Type 0 where

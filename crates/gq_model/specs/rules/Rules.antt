@@ -2,9 +2,11 @@
 use Rattle.std.specs.Prelude.{ℕ, suc, ◌+◌, ◌-◌, ◌*◌, ◌/◌, ◌^◌, min, nat_lt, nat_le, ◌==◌, if◌then◌else◌, Bool, true, false, ◌&&◌, not, List, [], ◌∷◌, length}
 use Rattle.std.specs.Prelude.{Option, Some, None, Result, Ok, Err, slice_get, slice_index, slice_index_or}
 use Rattle.gq_model.specs.machine.Amounts.{Resource, Ram, Caps, Amount, amount, part, plus}
-use Rattle.gq_model.specs.machine.Program.{Place, Own, Shared, Object, Block, Slice, Space, Width, Byte, Word, bytes_of, Operator, Add, Subtract, Multiply, And}
-use Rattle.gq_model.specs.machine.Program.{Equal, Less, Instruction, Say, Out, Drop, Dup, Push, Divide, Modulo, Get, Set, Index, Combine, Make, MakePool, Load}
-use Rattle.gq_model.specs.machine.Program.{Store, Free, Take, Give, Peek, Poke, Open, Upgrade, Call, Close, Section, Main}
+use Rattle.gq_model.specs.machine.Program.{Place, Own, Shared, Object, Block, Slice, Space, Width, Byte, Word, bytes_of, Operator, Add, Subtract, Multiply}
+use Rattle.gq_model.specs.machine.Program.{And, Equal, Less, Drop, Dup, Combine, Push, Divide, Modulo, Get, Set, Index, Input, OperandStatement, Plain}
+use Rattle.gq_model.specs.machine.Program.{Numbered}
+use Rattle.gq_model.specs.machine.Program.{Instruction, Say, Out, Operands, Make, MakePool, Load, Store, Free, Take, Give, Peek, Poke, Open, Upgrade, Call}
+use Rattle.gq_model.specs.machine.Program.{Close, Section, Main}
 use Rattle.gq_tariff.specs.Prices.{up}
 use Rattle.gq_model.specs.machine.Scenario.{Interface, interface_in, number_of}
 use Rattle.gq_model.specs.rules.Kinds.{Kind, Empty_kind, Memory, Pool_kind, Link_kind, State, Context, in_main, level_of, kind_at, with_kind, need_of}
@@ -12,7 +14,7 @@ use Rattle.gq_model.specs.rules.Kinds.{session_cost}
 pub use Rattle.gq_model.specs.declared.fault.Rule.{Rule}
 pub use Rattle.gq_model.specs.declared.fault.Rule.TheVariants.{MissingOperand, StackTooDeep, LeftoverOperand, WrongKind, SlotInUse, OutOfRange, ValueTooLarge}
 pub use Rattle.gq_model.specs.declared.fault.Rule.TheVariants.{JoinDiffers, SessionBankChanged, OwnBankChanged, HeapInSession, ShortDonation, OverNeed}
-pub use Rattle.gq_model.specs.declared.fault.Rule.TheVariants.{LinkLeftOpen, UnknownService, MissingSection, BudgetTooLarge, OverCaps}
+pub use Rattle.gq_model.specs.declared.fault.Rule.TheVariants.{LinkLeftOpen, UnknownService, MissingSection, BudgetTooLarge, OverCaps, NoInput}
 pub use Rattle.gq_model.specs.machine.Memory.{is_later}
 
 -- the state after a statement, or the rule of least number that is broken there
@@ -166,19 +168,71 @@ abbrev pub loaded_bound : Width → ℕ
 loaded_bound Byte = 255
 loaded_bound Word = most
 
+-- the greatest values of the operands after a statement on operands alone, or the rule that is broken there
+abbrev pub Bounded : Type 0
+Bounded = Result (List ℕ) Rule
+
+-- goes on with the bound of the top operand and those below it
+abbrev pub bounded : List ℕ → (ℕ → List ℕ → Bounded) → Bounded
+bounded [] go = Err MissingOperand
+bounded (a ∷ rest) go = go a rest
+
+-- these bounds where the test holds
+abbrev pub bounds_if : Bool → Rule → List ℕ → Bounded
+bounds_if true rule bounds = Ok bounds
+bounds_if false rule bounds = Err rule
+
+-- one operand more, of at most 16
+abbrev pub raised : ℕ → List ℕ → Bounded
+raised a bounds = bounds_if (nat_lt (length bounds) 16) StackTooDeep (a ∷ bounds)
+
+-- the round of a loop on top, if the loop is open, which has so many rounds
+abbrev pub round_raised : Option ℕ → List ℕ → Bounded
+round_raised None bounds = Err MissingOperand
+round_raised (Some n) bounds = raised (n - 1) bounds
+
+-- where there is no room for one more operand, that is broken, else that there is no such input
+abbrev pub without_input : Bounded → Bounded
+without_input (Ok bounds) = Err NoInput
+without_input (Err rule) = Err rule
+
+-- an input on top, which is at most its greatest value, if the leaf has this input
+abbrev pub input_raised : Option ℕ → List ℕ → Bounded
+input_raised None bounds = without_input (raised 0 bounds)
+input_raised (Some n) bounds = raised n bounds
+
+-- what such a statement reads beside the operands: the greatest values of the locals, the counts of the loops around, the innermost first, and the
+-- greatest values of the inputs
+pub record Limits : Type 0 where
+  pub locals : List ℕ
+  pub counts : List ℕ
+  pub inputs : List ℕ
+
+abbrev pub limits : Context → Limits
+limits c = record { locals = c.subject.program.locals; counts = c.counts; inputs = c.subject.inputs }
+
+abbrev pub bounds_after : Limits → List ℕ → OperandStatement → Bounded
+bounds_after l bounds (Plain Drop) = bounded bounds (λ a rest. Ok rest)
+bounds_after l bounds (Plain Dup) = bounded bounds (λ a rest. raised a (a ∷ rest))
+bounds_after l bounds (Plain (Combine f)) = bounded bounds (λ b below. bounded below (λ a rest. raised (bound_of f a b) rest))
+bounds_after l bounds (Numbered Push n) = raised n bounds
+bounds_after l bounds (Numbered Divide n) = bounded bounds (λ a rest. raised (a / n) rest)
+bounds_after l bounds (Numbered Modulo n) = bounded bounds (λ a rest. raised (min a (n - 1)) rest)
+bounds_after l bounds (Numbered Get n) = raised (slice_index l.locals n) bounds
+bounds_after l bounds (Numbered Set n) = bounded bounds (λ a rest. bounds_if (nat_le a (slice_index l.locals n)) ValueTooLarge rest)
+bounds_after l bounds (Numbered Index n) = round_raised (slice_get l.counts n) bounds
+bounds_after l bounds (Numbered Input n) = input_raised (slice_get l.inputs n) bounds
+
+-- the state with the bounds that such a statement leaves
+abbrev pub with_bounds : State → Bounded → Judged
+with_bounds s (Ok bounds) = Ok (record s { bounds = bounds })
+with_bounds s (Err rule) = Err rule
+
 -- the state after an instruction
 abbrev pub judge : Context → State → Instruction → Judged
 judge c s (Say text) = Ok s
 judge c s Out = popped s (λ a t. Ok t)
-judge c s Drop = popped s (λ a t. Ok t)
-judge c s Dup = popped s (λ a t. pushed a s)
-judge c s (Push n) = pushed n s
-judge c s (Divide n) = popped s (λ a t. pushed (a / n) t)
-judge c s (Modulo n) = popped s (λ a t. pushed (min a (n - 1)) t)
-judge c s (Get i) = pushed (slice_index c.subject.program.locals i) s
-judge c s (Set i) = popped s (λ a t. must (nat_le a (slice_index c.subject.program.locals i)) ValueTooLarge (Ok t))
-judge c s (Index d) = given (slice_get c.counts d) MissingOperand (λ n. pushed (n - 1) s)
-judge c s (Combine f) = popped s (λ b t. popped t (λ a u. pushed (bound_of f a b) u))
+judge c s (Operands o) = with_bounds s (bounds_after (limits c) s.bounds o)
 judge c s (Make form place n) = fill c s place (Memory form n)
 judge c s (MakePool place n m) = fill c s place (Pool_kind n m)
 judge c s (Load width place) = popped s (λ i t. reached c s place i width (pushed (loaded_bound width) t))

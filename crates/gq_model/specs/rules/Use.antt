@@ -9,7 +9,13 @@ use Rattle.gq_model.specs.rules.Budgets.{section_cost, section_requests}
 
 -- a leaf's program and what it is judged by
 abbrev pub subject : System → Component → Subject
-subject system c = record { program = c.node.program; provided = service_in c.node.provides system.interfaces; interfaces = system.interfaces }
+subject system c =
+    record {
+      program = c.node.program;
+      provided = service_in c.node.provides system.interfaces;
+      interfaces = system.interfaces;
+      inputs = c.node.inputs;
+    }
 
 -- SERVICES
 

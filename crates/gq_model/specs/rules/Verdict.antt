@@ -81,7 +81,8 @@ abbrev pub verdict_of : Subject → Option Fault → Result Verified Fault
 verdict_of v None = Ok (verified v)
 verdict_of v (Some fault) = Err fault
 
--- what the verifier says of a program, with the service that it provides and all interfaces
-abbrev pub verdict : Program → Option (List ℕ) → Interfaces → Result Verified Fault
-verdict program provides interfaces =
-    let v : Subject = record { program = program; provided = service_in provides interfaces; interfaces = interfaces } in verdict_of v (program_fault v)
+-- what the verifier says of a program, with the service that it provides, all interfaces and the greatest values of its inputs
+abbrev pub verdict : Program → Option (List ℕ) → Interfaces → List ℕ → Result Verified Fault
+verdict program provides interfaces inputs =
+    let v : Subject = record { program = program; provided = service_in provides interfaces; interfaces = interfaces; inputs = inputs } in
+    verdict_of v (program_fault v)

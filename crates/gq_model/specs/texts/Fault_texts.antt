@@ -34,6 +34,7 @@ rule_word Rules.UnknownService = codes "V15 UnknownService"
 rule_word Rules.MissingSection = codes "V16 MissingSection"
 rule_word Rules.BudgetTooLarge = codes "V17 BudgetTooLarge"
 rule_word Rules.OverCaps = codes "V18 OverCaps"
+rule_word Rules.NoInput = codes "V19 NoInput"
 
 abbrev pub text_fault_word : TextFault → List ℕ
 text_fault_word text.UnknownWord = codes "M1 UnknownWord"
@@ -57,6 +58,8 @@ abbrev pub turn_fault_word : TurnFault → List ℕ
 turn_fault_word turn.BadLine = codes "U1 BadLine"
 turn_fault_word turn.NoSuchComponent = codes "U2 NoSuchComponent"
 turn_fault_word turn.TooMany = codes "U3 TooMany"
+turn_fault_word turn.NoInput = codes "U4 NoInput"
+turn_fault_word turn.InputTooLarge = codes "U5 InputTooLarge"
 
 abbrev pub section_word : Section → List ℕ
 section_word Main = codes "main"

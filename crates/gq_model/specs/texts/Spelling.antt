@@ -1,11 +1,12 @@
 -- How a statement is spelled in program text.
 use Rattle.std.specs.Prelude.{ℕ, ◌==◌, if◌then◌else◌, Bool, true, false, ◌&&◌, List, [], ◌∷◌, Option, Some, None, Result, Ok, Err, codes}
-use Rattle.gq_model.specs.machine.Program.{Place, Own, Shared, Object, Block, Slice, Space, Byte, Word, Add, Subtract, Multiply, And, Equal, Less, Instruction}
-use Rattle.gq_model.specs.machine.Program.{Say, Out, Drop, Dup, Push, Divide, Modulo, Get, Set, Index, Combine, Make, MakePool, Load, Store, Free, Take, Give}
-use Rattle.gq_model.specs.machine.Program.{Peek, Poke, Open, Upgrade, Call, Close, text_eq}
+use Rattle.gq_model.specs.machine.Program.{Place, Own, Shared, Object, Block, Slice, Space, Byte, Word, Add, Subtract, Multiply, And, Equal, Less}
+use Rattle.gq_model.specs.machine.Program.{Bare, Drop, Dup, Combine, WithNumber, Push, Divide, Modulo, Get, Set, Index, Input, Plain, Numbered, Instruction}
+use Rattle.gq_model.specs.machine.Program.{Say, Out}
+use Rattle.gq_model.specs.machine.Program.{Operands, Make, MakePool, Load, Store, Free, Take, Give, Peek, Poke, Open, Upgrade, Call, Close, text_eq}
 use Rattle.gq_model.specs.texts.Letters.{is_blank, is_name, is_said, is_short, number_in, unindented}
 use Rattle.gq_model.specs.machine.Lists.{all_of}
-use Rattle.gq_model.specs.texts.Operands.{greatest_number, greatest_size}
+use Rattle.gq_model.specs.texts.Operands.{greatest_number, greatest_size, bare_entry, number_entry}
 pub use Rattle.gq_model.specs.declared.fault.TextFault.{TextFault}
 pub use Rattle.gq_model.specs.declared.fault.TextFault.TheVariants.{UnknownWord, BadNumber, BadSlot, Unclosed, StrayEnd, BadText, SectionTwice, TooLong}
 
@@ -41,24 +42,34 @@ pub record Spelling : Type 0 where
 abbrev pub spelling : ℕ → List ℕ → Shape → Spelling
 spelling opcode word shape = record { word = word; opcode = opcode; shape = shape }
 
+-- a statement on operands alone, by its entry
+abbrev pub bare : Bare → Spelling
+bare s = spelling (bare_entry s).opcode (bare_entry s).word (Made (Operands (Plain s)))
+
+abbrev pub numbered : WithNumber → Spelling
+numbered s =
+    spelling (number_entry s).opcode (number_entry s).word
+    (number (number_entry s).width (number_entry s).low (number_entry s).high (λ n. Operands (Numbered s n)))
+
 abbrev pub spellings : List Spelling
 spellings =
     spelling 0x01 (codes "say") (Said (λ text. Made (Say text)))
     ∷ spelling 0x02 (codes "out") (Made Out)
-    ∷ spelling 0x03 (codes "push") (number 4 0 greatest_number Push)
-    ∷ spelling 0x04 (codes "drop") (Made Drop)
-    ∷ spelling 0x05 (codes "dup") (Made Dup)
-    ∷ spelling 0x06 (codes "add") (Made (Combine Add))
-    ∷ spelling 0x07 (codes "sub") (Made (Combine Subtract))
-    ∷ spelling 0x08 (codes "mul") (Made (Combine Multiply))
-    ∷ spelling 0x09 (codes "div") (number 4 1 greatest_number Divide)
-    ∷ spelling 0x0a (codes "mod") (number 4 1 greatest_number Modulo)
-    ∷ spelling 0x0b (codes "and") (Made (Combine And))
-    ∷ spelling 0x0c (codes "eq") (Made (Combine Equal))
-    ∷ spelling 0x0d (codes "lt") (Made (Combine Less))
-    ∷ spelling 0x0e (codes "get") (number 1 0 7 Get)
-    ∷ spelling 0x0f (codes "set") (number 1 0 7 Set)
-    ∷ spelling 0x10 (codes "index") (number 1 0 3 Index)
+    ∷ numbered Push
+    ∷ bare Drop
+    ∷ bare Dup
+    ∷ bare (Combine Add)
+    ∷ bare (Combine Subtract)
+    ∷ bare (Combine Multiply)
+    ∷ numbered Divide
+    ∷ numbered Modulo
+    ∷ bare (Combine And)
+    ∷ bare (Combine Equal)
+    ∷ bare (Combine Less)
+    ∷ numbered Get
+    ∷ numbered Set
+    ∷ numbered Index
+    ∷ numbered Input
     ∷ spelling 0x20 (codes "space") (slot_and 1 greatest_size (Make Space))
     ∷ spelling 0x21 (codes "slice") (slot_and 1 greatest_size (Make Slice))
     ∷ spelling 0x22 (codes "block") (slot_and 1 greatest_size (Make Block))
@@ -87,6 +98,11 @@ shape_of_word word (p ∷ rest) = if text_eq word p.word then Some p.shape else 
 abbrev pub shape_of_opcode : ℕ → List Spelling → Option Shape
 shape_of_opcode opcode [] = None
 shape_of_opcode opcode (p ∷ rest) = if opcode == p.opcode then Some p.shape else shape_of_opcode opcode rest
+
+-- the word of the statement with that number
+abbrev pub word_of_opcode : ℕ → List Spelling → List ℕ
+word_of_opcode opcode [] = []
+word_of_opcode opcode (p ∷ rest) = if opcode == p.opcode then p.word else word_of_opcode opcode rest
 
 -- SLOTS
 

@@ -10,7 +10,7 @@ use Rattle.gq_tariff.specs.declared.amount.Amount.{Amount}
 use Rattle.gq_model.specs.declared.phase.Phase.{Phase}
 use Rattle.gq_model.specs.declared.phase.Phase.TheVariants as phase
 use Rattle.gq_model.specs.machine.Accounts.{Account, accounts, amount_in, handed_to, init_quota, leaf_count, spent as given_on}
-use Rattle.gq_model.specs.machine.Amounts.{Resource, Ram, Caps, part, amount}
+use Rattle.gq_model.specs.machine.Amounts.{Resource, Ram, Caps, part, amount, counts_caps}
 use Rattle.gq_model.specs.machine.Scenario.{Scenario, Component, components, system}
 use Rattle.gq_model.specs.machine.Sums.{handed as handed_in, held, quota as quota_in}
 use Rattle.gq_model.specs.machine.World as world
@@ -78,9 +78,9 @@ none_received f leaves m n (Some s ∷ ss) other b =
     omega (arith, e, here, further)
 
 -- capabilities count in version 2 alone
-amount_same : (version a b c d : ℕ) → a ≡ c → ((version == 2) ≡ true → b ≡ d) → amount_in version a b ≡ amount_in version c d
-amount_same version a b c d e f = elim (cases_Bool (version == 2)) [
-  | inl counted ↦ (λ i. amount (e i) (cond (version == 2) (f counted i) 0))
+amount_same : (version a b c d : ℕ) → a ≡ c → ((counts_caps version) ≡ true → b ≡ d) → amount_in version a b ≡ amount_in version c d
+amount_same version a b c d e f = elim (cases_Bool (counts_caps version)) [
+  | inl counted ↦ (λ i. amount (e i) (cond (counts_caps version) (f counted i) 0))
   | inr not ↦ (λ i. amount (e i) (cond (not i) b 0)) ∙ (λ i. amount c (cond (sym not i) d 0))
 ]
 
@@ -223,7 +223,8 @@ pub ram_used : (s : Scenario) (f : Frame) (t : Slots) (x : ℕ) (leaf : world.Le
 ram_used s f t x leaf ready l o p e = sym (l.held f x leaf e).ram
 
 pub caps_used : (s : Scenario) (f : Frame) (t : Slots) (x : ℕ) (leaf : world.Leaf) → IsReady s → AreLawful t → IsOf (system s) f t → AreNodesOf s t.trades
-    → slice_get (world_seen f t).leaves x ≡ Some leaf → s.version ≡ 2 → held Caps (world_seen f t) x leaf ≡ (its_account t.trades.trading x).used.caps
+    → slice_get (world_seen f t).leaves x ≡ Some leaf → counts_caps s.version ≡ true → held Caps (world_seen f t) x leaf
+    ≡ (its_account t.trades.trading x).used.caps
 caps_used s f t x leaf ready l o p e two =
-    let price : t.trades.trading.memory.ledger.price ≡ 1 = p.price ∙ ap (λ v. cond (v == 2) 1 0) two in
+    let price : t.trades.trading.memory.ledger.price ≡ 1 = p.price ∙ ap (λ b. cond b 1 0) two in
     sym ((l.held f x leaf e).caps (λ none. omega (arith, price, none)))

@@ -8,7 +8,7 @@ use Rattle.gq_model.specs.machine.Scenario.{Component}
 use Rattle.gq_model.specs.rules.Kinds.{in_main}
 use Rattle.gq_model.specs.rules.Use.{is_there, services_of}
 use Rattle.gq_resolve.specs.Served.{once, server_among}
-use Rattle.gq_races.specs.Races.{Stated, in_any, stated_in}
+use Rattle.gq_races.specs.Races.{Stated, stated_in}
 
 -- the servers of these services, each asked for once
 abbrev pub servers_of : List Component → Component → List (List ℕ) → List (Option ℕ)
@@ -36,4 +36,4 @@ opens_among all c x _ = false
 -- where these leaves do so
 abbrev pub opened_among : List Component → ℕ → List Component → List Stated
 opened_among all x [] = []
-opened_among all x (c ∷ rest) = stated_in in_any (opens_among all c x) c.label c.node.program.sections ++ opened_among all x rest
+opened_among all x (c ∷ rest) = stated_in (λ section. opens_among all c x) c.label c.node.program.sections ++ opened_among all x rest

@@ -1,8 +1,8 @@
 -- What was noted of a world, and what is told by that.
-use Rattle.std.specs.Prelude.{◌≡◌, if◌then◌else◌, ◌≤◌, ℕ, ◌<◌, List, [], Option, Some, None, get_or, length, map, option_map, slice_get, slice_set}
+use Rattle.std.specs.Prelude.{◌≡◌, if◌then◌else◌, ◌≤◌, ℕ, ◌<◌, List, [], Option, Some, None, get_or, length, map, option_map, slice_get, slice_set, true}
 use Rattle.std.specs.Prelude.{IfSome}
 use Rattle.gq_model.specs.machine.Accounts.{accounts}
-use Rattle.gq_model.specs.machine.Amounts.{Ram, Caps}
+use Rattle.gq_model.specs.machine.Amounts.{Ram, Caps, counts_caps}
 use Rattle.gq_model.specs.machine.Scenario.{Scenario, components, system}
 use Rattle.gq_model.specs.machine.Sums.{held}
 use Rattle.gq_model.specs.machine.World.{Leaf, World}
@@ -79,7 +79,7 @@ pub record IsUse (s : Scenario) (w : World) (x : ℕ) (u : Use) : Type 0 where
   pub there : slice_get w.leaves x ≡ Some leaf
   pub phase : u.phase ≡ leaf.phase
   pub ram : u.used.ram ≡ held Ram w x leaf
-  pub caps : s.version ≡ 2 → u.used.caps ≡ held Caps w x leaf
+  pub caps : counts_caps s.version ≡ true → u.used.caps ≡ held Caps w x leaf
 
 -- the noted accounts and sessions can be noted anew
 pub record CanRenew (w : worlds.World) (n : Notes) : Type 0 where

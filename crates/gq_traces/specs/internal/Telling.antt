@@ -260,11 +260,6 @@ pub record IsOn (programs : List Entries) (stands : List places.Ahead) (w : worl
   pub aheads : AreAheads programs stands t.aheads
   pub count : t.turns ≡ turns
 
--- how many turns a list has
-abbrev pub turns_in : List (ℕ × ℕ) → ℕ
-turns_in [] = 0
-turns_in (p ∷ turns) = p.1 + turns_in turns
-
 -- a trace can go on: the programs are those of the leaves, each of which stands somewhere, and the world is noted
 pub record CanTrace (w : worlds.World) (t : Tracing) : Type 0 where
   pub programs : ArePrograms t.programs.items (programs_of w.scenario)

@@ -2,8 +2,9 @@
 use Rattle.std.specs.Prelude.{◌≡◌, ◌<◌, ◌≤◌, ◌+◌, ◌^◌, ℕ, List, [], ◌∷◌, ◌++◌, length, Option, Result, OnOk, OnErr, slice_index}
 use Rattle.std.specs.Io.KnownBytes.{Appends}
 use Rattle.gq_model.specs.declared.fault.Wrong.{Wrong}
-use Rattle.gq_model.specs.machine.Run.{Ran}
+use Rattle.gq_model.specs.machine.Run.{Ran, Acts}
 use Rattle.gq_model.specs.machine.World.{World}
+use Rattle.gq_model.specs.texts.Turns.{turns_given}
 use Rattle.gq_init.specs.Counts.{failures_of}
 use Rattle.gq_init.specs.Writes.{IsRaised}
 use Rattle.gq_init.specs.declared.counted.Counted.{Counted}
@@ -38,10 +39,10 @@ pub record IsNear (old new : World) (n : ℕ) : Type 0 where
   pub leaves : length new.leaves ≡ length old.leaves
   pub steps : (x : ℕ) → slice_index (steps_of new) x ≤ slice_index (steps_of old) x + n
 
--- how many turns these are
-abbrev pub turns_in : List (ℕ × ℕ) → ℕ
+-- how many turns these are; settings are none
+abbrev pub turns_in : Acts → ℕ
 turns_in [] = 0
-turns_in (t ∷ turns) = t.1 + turns_in turns
+turns_in (t ∷ turns) = turns_given t.1 + turns_in turns
 
 -- a write that failed was counted, and no other
 pub record CountsFailures {W A E : Type 0} (old new : Counted W) (result : Result A E) : Type 0 where

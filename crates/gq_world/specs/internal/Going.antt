@@ -1,4 +1,4 @@
--- What turns do to a world, and what they write.
+-- What turns and settings do to a world, and what they write.
 use Rattle.std.specs.Prelude.{◌≡◌, ℕ, false, List, ◌++◌, Option, None, Result, OnOk, OnErr}
 use Rattle.std.specs.Io.KnownBytes.{Appends}
 use Rattle.gq_model.specs.machine.World as model
@@ -48,4 +48,4 @@ pub record RunsThrough {W A E : Type 0} (contents : W → Option (List ℕ)) (tu
 
 -- what a run of this scenario by a text of turns writes, or the first fault of the turns
 abbrev pub turns_written : Scenario → List ℕ → Written
-turns_written s text = written_turns s (turned (components s) text)
+turns_written s text = written_turns s (turned s text)

@@ -1,6 +1,6 @@
 use Rattle.std.proofs.Common.{ap, sym, ◌∙◌}
 use Rattle.std.proofs.lemmas.Result.{err_from_is_err_and}
-use Rattle.gq_model.specs.machine.Scenario.{Scenario, components}
+use Rattle.gq_model.specs.machine.Scenario.{Scenario}
 use Rattle.gq_load.specs.Load.{loaded}
 use Rattle.gq_faults.specs.Lists.{first}
 use Rattle.gq_faults.specs.Turn_faults.{lines_of_both, told_of, turn_faults}
@@ -11,13 +11,13 @@ pub returns-in-Some-2-clause-answer : goal.returns-in-Some-2-clause-answer
 returns-in-Some-2-clause-answer g c =
     let text = c.args.turns.text.now in
     answers_some (loaded c.args.scenario.text.now) c.in-Ok.accepted text c.in-Ok.ensures.loaded c.in-Some-2.fault c.in-Some-2.line
-    (sym c.in-Some-2.is ∙ (c.in_ok-fault-2.ensures.first ∙ ap (λ (s : Scenario). first (turn_faults (components s) text)) c.table.ensures))
+    (sym c.in-Some-2.is ∙ (c.in_ok-fault-2.ensures.first ∙ ap (λ (s : Scenario). first (turn_faults s text)) c.table.ensures))
 
 pub returns-clause-answer : goal.returns-clause-answer
 returns-clause-answer g c =
     let text = c.args.turns.text.now in
     answers_none (loaded c.args.scenario.text.now) c.in-Ok.accepted text c.in-Ok.ensures.loaded
-    (sym c.in-None.is ∙ (c.in_ok-fault-2.ensures.first ∙ ap (λ (s : Scenario). first (turn_faults (components s) text)) c.table.ensures))
+    (sym c.in-None.is ∙ (c.in_ok-fault-2.ensures.first ∙ ap (λ (s : Scenario). first (turn_faults s text)) c.table.ensures))
 
 pub returns-in_err-fault-clause-told : goal.returns-in_err-fault-clause-told
 returns-in_err-fault-clause-told g c =

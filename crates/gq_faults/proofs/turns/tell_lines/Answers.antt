@@ -1,6 +1,5 @@
 use Rattle.std.proofs.Common.{◌≡◌, ℕ, ◌+◌, ◌^◌, ◌≤◌, [], ◌∷◌, List, length, map, option_map, Err, Ok, ap, sym, arith, Bor}
 use Rattle.std.proofs.lemmas.Result.{err_from_is_err_and}
-use Rattle.gq_model.specs.machine.Scenario.{components}
 use Rattle.gq_model.specs.declared.fault.TurnFault.{TurnFault}
 use Rattle.gq_faults.specs.Turn_faults.{faults_left, turn_fault_line}
 use Rattle.gq_faults.proofs.Telling.{tells_early, next_lines, no_lines, told_as}
@@ -11,7 +10,7 @@ pub returns-in_err-tell_wrong-clause-told : goal.returns-in_err-tell_wrong-claus
 returns-in_err-tell_wrong-clause-told g c =
     let p = err_from_is_err_and c.from_residual.result c.from_residual.ensures.1 in
     let why = c.in_err-tell_wrong.field-0.0 in
-    let cs = components c.args.table.now in
+    let cs = c.args.table.now in
     let old = c.loop-reading.reading in
     let new = c.read.new.self in
     let left = faults_left cs old.line old.total (option_map (λ (t : Bor (List ℕ)). t.now) old.left) in
@@ -24,7 +23,7 @@ returns-in_err-tell_wrong-clause-told g c =
 
 pub loop-reading-preserved-in-Some-read : goal.loop-reading-preserved-in-Some-read
 loop-reading-preserved-in-Some-read g c =
-    let cs = components c.args.table.now in
+    let cs = c.args.table.now in
     let old = c.loop-reading.reading in
     let new = c.read.new.self in
     let left = faults_left cs old.line old.total (option_map (λ (t : Bor (List ℕ)). t.now) old.left) in
@@ -43,7 +42,7 @@ loop-reading-preserved-in-Some-read g c =
 
 pub loop-reading-preserved : goal.loop-reading-preserved
 loop-reading-preserved g c =
-    let cs = components c.args.table.now in
+    let cs = c.args.table.now in
     let old = c.loop-reading.reading in
     let new = c.read.new.self in
     let left = faults_left cs old.line old.total (option_map (λ (t : Bor (List ℕ)). t.now) old.left) in
@@ -60,7 +59,7 @@ loop-reading-preserved g c =
 
 pub returns-clause-told : goal.returns-clause-told
 returns-clause-told g c =
-    let cs = components c.args.table.now in
+    let cs = c.args.table.now in
     let old = c.loop-reading.reading in
     let left = faults_left cs old.line old.total (option_map (λ (t : Bor (List ℕ)). t.now) old.left) in
     let none : left ≡ [] = ap (λ o. faults_left cs old.line old.total (option_map (λ (t : Bor (List ℕ)). t.now) o)) c.in_default.is in

@@ -1,6 +1,5 @@
 use Rattle.std.proofs.Common.{◌≡◌, ℕ, ◌+◌, ◌^◌, ◌≤◌, List, Option, Some, Result, map, option_map, unwrap_or}
 use Rattle.gq_model.specs.machine.Lists.{or_first}
-use Rattle.gq_model.specs.machine.Scenario.{components}
 use Rattle.gq_model.specs.texts.Letters.{lines}
 use Rattle.gq_model.specs.texts.Turns.{greatest_turns}
 use Rattle.gq_model.specs.declared.fault.TurnFault.{TurnFault}
@@ -14,8 +13,8 @@ use Rattle.gq_faults.proofs.turns.tell_lines.Given as goal
 -- who tells the lines that are left tells all; and the first of all is the one that was found, or else the first of these
 abbrev pub invariant-loop-reading : goal.invariant-loop-reading
 invariant-loop-reading g l =
-    let all = line_faults (components l.table) 1 (Some 0) (lines l.file.text.now) in
-    let left = faults_left (components l.table) l.reading.line l.reading.total (option_map (λ t. t.now) l.reading.left) in
+    let all = line_faults l.table 1 (Some 0) (lines l.file.text.now) in
+    let left = faults_left l.table l.reading.line l.reading.total (option_map (λ t. t.now) l.reading.left) in
     record {
       few : unwrap_or l.reading.total 0 ≤ greatest_turns;
       short : l.reading.line + length_left (option_map (λ t. t.now) l.reading.left) ≤ 2 ^ 24 + 1;

@@ -1,13 +1,12 @@
 -- A text in one piece.
 use Rattle.std.proofs.Common.{◌++◌, ◌∙◌, rules}
-use Rattle.gq_model.specs.machine.Scenario.{components}
 use Rattle.gq_model.specs.texts.Letters.{lines}
 use Rattle.gq_init.proofs.Reading.{text_finished, told_start}
 use Rattle.gq_init.proofs.turns.read_items.Goals as goal
 
 pub returns : goal.returns
 returns c =
-    let all = components c.args.table.now in
+    let all = c.args.table.now in
     let t = c.read_lines.new.self in
     let s = c.in_ok-turns.turns in
     let e = c.in_ok-turns.ensures in

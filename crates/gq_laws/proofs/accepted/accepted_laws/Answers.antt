@@ -1,5 +1,5 @@
 use Rattle.gq_laws.proofs.typing.Runs.{reached_typed}
-use Rattle.gq_laws.proofs.gathering.Standing.{stands_first, stands_next, stands_upheld}
+use Rattle.gq_laws.proofs.gathering.Standing.{stands_first, stands_next, stands_set, stands_upheld}
 use Rattle.gq_laws.proofs.gathering.Accounts.{upheld_accounts}
 use Rattle.gq_laws.proofs.gathering.Runs.{reached_upheld, run_upholds}
 use Rattle.gq_laws.proofs.accepted.accepted_laws.Goals as goal
@@ -9,6 +9,9 @@ returns-clause-first c = stands_first
 
 pub returns-clause-kept : goal.returns-clause-kept
 returns-clause-kept c = stands_next
+
+pub returns-clause-set : goal.returns-clause-set
+returns-clause-set c = stands_set
 
 pub returns-clause-promises : goal.returns-clause-promises
 returns-clause-promises c = stands_upheld

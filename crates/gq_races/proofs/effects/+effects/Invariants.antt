@@ -18,7 +18,7 @@ abbrev pub invariant-push_effects-loop-statement : goal.invariant-push_effects-l
 invariant-push_effects-loop-statement l =
     record {
       lines :
-          l.text.items ++ joined (map (effect_line l.front) (found_in has_effect l.number (tree_of (drop l.statement-index l.statement-items))))
-          ≡ l.fn.text.items ++ joined (map (effect_line l.front) (found_in has_effect l.first (tree_of l.statement-items)));
+          l.text.items ++ joined (map (effect_line l.front) (found_in (has_effect l.several) l.number (tree_of (drop l.statement-index l.statement-items))))
+          ≡ l.fn.text.items ++ joined (map (effect_line l.front) (found_in (has_effect l.several) l.first (tree_of l.statement-items)));
       numbers : l.number + size (tree_of (drop l.statement-index l.statement-items)) ≡ l.first + size (tree_of l.statement-items);
     }

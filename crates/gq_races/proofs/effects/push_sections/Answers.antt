@@ -1,6 +1,6 @@
 use Rattle.gq_model.specs.texts.Code.{greatest_statements}
 use Rattle.gq_races.proofs.Found.{effect_same, few_after, section_put}
-use Rattle.gq_races.specs.Races.{in_other}
+use Rattle.gq_races.specs.Races.{for_several}
 use Rattle.gq_races.specs.Text.{effect_text, has_effect}
 use Rattle.gq_races.specs.internal.Lines.{effect_line}
 use Rattle.gq_races.proofs.effects.push_sections.Goals as goal
@@ -13,8 +13,7 @@ loop-section-preserved c =
     let within = c.loop-section-test.true in
     let is = c.loop-section-item.is in
     record {
-      lines = section_put in_other has_effect effect_line effect_text effect_same c.args.label.now all l.section-index p within is l.text.items
-          c.push_section.new.text.items _ c.in_ok-push_section.ensures
-          l.invariant.lines;
+      lines = section_put (λ section. has_effect (for_several c.args.shared section)) effect_line effect_text effect_same c.args.label.now all
+          l.section-index p within is l.text.items c.push_section.new.text.items _ c.in_ok-push_section.ensures l.invariant.lines;
       few = few_after all l.section-index p within is greatest_statements l.invariant.few;
     }

@@ -1,6 +1,5 @@
-use Rattle.std.proofs.Common.{◌∙◌, ap, refl}
+use Rattle.std.proofs.Common.{◌∙◌, ap}
 use Rattle.gq_races.proofs.Found.{opened_same, section_lines}
-use Rattle.gq_races.specs.Races.{in_any}
 use Rattle.gq_races.specs.Text.{front_of, opened_text}
 use Rattle.gq_races.specs.internal.Lines.{opened_line}
 use Rattle.gq_races.specs.internal.Openers.{opens_among}
@@ -8,6 +7,6 @@ use Rattle.gq_races.proofs.opens.push_section.Goals as goal
 
 pub returns-in-Ok : goal.returns-in-Ok
 returns-in-Ok c =
-    section_lines in_any (opens_among c.args.components.now c.args.component.now c.args.leaf) opened_line opened_text opened_same c.args.component.now.label
-    c.args.section c.args.body.now refl c.as_slice.result.now c.args.text.now.items _
+    section_lines (λ section. opens_among c.args.components.now c.args.component.now c.args.leaf) opened_line opened_text opened_same
+    c.args.component.now.label c.args.section c.args.body.now c.as_slice.result.now c.args.text.now.items _
     (c.as_slice.ensures.value ∙ (c.in_ok-front.ensures ∙ ap (λ l. front_of l c.args.section) c.label.ensures)) c.in-Ok.ensures.lines

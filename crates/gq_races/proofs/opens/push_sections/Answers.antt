@@ -1,6 +1,5 @@
 use Rattle.gq_model.specs.texts.Code.{greatest_statements}
 use Rattle.gq_races.proofs.Found.{opened_same, few_after, section_put}
-use Rattle.gq_races.specs.Races.{in_any}
 use Rattle.gq_races.specs.Text.{opened_text}
 use Rattle.gq_races.specs.internal.Lines.{opened_line}
 use Rattle.gq_races.specs.internal.Openers.{opens_among}
@@ -14,7 +13,7 @@ loop-section-preserved c =
     let within = c.loop-section-test.true in
     let is = c.loop-section-item.is in
     record {
-      lines = section_put in_any (opens_among c.args.components.now c.args.component.now c.args.leaf) opened_line opened_text
+      lines = section_put (λ section. opens_among c.args.components.now c.args.component.now c.args.leaf) opened_line opened_text
           opened_same c.args.component.now.label all l.section-index p within is l.text.items c.push_section.new.text.items _ c.in_ok-push_section.ensures
           l.invariant.lines;
       few = few_after all l.section-index p within is greatest_statements l.invariant.few;

@@ -2,7 +2,7 @@ use Rattle.std.proofs.Common.{◌≡◌, ◌≤◌, ◌++◌, drop, map}
 use Rattle.std.specs.Prelude.{sum_by}
 use Rattle.gq_model.specs.machine.Program.{size}
 use Rattle.gq_model.specs.texts.Code.{greatest_statements}
-use Rattle.gq_races.specs.Races.{in_any, stated_in}
+use Rattle.gq_races.specs.Races.{stated_in}
 use Rattle.gq_races.specs.Text.{opened_text}
 use Rattle.gq_races.specs.internal.Openers.{opens_among}
 use Rattle.gq_views.specs.Listing.{joined}
@@ -12,8 +12,8 @@ use Rattle.gq_races.proofs.opens.push_sections.Given as goal
 abbrev pub invariant-loop-section : goal.invariant-loop-section
 invariant-loop-section l = record {
   lines :
-      l.text.items ++ joined (map opened_text (stated_in in_any (opens_among l.components l.component l.leaf) l.component.label (drop l.section-index
+      l.text.items ++ joined (map opened_text (stated_in (λ section. opens_among l.components l.component l.leaf) l.component.label (drop l.section-index
       l.sections)))
-      ≡ l.fn.text.items ++ joined (map opened_text (stated_in in_any (opens_among l.components l.component l.leaf) l.component.label l.sections));
+      ≡ l.fn.text.items ++ joined (map opened_text (stated_in (λ section. opens_among l.components l.component l.leaf) l.component.label l.sections));
   few : sum_by (λ p. size p.1) (drop l.section-index l.sections) ≤ greatest_statements;
 }

@@ -1,13 +1,12 @@
-use Rattle.std.proofs.Common.{◌∙◌, ◌+◌, ◌++◌, ◌∷◌, ap, drop, map, true, false}
+use Rattle.std.proofs.Common.{◌∙◌, ◌++◌, ap, false, get_or, refl}
 use Rattle.gq_model.specs.machine.Scenario.{system}
-use Rattle.gq_races.specs.Races.{later_in}
-use Rattle.gq_races.specs.Text.{has_effect, heading, opened_text, shared_text}
+use Rattle.gq_races.specs.Races.{stated_of}
+use Rattle.gq_races.specs.Text.{has_effect, heading, sharing_lines}
 use Rattle.gq_races.specs.internal.Openers.{opened_among}
 use Rattle.gq_views.specs.Listing.{joined}
 use Rattle.gq_races.proofs.Opened.{shared_test}
-use Rattle.gq_races.proofs.Told.{leaf_passed, leaf_put, lines_are, told}
+use Rattle.gq_races.proofs.Told.{leaf_put, lines_are}
 use Rattle.gq_races.proofs.races.push_leaves.Goals as goal
-use Rattle.gq_races.proofs.races.push_leaves.Goals.{then-shared-place+in_ok-push_component, else-shared-place}
 
 pub loop-place-preserved : goal.loop-place-preserved
 loop-place-preserved c s same =
@@ -16,15 +15,10 @@ loop-place-preserved c s same =
     let leaf = c.index-components-place.result in
     let within = c.loop-place-test.true in
     let is = c.index-components-place.is in
-    let shared = shared_test s all same c.args.shared.now c.requires.shared l.place within in
-    elim c.if-shared-place.branch [
-      | then-shared-place+in_ok-push_component w ↦
-          leaf_put (system s) all l.place leaf within is l.text.items c.if-shared-place.text.items _ (shared false true w.if-shared-place.true)
-          (ap (λ v. v.items) w.text-is ∙ (w.in_ok-push_component.ensures
-          ∙ ap (λ b. l.text.items ++ joined b) (ap (λ x. heading (shared_text leaf ∷ map opened_text (opened_among all x all)) (later_in has_effect leaf))
-          w.new-leaf.ensures ∙ lines_are s all same l.place leaf)))
-          (l.invariant s same)
-      | else-shared-place w ↦
-          ap (λ v. v.items ++ told (system s) (l.place + 1) (drop (l.place + 1) all)) w.text-is
-          ∙ leaf_passed (system s) all l.place leaf within is l.text.items _ (shared false false w.if-shared-place.false) (l.invariant s same)
-    ]
+    let shared = get_or c.args.shared.now l.place false in
+    let is_shared = shared_test s all same c.args.shared.now c.requires.shared l.place within false shared refl in
+    leaf_put (system s) all l.place leaf within is l.text.items c.push_component.new.text.items _
+    (c.in_ok-push_component.ensures
+    ∙ ap (λ b. l.text.items ++ joined b) (ap (λ x. heading (sharing_lines shared leaf (opened_among all x all)) (stated_of has_effect shared leaf))
+    c.new-leaf.ensures ∙ lines_are s all same l.place leaf shared is_shared))
+    (l.invariant s same)

@@ -1,13 +1,13 @@
 use Rattle.std.proofs.Common.{◌∙◌, ◌==◌, ap, length, sym}
 use Rattle.std.proofs.lemmas.Bool.{true≢false}
-use Rattle.gq_races.specs.Text.{shared_text}
+use Rattle.gq_races.specs.Text.{sharing_lines}
 use Rattle.gq_races.specs.internal.Openers.{opened_among}
 use Rattle.gq_races.proofs.Told.{heading_put, on_ok_put}
 use Rattle.gq_races.proofs.races.push_with_effects.Goals as goal
 
 pub returns : goal.returns
 returns c found is =
-    on_ok_put c.extend_from_slice.result _ _ _ _ c.extend_from_slice.ensures.items (λ e. heading_put (shared_text c.args.component.now)
-    (opened_among c.args.components.now c.args.leaf c.args.components.now) found c.args.text.now.items _ _ _ c.args.effects.now is
+    on_ok_put c.extend_from_slice.result _ _ _ _ c.extend_from_slice.ensures.items (λ e. heading_put (sharing_lines c.args.shared c.args.component.now
+    (opened_among c.args.components.now c.args.leaf c.args.components.now)) found c.args.text.now.items _ _ c.args.effects.now is
     (λ n. true≢false (sym (c.if-is_empty.ensures ∙ ap (λ l. length l == 0) n)))
-    c.in_ok-push_shared.ensures c.in_ok-push_openers.ensures e)
+    c.in_ok-push_sharing.ensures e)

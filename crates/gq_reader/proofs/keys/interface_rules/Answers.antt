@@ -2,8 +2,7 @@ use Rattle.std.proofs.Common.{◌≡◌, [], ◌∷◌, ap, map, refl, sym, ◌�
 use Rattle.toml.specs.View.{table_view}
 use Rattle.gq_reader.specs.Rules.{rule_of}
 use Rattle.gq_scenario.specs.Tables.{interface_keys}
-use Rattle.gq_scenario.specs.Trees.{version_number}
-use Rattle.gq_scenario.specs.declared.scenario.Version.{Version}
+use Rattle.gq_reader.proofs.Interface_tables.{counted_keys}
 use Rattle.gq_reader.proofs.keys.interface_rules.Goals as goal
 
 pub returns-in-Two : goal.returns-in-Two
@@ -22,4 +21,4 @@ returns-in-Two c =
       c.count_at-count.ensures,
       c.optional-buffer.ensures,
     ) refl in
-    ap (map rule_of) c.listed-in-Two.ensures ∙ (same ∙ ap (λ (v : Version). interface_keys (version_number v) entries) (sym c.in-Two.is))
+    ap (map rule_of) c.listed-in-Two.ensures ∙ (same ∙ sym (counted_keys c.args.version entries c.in-Two.is))

@@ -1,4 +1,6 @@
+use Rattle.std.proofs.Common.{length, sym, ap, ◌∙◌, arith}
 use Rattle.toml.specs.View.{table_view}
+use Rattle.gq_reader.proofs.Listed.{listed_length}
 use Rattle.gq_reader.proofs.Node_tables.{sound_leaf}
 use Rattle.gq_reader.proofs.tables.read_leaf.Goals as goal
 
@@ -13,3 +15,10 @@ name_at-provides-requires c = (sound_leaf (table_view c.args.table) c.requires).
 
 pub name_at-after-requires : goal.name_at-after-requires
 name_at-after-requires c = (sound_leaf (table_view c.args.table) c.requires).after
+
+pub read_inputs-inputs-requires-clause-few : goal.read_inputs-inputs-requires-clause-few
+read_inputs-inputs-requires-clause-few c =
+    omega (arith, (sound_leaf (table_view c.args.table) c.requires).few, sym (listed_length c.list_at.result.now) ∙ ap length c.list_at.ensures)
+
+pub read_inputs-inputs-requires-clause-numbers : goal.read_inputs-inputs-requires-clause-numbers
+read_inputs-inputs-requires-clause-numbers c = rw c.list_at.ensures (sound_leaf (table_view c.args.table) c.requires).numbers

@@ -1,5 +1,5 @@
 -- The leaves are those of the scenario without its quantities, and give what is asked.
-use Rattle.std.proofs.Common.{◌∙◌, ap, sym, subst, true, ◌≡◌}
+use Rattle.std.proofs.Common.{◌∙◌, sym, subst, true, ◌≡◌}
 use Rattle.gq_model.specs.machine.Lists.{all_of}
 use Rattle.gq_model.specs.machine.Scenario.{Component, Scenario, system}
 use Rattle.gq_model.specs.rules.Use.{subject}

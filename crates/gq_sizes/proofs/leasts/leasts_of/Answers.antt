@@ -1,7 +1,6 @@
 -- The lines of short `open` statements, put at the end of nothing.
 use Rattle.std.proofs.Common.{◌∙◌, ◌++◌, ap, map, sym}
 use Rattle.gq_model.specs.machine.Scenario.{Component, Scenario, system}
-use Rattle.gq_sizes.specs.Least.{shorts_of}
 use Rattle.gq_sizes.specs.Size.{all_gifts, all_short}
 use Rattle.gq_sizes.specs.Tables.{ram_rows}
 use Rattle.gq_sizes.proofs.leasts.leasts_of.Goals as goal

@@ -1,13 +1,13 @@
 -- The turns of a list.
 use Rattle.std.proofs.Common.{◌<◌, length, sym, subst, take}
 use Rattle.gq_model.specs.machine.Scenario.{Scenario, components, system}
-use Rattle.gq_traces.specs.Trace.{after_all, after_turns}
+use Rattle.gq_traces.specs.Trace.{after_act, after_all}
 use Rattle.gq_traces.specs.internal.Follows.{Follows}
 use Rattle.gq_traces.proofs.Following.{all_more, below_at, follows_both, item_there}
 use Rattle.gq_traces.proofs.follow.take_all.Goals as goal
 
-pub take_turns-requires-clause-leaf : goal.take_turns-requires-clause-leaf
-take_turns-requires-clause-leaf c =
+pub take_act-requires-clause-leaf : goal.take_act-requires-clause-leaf
+take_act-requires-clause-leaf c =
     let l = c.loop-item in
     let t = c.item-item.result in
     let there = item_there c.args.turns.now l.item-index t c.loop-item-test.true c.item-item.is in
@@ -22,10 +22,10 @@ loop-item-preserved c =
     let t = c.item-item.result in
     let turns = c.args.turns.now in
     let there = item_there turns l.item-index t c.loop-item-test.true c.item-item.is in
-    let new = c.take_turns.new in
-    follows_both (after_all s (take l.item-index turns)) (after_turns s t.0 t.1) _ c.args.world.now l.world new.world c.args.followed.now l.followed
+    let new = c.take_act.new in
+    follows_both (after_all s (take l.item-index turns)) (after_act s t.0 t.1) _ c.args.world.now l.world new.world c.args.followed.now l.followed
     new.followed (all_more s turns l.item-index t there) l.invariant
-    (subst (λ n. Follows (after_turns s t.0 n) l.world new.world l.followed new.followed) c.count.ensures
-    (subst (λ x. Follows (after_turns s x c.count.result) l.world new.world l.followed new.followed) c.leaf.ensures
-    (subst (λ (r : Scenario). Follows (after_turns (system r) c.leaf.result c.count.result) l.world new.world l.followed new.followed) l.invariant.scenario
-    c.take_turns.ensures)))
+    (subst (λ n. Follows (after_act s t.0 n) l.world new.world l.followed new.followed) c.act.ensures
+    (subst (λ x. Follows (after_act s x c.act.result) l.world new.world l.followed new.followed) c.leaf.ensures
+    (subst (λ (r : Scenario). Follows (after_act (system r) c.leaf.result c.act.result) l.world new.world l.followed new.followed) l.invariant.scenario
+    c.take_act.ensures)))

@@ -1,9 +1,8 @@
 use Rattle.std.proofs.Common.{◌≡◌, ◌-◌, take}
 use Rattle.gq_model.specs.machine.Scenario.{system}
-use Rattle.gq_traces.specs.First_turns.{first_turns}
+use Rattle.gq_traces.specs.First_turns.{first_turns, turns_in}
 use Rattle.gq_traces.specs.Trace.{after_all}
 use Rattle.gq_traces.specs.internal.Follows.{Follows}
-use Rattle.gq_traces.specs.internal.Telling.{turns_in}
 use Rattle.gq_traces.proofs.follow.take_most.Given as goal
 
 -- the first turns of the entries so far were taken

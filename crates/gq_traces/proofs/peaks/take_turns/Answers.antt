@@ -1,5 +1,6 @@
 -- More turns.
 use Rattle.std.proofs.Common.{◌≡◌, ◌+◌, arith, refl, subst}
+use Rattle.gq_model.specs.machine.Run.{turns_of}
 use Rattle.gq_model.specs.machine.Scenario.{system}
 use Rattle.gq_traces.specs.internal.Peaking.{HasTurns, Peaked}
 use Rattle.gq_traces.proofs.Peaks_kept.{peaked_none, turns_then}
@@ -12,8 +13,10 @@ loop-done-init c =
     let none : n ≡ n + 0 = omega arith in
     record {
       few = omega arith;
-      peaked = subst (λ m. Peaked (λ runs. HasTurns (system w.scenario) c.args.leaf runs n 0) n m w w c.args.peaks.now c.args.peaks.now) none
-          (peaked_none (λ runs. HasTurns (system w.scenario) c.args.leaf runs n 0) n w c.args.peaks.now);
+      peaked = subst (λ m. Peaked (λ runs now. HasTurns (system w.scenario) c.args.leaf runs n now 0) (turns_of (system w.scenario) c.args.leaf 0) n m w w
+          c.args.peaks.now c.args.peaks.now) none
+          (peaked_none (λ runs now. HasTurns (system w.scenario) c.args.leaf runs n now 0) (turns_of (system w.scenario) c.args.leaf 0) n w c.args.peaks.now
+          (λ now. refl));
     }
 
 pub loop-done-preserved : goal.loop-done-preserved
@@ -37,5 +40,5 @@ returns c =
     let over = c.loop-done-test.false in
     let few = l.invariant.few in
     let same : l.done ≡ c.args.count = omega (arith, over, few) in
-    subst (λ m. Peaked (λ runs. HasTurns (system w.scenario) c.args.leaf runs c.args.turns m) c.args.turns (c.args.turns + m) w l.world c.args.peaks.now
-    l.peaks) same l.invariant.peaked
+    subst (λ m. Peaked (λ runs now. HasTurns (system w.scenario) c.args.leaf runs c.args.turns now m) (turns_of (system w.scenario) c.args.leaf m) c.args.turns
+    (c.args.turns + m) w l.world c.args.peaks.now l.peaks) same l.invariant.peaked

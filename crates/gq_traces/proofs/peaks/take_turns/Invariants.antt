@@ -1,4 +1,5 @@
 use Rattle.std.proofs.Common.{◌-◌, ◌+◌, ◌≤◌}
+use Rattle.gq_model.specs.machine.Run.{turns_of}
 use Rattle.gq_model.specs.machine.Scenario.{system}
 use Rattle.gq_traces.specs.internal.Peaking.{HasTurns, Peaked}
 use Rattle.gq_traces.proofs.peaks.take_turns.Given as goal
@@ -7,7 +8,8 @@ use Rattle.gq_traces.proofs.peaks.take_turns.Given as goal
 abbrev pub invariant-loop-done : goal.invariant-loop-done
 invariant-loop-done l = record {
   few : l.done ≤ l.count;
-  peaked : Peaked (λ runs. HasTurns (system l.fn.world.scenario) l.leaf runs l.turns l.done) l.turns (l.turns + l.done) l.fn.world l.world l.fn.peaks l.peaks;
+  peaked : Peaked (λ runs now. HasTurns (system l.fn.world.scenario) l.leaf runs l.turns now l.done) (turns_of (system l.fn.world.scenario) l.leaf l.done)
+      l.turns (l.turns + l.done) l.fn.world l.world l.fn.peaks l.peaks;
 }
 
 abbrev pub decreases-loop-done : goal.decreases-loop-done

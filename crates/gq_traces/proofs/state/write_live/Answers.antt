@@ -25,19 +25,14 @@ write_places-going-requires-clause-peaks g c = peaks_there c.args.machine.now c.
 pub returns : goal.returns
 returns g c d l named there =
     let m = c.args.machine.now in
-    let q = c.write_quantum-going in
+    let q = c.write_given-going in
     let o = c.write_slots-going in
     let p = c.write_places-going in
     let slots = subst (λ x. IfSome (bank_slots m.world (OfLeaf x))
     (λ slots. Tells_items g.W.Write.contents q.new.out o.new.out q.result o.result m (slots_items (system m.scenario) m.world Own 0 slots))) c.index.ensures
     o.ensures in
-    live_told g.W.Write.contents m c.args.leaf d l c.node.result c.args.out.now q.new.out o.new.out p.new.out c.write_sessions.new.out c.args.going q.result
-    o.result p.result c.write_sessions.result named there
-    (subst (λ (s : Scenario). IfSome (slice_get (components s) c.args.leaf) (λ e. IsNodeOf (node_rows s) c.node.result e)) c.table-table.ensures
-    c.node.ensures.node)
-    (subst (λ (s : Scenario). IfSome (slice_get (node_rows s) c.node.result)
-    (λ r. Goes g.W.Write.contents c.args.out.now q.new.out c.args.going q.result (items_text s.version (item 1 Given r.quantum [] ∷ []))))
-    c.table-table.ensures q.ensures)
+    live_told g.W.Write.contents m c.args.leaf d l c.args.out.now q.new.out o.new.out p.new.out c.write_sessions.new.out c.args.going q.result
+    o.result p.result c.write_sessions.result there (q.ensures d l named there)
     (own_slots (slice_get m.world.leaves c.args.leaf)
     (λ slots. Tells_items g.W.Write.contents q.new.out o.new.out q.result o.result m (slots_items (system m.scenario) m.world Own 0 slots)) slots) p.ensures
     c.write_sessions.ensures

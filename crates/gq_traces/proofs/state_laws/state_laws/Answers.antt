@@ -24,7 +24,8 @@ returns c first scenario turns text =
     let t = after s taken in
     let reached = last_reached s sound (loaded_named scenario s loads) (λ w reached. c.accepted_laws.ensures.upheld s w sound reached)
     (λ w reached. c.accepted_laws.ensures.typed s w sound reached) (λ w x. c.turn_laws.ensures.counted _ w x) true taken in
-    let stands = in_reached s (Stands s) (λ v x new event. c.accepted_laws.ensures.kept s v x new event) (c.accepted_laws.ensures.first s sound) t.world
+    let stands = in_reached s (Stands s) (λ v x new event. c.accepted_laws.ensures.kept s v x new event)
+    (λ v x i n. c.accepted_laws.ensures.set s v x i n) (c.accepted_laws.ensures.first s sound) t.world
     reached in
     all_add s t
     (leaves_add_up s t.world (c.reached_laws.ensures.linked s t.world reached) (c.reached_laws.ensures.paid s t.world sound.formed.differ reached))

@@ -1,23 +1,25 @@
 -- One item after the other.
 use Rattle.std.proofs.Common.{◌≡◌, ◌∙◌, ◌+◌, ◌<◌, suc, take, refl, ap, sym, subst, length, arith}
 use Rattle.gq_model.specs.machine.Scenario.{Scenario, components}
+use Rattle.gq_traces.specs.First_turns.{turns_in}
+use Rattle.gq_model.specs.texts.Turns.{turns_given}
 use Rattle.gq_traces.specs.Written.{tells_all}
-use Rattle.gq_traces.specs.internal.Telling.{budgets_of, turns_in}
+use Rattle.gq_traces.specs.internal.Telling.{budgets_of}
 use Rattle.gq_traces.proofs.Turns_few.{below_here, few_here, take_more}
-use Rattle.gq_traces.proofs.Turns_going.{all_then, turns_as}
+use Rattle.gq_traces.proofs.Turns_going.{all_then, act_as}
 use Rattle.gq_traces.proofs.Turns_told.{turns_in_more}
 use Rattle.gq_traces.proofs.trace.tell_all.Goals as goal
 
-pub tell_turns-going-requires-clause-leaf : goal.tell_turns-going-requires-clause-leaf
-tell_turns-going-requires-clause-leaf g c =
+pub tell_act-going-requires-clause-leaf : goal.tell_act-going-requires-clause-leaf
+tell_act-going-requires-clause-leaf g c =
     let l = c.loop-item in
     let p = c.item-item.result in
     let n = length (components c.args.world.now.scenario) in
     subst (λ (s : Scenario). p.0 < length (components s)) (sym l.invariant.told.scenario)
     (below_here n c.args.turns.now l.item-index p c.loop-item-test.true c.item-item.is c.requires.leaves)
 
-pub tell_turns-going-requires-clause-few : goal.tell_turns-going-requires-clause-few
-tell_turns-going-requires-clause-few g c =
+pub tell_act-going-requires-clause-few : goal.tell_act-going-requires-clause-few
+tell_act-going-requires-clause-few g c =
     let l = c.loop-item in
     let p = c.item-item.result in
     let taken = l.invariant.taken in
@@ -44,16 +46,16 @@ loop-item-preserved g c =
     let p = c.item-item.result in
     let all = tells_all c.args.telling in
     let b = budgets_of s in
-    let step = c.tell_turns-going in
+    let step = c.tell_act-going in
     let sofar = take i c.args.turns.now in
     let next : suc i ≡ i + 1 = omega arith in
     let is = take_more c.args.turns.now i p c.loop-item-test.true c.item-item.is ∙ ap (λ m. take m c.args.turns.now) next in
-    let told = turns_as g.W.Write.contents all s l.world.scenario p p l.taken (turns_in sofar) l.world step.new.world l.tracing step.new.tracing l.out
+    let told = act_as g.W.Write.contents all s l.world.scenario p p l.taken (turns_in sofar) l.world step.new.world l.tracing step.new.tracing l.out
     step.new.out l.going step.result l.invariant.told.scenario refl l.invariant.taken step.ensures in
     let taken = l.invariant.taken in
     let count = c.count-taken.ensures in
     let more = turns_in_more sofar p in
-    let sum : l.taken + c.count-taken.result ≡ turns_in sofar + p.1 = omega (arith, taken, count) in
+    let sum : l.taken + c.count-taken.result ≡ turns_in sofar + turns_given p.1 = omega (arith, taken, count) in
     record {
       taken = sum ∙ sym more ∙ ap turns_in is;
       told = all_then g.W.Write.contents all s sofar (take (i + 1) c.args.turns.now) p is w l.world step.new.world c.args.tracing.now l.tracing

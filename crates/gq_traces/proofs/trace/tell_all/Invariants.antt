@@ -1,8 +1,9 @@
 use Rattle.std.proofs.Common.{◌≡◌, take, true}
 use Rattle.gq_model.specs.machine.Scenario.{system}
 use Rattle.gq_traces.specs.Trace.{after_all, all_text}
+use Rattle.gq_traces.specs.First_turns.{turns_in}
 use Rattle.gq_traces.specs.Written.{tells_all}
-use Rattle.gq_traces.specs.internal.Telling.{TellsTurns, budgets_of, turns_in}
+use Rattle.gq_traces.specs.internal.Telling.{TellsTurns, budgets_of}
 use Rattle.gq_traces.proofs.trace.tell_all.Given as goal
 
 -- the items so far were told

@@ -16,11 +16,10 @@ loop-done-init g c =
     let w = c.args.world.now in
     record {
       few = omega arith;
-      told = no_turns g.W.Write.contents (turns_text (tells_all c.args.telling) s (budgets_of s) c.args.item.now.0 0)
-          (after_turns (system s) c.args.item.now.0 0)
+      told = no_turns g.W.Write.contents (turns_text (tells_all c.args.telling) s (budgets_of s) c.args.leaf 0)
+          (after_turns (system s) c.args.leaf 0)
           c.args.turns w c.args.tracing.now c.args.out.now c.args.going c.requires.can (λ u. refl) (λ u. refl);
-      before = use_in c.machine.result.now w c.args.item.now.0 c.use_of-before.result c.machine.ensures.is
-          (subst (λ x. IsUse c.machine.result.now.scenario c.machine.result.now.world x c.use_of-before.result) c.leaf.ensures c.use_of-before.ensures);
+      before = use_in c.machine.result.now w c.args.leaf c.use_of-before.result c.machine.ensures.is c.use_of-before.ensures;
     }
 
 pub loop-done-preserved : goal.loop-done-preserved
@@ -28,7 +27,7 @@ loop-done-preserved g c =
     let l = c.loop-done in
     let w = c.args.world.now in
     let s = w.scenario in
-    let x = c.args.item.now.0 in
+    let x = c.args.leaf in
     let n = l.done in
     let all = tells_all c.args.telling in
     let b = budgets_of s in
@@ -38,22 +37,16 @@ loop-done-preserved g c =
     let some = step.ensures.some in
     let within = l.invariant.few in
     let test = c.loop-done-test.true in
-    let count = c.count-count.ensures in
-    let told = some_as g.W.Write.contents all s l.world.scenario x c.leaf-in-loop-done.result m (c.args.turns + n) l.world step.new.world l.tracing
-    step.new.tracing l.out step.new.out l.going step.result.0 l.invariant.told.scenario c.leaf-in-loop-done.ensures step.ensures.told in
+    let told = some_as g.W.Write.contents all s l.world.scenario x x m (c.args.turns + n) l.world step.new.world l.tracing
+    step.new.tracing l.out step.new.out l.going step.result.0 l.invariant.told.scenario refl step.ensures.told in
     record {
-      few = omega (arith, few, within, test, count);
+      few = omega (arith, few, within, test);
       told = turns_both g.W.Write.contents (turns_text all s b x n) (turns_text all s b x m) (turns_text all s b x (n + m)) (after_turns (system s) x n)
           (after_turns (system s) x m) (after_turns (system s) x (n + m)) c.args.turns n m (n + m) (c.args.turns + n) w l.world step.new.world
           c.args.tracing.now l.tracing step.new.tracing c.args.out.now l.out step.new.out c.args.going l.going step.result.0 refl refl
           (λ u. turns_sum all s b x n m u) (λ u. after_sum (system s) x n m u) l.invariant.told told;
-      before = subst (λ y. IsUse step.new.world.scenario step.new.world.world y step.new.before) c.leaf-in-loop-done.ensures step.ensures.after;
+      before = step.ensures.after;
     }
-
-pub tell_some-goes-requires-clause-before : goal.tell_some-goes-requires-clause-before
-tell_some-goes-requires-clause-before g c =
-    let l = c.loop-done in
-    subst (λ y. IsUse l.world.scenario l.world.world y l.before) (sym c.leaf-in-loop-done.ensures) l.invariant.before
 
 pub returns : goal.returns
 returns g c =
@@ -61,7 +54,6 @@ returns g c =
     let s = c.args.world.now.scenario in
     let over = c.loop-done-test.false in
     let few = l.invariant.few in
-    let count = c.count-count.ensures in
-    let same : l.done ≡ c.args.item.now.1 = omega (arith, over, few, count) in
-    turns_end g.W.Write.contents (tells_all c.args.telling) s c.args.item.now.0 l.done c.args.item.now.1 c.args.turns c.args.world.now l.world
+    let same : l.done ≡ c.args.count = omega (arith, over, few) in
+    turns_end g.W.Write.contents (tells_all c.args.telling) s c.args.leaf l.done c.args.count c.args.turns c.args.world.now l.world
     c.args.tracing.now l.tracing c.args.out.now l.out c.args.going l.going same l.invariant.told

@@ -9,12 +9,12 @@ use Rattle.gq_traces.proofs.trace.tell_turns.Given as goal
 -- the turns so far were told, and it is known what the leaf holds and does
 abbrev pub invariant-loop-done : goal.invariant-loop-done
 invariant-loop-done g l = record {
-  few : l.done ≤ l.item.1;
+  few : l.done ≤ l.count;
   told : TellsTurns g.W.Write.contents
-      (turns_text (tells_all l.telling) l.fn.world.scenario (budgets_of l.fn.world.scenario) l.item.0 l.done)
-      (after_turns (system l.fn.world.scenario) l.item.0 l.done) l.turns l.done l.fn.world l.world l.fn.tracing l.tracing l.fn.out l.out l.fn.going l.going;
-  before : IsUse l.world.scenario l.world.world l.item.0 l.before;
+      (turns_text (tells_all l.telling) l.fn.world.scenario (budgets_of l.fn.world.scenario) l.leaf l.done)
+      (after_turns (system l.fn.world.scenario) l.leaf l.done) l.turns l.done l.fn.world l.world l.fn.tracing l.tracing l.fn.out l.out l.fn.going l.going;
+  before : IsUse l.world.scenario l.world.world l.leaf l.before;
 }
 
 abbrev pub decreases-loop-done : goal.decreases-loop-done
-decreases-loop-done g l = l.item.1 - l.done
+decreases-loop-done g l = l.count - l.done

@@ -1,12 +1,13 @@
 -- Turns that are read, and told.
 use Rattle.std.proofs.Common.{List, ℕ, length, sym, subst}
+use Rattle.gq_model.specs.machine.Run.{Acts}
 use Rattle.gq_model.specs.machine.Scenario.{components}
 use Rattle.gq_world.specs.Outcomes.{WritesAs}
 use Rattle.gq_world.specs.Worlds.{AreBelow}
 use Rattle.gq_world.proofs.Whole.{below_of}
 use Rattle.gq_traces.specs.Written.{tells_all}
-use Rattle.gq_traces.specs.internal.Telling.{turns_in}
-use Rattle.gq_traces.proofs.Traced_whole.{turns_given}
+use Rattle.gq_traces.specs.First_turns.{turns_in}
+use Rattle.gq_traces.proofs.Traced_whole.{acts_given}
 use Rattle.gq_traces.proofs.Turns_few.{few_of}
 use Rattle.std.proofs.Common.{refl, ◌≤◌}
 use Rattle.gq_traces.proofs.trace.trace_world.Goals as goal
@@ -14,19 +15,19 @@ use Rattle.gq_traces.proofs.trace.trace_world.Goals as goal
 pub write_trace-requires-clause-leaves : goal.write_trace-requires-clause-leaves
 write_trace-requires-clause-leaves g c =
     let s = c.args.world.now.scenario in
-    subst (λ (t : List (ℕ × ℕ)). AreBelow (length (components s)) t) (sym c.as_slice.ensures.value)
+    subst (λ (t : Acts). AreBelow (length (components s)) t) (sym c.as_slice.ensures.value)
     (below_of s s c.args.turns.now c.in_ok-turns.turns.items refl c.in_ok-turns.ensures.read)
 
 pub write_trace-requires-clause-few : goal.write_trace-requires-clause-few
 write_trace-requires-clause-few g c =
     let s = c.args.world.now.scenario in
-    subst (λ (t : List (ℕ × ℕ)). turns_in t ≤ 1000000) (sym c.as_slice.ensures.value)
+    subst (λ (t : Acts). turns_in t ≤ 1000000) (sym c.as_slice.ensures.value)
     (few_of s c.args.turns.now c.in_ok-turns.turns.items c.in_ok-turns.ensures.read)
 
 pub returns : goal.returns
 returns g c =
     let s = c.args.world.now.scenario in
     subst (λ w. WritesAs g.W.Write.contents w c.args.out.now c.write_trace.new.out c.write_trace.result)
-    (turns_given (tells_all c.args.telling) s c.args.turns.now c.in_ok-turns.turns.items c.as_slice.result.now c.in_ok-turns.ensures.read
+    (acts_given (tells_all c.args.telling) s c.args.turns.now c.in_ok-turns.turns.items c.as_slice.result.now c.in_ok-turns.ensures.read
     c.as_slice.ensures.value)
     c.write_trace.ensures

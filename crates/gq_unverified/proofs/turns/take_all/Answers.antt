@@ -1,7 +1,8 @@
 use Rattle.std.proofs.Common.{◌≡◌, ◌+◌, ◌≤◌, ◌∙◌, ℕ, Option, ap, drop, length, subst, arith}
 use Rattle.gq_model.specs.declared.fault.Wrong.{Wrong}
-use Rattle.gq_model.specs.machine.Run.{turns_of, run_on}
+use Rattle.gq_model.specs.machine.Run.{act_on, run_on}
 use Rattle.gq_model.specs.machine.Scenario.{Scenario, components, system}
+use Rattle.gq_model.specs.texts.Turns.{turns_given}
 use Rattle.gq_world.proofs.Going.{here_is, below_at, runs_grow}
 use Rattle.gq_unverified.specs.internal.Taking.{HasCome, IsCut, turns_in}
 use Rattle.gq_unverified.proofs.Counting.{from_ok, room_left}
@@ -14,17 +15,17 @@ returns-in-Ok-Some-clause-come g c =
     let turns = c.args.turns.now in
     let l = c.loop-leaf in
     let t = c.loop-leaf-item.result in
-    let new = c.take_turns.new.machine.world in
+    let new = c.take_act.new.machine.world in
     let a = g.W.Write.contents c.args.out.now.writer in
     let b = g.W.Write.contents l.out.writer in
-    let d = g.W.Write.contents c.take_turns.new.out.writer in
+    let d = g.W.Write.contents c.take_act.new.out.writer in
     let here = here_is turns l.leaf-index t c.loop-leaf-test.true c.loop-leaf-item.is in
-    let come = subst (λ (r : Scenario). HasCome (turns_of (system r) t.0 t.1) l.machine.world new c.in-Ok-Some.field-0 b d) l.invariant.scenario
+    let come = subst (λ (r : Scenario). HasCome (act_on (system r) t.0 t.1) l.machine.world new c.in-Ok-Some.field-0 b d) l.invariant.scenario
     c.in-Ok-Some.ensures.come in
-    ends_wrong (run_on (system s) (drop l.leaf-index turns)) (run_on (system s) (drop (l.leaf-index + 1) turns)) (turns_of (system s) t.0 t.1)
+    ends_wrong (run_on (system s) (drop l.leaf-index turns)) (run_on (system s) (drop (l.leaf-index + 1) turns)) (act_on (system s) t.0 t.1)
     (run_on (system s) turns) (λ r. ap (λ k. run_on (system s) k r) here) c.args.machine.now.world l.machine.world a b d
     l.invariant.left (runs_stuck (system s) (drop (l.leaf-index + 1) turns)) new c.in-Ok-Some.wrong
-    (subst (λ (o : Option (ℕ × Wrong)). HasCome (turns_of (system s) t.0 t.1) l.machine.world new o b d) c.in-Ok-Some.field-0-is come)
+    (subst (λ (o : Option (ℕ × Wrong)). HasCome (act_on (system s) t.0 t.1) l.machine.world new o b d) c.in-Ok-Some.field-0-is come)
 
 pub returns-in-Err-clause-cut : goal.returns-in-Err-clause-cut
 returns-in-Err-clause-cut g c =
@@ -34,12 +35,12 @@ returns-in-Err-clause-cut g c =
     let t = c.loop-leaf-item.result in
     let a = g.W.Write.contents c.args.out.now.writer in
     let b = g.W.Write.contents l.out.writer in
-    let d = g.W.Write.contents c.take_turns.new.out.writer in
+    let d = g.W.Write.contents c.take_act.new.out.writer in
     let here = here_is turns l.leaf-index t c.loop-leaf-test.true c.loop-leaf-item.is in
-    is_cut (run_on (system s) (drop l.leaf-index turns)) (run_on (system s) (drop (l.leaf-index + 1) turns)) (turns_of (system s) t.0 t.1)
+    is_cut (run_on (system s) (drop l.leaf-index turns)) (run_on (system s) (drop (l.leaf-index + 1) turns)) (act_on (system s) t.0 t.1)
     (run_on (system s) turns) (λ r. ap (λ k. run_on (system s) k r) here) c.args.machine.now.world l.machine.world a b d
     l.invariant.left (runs_grow (system s) (drop (l.leaf-index + 1) turns))
-    (subst (λ (r : Scenario). IsCut (turns_of (system r) t.0 t.1) l.machine.world b d) l.invariant.scenario c.in-Err.ensures.cut)
+    (subst (λ (r : Scenario). IsCut (act_on (system r) t.0 t.1) l.machine.world b d) l.invariant.scenario c.in-Err.ensures.cut)
 
 pub loop-leaf-preserved : goal.loop-leaf-preserved
 loop-leaf-preserved g c =
@@ -47,23 +48,24 @@ loop-leaf-preserved g c =
     let turns = c.args.turns.now in
     let l = c.loop-leaf in
     let t = c.loop-leaf-item.result in
-    let new = c.take_turns.new.machine.world in
+    let new = c.take_act.new.machine.world in
     let a = g.W.Write.contents c.args.out.now.writer in
     let b = g.W.Write.contents l.out.writer in
-    let d = g.W.Write.contents c.take_turns.new.out.writer in
+    let d = g.W.Write.contents c.take_act.new.out.writer in
     let here = here_is turns l.leaf-index t c.loop-leaf-test.true c.loop-leaf-item.is in
     let e = c.in-Ok-None.ensures in
-    let come = subst (λ (r : Scenario). HasCome (turns_of (system r) t.0 t.1) l.machine.world new c.in-Ok-None.field-0 b d) l.invariant.scenario e.come in
-    let most : t.1 + turns_in (drop (l.leaf-index + 1) turns) ≤ turns_in (drop l.leaf-index turns) = omega (arith, ap turns_in here) in
+    let come = subst (λ (r : Scenario). HasCome (act_on (system r) t.0 t.1) l.machine.world new c.in-Ok-None.field-0 b d) l.invariant.scenario e.come in
+    let most : turns_given t.1 + turns_in (drop (l.leaf-index + 1) turns) ≤ turns_in (drop l.leaf-index turns) = omega (arith, ap turns_in here) in
     record {
       scenario = e.scenario ∙ l.invariant.scenario;
       leaves = e.near.leaves ∙ l.invariant.leaves;
       below = (below_at (length (components s)) turns l.leaf-index t here l.invariant.below).1;
-      room = room_left l.machine.world new (turns_in (drop l.leaf-index turns)) t.1 (turns_in (drop (l.leaf-index + 1) turns)) most l.invariant.room e.near;
-      left = goes_on (run_on (system s) (drop l.leaf-index turns)) (run_on (system s) (drop (l.leaf-index + 1) turns)) (turns_of (system s) t.0 t.1)
+      room = room_left l.machine.world new (turns_in (drop l.leaf-index turns)) (turns_given t.1)
+          (turns_in (drop (l.leaf-index + 1) turns)) most l.invariant.room e.near;
+      left = goes_on (run_on (system s) (drop l.leaf-index turns)) (run_on (system s) (drop (l.leaf-index + 1) turns)) (act_on (system s) t.0 t.1)
           (run_on (system s) turns) (λ r. ap (λ k. run_on (system s) k r) here) c.args.machine.now.world l.machine.world a b d l.invariant.left new
-          (subst (λ (o : Option (ℕ × Wrong)). HasCome (turns_of (system s) t.0 t.1) l.machine.world new o b d) c.in-Ok-None.field-0-is come);
+          (subst (λ (o : Option (ℕ × Wrong)). HasCome (act_on (system s) t.0 t.1) l.machine.world new o b d) c.in-Ok-None.field-0-is come);
       counted =
-          from_ok (c.take_turns.new.out.failures ≡ l.out.failures) c.take_turns.result c.in-Ok-None.field-0 c.in-Ok-None.is
-          c.take_turns.ensures.failures.counted ∙ l.invariant.counted;
+          from_ok (c.take_act.new.out.failures ≡ l.out.failures) c.take_act.result c.in-Ok-None.field-0 c.in-Ok-None.is
+          c.take_act.ensures.failures.counted ∙ l.invariant.counted;
     }

@@ -1,17 +1,17 @@
-use Rattle.std.proofs.Common.{◌≡◌, ◌∙◌, ◌==◌, cond, eqb-true, refl, Bool, true, false, ℕ, Option, IfSome, ap, sym, subst, Some}
+use Rattle.std.proofs.Common.{◌≡◌, ◌∙◌, cond, refl, Bool, true, false, ℕ, Option, IfSome, ap, sym, subst, Some}
 use Rattle.std.specs.Prelude.{slice_get, slice_index}
-use Rattle.gq_model.specs.machine.Amounts.{Ram, Caps, amount}
+use Rattle.gq_model.specs.machine.Amounts.{Ram, Caps, amount, counts_caps}
 use Rattle.gq_model.specs.machine.Sums.{held}
 use Rattle.gq_model.specs.machine.World.{Leaf}
 use Rattle.gq_model.specs.rules.Accept.{step_budgets}
 use Rattle.gq_world.proofs.node_accounts.leaf_account.Goals as goal
 
--- what is counted in version 2 alone
-only_counted : (version n m : ℕ) → (version ≡ 2 → n ≡ m) → cond (version == 2) n 0 ≡ cond (version == 2) m 0
-only_counted version n m h = by (version == 2) refl
+-- what is counted where the version counts capabilities
+only_counted : (version n m : ℕ) → (counts_caps version ≡ true → n ≡ m) → cond (counts_caps version) n 0 ≡ cond (counts_caps version) m 0
+only_counted version n m h = by (counts_caps version) refl
   where
-    by : (b : Bool) → (version == 2) ≡ b → cond b n 0 ≡ cond b m 0
-    by true e = h (eqb-true version 2 e)
+    by : (b : Bool) → counts_caps version ≡ b → cond b n 0 ≡ cond b m 0
+    by true e = h e
     by false e = refl
 
 pub returns : goal.returns
@@ -22,11 +22,11 @@ returns c = λ d leaf at there.
     let budget : slice_index (step_budgets c.args.budgets.now) x ≡ c.steps_of-budget.result = sym c.steps_of-budget.ensures in
     let read : (Q : Leaf → Type 0) → IfSome (slice_get w.leaves x) Q → Q leaf = λ Q h. subst (λ (o : Option Leaf). IfSome o Q) there h in
     let ram = read (λ l. c.used-ram.result ≡ held Ram w x l) c.used-ram.ensures in
-    let caps = λ (e : s.version ≡ 2). read (λ l. c.caps_used.result ≡ held Caps w x l) (c.caps_used.ensures e) in
+    let caps = λ (e : counts_caps s.version ≡ true). read (λ l. c.caps_used.result ≡ held Caps w x l) (c.caps_used.ensures e) in
     let taken = read (λ l. c.steps.result ≡ l.steps) c.steps.ensures in
     let phase = read (λ l. c.phase.result ≡ l.phase) c.phase.ensures in
     let version = c.version.ensures ∙ (ap (λ s. s.version) c.scenario.ensures ∙ ap (λ s. s.version) c.table.ensures) in
-    let counted : c.counted-caps.result ≡ cond (s.version == 2) (held Caps w x leaf) 0 =
-    c.counted-caps.ensures ∙ (λ j. cond (version j == 2) c.caps_used.result 0)
+    let counted : c.counted-caps.result ≡ cond (counts_caps s.version) (held Caps w x leaf) 0 =
+    c.counted-caps.ensures ∙ (λ j. cond (counts_caps (version j)) c.caps_used.result 0)
     ∙ only_counted s.version c.caps_used.result (held Caps w x leaf) caps in
     ap Some (sym (c.new.ensures ∙ (λ j. record { used = amount (ram j) (counted j); steps = taken j; budget = sym budget j; phase = phase j })))

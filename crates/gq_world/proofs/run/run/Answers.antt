@@ -12,7 +12,7 @@ use Rattle.gq_world.proofs.run.run.Goals as goal
 
 -- what is written for a text that is loaded
 runs : (scenario text : List ℕ) (s : Scenario) → loaded scenario ≡ Ok s → run_written scenario text ≡ turns_written s text
-runs scenario text s load = ap (λ l. with_scenario l (λ r. written_turns r (turned (components r) text))) load
+runs scenario text s load = ap (λ l. with_scenario l (λ r. written_turns r (turned r text))) load
 
 on_ok_then : {A B : Type 0} (r : Result A B) (P Q : Type 0) → (P → Q) → OnOk r P → OnOk r Q
 on_ok_then (Ok a) P Q f h = f h

@@ -6,19 +6,20 @@ use Rattle.gq_world.specs.Whole.{whole_of, written_turns}
 use Rattle.gq_world.proofs.Commands.{all_written, cut_short}
 use Rattle.gq_world.proofs.Whole.{below_of}
 use Rattle.gq_world.proofs.run.run_turns.Goals as goal
+use Rattle.gq_model.specs.machine.Run.{Acts}
 
 -- the turns that were read with the world's own table
-read_by : (s t : Scenario) (text : List ℕ) (turns : List (ℕ × ℕ)) → t ≡ s → turned (components t) text ≡ Ok turns → turned (components s) text ≡ Ok turns
-read_by s t text turns same e = ap (λ (r : Scenario). turned (components r) text) (sym same) ∙ e
+read_by : (s t : Scenario) (text : List ℕ) (turns : Acts) → t ≡ s → turned t text ≡ Ok turns → turned s text ≡ Ok turns
+read_by s t text turns same e = ap (λ (r : Scenario). turned r text) (sym same) ∙ e
 
 pub run_world-requires-clause-leaves : goal.run_world-requires-clause-leaves
 run_world-requires-clause-leaves g c =
     let s = c.args.world.now.scenario in
-    subst (λ (t : List (ℕ × ℕ)). AreBelow (length (components s)) t) (sym c.as_slice.ensures.value)
+    subst (λ (t : Acts). AreBelow (length (components s)) t) (sym c.as_slice.ensures.value)
     (below_of s c.table.result.now c.args.turns.now c.in-Ok.turns.items c.table.ensures c.in-Ok.ensures)
 
 -- what they write
-module _ (s t : Scenario) (text : List ℕ) (turns slice : List (ℕ × ℕ)) (same : t ≡ s) (reads : turned (components t) text ≡ Ok turns) (is : slice ≡ turns) where
+module _ (s t : Scenario) (text : List ℕ) (turns slice : Acts) (same : t ≡ s) (reads : turned t text ≡ Ok turns) (is : slice ≡ turns) where
   pub given : turns_written s text ≡ Ok (whole_of s slice)
   given = ap (written_turns s) (read_by s t text turns same reads) ∙ sym (ap (λ l. Ok (whole_of s l)) is)
 

@@ -1,5 +1,4 @@
 use Rattle.std.proofs.Common.{option_map}
-use Rattle.gq_model.specs.machine.Scenario.{components}
 use Rattle.gq_faults.proofs.Turn_lines.{line_right, line_wrong}
 use Rattle.gq_faults.proofs.turns.Lines.read.Goals as goal
 
@@ -8,7 +7,7 @@ returns-in_err-fault-clause-faults c =
     let old = c.args.self.now in
     let next = c.next_turn-said in
     rw c.from_residual.ensures
-    (line_right (components c.args.table.now) old.line c.unwrap_or.result old.total c.turns_after-self.result c.args.text.now next.result.0
+    (line_right c.args.table.now old.line c.unwrap_or.result old.total c.turns_after-self.result c.args.text.now next.result.0
     (option_map (λ rest. rest.now) next.result.1) c.told_fault.result c.unwrap_or.ensures next.ensures.line c.told_fault.ensures
     c.turns_after-self.ensures.turns c.in_err-fault.was)
 
@@ -17,6 +16,6 @@ returns-clause-faults c =
     let old = c.args.self.now in
     let next = c.next_turn-said in
     rw (c.wrong_line.ensures.fault, c.wrong_line.ensures.line)
-    (line_wrong (components c.args.table.now) old.line c.unwrap_or.result old.total c.turns_after-self.result c.args.text.now next.result.0
+    (line_wrong c.args.table.now old.line c.unwrap_or.result old.total c.turns_after-self.result c.args.text.now next.result.0
     (option_map (λ rest. rest.now) next.result.1) c.told_fault.result c.in_ok-fault.fault c.unwrap_or.ensures next.ensures.line c.told_fault.ensures
     c.turns_after-self.ensures.turns c.in_ok-fault.was)

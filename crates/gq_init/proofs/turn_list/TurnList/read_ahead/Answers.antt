@@ -1,6 +1,7 @@
 -- A turn more.
-use Rattle.std.proofs.Common.{◌≡◌, ◌+◌, ◌∷◌, ◌++◌, [], None, rules, ap, ◌∙◌}
-use Rattle.gq_model.specs.machine.Scenario.{components}
+use Rattle.std.proofs.Common.{◌≡◌, ℕ, ◌+◌, ◌∷◌, ◌++◌, [], None, rules, ap, ◌∙◌}
+use Rattle.gq_model.specs.declared.act.Act.{Act}
+use Rattle.gq_model.specs.declared.act.Act.TheVariants.{Turns}
 use Rattle.gq_model.specs.texts.Letters.{lines}
 use Rattle.gq_init.specs.TurnReading.{told}
 use Rattle.gq_init.specs.internal.Reading.{lines_read}
@@ -10,13 +11,14 @@ use Rattle.gq_init.proofs.turn_list.TurnList.read_ahead.Goals as goal
 pub loop-turn-preserved : goal.loop-turn-preserved
 loop-turn-preserved c =
     let l = c.loop-turn in
-    let all = components c.args.table.now in
-    let turn = c.in-Some.turn in
+    let all = c.args.table.now in
+    let count = c.in-Some.turn.1 in
+    let turn : ℕ × Act = (c.in-Some.turn.0, Turns count) in
     let after = c.in-Some.after.now in
     let items : c.push.new.self.items ≡ l.self.items.items ++ turn ∷ [] = c.in-Ok.ensures.items ∙ ap (λ t. l.self.items.items ++ t ∷ []) c.new.ensures in
     record {
       told = λ is_last more.
-          ap (λ ts. told all ts (l.total + turn.1) (l.line + 1) None (lines_read is_last (lines after) ++ more)) items
+          ap (λ ts. told all ts (l.total + count) (l.line + 1) None (lines_read is_last (lines after) ++ more)) items
           ∙ (read_turn_ahead all l.self.items.items l.total l.line l.left.now after turn c.in-Some.ensures.turn (search rules) is_last more
           ∙ l.invariant.told is_last more);
       kept_total = l.invariant.kept_total;

@@ -1,6 +1,5 @@
 use Rattle.std.proofs.Common.{◌≡◌, ◌≤◌, ◌+◌, ◌++◌, Bool, List, ℕ, None, length}
 use Rattle.gq_model.specs.texts.Letters.{lines}
-use Rattle.gq_model.specs.machine.Scenario.{components}
 use Rattle.gq_model.specs.texts.Turns.{greatest_turns}
 use Rattle.gq_init.specs.TurnReading.{told}
 use Rattle.gq_init.specs.internal.Reading.{lines_read}
@@ -10,8 +9,8 @@ abbrev pub invariant-loop-turn : goal.invariant-loop-turn
 invariant-loop-turn l =
     record {
       told : (is_last : Bool) (more : List (List ℕ))
-          → told (components l.table) l.self.items.items l.total l.line None (lines_read is_last (lines l.left) ++ more)
-          ≡ told (components l.table) l.initial.self.items.items l.initial.self.total l.initial.self.line None (lines_read is_last (lines l.text) ++ more);
+          → told l.table l.self.items.items l.total l.line None (lines_read is_last (lines l.left) ++ more)
+          ≡ told l.table l.initial.self.items.items l.initial.self.total l.initial.self.line None (lines_read is_last (lines l.text) ++ more);
       kept_total : l.self.total ≡ l.initial.self.total;
       kept_line : l.self.line ≡ l.initial.self.line;
       clear : l.self.fault ≡ None;

@@ -1,8 +1,8 @@
 -- A line more.
 use Rattle.std.proofs.Common.{◌≡◌, ◌≤◌, ◌+◌, ◌∷◌, ◌++◌, [], ℕ, Some, None, Ok, rules, sym, ap, subst, ◌∙◌}
 use Rattle.std.specs.Prelude.{option_map, IfOk, IfSome}
-use Rattle.gq_model.specs.machine.Scenario.{components}
-use Rattle.gq_model.specs.texts.Turns.{greatest_turns}
+use Rattle.gq_model.specs.declared.act.Act.{Act}
+use Rattle.gq_model.specs.texts.Turns.{greatest_turns, turns_given}
 use Rattle.gq_scenario.specs.Lines.{lines_left}
 use Rattle.gq_init.specs.TurnReading.{told}
 use Rattle.gq_init.specs.internal.Reading.{lines_read}
@@ -13,7 +13,7 @@ pub loop-left-preserved-in-Ok-None : goal.loop-left-preserved-in-Ok-None
 loop-left-preserved-in-Ok-None c =
     let l = c.loop-left in
     let r = c.read_ahead.new.self in
-    let all = components c.args.table.now in
+    let all = c.args.table.now in
     let found : c.in-Ok-None.field-0 ≡ None = rw (c.in-Ok-None.is) at c.in-Ok-None.field-0-is in
     let said = c.in-Ok-None.is ∙ ap Ok found in
     record {
@@ -32,22 +32,25 @@ pub loop-left-preserved : goal.loop-left-preserved
 loop-left-preserved c =
     let l = c.loop-left in
     let r = c.read_ahead.new.self in
-    let all = components c.args.table.now in
-    let turn : ℕ × ℕ = (c.in-Ok-Some.leaf, c.in-Ok-Some.count) in
+    let all = c.args.table.now in
+    let turn : ℕ × Act = (c.in-Ok-Some.leaf, c.in-Ok-Some.act) in
     let found : c.in-Ok-Some.field-0 ≡ Some turn = rw (c.in-Ok-Some.is) at c.in-Ok-Some.field-0-is in
     let said = c.in-Ok-Some.is ∙ ap Ok found in
-    let items : c.push.new.self.items ≡ r.items.items ++ turn ∷ [] = c.in-Ok.ensures.items ∙ ap (λ t. r.items.items ++ t ∷ []) c.new.ensures in
+    let items : c.push.new.self.items ≡ r.items.items ++ turn ∷ [] = c.in-Ok.ensures.items ∙ ap (λ t. r.items.items ++ t ∷ []) c.of.ensures in
+    let given = c.turns_given.ensures in
+    let rest = lines_read c.args.is_last (lines_left (option_map (λ rest. rest.now) c.next_turn-said.result.1)) in
+    let room = subst (λ s. IfOk s (λ o. IfSome o (λ t. r.total + turns_given t.1 ≤ greatest_turns))) said c.next_turn-said.ensures.few in
     record {
       told = λ more.
-          ap (λ ts. told all ts (r.total + c.in-Ok-Some.count) (r.line + 1) None
-          (lines_read c.args.is_last (lines_left (option_map (λ rest. rest.now) c.next_turn-said.result.1)) ++ more)) items
+          ap (λ ts. told all ts (r.total + c.turns_given.result) (r.line + 1) None (rest ++ more)) items
+          ∙ (ap (λ n. told all (r.items.items ++ turn ∷ []) (r.total + n) (r.line + 1) None (rest ++ more)) given
           ∙ (read_some all r.items.items r.total r.line c.args.is_last c.in_ok-rest.rest.now c.next_turn-said.result.0
           c.next_turn-said.result.1 c.next_turn-said.ensures.line (sym c.is_begun.ensures ∙ c.if-is_begun.false) turn said more
           ∙ (c.in_ok-rest.ensures.told c.args.is_last more
           ∙ (ap (λ o. told all l.self.items.items l.self.total l.self.line None
-          (lines_read c.args.is_last (lines_left (option_map (λ rest. rest.now) o)) ++ more)) (sym c.in-Some.is) ∙ l.invariant.told more)));
+          (lines_read c.args.is_last (lines_left (option_map (λ rest. rest.now) o)) ++ more)) (sym c.in-Some.is) ∙ l.invariant.told more))));
       clear = c.in_ok-rest.ensures.clear;
-      few = subst (λ s. IfOk s (λ o. IfSome o (λ t. r.total + t.1 ≤ greatest_turns))) said c.next_turn-said.ensures.few;
+      few = subst (λ n. r.total + n ≤ greatest_turns) (sym given) room;
       counted = search rules;
     }
 
@@ -55,7 +58,7 @@ pub returns-in-Err-clause-told : goal.returns-in-Err-clause-told
 returns-in-Err-clause-told c more =
     let l = c.loop-left in
     let r = c.read_ahead.new.self in
-    let all = components c.args.table.now in
+    let all = c.args.table.now in
     read_fault all r.items.items r.total r.line c.args.is_last c.in_ok-rest.rest.now c.next_turn-said.result.0
     c.next_turn-said.result.1 c.next_turn-said.ensures.line (sym c.is_begun.ensures ∙ c.if-is_begun.false) c.in-Err.fault (c.in-Err.is) more
     ∙ (c.in_ok-rest.ensures.told c.args.is_last more

@@ -1,6 +1,5 @@
 use Rattle.std.proofs.Common.{◌≡◌, ◌≤◌, ◌+◌, ◌++◌, List, ℕ, None, length, option_map}
 use Rattle.gq_model.specs.texts.Letters.{lines}
-use Rattle.gq_model.specs.machine.Scenario.{components}
 use Rattle.gq_model.specs.texts.Turns.{greatest_turns}
 use Rattle.gq_scenario.specs.Lines.{lines_left, length_left}
 use Rattle.gq_init.specs.TurnReading.{told}
@@ -11,9 +10,9 @@ abbrev pub invariant-loop-left : goal.invariant-loop-left
 invariant-loop-left l =
     record {
       told : (more : List (List ℕ))
-          → told (components l.table) l.self.items.items l.self.total l.self.line None
+          → told l.table l.self.items.items l.self.total l.self.line None
           (lines_read l.is_last (lines_left (option_map (λ rest. rest.now) l.left)) ++ more)
-          ≡ told (components l.table) l.initial.self.items.items l.initial.self.total l.initial.self.line None (lines_read l.is_last (lines l.text) ++ more);
+          ≡ told l.table l.initial.self.items.items l.initial.self.total l.initial.self.line None (lines_read l.is_last (lines l.text) ++ more);
       clear : l.self.fault ≡ None;
       few : l.self.total ≤ greatest_turns;
       counted : l.self.line + length_left (option_map (λ rest. rest.now) l.left) ≤ l.initial.self.line + length l.text + 1;

@@ -1,7 +1,6 @@
 -- The line that was begun ends with the piece.
 use Rattle.std.proofs.Common.{◌≡◌, ◌++◌, List, ℕ, ap, sym, subst, refl, ◌∙◌}
 use Rattle.std.proofs.lemmas.Result.{on_ok_weaker}
-use Rattle.gq_model.specs.machine.Scenario.{components}
 use Rattle.gq_model.specs.texts.Letters.{lines}
 use Rattle.gq_init.specs.TurnReading.{Reading, answer, told}
 use Rattle.gq_init.specs.internal.Reading.{IsEnded, lines_read}
@@ -11,7 +10,7 @@ use Rattle.gq_init.proofs.turn_reader.TurnReader.end_line.Goals as goal
 
 pub returns-clause-answer : goal.returns-clause-answer
 returns-clause-answer c =
-    let all = components c.args.table.now in
+    let all = c.args.table.now in
     let t = c.self.inside.turns in
     let mid : Reading = record {
       items = t.items.items;

@@ -1,6 +1,5 @@
 -- The last line.
 use Rattle.std.proofs.Common.{◌++◌, [], List, ℕ, ap, subst, ◌∙◌, rules}
-use Rattle.gq_model.specs.machine.Scenario.{components}
 use Rattle.gq_model.specs.texts.Letters.{lines}
 use Rattle.gq_init.specs.TurnReading.{Reading, answer, told}
 use Rattle.gq_init.specs.TurnLines.{IsTurned}
@@ -9,7 +8,7 @@ use Rattle.gq_init.proofs.turn_reader.TurnReader.finish.Goals as goal
 
 pub returns : goal.returns
 returns c =
-    let all = components c.args.table.now in
+    let all = c.args.table.now in
     let t = c.self.inside.turns in
     let held : Reading = record {
       items = t.items.items;

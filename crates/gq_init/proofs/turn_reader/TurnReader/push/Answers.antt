@@ -2,14 +2,13 @@
 use Rattle.std.proofs.Common.{◌++◌, ◌+◌, ap, drop, ◌∙◌}
 use Rattle.std.proofs.lemmas.List.{take_rest}
 use Rattle.std.proofs.lemmas.Result.{on_ok_weaker}
-use Rattle.gq_model.specs.machine.Scenario.{components}
 use Rattle.gq_init.specs.TurnReading.{answer}
 use Rattle.gq_init.proofs.Reading.{in_parts}
 use Rattle.gq_init.proofs.turn_reader.TurnReader.push.Goals as goal
 
 pub returns-clause-answer : goal.returns-clause-answer
 returns-clause-answer c =
-    let all = components c.args.table.now in
+    let all = c.args.table.now in
     let piece = c.args.piece.now in
     let k = c.in-Some.end + 1 in
     on_ok_weaker c.push_lines.result (λ pushed rest.

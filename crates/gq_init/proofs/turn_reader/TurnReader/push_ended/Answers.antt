@@ -1,14 +1,13 @@
 -- Whole lines, where none was begun.
 use Rattle.std.proofs.Common.{◌≡◌, ◌++◌, ◌+◌, [], length, List, ℕ, ap, sym, refl, ◌∙◌}
 use Rattle.std.proofs.lemmas.Result.{on_ok_weaker}
-use Rattle.gq_model.specs.machine.Scenario.{components}
 use Rattle.gq_init.specs.TurnReading.{Reading, answer}
 use Rattle.gq_init.proofs.Reading.{answer_kept, answer_read}
 use Rattle.gq_init.proofs.turn_reader.TurnReader.push_ended.Goals as goal
 
 pub returns-clause-answer : goal.returns-clause-answer
 returns-clause-answer c =
-    let all = components c.args.table.now in
+    let all = c.args.table.now in
     let piece = c.args.piece.now in
     let t = c.self.inside.turns in
     let held : Reading = record {

@@ -1,0 +1,74 @@
+-- What was noted of a world, after a setting: nothing of it is told of accounts and sessions.
+use Rattle.std.proofs.Common.{◌≡◌, ◌∙◌, ◌<◌, ℕ, inl, inr, List, length, map, Some, refl, ap, sym, subst, arith, get_or}
+use Rattle.std.specs.Prelude.{slice_get}
+use Rattle.std.proofs.lemmas.Bool.Decides.{eqb_tells}
+use Rattle.gq_model.specs.machine.Accounts.{accounts}
+use Rattle.gq_model.specs.machine.Run.{set_input}
+use Rattle.gq_model.specs.machine.Scenario.{Scenario, System, system}
+use Rattle.gq_model.specs.machine.World.{Leaf, World, session_at, with_leaf}
+use Rattle.gq_laws.specs.Links.{stance_in}
+use Rattle.gq_laws.proofs.linking.Worlds.{set_else, set_here}
+use Rattle.gq_laws.proofs.setting.Settings.{of_setting}
+use Rattle.gq_traces.specs.Trace.{standing_of, told_session}
+use Rattle.gq_traces.specs.declared.noted.Notes.{Notes}
+use Rattle.gq_traces.specs.internal.Noted.{AreNoted, IsTold, standing_in}
+use Rattle.gq_traces.specs.internal.Telling.{budgets_of}
+use Rattle.gq_traces.proofs.Standing.{there_is}
+use Rattle.gq_traces.proofs.Staying.{LeavesAll, keeps_self, leaves_self}
+use Rattle.gq_traces.proofs.Unchanged.{SamePhase, StaysSo, accounts_stand, told_same}
+
+-- a leaf with other inputs
+with_leaves : (w : World) (x : ℕ) (leaf : Leaf) (inputs : List ℕ) → slice_get w.leaves x ≡ Some leaf
+    → LeavesAll w x (with_leaf w x (record leaf { inputs = inputs }))
+with_leaves w x leaf inputs there =
+    let other = record leaf { inputs = inputs } in
+    record {
+      leaves = λ y ne. set_else w.leaves x y other ne;
+      stances = λ y. elim (eqb_tells y x) [
+        | inl e ↦ ap (λ z. stance_in (slice_get (with_leaf w x other).leaves z)) e.1 ∙ ap stance_in (set_here w.leaves x other leaf there)
+            ∙ ap stance_in (sym there) ∙ ap (λ z. stance_in (slice_get w.leaves z)) (sym e.1)
+        | inr e ↦ ap stance_in (set_else w.leaves x y other e.1)
+      ];
+      requests = refl;
+      count = refl;
+      sessions = λ k. keeps_self x (session_at w k);
+    }
+
+pub set_leaves_all : (system : System) (w : World) (x i n : ℕ) → LeavesAll w x (set_input system w x i n)
+set_leaves_all system w x i n = of_setting system (LeavesAll w x) w x i n (λ leaf inputs there. with_leaves w x leaf inputs there) (leaves_self w x)
+
+-- the leaf is in its phase, with what it holds
+abbrev Stays : ℕ → World → ℕ → World → Type 0
+Stays version w x new = (p : SamePhase w new x) × StaysSo version w new x p
+
+set_stays : (version : ℕ) (system : System) (w : World) (x i n : ℕ) → x < length w.leaves → Stays version w x (set_input system w x i n)
+set_stays version system w x i n less =
+    let l = there_is w.leaves x less in
+    of_setting system (Stays version w x) w x i n
+    (λ leaf inputs there. (
+      record {
+        was = leaf;
+        there = there;
+        is = record leaf { inputs = inputs };
+        here =
+            set_here w.leaves x (record leaf { inputs = inputs }) leaf there;
+        phase = refl;
+      },
+      record { used = refl; caps = λ counted. refl },
+    ))
+    (record { was = l.0; there = l.1; is = l.0; here = l.1; phase = refl }, record { used = refl; caps = λ counted. refl })
+
+pub set_noted : (s : Scenario) (w : World) (x i n : ℕ) (notes : Notes) → x < length w.leaves → AreNoted s w notes
+    → AreNoted s (set_input (system s) w x i n) notes
+set_noted s w x i n notes less h =
+    let new = set_input (system s) w x i n in
+    let all = set_leaves_all (system s) w x i n in
+    let stays = set_stays s.version (system s) w x i n less in
+    record {
+      accounts = h.accounts ∙ sym (accounts_stand s w x new all stays.0 stays.1 (budgets_of s));
+      sessions = λ k few. (let t = h.sessions k few in record { is = t.is ∙ sym (told_same w x new all k); known = t.known });
+      room = h.room;
+      count = h.count ∙ sym all.count;
+      few = h.few;
+      beyond = h.beyond;
+    }
