@@ -15,17 +15,21 @@ TARGET = "x86_64-unknown-linux-gnu"
 HEAP = "heap.pic.o"
 
 
+# The list of the crates that `rt ci` proves, and that of static libraries for C, which the tools prove.
+LISTS = ("crates.txt", False), ("library/crates.txt", True)
+
+
 def rows(at):
-    """For each line of the crates.txt of a folder: the name of the crate, whether it is a static library for C, and the libraries that it lists."""
-    for line in (at / "crates.txt").read_text(encoding="utf-8").split("\n"):
-        head, _, uses = line.partition("#")[0].partition(":")
-        if head.strip():
-            name, *kind = head.split()
-            yield name, kind == ["staticlib"], uses.split()
+    """For each line of the lists of a folder: the name of the crate, whether it is a static library for C, and the libraries that it lists."""
+    for path, is_static in LISTS:
+        for line in (at / path).read_text(encoding="utf-8").split("\n"):
+            name, _, uses = line.partition("#")[0].partition(":")
+            if name.strip():
+                yield name.strip(), is_static, uses.split()
 
 
 def listed(at):
-    """For each crate, in the order of the crates.txt of a folder, the libraries that it lists."""
+    """For each crate, in the order of the lists of a folder, the libraries that it lists."""
     return {name: uses for name, _, uses in rows(at)}
 
 

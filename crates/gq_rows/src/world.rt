@@ -37,7 +37,7 @@ fn reads_inputs(alloc: Global, world: &mut World) -> bool {
     };
     let mut text = Vec::new(alloc);
     let mut out = Counted::new(Cursor::new(&mut text));
-    let sets = world.inputs(a) == [100, 7]
+    let sets = world.inputs(a) == [100, 7].as_slice()
         && world.set_input(a, 2, 0) == Err(InputFault::NoInput)
         && world.set_input(a, 0, 101) == Err(InputFault::TooLarge)
         && world.set_input(a, 0, 42) == Ok(())
