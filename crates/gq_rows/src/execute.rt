@@ -250,8 +250,8 @@ fn shows_the_version_and_reads_nothing(rt: HostRuntime) {
 
 #[test]
 fn a_word_that_is_no_code_is_refused_and_nothing_is_read(rt: HostRuntime) -> Result<(), Fail> {
-    let rule = Command::Rule(Some(String::from_str(rt.alloc(), "V19")?));
-    let line = "trade: no rule V19\n";
+    let rule = Command::Rule(Some(String::from_str(rt.alloc(), "V20")?));
+    let line = "trade: no rule V20\n";
     let is_refused = is_shown(rt.alloc(), &rule, Status::Refused, "", line);
     drop(rule);
     assert!(rt; is_refused);
