@@ -16,7 +16,7 @@ HEAP = "heap.pic.o"
 
 
 # The list of the crates that `rt ci` proves, and that of static libraries for C, which the tools prove.
-LISTS = ("crates.txt", False), ("library/crates.txt", True)
+LISTS = ("crates.txt", False), ("library/static.txt", True)
 
 
 def rows(at):
