@@ -1,4 +1,0 @@
-mod Going
-mod Holding
-mod Refused
-mod Values
