@@ -13,6 +13,7 @@ import time
 
 SECONDS = 0.5
 ROUNDS = 7
+LIBRARY = os.path.join(os.path.dirname(os.path.abspath(__file__)), "..", "library")
 CLASSES = [16, 32, 64, 128, 256, 512, 1024, 2048]
 
 
@@ -308,19 +309,43 @@ def turn(trade, scenario, turns):
     return f"{(whole - idle) / count * 1e9:.1f}"
 
 
-def runs(trade):
-    """A turn of a run, by what it does, by how many leaves there are, and by how much memory is in use."""
+def works():
+    """Runs of one or two leaves, by what they do: a name, the scenario and the turns of each."""
     service = '[interface.echo]\narg = 1000\nreply = 2000\nneed = "8K"\nobject = 100\n'
     server = ("srv", 'quantum = 0\nprovides = "echo"', "main\nend\nopen\nend\ncall 0\npush 2\nmul\nend\nclose 0\nend")
     client = ("cli", 'quantum = "16K"', rounds("open o0 echo 8192, push 21, call o0, drop, close o0"))
-    table("Work", "ns a turn")
-    for name, scenario, turns in [
+    return [
         ("numbers", system([("a", 'quantum = "4K"', rounds("index 0, push 16, mul, push 3, add, drop"))]), "a 1000000\n"),
         ("words of a space of 1 MiB", words_of(1048576), "a 1000000\n"),
         ("blocks of 64 bytes, made and freed", system([("a", 'quantum = "4K"', rounds("block o0 64, free o0"))]), "a 1000000\n"),
         ("a session opened, called and closed", system([server, client], service), "srv 1\n" + "cli 3\nsrv 3\n" * 100000),
         ("lines of numbers", system([("a", 'quantum = "4K"', rounds("index 0, out"))]), "a 1000000\n"),
-    ]:
+    ]
+
+
+def library(trade):
+    """A turn by the C library beside one of a run, where library/libtrade.a is built."""
+    archive = os.path.join(LIBRARY, "libtrade.a")
+    if not os.path.isfile(archive):
+        print(f"{archive} is not there: no turns by the library")
+        return
+    table("Work", "`trade run`, ns a turn", "`trade_turns`", "`trade_turn`")
+    with tempfile.TemporaryDirectory() as room:
+        program, paths = os.path.join(room, "program"), [os.path.join(room, name) for name in ("scenario.toml", "turns")]
+        source = os.path.join(os.path.dirname(__file__), "turns_by_library.c")
+        subprocess.run([os.environ.get("CC", "cc"), "-std=c11", "-O2", f"-I{LIBRARY}", source, archive, "-o", program], check=True)
+        for name, scenario, turns in works():
+            for path, text in zip(paths, (scenario, turns)):
+                with open(path, "w", encoding="utf-8") as file:
+                    file.write(text)
+            taken = [min(float(subprocess.check_output([program, *paths, how])) for _ in range(ROUNDS)) for how in ("turns", "turn")]
+            row(name, turn(trade, scenario, turns), *(f"{each:.1f}" for each in taken))
+
+
+def runs(trade):
+    """A turn of a run, by what it does, by how many leaves there are, and by how much memory is in use."""
+    table("Work", "ns a turn")
+    for name, scenario, turns in works():
         row(name, turn(trade, scenario, turns))
     table("Leaves", "a turn on each line, ns", "ten on each line, ns", "all at once, ns")
     for leaves in (1, 8, 64):
@@ -437,6 +462,7 @@ def main():
     others(benchmark)
     trades(benchmark)
     runs(trade)
+    library(trade)
     growth(trade)
     designers(trade)
 

@@ -1,7 +1,7 @@
 #!/usr/bin/env python3
 """tools/check_documents.py: compares what the documents list with the sources. It prints each difference, and ends with 1 where there is one.
 
-- docs/TRUSTED.md lists each file of definitions that the contracts of the commands and the laws mention, in turn and by name, and no other.
+- docs/TRUSTED.md lists each file of definitions that the contracts of the commands, of the C library and the laws mention, in turn and by name, and no other.
 - docs/PROOFS.md names functions and types that their crates have, and each law that stands on a function without a body.
 - README.md, docs/SCENARIOS.md and docs/PROOFS.md have each command of the program, and no document or comment names another one.
 - docs/ARCHITECTURE.md has a row for each crate, and the heads of crates name modules that they have.
@@ -20,6 +20,9 @@ TRUSTED = {
     "gq_world/src/asm.rt": {"asm"},
     "gq_world/src/load.rt": {"load"},
     "gq_world/src/world.rt": {"turn", "account", "budgets", "leaf", "nodes", "node", "free_pages"},
+    "gq_library/src/loading.rt": None,
+    "gq_library/src/reading.rt": None,
+    "gq_library/src/running.rt": None,
     "gq_init/src/counted.rt": None,
     "gq_command/src/command_line.rt": {"command"},
     "gq_command/src/input.rt": {"read_input"},
@@ -82,7 +85,7 @@ def check_trusted():
             mentioned |= mentioned_by(path, {name})
     files = {module.replace(".", "/") for module, _ in mentioned}
     yield from (f"docs/TRUSTED.md does not list {path}" for path in sorted(files - set(found)))
-    yield from (f"docs/TRUSTED.md lists {path}, which no contract of a command and no law mentions" for path in sorted(set(found) - files))
+    yield from (f"docs/TRUSTED.md lists {path}, which no contract of a command or of the C library and no law mentions" for path in sorted(set(found) - files))
 
 
 # Of the laws of gq_laws those that TRUSTED.md is about.

@@ -11,16 +11,22 @@ TOP = pathlib.Path(__file__).resolve().parent.parent
 # The folders of a crate that a check reads.
 PARTS = ("src", "specs", "proofs")
 TARGET = "x86_64-unknown-linux-gnu"
+# The object of the kit that calls malloc, realloc and free.
+HEAP = "heap.pic.o"
+
+
+def rows(at):
+    """For each line of a folder's crates.txt: the name of the crate, whether it is a static library for programs in C, and the libraries that it lists."""
+    for line in (at / "crates.txt").read_text(encoding="utf-8").split("\n"):
+        head, _, uses = line.partition("#")[0].partition(":")
+        if head.strip():
+            name, *words = head.split()
+            yield name, "staticlib" in words, uses.split()
 
 
 def listed(at):
-    """For each crate, in the order of the crates.txt of a folder, the libraries that it lists."""
-    found = {}
-    for line in (at / "crates.txt").read_text(encoding="utf-8").split("\n"):
-        name, _, uses = line.partition("#")[0].partition(":")
-        if name.strip():
-            found[name.strip()] = uses.split()
-    return found
+    """For each crate, in the order of a folder's crates.txt, the libraries that it lists."""
+    return {name: uses for name, _, uses in rows(at)}
 
 
 class Crates:
@@ -32,6 +38,7 @@ class Crates:
         # Whether a tool prints how long each check takes.
         self.times = False
         self.uses = listed(self.at)
+        self.static = {name for name, is_static, _ in rows(self.at) if is_static}
 
     def own(self, name):
         """The crates of the repository that a crate lists."""
@@ -58,8 +65,18 @@ class Crates:
         """Whether a crate is a program, and no library."""
         return (self.folder(name) / "src" / "main.rt").is_file()
 
+    def is_static(self, name):
+        """Whether a crate is a static library for programs in C."""
+        return name in self.static
+
+    def archive(self, name):
+        """The archive that is built of a static library."""
+        return self.folder(name) / "out" / f"lib{name}.a"
+
     def product(self, name):
-        """What is built of a crate, its program or its library."""
+        """What is built of a crate, its program, its archive or its library."""
+        if self.is_static(name):
+            return self.archive(name)
         return self.folder(name) / "out" / name if self.is_program(name) else self.library(name) / f"{name}.rlib"
 
     def words(self, name, jobs=1):
@@ -74,6 +91,7 @@ class Crates:
         for used in self.below(name):
             words += ["-L", f"dependency={self.library(used)}"]
         words += ["--antt-project", f"{self.kit}/rattle/logic/antt-project.json", "--links", f"{name}="]
+        words += ["--crate-type", "staticlib"] if self.is_static(name) else []
         return [*words, "--logic-built", f"{self.kit}/logic_built", "--jobs", str(jobs)]
 
     def check(self, name, more=(), jobs=1):
@@ -82,6 +100,8 @@ class Crates:
 
     def build(self, name, jobs, log):
         """Proves a crate from nothing and builds its library or program. Gives whether that went well; what was said goes to a log."""
+        if self.is_static(name):
+            return self.build_archive(name, jobs, log)
         return self.build_program(name, jobs, log) if self.is_program(name) else self.build_library(name, jobs, log)
 
     def build_library(self, name, jobs, log):
@@ -105,6 +125,24 @@ class Crates:
         return self.is_done([f"{self.kit}/bin/rattle", "build", *self.words(name, jobs), *compiled], name, log) and self.is_done(
             [f"{self.kit}/bin/rattle-link", "--target", TARGET, *toolchain, "-o", str(to), f"{to}.o", *libraries], name, log
         )
+
+    def build_archive(self, name, jobs, log):
+        """Proves a static library from nothing, compiles it by LLVM and adds the kit's object that calls the allocator, so that it needs no other library."""
+        to, toolchain = self.archive(name), f"{self.kit}/toolchain"
+        room = to.with_name("archive.new")
+        shutil.rmtree(room, ignore_errors=True)
+        room.mkdir(parents=True)
+        made, heap, ar = str(room / to.name), str(room / HEAP), f"{toolchain}/bin/llvm-ar"
+        compiled = ["--toolchain", toolchain, "--backend", "llvm", "-o", made]
+        is_built = (
+            self.is_done([f"{self.kit}/bin/rattle", "build", *self.words(name, jobs), *compiled], name, log)
+            and self.is_done([ar, "x", "--output", str(room), f"{self.kit}/c/liblibc_c.a", HEAP], name, log)
+            and self.is_done([ar, "rcsD", made, heap], name, log)
+        )
+        if is_built:
+            os.replace(made, to)
+        shutil.rmtree(room, ignore_errors=True)
+        return is_built
 
     def is_done(self, command, name, log):
         """Runs a command in the folder of a crate, and tells whether it ended with 0."""

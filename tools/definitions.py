@@ -7,7 +7,7 @@ TOP = pathlib.Path(__file__).resolve().parent.parent
 CRATES = TOP / "crates"
 USE = re.compile(r"^(?:pub )?(?:ghost )?use (Rattle\.[\w.+-]+?)(?:\.\{([^}]*)\}| as (\S+?))?;?$")
 HEAD = re.compile(r"(?:(?:pub|abbrev|unfoldable|opaque|private)\s+)*(?:(record|data)\s+)?(?:pub\s+)?([^\s:(){},;]+)")
-FUNCTION = re.compile(r"( *)pub fn (\w+)")
+FUNCTION = re.compile(r"( *)pub (?:extern \"C\" )?fn (\w+)")
 
 
 def module_of(path):

@@ -33,7 +33,7 @@ def origin_of(program, crates):
 
 
 def is_made_from(name, crates, origin):
-    """Whether the library or program of a crate is there, and was made from what has this sum."""
+    """Whether the library, archive or program of a crate is there, and was made from what has this sum."""
     made = crates.folder(name) / "out" / MADE
     return crates.product(name).exists() and made.is_file() and made.read_text(encoding="utf-8") == origin
 

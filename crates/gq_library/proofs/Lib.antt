@@ -1,0 +1,4 @@
+mod Going
+mod Holding
+mod Refused
+mod Values

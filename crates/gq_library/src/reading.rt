@@ -1,0 +1,163 @@
+// What a world has: nodes and leaves, names, accounts and bounds.
+ghost use Rattle.std.specs.Prelude.{◌≡◌, ◌<◌, ◌≤◌, ◌↔◌, false, true, length, slice_get, None, IfSome};
+ghost use Rattle.gq_init.specs.Told.{told_of};
+ghost use Rattle.gq_model.specs.machine.Routes.{numbered};
+ghost use Rattle.gq_model.specs.machine.Scenario.{components};
+ghost use Rattle.gq_model.specs.rules.Accept.{budgets};
+ghost use Rattle.gq_resolve.specs.NodeTables.{IsNodeOf, node_rows};
+ghost use Rattle.gq_world.specs.Lines.{all_accounts};
+ghost use Rattle.gq_library.specs.Accounts.{Tells, TellsBounds};
+ghost use Rattle.gq_library.specs.Lookup.{number_or};
+ghost use Rattle.gq_library.specs.Texts.{IsPut};
+
+use crate::account::{LeafBounds, NodeAccount, read_account, read_bounds};
+use crate::held::Held;
+use crate::lookup::{leaf_named, node_of, put_label};
+use crate::numbers::NONE;
+use std::alloc::Global;
+use std::mem::replace;
+
+/// The number of nodes, the root among them; 0 if the handle is empty.
+#[unsafe(no_mangle)]
+pub extern "C" fn trade_nodes(alloc: Global, world: &mut Held) -> u32
+    ensures nodes { IfSome world.old.world (λ w. result ≡ length (node_rows w.scenario)) }
+    ensures empty { world.old.world ≡ None → result ≡ 0 }
+    ensures same { world.new.world ≡ world.old.world }
+{
+    match replace(world, Held::none()).into_box(alloc) {
+        None => 0,
+        Some(boxed) => {
+            let nodes = boxed.nodes() as u32;
+            *world = Held::of(boxed);
+            nodes
+        }
+    }
+}
+
+/// The number of leaves; 0 if the handle is empty.
+#[unsafe(no_mangle)]
+pub extern "C" fn trade_leaves(alloc: Global, world: &mut Held) -> u32
+    ensures leaves { IfSome world.old.world (λ w. result ≡ length (components w.scenario)) }
+    ensures empty { world.old.world ≡ None → result ≡ 0 }
+    ensures same { world.new.world ≡ world.old.world }
+{
+    match replace(world, Held::none()).into_box(alloc) {
+        None => 0,
+        Some(boxed) => {
+            let leaves = boxed.table().leaf_count() as u32;
+            *world = Held::of(boxed);
+            leaves
+        }
+    }
+}
+
+/// The number of the leaf of a name, or `NONE`.
+#[unsafe(no_mangle)]
+pub extern "C" fn trade_leaf(alloc: Global, world: &mut Held, name: &[u8]) -> u32
+    ensures leaf { IfSome world.old.world (λ w. result ≡ number_or (numbered 0 name.now (components w.scenario))) }
+    ensures empty { world.old.world ≡ None → result ≡ NONE }
+    ensures same { world.new.world ≡ world.old.world }
+{
+    match replace(world, Held::none()).into_box(alloc) {
+        None => NONE,
+        Some(boxed) => {
+            let leaf = leaf_named(&boxed, name);
+            *world = Held::of(boxed);
+            leaf
+        }
+    }
+}
+
+/// The node of a leaf, or `NONE` if there is no such leaf.
+#[unsafe(no_mangle)]
+pub extern "C" fn trade_node(alloc: Global, world: &mut Held, leaf: u32) -> u32
+    ensures node { IfSome world.old.world (λ w. IfSome (slice_get (components w.scenario) leaf) (λ c. IsNodeOf (node_rows w.scenario) result c)) }
+    ensures none { IfSome world.old.world (λ w. length (components w.scenario) ≤ leaf → result ≡ NONE) }
+    ensures empty { world.old.world ≡ None → result ≡ NONE }
+    ensures same { world.new.world ≡ world.old.world }
+{
+    match replace(world, Held::none()).into_box(alloc) {
+        None => NONE,
+        Some(boxed) => {
+            let node = node_of(&boxed, leaf);
+            *world = Held::of(boxed);
+            node
+        }
+    }
+}
+
+/// Puts the label of a node into `label`, as much of it as fits. `written` gets the length of the whole label. If there is no such node, the result is false
+/// and nothing is changed.
+#[unsafe(no_mangle)]
+pub extern "C" fn trade_label(
+    alloc: Global,
+    world: &mut Held,
+    node: u32,
+    label: &mut [u8],
+    written: &mut usize,
+) -> bool
+    ensures label { result ≡ true → IfSome world.old.world (λ w. IfSome (slice_get (node_rows w.scenario) node)
+        (λ r. IsPut r.label label.old label.new written.new)) }
+    ensures there { IfSome world.old.world (λ w. (result ≡ true) ↔ (node < length (node_rows w.scenario))) }
+    ensures empty { world.old.world ≡ None → result ≡ false }
+    ensures same { world.new.world ≡ world.old.world }
+    ensures stays { result ≡ false → label.new ≡ label.old }
+    ensures written { result ≡ false → written.new ≡ written.old }
+{
+    match replace(world, Held::none()).into_box(alloc) {
+        None => false,
+        Some(boxed) => {
+            let there = put_label(&boxed, node, label, written);
+            *world = Held::of(boxed);
+            there
+        }
+    }
+}
+
+/// Reads the account of a node. If there is no such node, the result is false and nothing is changed.
+#[unsafe(no_mangle)]
+pub extern "C" fn trade_read_account(
+    alloc: Global,
+    world: &mut Held,
+    node: u32,
+    account: &mut NodeAccount,
+) -> bool
+    ensures told { IfSome world.old.world (λ w. IfSome (slice_get (all_accounts w) node) (λ a. Tells account.new (told_of a))) }
+    ensures there { IfSome world.old.world (λ w. (result ≡ true) ↔ (node < length (node_rows w.scenario))) }
+    ensures empty { world.old.world ≡ None → result ≡ false }
+    ensures same { world.new.world ≡ world.old.world }
+    ensures stays { result ≡ false → account.new ≡ account.old }
+{
+    match replace(world, Held::none()).into_box(alloc) {
+        None => false,
+        Some(boxed) => {
+            let there = read_account(&boxed, node, account);
+            *world = Held::of(boxed);
+            there
+        }
+    }
+}
+
+/// Reads the bounds of a leaf. If there is no such leaf, the result is false and nothing is changed.
+#[unsafe(no_mangle)]
+pub extern "C" fn trade_read_budget(
+    alloc: Global,
+    world: &mut Held,
+    leaf: u32,
+    budget: &mut LeafBounds,
+) -> bool
+    ensures told { IfSome world.old.world (λ w. IfSome (slice_get (budgets w.scenario) leaf) (λ b. TellsBounds budget.new b)) }
+    ensures there { IfSome world.old.world (λ w. (result ≡ true) ↔ (leaf < length (budgets w.scenario))) }
+    ensures empty { world.old.world ≡ None → result ≡ false }
+    ensures same { world.new.world ≡ world.old.world }
+    ensures stays { result ≡ false → budget.new ≡ budget.old }
+{
+    match replace(world, Held::none()).into_box(alloc) {
+        None => false,
+        Some(boxed) => {
+            let there = read_bounds(&boxed, leaf, budget);
+            *world = Held::of(boxed);
+            there
+        }
+    }
+}

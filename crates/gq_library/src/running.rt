@@ -1,0 +1,111 @@
+// Inputs and turns.
+ghost use Rattle.std.specs.Prelude.{◌≡◌, ◌<◌, ◌≤◌, ◌↔◌, length, None, IfSome};
+ghost use Rattle.gq_model.specs.machine.Scenario.{components};
+ghost use Rattle.gq_library.specs.Loads.{Holds};
+ghost use Rattle.gq_library.specs.Settings.{IsSetting};
+ghost use Rattle.gq_library.specs.Turns.{AreTaken, IsTaken};
+
+use crate::burst::turns;
+use crate::held::Held;
+use crate::inputs::set_input;
+use crate::numbers::{NO_INPUT, NONE, SET};
+use crate::turn::turn;
+use std::alloc::Global;
+use std::mem::replace;
+
+/// Gives an input of a leaf another value, from here on. It is no turn. A leaf that has exited keeps its inputs, which are 0.
+///
+/// - `SET`: the value is set.
+/// - `NO_INPUT`: there is no such leaf, or it has no input of this number; nothing is changed.
+/// - `TOO_LARGE`: the number is above the greatest value of the input; nothing is changed.
+#[unsafe(no_mangle)]
+pub extern "C" fn trade_set_input(
+    alloc: Global,
+    world: &mut Held,
+    leaf: u32,
+    input: u32,
+    number: u32,
+) -> u32
+    ensures set { IfSome world.old.world (λ w. Holds world.new.world (λ after. IsSetting w after leaf input number result)) }
+    ensures unchanged { (result ≡ SET → ⊥) → world.new.world ≡ world.old.world }
+    ensures empty { world.old.world ≡ None → result ≡ NO_INPUT }
+{
+    match replace(world, Held::none()).into_box(alloc) {
+        None => NO_INPUT,
+        Some(boxed) => {
+            let mut boxed = boxed;
+            let set = set_input(&mut boxed, leaf, input, number);
+            *world = Held::of(boxed);
+            set
+        }
+    }
+}
+
+/// One turn of a leaf: one step where it can run. The result is the number of its event. The text of its line, of at most 64 bytes and without the label, is
+/// put into `line`, as much of it as fits; `written` gets the length of the whole text, 0 if there is none.
+///
+/// If there is no such leaf, the result is `NONE` and nothing is changed.
+#[unsafe(no_mangle)]
+pub extern "C" fn trade_turn(
+    alloc: Global,
+    world: &mut Held,
+    leaf: u32,
+    line: &mut [u8],
+    written: &mut usize,
+) -> u32
+    ensures taken { IfSome world.old.world (λ w. leaf < length (components w.scenario)
+        → Holds world.new.world (λ after. IsTaken w after leaf result line.old line.new written.new)) }
+    ensures none { IfSome world.old.world (λ w. (result ≡ NONE) ↔ (length (components w.scenario) ≤ leaf)) }
+    ensures empty { world.old.world ≡ None → result ≡ NONE }
+    ensures stays { result ≡ NONE → world.new.world ≡ world.old.world }
+    ensures line { result ≡ NONE → line.new ≡ line.old }
+    ensures written { result ≡ NONE → written.new ≡ written.old }
+{
+    match replace(world, Held::none()).into_box(alloc) {
+        None => NONE,
+        Some(boxed) => {
+            let mut boxed = boxed;
+            let event = turn(&mut boxed, leaf, line, written);
+            *world = Held::of(boxed);
+            event
+        }
+    }
+}
+
+/// Turns of a leaf, at most `most`: up to the first that gives a line, is its last, or is no step. `taken` gets how many were steps.
+///
+/// The result, `line` and `written` are those of the last of these steps, as of `trade_turn`. If there was none, the result is that of an idle turn. If
+/// there is no such leaf, the result is `NONE`, `taken` is 0, and nothing else is changed.
+#[unsafe(no_mangle)]
+pub extern "C" fn trade_turns(
+    alloc: Global,
+    world: &mut Held,
+    leaf: u32,
+    most: u32,
+    taken: &mut u32,
+    line: &mut [u8],
+    written: &mut usize,
+) -> u32
+    ensures taken { IfSome world.old.world (λ w. leaf < length (components w.scenario)
+        → Holds world.new.world (λ after. AreTaken w after leaf most taken.new result line.old line.new written.new)) }
+    ensures few { taken.new ≤ most }
+    ensures none { IfSome world.old.world (λ w. (result ≡ NONE) ↔ (length (components w.scenario) ≤ leaf)) }
+    ensures empty { world.old.world ≡ None → result ≡ NONE }
+    ensures no_turn { result ≡ NONE → taken.new ≡ 0 }
+    ensures stays { result ≡ NONE → world.new.world ≡ world.old.world }
+    ensures line { result ≡ NONE → line.new ≡ line.old }
+    ensures written { result ≡ NONE → written.new ≡ written.old }
+{
+    match replace(world, Held::none()).into_box(alloc) {
+        None => {
+            *taken = 0;
+            NONE
+        }
+        Some(boxed) => {
+            let mut boxed = boxed;
+            let event = turns(&mut boxed, leaf, most, taken, line, written);
+            *world = Held::of(boxed);
+            event
+        }
+    }
+}

@@ -1,0 +1,52 @@
+// One turn of a leaf.
+ghost use Rattle.std.specs.Prelude.{◌≡◌, ◌<◌, ◌≤◌, ◌↔◌, ℕ, List, length};
+ghost use Rattle.gq_machine.specs.Events.{event_of};
+ghost use Rattle.gq_model.specs.machine.Scenario.{components};
+ghost use Rattle.gq_library.specs.Texts.{IsPut};
+ghost use Rattle.gq_library.specs.Turns.{IsTaken, event_number, event_text};
+
+use crate::numbers::NONE;
+use crate::texts::put;
+use arrayvec::ArrayVec;
+use gq_scenario::scenario::LeafNo;
+use gq_world::event::Event;
+use gq_world::world::World;
+
+// The number of an event. Of a line its text is put into a buffer, with its whole length; of any other event the length is 0.
+pub(crate) fn put_event(
+    event: Event,
+    text: &ArrayVec<u8, 64>,
+    buffer: &mut [u8],
+    written: &mut usize,
+) -> u32
+    ensures number { result ≡ event_number (event_of event text.now.items) }
+    ensures put { IsPut (event_text (event_of event text.now.items)) buffer.old buffer.new written.new }
+    ensures few { result < 4 }
+{
+    *written = 0;
+    match event {
+        Event::Idle => 0,
+        Event::Quiet => 1,
+        Event::Line => {
+            *written = put(text.as_slice(), buffer);
+            2
+        }
+        Event::Finished => 3,
+    }
+}
+
+// One turn of a leaf, if there is such a leaf.
+pub(crate) fn turn(world: &mut World, leaf: u32, line: &mut [u8], written: &mut usize) -> u32
+    ensures taken { leaf < length (components world.old.scenario) → IsTaken world.old world.new leaf result line.old line.new written.new }
+    ensures none { (result ≡ NONE) ↔ (length (components world.old.scenario) ≤ leaf) }
+    ensures stays { result ≡ NONE → world.new ≡ world.old }
+    ensures line { result ≡ NONE → line.new ≡ line.old }
+    ensures written { result ≡ NONE → written.new ≡ written.old }
+{
+    if world.table().leaf_count() <= leaf as usize {
+        return NONE;
+    }
+    let mut text = ArrayVec::new();
+    let event = world.step(LeafNo::new(leaf), &mut text);
+    put_event(event, &text, line, written)
+}

@@ -1,0 +1,291 @@
+"""Systems of components in Python, by the C library beside this file: libtrade.so, which `./trade library` builds.
+
+    from trade import World
+
+    with World.load(open("examples/echo.toml", "rb").read()) as world:
+        srv, cli = world.leaf("srv"), world.leaf("cli")
+        while True:
+            world.turns(srv, 100)
+            turn = world.turns(cli, 100)
+            if turn.line is not None:
+                print(turn.line)
+            if turn.taken == 0:
+                break
+
+Leaves and nodes are numbers, from 0 in preorder. One thread at a time may use a world. TRADE_LIBRARY in the environment names another library file.
+"""
+from __future__ import annotations
+
+import ctypes
+import enum
+import os
+import pathlib
+from dataclasses import dataclass
+from typing import Optional, Union
+
+__all__ = ["Account", "Budget", "Event", "InputError", "Phase", "Refused", "Turn", "Turns", "World", "fault_of"]
+
+_NONE = 0xFFFFFFFF
+_LOADED, _REFUSED, _MEMORY = 0, 1, 3
+_NO_INPUT, _TOO_LARGE = 1, 2
+# The greatest line of a leaf; and a room for labels and faults, which grows where it is too small.
+_LINE, _TEXT = 64, 256
+
+
+class Refused(ValueError):
+    """A scenario is refused. Its text is the fault's line, as `trade check` prints it."""
+
+
+class InputError(ValueError):
+    """A leaf has no such input, or the number is above its greatest value."""
+
+
+class Event(enum.IntEnum):
+    """What a turn did."""
+
+    IDLE = 0
+    QUIET = 1
+    LINE = 2
+    FINISHED = 3
+
+
+class Phase(enum.IntEnum):
+    """What a leaf does."""
+
+    PENDING = 0
+    RUNNING = 1
+    BLOCKED = 2
+    SERVING = 3
+    HANDLING = 4
+    EXITED = 5
+
+
+@dataclass(frozen=True)
+class Turn:
+    """What one turn did: its event, and the text of its line, if it gave one."""
+
+    event: Event
+    line: Optional[str]
+
+
+@dataclass(frozen=True)
+class Turns:
+    """What turns did: how many were steps, the event of the last step, and the text of its line, if it gave one."""
+
+    taken: int
+    event: Event
+    line: Optional[str]
+
+
+@dataclass(frozen=True)
+class Account:
+    """The account of a node, in bytes, capabilities and steps. Of an init the phase is None, and all but quota and caps is 0."""
+
+    quota: int
+    used: int
+    caps: int
+    taken: int
+    steps: int
+    budget: int
+    phase: Optional[Phase]
+
+
+@dataclass(frozen=True)
+class Budget:
+    """The verified bounds of a leaf: bytes and capabilities of its own, and steps."""
+
+    own: int
+    own_caps: int
+    steps: int
+
+
+class _World(ctypes.Structure):
+    _fields_ = [("at", ctypes.c_void_p)]
+
+
+class _Account(ctypes.Structure):
+    _fields_ = [(name, ctypes.c_uint64) for name in ("quota", "used", "caps", "taken", "steps", "budget")] + [("phase", ctypes.c_uint32)]
+
+
+class _Budget(ctypes.Structure):
+    _fields_ = [(name, ctypes.c_uint64) for name in ("own", "own_caps", "steps")]
+
+
+def _opened() -> ctypes.CDLL:
+    """The library, with the types of its functions, as trade.h has them."""
+    library = ctypes.CDLL(os.environ.get("TRADE_LIBRARY") or str(pathlib.Path(__file__).resolve().with_name("libtrade.so")))
+    world, text, size, number = ctypes.POINTER(_World), ctypes.c_char_p, ctypes.c_size_t, ctypes.c_uint32
+    sizes, numbers, flag = ctypes.POINTER(size), ctypes.POINTER(number), ctypes.c_bool
+    types = {
+        "trade_load": (number, text, size, world),
+        "trade_fault": (number, text, size, text, size, sizes),
+        "trade_nodes": (number, world),
+        "trade_leaves": (number, world),
+        "trade_leaf": (number, world, text, size),
+        "trade_node": (number, world, number),
+        "trade_label": (flag, world, number, text, size, sizes),
+        "trade_read_account": (flag, world, number, ctypes.POINTER(_Account)),
+        "trade_read_budget": (flag, world, number, ctypes.POINTER(_Budget)),
+        "trade_set_input": (number, world, number, number, number),
+        "trade_turn": (number, world, number, text, size, sizes),
+        "trade_turns": (number, world, number, number, numbers, text, size, sizes),
+        "trade_drop": (None, world),
+    }
+    for name, (result, *arguments) in types.items():
+        function = getattr(library, name)
+        function.restype, function.argtypes = result, arguments
+    return library
+
+
+_library: Optional[ctypes.CDLL] = None
+
+
+def _calls() -> ctypes.CDLL:
+    """The library, which is opened at its first use."""
+    global _library
+    if _library is None:
+        _library = _opened()
+    return _library
+
+
+def _bytes(text: Union[str, bytes]) -> bytes:
+    return text.encode() if isinstance(text, str) else bytes(text)
+
+
+def _number(value: int, what: str) -> int:
+    """A number that C can take. IndexError if it is none."""
+    if not 0 <= value < _NONE:
+        raise IndexError(f"no {what} {value}")
+    return value
+
+
+def fault_of(scenario: Union[str, bytes]) -> Optional[str]:
+    """The line of the first fault of a scenario, or None if it is accepted. MemoryError if memory runs out."""
+    text, room, written = _bytes(scenario), _TEXT, ctypes.c_size_t()
+    while True:
+        line = ctypes.create_string_buffer(room)
+        status = _calls().trade_fault(text, len(text), line, room, ctypes.byref(written))
+        if status == _MEMORY:
+            raise MemoryError("host memory refused")
+        if status == _LOADED:
+            return None
+        if written.value <= room:
+            return line.raw[: written.value].decode(errors="replace")
+        room = written.value
+
+
+class World:
+    """A system of components between two turns. Make one by `World.load`, and end it by `drop` or a `with` statement."""
+
+    def __init__(self) -> None:
+        self._held = _World(None)
+        self._line, self._written, self._taken = ctypes.create_string_buffer(_LINE), ctypes.c_size_t(), ctypes.c_uint32()
+
+    @classmethod
+    def load(cls, scenario: Union[str, bytes]) -> World:
+        """Loads a scenario, a text in TOML. Refused, with the fault's line, if it is not accepted; MemoryError if memory runs out."""
+        text, world = _bytes(scenario), cls()
+        status = _calls().trade_load(text, len(text), ctypes.byref(world._held))
+        if status == _LOADED:
+            return world
+        if status == _REFUSED:
+            raise Refused(fault_of(text))
+        raise MemoryError("host memory refused")
+
+    def __enter__(self) -> World:
+        return self
+
+    def __exit__(self, *_: object) -> None:
+        self.drop()
+
+    def __del__(self) -> None:
+        if getattr(self, "_held", None) is not None and self._held.at and _library is not None:
+            self.drop()
+
+    def drop(self) -> None:
+        """Frees all that the world has. Afterwards it has no nodes and no leaves."""
+        _calls().trade_drop(ctypes.byref(self._held))
+
+    @property
+    def nodes(self) -> int:
+        """The number of nodes, the root among them."""
+        return _calls().trade_nodes(ctypes.byref(self._held))
+
+    @property
+    def leaves(self) -> int:
+        """The number of leaves."""
+        return _calls().trade_leaves(ctypes.byref(self._held))
+
+    def leaf(self, name: Union[str, bytes]) -> int:
+        """The number of the leaf of a name. KeyError if there is none."""
+        text = _bytes(name)
+        leaf = _calls().trade_leaf(ctypes.byref(self._held), text, len(text))
+        if leaf == _NONE:
+            raise KeyError(name)
+        return leaf
+
+    def node(self, leaf: int) -> int:
+        """The node of a leaf. IndexError if there is no such leaf."""
+        node = _calls().trade_node(ctypes.byref(self._held), _number(leaf, "leaf"))
+        if node == _NONE:
+            raise IndexError(f"no leaf {leaf}")
+        return node
+
+    def label(self, node: int) -> str:
+        """The label of a node, as `init -> cli`. IndexError if there is no such node."""
+        room = _TEXT
+        while True:
+            label = ctypes.create_string_buffer(room)
+            if not _calls().trade_label(ctypes.byref(self._held), _number(node, "node"), label, room, ctypes.byref(self._written)):
+                raise IndexError(f"no node {node}")
+            if self._written.value <= room:
+                return label.raw[: self._written.value].decode()
+            room = self._written.value
+
+    def account(self, node: int) -> Account:
+        """The account of a node. IndexError if there is no such node."""
+        told = _Account()
+        if not _calls().trade_read_account(ctypes.byref(self._held), _number(node, "node"), ctypes.byref(told)):
+            raise IndexError(f"no node {node}")
+        phase = None if told.phase == _NONE else Phase(told.phase)
+        return Account(told.quota, told.used, told.caps, told.taken, told.steps, told.budget, phase)
+
+    def budget(self, leaf: int) -> Budget:
+        """The verified bounds of a leaf. IndexError if there is no such leaf."""
+        told = _Budget()
+        if not _calls().trade_read_budget(ctypes.byref(self._held), _number(leaf, "leaf"), ctypes.byref(told)):
+            raise IndexError(f"no leaf {leaf}")
+        return Budget(told.own, told.own_caps, told.steps)
+
+    def set_input(self, leaf: int, input: int, number: int) -> None:
+        """Gives an input of a leaf another value, from here on. InputError if there is no such leaf or input, or if the number is too large for it."""
+        if not 0 <= input < _NONE or not 0 <= leaf < _NONE:
+            raise InputError(f"leaf {leaf} has no input {input}")
+        if not 0 <= number <= _NONE:
+            raise InputError(f"{number} is not within the values of input {input} of leaf {leaf}")
+        status = _calls().trade_set_input(ctypes.byref(self._held), leaf, input, number)
+        if status == _NO_INPUT:
+            raise InputError(f"leaf {leaf} has no input {input}")
+        if status == _TOO_LARGE:
+            raise InputError(f"{number} is not within the values of input {input} of leaf {leaf}")
+
+    def turn(self, leaf: int) -> Turn:
+        """One turn of a leaf. IndexError if there is no such leaf."""
+        event = _calls().trade_turn(ctypes.byref(self._held), _number(leaf, "leaf"), self._line, _LINE, ctypes.byref(self._written))
+        if event == _NONE:
+            raise IndexError(f"no leaf {leaf}")
+        return Turn(Event(event), self._said(event))
+
+    def turns(self, leaf: int, most: int) -> Turns:
+        """Turns of a leaf, at most so many: until one gives a line or finishes, or the leaf can't take one. IndexError if there is no such leaf."""
+        if not 0 <= most <= _NONE:
+            raise ValueError(f"no number of turns: {most}")
+        held, taken, written = ctypes.byref(self._held), ctypes.byref(self._taken), ctypes.byref(self._written)
+        event = _calls().trade_turns(held, _number(leaf, "leaf"), most, taken, self._line, _LINE, written)
+        if event == _NONE:
+            raise IndexError(f"no leaf {leaf}")
+        return Turns(self._taken.value, Event(event), self._said(event))
+
+    def _said(self, event: int) -> Optional[str]:
+        """The text of the line that was given, if one was."""
+        return self._line.raw[: self._written.value].decode() if event == Event.LINE else None

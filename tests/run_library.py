@@ -1,0 +1,266 @@
+#!/usr/bin/env python3
+"""Tries the C library, library/libtrade.a, which `./trade library` or ./check builds: run_library.py
+
+- A C compiler, and a C++ compiler where there is one, take the header with all warnings as errors.
+- tests/run_by_library.c does what `trade run` does: every case of `run`, and every example, has to give the same bytes and the same status. So it does with a
+  call for each turn, and under the address and undefined-behaviour sanitizers, where the compiler has them.
+- No case calls the allocator between load and drop, and none leaves a block. Where the n-th call is refused, for each n, the status is 3 and no block is left.
+- tests/misuse_library.c calls with numbers that are out of range, small buffers and empty handles; under the sanitizers, too.
+- library/example/ is built by its Makefile and given good and bad measurements.
+- library/trade.py gives what the calls give, where libtrade.so is there.
+
+The last line is 'N passed, M failed', and the exit status is 1 where one failed.
+"""
+import os
+import pathlib
+import re
+import shutil
+import subprocess
+import sys
+import tempfile
+
+TOP = pathlib.Path(__file__).resolve().parent.parent
+sys.path[:0] = [str(TOP / "tests"), str(TOP / "library")]
+sys.dont_write_bytecode = True
+from run_cases import cases, shortened  # noqa: E402
+
+LIBRARY, TESTS, EXAMPLES = TOP / "library", TOP / "tests", TOP / "examples"
+CC, CXX, MAKE = os.environ.get("CC", "cc"), os.environ.get("CXX", "c++"), os.environ.get("MAKE", "make")
+WARNINGS = ["-Wall", "-Wextra", "-Wpedantic", "-Werror"]
+SANITIZERS = ["-g", "-fsanitize=address,undefined", "-fno-sanitize-recover=all"]
+WRAPPED = ["-DCOUNTED", "-Wl,--wrap=malloc,--wrap=realloc,--wrap=free"]
+CPP = '#include "trade.h"\nint main() { trade_world world = TRADE_EMPTY; trade_drop(&world); return world.at != NULL; }\n'
+# A scenario that is refused.
+SHORT = b"version = 1\nram = 4097\nstart = []\n"
+# The scenarios of which each allocation is refused in turn.
+REFUSED_IN = "echo.toml", "thermostat.toml", "capabilities.toml"
+COUNTS = re.compile(rb"load (\d+) later (\d+) left (\d+) empty (\d) (\d)\n\Z")
+SECONDS = 120
+# Measurements, and what the thermostat answers on both streams.
+MEASURED = [
+    ("195", "heater 80", None),
+    ("warm", None, "no number of tenths of a degree"),
+    ("215", "heater 0", None),
+    ("", None, "no number of tenths of a degree"),
+    ("214\r", "heater 4", None),
+    ("1001", None, "the sensor can't measure 1001"),
+    ("189", "heater 100", None),
+    ("-1", None, "no number of tenths of a degree"),
+    ("99999999999999999999", None, "no number of tenths of a degree"),
+    ("190", "heater 100", None),
+    ("1000", "heater 0", None),
+    ("0000191", "heater 96", None),
+]
+# As many measurements the controller takes.
+DAY = 48
+
+
+class Tally:
+    """What passed, and what failed."""
+
+    def __init__(self):
+        self.passed = self.failed = 0
+
+    def expect(self, name, wanted, got):
+        """Compares what was wanted with what came."""
+        if wanted == got:
+            self.passed += 1
+            return
+        self.failed += 1
+        wanted, got = ([shortened(it) if isinstance(it, bytes) else it for it in side] if isinstance(side, tuple) else side for side in (wanted, got))
+        print(f"FAILED {name}\n  wanted {wanted}\n  got    {got}")
+
+
+def ran(words, given=b"", **settings):
+    """What a program writes to both streams, and its exit status."""
+    done = subprocess.run(list(map(str, words)), input=given, capture_output=True, timeout=SECONDS, env={**os.environ, **settings})
+    return done.stdout, done.stderr, done.returncode
+
+
+def compiled(room, name, source, flags):
+    """The program that the C compiler makes of a source and the library."""
+    program = room / f"program_{name}"
+    subprocess.run([CC, "-std=c11", "-O1", *WARNINGS, f"-I{LIBRARY}", *flags, source, LIBRARY / "libtrade.a", "-o", program], check=True)
+    return program
+
+
+def has_sanitizers(room):
+    """Whether the compiler has the sanitizers, and what it builds with them runs."""
+    source = room / "empty.c"
+    source.write_text("int main(void) { return 0; }\n")
+    how = {"stdout": subprocess.DEVNULL, "stderr": subprocess.DEVNULL, "check": False}
+    return (
+        subprocess.run([CC, *SANITIZERS, source, "-o", room / "empty"], **how).returncode == 0
+        and subprocess.run([room / "empty"], **how).returncode == 0
+    )
+
+
+def try_header(room, tally):
+    """The header by itself, in both languages."""
+    only, source = room / "only.c", room / "only.cc"
+    only.write_text('#include "trade.h"\n#include "trade.h"\n')
+    tally.expect("the header in C", 0, subprocess.run([CC, "-std=c11", *WARNINGS, f"-I{LIBRARY}", "-fsyntax-only", only]).returncode)
+    if not shutil.which(CXX):
+        print("there is no C++ compiler to try the header with")
+        return
+    source.write_text(CPP)
+    words = [CXX, "-std=c++11", *WARNINGS, f"-I{LIBRARY}", source, LIBRARY / "libtrade.a", "-o", room / "only"]
+    tally.expect("the header in C++", 0, subprocess.run(words).returncode)
+    tally.expect("a program in C++", 0, subprocess.run([room / "only"]).returncode)
+
+
+def of_runs():
+    """The name, the scenario, the turns and the wanted result of each case of `run`."""
+    return [(name, scenario, turns, wanted) for name, command, scenario, turns, wanted in cases() if command == "run"]
+
+
+def try_runs(room, tally, what, program):
+    """Every case of `run`, by a program that does the same by the library."""
+    files = room / "scenario.toml", room / "turns"
+    for name, scenario, turns, wanted in of_runs():
+        for path, text in zip(files, (scenario, turns)):
+            path.write_bytes(text)
+        tally.expect(f"{what}: {name}", wanted, ran([program, *files]))
+
+
+def try_counts(room, tally, program):
+    """No call of the allocator between load and drop, and nothing left, in every case; and each of some refused in turn."""
+    files = room / "scenario.toml", room / "turns"
+    for name, scenario, turns, wanted in of_runs():
+        for path, text in zip(files, (scenario, turns)):
+            path.write_bytes(text)
+        out, err, status = ran([program, *files], COUNTS="1")
+        found = COUNTS.search(err)
+        tally.expect(f"counts: {name}", (*wanted, b"0", b"0", b"1"), (out, COUNTS.sub(b"", err), status, *(found.group(2, 3, 5) if found else ())))
+    for name in REFUSED_IN:
+        turns = (EXAMPLES / name).with_suffix(".turns")
+        refuse_each(tally, program, name, EXAMPLES / name, turns)
+    files[0].write_bytes(SHORT)
+    refuse_each(tally, program, "a refused scenario", files[0], files[1])
+
+
+def refuse_each(tally, program, name, scenario, turns):
+    """Refuses each call of the allocator in turn that loading a scenario makes."""
+    found = COUNTS.search(ran([program, scenario, turns], COUNTS="1")[1])
+    calls = int(found[1]) if found else 0
+    tally.expect(f"{name}: loading calls the allocator", True, calls > 0)
+    for number in range(1, calls + 1):
+        out, err, status = ran([program, scenario, turns], COUNTS="1", FAIL=str(number))
+        found = COUNTS.search(err)
+        wanted = b"", b"trade: host memory refused\n", 3, b"0", b"1", b"1"
+        tally.expect(f"{name}: call {number} of {calls} refused", wanted, (out, COUNTS.sub(b"", err), status, *(found.group(3, 4, 5) if found else ())))
+
+
+def try_misuse(room, tally, what, program):
+    """Numbers out of range, small buffers and empty handles."""
+    short = room / "short.toml"
+    short.write_bytes(SHORT)
+    tally.expect(f"{what}: misuse", (b"", b"", 0), ran([program, EXAMPLES / "echo.toml", short]))
+
+
+def try_example(room, tally):
+    """The control loop of library/example, built by its Makefile in a copy of library/."""
+    copy = room / "library"
+    shutil.copytree(LIBRARY, copy, ignore=shutil.ignore_patterns("__pycache__", "thermostat"))
+    if not shutil.which(MAKE):
+        print(f"there is no {MAKE} to build the example with")
+        words = [CC, "-std=c11", "-O2", *WARNINGS, f"-I{copy}", copy / "example/thermostat.c", copy / "libtrade.a", "-o", copy / "example/thermostat"]
+        subprocess.run(words, check=True)
+    else:
+        subprocess.run([MAKE, "-s", "-C", copy / "example", f"CC={CC}"], check=True)
+    program, scenario = copy / "example/thermostat", EXAMPLES / "thermostat.toml"
+    given = "".join(f"{line}\n" for line, _, _ in MEASURED).encode()
+    said = "".join(f"{said}\n" for _, said, _ in MEASURED if said).encode()
+    faults = "".join(f"line {number}: {fault}\n" for number, (_, _, fault) in enumerate(MEASURED, 1) if fault).encode()
+    tally.expect("the example", (said, faults, 0), ran([program, scenario], given))
+    tally.expect("the example without a line feed at the end", (b"heater 60\n", b"", 0), ran([program, scenario], b"200"))
+    tally.expect("the example without measurements", (b"", b"", 0), ran([program, scenario]))
+    ended = b"line %d: the controller has ended\n" % (DAY + 1)
+    tally.expect("the example for longer than a day", (b"heater 60\n" * DAY, ended, 0), ran([program, scenario], b"200\n" * (DAY + 2)))
+    short = room / "short.toml"
+    short.write_bytes(SHORT)
+    tally.expect("the example with a bad scenario", (b"", f"{short}: S3 BadValue ram\n".encode(), 1), ran([program, short]))
+    tally.expect("the example with another scenario", (b"", b"the scenario has no component sensor_drv\n", 1), ran([program, EXAMPLES / "echo.toml"]))
+    tally.expect("the example without a scenario", (b"", b"usage: thermostat SCENARIO\n", 2), ran([program]))
+
+
+def refusal_of(call):
+    """The exception that a call raises, with its text."""
+    try:
+        call()
+    except (ValueError, LookupError) as error:
+        return type(error).__name__, str(error)
+    return None
+
+
+def try_python(tally):
+    """library/trade.py, over the same examples."""
+    import trade  # noqa: PLC0415
+
+    text = (EXAMPLES / "echo.toml").read_text()
+    with trade.World.load(text) as world:
+        srv, cli = world.leaf("srv"), world.leaf(b"cli")
+        tally.expect("python: numbers", (3, 2, 0, 1, 1, 2), (world.nodes, world.leaves, srv, cli, world.node(srv), world.node(cli)))
+        tally.expect("python: labels", ["init", "init -> srv", "init -> cli"], [world.label(node) for node in range(world.nodes)])
+        tally.expect("python: budgets", (trade.Budget(0, 0, 9), trade.Budget(8192, 0, 6)), (world.budget(srv), world.budget(cli)))
+        tally.expect("python: a turn", trade.Turn(trade.Event.QUIET, None), world.turn(srv))
+        tally.expect("python: no turn", trade.Turn(trade.Event.IDLE, None), world.turn(srv))
+        said = []
+        for _ in range(8):
+            said += [turns.line for leaf in (srv, cli) if (turns := world.turns(leaf, 100)).line is not None]
+        tally.expect("python: lines", ["42"], said)
+        tally.expect("python: no turns", trade.Turns(0, trade.Event.IDLE, None), world.turns(cli, 5))
+        tally.expect("python: accounts", (trade.Account(65536, 0, 0, 0, 0, 0, None), trade.Account(0, 0, 0, 0, 6, 6, trade.Phase.EXITED)),
+                     (world.account(0), world.account(2)))
+        tally.expect("python: no such leaf", ("IndexError", "no leaf 2"), refusal_of(lambda: world.turn(2)))
+        tally.expect("python: no such leaf, below 0", ("IndexError", "no leaf -1"), refusal_of(lambda: world.turns(-1, 1)))
+        tally.expect("python: no such node", ("IndexError", "no node 3"), refusal_of(lambda: world.account(3)))
+        tally.expect("python: no such name", ("KeyError", "'who'"), refusal_of(lambda: world.leaf("who")))
+        tally.expect("python: no input", ("InputError", "leaf 0 has no input 0"), refusal_of(lambda: world.set_input(srv, 0, 1)))
+    tally.expect("python: dropped", (0, 0), (world.nodes, world.leaves))
+    tally.expect("python: refused", ("Refused", "S3 BadValue ram"), refusal_of(lambda: trade.World.load(SHORT)))
+    tally.expect("python: faults", ("S3 BadValue ram", None), (trade.fault_of(SHORT), trade.fault_of(text)))
+    with trade.World.load((EXAMPLES / "thermostat.toml").read_bytes()) as world:
+        sensor, heater = world.leaf("sensor_drv"), world.leaf("heater_drv")
+        powers = []
+        for tenths in (195, 215, 100):
+            world.set_input(sensor, 0, tenths)
+            said = None
+            while said is None:
+                all_turns = [(leaf, world.turns(leaf, 64)) for leaf in range(world.leaves)]
+                said = next((turns.line for leaf, turns in all_turns if leaf == heater and turns.line is not None), None)
+            powers.append(said)
+        tally.expect("python: inputs", ["80", "0", "100"], powers)
+        fault = "1001 is not within the values of input 0 of leaf 0"
+        tally.expect("python: a large input", ("InputError", fault), refusal_of(lambda: world.set_input(sensor, 0, 1001)))
+
+
+def main():
+    if len(sys.argv) != 1:
+        sys.exit(__doc__)
+    if not (LIBRARY / "libtrade.a").is_file():
+        sys.exit("library/libtrade.a is not there: ./trade library builds it")
+    tally, by_library, misuse = Tally(), TESTS / "run_by_library.c", TESTS / "misuse_library.c"
+    with tempfile.TemporaryDirectory() as name:
+        room = pathlib.Path(name)
+        try_header(room, tally)
+        try_runs(room, tally, "by trade_turns", compiled(room, "turns", by_library, []))
+        try_runs(room, tally, "by trade_turn", compiled(room, "turn", by_library, ["-DONE_BY_ONE"]))
+        try_counts(room, tally, compiled(room, "counted", by_library, WRAPPED))
+        try_misuse(room, tally, "plain", compiled(room, "misuse", misuse, []))
+        if has_sanitizers(room):
+            try_runs(room, tally, "sanitized", compiled(room, "sanitized", by_library, SANITIZERS))
+            try_misuse(room, tally, "sanitized", compiled(room, "misuse_sanitized", misuse, SANITIZERS))
+        else:
+            print(f"{CC} has no address and undefined-behaviour sanitizers, so nothing was tried under them")
+        try_example(room, tally)
+    if (LIBRARY / "libtrade.so").is_file():
+        try_python(tally)
+    else:
+        print("library/libtrade.so is not there, so library/trade.py was not tried")
+    print(f"{tally.passed} passed, {tally.failed} failed")
+    return 1 if tally.failed or not tally.passed else 0
+
+
+if __name__ == "__main__":
+    sys.exit(main())
